@@ -1,0 +1,14 @@
+pub mod Slotted
+pub mod Listing
+pub mod Moving
+pub mod Standing
+pub mod Sparing
+pub mod Paths
+pub mod Pinning
+pub mod Choosing
+pub mod Retaining
+pub mod Keeping
+pub mod Changes
+pub mod Retained
+pub mod Pinned
+pub mod Free

@@ -1,0 +1,68 @@
+-- An assignment that stands over a graph and meters, and its laws.
+use Rattle.std.proofs.Common.{◌≡◌, ℕ, zero, suc, ◌+◌, ◌<◌, ◌≤◌, Bool, true, false, Option, Some, None, List, [], ◌∷◌, length, get_or, refl, sym, ap, ◌∙◌, inl, inr, ◌⊎◌, ◌↔◌, arith}
+use Rattle.std.specs.List.{range_with_len, Contains}
+use Rattle.std.proofs.lemmas.Bool.{cases_eq}
+use Rattle.obs_graph.specs.declared.Ends.{Ends}
+use Rattle.obs_graph.specs.Positions.{AreBranches, IsForestAt}
+use Rattle.obs_graph.specs.Shape.{Shape}
+use Rattle.obs_matroid.specs.Lists.{In}
+use Rattle.obs_matroid.specs.Matroid.{IsMatroid}
+use Rattle.obs_matroid.specs.Assignments.{Pair, branches}
+use Rattle.obs_matroid.specs.Slots.{pairs_of}
+use Rattle.obs_matroid.proofs.Lists.{In-filter, In-filter_from}
+use Rattle.obs_matroid.proofs.Contained.{Contains-from_In, In-from_Contains}
+use Rattle.obs_matroid.proofs.Pairs.{In-branches, In-branches_from, branches_within}
+use Rattle.obs_matroid.proofs.Ranks.{rank-independent, rank-within}
+use Rattle.obs_matroid.proofs.Bounds.{length-branches, weak_bound}
+use Rattle.obs_matroid.proofs.Slots.{slot_from, slot_at, IsDistinct-slots}
+use Rattle.obs_meter.specs.declared.Touch.{Touch}
+use Rattle.obs_meter.specs.Touches.{every_item, touch_at}
+use Rattle.obs_meter.specs.Assignments.{IsAssignmentAt, bound_at}
+use Rattle.obs_meter.specs.Spanned.{graph_matroid, rank_at}
+use Rattle.obs_meter.proofs.Assigned.{to_matroid, independent-from_forest_at}
+use Rattle.obs_meter.proofs.Instance.{IsMatroid-graph}
+use Rattle.obs_forest.specs.Holding.{has_position}
+use Rattle.obs_forest.proofs.Held.{has_position-contains, contains-has_position}
+use Rattle.obs_assign.specs.Assigned.{Assigned, IsWhole, StandsOver, pairs}
+use Rattle.obs_assign.specs.Still.{AreRetained, is_still, still}
+use Rattle.obs_assign.proofs.Slotted.{IsForestAt-over, slot_low}
+
+In-range : (n a x : ℕ) → a ≤ x → x < a + n → In x (range_with_len a n)
+In-range zero a x l h = absurd (omega arith)
+In-range (suc n) a x l h = elim (cases_eq x a) [ inl y ↦ inl y | inr k ↦ inr (In-range n (a + 1) x (omega arith) (omega arith)) ]
+
+pub In-every : (touches : List Touch) (m : ℕ) → m < length touches → In m (every_item touches)
+In-every touches m l = In-range (length touches) 0 m (omega arith) (omega arith)
+
+-- an assignment that stands is one of the meters
+pub IsAssignmentAt-standing : (a : Assigned) (g : Shape) (touches : List Touch) → IsWhole a → StandsOver a g touches → IsAssignmentAt g.ends touches (every_item touches) (pairs a)
+IsAssignmentAt-standing a g touches w s = record {
+  of_items = λ p i. In-every touches p.0 (let l = slot_low a.slots p.0 p.1 (slot_from a.slots p i) in let e = s.meters in omega arith);
+  touched = λ p i. s.touched p.0 p.1 (slot_from a.slots p i);
+  different = IsDistinct-slots a.slots;
+  forest = IsForestAt-over a.forest.held g.ends (branches (pairs a)) s.forest.held w.paired.holds.forest;
+}
+
+pub weak_bound_at : (n : ℕ) (ends : List (Option Ends)) (touches : List Touch) (M : List ℕ) (J : ℕ → Bool) (A : List Pair)
+    → AreBranches n ends → IsAssignmentAt ends touches M A → length A ≤ bound_at n ends touches J M
+weak_bound_at n ends touches M J A b a = weak_bound (graph_matroid n ends) (IsMatroid-graph n ends b) (touch_at ends touches) M J A (to_matroid n ends touches M A a)
+
+pub still_from : (ends : List (Option Ends)) (touches : List Touch) (A : List Pair) (p : Pair) → In p (still ends touches A) → In p A × In p.1 (touch_at ends touches p.0)
+still_from ends touches A p i =
+    let f = In-filter_from (is_still ends touches) p A i in (f.0, In-from_Contains p.1 (touch_at ends touches p.0) (has_position-contains (touch_at ends touches p.0) p.1 f.1))
+
+pub still_at : (ends : List (Option Ends)) (touches : List Touch) (A : List Pair) (p : Pair) → In p A → In p.1 (touch_at ends touches p.0) → In p (still ends touches A)
+still_at ends touches A p i t = In-filter (is_still ends touches) p A i (contains-has_position (touch_at ends touches p.0) p.1 (Contains-from_In p.1 (touch_at ends touches p.0) t))
+
+-- as many pairs are retained as the branches of those that stand still have rank
+pub length-retained : (n : ℕ) (ends : List (Option Ends)) (touches : List Touch) (before after : List Pair) → AreBranches n ends → IsForestAt ends (branches after)
+    → AreRetained ends touches before after → length after ≡ rank_at n ends (branches (still ends touches before))
+length-retained n ends touches before after b f r =
+    let g = graph_matroid n ends in
+    let laws = IsMatroid-graph n ends b in
+    let L = branches after in
+    let K = branches (still ends touches before) in
+    let own = rank-independent g laws L (independent-from_forest_at n ends L f) in
+    let up = rank-within g laws L K (λ x i. laws.member K x (branches_within after (still ends touches before) r.standing x i)) in
+    let down = rank-within g laws K L (λ x i. let p = In-branches_from (still ends touches before) x i in rw p.2 (r.joined p.0 p.1)) in
+    omega (arith, own, up, down, length-branches after)

@@ -1,0 +1,7 @@
+pub mod Assigned
+pub mod Moves
+pub mod Pins
+pub mod Still
+pub mod Kept
+pub mod Spare
+pub mod Retain

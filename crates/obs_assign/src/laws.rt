@@ -1,0 +1,60 @@
+// The laws of kept assignments.
+ghost use Rattle.std.specs.Prelude.{◌≡◌, ◌+◌, ◌<◌, ◌≤◌, ◌↔◌, ℕ, Bool, false, Option, Some, List, length, slice_set};
+ghost use Rattle.obs_graph.specs.declared.Ends.{Ends};
+ghost use Rattle.obs_graph.specs.Joined.{InRange, IsMerging, is_joined, rank, renamed};
+ghost use Rattle.obs_graph.specs.Positions.{AreBranches, IsForestAt};
+ghost use Rattle.obs_graph.specs.Shape.{Shape};
+ghost use Rattle.obs_matroid.specs.Assignments.{Pair, branches, others};
+ghost use Rattle.obs_matroid.specs.Lists.{In};
+ghost use Rattle.obs_matroid.specs.Slots.{pairs_of};
+ghost use Rattle.obs_meter.specs.declared.Touch.{Touch};
+ghost use Rattle.obs_meter.specs.Assignments.{IsAssignmentAt, bound_at};
+ghost use Rattle.obs_meter.specs.Spanned.{rank_at};
+ghost use Rattle.obs_meter.specs.Touches.{every_item, touch_at};
+ghost use Rattle.obs_assign.specs.Assigned.{Assigned, IsWhole, StandsOver, pairs};
+ghost use Rattle.obs_assign.specs.Pins.{joins};
+ghost use Rattle.obs_assign.specs.Still.{AreRetained, still};
+
+/// No assignment is longer than a bound: the rank of what some items touch, and one for each other item.
+pub fn weak_bound()
+    ensures weak { (n : ℕ) (ends : List (Option Ends)) (touches : List Touch) (M : List ℕ) (J : ℕ → Bool) (A : List Pair) →
+        AreBranches n ends → IsAssignmentAt ends touches M A → length A ≤ bound_at n ends touches J M }
+{}
+
+/// The pairs of an assignment that stands over a graph and meters are an assignment of these meters.
+pub fn standing_is_assignment()
+    ensures assignment { (a : Assigned) (g : Shape) (touches : List Touch) → IsWhole a → StandsOver a g touches →
+        IsAssignmentAt g.ends touches (every_item touches) (pairs a) }
+{}
+
+/// A meter may take a branch that it touches where the branches of the other meters don't join its ends.
+pub fn one_move()
+    ensures assignment { (a : Assigned) (g : Shape) (touches : List Touch) (m e : ℕ) →
+        AreBranches g.vertices g.ends → IsWhole a → StandsOver a g touches → m < length a.slots →
+        In e (touch_at g.ends touches m) → joins g.ends (others (pairs a) m) e ≡ false →
+        IsAssignmentAt g.ends touches (every_item touches) (pairs_of (slice_set a.slots m (Some e))) }
+{}
+
+/// Where two vertices become one, the rank of a list of branches falls by at most one, and by none where the list
+/// doesn't join the two.
+pub fn rank_of_merged()
+    ensures at_most_one { (n m s t : ℕ) (h : ℕ → ℕ) (es : List Ends) → IsMerging n m s t h → InRange n es →
+        rank n es ≤ rank m (renamed h es) + 1 }
+    ensures no_higher { (n m s t : ℕ) (h : ℕ → ℕ) (es : List Ends) → IsMerging n m s t h → InRange n es →
+        rank m (renamed h es) ≤ rank n es }
+    ensures same_if_apart { (n m s t : ℕ) (h : ℕ → ℕ) (es : List Ends) → IsMerging n m s t h → InRange n es →
+        is_joined es s t ≡ false → rank m (renamed h es) ≡ rank n es }
+{}
+
+/// The pairs that stand still are those whose meter touches their branch.
+pub fn still_pairs()
+    ensures exactly { (ends : List (Option Ends)) (touches : List Touch) (A : List Pair) (p : Pair) →
+        In p (still ends touches A) ↔ (In p A × In p.1 (touch_at ends touches p.0)) }
+{}
+
+/// Of the pairs that stand still as many are retained as the rank of their branches.
+pub fn retained_by_rank()
+    ensures rank { (n : ℕ) (ends : List (Option Ends)) (touches : List Touch) (before after : List Pair) →
+        AreBranches n ends → IsForestAt ends (branches after) → AreRetained ends touches before after →
+        length after ≡ rank_at n ends (branches (still ends touches before)) }
+{}

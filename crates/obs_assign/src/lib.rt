@@ -1,0 +1,23 @@
+//! The kept pairs of meters and branches: an assignment that grows, shrinks and is carried over to another network.
+#![tactic(auto)]
+
+/// A meter takes a branch.
+#[derive(Clone, Copy, Debug, PartialEq, Eq)]
+pub struct Move {
+    pub meter: u32,
+    pub branch: u32,
+}
+
+mod hold;
+pub mod laws;
+mod memory;
+mod retain;
+mod spare;
+mod steps;
+#[cfg(test)]
+mod tests;
+mod whole;
+
+pub use memory::NoMemory;
+pub use steps::Steps;
+pub use whole::Assignment;

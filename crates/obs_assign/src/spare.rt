@@ -1,0 +1,138 @@
+// Which pair may be given up for another one.
+ghost use Rattle.std.specs.Prelude.{◌≡◌, ◌⊎◌, ◌<◌, ◌≤◌, ◌^◌, ℕ, true, false, All, Contains, IsSome, None, Some, IsTrue, MatchOption, length, slice_index_or, take};
+ghost use Rattle.obs_graph.specs.Positions.{IsForestAt};
+ghost use Rattle.obs_matroid.specs.Assignments.{branches, part, others};
+ghost use Rattle.obs_matroid.specs.Lists.{other_than};
+ghost use Rattle.obs_matroid.specs.Slots.{pairs_of};
+ghost use Rattle.obs_forest.specs.Holding.{StandsOver};
+ghost use Rattle.obs_assign.specs.Assigned.{ArePaired, HoldsPairs, has_flag};
+ghost use Rattle.obs_assign.specs.Kept.{IsInverse};
+ghost use Rattle.obs_assign.specs.Pins.{joins, pinned_slots};
+ghost use Rattle.obs_assign.specs.Spare.{IsSpare, IsSpareOf};
+
+use crate::Move;
+use crate::hold::hold_pairs;
+use obs_forest::Forest;
+use obs_graph::Graph;
+
+/// Of the meters that have these branches one that isn't frozen: m, where it has one of them.
+pub fn spare_of(path: &[u32], owners: &[Option<u32>], frozen: &[bool], m: u32) -> Option<u32>
+    requires low { All (λ p. p < length owners.now) path.now }
+    requires owned { All (λ p. IsSome (slice_index_or owners.now p None)) path.now }
+    requires meters { (p x : ℕ) → slice_index_or owners.now p None ≡ Some x → x < length frozen.now }
+    requires thawed { has_flag frozen.now m ≡ false }
+    ensures spare { MatchOption result
+        ((p x : ℕ) → Contains path.now p → slice_index_or owners.now p None ≡ Some x → has_flag frozen.now x ≡ true)
+        (λ x. IsSpareOf path.now owners.now frozen.now m x) }
+{
+    let mut spare = None;
+    for p in path {
+        if let Some(x) = owners[*p as usize] {
+            if x == m {
+                return Some(m);
+            }
+            if !frozen[x as usize] {
+                spare = Some(x);
+            }
+        }
+    }
+    spare
+}
+
+/// The meter whose pair has to be given up where m, which isn't frozen, takes the branch e: m itself, where that is
+/// enough. None where the frozen branches join the ends of e.
+pub fn spare_for(
+    g: &Graph,
+    forest: &Forest,
+    slots: &[Option<u32>],
+    owners: &[Option<u32>],
+    frozen: &[bool],
+    path: &mut [u32],
+    m: u32,
+    e: u32,
+) -> Option<u32>
+    requires m { m < length slots.now }
+    requires present { IsSome (slice_index_or g.now.ends e None) }
+    requires stands { StandsOver forest.now g.now }
+    requires paired { ArePaired slots.now frozen.now forest.now.held }
+    requires inverse { IsInverse slots.now owners.now }
+    requires owners { length g.now.ends ≤ length owners.now }
+    requires room { forest.now.vertices ≤ length path.old }
+    requires thawed { has_flag frozen.now m ≡ false }
+    ensures spare { MatchOption result
+        (joins g.now.ends (branches (part (has_flag frozen.now) (pairs_of slots.now))) e ≡ true)
+        (λ x. IsSpare g.now.ends slots.now frozen.now m e x) }
+{
+    let _ = slots;
+    let _ = g.vertices();
+    if let Some(x) = owners[e as usize] {
+        if frozen[x as usize] {
+            return None;
+        }
+        return Some(x);
+    }
+    let ends = g.ends(e).unwrap();
+    if forest.piece(ends.a) != forest.piece(ends.b) {
+        return Some(m);
+    }
+    let count = forest.cycle(g, e, path);
+    spare_of(&path[..count], owners, frozen, m)
+}
+
+/// Whether the branches stay the same where a meter, which had the branch `before`, takes e: e has an owner, and the meter
+/// had no other branch.
+fn keeps_branches(before: Option<u32>, owner: Option<u32>, e: u32) -> bool
+    ensures keeps { IsTrue result → IsSome owner × ((f : ℕ) → before ≡ Some f → f ≡ e) }
+{
+    match before {
+        Some(f) => owner.is_some() && f == e,
+        None => owner.is_some(),
+    }
+}
+
+/// Puts a pair in for those of its meter and of x. The forest is made anew only where its branches change. Says how many
+/// pairs there are.
+pub fn take_pin(
+    g: &Graph,
+    meters: usize,
+    slots: &mut [Option<u32>],
+    owners: &mut [Option<u32>],
+    list: &mut [u32],
+    forest: &mut Forest,
+    count: u32,
+    pin: Move,
+    x: u32,
+) -> u32
+    requires few { meters < 2 ^ 32 }
+    requires meters { meters ≤ length slots.old }
+    requires m { pin.meter < meters }
+    requires x { x < meters }
+    requires e { pin.branch < length g.now.ends }
+    requires room { meters ≤ length list.old }
+    requires owners { length g.now.ends ≤ length owners.old }
+    requires vertices { g.now.vertices ≤ forest.old.most_vertices }
+    requires branches { length g.now.ends ≤ forest.old.most_branches }
+    requires stands { StandsOver forest.old g.now }
+    requires inverse { IsInverse (take meters slots.old) owners.old }
+    requires holds { HoldsPairs (take meters slots.old) forest.old.held }
+    requires count { count ≡ length (pairs_of (take meters slots.old)) }
+    requires spare { (y : ℕ) → slice_index_or (take meters slots.old) y None ≡ Some pin.branch → y ≡ x }
+    requires forest { IsForestAt g.now.ends (branches (pairs_of (pinned_slots (take meters slots.old) pin.meter pin.branch x))) }
+    ensures slots { take meters slots.new ≡ pinned_slots (take meters slots.old) pin.meter pin.branch x }
+    ensures inverse { IsInverse (take meters slots.new) owners.new }
+    ensures count { result ≡ length (pairs_of (take meters slots.new)) }
+    ensures holds { HoldsPairs (take meters slots.new) forest.new.held }
+    ensures stands { StandsOver forest.new g.now }
+    ensures most_vertices { forest.new.most_vertices ≡ forest.old.most_vertices }
+    ensures most_branches { forest.new.most_branches ≡ forest.old.most_branches }
+{
+    let e = pin.branch;
+    let before = slots[pin.meter as usize];
+    slots[x as usize] = None;
+    slots[pin.meter as usize] = Some(e);
+    if keeps_branches(before, owners[e as usize], e) {
+        owners[e as usize] = Some(pin.meter);
+        return count;
+    }
+    hold_pairs(g, meters, slots, owners, list, forest)
+}

@@ -1,0 +1,89 @@
+-- One row more: when it is refused, and the tables that have it.
+use Rattle.std.specs.Prelude.{◌≡◌, ℕ, ◌==◌, ◌&&◌, Bool, List, [], ◌∷◌, ◌++◌, length, Option, None, Some, if◌then◌else◌}
+use Rattle.obs_case.specs.declared.rows.Branch.{Branch}
+use Rattle.obs_case.specs.declared.rows.Candidate.{Candidate}
+use Rattle.obs_case.specs.declared.rows.Kind.{Kind}
+use Rattle.obs_case.specs.declared.rows.Meter.{Meter}
+use Rattle.obs_case.specs.declared.rows.Node.{Node}
+use Rattle.obs_case.specs.declared.rows.Switch.{Switch}
+use Rattle.obs_case.specs.declared.table.AddFault.{AddFault}
+use Rattle.obs_case.specs.declared.table.AddFault.TheVariants.{NameTwice, UnknownNode, UnknownPlace, TooMany, NoMemory}
+use Rattle.obs_case.specs.Tables.{Tables, node_names, switch_names, branch_names, meter_names, candidate_names, has_name, place_of, place_names, most_rows}
+
+-- a full table takes no row, and no table a name that it has
+abbrev pub name_fault : List (List ℕ) → List ℕ → Option AddFault
+name_fault names name =
+    if length names == most_rows then Some TooMany else (if has_name names name then Some NameTwice else None)
+
+-- both ends are nodes
+abbrev pub ends_fault : Tables → List ℕ → List ℕ → Option AddFault
+ends_fault t from to = if has_name (node_names t) from && has_name (node_names t) to then None else Some UnknownNode
+
+-- a meter of this kind can stand there
+abbrev pub place_fault : Tables → Kind → List ℕ → Option AddFault
+place_fault t kind at = if has_name (place_names t kind) at then None else Some UnknownPlace
+
+-- the first fault that there is
+abbrev pub first_fault : Option AddFault → Option AddFault → Option AddFault
+first_fault None later = later
+first_fault (Some fault) later = Some fault
+
+-- why a row is refused, for each table
+abbrev pub node_fault : Tables → List ℕ → Option AddFault
+node_fault t name = name_fault (node_names t) name
+
+abbrev pub switch_fault : Tables → List ℕ → List ℕ → List ℕ → Option AddFault
+switch_fault t name from to = first_fault (name_fault (switch_names t) name) (ends_fault t from to)
+
+abbrev pub branch_fault : Tables → List ℕ → List ℕ → List ℕ → Option AddFault
+branch_fault t name from to = first_fault (name_fault (branch_names t) name) (ends_fault t from to)
+
+abbrev pub meter_fault : Tables → List ℕ → Kind → List ℕ → Option AddFault
+meter_fault t name kind at = first_fault (name_fault (meter_names t) name) (place_fault t kind at)
+
+abbrev pub candidate_fault : Tables → List ℕ → Kind → List ℕ → Option AddFault
+candidate_fault t name kind at = first_fault (name_fault (candidate_names t) name) (place_fault t kind at)
+
+-- an answer that refuses a row: want of memory, or this fault
+abbrev pub Refuses : Option AddFault → AddFault → Type 0
+Refuses fault NameTwice = fault ≡ Some NameTwice
+Refuses fault UnknownNode = fault ≡ Some UnknownNode
+Refuses fault UnknownPlace = fault ≡ Some UnknownPlace
+Refuses fault TooMany = fault ≡ Some TooMany
+Refuses fault NoMemory = Unit {0}
+
+-- the tables with one row more at the end of one
+abbrev pub with_node : Tables → Node → Tables
+with_node t row = record t { nodes = t.nodes ++ row ∷ [] }
+
+abbrev pub with_switch : Tables → Switch → Tables
+with_switch t row = record t { switches = t.switches ++ row ∷ [] }
+
+abbrev pub with_branch : Tables → Branch → Tables
+with_branch t row = record t { branches = t.branches ++ row ∷ [] }
+
+abbrev pub with_meter : Tables → Meter → Tables
+with_meter t row = record t { meters = t.meters ++ row ∷ [] }
+
+abbrev pub with_candidate : Tables → Candidate → Tables
+with_candidate t row = record t { candidates = t.candidates ++ row ∷ [] }
+
+-- the rows that names stand for
+abbrev pub node_of : List ℕ → Bool → Node
+node_of name source = record { name = name; source = source }
+
+abbrev pub switch_of : Tables → List ℕ → List ℕ → List ℕ → Bool → Switch
+switch_of t name from to closed =
+    record { name = name; from = place_of (node_names t) from; to = place_of (node_names t) to; closed = closed }
+
+abbrev pub branch_of : Tables → List ℕ → List ℕ → List ℕ → Bool → Branch
+branch_of t name from to inservice =
+    record { name = name; from = place_of (node_names t) from; to = place_of (node_names t) to; inservice = inservice }
+
+abbrev pub meter_of : Tables → List ℕ → Kind → List ℕ → Bool → Meter
+meter_of t name kind at inservice =
+    record { name = name; kind = kind; at = place_of (place_names t kind) at; inservice = inservice }
+
+abbrev pub candidate_of : Tables → List ℕ → Kind → List ℕ → ℕ → Candidate
+candidate_of t name kind at price =
+    record { name = name; kind = kind; at = place_of (place_names t kind) at; price = price }

@@ -1,0 +1,4 @@
+pub mod Adds
+pub mod Case
+pub mod Flags
+pub mod Tables

@@ -1,0 +1,334 @@
+// The tables together.
+ghost use Rattle.std.specs.Prelude.{◌≡◌, ◌≢◌, ◌<◌, ◌≤◌, length, is_some, None, Err, IsTrue, IfOk, IfErr, IfSome, OnOk, OnErr};
+ghost use Rattle.obs_text.specs.Names.{is_name};
+ghost use Rattle.obs_case.specs.Adds.{Refuses, branch_fault, branch_of, candidate_fault, candidate_of, meter_fault, meter_of, node_fault, node_of, switch_fault, switch_of, with_branch, with_candidate, with_meter, with_node, with_switch};
+ghost use Rattle.obs_case.specs.Flags.{with_branch_inservice, with_closed, with_meter_inservice};
+ghost use Rattle.obs_case.specs.Tables.{IsValid, branch_names, candidate_names, has_name, meter_names, most_price, no_rows, node_names, place_names, places, position_of, switch_names};
+
+use crate::name::Name;
+use crate::rows::{Branch, Candidate, Kind, Meter, Node, Switch};
+use crate::table::{AddFault, MOST_ROWS, add, find, find_both, put, refusal};
+use indexmap::IndexSet;
+use std::alloc::Global;
+use std::marker::Model;
+
+/// Five tables. Names are unique in each, positions are in range, a table has at most 20,000 rows
+/// and a price is at most 1,000,000,000.
+#[derive(Drop)]
+pub struct Case {
+    nodes: IndexSet<Node>,
+    switches: IndexSet<Switch>,
+    branches: IndexSet<Branch>,
+    meters: IndexSet<Meter>,
+    candidates: IndexSet<Candidate>,
+}
+
+impl Model for Case {
+    ghost use Rattle.obs_case.specs.Tables.{IsValid, Tables};
+
+    ghost Value = { Tables };
+
+    ghost use Rattle.obs_case.specs.Case.{tables_of};
+
+    ghost view = { tables_of };
+
+    ghost invariant = { λ c. IsValid (tables_of c) };
+}
+
+impl Case {
+    /// Five empty tables. Takes no memory.
+    pub fn new(alloc: Global) -> Case
+        ensures empty { result ≡ no_rows }
+    {
+        Case {
+            nodes: IndexSet::new(alloc),
+            switches: IndexSet::new(alloc),
+            branches: IndexSet::new(alloc),
+            meters: IndexSet::new(alloc),
+            candidates: IndexSet::new(alloc),
+        }
+    }
+
+    pub fn nodes(&self) -> &[Node]
+        ensures rows { result.now ≡ self.now.nodes }
+        ensures valid { IsValid self.now }
+    {
+        self.nodes.as_slice()
+    }
+
+    pub fn switches(&self) -> &[Switch]
+        ensures rows { result.now ≡ self.now.switches }
+        ensures valid { IsValid self.now }
+    {
+        self.switches.as_slice()
+    }
+
+    pub fn branches(&self) -> &[Branch]
+        ensures rows { result.now ≡ self.now.branches }
+        ensures valid { IsValid self.now }
+    {
+        self.branches.as_slice()
+    }
+
+    pub fn meters(&self) -> &[Meter]
+        ensures rows { result.now ≡ self.now.meters }
+        ensures valid { IsValid self.now }
+    {
+        self.meters.as_slice()
+    }
+
+    pub fn candidates(&self) -> &[Candidate]
+        ensures rows { result.now ≡ self.now.candidates }
+        ensures valid { IsValid self.now }
+    {
+        self.candidates.as_slice()
+    }
+
+    /// The position of the node of that name; None where there is none.
+    pub fn find_node(&self, name: &[u8]) -> Option<u32>
+        ensures position { result ≡ position_of (node_names self.now) name.now }
+    {
+        find(&self.nodes, name)
+    }
+
+    /// The position of the switch of that name; None where there is none.
+    pub fn find_switch(&self, name: &[u8]) -> Option<u32>
+        ensures position { result ≡ position_of (switch_names self.now) name.now }
+    {
+        find(&self.switches, name)
+    }
+
+    /// The position of the branch of that name; None where there is none.
+    pub fn find_branch(&self, name: &[u8]) -> Option<u32>
+        ensures position { result ≡ position_of (branch_names self.now) name.now }
+    {
+        find(&self.branches, name)
+    }
+
+    /// The position of the meter of that name; None where there is none.
+    pub fn find_meter(&self, name: &[u8]) -> Option<u32>
+        ensures position { result ≡ position_of (meter_names self.now) name.now }
+    {
+        find(&self.meters, name)
+    }
+
+    /// The position of the candidate of that name; None where there is none.
+    pub fn find_candidate(&self, name: &[u8]) -> Option<u32>
+        ensures position { result ≡ position_of (candidate_names self.now) name.now }
+    {
+        find(&self.candidates, name)
+    }
+
+    // The position of what a meter of this kind stands at.
+    fn find_place(&self, kind: Kind, at: &[u8]) -> Option<u32>
+        ensures position { result ≡ position_of (place_names self.now kind) at.now }
+        ensures there { is_some result ≡ has_name (place_names self.now kind) at.now }
+        ensures within { IfSome result (λ at. at < places self.now kind) }
+    {
+        match kind {
+            Kind::Flow => find(&self.branches, at),
+            Kind::Injection | Kind::Zero => find(&self.nodes, at),
+        }
+    }
+
+    /// Adds a node, and answers its position.
+    pub fn add_node(&mut self, name: &[u8], source: bool) -> Result<u32, AddFault>
+        requires name { IsTrue (is_name name.now) }
+        ensures accepted { OnOk result (node_fault self.old name.now ≡ None) }
+        ensures refused { IfErr result (Refuses (node_fault self.old name.now)) }
+        ensures never_unknown_node { result ≢ Err AddFault.UnknownNode }
+        ensures never_unknown_place { result ≢ Err AddFault.UnknownPlace }
+        ensures position { IfOk result (λ at. at ≡ length self.old.nodes) }
+        ensures added { OnOk result (self.new ≡ with_node self.old (node_of name.now source)) }
+        ensures unchanged { OnErr result (self.new ≡ self.old) }
+    {
+        if self.nodes.len() == MOST_ROWS {
+            return Err(AddFault::TooMany);
+        }
+        add(
+            &mut self.nodes,
+            Node {
+                name: Name::new(name),
+                source,
+            },
+        )
+    }
+
+    /// Adds a switch between two nodes, which may be one, and answers its position.
+    pub fn add_switch(
+        &mut self,
+        name: &[u8],
+        from: &[u8],
+        to: &[u8],
+        closed: bool,
+    ) -> Result<u32, AddFault>
+        requires name { IsTrue (is_name name.now) }
+        ensures accepted { OnOk result (switch_fault self.old name.now from.now to.now ≡ None) }
+        ensures refused { IfErr result (Refuses (switch_fault self.old name.now from.now to.now)) }
+        ensures never_unknown_place { result ≢ Err AddFault.UnknownPlace }
+        ensures position { IfOk result (λ at. at ≡ length self.old.switches) }
+        ensures added { OnOk result (self.new ≡ with_switch self.old (switch_of self.old name.now from.now to.now closed)) }
+        ensures unchanged { OnErr result (self.new ≡ self.old) }
+    {
+        if self.switches.len() == MOST_ROWS {
+            return Err(AddFault::TooMany);
+        }
+        let Some((from, to)) = find_both(&self.nodes, from, to) else {
+            return Err(refusal(&self.switches, name, AddFault::UnknownNode));
+        };
+        add(
+            &mut self.switches,
+            Switch {
+                name: Name::new(name),
+                from,
+                to,
+                closed,
+            },
+        )
+    }
+
+    /// Adds a branch between two nodes, which may be one, and answers its position.
+    pub fn add_branch(
+        &mut self,
+        name: &[u8],
+        from: &[u8],
+        to: &[u8],
+        inservice: bool,
+    ) -> Result<u32, AddFault>
+        requires name { IsTrue (is_name name.now) }
+        ensures accepted { OnOk result (branch_fault self.old name.now from.now to.now ≡ None) }
+        ensures refused { IfErr result (Refuses (branch_fault self.old name.now from.now to.now)) }
+        ensures never_unknown_place { result ≢ Err AddFault.UnknownPlace }
+        ensures position { IfOk result (λ at. at ≡ length self.old.branches) }
+        ensures added { OnOk result (self.new ≡ with_branch self.old (branch_of self.old name.now from.now to.now inservice)) }
+        ensures unchanged { OnErr result (self.new ≡ self.old) }
+    {
+        if self.branches.len() == MOST_ROWS {
+            return Err(AddFault::TooMany);
+        }
+        let Some((from, to)) = find_both(&self.nodes, from, to) else {
+            return Err(refusal(&self.branches, name, AddFault::UnknownNode));
+        };
+        add(
+            &mut self.branches,
+            Branch {
+                name: Name::new(name),
+                from,
+                to,
+                inservice,
+            },
+        )
+    }
+
+    /// Adds a meter at a branch, where it measures a flow, and else at a node, and answers its position.
+    pub fn add_meter(
+        &mut self,
+        name: &[u8],
+        kind: Kind,
+        at: &[u8],
+        inservice: bool,
+    ) -> Result<u32, AddFault>
+        requires name { IsTrue (is_name name.now) }
+        ensures accepted { OnOk result (meter_fault self.old name.now kind at.now ≡ None) }
+        ensures refused { IfErr result (Refuses (meter_fault self.old name.now kind at.now)) }
+        ensures never_unknown_node { result ≢ Err AddFault.UnknownNode }
+        ensures position { IfOk result (λ at. at ≡ length self.old.meters) }
+        ensures added { OnOk result (self.new ≡ with_meter self.old (meter_of self.old name.now kind at.now inservice)) }
+        ensures unchanged { OnErr result (self.new ≡ self.old) }
+    {
+        if self.meters.len() == MOST_ROWS {
+            return Err(AddFault::TooMany);
+        }
+        let Some(at) = self.find_place(kind, at) else {
+            return Err(refusal(&self.meters, name, AddFault::UnknownPlace));
+        };
+        add(
+            &mut self.meters,
+            Meter {
+                name: Name::new(name),
+                kind,
+                at,
+                inservice,
+            },
+        )
+    }
+
+    /// Adds a candidate at a branch, where it measures a flow, and else at a node, and answers its position.
+    pub fn add_candidate(
+        &mut self,
+        name: &[u8],
+        kind: Kind,
+        at: &[u8],
+        price: u64,
+    ) -> Result<u32, AddFault>
+        requires name { IsTrue (is_name name.now) }
+        requires price { price ≤ most_price }
+        ensures accepted { OnOk result (candidate_fault self.old name.now kind at.now ≡ None) }
+        ensures refused { IfErr result (Refuses (candidate_fault self.old name.now kind at.now)) }
+        ensures never_unknown_node { result ≢ Err AddFault.UnknownNode }
+        ensures position { IfOk result (λ at. at ≡ length self.old.candidates) }
+        ensures added { OnOk result (self.new ≡ with_candidate self.old (candidate_of self.old name.now kind at.now price)) }
+        ensures unchanged { OnErr result (self.new ≡ self.old) }
+    {
+        if self.candidates.len() == MOST_ROWS {
+            return Err(AddFault::TooMany);
+        }
+        let Some(at) = self.find_place(kind, at) else {
+            return Err(refusal(&self.candidates, name, AddFault::UnknownPlace));
+        };
+        add(
+            &mut self.candidates,
+            Candidate {
+                name: Name::new(name),
+                kind,
+                at,
+                price,
+            },
+        )
+    }
+
+    /// Opens or closes a switch.
+    pub fn set_switch(&mut self, at: u32, closed: bool)
+        requires at { at < length self.old.switches }
+        ensures set { self.new ≡ with_closed self.old at closed }
+    {
+        let row = &self.switches.as_slice()[at as usize];
+        let changed = Switch {
+            name: Name::new(row.name.bytes()),
+            from: row.from,
+            to: row.to,
+            closed,
+        };
+        put(&mut self.switches, changed);
+    }
+
+    /// Puts a branch in service or takes it out.
+    pub fn set_branch(&mut self, at: u32, inservice: bool)
+        requires at { at < length self.old.branches }
+        ensures set { self.new ≡ with_branch_inservice self.old at inservice }
+    {
+        let row = &self.branches.as_slice()[at as usize];
+        let changed = Branch {
+            name: Name::new(row.name.bytes()),
+            from: row.from,
+            to: row.to,
+            inservice,
+        };
+        put(&mut self.branches, changed);
+    }
+
+    /// Puts a meter in service or takes it out.
+    pub fn set_meter(&mut self, at: u32, inservice: bool)
+        requires at { at < length self.old.meters }
+        ensures set { self.new ≡ with_meter_inservice self.old at inservice }
+    {
+        let row = &self.meters.as_slice()[at as usize];
+        let changed = Meter {
+            name: Name::new(row.name.bytes()),
+            kind: row.kind,
+            at: row.at,
+            inservice,
+        };
+        put(&mut self.meters, changed);
+    }
+}

@@ -1,0 +1,14 @@
+//! A network's five tables: nodes, switches, branches, meters and candidates, with their names.
+#![tactic(auto)]
+
+mod case;
+mod name;
+mod rows;
+mod table;
+#[cfg(test)]
+mod tests;
+
+pub use case::Case;
+pub use name::Name;
+pub use rows::{Branch, Candidate, Kind, Meter, Node, Switch};
+pub use table::AddFault;

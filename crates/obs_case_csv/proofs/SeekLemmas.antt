@@ -1,0 +1,56 @@
+-- A column is sought from the end of a header to its start.
+use Rattle.std.proofs.Common.{inl, inr, ℕ, ◌≡◌, ◌∙◌, ◌+◌, ◌<◌, ◌≤◌, ap, refl, sym, subst, List, [], ◌∷◌, length, drop, Bool, not, ◌||◌, cond, true, false, arith, suc, zero, get_or, Option, Some, None, option_map, unwrap_or, drop-cons, if◌then◌else◌}
+use Rattle.std.proofs.lemmas.List.{drop_all}
+use Rattle.std.specs.Str.{bytes_eq}
+use Rattle.csv.specs.Records.{field_at}
+use Rattle.obs_case.specs.Tables.{has_name, place_of}
+use Rattle.obs_case_csv.specs.Fields.{Record, comes_twice}
+
+-- what is known of a column once the fields from a place on were seen
+pub record IsSought (fields : Record) (column : List ℕ) (i : ℕ) (found twice : Bool) (place : ℕ) : Type 0 where
+  pub found_is : found ≡ has_name (drop i fields) column
+  pub twice_is : twice ≡ comes_twice (drop i fields) column
+  pub place_is : place ≡ i + place_of (drop i fields) column
+
+-- whether the field at a place has these bytes
+abbrev pub field_is : Record → ℕ → List ℕ → Bool
+field_is fields i bytes = unwrap_or (option_map (bytes_eq bytes) (field_at fields i)) false
+
+pub field_is-there : (fields : Record) (i : ℕ) (bytes : List ℕ) → i < length fields → field_is fields i bytes ≡ bytes_eq bytes (get_or fields i [])
+unfolding field_at
+field_is-there [] i bytes lt = absurd (omega arith)
+field_is-there (field ∷ fields) zero bytes lt = refl
+field_is-there (field ∷ fields) (suc i) bytes lt = field_is-there fields i bytes (omega arith)
+
+-- at the end no field was seen
+pub sought-none : (fields : Record) (column : List ℕ) (i : ℕ) → i ≡ length fields → IsSought fields column i false false i
+sought-none fields column i e =
+    let none : drop i fields ≡ [] = drop_all i fields (omega arith) in
+    record {
+      found_is = ap (λ fs. has_name fs column) (sym none);
+      twice_is = ap (λ fs. comes_twice fs column) (sym none);
+      place_is = rw none (omega arith);
+    }
+
+module _ (fields : Record) (column : List ℕ) (i : ℕ) (found twice : Bool) (place : ℕ) (lt : i < length fields) (h : IsSought fields column (suc i) found twice place) where
+  -- the field before is the column
+  pub sought-here : field_is fields i column ≡ true → IsSought fields column i true found i
+  sought-here e =
+      let here : drop i fields ≡ get_or fields i [] ∷ drop (suc i) fields = drop-cons fields i [] lt in
+      let same : bytes_eq column (get_or fields i []) ≡ true = sym (field_is-there fields i column lt) ∙ e in
+      record {
+        found_is = rw (here, same) refl;
+        twice_is = rw (here, same) h.found_is;
+        place_is = rw (here, same) (omega arith);
+      }
+
+  -- or it isn't
+  pub sought-later : field_is fields i column ≡ false → IsSought fields column i found twice place
+  sought-later e =
+      let here : drop i fields ≡ get_or fields i [] ∷ drop (suc i) fields = drop-cons fields i [] lt in
+      let other : bytes_eq column (get_or fields i []) ≡ false = sym (field_is-there fields i column lt) ∙ e in
+      record {
+        found_is = rw (here, other) h.found_is;
+        twice_is = rw (here, other) h.twice_is;
+        place_is = rw (here, other) (omega (arith, h.place_is));
+      }

@@ -1,0 +1,67 @@
+-- A table's columns, and the reading of fields.
+use Rattle.std.specs.Prelude.{ℕ, ◌==◌, Bool, true, false, not, nat_le, List, [], ◌∷◌, codes, Option, None, Some, is_none, unwrap_or, if◌then◌else◌}
+use Rattle.std.specs.List.{list_any}
+use Rattle.std.specs.Str.{bytes_eq}
+use Rattle.csv.specs.Records.{field_at}
+use Rattle.obs_text.specs.Numbers.{whole_of}
+use Rattle.obs_case.specs.declared.rows.Kind.{Kind}
+use Rattle.obs_case.specs.declared.rows.Kind.TheVariants.{Flow, Injection, Zero}
+use Rattle.obs_case.specs.Tables.{has_name, most_price, place_of}
+use Rattle.obs_case_csv.specs.declared.faults.RowFault.{RowFault}
+use Rattle.obs_case_csv.specs.declared.faults.RowFault.TheVariants.{ColumnMissing, ColumnTwice}
+use Rattle.obs_case_csv.specs.declared.faults.Table.{Table}
+use Rattle.obs_case_csv.specs.declared.faults.Table.TheVariants.{Nodes, Switches, Branches, Meters, Candidates}
+
+-- a record: its fields
+abbrev pub Record : Type 0
+Record = List (List ℕ)
+
+-- the columns that a table needs; the first is the row's own name
+abbrev pub needed_columns : Table → List (List ℕ)
+needed_columns Nodes = codes "node" ∷ codes "source" ∷ []
+needed_columns Switches = codes "switch" ∷ codes "from" ∷ codes "to" ∷ codes "closed" ∷ []
+needed_columns Branches = codes "branch" ∷ codes "from" ∷ codes "to" ∷ codes "inservice" ∷ []
+needed_columns Meters = codes "meter" ∷ codes "kind" ∷ codes "at" ∷ codes "inservice" ∷ []
+needed_columns Candidates = codes "candidate" ∷ codes "kind" ∷ codes "at" ∷ codes "price" ∷ []
+
+-- a column that is in a header, and in it again after that
+abbrev pub comes_twice : Record → List ℕ → Bool
+comes_twice [] column = false
+comes_twice (field ∷ fields) column = if bytes_eq column field then has_name fields column else comes_twice fields column
+
+-- a needed column isn't in the header, or is in it twice
+abbrev pub columns_fault : List (List ℕ) → Record → Option RowFault
+columns_fault columns header =
+    if list_any (λ column. not (has_name header column)) columns then Some ColumnMissing
+    else (if list_any (comes_twice header) columns then Some ColumnTwice else None)
+
+-- the record's field under a column of the header, if it has one
+abbrev pub field_under : Record → Record → List ℕ → Option (List ℕ)
+field_under header row column = field_at row (place_of header column)
+
+-- the same field, empty where there is none
+abbrev pub field_of : Record → Record → List ℕ → List ℕ
+field_of header row column = unwrap_or (field_under header row column) []
+
+-- the record has no field under a needed column
+abbrev pub is_short : List (List ℕ) → Record → Record → Bool
+is_short columns header row = list_any (λ column. is_none (field_under header row column)) columns
+
+-- a flag: 0 is false, and 1 is true
+abbrev pub flag_of : List ℕ → Option Bool
+flag_of bytes = if bytes_eq bytes (codes "0") then Some false else (if bytes_eq bytes (codes "1") then Some true else None)
+
+-- what a meter measures
+abbrev pub kind_of : List ℕ → Option Kind
+kind_of bytes =
+    if bytes_eq bytes (codes "flow") then Some Flow
+    else (if bytes_eq bytes (codes "injection") then Some Injection else (if bytes_eq bytes (codes "zero") then Some Zero else None))
+
+-- a number that is a price
+abbrev pub price_within : Option ℕ → Option ℕ
+price_within None = None
+price_within (Some n) = if nat_le n most_price then Some n else None
+
+-- a price: a whole number, at most 1,000,000,000
+abbrev pub price_of : List ℕ → Option ℕ
+price_of bytes = price_within (whole_of bytes)

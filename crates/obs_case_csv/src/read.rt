@@ -1,0 +1,109 @@
+// Tables from their bytes.
+ghost use Rattle.std.specs.Prelude.{◌≡◌, ◌≤◌, ◌+◌, [], None, Ok, IfErr, IfOk, OnErr, OnOk, option_map};
+ghost use Rattle.csv.specs.Records.{fields_of};
+ghost use Rattle.obs_case.specs.Tables.{most_rows};
+ghost use Rattle.obs_case_csv.specs.Columns.{ArePlaces};
+ghost use Rattle.obs_case_csv.specs.Fields.{Record};
+ghost use Rattle.obs_case_csv.specs.Read.{Ends, EndsAll, HoldsFirstRows, UnlessNoMemory, fault_at, fault_in, rows_in, tables_in};
+ghost use Rattle.obs_case_csv.specs.Rows.{names_in, next_row, row_fault, with_record};
+
+use crate::columns::{Places, fields_at, places_in};
+use crate::faults::{RowFault, Table, TableEnd, TableFault};
+use crate::records::{next_row, open};
+use crate::rows::{RowEnd, add_row};
+use csv::ByteRecord;
+use obs_case::Case;
+use std::alloc::Global;
+
+/// The most rows of a table.
+const MOST_ROWS: u32 = 20000;
+
+fn fault(table: Table, row: u32, code: RowFault) -> TableEnd
+    ensures fault { result ≡ TableEnd.Fault (record { table = table; row = row; code = code }) }
+{
+    TableEnd::Fault(TableFault { table, row, code })
+}
+
+// Adds a record as the row of that number, under any header that has the columns at these places.
+fn read_row(
+    case: &mut Case,
+    table: Table,
+    places: &Places,
+    row: &ByteRecord,
+    number: u32,
+) -> Result<(), TableEnd>
+    requires number { number ≡ next_row table case.old }
+    requires few { number ≤ most_rows + 1 }
+    ensures accepted { OnOk result ((header : Record) → ArePlaces table header places.now → row_fault table header case.old (fields_of row.now) ≡ None) }
+    ensures refused { IfErr result (λ end. (header : Record) → ArePlaces table header places.now → Ends (fault_at table number (row_fault table header case.old (fields_of row.now))) end) }
+    ensures added { OnOk result ((header : Record) → ArePlaces table header places.now → case.new ≡ with_record table header case.old (fields_of row.now)) }
+    ensures unchanged { OnErr result (case.new ≡ case.old) }
+{
+    if number > MOST_ROWS {
+        return Err(fault(table, number, RowFault::TooMany));
+    }
+    let Some(fields) = fields_at(row, places) else {
+        return Err(fault(table, number, RowFault::ShortRow));
+    };
+    match add_row(case, table, &fields) {
+        Ok(()) => Ok(()),
+        Err(RowEnd::Fault(code)) => Err(fault(table, number, code)),
+        Err(RowEnd::NoMemory) => Err(TableEnd::NoMemory),
+    }
+}
+
+/// Reads a table into a case, over the tables that are there. After a fault the case holds the rows
+/// before the faulty one, and after want of memory some of the first rows.
+pub fn read_table(
+    alloc: Global,
+    case: &mut Case,
+    table: Table,
+    bytes: &[u8],
+) -> Result<(), TableEnd>
+    requires empty { names_in table case.old ≡ [] }
+    ensures accepted { OnOk result (fault_in table case.old bytes.now ≡ None) }
+    ensures refused { IfErr result (Ends (fault_in table case.old bytes.now)) }
+    ensures rows { UnlessNoMemory result (case.new ≡ rows_in table case.old bytes.now) }
+    ensures first_rows { HoldsFirstRows table bytes.now case.old case.new }
+{
+    let mut reader = open(alloc, bytes);
+    let mut row = ByteRecord::new(alloc);
+    if !next_row(&mut reader, &mut row)? {
+        return Err(fault(table, 0, RowFault::NoHeader));
+    }
+    let places = match places_in(table, &row) {
+        Ok(places) => places,
+        Err(code) => return Err(fault(table, 0, code)),
+    };
+    for number in 1..MOST_ROWS + 2 {
+        if !next_row(&mut reader, &mut row)? {
+            return Ok(());
+        }
+        read_row(case, table, &places, &row, number)?;
+    }
+    Ok(())
+}
+
+/// Reads the five tables in their order, and answers the first fault. A table of candidates that
+/// isn't given is empty.
+pub fn read_tables(
+    alloc: Global,
+    nodes: &[u8],
+    switches: &[u8],
+    branches: &[u8],
+    meters: &[u8],
+    candidates: Option<&[u8]>,
+) -> Result<Case, TableEnd>
+    ensures read { IfOk result (λ case. tables_in nodes.now switches.now branches.now meters.now (option_map (λ c. c.now) candidates.entry) ≡ Ok case) }
+    ensures refused { IfErr result (EndsAll (tables_in nodes.now switches.now branches.now meters.now (option_map (λ c. c.now) candidates.entry))) }
+{
+    let mut case = Case::new(alloc);
+    read_table(alloc, &mut case, Table::Nodes, nodes)?;
+    read_table(alloc, &mut case, Table::Switches, switches)?;
+    read_table(alloc, &mut case, Table::Branches, branches)?;
+    read_table(alloc, &mut case, Table::Meters, meters)?;
+    if let Some(candidates) = candidates {
+        read_table(alloc, &mut case, Table::Candidates, candidates)?;
+    }
+    Ok(case)
+}

@@ -1,0 +1,54 @@
+// The top call.
+ghost use Rattle.std.specs.Prelude.{◌≡◌, ◌≢◌, ◌⊎◌, ℕ, List, length, map, string_bytes, IsSome};
+ghost use Rattle.obs_io.specs.Causes.{Rose};
+ghost use Rattle.obs_engine.specs.Ending.{Answers, Ends, HasRoom};
+ghost use Rattle.obs_engine.specs.Forms.{form_of, CanAnswer, IsFileWord, ReadRose, TakesInput};
+ghost use Rattle.obs_engine.specs.Stated.{Told, Tells};
+
+use crate::refused::refuse_words;
+use crate::status::Status;
+use crate::topology::topology;
+use crate::words::{Form, form_of_words};
+use obs_io::{Files, Sink, Source};
+use std::alloc::Global;
+
+/// Does all that the program does. The words are those behind the program's own name; `files` numbers
+/// a file by the position of its word.
+pub fn run<F: Files, S: Source, W: Sink>(
+    alloc: Global,
+    words: &[String],
+    files: &mut F,
+    input: &mut S,
+    output: &mut W,
+) -> Status
+    // What is written and answered is what is stated for the words and the contents of the files.
+    ensures stated { let form = form_of (map string_bytes words.now) in
+        (told : Told) → Tells form (F.content files.old) (S.left input.old) told
+        → Ends form told (S.left input.new) result (W.written output.old) (W.written output.new) }
+
+    // With files and an input that don't fail and room for the text, all of it is answered, or there is no memory.
+    ensures complete { let form = form_of (map string_bytes words.now) in
+        (told : Told) → Tells form (F.content files.old) (S.left input.old) told
+        → ((w : ℕ) → IsFileWord form w → F.steady files.old w) → (TakesInput form → S.steady input.old)
+        → HasRoom form told (W.has_room output.old)
+        → (result ≡ Status.NoMemory) ⊎ Answers form told result (W.written output.old) (W.written output.new) }
+
+    // Which answers the words can have, and the cause of each that says that something failed.
+    ensures statuses { CanAnswer (form_of (map string_bytes words.now)) result }
+    ensures read { result ≡ Status.ReadFault
+        → ReadRose (form_of (map string_bytes words.now)) (F.faults files.old) (F.faults files.new) (S.faults input.old) (S.faults input.new) }
+    ensures write { result ≡ Status.WriteFault → Rose (W.faults output.old) (W.faults output.new) }
+
+    // What a run leaves that found no memory, or that didn't get its files.
+    ensures memory { result ≡ Status.NoMemory → W.written output.new ≡ W.written output.old }
+    ensures memory_input { result ≡ Status.NoMemory → S.left input.new ≡ S.left input.old }
+    ensures unread { (TakesInput (form_of (map string_bytes words.now)) → ⊥) → result ≡ Status.ReadFault → W.written output.new ≡ W.written output.old }
+    ensures input { (TakesInput (form_of (map string_bytes words.now)) → ⊥) → input.new ≡ input.old }
+{
+    let Some(form) = form_of_words(words) else {
+        return refuse_words(output);
+    };
+    match form {
+        Form::Topology => topology(alloc, files, output),
+    }
+}

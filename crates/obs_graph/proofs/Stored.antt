@@ -1,0 +1,37 @@
+-- The arrays of a graph.
+use Rattle.std.proofs.Common.{◌≡◌, ℕ, suc, ◌*◌, ◌^◌, ◌<◌, ◌≤◌, Option, List, [], ◌++◌, length, get_or, take, drop, sym, ap, ◌∙◌, arith}
+use Rattle.std.proofs.lemmas.List.{length-take, drop_all, append-nil, take_all}
+use Rattle.obs_graph.specs.declared.Ends.{Ends}
+use Rattle.obs_graph.specs.Positions.{part_start}
+use Rattle.obs_graph.specs.Shape.{IsStored}
+use Rattle.obs_graph.proofs.FlatParts.{part_start-le}
+
+-- a part ends within the array
+pub part_room : (vertices positions : ℕ) (ends : List (Option Ends)) (itself starts at : List ℕ) → IsStored vertices positions ends itself starts at → (v : ℕ) → v < vertices → get_or starts (suc v) 0 ≤ length at
+part_room vertices positions ends itself starts at s v l =
+    let below = s.below in
+    let room = s.room in
+    omega (arith, s.starts_is (suc v) (omega arith), part_start-le (take positions ends) (suc v), length-take positions ends)
+
+nothing_starts : (v : ℕ) → part_start [] v ≡ 0
+nothing_starts v = omega (arith, part_start-le [] v)
+
+-- a graph with no vertex
+pub IsStored-none : (ends : List (Option Ends)) (itself starts at : List ℕ) → length ends < 2 ^ 32 → 0 < length starts → length itself ≡ length ends → 2 * length ends ≤ length at → ((k : ℕ) → k < length ends → get_or itself k 0 ≡ k) → ((v : ℕ) → v < length starts → get_or starts v 0 ≡ 0) → IsStored 0 0 ends itself starts at
+IsStored-none ends itself starts at few below len room own zeros =
+    record {
+      few = few;
+      held = omega arith;
+      below = below;
+      branches = λ k d l. absurd (omega arith);
+      itself_len = len;
+      itself_is = own;
+      room = room;
+      starts_is = λ v l. zeros v l ∙ sym (nothing_starts v);
+      parts = λ v l. absurd (omega arith);
+    }
+
+-- a whole slice of a `Vec` that was written through
+pub written_back : (n : ℕ) (new items : List ℕ) → length new ≡ length items → n ≡ length items → take n (new ++ drop (length new) items) ≡ new
+written_back n new items same len =
+    ap (λ t. take n (new ++ t)) (drop_all (length new) items (omega arith)) ∙ (ap (take n) (append-nil new) ∙ take_all n new (omega arith))

@@ -1,0 +1,22 @@
+//! Branches between vertices, and which vertices a list of branches joins.
+#![tactic(auto)]
+
+/// The two ends of a branch.
+#[derive(Clone, Copy, Debug, PartialEq, Eq)]
+pub struct Ends {
+    pub a: u32,
+    pub b: u32,
+}
+
+pub mod laws;
+mod memory;
+pub mod parts;
+mod rank;
+pub mod search;
+#[cfg(test)]
+mod tests;
+mod whole;
+
+pub use memory::NoMemory;
+pub use rank::GraphWork;
+pub use whole::Graph;

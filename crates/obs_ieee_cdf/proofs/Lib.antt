@@ -1,0 +1,9 @@
+pub mod EndedLemmas
+pub mod FileLemmas
+pub mod LawLemmas
+pub mod NumberLemmas
+pub mod ReadLemmas
+pub mod RowLemmas
+pub mod SearchLemmas
+pub mod SectionLemmas
+pub mod TableLemmas

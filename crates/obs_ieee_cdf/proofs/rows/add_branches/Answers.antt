@@ -1,0 +1,29 @@
+use Rattle.std.proofs.Common.{◌+◌, length, sym, ap, ◌∙◌, subst, arith}
+use Rattle.obs_ieee_cdf.specs.Reading.{AreNamed}
+use Rattle.obs_ieee_cdf.specs.Rows.{read_branch, tables_of_rows}
+use Rattle.obs_ieee_cdf.proofs.EndedLemmas.{length-lines_of}
+use Rattle.obs_ieee_cdf.proofs.ReadLemmas.{ReadSoFar, pass_over, read_branch-good, read_one}
+use Rattle.obs_ieee_cdf.proofs.rows.add_branches.Goals as goal
+use Rattle.obs_ieee_cdf.proofs.rows.add_branches.Goals.{then-not-is_passed_over+in_ok-add_branch, else-not-is_passed_over}
+
+pub overflow_add-at : goal.overflow_add-at
+overflow_add-at c =
+    omega (arith, c.loop-line.invariant.0, ap length c.in-Some.ensures.steps.first, length-lines_of c.args.section.now, c.requires.room)
+
+pub loop-line-preserved : goal.loop-line-preserved
+loop-line-preserved c = (
+  omega (arith, c.loop-line.invariant.0, ap length c.in-Some.ensures.steps.first),
+  λ buses are is.
+      let so_far = c.loop-line.invariant.1 buses are is in
+      elim c.if-not-is_passed_over.branch [
+        | then-not-is_passed_over+in_ok-add_branch w ↦
+            read_one (read_branch buses) (tables_of_rows buses) (AreNamed 1) c.args.first c.args.section.now
+            c.loop-line.case c.loop-line.at c.loop-line.line-iterator c.in-Some.line.now c.next.new.self so_far c.in-Some.ensures.steps.first (sym c.is_passed_over.ensures.blank ∙ w.if-not-is_passed_over.true) c.if-not-is_passed_over.case
+            (read_branch-good buses so_far.0 c.loop-line.at c.in-Some.line.now so_far.1.good)
+            (rw w.case-is (w.in_ok-add_branch.ensures.read buses so_far.0 are so_far.1.good so_far.1.held))
+        | else-not-is_passed_over w ↦
+            subst (λ case. ReadSoFar (read_branch buses) (tables_of_rows buses) (AreNamed 1) c.args.first c.args.section.now case (c.loop-line.at + 1) c.next.new.self) (sym w.case-is)
+            (pass_over (read_branch buses) (tables_of_rows buses) (AreNamed 1) c.args.first c.args.section.now
+            c.loop-line.case c.loop-line.at c.loop-line.line-iterator c.in-Some.line.now c.next.new.self so_far c.in-Some.ensures.steps.first (sym c.is_passed_over.ensures.blank ∙ w.if-not-is_passed_over.false))
+      ],
+)

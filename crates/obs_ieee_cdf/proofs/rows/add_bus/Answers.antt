@@ -1,0 +1,36 @@
+use Rattle.std.proofs.Common.{◌≡◌, None, Some, Err, [], ◌∷◌, ◌++◌, sym, ap, ◌∙◌, subst, arith}
+use Rattle.obs_text.specs.Names.{is_name}
+use Rattle.obs_case.specs.Adds.{Refuses, node_fault, node_of, with_node}
+use Rattle.obs_ieee_cdf.specs.Fields.{bus_field, number_of, source_of, type_field}
+use Rattle.obs_ieee_cdf.specs.Reading.{Answers}
+use Rattle.obs_ieee_cdf.specs.Rows.{read_bus, tables_of_rows}
+use Rattle.obs_ieee_cdf.proofs.NumberLemmas.{is_name-decimal, number_of-lt}
+use Rattle.obs_ieee_cdf.proofs.RowLemmas.{bus_accepted, bus_refused}
+use Rattle.obs_ieee_cdf.proofs.rows.add_bus.Goals as goal
+
+pub add_node-requires : goal.add_node-requires
+add_node-requires c =
+    let number : number_of (bus_field c.args.line.now) ≡ Some c.in-Some.number = cc in
+    let small = number_of-lt (bus_field c.args.line.now) c.in-Some.number number in
+    let named = ap is_name c.text.ensures.decimal ∙ is_name-decimal c.in-Some.number (omega (arith, small)) in
+    record { name = named }
+
+pub returns-in-Ok : goal.returns-in-Ok
+returns-in-Ok c = record {
+  read = λ earlier are is.
+      let number : number_of (bus_field c.args.line.now) ≡ Some c.in-Some.number = cc in
+      let kind : source_of (type_field c.args.line.now) ≡ Some c.in-Some-has_source.source = cc in
+      bus_accepted earlier c.args.at c.args.line.now c.in-Some.number c.in-Some-has_source.source are number kind c.args.case.now c.add_node.new.self is
+      (subst (λ name. node_fault c.args.case.now name ≡ None) c.text.ensures.decimal c.in-Ok.ensures.accepted)
+      (subst (λ name. c.add_node.new.self ≡ with_node c.args.case.now (node_of name c.in-Some-has_source.source)) c.text.ensures.decimal c.in-Ok.ensures.added);
+}
+
+pub returns-in-Err : goal.returns-in-Err
+returns-in-Err c = record {
+  read = λ earlier are is.
+      let number : number_of (bus_field c.args.line.now) ≡ Some c.in-Some.number = cc in
+      let kind : source_of (type_field c.args.line.now) ≡ Some c.in-Some-has_source.source = cc in
+      subst (λ stop. Answers (read_bus earlier c.args.at c.args.line.now) (λ bus. tables_of_rows (earlier ++ bus ∷ []) []) c.add_node.new.self (Err stop)) (sym c.stop.ensures.stop)
+      (bus_refused earlier c.args.at c.args.line.now c.in-Some.number c.in-Some-has_source.source are number kind c.args.case.now c.add_node.new.self c.in-Err.fault is
+      (subst (λ name. Refuses (node_fault c.args.case.now name) c.in-Err.fault) c.text.ensures.decimal c.in-Err.ensures.refused));
+}

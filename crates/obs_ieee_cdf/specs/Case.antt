@@ -1,0 +1,60 @@
+-- When bytes are the nodes and branches of a case: a relation on the whole lists of lines.
+use Rattle.std.specs.Prelude.{◌≡◌, ℕ, suc, ◌≤◌, true, nat_eq, List, [], ◌∷◌, length, map, Option, None, Some, Ok}
+use Rattle.std.specs.List.{IsDistinct}
+use Rattle.obs_text.specs.Lines.{ended_lines}
+use Rattle.obs_case.specs.Tables.{Tables, most_rows}
+use Rattle.obs_case.specs.declared.rows.Branch.{Branch}
+use Rattle.obs_ieee_cdf.specs.Fields.{bus_field, number_of, source_of, tap_field, type_field, z_field}
+use Rattle.obs_ieee_cdf.specs.Read.{tables_after}
+use Rattle.obs_ieee_cdf.specs.Rows.{Bus, branch_name, branch_rows, bus_rows, has_bus, place_of_bus, tables_of_rows}
+use Rattle.obs_ieee_cdf.specs.Sections.{end_fault}
+
+-- a bus line is this bus
+pub record IsBusLine (line : List ℕ) (bus : Bus) : Type 0 where
+  pub number : number_of (bus_field line) ≡ Some bus.number
+  pub source : source_of (type_field line) ≡ Some bus.source
+
+-- each bus line is the bus at its place
+abbrev pub AreBusLines : List (ℕ × List ℕ) → List Bus → Type 0
+AreBusLines [] [] = Unit {0}
+AreBusLines [] (bus ∷ buses) = ⊥
+AreBusLines (line ∷ lines) [] = ⊥
+AreBusLines (line ∷ lines) (bus ∷ buses) = IsBusLine line.1 bus × AreBusLines lines buses
+
+-- a field has the number of the bus at this position
+pub record IsEnd (buses : List Bus) (digits : List ℕ) (position : ℕ) : Type 0 where
+  pub number : ℕ
+  pub named : number_of digits ≡ Some number
+  pub there : has_bus buses number ≡ true
+  pub place : position ≡ place_of_bus buses number
+
+-- a branch line is this branch, the k-th
+pub record IsBranchLine (buses : List Bus) (k : ℕ) (line : List ℕ) (branch : Branch) : Type 0 where
+  pub name : branch.name ≡ branch_name k
+  pub from : IsEnd buses (tap_field line) branch.from
+  pub to : IsEnd buses (z_field line) branch.to
+  pub inservice : branch.inservice ≡ true
+
+-- each branch line is the branch at its place, counted from k
+abbrev pub AreBranchLines : List Bus → ℕ → List (ℕ × List ℕ) → List Branch → Type 0
+AreBranchLines buses k [] [] = Unit {0}
+AreBranchLines buses k [] (branch ∷ branches) = ⊥
+AreBranchLines buses k (line ∷ lines) [] = ⊥
+AreBranchLines buses k (line ∷ lines) (branch ∷ branches) = IsBranchLine buses k line.1 branch × AreBranchLines buses (suc k) lines branches
+
+-- the lines of a file are these buses and branches
+pub record AreLines (file : List (List ℕ)) (buses : List Bus) (branches : List Branch) : Type 0 where
+  pub whole : end_fault file ≡ None
+  pub bus_lines : AreBusLines (bus_rows file) buses
+  pub different : IsDistinct nat_eq (map (λ (bus : Bus). bus.number) buses)
+  pub branch_lines : AreBranchLines buses 1 (branch_rows file) branches
+  pub few : length (branch_rows file) ≤ most_rows
+
+-- a file's bytes are these nodes and branches
+abbrev pub IsFile : List ℕ → Tables → Type 0
+IsFile bytes tables =
+    (buses : List Bus) × (branches : List Branch) × AreLines (ended_lines bytes) buses branches × (tables ≡ tables_of_rows buses branches)
+
+-- a file's bytes and those of its tables are this case
+abbrev pub IsCase : List ℕ → List ℕ → Option (List ℕ) → Tables → Type 0
+IsCase cdf meters candidates tables = (file : Tables) × IsFile cdf file × (tables_after meters candidates file ≡ Ok tables)

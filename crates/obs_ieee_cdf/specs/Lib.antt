@@ -1,0 +1,9 @@
+pub mod Case
+pub mod Ends
+pub mod Faults
+pub mod Fields
+pub mod Laws
+pub mod Read
+pub mod Reading
+pub mod Rows
+pub mod Sections

@@ -1,0 +1,34 @@
+-- The case that a file with its tables is, or the first fault.
+use Rattle.std.specs.Prelude.{◌≡◌, List, ℕ, Option, Result, Ok, Err}
+use Rattle.obs_case.specs.Tables.{Tables}
+use Rattle.obs_case_csv.specs.Read.{then_read, then_read_given}
+use Rattle.obs_case_csv.specs.declared.faults.Table.TheVariants.{Meters, Candidates}
+use Rattle.obs_case_csv.specs.declared.faults.TableFault.{TableFault}
+use Rattle.obs_ieee_cdf.specs.declared.fault.CdfEnd.{CdfEnd}
+use Rattle.obs_ieee_cdf.specs.declared.fault.CdfEnd.TheVariants.{Cdf, Table, NoMemory}
+use Rattle.obs_ieee_cdf.specs.declared.fault.CdfFault.{CdfFault}
+use Rattle.obs_ieee_cdf.specs.Rows.{cdf_of}
+
+-- the same answer, with a table's fault as an end
+abbrev pub as_end : Result Tables TableFault → Result Tables CdfEnd
+as_end (Ok tables) = Ok tables
+as_end (Err fault) = Err (Table fault)
+
+-- the meters, and the candidates if they are given, read after other tables
+abbrev pub tables_after : List ℕ → Option (List ℕ) → Tables → Result Tables TableFault
+tables_after meters candidates tables = then_read_given Candidates candidates (then_read Meters meters (Ok tables))
+
+-- the tables read after the nodes and branches of a file
+abbrev pub with_tables : List ℕ → Option (List ℕ) → Result Tables CdfFault → Result Tables CdfEnd
+with_tables meters candidates (Err fault) = Err (Cdf fault)
+with_tables meters candidates (Ok tables) = as_end (tables_after meters candidates tables)
+
+-- the case that the bytes are, or the first fault: those of the file come before those of the tables
+abbrev pub case_in : List ℕ → List ℕ → Option (List ℕ) → Result Tables CdfEnd
+case_in cdf meters candidates = with_tables meters candidates (cdf_of cdf)
+
+-- an answer that ends the reading: want of memory, or this fault
+abbrev pub EndsCase : Result Tables CdfEnd → CdfEnd → Type 0
+EndsCase stated (Cdf fault) = stated ≡ Err (Cdf fault)
+EndsCase stated (Table fault) = stated ≡ Err (Table fault)
+EndsCase stated NoMemory = Unit {0}

@@ -1,0 +1,70 @@
+// Cases from bytes.
+ghost use Rattle.std.specs.Prelude.{◌≡◌, ◌≤◌, [], Ok, length, option_map, IfErr, IfOk, OnOk};
+ghost use Rattle.obs_case.specs.Tables.{no_rows};
+ghost use Rattle.obs_case_csv.specs.Read.{EndsAll};
+ghost use Rattle.obs_ieee_cdf.specs.Read.{EndsCase, case_in, tables_after};
+ghost use Rattle.obs_ieee_cdf.specs.Reading.{Answers};
+ghost use Rattle.obs_ieee_cdf.specs.Rows.{cdf_of};
+ghost use Rattle.obs_ieee_cdf.specs.Sections.{most_bytes};
+
+use crate::fault::CdfEnd;
+use crate::rows::{add_branches, add_buses};
+use crate::section::sections;
+use crate::stop::Stop;
+use obs_case::Case;
+use obs_case_csv::{Table, TableEnd, read_table};
+use std::alloc::Global;
+
+// Adds the nodes and branches of a file to an empty case.
+fn add_file(case: &mut Case, cdf: &[u8]) -> Result<(), Stop>
+    requires empty { case.old ≡ no_rows }
+    requires few { length cdf.now ≤ most_bytes }
+    ensures read { Answers (cdf_of cdf.now) (λ tables. tables) case.new result }
+{
+    let parts = sections(cdf);
+    add_buses(case, parts.buses, parts.buses_from)?;
+    add_branches(case, parts.branches, parts.branches_from)?;
+    match parts.end {
+        Some(fault) => Err(Stop::Fault(fault)),
+        None => Ok(()),
+    }
+}
+
+// Adds the rows of the tables that are given to a case that has none of them.
+fn add_tables(
+    alloc: Global,
+    case: &mut Case,
+    meters: &[u8],
+    candidates: Option<&[u8]>,
+) -> Result<(), TableEnd>
+    requires meters { case.old.meters ≡ [] }
+    requires candidates { case.old.candidates ≡ [] }
+    ensures read { OnOk result (tables_after meters.now (option_map (λ bytes. bytes.now) candidates.entry) case.old ≡ Ok case.new) }
+    ensures refused { IfErr result (EndsAll (tables_after meters.now (option_map (λ bytes. bytes.now) candidates.entry) case.old)) }
+{
+    read_table(alloc, case, Table::Meters, meters)?;
+    match candidates {
+        Some(bytes) => read_table(alloc, case, Table::Candidates, bytes),
+        None => Ok(()),
+    }
+}
+
+/// The case that a file in the IEEE Common Data Format is, with a table of meters and, where it is
+/// given, a table of candidates. Nodes are named by their numbers, branches `L1`, `L2`, and so on.
+/// There are no switches. Refuses with the first fault from the top of the file, then with those of
+/// the tables.
+pub fn read_cdf(
+    alloc: Global,
+    cdf: &[u8],
+    meters: &[u8],
+    candidates: Option<&[u8]>,
+) -> Result<Case, CdfEnd>
+    requires few { length cdf.now ≤ most_bytes }
+    ensures read { IfOk result (λ case. case_in cdf.now meters.now (option_map (λ bytes. bytes.now) candidates.entry) ≡ Ok case) }
+    ensures refused { IfErr result (EndsCase (case_in cdf.now meters.now (option_map (λ bytes. bytes.now) candidates.entry))) }
+{
+    let mut case = Case::new(alloc);
+    add_file(&mut case, cdf)?;
+    add_tables(alloc, &mut case, meters, candidates)?;
+    Ok(case)
+}

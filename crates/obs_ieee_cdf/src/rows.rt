@@ -1,0 +1,119 @@
+// The lines of the sections, read into a case.
+ghost use Rattle.std.specs.Prelude.{◌≡◌, ◌+◌, ◌<◌, ◌^◌, ℕ, List, [], ◌∷◌, ◌++◌, length, map};
+ghost use Rattle.obs_text.specs.Lines.{lines_of};
+ghost use Rattle.obs_case.specs.Tables.{branch_names, no_rows};
+ghost use Rattle.obs_case.specs.declared.rows.Branch.{Branch};
+ghost use Rattle.obs_ieee_cdf.specs.Reading.{Answers, AreBuses, AreNamed, stop_of};
+ghost use Rattle.obs_ieee_cdf.specs.Rows.{Bus, branch_name, numbered, read_branch, read_bus, read_rows, tables_of_rows};
+
+use crate::fault::CdfFault;
+use crate::fields::{branch_fields, bus_fields};
+use crate::stop::Stop;
+use crate::values::{bus_number, has_source, is_passed_over};
+use obs_case::{AddFault, Case};
+use obs_text::{Digits, lines};
+
+/// The most branches of a file.
+const MOST_BRANCHES: usize = 20_000;
+
+/// Room for the name of a branch: a letter and the digits of a number.
+const NAME_ROOM: usize = 21;
+
+// Why reading stops at a row that the case refuses for this cause.
+fn stop(fault: AddFault, cause: CdfFault) -> Stop
+    ensures stop { result ≡ stop_of fault cause }
+{
+    match fault {
+        AddFault::NoMemory => Stop::NoMemory,
+        _ => Stop::Fault(cause),
+    }
+}
+
+// Adds the bus that a bus line is.
+fn add_bus(case: &mut Case, line: &[u8], at: u32) -> Result<(), Stop>
+    ensures read { (earlier : List Bus) → AreBuses earlier → case.old ≡ tables_of_rows earlier [] →
+        Answers (read_bus earlier at line.now) (λ bus. tables_of_rows (earlier ++ bus ∷ []) []) case.new result }
+{
+    let fields = bus_fields(line);
+    let Some(number) = bus_number(fields.number) else {
+        return Err(Stop::Fault(CdfFault::BadBusNumber(at)));
+    };
+    let Some(source) = has_source(fields.kind) else {
+        return Err(Stop::Fault(CdfFault::BadType(at)));
+    };
+    let mut digits = Digits::new();
+    match case.add_node(digits.text(number), source) {
+        Ok(_) => Ok(()),
+        // Ten thousand numbers don't fill the table, so the number stands there.
+        Err(fault) => Err(stop(fault, CdfFault::BusTwice(at))),
+    }
+}
+
+// Adds the buses that the lines of a section are.
+pub(crate) fn add_buses(case: &mut Case, section: &[u8], first: u32) -> Result<(), Stop>
+    requires empty { case.old ≡ no_rows }
+    requires room { first + length section.now < 2 ^ 32 }
+    ensures read { Answers (read_rows read_bus [] (numbered first (lines_of section.now))) (λ buses. tables_of_rows buses []) case.new result }
+{
+    let mut at = first;
+    for line in lines(section) {
+        if !is_passed_over(line) {
+            add_bus(case, line, at)?;
+        }
+        at += 1;
+    }
+    Ok(())
+}
+
+// `L` and the number in decimal digits, written into the room.
+fn branch_name(room: &mut [u8; NAME_ROOM], number: u64) -> &[u8]
+    ensures name { result.now ≡ branch_name number }
+{
+    let mut digits = Digits::new();
+    let text = digits.text(number);
+    room[0] = b'L';
+    room[1..=text.len()].copy_from_slice(text);
+    &room[..=text.len()]
+}
+
+// Adds the branch that a branch line is.
+fn add_branch(case: &mut Case, line: &[u8], at: u32) -> Result<(), Stop>
+    ensures read { (buses : List Bus) (earlier : List Branch) → AreBuses buses → AreNamed 1 earlier → case.old ≡ tables_of_rows buses earlier →
+        Answers (read_branch buses earlier at line.now) (λ branch. tables_of_rows buses (earlier ++ branch ∷ [])) case.new result }
+{
+    let count = case.branches().len();
+    if count >= MOST_BRANCHES {
+        return Err(Stop::Fault(CdfFault::TooMany(at)));
+    }
+    let fields = branch_fields(line);
+    let Some(from) = bus_number(fields.from) else {
+        return Err(Stop::Fault(CdfFault::BadBusNumber(at)));
+    };
+    let Some(to) = bus_number(fields.to) else {
+        return Err(Stop::Fault(CdfFault::BadBusNumber(at)));
+    };
+    let (mut from_digits, mut to_digits) = (Digits::new(), Digits::new());
+    let mut room = [0; NAME_ROOM];
+    let name = branch_name(&mut room, count as u64 + 1);
+    match case.add_branch(name, from_digits.text(from), to_digits.text(to), true) {
+        Ok(_) => Ok(()),
+        // The table isn't full and has no such name, so an end is no bus.
+        Err(fault) => Err(stop(fault, CdfFault::UnknownBus(at))),
+    }
+}
+
+// Adds the branches that the lines of a section are.
+pub(crate) fn add_branches(case: &mut Case, section: &[u8], first: u32) -> Result<(), Stop>
+    requires room { first + length section.now < 2 ^ 32 }
+    ensures read { (buses : List Bus) → AreBuses buses → case.old ≡ tables_of_rows buses [] →
+        Answers (read_rows (read_branch buses) [] (numbered first (lines_of section.now))) (tables_of_rows buses) case.new result }
+{
+    let mut at = first;
+    for line in lines(section) {
+        if !is_passed_over(line) {
+            add_branch(case, line, at)?;
+        }
+        at += 1;
+    }
+    Ok(())
+}

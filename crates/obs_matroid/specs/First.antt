@@ -1,0 +1,26 @@
+-- The first assignment: the least of the longest ones.
+use Rattle.std.specs.Prelude.{◌≡◌, ℕ, ◌≤◌, ◌<◌, cond, ◌==◌, ◌⊎◌, List, [], ◌∷◌, length, Option, Some, None}
+use Rattle.obs_matroid.specs.Matroid.{Matroid}
+use Rattle.obs_matroid.specs.Assignments.{Pair, IsAssignment}
+
+-- the branch that A gives to the item m, if it gives one
+abbrev pub branch_at : List Pair → ℕ → Option ℕ
+branch_at [] m = None
+branch_at (p ∷ A) m = cond (p.0 == m) (Some p.1) (branch_at A m)
+
+-- a lower branch comes before a higher one, and a branch before none
+abbrev pub IsBefore : Option ℕ → Option ℕ → Type 0
+IsBefore (Some a) (Some b) = a < b
+IsBefore (Some a) None = Unit {0}
+IsBefore None o = ⊥
+
+-- by the items in order, A does not come after B: at the first item where they differ, A has what comes before
+abbrev pub IsNotAfter : List ℕ → List Pair → List Pair → Type 0
+IsNotAfter [] A B = Unit {0}
+IsNotAfter (m ∷ ms) A B = IsBefore (branch_at A m) (branch_at B m) ⊎ ((branch_at A m ≡ branch_at B m) × IsNotAfter ms A B)
+
+-- A is the first assignment of M: a longest one, and no other longest one comes before it
+pub record IsFirst (g : Matroid) (touch : ℕ → List ℕ) (M : List ℕ) (A : List Pair) : Type 0 where
+  pub assigns : IsAssignment g touch M A
+  pub longest : (B : List Pair) → IsAssignment g touch M B → length B ≤ length A
+  pub least : (B : List Pair) → IsAssignment g touch M B → length B ≡ length A → IsNotAfter M A B

@@ -1,0 +1,4 @@
+pub mod Touches
+pub mod Held
+pub mod Spanned
+pub mod Assignments

@@ -1,0 +1,9 @@
+pub mod Numbered
+pub mod Marked
+pub mod Grouping
+pub mod OfCase
+pub mod Whole
+pub mod OfLaws
+pub mod InComponents
+pub mod Sums
+pub mod Observed

@@ -1,0 +1,132 @@
+use Rattle.std.proofs.Common.{◌≡◌, ◌≤◌, ℕ, ◌+◌, ◌∙◌, sym, refl, ap, length, vec_len, arith}
+use Rattle.obs_case.specs.Tables.{Tables}
+use Rattle.obs_meter.specs.Held.{Items}
+use Rattle.obs_network.specs.Switched.{case_bus_count}
+use Rattle.obs_network.specs.Components.{needed_of}
+use Rattle.obs_network.specs.Network.{NetworkOf, Rows, case_needed}
+use Rattle.obs_network.proofs.Grouping.{written_back}
+use Rattle.obs_network.proofs.OfCase.{case_bus_count-le, few_nodes, length-case_components, length-case_first_buses, meters-in_range, offered-in_range}
+use Rattle.obs_network.proofs.Whole.{labelled_is, grouped_is, shape_is, items_are, rows_are, network_is}
+use Rattle.obs_network.proofs.network.Network.refresh.Goals as goal
+
+pub find_components-requires-clause-vertices : goal.find_components-requires-clause-vertices
+find_components-requires-clause-vertices c =
+    let rows = ap (λ (n : NetworkOf). n.rows) c.self.view_is ∙ c.requires.rows in
+    let nodes = ap (λ (r : Rows). r.nodes) rows in
+    let room = c.self.invariant.vertices_room in
+    omega (arith, nodes, room, case_bus_count-le c.args.case.now)
+
+pub find_components-requires-clause-room : goal.find_components-requires-clause-room
+find_components-requires-clause-room c =
+    let rows = ap (λ (n : NetworkOf). n.rows) c.self.view_is ∙ c.requires.rows in
+    let nodes = ap (λ (r : Rows). r.nodes) rows in
+    omega (arith, nodes, case_bus_count-le c.args.case.now)
+
+pub find_components-requires-clause-piece : goal.find_components-requires-clause-piece
+find_components-requires-clause-piece c =
+    let rows = ap (λ (n : NetworkOf). n.rows) c.self.view_is ∙ c.requires.rows in
+    let nodes = ap (λ (r : Rows). r.nodes) rows in
+    let len = c.self.invariant.piece_len in
+    omega (arith, nodes, len, case_bus_count-le c.args.case.now)
+
+pub find_components-requires-clause-ups : goal.find_components-requires-clause-ups
+find_components-requires-clause-ups c =
+    let rows = ap (λ (n : NetworkOf). n.rows) c.self.view_is ∙ c.requires.rows in
+    let nodes = ap (λ (r : Rows). r.nodes) rows in
+    let len = c.self.invariant.ups_len in
+    omega (arith, nodes, len, case_bus_count-le c.args.case.now)
+
+pub find_components-requires-clause-depths : goal.find_components-requires-clause-depths
+find_components-requires-clause-depths c =
+    let rows = ap (λ (n : NetworkOf). n.rows) c.self.view_is ∙ c.requires.rows in
+    let nodes = ap (λ (r : Rows). r.nodes) rows in
+    let len = c.self.invariant.depths_len in
+    omega (arith, nodes, len, case_bus_count-le c.args.case.now)
+
+pub find_components-requires-clause-order : goal.find_components-requires-clause-order
+find_components-requires-clause-order c =
+    let rows = ap (λ (n : NetworkOf). n.rows) c.self.view_is ∙ c.requires.rows in
+    let nodes = ap (λ (r : Rows). r.nodes) rows in
+    let len = c.self.invariant.order_len in
+    omega (arith, nodes, len, case_bus_count-le c.args.case.now)
+
+pub refill_graph-requires-clause-vertices : goal.refill_graph-requires-clause-vertices
+refill_graph-requires-clause-vertices c =
+    let rows = ap (λ (n : NetworkOf). n.rows) c.self.view_is ∙ c.requires.rows in
+    let nodes = ap (λ (r : Rows). r.nodes) rows in
+    let room = c.self.invariant.vertices_room in
+    omega (arith, nodes, room, c.find_components.ensures.most_vertices, case_bus_count-le c.args.case.now)
+
+pub needed-self-inside-requires : goal.needed-self-inside-requires
+needed-self-inside-requires c =
+    let rows = ap (λ (n : NetworkOf). n.rows) c.self.view_is ∙ c.requires.rows in
+    let nodes = ap (λ (r : Rows). r.nodes) rows in
+    record { few = omega (arith, nodes, c.find_components.ensures.room, few_nodes c.args.case.now c.nodes-nodes.ensures.valid) }
+
+pub invariant_of-self : goal.invariant_of-self
+invariant_of-self c =
+    let t = c.args.case.now in
+    let valid = c.nodes-nodes.ensures.valid in
+    let s = c.self.inside in
+    let v = c.self.invariant in
+    let found = c.find_components.ensures in
+    let kept = c.refill_graph.ensures in
+    let items = c.refill_items.ensures in
+    let links = c.relabel.auto.links in
+    let live = c.find_live.auto.live in
+    let keeps = c.refill_graph.auto.kept in
+    let touches = c.refill_items.auto.touches in
+    rw (
+      written_back s.links.len c.relabel.new.links s.links.items (omega arith) (omega arith),
+      written_back s.live.len c.find_live.new.live s.live.items (omega arith) (omega arith),
+      written_back s.kept.len c.refill_graph.new.kept s.kept.items (omega arith) (omega arith),
+      written_back s.touches.len c.refill_items.new.touches s.touches.items (omega arith) (omega arith),
+    )
+    record {
+      buses_room = omega (arith, v.buses_room, c.relabel.ensures.room, found.room);
+      vertices_room = omega (arith, v.vertices_room, found.most_vertices, found.room, kept.most_vertices);
+      branches_room = omega (arith, v.branches_room, found.most_branches, kept.most_branches, live);
+      kept_len = omega (arith, v.kept_len, live, keeps);
+      touches_len = omega (arith, v.touches_len, touches, items.most_offered);
+      fewer = omega (arith, v.fewer, items.most_meters, items.most_offered);
+      piece_len = omega (arith, v.piece_len, found.piece, found.room);
+      ups_len = omega (arith, v.ups_len, found.ups, found.room);
+      depths_len = omega (arith, v.depths_len, found.depths, found.room);
+      order_len = omega (arith, v.order_len, found.order, found.room);
+      vertices = kept.vertices ∙ sym c.relabel.ensures.count;
+      of_buses = ap length found.of_buses ∙ (length-case_components t ∙ sym c.relabel.ensures.count);
+      meters_in_range = rw items.meters (meters-in_range t valid c.refill_graph.new.graph kept.vertices kept.ends);
+      offered_in_range = rw items.offered (offered-in_range t valid c.refill_graph.new.graph kept.vertices kept.ends);
+    }
+
+pub returns : goal.returns
+unfolding case_needed
+returns c =
+    let t = c.args.case.now in
+    let s = c.self.inside in
+    let v = c.self.invariant in
+    let found = c.find_components.ensures in
+    let kept = c.refill_graph.ensures in
+    let items = c.refill_items.ensures in
+    let rows = ap (λ (n : NetworkOf). n.rows) c.self.view_is ∙ c.requires.rows in
+    let nodes = ap (λ (r : Rows). r.nodes) rows in
+    let branches = ap (λ (r : Rows). r.branches) rows in
+    let meters = ap (λ (r : Rows). r.meters) rows in
+    let candidates = ap (λ (r : Rows). r.candidates) rows in
+    let switches = ap (λ (r : Rows). r.switches) rows in
+    let links = c.relabel.auto.links in
+    let live = c.find_live.auto.live in
+    let wrote_links = ap length (written_back s.links.len c.relabel.new.links s.links.items (omega arith) (omega arith)) in
+    let wrote_live = ap length (written_back s.live.len c.find_live.new.live s.live.items (omega arith) (omega arith)) in
+    let count = length-case_first_buses t in
+    record {
+      whole = network_is _ _
+          (rows_are _ _ (found.room ∙ nodes) (omega (arith, wrote_links, links, switches)) (omega (arith, wrote_live, live, branches)) (items.most_meters ∙ meters)
+          (omega (arith, items.most_meters, items.most_offered, candidates)))
+          (labelled_is _ _ c.relabel.ensures.buses c.relabel.ensures.count (c.relabel.ensures.room ∙ (v.buses_room ∙ nodes)))
+          (grouped_is _ _ found.of_buses found.first_buses found.sizes found.energised (found.room ∙ nodes))
+          (shape_is _ _ kept.vertices kept.ends (kept.most_vertices ∙ (found.most_vertices ∙ (v.vertices_room ∙ nodes))) (kept.most_branches ∙ (found.most_branches ∙ (v.branches_room ∙ branches))))
+          (items_are _ _ items.meters (items.most_meters ∙ meters))
+          (items_are _ _ items.offered (items.most_offered ∙ omega (arith, v.fewer, meters, candidates)))
+          (c.needed-self-inside.ensures.needed ∙ rw (found.sizes, found.energised, found.first_buses, count) refl);
+    }

@@ -1,0 +1,42 @@
+use Rattle.std.proofs.Common.{◌≡◌, ◌∙◌, refl, length, take, arith}
+use Rattle.std.proofs.lemmas.List.{length-take-le}
+use Rattle.obs_network.specs.Switched.{case_bus_count}
+use Rattle.obs_network.specs.Network.{case_component_count, case_components, case_energised, case_first_buses, case_sizes}
+use Rattle.obs_network.proofs.OfCase.{case_live-branches, length-case_buses}
+use Rattle.obs_network.proofs.rebuild.find_components.Goals as goal
+
+pub refill-requires-clause-branches : goal.refill-requires-clause-branches
+refill-requires-clause-branches c =
+    rw (c.requires.live, c.count-count.ensures.count, c.requires.count) (case_live-branches c.args.case.now c.nodes-nodes.ensures.valid)
+
+pub reach_all-requires-clause-graph : goal.reach_all-requires-clause-graph
+reach_all-requires-clause-graph c =
+    rw (c.refill.ensures.whole, c.requires.live, c.count-count.ensures.count, c.requires.count) (case_live-branches c.args.case.now c.nodes-nodes.ensures.valid)
+
+pub refill-requires-2-clause-nodes_are : goal.refill-requires-2-clause-nodes_are
+refill-requires-2-clause-nodes_are c = rw (c.nodes-nodes.ensures.rows, c.requires.buses, length-case_buses c.args.case.now) refl
+
+-- there are as many first buses as buses
+firsts : (c : goal.After-refill-2) → length (take c.count-count.result c.deref.result.now) ≡ case_bus_count c.args.case.now
+firsts c =
+    let room = c.requires.piece in
+    let piece = c.reach_all.ensures.piece in
+    let len = c.deref.ensures.len in
+    length-take-le c.count-count.result c.deref.result.now (omega arith) ∙ (c.count-count.ensures.count ∙ c.requires.count)
+
+pub returns-clause-of_buses : goal.returns-clause-of_buses
+unfolding case_components
+returns-clause-of_buses c = c.refill-2.ensures.of_buses ∙ rw (firsts c, c.requires.live) refl
+
+pub returns-clause-first_buses : goal.returns-clause-first_buses
+unfolding case_first_buses
+returns-clause-first_buses c = c.refill-2.ensures.first_buses ∙ rw (firsts c, c.requires.live) refl
+
+pub returns-clause-sizes : goal.returns-clause-sizes
+unfolding case_sizes case_component_count case_components
+returns-clause-sizes c = c.refill-2.ensures.sizes ∙ rw (c.refill-2.ensures.of_buses, firsts c, c.requires.live) refl
+
+pub returns-clause-energised : goal.returns-clause-energised
+unfolding case_energised case_component_count case_components
+returns-clause-energised c =
+    c.refill-2.ensures.energised ∙ rw (c.refill-2.ensures.of_buses, c.nodes-nodes.ensures.rows, c.requires.buses, firsts c, c.requires.live) refl

@@ -1,0 +1,12 @@
+use Rattle.std.proofs.Common.{List, length, subst, sym, ap, ◌∙◌}
+use Rattle.obs_switch.specs.declared.link.Link.{Link}
+use Rattle.obs_switch.specs.Buses.{LinksBelow}
+use Rattle.obs_network.specs.Switched.{closed_links}
+use Rattle.obs_network.proofs.OfCase.{case_links-below}
+use Rattle.obs_network.proofs.rebuild.relabel.Goals as goal
+
+pub relabel-requires-clause-ends : goal.relabel-requires-clause-ends
+relabel-requires-clause-ends c =
+    let t = c.args.case.now in
+    let links = c.write_links-count.ensures.links ∙ ap closed_links c.switches.ensures.rows in
+    rw (c.nodes.ensures.rows, links) (case_links-below t c.nodes.ensures.valid)

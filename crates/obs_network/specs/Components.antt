@@ -1,0 +1,69 @@
+-- Components: what live branches join. `live` has the ends of the live branches, and buses are numbered from 0.
+use Rattle.std.specs.Prelude.{ℕ, ◌-◌, ◌==◌, Bool, false, if◌then◌else◌, Option, Some, None, List, map, filter, count_by, slice_index, slice_index_or}
+use Rattle.std.specs.List.{list_any, range_with_len}
+use Rattle.obs_graph.specs.declared.Ends.{Ends}
+use Rattle.obs_graph.specs.Joined.{Chain, count_below, first_joined}
+use Rattle.obs_graph.specs.Positions.{positions_from, sum_below}
+use Rattle.obs_case.specs.declared.rows.Node.{Node}
+
+-- two buses are in one component: a chain of live branches leads from the one to the other, or they are equal
+abbrev pub AreOneComponent : List Ends → ℕ → ℕ → Type 0
+AreOneComponent live b c = Chain live b c
+
+-- the first bus of a bus's component, which names it
+abbrev pub first_bus : List Ends → ℕ → ℕ
+first_bus live b = first_joined live b
+
+-- whether a bus is the first of its component
+abbrev pub is_first_bus : List Ends → ℕ → Bool
+is_first_bus live b = first_bus live b == b
+
+-- the number of a bus's component: how many first buses stand before the one that names it
+abbrev pub component_of : List Ends → ℕ → ℕ
+component_of live b = count_below (is_first_bus live) (first_bus live b)
+
+-- the component of each of so many buses
+abbrev pub components_of : ℕ → List Ends → List ℕ
+components_of count live = map (component_of live) (range_with_len 0 count)
+
+-- how many components so many buses have
+abbrev pub component_count : ℕ → List Ends → ℕ
+component_count count live = count_below (is_first_bus live) count
+
+-- the first bus of each component
+abbrev pub first_buses_of : ℕ → List Ends → List ℕ
+first_buses_of count live = filter (is_first_bus live) (range_with_len 0 count)
+
+-- how many buses each of so many components has, where the component of each bus is given
+abbrev pub sizes_of : ℕ → List ℕ → List ℕ
+sizes_of count components = map (λ c. count_by (λ x. x == c) components) (range_with_len 0 count)
+
+-- the nodes that are fed from outside
+abbrev pub source_nodes : List Node → List ℕ
+source_nodes nodes = positions_from (λ (row : Node). row.source) 0 nodes
+
+-- whether a component is energised: one of its nodes is a source
+abbrev pub is_energised : List ℕ → List ℕ → List Node → ℕ → Bool
+is_energised components buses nodes c = list_any (λ u. slice_index components (slice_index buses u) == c) (source_nodes nodes)
+
+-- which of so many components are energised
+abbrev pub energised_of : ℕ → List ℕ → List ℕ → List Node → List Bool
+energised_of count components buses nodes = map (is_energised components buses nodes) (range_with_len 0 count)
+
+-- the pairs that a component needs: one fewer than it has buses
+abbrev pub need_of : List ℕ → ℕ → ℕ
+need_of sizes c = slice_index sizes c - 1
+
+-- the sum of what the energised ones of the first so many components need
+abbrev pub needed_of : List ℕ → List Bool → ℕ → ℕ
+needed_of sizes energised count = sum_below (λ c. if slice_index_or energised c false then need_of sizes c else 0) count
+
+-- a live branch, where it is of an energised component
+abbrev pub if_energised : List ℕ → List Bool → Option Ends → Option Ends
+if_energised components energised None = None
+if_energised components energised (Some e) =
+    if slice_index_or energised (slice_index components e.a) false then Some e else None
+
+-- the live branches of energised components by position
+abbrev pub energised_branches : List ℕ → List Bool → List (Option Ends) → List (Option Ends)
+energised_branches components energised live = map (if_energised components energised) live

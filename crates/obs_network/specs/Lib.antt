@@ -1,0 +1,7 @@
+pub mod Switched
+pub mod Live
+pub mod Components
+pub mod Touching
+pub mod Network
+pub mod Kept
+pub mod Observable

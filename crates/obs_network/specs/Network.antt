@@ -1,0 +1,95 @@
+-- The network that a case determines.
+use Rattle.std.specs.Prelude.{ℕ, ◌+◌, ◌≤◌, ◌<◌, ◌≡◌, All, Bool, Option, List, length}
+use Rattle.obs_graph.specs.declared.Ends.{Ends}
+use Rattle.obs_graph.specs.Positions.{AreBranches, present}
+use Rattle.obs_graph.specs.Shape.{Shape}
+use Rattle.obs_switch.specs.Held.{Labelled}
+use Rattle.obs_case.specs.Tables.{Tables}
+use Rattle.obs_meter.specs.declared.Touch.{Touch}
+use Rattle.obs_meter.specs.Held.{Items}
+use Rattle.obs_meter.specs.Touches.{AreInRange}
+use Rattle.obs_network.specs.Switched.{case_bus_count, case_buses}
+use Rattle.obs_network.specs.Live.{live_branches}
+use Rattle.obs_network.specs.Components.{component_count, components_of, energised_branches, energised_of, first_buses_of, needed_of, sizes_of}
+use Rattle.obs_network.specs.Touching.{meter_touches, offered_touches}
+
+-- the live branches of a case by position
+unfoldable pub case_live : Tables → List (Option Ends)
+case_live t = live_branches (case_buses t) t.branches
+
+-- the component of each bus of a case
+unfoldable pub case_components : Tables → List ℕ
+case_components t = components_of (case_bus_count t) (present (case_live t))
+
+-- how many components a case has
+unfoldable pub case_component_count : Tables → ℕ
+case_component_count t = component_count (case_bus_count t) (present (case_live t))
+
+-- the first bus of each component
+unfoldable pub case_first_buses : Tables → List ℕ
+case_first_buses t = first_buses_of (case_bus_count t) (present (case_live t))
+
+-- how many buses each component has
+unfoldable pub case_sizes : Tables → List ℕ
+case_sizes t = sizes_of (case_component_count t) (case_components t)
+
+-- which components are energised
+unfoldable pub case_energised : Tables → List Bool
+case_energised t = energised_of (case_component_count t) (case_components t) (case_buses t) t.nodes
+
+-- the live branches of energised components by position
+unfoldable pub case_branches : Tables → List (Option Ends)
+case_branches t = energised_branches (case_components t) (case_energised t) (case_live t)
+
+-- the needed number of a case: the sum of what its energised components need
+unfoldable pub case_needed : Tables → ℕ
+case_needed t = needed_of (case_sizes t) (case_energised t) (case_component_count t)
+
+-- what each meter touches
+unfoldable pub case_meters : Tables → List Touch
+case_meters t = meter_touches (case_buses t) t.meters
+
+-- what each meter and then each candidate touches
+unfoldable pub case_offered : Tables → List Touch
+case_offered t = offered_touches (case_buses t) t.meters t.candidates
+
+-- how many rows each table has
+pub record Rows : Type 0 where
+  pub nodes : ℕ
+  pub switches : ℕ
+  pub branches : ℕ
+  pub meters : ℕ
+  pub candidates : ℕ
+
+abbrev pub rows_of : Tables → Rows
+rows_of t = record { nodes = length t.nodes; switches = length t.switches; branches = length t.branches; meters = length t.meters; candidates = length t.candidates }
+
+-- components: that of each bus, and of each component its first bus, its size and whether it is energised; and for how many buses there is room
+pub record Grouped : Type 0 where
+  pub of_buses : List ℕ
+  pub first_buses : List ℕ
+  pub sizes : List ℕ
+  pub energised : List Bool
+  pub most_buses : ℕ
+
+-- a network, with the numbers of rows that it was made for
+pub record NetworkOf : Type 0 where
+  pub rows : Rows
+  pub buses : Labelled
+  pub components : Grouped
+  pub graph : Shape
+  pub meters : Items
+  pub offered : Items
+  pub needed : ℕ
+
+-- the network that a case determines: its vertices are the buses, and its branches the live branches of energised components
+abbrev pub network_of : Tables → NetworkOf
+network_of t = record {
+  rows = rows_of t;
+  buses = record { buses = case_buses t; count = case_bus_count t; most_nodes = length t.nodes };
+  components = record { of_buses = case_components t; first_buses = case_first_buses t; sizes = case_sizes t; energised = case_energised t; most_buses = length t.nodes };
+  graph = record { vertices = case_bus_count t; ends = case_branches t; most_vertices = length t.nodes; most_branches = length t.branches };
+  meters = record { touches = case_meters t; most = length t.meters };
+  offered = record { touches = case_offered t; most = length t.meters + length t.candidates };
+  needed = case_needed t;
+}

@@ -1,0 +1,183 @@
+// The components of a network.
+ghost use Rattle.std.specs.Prelude.{◌≡◌, ◌<◌, ◌≤◌, ◌^◌, [], ℕ, All, IfOk, length, slice_index, slice_index_or, take, false};
+ghost use Rattle.obs_graph.specs.Joined.{first_joined};
+ghost use Rattle.obs_graph.specs.Positions.{present};
+ghost use Rattle.obs_network.specs.Components.{component_count, components_of, energised_of, first_buses_of, needed_of, sizes_of};
+
+use crate::marks::{add_needs, count_sizes, mark_energised, number};
+use crate::memory::NoMemory;
+use obs_case::Node;
+use obs_graph::Ends;
+use obs_switch::Buses;
+use std::alloc::Global;
+use std::marker::Model;
+
+/// The component of each bus, and of each component its first bus, its size and whether it is
+/// energised.
+#[derive(Drop)]
+pub(crate) struct Components {
+    buses: usize,
+    count: usize,
+    numbers: Vec<u32>,
+    first_buses: Vec<u32>,
+    sizes: Vec<u32>,
+    energised: Vec<bool>,
+}
+
+impl Model for Components {
+    ghost use Rattle.std.specs.Prelude.{length, take};
+    ghost use Rattle.obs_network.specs.Network.{Grouped};
+    ghost use Rattle.obs_network.specs.Kept.{AreGrouped};
+
+    ghost Value = { Grouped };
+
+    ghost view = { λ c. record { of_buses = take c.buses c.numbers.items; first_buses = take c.count c.first_buses.items; sizes = take c.count c.sizes.items; energised = take c.count c.energised.items; most_buses = length c.numbers.items } };
+
+    ghost invariant = { λ c. AreGrouped c.buses c.count c.numbers.items c.first_buses.items c.sizes.items c.energised.items };
+}
+
+// Finds the components of some buses, of each of which the first bus of its component is given.
+fn group(
+    firsts: &[u32],
+    live: &[Option<Ends>],
+    nodes: &[Node],
+    buses: &Buses,
+    numbers: &mut [u32],
+    first_buses: &mut [u32],
+    sizes: &mut [u32],
+    energised: &mut [bool],
+) -> usize
+    requires nodes { length nodes.now < 2 ^ 32 }
+    requires few { length firsts.now < 2 ^ 32 }
+    requires buses { buses.now.count ≡ length firsts.now }
+    requires nodes_are { length nodes.now ≡ length buses.now.buses }
+    requires numbers { length firsts.now ≤ length numbers.old }
+    requires first_buses { length firsts.now ≤ length first_buses.old }
+    requires sizes { length firsts.now ≤ length sizes.old }
+    requires energised { length firsts.now ≤ length energised.old }
+    requires firsts { (b : ℕ) → b < length firsts.now → slice_index firsts.now b ≡ first_joined (present live.now) b }
+    ensures numbers { take (length firsts.now) numbers.new ≡ components_of (length firsts.now) (present live.now) }
+    ensures count { result ≡ component_count (length firsts.now) (present live.now) }
+    ensures first_buses { take result first_buses.new ≡ first_buses_of (length firsts.now) (present live.now) }
+    ensures sizes { take result sizes.new ≡ sizes_of result (take (length firsts.now) numbers.new) }
+    ensures energised { take result energised.new ≡ energised_of result (take (length firsts.now) numbers.new) buses.now.buses nodes.now }
+    ensures few { result ≤ length firsts.now }
+    ensures below { All (λ c. c < result) (take (length firsts.now) numbers.new) }
+    ensures firsts { All (λ b. b < length firsts.now) (take result first_buses.new) }
+{
+    let numbers = &mut numbers[..firsts.len()];
+    let count = number(firsts, live, numbers, first_buses);
+    count_sizes(numbers, &mut sizes[..count]);
+    mark_energised(nodes, buses, numbers, &mut energised[..count]);
+    count
+}
+
+impl Components {
+    /// Room for the components of so many buses, without a bus.
+    pub(crate) fn make(alloc: Global, most_buses: u32) -> Result<Components, NoMemory>
+        ensures empty { IfOk result (λ c. c ≡ record { of_buses = []; first_buses = []; sizes = []; energised = []; most_buses = most_buses }) }
+    {
+        let room = most_buses as usize;
+        Ok(Components {
+            buses: 0,
+            count: 0,
+            numbers: vec![in alloc; 0; room]?,
+            first_buses: vec![in alloc; 0; room]?,
+            sizes: vec![in alloc; 0; room]?,
+            energised: vec![in alloc; false; room]?,
+        })
+    }
+
+    /// Makes the components those of these buses. Of each bus the first that the live branches join
+    /// with it is given.
+    pub(crate) fn refill(
+        &mut self,
+        firsts: &[u32],
+        live: &[Option<Ends>],
+        nodes: &[Node],
+        buses: &Buses,
+    )
+        requires nodes { length nodes.now < 2 ^ 32 }
+        requires room { length firsts.now ≤ self.old.most_buses }
+        requires buses { buses.now.count ≡ length firsts.now }
+        requires nodes_are { length nodes.now ≡ length buses.now.buses }
+        requires firsts { (b : ℕ) → b < length firsts.now → slice_index firsts.now b ≡ first_joined (present live.now) b }
+        ensures of_buses { self.new.of_buses ≡ components_of (length firsts.now) (present live.now) }
+        ensures first_buses { self.new.first_buses ≡ first_buses_of (length firsts.now) (present live.now) }
+        ensures sizes { self.new.sizes ≡ sizes_of (component_count (length firsts.now) (present live.now)) self.new.of_buses }
+        ensures energised { self.new.energised ≡ energised_of (component_count (length firsts.now) (present live.now)) self.new.of_buses buses.now.buses nodes.now }
+        ensures room { self.new.most_buses ≡ self.old.most_buses }
+    {
+        self.count = group(
+            firsts,
+            live,
+            nodes,
+            buses,
+            &mut self.numbers,
+            &mut self.first_buses,
+            &mut self.sizes,
+            &mut self.energised,
+        );
+        self.buses = firsts.len();
+    }
+
+    pub(crate) fn count(&self) -> u32
+        ensures count { result ≡ length self.now.first_buses }
+    {
+        self.count as u32
+    }
+
+    pub(crate) fn component(&self, bus: u32) -> u32
+        requires bus { bus < length self.now.of_buses }
+        ensures component { result ≡ slice_index self.now.of_buses bus }
+        ensures below { result < length self.now.first_buses }
+    {
+        self.numbers[bus as usize]
+    }
+
+    pub(crate) fn first_bus(&self, c: u32) -> u32
+        requires component { c < length self.now.first_buses }
+        ensures bus { result ≡ slice_index self.now.first_buses c }
+        ensures below { result < length self.now.of_buses }
+    {
+        self.first_buses[c as usize]
+    }
+
+    pub(crate) fn size(&self, c: u32) -> u32
+        requires component { c < length self.now.first_buses }
+        ensures size { result ≡ slice_index self.now.sizes c }
+        ensures some { 0 < result }
+    {
+        self.sizes[c as usize]
+    }
+
+    pub(crate) fn energised(&self, c: u32) -> bool
+        requires component { c < length self.now.first_buses }
+        ensures energised { result ≡ slice_index_or self.now.energised c false }
+    {
+        self.energised[c as usize]
+    }
+
+    /// The component of each bus.
+    pub(crate) fn numbers(&self) -> &[u32]
+        ensures numbers { result.now ≡ self.now.of_buses }
+        ensures below { All (λ c. c < length self.now.energised) result.now }
+    {
+        &self.numbers[..self.buses]
+    }
+
+    /// Which components are energised.
+    pub(crate) fn marks(&self) -> &[bool]
+        ensures marks { result.now ≡ self.now.energised }
+    {
+        &self.energised[..self.count]
+    }
+
+    /// What the energised components need together.
+    pub(crate) fn needed(&self) -> u32
+        requires few { self.now.most_buses ≤ 20000 }
+        ensures needed { result ≡ needed_of self.now.sizes self.now.energised (length self.now.first_buses) }
+    {
+        add_needs(&self.sizes[..self.count], &self.energised[..self.count])
+    }
+}

@@ -1,0 +1,108 @@
+// The laws of networks.
+ghost use Rattle.std.specs.Prelude.{◌≡◌, ◌↔◌, ◌<◌, ◌≤◌, ℕ, Bool, true, false, List, Option, IsTrue, Contains, length, filter, sum_by, slice_index, slice_index_or};
+ghost use Rattle.std.specs.List.{range_with_len};
+ghost use Rattle.obs_graph.specs.declared.Ends.{Ends};
+ghost use Rattle.obs_graph.specs.Joined.{is_joined};
+ghost use Rattle.obs_graph.specs.Positions.{AreBranches, present};
+ghost use Rattle.obs_switch.specs.declared.link.Link.{Link};
+ghost use Rattle.obs_switch.specs.Buses.{bus_of, ends_of_links};
+ghost use Rattle.obs_case.specs.declared.rows.Node.{Node};
+ghost use Rattle.obs_case.specs.Flags.{with_branch_inservice, with_closed, with_meter_inservice};
+ghost use Rattle.obs_case.specs.Tables.{IsValid, Tables};
+ghost use Rattle.obs_matroid.specs.Lists.{In};
+ghost use Rattle.obs_matroid.specs.Assignments.{Pair};
+ghost use Rattle.obs_matroid.specs.Components.{IsSumOfKinds};
+ghost use Rattle.obs_meter.specs.declared.Touch.{Touch};
+ghost use Rattle.obs_meter.specs.Assignments.{IsAssignmentAt, IsRhoAt, rho_at};
+ghost use Rattle.obs_meter.specs.Spanned.{graph_matroid};
+ghost use Rattle.obs_meter.specs.Touches.{AreInRange, touch_at};
+ghost use Rattle.obs_network.specs.Switched.{case_bus_count};
+ghost use Rattle.obs_network.specs.Components.{AreOneComponent, component_count, component_of, components_of, first_bus, first_buses_of, is_energised, need_of, needed_of, sizes_of, source_nodes};
+ghost use Rattle.obs_network.specs.Network.{case_branches, case_component_count, case_components, case_live, case_meters, case_needed, case_offered, case_sizes, network_of, rows_of};
+ghost use Rattle.obs_network.specs.Observable.{IsObservableCase, branch_component, case_live_meters, is_fed, item_component};
+
+/// Two nodes have one bus exactly where the closed switches, as branches between nodes, join them.
+pub fn bus_is_what_switches_join()
+    ensures joined { (links : List Link) (u v : ℕ) →
+        (bus_of links u ≡ bus_of links v) ↔ IsTrue (is_joined (ends_of_links links) u v) }
+{}
+
+/// Two buses have one component exactly where a chain of live branches leads from the one to the other.
+pub fn one_component_by_chain()
+    ensures component { (live : List Ends) (b c : ℕ) →
+        (component_of live b ≡ component_of live c) ↔ AreOneComponent live b c }
+    ensures of_case { (t : Tables) (b c : ℕ) → b < case_bus_count t → c < case_bus_count t →
+        (slice_index (case_components t) b ≡ slice_index (case_components t) c) ↔ AreOneComponent (present (case_live t)) b c }
+{}
+
+/// The first bus of a component is one of its buses, and none of them stands before it; it is noted at the
+/// number of the component, and components are numbered in the order of their first buses.
+pub fn components_by_first_buses()
+    ensures one_component { (live : List Ends) (b : ℕ) → AreOneComponent live b (first_bus live b) }
+    ensures lowest { (live : List Ends) (b c : ℕ) → AreOneComponent live b c → first_bus live b ≤ c }
+    ensures noted { (n : ℕ) (live : List Ends) (b : ℕ) → b < n →
+        slice_index (first_buses_of n live) (component_of live b) ≡ first_bus live b }
+    ensures order { (live : List Ends) (b c : ℕ) → first_bus live b < first_bus live c → component_of live b < component_of live c }
+    ensures below { (n : ℕ) (live : List Ends) (b : ℕ) → b < n → component_of live b < component_count n live }
+    ensures count { (n : ℕ) (live : List Ends) → length (first_buses_of n live) ≡ component_count n live }
+{}
+
+/// Each component has a bus.
+pub fn components_have_buses()
+    ensures some { (n : ℕ) (live : List Ends) (c : ℕ) → c < component_count n live →
+        0 < slice_index (sizes_of (component_count n live) (components_of n live)) c }
+{}
+
+/// A component is energised exactly where one of its nodes is a source.
+pub fn energised_by_a_source()
+    ensures source { (components buses : List ℕ) (nodes : List Node) (c : ℕ) →
+        (is_energised components buses nodes c ≡ true)
+        ↔ (u : ℕ) × Contains (source_nodes nodes) u × (slice_index components (slice_index buses u) ≡ c) }
+{}
+
+/// The needed number is the sum of what the energised components need.
+pub fn needed_is_a_sum()
+    ensures sum { (sizes : List ℕ) (energised : List Bool) (count : ℕ) →
+        needed_of sizes energised count
+        ≡ sum_by (need_of sizes) (filter (λ c. slice_index_or energised c false) (range_with_len 0 count)) }
+{}
+
+/// The branches of a network have two different buses as their ends, and what items touch is in its range.
+pub fn network_is_in_range()
+    ensures branches { (t : Tables) → IsValid t → AreBranches (case_bus_count t) (case_branches t) }
+    ensures meters { (t : Tables) → IsValid t → AreInRange (network_of t).graph (case_meters t) }
+    ensures offered { (t : Tables) → IsValid t → AreInRange (network_of t).graph (case_offered t) }
+{}
+
+/// All that an item touches lies in one component, and no branches of other components help to join the ends of
+/// a branch.
+pub fn items_lie_in_one_component()
+    ensures item { (t : Tables) → IsValid t → (touches : List Touch) (m e : ℕ) →
+        In e (touch_at (case_branches t) touches m) → branch_component t e ≡ item_component t touches m }
+    ensures sum { (t : Tables) → IsValid t →
+        IsSumOfKinds (graph_matroid (case_bus_count t) (case_branches t)) (branch_component t) }
+{}
+
+/// No assignment has more pairs than the needed number, and a case is observable exactly where an assignment of
+/// its live meters has as many.
+pub fn observable_by_rank()
+    ensures at_most { (t : Tables) → IsValid t → (touches : List Touch) (M : List ℕ) (A : List Pair) →
+        IsAssignmentAt (case_branches t) touches M A → length A ≤ case_needed t }
+    ensures rank { (t : Tables) → IsValid t →
+        IsObservableCase t ↔ IsRhoAt (case_branches t) (case_meters t) (case_live_meters t) (case_needed t) }
+    ensures computed { (t : Tables) → IsValid t →
+        IsObservableCase t
+        ↔ (rho_at (case_bus_count t) (case_branches t) (case_meters t) (case_live_meters t) ≡ case_needed t) }
+{}
+
+/// A case without an energised component is observable.
+pub fn nothing_fed_is_observable()
+    ensures observable { (t : Tables) → ((c : ℕ) → c < case_component_count t → is_fed t c ≡ false) → IsObservableCase t }
+{}
+
+/// A new flag leaves the numbers of rows.
+pub fn flags_keep_rows()
+    ensures switch { (t : Tables) (at : ℕ) (closed : Bool) → rows_of (with_closed t at closed) ≡ rows_of t }
+    ensures branch { (t : Tables) (at : ℕ) (inservice : Bool) → rows_of (with_branch_inservice t at inservice) ≡ rows_of t }
+    ensures meter { (t : Tables) (at : ℕ) (inservice : Bool) → rows_of (with_meter_inservice t at inservice) ≡ rows_of t }
+{}

@@ -1,0 +1,18 @@
+//! The network of a case.
+#![tactic(auto)]
+
+mod components;
+pub mod laws;
+mod live;
+mod marks;
+mod memory;
+mod network;
+mod rebuild;
+mod switched;
+#[cfg(test)]
+mod tests;
+mod touching;
+
+pub use memory::NoMemory;
+pub use network::Network;
+pub use switched::buses_of_case;

@@ -1,0 +1,33 @@
+// The live branches of a case.
+ghost use Rattle.std.specs.Prelude.{◌≡◌, ◌<◌, All, length};
+ghost use Rattle.obs_network.specs.Live.{live_branches, live_ends};
+
+use obs_case::Branch;
+use obs_graph::Ends;
+use obs_switch::Buses;
+
+// The two buses that a branch joins, where it is live.
+fn ends_of(row: &Branch, buses: &Buses) -> Option<Ends>
+    requires from { row.now.from < length buses.now.buses }
+    requires to { row.now.to < length buses.now.buses }
+    ensures ends { result ≡ live_ends buses.now.buses row.now }
+{
+    let a = buses.bus(row.from);
+    let b = buses.bus(row.to);
+    if row.inservice && a != b {
+        Some(Ends { a, b })
+    } else {
+        None
+    }
+}
+
+/// Writes the live branches, each at its position.
+pub(crate) fn write_live(branches: &[Branch], buses: &Buses, live: &mut [Option<Ends>])
+    requires room { length branches.now ≡ length live.old }
+    requires ends { All (λ row. (row.from < length buses.now.buses) × (row.to < length buses.now.buses)) branches.now }
+    ensures live { live.new ≡ live_branches buses.now.buses branches.now }
+{
+    for i in 0..branches.len() {
+        live[i] = ends_of(&branches[i], buses);
+    }
+}

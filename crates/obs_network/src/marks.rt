@@ -1,0 +1,123 @@
+// What is known of each component, and of all, by one pass over the buses, the nodes or the components.
+ghost use Rattle.std.specs.Prelude.{◌≡◌, ◌≢◌, ◌<◌, ◌≤◌, ◌^◌, ◌+◌, ◌*◌, ℕ, All, count_by, ◌==◌, length, slice_index, take, false, slice_index_or, IfSome};
+ghost use Rattle.obs_graph.specs.Positions.{present};
+ghost use Rattle.obs_graph.specs.Joined.{first_joined};
+ghost use Rattle.obs_network.specs.Components.{component_count, component_of, components_of, energised_branches, energised_of, first_buses_of, if_energised, is_energised, needed_of, sizes_of};
+
+use obs_case::Node;
+use obs_graph::Ends;
+use obs_switch::Buses;
+
+// The number of the component of a bus with this first bus.
+fn number_of(first: usize, bus: usize, count: u32, numbers: &[u32]) -> u32
+    requires first { first < length numbers.now }
+    ensures new { first ≡ bus → result ≡ count }
+    ensures known { first ≢ bus → result ≡ slice_index numbers.now first }
+{
+    if first == bus { count } else { numbers[first] }
+}
+
+/// Numbers the components in the order of their first buses, notes these, and says how many there are.
+pub(crate) fn number(
+    firsts: &[u32],
+    live: &[Option<Ends>],
+    numbers: &mut [u32],
+    first_buses: &mut [u32],
+) -> usize
+    requires few { length firsts.now < 2 ^ 32 }
+    requires numbers { length firsts.now ≡ length numbers.old }
+    requires room { length firsts.now ≤ length first_buses.old }
+    requires firsts { (b : ℕ) → b < length firsts.now → slice_index firsts.now b ≡ first_joined (present live.now) b }
+    ensures numbers { numbers.new ≡ components_of (length firsts.now) (present live.now) }
+    ensures first_buses { take result first_buses.new ≡ first_buses_of (length firsts.now) (present live.now) }
+    ensures count { result ≡ component_count (length firsts.now) (present live.now) }
+    ensures few { result ≤ length firsts.now }
+    ensures below { All (λ c. c < result) numbers.new }
+    ensures firsts { All (λ b. b < length firsts.now) (take result first_buses.new) }
+{
+    let _live = live.len();
+    let mut count = 0;
+    for bus in 0..firsts.len() {
+        let first = firsts[bus] as usize;
+        numbers[bus] = number_of(first, bus, count as u32, numbers);
+        if first == bus {
+            first_buses[count] = bus as u32;
+            count += 1;
+        }
+    }
+    count
+}
+
+/// Counts the buses of each component.
+pub(crate) fn count_sizes(numbers: &[u32], sizes: &mut [u32])
+    requires few { length numbers.now < 2 ^ 32 }
+    requires below { All (λ c. c < length sizes.old) numbers.now }
+    ensures sizes { sizes.new ≡ sizes_of (length sizes.old) numbers.now }
+{
+    sizes.fill(0);
+    for number in numbers {
+        sizes[*number as usize] += 1;
+    }
+}
+
+/// Marks the components with a source.
+pub(crate) fn mark_energised(nodes: &[Node], buses: &Buses, numbers: &[u32], energised: &mut [bool])
+    requires few { length nodes.now < 2 ^ 32 }
+    requires nodes { length nodes.now ≡ length buses.now.buses }
+    requires buses { buses.now.count ≡ length numbers.now }
+    requires below { All (λ c. c < length energised.old) numbers.now }
+    ensures energised { energised.new ≡ energised_of (length energised.old) numbers.now buses.now.buses nodes.now }
+{
+    energised.fill(false);
+    for u in 0..nodes.len() {
+        if nodes[u].source {
+            energised[numbers[buses.bus(u as u32) as usize] as usize] = true;
+        }
+    }
+}
+
+/// Adds up what the energised components need.
+pub(crate) fn add_needs(sizes: &[u32], energised: &[bool]) -> u32
+    requires lengths { length sizes.now ≡ length energised.now }
+    requires few { length sizes.now ≤ 20000 }
+    requires small { All (λ s. s ≤ 20000) sizes.now }
+    requires some { All (λ s. 0 < s) sizes.now }
+    ensures needed { result ≡ needed_of sizes.now energised.now (length sizes.now) }
+{
+    let mut needed = 0;
+    for c in 0..sizes.len() {
+        if energised[c] {
+            needed += sizes[c] - 1;
+        }
+    }
+    needed
+}
+
+// The branch, where it is of an energised component.
+fn if_energised(branch: Option<Ends>, numbers: &[u32], energised: &[bool]) -> Option<Ends>
+    requires end { IfSome branch (λ e. e.a < length numbers.now) }
+    requires below { All (λ c. c < length energised.now) numbers.now }
+    ensures kept { result ≡ if_energised numbers.now energised.now branch }
+{
+    match branch {
+        Some(ends) if energised[numbers[ends.a as usize] as usize] => Some(ends),
+        _ => None,
+    }
+}
+
+/// Writes the live branches of energised components, each at its position.
+pub(crate) fn write_energised(
+    live: &[Option<Ends>],
+    numbers: &[u32],
+    energised: &[bool],
+    kept: &mut [Option<Ends>],
+)
+    requires room { length live.now ≡ length kept.old }
+    requires ends { All (λ o. IfSome o (λ e. e.a < length numbers.now)) live.now }
+    requires below { All (λ c. c < length energised.now) numbers.now }
+    ensures kept { kept.new ≡ energised_branches numbers.now energised.now live.now }
+{
+    for i in 0..live.len() {
+        kept[i] = if_energised(live[i], numbers, energised);
+    }
+}

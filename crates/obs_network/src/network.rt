@@ -1,0 +1,212 @@
+// The network of a case.
+ghost use Rattle.std.specs.Prelude.{◌≡◌, ◌-◌, ◌<◌, ◌≤◌, ◌^◌, ◌+◌, [], ℕ, All, IfOk, length, slice_index, slice_index_or, take, false};
+ghost use Rattle.obs_graph.specs.Positions.{AreBranches};
+ghost use Rattle.obs_switch.specs.Buses.{LinksBelow};
+ghost use Rattle.obs_meter.specs.Touches.{AreInRange};
+ghost use Rattle.obs_network.specs.Switched.{case_bus_count, case_buses, closed_links};
+ghost use Rattle.obs_network.specs.Components.{need_of};
+ghost use Rattle.obs_network.specs.Network.{network_of, rows_of};
+
+use crate::components::Components;
+use crate::memory::NoMemory;
+use crate::rebuild::{find_components, find_live, refill_graph, refill_items, relabel};
+use obs_case::Case;
+use obs_graph::search::Search;
+use obs_graph::{Ends, Graph};
+use obs_meter::{Meters, Touch};
+use obs_switch::{Buses, Link};
+use std::alloc::Global;
+use std::marker::Model;
+
+/// The network of a case: its buses, its components, the graph of the live branches that are fed, and
+/// what its items touch there. It keeps the numbers of rows of the case that it was made for.
+#[derive(Drop)]
+pub struct Network {
+    buses: Buses,
+    components: Components,
+    graph: Graph,
+    meters: Meters,
+    offered: Meters,
+    needed: u32,
+    links: Vec<Link>,
+    live: Vec<Option<Ends>>,
+    kept: Vec<Option<Ends>>,
+    touches: Vec<Touch>,
+    search: Search,
+}
+
+impl Model for Network {
+    ghost use Rattle.std.specs.Prelude.{◌-◌, length};
+    ghost use Rattle.obs_network.specs.Network.{NetworkOf};
+    ghost use Rattle.obs_network.specs.Kept.{AreParts};
+
+    ghost Value = { NetworkOf };
+
+    ghost view = { λ n. record {
+      rows = record { nodes = n.components.most_buses; switches = length n.links.items; branches = length n.live.items; meters = n.meters.most; candidates = n.offered.most - n.meters.most };
+      buses = n.buses;
+      components = n.components;
+      graph = n.graph;
+      meters = n.meters;
+      offered = n.offered;
+      needed = n.needed;
+    } };
+
+    ghost invariant = { λ n. AreParts n.links.items n.live.items n.kept.items n.touches.items n.search n.buses n.components n.graph n.meters n.offered };
+}
+
+impl Network {
+    // Room for the network of a case, without a bus.
+    fn with_room(alloc: Global, case: &Case) -> Result<Network, NoMemory>
+        ensures rows { IfOk result (λ n. n.rows ≡ rows_of case.now) }
+    {
+        let nodes = case.nodes().len() as u32;
+        let branches = case.branches().len();
+        let meters = case.meters().len() as u32;
+        let offered = meters + case.candidates().len() as u32;
+        Ok(Network {
+            buses: Buses::make(alloc, nodes, case.switches().len() as u32)?,
+            components: Components::make(alloc, nodes)?,
+            graph: Graph::make(alloc, nodes, branches as u32)?,
+            meters: Meters::make(alloc, meters)?,
+            offered: Meters::make(alloc, offered)?,
+            needed: 0,
+            links: vec![in alloc; Link { from: 0, to: 0 }; case.switches().len()]?,
+            live: vec![in alloc; None; branches]?,
+            kept: vec![in alloc; None; branches]?,
+            touches: vec![in alloc; Touch::Nothing; offered as usize]?,
+            search: Search::make(alloc, nodes)?,
+        })
+    }
+
+    /// The network of a case.
+    pub fn make(alloc: Global, case: &Case) -> Result<Network, NoMemory>
+        ensures whole { IfOk result (λ n. n ≡ network_of case.now) }
+    {
+        let mut network = Network::with_room(alloc, case)?;
+        network.refresh(case);
+        Ok(network)
+    }
+
+    /// Makes the network that of a case with as many rows in each table. Takes no memory.
+    pub fn refresh(&mut self, case: &Case)
+        requires rows { self.old.rows ≡ rows_of case.now }
+        ensures whole { self.new ≡ network_of case.now }
+    {
+        let _nodes = case.nodes();
+        relabel(case, &mut self.links, &mut self.buses);
+        find_live(case, &self.buses, &mut self.live);
+        find_components(
+            case,
+            &self.buses,
+            &self.live,
+            &mut self.graph,
+            &mut self.search,
+            &mut self.components,
+        );
+        refill_graph(
+            case,
+            &self.components,
+            &self.live,
+            &mut self.kept,
+            &mut self.graph,
+        );
+        refill_items(
+            case,
+            &self.buses,
+            &mut self.touches,
+            &mut self.meters,
+            &mut self.offered,
+        );
+        self.needed = self.components.needed();
+    }
+
+    /// The buses of the case.
+    pub fn buses(&self) -> &Buses
+        ensures buses { result.now ≡ self.now.buses }
+    {
+        &self.buses
+    }
+
+    /// The graph over all buses of the live branches of energised components, each at its position in
+    /// the table of branches.
+    pub fn graph(&self) -> &Graph
+        ensures graph { result.now ≡ self.now.graph }
+        ensures vertices { result.now.vertices ≡ self.now.buses.count }
+    {
+        &self.graph
+    }
+
+    /// What each meter touches. A meter out of service touches nothing.
+    pub fn meters(&self) -> &Meters
+        ensures meters { result.now ≡ self.now.meters }
+        ensures in_range { AreInRange self.now.graph result.now.touches }
+    {
+        &self.meters
+    }
+
+    /// What each meter and then each candidate touches.
+    pub fn offered(&self) -> &Meters
+        ensures offered { result.now ≡ self.now.offered }
+        ensures in_range { AreInRange self.now.graph result.now.touches }
+    {
+        &self.offered
+    }
+
+    /// How many components there are.
+    pub fn components(&self) -> u32
+        ensures count { result ≡ length self.now.components.first_buses }
+    {
+        self.components.count()
+    }
+
+    /// The component of a bus.
+    pub fn component(&self, bus: u32) -> u32
+        requires bus { bus < self.now.buses.count }
+        ensures component { result ≡ slice_index self.now.components.of_buses bus }
+        ensures below { result < length self.now.components.first_buses }
+    {
+        self.components.component(bus)
+    }
+
+    /// The first bus of a component, which names it.
+    pub fn first_bus(&self, c: u32) -> u32
+        requires component { c < length self.now.components.first_buses }
+        ensures bus { result ≡ slice_index self.now.components.first_buses c }
+        ensures below { result < self.now.buses.count }
+    {
+        self.components.first_bus(c)
+    }
+
+    /// How many buses a component has.
+    pub fn size(&self, c: u32) -> u32
+        requires component { c < length self.now.components.first_buses }
+        ensures size { result ≡ slice_index self.now.components.sizes c }
+        ensures some { 0 < result }
+    {
+        self.components.size(c)
+    }
+
+    /// Whether a component has a source.
+    pub fn energised(&self, c: u32) -> bool
+        requires component { c < length self.now.components.first_buses }
+        ensures energised { result ≡ slice_index_or self.now.components.energised c false }
+    {
+        self.components.energised(c)
+    }
+
+    /// How many pairs a component needs to be observable: one fewer than it has buses.
+    pub fn need(&self, c: u32) -> u32
+        requires component { c < length self.now.components.first_buses }
+        ensures need { result ≡ need_of self.now.components.sizes c }
+    {
+        self.components.size(c) - 1
+    }
+
+    /// How many pairs the energised components need together.
+    pub fn needed(&self) -> u32
+        ensures needed { result ≡ self.now.needed }
+    {
+        self.needed
+    }
+}

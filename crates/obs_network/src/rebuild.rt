@@ -1,0 +1,143 @@
+// The parts of the network of a case, made anew one after another.
+ghost use Rattle.std.specs.Prelude.{◌≡◌, ◌-◌, ◌<◌, ◌≤◌, ◌^◌, ◌+◌, ℕ, All, length, take, vec_len};
+ghost use Rattle.obs_switch.specs.Buses.{LinksBelow};
+ghost use Rattle.obs_network.specs.Switched.{case_bus_count, case_buses, closed_links};
+ghost use Rattle.obs_network.specs.Network.{case_branches, case_components, case_energised, case_first_buses, case_live, case_meters, case_offered, case_sizes};
+
+use crate::components::Components;
+use crate::live::write_live;
+use crate::marks::write_energised;
+use crate::touching::{write_candidates, write_meters};
+use obs_case::{Case, Switch};
+use obs_graph::search::{Search, reach_all};
+use obs_graph::{Ends, Graph};
+use obs_meter::{Meters, Touch};
+use obs_switch::{Buses, Link};
+
+// Writes the closed switches as links, and says how many there are.
+fn write_links(switches: &[Switch], links: &mut [Link]) -> usize
+    requires room { length switches.now ≤ length links.old }
+    ensures links { take result links.new ≡ closed_links switches.now }
+    ensures few { result ≤ length switches.now }
+{
+    let mut count = 0;
+    for switch in switches {
+        if switch.closed {
+            links[count] = Link {
+                from: switch.from,
+                to: switch.to,
+            };
+            count += 1;
+        }
+    }
+    count
+}
+
+/// Makes the buses those of the case.
+pub(crate) fn relabel(case: &Case, links: &mut [Link], buses: &mut Buses)
+    requires links { length case.now.switches ≤ length links.old }
+    requires room { length case.now.nodes ≤ buses.old.most_nodes }
+    ensures buses { buses.new.buses ≡ case_buses case.now }
+    ensures count { buses.new.count ≡ case_bus_count case.now }
+    ensures room { buses.new.most_nodes ≡ buses.old.most_nodes }
+{
+    let count = write_links(case.switches(), links);
+    buses.relabel(case.nodes().len() as u32, &links[..count]);
+}
+
+/// Writes the live branches of the case.
+pub(crate) fn find_live(case: &Case, buses: &Buses, live: &mut [Option<Ends>])
+    requires buses { buses.now.buses ≡ case_buses case.now }
+    requires room { length live.old ≡ length case.now.branches }
+    ensures live { live.new ≡ case_live case.now }
+{
+    write_live(case.branches(), buses, live);
+}
+
+/// Makes the components those of the case, by one search along its live branches.
+pub(crate) fn find_components(
+    case: &Case,
+    buses: &Buses,
+    live: &[Option<Ends>],
+    graph: &mut Graph,
+    search: &mut Search,
+    components: &mut Components,
+)
+    requires buses { buses.now.buses ≡ case_buses case.now }
+    requires count { buses.now.count ≡ case_bus_count case.now }
+    requires live { live.now ≡ case_live case.now }
+    requires vertices { case_bus_count case.now ≤ graph.old.most_vertices }
+    requires branches { length live.now ≤ graph.old.most_branches }
+    requires room { case_bus_count case.now ≤ components.old.most_buses }
+    requires piece { case_bus_count case.now ≤ vec_len search.old.piece }
+    requires ups { case_bus_count case.now ≤ vec_len search.old.ups }
+    requires depths { case_bus_count case.now ≤ vec_len search.old.depths }
+    requires order { case_bus_count case.now ≤ vec_len search.old.order }
+    ensures of_buses { components.new.of_buses ≡ case_components case.now }
+    ensures first_buses { components.new.first_buses ≡ case_first_buses case.now }
+    ensures sizes { components.new.sizes ≡ case_sizes case.now }
+    ensures energised { components.new.energised ≡ case_energised case.now }
+    ensures room { components.new.most_buses ≡ components.old.most_buses }
+    ensures vertices { graph.new.vertices ≡ case_bus_count case.now }
+    ensures most_vertices { graph.new.most_vertices ≡ graph.old.most_vertices }
+    ensures most_branches { graph.new.most_branches ≡ graph.old.most_branches }
+    ensures piece { vec_len search.new.piece ≡ vec_len search.old.piece }
+    ensures ups { vec_len search.new.ups ≡ vec_len search.old.ups }
+    ensures depths { vec_len search.new.depths ≡ vec_len search.old.depths }
+    ensures order { vec_len search.new.order ≡ vec_len search.old.order }
+{
+    let nodes = case.nodes();
+    let count = buses.count();
+    graph.refill(count, live);
+    reach_all(graph, live, search);
+    components.refill(&search.piece[..count as usize], live, nodes, buses);
+}
+
+/// Makes the graph that of the live branches of energised components.
+pub(crate) fn refill_graph(
+    case: &Case,
+    components: &Components,
+    live: &[Option<Ends>],
+    kept: &mut [Option<Ends>],
+    graph: &mut Graph,
+)
+    requires of_buses { components.now.of_buses ≡ case_components case.now }
+    requires energised { components.now.energised ≡ case_energised case.now }
+    requires live { live.now ≡ case_live case.now }
+    requires kept { length kept.old ≡ length live.now }
+    requires at { graph.old.vertices ≡ case_bus_count case.now }
+    requires vertices { case_bus_count case.now ≤ graph.old.most_vertices }
+    requires branches { length live.now ≤ graph.old.most_branches }
+    ensures ends { graph.new.ends ≡ case_branches case.now }
+    ensures vertices { graph.new.vertices ≡ case_bus_count case.now }
+    ensures most_vertices { graph.new.most_vertices ≡ graph.old.most_vertices }
+    ensures most_branches { graph.new.most_branches ≡ graph.old.most_branches }
+{
+    let _case = case.nodes();
+    write_energised(live, components.numbers(), components.marks(), kept);
+    graph.refill(graph.vertices(), kept);
+}
+
+/// Makes the items those of the case: its meters, and these with the candidates behind them.
+pub(crate) fn refill_items(
+    case: &Case,
+    buses: &Buses,
+    touches: &mut [Touch],
+    meters: &mut Meters,
+    offered: &mut Meters,
+)
+    requires buses { buses.now.buses ≡ case_buses case.now }
+    requires touches { length touches.old ≡ length case.now.meters + length case.now.candidates }
+    requires meters { length case.now.meters ≤ meters.old.most }
+    requires offered { length case.now.meters + length case.now.candidates ≤ offered.old.most }
+    ensures meters { meters.new.touches ≡ case_meters case.now }
+    ensures offered { offered.new.touches ≡ case_offered case.now }
+    ensures most_meters { meters.new.most ≡ meters.old.most }
+    ensures most_offered { offered.new.most ≡ offered.old.most }
+{
+    let (of_meters, of_candidates) = touches.split_at_mut(case.meters().len());
+    write_meters(case.meters(), buses, of_meters);
+    meters.refill(of_meters);
+    write_candidates(case.candidates(), buses, of_candidates);
+    offered.refill(touches);
+}

@@ -1,0 +1,287 @@
+// Networks of small cases, before and after a switching. Names are single letters or digits.
+ghost use Rattle.std.specs.Prelude.{◌≡◌, IsTrue};
+ghost use Rattle.obs_text.specs.Names.{is_name};
+ghost use Rattle.obs_network.specs.Network.{rows_of};
+
+use crate::{Network, NoMemory};
+use obs_case::{Case, Kind};
+use obs_text::name_of;
+use std::alloc::Global;
+use std::process::Abort;
+use std::test::Fail;
+
+// Bytes that are a name.
+fn name<'a>(rt: &impl Abort, bytes: &'a [u8]) -> &'a [u8]
+    ensures name { IsTrue (is_name result.now) }
+{
+    name_of(bytes).expect(rt, "the bytes are a name")
+}
+
+fn add_nodes(rt: &impl Abort, case: &mut Case, nodes: &[(u8, bool)]) {
+    for (node, source) in nodes {
+        assert!(rt; case.add_node(name(rt, &[*node]), *source).is_ok());
+    }
+}
+
+fn add_switches(rt: &impl Abort, case: &mut Case, switches: &[(u8, u8, u8, bool)]) {
+    for (switch, from, to, closed) in switches {
+        assert!(rt;
+            case.add_switch(name(rt, &[*switch]), &[*from], &[*to], *closed)
+                .is_ok()
+        );
+    }
+}
+
+fn add_branches(rt: &impl Abort, case: &mut Case, branches: &[(u8, u8, u8, bool)]) {
+    for (branch, from, to, inservice) in branches {
+        assert!(rt;
+            case.add_branch(name(rt, &[*branch]), &[*from], &[*to], *inservice)
+                .is_ok()
+        );
+    }
+}
+
+fn add_meters(rt: &impl Abort, case: &mut Case, meters: &[(u8, Kind, u8)]) {
+    for (meter, kind, at) in meters {
+        assert!(rt;
+            case.add_meter(name(rt, &[*meter]), *kind, &[*at], true)
+                .is_ok()
+        );
+    }
+}
+
+fn add_candidates(rt: &impl Abort, case: &mut Case, candidates: &[(u8, Kind, u8)]) {
+    for (candidate, kind, at) in candidates {
+        assert!(rt;
+            case.add_candidate(name(rt, &[*candidate]), *kind, &[*at], 3)
+                .is_ok()
+        );
+    }
+}
+
+// The rows of a case.
+#[derive(Clone, Copy)]
+struct Rows<'a> {
+    nodes: &'a [(u8, bool)],
+    switches: &'a [(u8, u8, u8, bool)],
+    branches: &'a [(u8, u8, u8, bool)],
+    meters: &'a [(u8, Kind, u8)],
+    candidates: &'a [(u8, Kind, u8)],
+}
+
+// The first bus, the size, the flag and the need of each component, the branches that each offered item touches, and
+// the needed number.
+#[derive(Clone, Copy)]
+struct Seen<'a> {
+    components: &'a [(u32, u32, bool, u32)],
+    touches: &'a [&'a [u32]],
+    needed: u32,
+}
+
+fn case_of(rt: &impl Abort, alloc: Global, rows: &Rows) -> Case {
+    let mut case = Case::new(alloc);
+    add_nodes(rt, &mut case, rows.nodes);
+    add_switches(rt, &mut case, rows.switches);
+    add_branches(rt, &mut case, rows.branches);
+    add_meters(rt, &mut case, rows.meters);
+    add_candidates(rt, &mut case, rows.candidates);
+    case
+}
+
+// Opens or closes the switch of that name.
+fn set(case: &mut Case, switch: u8, closed: bool)
+    ensures rows { rows_of case.new ≡ rows_of case.old }
+{
+    if let Some(at) = case.find_switch(&[switch]) {
+        case.set_switch(at, closed);
+    }
+}
+
+fn has_components(rt: &impl Abort, network: &Network, want: &[(u32, u32, bool, u32)]) {
+    assert!(rt; network.components() as usize == want.len());
+    for c in 0..network.components() {
+        let (first_bus, size, energised, need) = want[c as usize];
+        assert!(rt; network.first_bus(c) == first_bus);
+        assert!(rt; network.size(c) == size);
+        assert!(rt; network.energised(c) == energised);
+        assert!(rt; network.need(c) == need);
+    }
+}
+
+fn touches(rt: &impl Abort, network: &Network, want: &[&[u32]]) {
+    let offered = network.offered();
+    assert!(rt; offered.count() as usize == want.len());
+    for m in 0..offered.count() {
+        assert!(rt; offered.touch(network.graph(), m) == want[m as usize]);
+    }
+}
+
+fn look(rt: &impl Abort, network: &Network, seen: &Seen) {
+    has_components(rt, network, seen.components);
+    touches(rt, network, seen.touches);
+    assert!(rt; network.needed() == seen.needed);
+}
+
+// The network of these rows, and then with that switch opened or closed.
+fn switched(
+    rt: &impl Abort,
+    alloc: Global,
+    rows: &Rows,
+    made: &Seen,
+    switch: u8,
+    closed: bool,
+    remade: &Seen,
+) -> Result<(), NoMemory> {
+    let mut case = case_of(rt, alloc, rows);
+    let mut network = Network::make(alloc, &case)?;
+    look(rt, &network, made);
+    set(&mut case, switch, closed);
+    network.refresh(&case);
+    look(rt, &network, remade);
+    Ok(())
+}
+
+#[test]
+fn a_component_without_a_source_has_no_branches(rt: HostRuntime) -> Result<(), Fail> {
+    let rows = Rows {
+        nodes: &[(b'a', true), (b'b', false), (b'c', false), (b'd', false)],
+        switches: &[(b's', b'c', b'd', false)],
+        branches: &[
+            (b'1', b'a', b'b', true),
+            (b'2', b'c', b'd', true),
+            (b'3', b'a', b'b', false),
+        ],
+        meters: &[
+            (b'f', Kind::Flow, b'1'),
+            (b'g', Kind::Flow, b'2'),
+            (b'h', Kind::Injection, b'b'),
+        ],
+        candidates: &[],
+    };
+    let made = Seen {
+        components: &[(0, 2, true, 1), (2, 2, false, 1)],
+        touches: &[&[0], &[], &[0]],
+        needed: 1,
+    };
+    let remade = Seen {
+        components: &[(0, 2, true, 1), (2, 1, false, 0)],
+        touches: &[&[0], &[], &[0]],
+        needed: 1,
+    };
+    switched(&rt, rt.alloc(), &rows, &made, b's', true, &remade)?;
+    Ok(())
+}
+
+#[test]
+fn touches_of_a_path(rt: HostRuntime) -> Result<(), Fail> {
+    let rows = Rows {
+        nodes: &[(b'a', true), (b'b', false), (b'c', false), (b'd', false)],
+        switches: &[],
+        branches: &[
+            (b'1', b'a', b'b', true),
+            (b'2', b'b', b'c', true),
+            (b'3', b'c', b'd', true),
+        ],
+        meters: &[
+            (b'f', Kind::Flow, b'1'),
+            (b'g', Kind::Flow, b'1'),
+            (b'i', Kind::Injection, b'b'),
+        ],
+        candidates: &[(b'p', Kind::Injection, b'c')],
+    };
+    let seen = Seen {
+        components: &[(0, 4, true, 3)],
+        touches: &[&[0], &[0], &[0, 1], &[1, 2]],
+        needed: 3,
+    };
+    switched(&rt, rt.alloc(), &rows, &seen, b'-', true, &seen)?;
+    Ok(())
+}
+
+// With switches 1 and 2 closed and 3 open, a, b and c are one bus; without 1, a is a bus of its own.
+#[test]
+fn an_opened_switch_parts_a_bus(rt: HostRuntime) -> Result<(), Fail> {
+    let rows = Rows {
+        nodes: &[(b'a', true), (b'b', false), (b'c', false)],
+        switches: &[
+            (b'1', b'a', b'b', true),
+            (b'2', b'b', b'c', true),
+            (b'3', b'c', b'a', false),
+        ],
+        branches: &[],
+        meters: &[],
+        candidates: &[],
+    };
+    let made = Seen {
+        components: &[(0, 1, true, 0)],
+        touches: &[],
+        needed: 0,
+    };
+    let remade = Seen {
+        components: &[(0, 1, true, 0), (1, 1, false, 0)],
+        touches: &[],
+        needed: 0,
+    };
+    switched(&rt, rt.alloc(), &rows, &made, b'1', false, &remade)?;
+    Ok(())
+}
+
+#[test]
+fn a_closed_switch_across_a_branch_takes_it_out(rt: HostRuntime) -> Result<(), Fail> {
+    let rows = Rows {
+        nodes: &[(b'a', true), (b'b', false)],
+        switches: &[(b's', b'a', b'b', false)],
+        branches: &[(b'1', b'a', b'b', true)],
+        meters: &[(b'f', Kind::Flow, b'1')],
+        candidates: &[],
+    };
+    let made = Seen {
+        components: &[(0, 2, true, 1)],
+        touches: &[&[0]],
+        needed: 1,
+    };
+    let remade = Seen {
+        components: &[(0, 1, true, 0)],
+        touches: &[&[]],
+        needed: 0,
+    };
+    switched(&rt, rt.alloc(), &rows, &made, b's', true, &remade)?;
+    Ok(())
+}
+
+#[test]
+fn a_closed_switch_joins_two_components(rt: HostRuntime) -> Result<(), Fail> {
+    let rows = Rows {
+        nodes: &[
+            (b'x', true),
+            (b'h', true),
+            (b'y', false),
+            (b'p', false),
+            (b'q', false),
+            (b'r', false),
+            (b's', false),
+        ],
+        switches: &[(b's', b'x', b'h', false)],
+        branches: &[
+            (b'1', b'h', b'p', true),
+            (b'2', b'h', b'q', true),
+            (b'3', b'h', b'r', true),
+            (b'4', b'h', b's', true),
+            (b'5', b'x', b'y', true),
+        ],
+        meters: &[(b'i', Kind::Injection, b'x'), (b'j', Kind::Injection, b'x')],
+        candidates: &[],
+    };
+    let made = Seen {
+        components: &[(0, 2, true, 1), (1, 5, true, 4)],
+        touches: &[&[4], &[4]],
+        needed: 5,
+    };
+    let remade = Seen {
+        components: &[(0, 6, true, 5)],
+        touches: &[&[0, 1, 2, 3, 4], &[0, 1, 2, 3, 4]],
+        needed: 5,
+    };
+    switched(&rt, rt.alloc(), &rows, &made, b's', true, &remade)?;
+    Ok(())
+}

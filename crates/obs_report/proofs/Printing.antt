@@ -1,0 +1,143 @@
+-- Texts that are printed piece by piece.
+use Rattle.std.proofs.Common.{ℕ, ◌≡◌, ◌∙◌, ◌+◌, ◌≤◌, ap, sym, refl, subst, List, [], ◌++◌, length, arith, Option, Some, None, Result, Ok, Err, append_assoc, append-nil, length-append}
+use Rattle.std.specs.Prelude.{IsOk, OnErr}
+use Rattle.obs_io.specs.Bytes.{Writes, Wrote, WrotePart, and_then}
+use Rattle.obs_io.specs.Causes.{Rose, HasCause}
+use Rattle.obs_report.specs.Printed.{Appends, FitsIn, HoldsSince, IsPrinted}
+
+pub and_then_none : (a : Option (List ℕ)) → and_then a [] ≡ a
+and_then_none None = refl
+and_then_none (Some x) = ap Some (append-nil x)
+
+wrote_then : (a b d : Option (List ℕ)) (one two : List ℕ) → Wrote a b one → Wrote b d two → Wrote a d (one ++ two)
+wrote_then None b d one two w v = rw w at v
+wrote_then (Some x) b d one two w v = rw w at v ∙ ap Some (append_assoc x one two)
+
+-- a front of a text is a front of a longer one
+part_longer : (a b : Option (List ℕ)) (text more : List ℕ) → WrotePart a b text → WrotePart a b (text ++ more)
+part_longer a b text more (part, rest, whole, wrote) = (part, rest ++ more, ap (λ t. t ++ more) whole ∙ append_assoc part rest more, wrote)
+
+-- a front that comes behind what was written
+part_behind : (a b d : Option (List ℕ)) (sent text : List ℕ) → Wrote a b sent → WrotePart b d text → WrotePart a d (sent ++ text)
+part_behind a b d sent text w (part, rest, whole, wrote) = (sent ++ part, rest, ap (λ t. sent ++ t) whole ∙ sym (append_assoc sent part rest), wrote_then a b d sent part w wrote)
+
+pub held_failed : (T : Type 0) {E : Type 0} (a b : Option (List ℕ)) (held : List ℕ) (e : E) (front text : List ℕ) → HoldsSince {T = T} a b held (Err e) front → HoldsSince {T = T} a b held (Err e) (front ++ text)
+held_failed T a b held e front text h = part_longer a b front text h
+
+-- more bytes are held
+pub held_more : {T : Type 0} (E : Type 0) (a b : Option (List ℕ)) (held : List ℕ) (x : T) (front bytes : List ℕ) → HoldsSince {E = E} a b held (Ok x) front → HoldsSince {E = E} a b (held ++ bytes) (Ok x) (front ++ bytes)
+held_more E a b held x front bytes (sent, whole, wrote) = (sent, ap (λ t. t ++ bytes) whole ∙ append_assoc sent held bytes, wrote)
+
+-- what is held is sent
+pub held_sent : {T E : Type 0} (a b d : Option (List ℕ)) (held : List ℕ) (x : T) (r : Result T E) (front : List ℕ) → HoldsSince {E = E} a b held (Ok x) front → Writes b d r held → HoldsSince a d [] r front
+held_sent a b d held x (Ok y) front (sent, whole, wrote) writes = (sent ++ held, whole ∙ sym (append-nil (sent ++ held)), wrote_then a b d sent held wrote writes)
+held_sent a b d held x (Err e) front (sent, whole, wrote) writes = subst (WrotePart a d) (sym whole) (part_behind a b d sent held wrote writes)
+
+-- bytes are sent at once, where none is held
+pub held_passed : {T E : Type 0} (a b d : Option (List ℕ)) (held : List ℕ) (x : T) (r : Result T E) (front bytes : List ℕ) → held ≡ [] → HoldsSince {E = E} a b held (Ok x) front → Writes b d r bytes → HoldsSince a d held r (front ++ bytes)
+held_passed a b d held x (Ok y) front bytes none (sent, whole, wrote) writes =
+    let is : front ≡ sent = whole ∙ (ap (λ t. sent ++ t) none ∙ append-nil sent) in
+    (sent ++ bytes, ap (λ t. t ++ bytes) is ∙ (sym (append-nil (sent ++ bytes)) ∙ ap (λ t. (sent ++ bytes) ++ t) (sym none)), wrote_then a b d sent bytes wrote writes)
+held_passed a b d held x (Err e) front bytes none (sent, whole, wrote) writes =
+    let is : front ≡ sent = whole ∙ (ap (λ t. sent ++ t) none ∙ append-nil sent) in
+    subst (λ t. WrotePart a d (t ++ bytes)) (sym is) (part_behind a b d sent bytes wrote writes)
+
+-- one piece and then another
+pub then_printed : {T E : Type 0} {a b d : Option (List ℕ)} {h i j : List ℕ} {f k l : ℕ} {p q o : ℕ → Type 0} {r s t : Result T E} {one two : List ℕ}
+    → IsPrinted a b h i f k p q r s one → IsPrinted b d i j k l q o s t two → IsPrinted a d h j f l p o r t (one ++ two)
+then_printed {T = T} {E = E} {a = a} {b = b} {d = d} {h = h} {i = i} {j = j} {f = f} {k = k} {l = l} {p = p} {q = q} {o = o} {r = r} {s = s} {t = t} {one = one} {two = two} u v = record {
+  written = λ start front held. rw (← append_assoc front one two) (v.written start (front ++ one) (u.written start front held));
+  later = omega (arith, u.later, v.later);
+  cause = causes r s t u.cause v.cause;
+  room = λ ok rest has.
+      let first = u.room ok (length two + rest) (subst p (omega (arith, length-append one two)) has) in
+      v.room first.0 rest first.1;
+}
+  where
+    causes : (r s t : Result T E) → (IsOk r → OnErr s (Rose f k)) → (IsOk s → OnErr t (Rose k l)) → IsOk r → OnErr t (Rose f l)
+    causes r s (Ok y) one two ok = tt
+    causes r (Ok x) (Err e) one two ok = omega (arith, u.later, two refl)
+    causes r (Err d) (Err e) one two ok = omega (arith, v.later, one ok)
+
+-- what is held is sent, and nothing is printed behind it
+pub sent_printed : {T E : Type 0} (x : T) {a b : Option (List ℕ)} {held : List ℕ} {f k : ℕ} {p q : ℕ → Type 0} {r : Result T E}
+    → Writes a b r held → HasCause f k r → FitsIn p q r held → IsPrinted {E = E} a b held [] f k p q (Ok x) r []
+sent_printed {E = E} x {a = a} {b = b} {held = held} {p = p} {q = q} {r = r} writes cause fits = record {
+  written = λ start front h. subst (HoldsSince start b [] r) (sym (append-nil front)) (held_sent start a b held x r front h writes);
+  later = cause.later;
+  cause = λ ok. cause.failed;
+  room = λ ok rest has.
+      let found = fits rest (subst p (omega arith) has) in
+      (found.0, subst q (omega arith) found.1);
+}
+
+-- bytes are sent at once
+pub passed_printed : {T E : Type 0} (x : T) {a b : Option (List ℕ)} {held bytes : List ℕ} {f k : ℕ} {p q : ℕ → Type 0} {r : Result T E}
+    → held ≡ [] → Writes a b r bytes → HasCause f k r → FitsIn p q r bytes → IsPrinted {E = E} a b held held f k p q (Ok x) r bytes
+passed_printed {E = E} x {a = a} {b = b} {held = held} {bytes = bytes} {p = p} {q = q} {r = r} none writes cause fits = record {
+  written = λ start front h. held_passed start a b held x r front bytes none h writes;
+  later = cause.later;
+  cause = λ ok. cause.failed;
+  room = λ ok rest has.
+      let found = fits rest (subst p (omega (arith, ap length none)) has) in
+      (found.0, subst q (omega (arith, ap length none)) found.1);
+}
+
+-- a piece behind pieces
+pub then_line : {T E : Type 0} {a b d : Option (List ℕ)} {h i j : List ℕ} {f k l : ℕ} {p q o : ℕ → Type 0} {r s t : Result T E} {one two text : List ℕ}
+    → IsPrinted a b h i f k p q r s one → IsPrinted b d i j k l q o s t two → one ++ two ≡ text → IsPrinted a d h j f l p o r t text
+then_line {a = a} {d = d} {h = h} {j = j} {f = f} {l = l} {p = p} {o = o} {r = r} {t = t} u v same = subst (λ text. IsPrinted a d h j f l p o r t text) same (then_printed u v)
+
+-- the whole text, from a start at which nothing was held to an end at which nothing is
+pub writes_whole : {T E : Type 0} (x : T) {a b : Option (List ℕ)} {f k : ℕ} {p q : ℕ → Type 0} {r : Result T E} {text : List ℕ} → IsPrinted {E = E} a b [] [] f k p q (Ok x) r text → Writes a b r text
+writes_whole {T = T} {E = E} x {a = a} {b = b} {r = r} {text = text} u = by r (u.written a [] ([], refl, sym (and_then_none a)))
+  where
+    by : (s : Result T E) → HoldsSince a b [] s ([] ++ text) → Writes a b s text
+    by (Ok y) (sent, whole, wrote) = subst (λ t. Wrote a b t) (sym (append-nil sent) ∙ sym whole) wrote
+    by (Err e) part = part
+
+pub cause_whole : {T E : Type 0} (x : T) {a b : Option (List ℕ)} {f k : ℕ} {p q : ℕ → Type 0} {r : Result T E} {text : List ℕ} → IsPrinted {E = E} a b [] [] f k p q (Ok x) r text → HasCause f k r
+cause_whole x u = record { later = u.later; failed = u.cause refl }
+
+pub fits_whole : {T E : Type 0} (x : T) {a b : Option (List ℕ)} {f k : ℕ} {p q : ℕ → Type 0} {r : Result T E} {text : List ℕ} → IsPrinted {E = E} a b [] [] f k p q (Ok x) r text → FitsIn p q r text
+fits_whole x {p = p} {q = q} {text = text} u = λ rest has.
+    let found = u.room refl rest (subst p (omega arith) has) in
+    (found.0, subst q (omega arith) found.1)
+
+-- a call of its own, that began with nothing held and ended with all sent
+pub finished : {T E : Type 0} (x : T) {a b d : Option (List ℕ)} {h i : List ℕ} {f k l : ℕ} {p q o : ℕ → Type 0} {s t : Result T E} {text : List ℕ}
+    → h ≡ [] → IsPrinted {E = E} a b h i f k p q (Ok x) s text → IsPrinted b d i [] k l q o s t [] → Appends a d f l p o t text
+finished x {text = text} none u v =
+    let whole = then_line (rw none at u) v (append-nil text) in
+    record { writes = writes_whole x whole; cause = cause_whole x whole; fits = fits_whole x whole }
+
+-- one call and then another
+pub then_call : {T E : Type 0} {x : T} {a b d : Option (List ℕ)} {f k l : ℕ} {p q o : ℕ → Type 0} {r : Result T E} {one two : List ℕ}
+    → Appends {E = E} a b f k p q (Ok x) one → Appends b d k l q o r two → Appends a d f l p o r (one ++ two)
+then_call {T = T} {E = E} {x = x} {a = a} {b = b} {d = d} {f = f} {k = k} {l = l} {p = p} {q = q} {o = o} {r = r} {one = one} {two = two} u v = record {
+  writes = by r v.writes;
+  cause = record { later = omega (arith, u.cause.later, v.cause.later); failed = causes r v.cause };
+  fits = λ rest has.
+      let first = u.fits (length two + rest) (subst p (omega (arith, length-append one two)) has) in
+      v.fits rest first.1;
+}
+  where
+    by : (s : Result T E) → Writes b d s two → Writes a d s (one ++ two)
+    by (Ok y) wrote = wrote_then a b d one two u.writes wrote
+    by (Err e) part = part_behind a b d one two u.writes part
+
+    causes : (s : Result T E) → HasCause k l s → OnErr s (Rose f l)
+    causes (Ok y) cause = tt
+    causes (Err e) cause = omega (arith, u.cause.later, cause.failed)
+
+-- a call that failed has a front of a longer text too
+pub failed_call : {T E : Type 0} {e : E} {a b : Option (List ℕ)} {f k : ℕ} {p q : ℕ → Type 0} {one : List ℕ} (two : List ℕ)
+    → Appends {T = T} a b f k p q (Err e) one → Appends {T = T} a b f k p q (Err e) (one ++ two)
+failed_call {T = T} {E = E} {e = e} {a = a} {b = b} {p = p} {one = one} two u = record {
+  writes = part_longer a b one two u.writes;
+  cause = u.cause;
+  fits = λ rest has. absurd (no (u.fits (length two + rest) (subst p (omega (arith, length-append one two)) has)).0);
+}
+  where
+    no : IsOk {T = T} {E = E} (Err e) → ⊥
+    no ok = absurd cc

@@ -1,0 +1,43 @@
+-- Lines of printed text: words with one tab between them, and a line feed at the end.
+use Rattle.std.specs.Prelude.{ℕ, Bool, List, [], ◌∷◌, ◌++◌, codes, decimal, if◌then◌else◌}
+
+-- the byte between two words, and the byte that ends a line
+abbrev pub tab : ℕ
+tab = 0x09
+
+abbrev pub line_feed : ℕ
+line_feed = 0x0A
+
+-- each word with a tab before it
+abbrev pub tabbed : List (List ℕ) → List ℕ
+tabbed [] = []
+tabbed (word ∷ words) = tab ∷ (word ++ tabbed words)
+
+-- the line of some words
+abbrev pub line_of : List (List ℕ) → List ℕ
+line_of [] = line_feed ∷ []
+line_of (word ∷ words) = word ++ (tabbed words ++ (line_feed ∷ []))
+
+-- a word of a line, with a tab before it where it isn't the first
+abbrev pub word_text : Bool → List ℕ → List ℕ
+word_text first word = if first then word else tab ∷ word
+
+-- a number of a line
+abbrev pub number_text : ℕ → List ℕ
+number_text n = tab ∷ decimal n
+
+-- the end of a line
+abbrev pub end_text : List ℕ
+end_text = line_feed ∷ []
+
+-- the line of a number of something
+abbrev pub count_line : List ℕ → ℕ → List ℕ
+count_line what n = line_of (codes "count" ∷ what ∷ decimal n ∷ [])
+
+-- the line on a fault in an input: the part of the input, the place in it, the fault's code and its name
+abbrev pub fault_line : List ℕ → ℕ → ℕ → List ℕ → List ℕ
+fault_line part place code name = line_of (codes "fault" ∷ part ∷ decimal place ∷ decimal code ∷ name ∷ [])
+
+-- the line that ends an answer
+abbrev pub last_line : List ℕ
+last_line = line_of (codes "end" ∷ [])

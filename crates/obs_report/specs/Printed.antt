@@ -1,0 +1,27 @@
+-- Texts that are printed piece by piece into a sink, some of whose last bytes may be held back for a while.
+use Rattle.std.specs.Prelude.{ℕ, ◌≡◌, ◌≤◌, ◌+◌, List, ◌++◌, length, Option, Result, Ok, Err, IsOk, OnErr}
+use Rattle.obs_io.specs.Bytes.{Writes, Wrote, WrotePart}
+use Rattle.obs_io.specs.Causes.{HasCause, Rose}
+
+-- room for a text and for some bytes more lets the text be printed, and leaves the room for those
+abbrev pub FitsIn : {T E : Type 0} → (ℕ → Type 0) → (ℕ → Type 0) → Result T E → List ℕ → Type 0
+FitsIn room_before room_after result text = (rest : ℕ) → room_before (length text + rest) → IsOk result × room_after rest
+
+-- since some start this text was printed, but for its last bytes, which are held back; or printing failed behind a front of it
+abbrev pub HoldsSince : {T E : Type 0} → Option (List ℕ) → Option (List ℕ) → List ℕ → Result T E → List ℕ → Type 0
+HoldsSince start written held (Ok x) text = (sent : List ℕ) × (text ≡ sent ++ held) × Wrote start written sent
+HoldsSince start written held (Err e) text = WrotePart start written text
+
+-- what one piece more does, after pieces whose result was so_far: whatever was printed since some start, this text
+-- stands behind it; a failure is new only where the count of faults rose, and doesn't come while there is room
+pub record IsPrinted {T U E F : Type 0} (before after : Option (List ℕ)) (held_before held_after : List ℕ) (faults_before faults_after : ℕ) (room_before room_after : ℕ → Type 0) (so_far : Result T E) (result : Result U F) (text : List ℕ) : Type 0 where
+  pub written : (start : Option (List ℕ)) (front : List ℕ) → HoldsSince start before held_before so_far front → HoldsSince start after held_after result (front ++ text)
+  pub later : faults_before ≤ faults_after
+  pub cause : IsOk so_far → OnErr result (Rose faults_before faults_after)
+  pub room : IsOk so_far → (rest : ℕ) → room_before (length held_before + (length text + rest)) → IsOk result × room_after (length held_after + rest)
+
+-- a call appends this text to a sink, or fails behind a front of it, and then only where the count of faults rose
+pub record Appends {T E : Type 0} (before after : Option (List ℕ)) (faults_before faults_after : ℕ) (room_before room_after : ℕ → Type 0) (result : Result T E) (text : List ℕ) : Type 0 where
+  pub writes : Writes before after result text
+  pub cause : HasCause faults_before faults_after result
+  pub fits : FitsIn room_before room_after result text

@@ -1,0 +1,13 @@
+//! The printed text: lines of words, appended to a sink.
+#![tactic(auto)]
+
+mod gathered;
+mod lines;
+mod nodes;
+#[cfg(test)]
+mod tests;
+mod words;
+
+pub use lines::{print_count, print_fault, print_last_line};
+pub use nodes::print_nodes;
+pub use words::{print_end, print_number, print_word};

@@ -1,0 +1,3 @@
+pub mod FirstNodes
+pub mod Lowering
+pub mod Grouping

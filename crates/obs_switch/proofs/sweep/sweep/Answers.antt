@@ -1,0 +1,6 @@
+use Rattle.std.proofs.Common.{arith}
+use Rattle.obs_switch.proofs.FirstNodes.{first_node-link}
+use Rattle.obs_switch.proofs.sweep.sweep.Goals as goal
+
+pub level-requires-clause-one_bus : goal.level-requires-clause-one_bus
+level-requires-clause-one_bus c = first_node-link c.args.links.now c.loop-link.link-index _ (omega arith)

@@ -1,0 +1,4 @@
+pub mod Buses
+pub mod Labels
+pub mod Groups
+pub mod Held

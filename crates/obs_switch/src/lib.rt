@@ -1,0 +1,15 @@
+//! Buses: the classes of nodes that closed switches join.
+#![tactic(auto)]
+
+mod group;
+mod labels;
+pub mod laws;
+mod link;
+mod number;
+mod rebuild;
+mod sweep;
+#[cfg(test)]
+mod tests;
+
+pub use labels::{Buses, NoMemory};
+pub use link::Link;

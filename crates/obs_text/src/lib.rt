@@ -1,0 +1,19 @@
+//! Names, numbers and lines in bytes. Nothing here takes memory.
+#![tactic(auto)]
+
+mod digits;
+mod line_iter;
+mod names;
+mod numbers;
+mod parts;
+mod split;
+
+pub use digits::Digits;
+pub use line_iter::Lines;
+pub use names::name_of;
+pub use numbers::whole;
+pub use parts::{bare, columns};
+pub use split::lines;
+
+#[cfg(test)]
+mod tests;
