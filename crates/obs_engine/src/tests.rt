@@ -130,35 +130,26 @@ fn many_nodes(alloc: Global, rows: u32) -> Result<Vec<u8>, Fail> {
     Ok(bytes)
 }
 
+// A run over a node table of so many rows, and no switches.
+fn outcome_of_rows(alloc: Global, rows: u32) -> Result<Ended, Fail> {
+    let nodes = many_nodes(alloc, rows)?;
+    let switches = b"switch,from,to,closed\n".as_slice();
+    outcome(alloc, &TOPOLOGY, &[nodes.as_slice(), switches], &[], &[])
+}
+
 #[test]
 fn a_table_has_at_most_20000_rows(rt: HostRuntime) -> Result<(), Fail> {
-    let switches = b"switch,from,to,closed\n".as_slice();
-    let some = many_nodes(rt.alloc(), 300)?;
-    let answered = outcome(
-        rt.alloc(),
-        &TOPOLOGY,
-        &[some.as_slice(), switches],
-        &[],
-        &[],
-    )?;
-    assert!(rt; answered.status == Status::Done);
-    assert!(rt; answered.text.starts_with(b"node\tn0\tn0\nnode\tn1\tn1\n"));
+    let some = outcome_of_rows(rt.alloc(), 300)?;
+    assert!(rt; some.status == Status::Done);
+    assert!(rt; some.text.starts_with(b"node\tn0\tn0\nnode\tn1\tn1\n"));
     assert!(rt;
-        answered
-            .text
+        some.text
             .ends_with(b"node\tn299\tn299\ncount\tbuses\t300\nend\n")
     );
-    let nodes = many_nodes(rt.alloc(), 20001)?;
-    let found = outcome(
-        rt.alloc(),
-        &TOPOLOGY,
-        &[nodes.as_slice(), switches],
-        &[],
-        &[],
-    )?;
-    assert!(rt; found.status == Status::InputFault);
+    let many = outcome_of_rows(rt.alloc(), 20001)?;
+    assert!(rt; many.status == Status::InputFault);
     assert_eq!(rt;
-        found.text.as_slice(),
+        many.text.as_slice(),
         b"fault\tnodes\t20001\t12\tTooMany\n".as_slice()
     );
     Ok(())
