@@ -124,6 +124,7 @@ impl Network {
     /// The buses of the case.
     pub fn buses(&self) -> &Buses
         ensures buses { result.now ≡ self.now.buses }
+        ensures components { length self.now.components.of_buses ≡ result.now.count }
     {
         &self.buses
     }

@@ -198,7 +198,7 @@ fn touches_of_a_path(rt: HostRuntime) -> Result<(), Fail> {
     Ok(())
 }
 
-// With switches 1 and 2 closed and 3 open, a, b and c are one bus; without 1, a is a bus of its own.
+// With switches 1 and 2 closed a, b and c are one bus, whether 3 is closed too or open; without 1, a is a bus of its own.
 #[test]
 fn an_opened_switch_parts_a_bus(rt: HostRuntime) -> Result<(), Fail> {
     let rows = Rows {
@@ -222,6 +222,7 @@ fn an_opened_switch_parts_a_bus(rt: HostRuntime) -> Result<(), Fail> {
         touches: &[],
         needed: 0,
     };
+    switched(&rt, rt.alloc(), &rows, &made, b'3', true, &made)?;
     switched(&rt, rt.alloc(), &rows, &made, b'1', false, &remade)?;
     Ok(())
 }
@@ -269,17 +270,24 @@ fn a_closed_switch_joins_two_components(rt: HostRuntime) -> Result<(), Fail> {
             (b'4', b'h', b's', true),
             (b'5', b'x', b'y', true),
         ],
-        meters: &[(b'i', Kind::Injection, b'x'), (b'j', Kind::Injection, b'x')],
+        meters: &[
+            (b'1', Kind::Injection, b'x'),
+            (b'2', Kind::Injection, b'x'),
+            (b'3', Kind::Injection, b'x'),
+            (b'4', Kind::Injection, b'x'),
+            (b'5', Kind::Injection, b'x'),
+        ],
         candidates: &[],
     };
     let made = Seen {
         components: &[(0, 2, true, 1), (1, 5, true, 4)],
-        touches: &[&[4], &[4]],
+        touches: &[&[4], &[4], &[4], &[4], &[4]],
         needed: 5,
     };
+    let all: &[u32] = &[0, 1, 2, 3, 4];
     let remade = Seen {
         components: &[(0, 6, true, 5)],
-        touches: &[&[0, 1, 2, 3, 4], &[0, 1, 2, 3, 4]],
+        touches: &[all, all, all, all, all],
         needed: 5,
     };
     switched(&rt, rt.alloc(), &rows, &made, b's', true, &remade)?;

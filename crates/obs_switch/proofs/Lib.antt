@@ -1,3 +1,4 @@
 pub mod FirstNodes
 pub mod Lowering
 pub mod Grouping
+pub mod Jumping

@@ -12,6 +12,10 @@ pub record AreLabels (links : List Link) (labels : List ℕ) : Type 0 where
 abbrev pub AreSettled : List Link → List ℕ → Type 0
 AreSettled links labels = All (λ l. slice_index labels l.from ≡ slice_index labels l.to) links
 
+-- each label is its own label
+abbrev pub AreOwn : List ℕ → Type 0
+AreOwn labels = (u : ℕ) → u < length labels → slice_index labels (slice_index labels u) ≡ slice_index labels u
+
 -- labels stay labels when they are lowered; where none was, nothing changed
 pub record AreLowered (links : List Link) (old new : List ℕ) (lowered : Bool) : Type 0 where
   pub labels : AreLabels links new

@@ -1,7 +1,7 @@
 // Labels that are lowered, sweep by sweep, until a whole sweep changes nothing.
 ghost use Rattle.std.specs.Prelude.{◌≡◌, ◌<◌, ◌≤◌, ◌+◌, ◌^◌, true, false, length, sum_by, slice_index, ℕ};
 ghost use Rattle.obs_switch.specs.Buses.{first_node, LinksBelow};
-ghost use Rattle.obs_switch.specs.Labels.{AreLabels, AreLowered, AreSettled};
+ghost use Rattle.obs_switch.specs.Labels.{AreLabels, AreLowered, AreOwn, AreSettled};
 
 use crate::link::Link;
 
@@ -75,6 +75,25 @@ fn sweep_back(labels: &mut [u32], links: &[Link]) -> bool
     changed
 }
 
+// Gives each node the label of its label, from the first node to the last, so that each label is its own, and
+// says whether a label changed.
+fn jump(labels: &mut [u32], links: &[Link]) -> bool
+    requires labels { AreLabels links.now labels.old }
+    ensures lowered { AreLowered links.now labels.old labels.new result }
+    ensures own { AreOwn labels.new }
+{
+    let _links = links.len();
+    let mut changed = false;
+    for node in 0..labels.len() {
+        let label = labels[labels[node] as usize];
+        if label < labels[node] {
+            labels[node] = label;
+            changed = true;
+        }
+    }
+    changed
+}
+
 // Makes each node its own label.
 fn begin(labels: &mut [u32])
     requires few { length labels.old < 2 ^ 32 }
@@ -86,7 +105,7 @@ fn begin(labels: &mut [u32])
 }
 
 /// Finds the first node of each node's bus. The sweeps go forth and back, so that chains of links in
-/// either order settle at once.
+/// either order settle at once, and labels jump after each sweep, so that those in no order settle soon.
 pub(crate) fn settle(labels: &mut [u32], links: &[Link])
     requires few { length labels.old < 2 ^ 32 }
     requires ends { LinksBelow (length labels.old) links.now }
@@ -97,6 +116,8 @@ pub(crate) fn settle(labels: &mut [u32], links: &[Link])
         if !sweep(labels, links) {
             return;
         }
+        jump(labels, links);
         sweep_back(labels, links);
+        jump(labels, links);
     }
 }

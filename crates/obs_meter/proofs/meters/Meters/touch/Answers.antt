@@ -6,4 +6,4 @@ use Rattle.obs_meter.proofs.meters.Meters.touch.Goals as goal
 
 pub returns-in-Star-clause-positions : goal.returns-in-Star-clause-positions
 returns-in-Star-clause-positions c =
-    subst (λ (t : List ℕ). All (λ e. e < length c.args.g.now.ends) t) (sym c.branches_at.ensures.branches) (touched-below c.args.g.now.ends (Star c.in-Star.v))
+    subst (λ (t : List ℕ). All (λ e. e < length c.args.g.now.ends) t) (sym c.branches_at.ensures.branches) (touched-below c.args.g.now.ends (Star _))
