@@ -1,0 +1,11 @@
+-- Lists of critical meters.
+use Rattle.std.specs.Prelude.{ℕ, ◌&&◌, Bool, is_some, not}
+use Rattle.obs_assign.specs.Assigned.{Assigned, branch_at}
+
+-- for how many meters there is room
+pub record Listing : Type 0 where
+  pub most_meters : ℕ
+
+-- whether the meter has a pair and the marks don't have it
+abbrev pub is_unmarked_pair : Assigned → (ℕ → Bool) → ℕ → Bool
+is_unmarked_pair a marks m = is_some (branch_at a m) && not (marks m)

@@ -1,0 +1,10 @@
+//! Critical meters: those without which the greatest length of an assignment falls.
+#![tactic(auto)]
+
+mod critical_meters;
+mod memory;
+#[cfg(test)]
+mod tests;
+
+pub use critical_meters::{CriticalWork, critical};
+pub use memory::NoMemory;

@@ -1,0 +1,227 @@
+-- The queue of a search, as the theory has it, and the closed set that a search without an end leaves.
+use Rattle.std.proofs.Common.{◌≡◌, ℕ, ◌<◌, ◌≤◌, Bool, true, false, ◌==◌, ◌&&◌, Option, Some, None, List, length, take, refl, sym, ap, ◌∙◌, subst, inl, inr, arith, eq-eqb}
+use Rattle.std.specs.Prelude.{MatchOption}
+use Rattle.std.proofs.lemmas.Bool.{cases_lt, cases_Bool, eqb-true, and_parts, and_from}
+use Rattle.std.proofs.lemmas.List.{get_or_past, get_or-take, length-take-le}
+use Rattle.obs_graph.specs.declared.Ends.{Ends}
+use Rattle.obs_graph.specs.Positions.{AreBranches}
+use Rattle.obs_graph.specs.Shape.{Shape}
+use Rattle.obs_graph.proofs.Counts.{count_below-le-n}
+use Rattle.obs_matroid.specs.Lists.{In}
+use Rattle.obs_matroid.specs.Assignments.{Pair, items, others}
+use Rattle.obs_matroid.specs.Closed.{HoldsSources, IsClosed, IsLeastClosed}
+use Rattle.obs_matroid.proofs.Closed.{closed_adds_none}
+use Rattle.obs_matroid.proofs.Queue.{IsQueue, queue_closed}
+use Rattle.obs_meter.specs.declared.Touch.{Touch}
+use Rattle.obs_meter.specs.declared.Touch.TheVariants.{Nothing}
+use Rattle.obs_meter.specs.Spanned.{graph_matroid}
+use Rattle.obs_meter.specs.Touches.{every_item, is_live, touch_at}
+use Rattle.obs_meter.proofs.Assigned.{to_matroid}
+use Rattle.obs_meter.proofs.Instance.{IsMatroid-graph}
+use Rattle.obs_meter.proofs.Touched.{live-from_In}
+use Rattle.obs_assign.specs.declared.Move.{Move}
+use Rattle.obs_assign.specs.Assigned.{Assigned, IsWhole, StandsOver, branch_at, has_flag, is_frozen, pairs}
+use Rattle.obs_assign.specs.Pins.{joins}
+use Rattle.obs_assign.proofs.Slotted.{item_slot, none_some, slot_item}
+use Rattle.obs_assign.proofs.Standing.{In-every, IsAssignmentAt-standing}
+use Rattle.obs_exchange.specs.declared.Sources.{Sources}
+use Rattle.obs_exchange.specs.declared.Sources.TheVariants.{All, One}
+use Rattle.obs_exchange.specs.Closed.{HoldsSourcesAt, IsClosedAt, IsLeastClosedAt, IsSource}
+use Rattle.obs_exchange.specs.Found.{AddsSource, HasClosed}
+use Rattle.obs_exchange.specs.Searching.{AreMarked, IsParent, IsSearching, end_of, parent_at, place_in}
+use Rattle.obs_exchange.proofs.Beginning.{source_bare}
+use Rattle.obs_exchange.proofs.Queued.{has_pair}
+
+-- whether a meter without a pair is a source
+abbrev pub source_test : List (Option Ends) → List Touch → Sources → ℕ → Bool
+source_test ends touches All m = is_live ends touches m
+source_test ends touches (One k) m = (m == k) && is_live ends touches m
+
+pub source_passes : (ends : List (Option Ends)) (touches : List Touch) (from : Sources) (a : Assigned) (m : ℕ) → IsSource ends touches from a m → source_test ends touches from m ≡ true
+source_passes ends touches All a m s = s.0
+source_passes ends touches (One k) a m s = and_from (m == k) (is_live ends touches m) (eq-eqb m k s.0) s.1
+
+pub source_from : (ends : List (Option Ends)) (touches : List Touch) (from : Sources) (a : Assigned) (m : ℕ) → source_test ends touches from m ≡ true → branch_at a m ≡ None → IsSource ends touches from a m
+source_from ends touches All a m t b = (t, b)
+source_from ends touches (One k) a m t b = let p = and_parts (m == k) (is_live ends touches m) t in (eqb-true m k p.0, p.1, b)
+
+pub source_live : (ends : List (Option Ends)) (touches : List Touch) (from : Sources) (a : Assigned) (m : ℕ) → IsSource ends touches from a m → is_live ends touches m ≡ true
+source_live ends touches All a m s = s.0
+source_live ends touches (One k) a m s = s.1
+
+slot_none : (o : Option ℕ) → ((e : ℕ) → o ≡ Some e → ⊥) → o ≡ None
+slot_none None h = refl
+slot_none (Some e) h = absurd (h e refl)
+
+pub bare_slot : (a : Assigned) (m : ℕ) → (In m (items (pairs a)) → ⊥) → branch_at a m ≡ None
+bare_slot a m out = slot_none (branch_at a m) (λ e h. out (slot_item a.slots m e h))
+
+pub bare_item : (a : Assigned) (m : ℕ) → branch_at a m ≡ None → In m (items (pairs a)) → ⊥
+bare_item a m b i = let h = item_slot a.slots m i in none_some h.0 (sym b ∙ h.1)
+
+-- a live meter is one of the list
+live_low : (ends : List (Option Ends)) (touches : List Touch) (m : ℕ) → is_live ends touches m ≡ true → m < length touches
+live_low ends touches m t = elim (cases_lt m (length touches)) [
+  | inl l ↦ l
+  | inr l ↦ absurd (none_live ends touches m l t)
+]
+  where
+    none_live : (ends : List (Option Ends)) (touches : List Touch) (m : ℕ) → length touches ≤ m → is_live ends touches m ≡ true → ⊥
+    none_live ends touches m l t = let e = get_or_past touches m Nothing l in cc (rw e at t)
+
+-- the sources that were looked at are all
+pub all_marked : (ends : List (Option Ends)) (touches : List Touch) (from : Sources) (a : Assigned) (marks : List Bool)
+    → AreMarked ends touches from a marks (end_of from (length touches)) → HoldsSourcesAt ends touches from a (has_flag marks)
+all_marked ends touches All a marks h m s = h m (omega arith) (live_low ends touches m s.0) s
+all_marked ends touches (One k) a marks h m s = let e = s.0 in h m (omega (arith, e)) (omega (arith, e)) s
+
+abbrev pub root_of : Option Move → Bool
+root_of None = true
+root_of (Some p) = false
+
+abbrev pub pair_or : Option Move → Pair
+pair_or None = (0, 0)
+pair_or (Some p) = (p.meter, p.branch)
+
+-- whether a meter was reached by no other, and else by which move
+unfoldable pub root_at : List (Option Move) → ℕ → Bool
+root_at parents x = root_of (parent_at parents x)
+
+unfoldable pub pair_at : List (Option Move) → ℕ → Pair
+pair_at parents x = pair_or (parent_at parents x)
+
+pub root_none : (parents : List (Option Move)) (x : ℕ) → parent_at parents x ≡ None → root_at parents x ≡ true
+unfolding root_at
+root_none parents x e = ap root_of e
+
+pub root_some : (parents : List (Option Move)) (x : ℕ) (p : Move) → parent_at parents x ≡ Some p → root_at parents x ≡ false
+unfolding root_at
+root_some parents x p e = ap root_of e
+
+pub pair_some : (parents : List (Option Move)) (x : ℕ) (p : Move) → parent_at parents x ≡ Some p → pair_at parents x ≡ (p.meter, p.branch)
+unfolding pair_at
+pair_some parents x p e = ap pair_or e
+
+is_root : (o : Option Move) → root_of o ≡ true → o ≡ None
+is_root None t = refl
+is_root (Some p) t = absurd (cc t)
+
+is_led : (o : Option Move) → root_of o ≡ false → (p : Move) × (o ≡ Some p)
+is_led None t = absurd (cc t)
+is_led (Some p) t = (p, refl)
+
+pub from_root : (parents : List (Option Move)) (x : ℕ) → root_at parents x ≡ true → parent_at parents x ≡ None
+unfolding root_at
+from_root parents x t = is_root (parent_at parents x) t
+
+pub from_led : (parents : List (Option Move)) (x : ℕ) → root_at parents x ≡ false → (p : Move) × (parent_at parents x ≡ Some p)
+unfolding root_at
+from_led parents x t = is_led (parent_at parents x) t
+
+module _ (g : Shape) (touches : List Touch) (from : Sources) (a : Assigned)
+    (marks : List Bool) (parents : List (Option Move)) (queue : List ℕ) (tail head : ℕ) (walked : List Bool)
+    (s : IsSearching g.ends touches from a marks parents queue tail head walked) where
+  -- the entries of the queue are meters
+  pub tail_low : tail ≤ length touches
+  tail_low = let f = s.few in let m = count_below-le-n (has_flag marks) (length touches) in omega (arith, f, m)
+
+  pub origin_source : (x : ℕ) → has_flag marks x ≡ true → parent_at parents x ≡ None → IsSource g.ends touches from a x
+  origin_source x t e = subst (λ r. MatchOption r (IsSource g.ends touches from a x) (λ p. IsParent g.ends touches a marks (place_in queue tail) head x p)) e (s.origins x t)
+
+  pub origin_parent : (x : ℕ) (p : Move) → has_flag marks x ≡ true → parent_at parents x ≡ Some p → IsParent g.ends touches a marks (place_in queue tail) head x p
+  origin_parent x p t e = subst (λ r. MatchOption r (IsSource g.ends touches from a x) (λ p. IsParent g.ends touches a marks (place_in queue tail) head x p)) e (s.origins x t)
+
+  pub IsQueue-search : IsQueue (graph_matroid g.vertices g.ends) (touch_at g.ends touches) (every_item touches) (is_frozen a) (source_test g.ends touches from) (pairs a)
+      (has_flag marks) (root_at parents) (pair_at parents) (place_in queue tail)
+  IsQueue-search = record {
+    inside = λ x t. (In-every touches x (s.low x t), s.thawed x t);
+    roots = λ x t r.
+        let o = origin_source x t (from_root parents x r) in
+        record { of_items = In-every touches x (s.low x t); is_source = source_passes g.ends touches from a x o; bare = bare_item a x (source_bare g.ends touches from a x o) };
+    led = λ x t r.
+        let p = from_led parents x r in
+        let e : pair_at parents x ≡ (p.0.meter, p.0.branch) = pair_some parents x p.0 p.1 in
+        let k = origin_parent x p.0 t p.1 in
+        record { earlier = rw e k.marked; before = rw e k.before; touched = rw e k.touched; spanned = rw e k.needed.joined; on_circuit = rw e k.needed.apart };
+    in_order = λ x y tx rx ty ry n.
+        let p = from_led parents x rx in
+        let q = from_led parents y ry in
+        let d : pair_at parents x ≡ (p.0.meter, p.0.branch) = pair_some parents x p.0 p.1 in
+        let e : pair_at parents y ≡ (q.0.meter, q.0.branch) = pair_some parents y q.0 q.1 in
+        let k : joins g.ends (others (pairs a) x) q.0.branch ≡ false = rw e at n in
+        rw (d, e) (s.in_order x y p.0 q.0 tx p.1 ty q.1 k);
+  }
+
+  -- a marked meter is live
+  pub marked_live : StandsOver a g touches → (x : ℕ) → has_flag marks x ≡ true → is_live g.ends touches x ≡ true
+  marked_live stands x t = elim (cases_Bool (root_at parents x)) [
+    | inl r ↦ source_live g.ends touches from a x (origin_source x t (from_root parents x r))
+    | inr n ↦
+        let p = from_led parents x n in
+        let k = (origin_parent x p.0 t p.1).needed in
+        let b = item_slot a.slots x (has_pair g.ends (pairs a) x p.0.branch k.joined k.apart) in
+        live-from_In g.ends touches x b.0 (stands.touched x b.0 b.1)
+  ]
+
+module _ (g : Shape) (touches : List Touch) (from : Sources) (a : Assigned) (ok : AreBranches g.vertices g.ends) (whole : IsWhole a) (stands : StandsOver a g touches) where
+  to_closed : (S : ℕ → Bool) → IsClosedAt g.ends touches a S → IsClosed (graph_matroid g.vertices g.ends) (touch_at g.ends touches) (every_item touches) (is_frozen a) (pairs a) S
+  to_closed S c = record { spanned = λ m e i t k. c.joined m e t k }
+
+  to_holds : (S : ℕ → Bool) → HoldsSourcesAt g.ends touches from a S → HoldsSources (every_item touches) (source_test g.ends touches from) (pairs a) S
+  to_holds S h m i t out = h m (source_from g.ends touches from a m t (bare_slot a m out))
+
+  -- a least closed set shows that no assignment adds a source
+  pub adds_none : (S : ℕ → Bool) → IsLeastClosedAt g.ends touches from a S → (B : List Pair) → AddsSource g.ends touches from a B → ⊥
+  adds_none S c B b = closed_adds_none (graph_matroid g.vertices g.ends) (IsMatroid-graph g.vertices g.ends ok) (touch_at g.ends touches) (every_item touches) (is_frozen a) (pairs a) B S
+      (to_matroid g.vertices g.ends touches (every_item touches) (pairs a) (IsAssignmentAt-standing a g touches whole stands))
+      (to_matroid g.vertices g.ends touches (every_item touches) B b.assigns) whole.paired.frozen_have b.extends (to_closed S c.closed) b.keeps b.source (c.holds b.source b.is_source)
+      (bare_item a b.source (source_bare g.ends touches from a b.source b.is_source)) b.adds
+
+  module _ (marks : List Bool) (parents : List (Option Move)) (queue : List ℕ) (tail : ℕ) (walked : List Bool)
+      (s : IsSearching g.ends touches from a marks parents queue tail tail walked) (holds : HoldsSourcesAt g.ends touches from a (has_flag marks)) where
+    walked_all : (m e : ℕ) → has_flag marks m ≡ true → In e (touch_at g.ends touches m) → has_flag walked e ≡ true
+    walked_all m e t i = let p = s.placed m t in s.looked (place_in queue tail m) e p.0 (rw p.1 i)
+
+    least : IsLeastClosed (graph_matroid g.vertices g.ends) (touch_at g.ends touches) (every_item touches) (is_frozen a) (source_test g.ends touches from) (pairs a) (has_flag marks)
+    least = queue_closed (graph_matroid g.vertices g.ends) (touch_at g.ends touches) (every_item touches) (is_frozen a) (source_test g.ends touches from) (pairs a)
+        (has_flag marks) (root_at parents) (pair_at parents) (place_in queue tail) (IsQueue-search g touches from a marks parents queue tail tail walked s)
+        (IsMatroid-graph g.vertices g.ends ok) (to_matroid g.vertices g.ends touches (every_item touches) (pairs a) (IsAssignmentAt-standing a g touches whole stands)) whole.paired.frozen_have
+        (to_holds (has_flag marks) holds)
+        (λ m t e i. (s.walks e (walked_all m e t i)).joined)
+        (λ m t e i x j n f. (s.walks e (walked_all m e t i)).marked x j n f)
+
+    least_marked : IsLeastClosedAt g.ends touches from a (has_flag marks)
+    least_marked = let l = least in record {
+      closed = record {
+        live = λ m t. marked_live g touches from a marks parents queue tail tail walked s stands m t;
+        joined = λ m e t i. l.closed.spanned m e (In-every touches m (s.low m t)) t i;
+      };
+      holds = holds;
+      least = λ T c h m t. l.least T (to_closed T c) (to_holds T h) m t;
+    }
+
+    flag_taken : (m : ℕ) → has_flag marks m ≡ has_flag (take (length touches) marks) m
+    flag_taken m = elim (cases_lt m (length touches)) [
+      | inl l ↦ sym (get_or-take (length touches) marks m false l)
+      | inr l ↦ elim (cases_Bool (has_flag marks m)) [
+        | inl t ↦ let k = s.low m t in absurd (omega (arith, k, l))
+        | inr f ↦ f ∙ sym (get_or_past (take (length touches) marks) m false (let e = length-take-le (length touches) marks s.marks_len in omega (arith, e, l)))
+      ]
+    ]
+
+    -- the flags of the meters are the least closed set
+    pub IsLeastClosedAt-search : IsLeastClosedAt g.ends touches from a (has_flag (take (length touches) marks))
+    IsLeastClosedAt-search = let same : has_flag marks ≡ has_flag (take (length touches) marks) = λ i m. flag_taken m i in
+        subst (λ S. IsLeastClosedAt g.ends touches from a S) same least_marked
+
+-- the flags of a closed search
+pub HasClosed-flags : (g : Shape) (touches : List Touch) (from : Sources) (a : Assigned) → AreBranches g.vertices g.ends → IsWhole a → StandsOver a g touches
+    → (marks : List Bool) (n : ℕ) → n ≡ length touches → length touches ≤ length marks
+    → IsLeastClosedAt g.ends touches from a (has_flag (take (length touches) marks)) → HasClosed g.ends touches from a a (take n marks)
+HasClosed-flags g touches from a ok whole stands marks n is l least =
+    subst (λ k. HasClosed g.ends touches from a a (take k marks)) (sym is) (record {
+      same = refl;
+      flags = length-take-le (length touches) marks l;
+      least = least;
+      none = adds_none g touches from a ok whole stands (has_flag (take (length touches) marks)) least;
+    })

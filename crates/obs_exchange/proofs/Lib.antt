@@ -1,0 +1,9 @@
+pub mod Queued
+pub mod Walking
+pub mod Beginning
+pub mod Closing
+pub mod Tracing
+pub mod Visiting
+pub mod Growing
+pub mod AtGraph
+pub mod Lawful

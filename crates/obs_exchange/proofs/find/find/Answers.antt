@@ -1,0 +1,18 @@
+use Rattle.std.proofs.Common.{◌-◌, length, sym, subst, arith}
+use Rattle.obs_exchange.specs.Searching.{IsReady}
+use Rattle.obs_exchange.proofs.Closing.{IsLeastClosedAt-search, all_marked}
+use Rattle.obs_exchange.proofs.Growing.{IsReady-one}
+use Rattle.obs_exchange.proofs.Tracing.{drop_last}
+use Rattle.obs_exchange.proofs.find.find.Goals as goal
+
+pub returns-in-Some-clause-found : goal.returns-in-Some-clause-found
+returns-in-Some-clause-found c = let r = c.requires in let f = c.in-Some.ensures.free in let low = f.0 in
+    subst (IsReady c.args.g.now.ends c.args.ms.now.touches c.args.from c.args.a.now)
+    (sym (drop_last c.args.path.now (length c.args.path.now - 1) c.in-Some.x (omega (arith, low, r.path))))
+    (IsReady-one c.args.a.now c.args.g.now c.args.ms.now.touches c.args.from c.in-Some.x c.vertices.ensures.branches c.length.ensures.whole r.stands f.0 f.1 f.2)
+
+pub returns-in-None-clause-found : goal.returns-in-None-clause-found
+returns-in-None-clause-found c =
+    IsLeastClosedAt-search c.args.g.now c.args.ms.now.touches c.args.from c.args.a.now c.vertices.ensures.branches c.length.ensures.whole c.requires.stands
+    c.spread.new.marks c.spread.new.parents c.spread.new.queue c.spread.new.tail c.spread.new.walked c.in-None.ensures.found
+    (λ m s. c.spread.ensures.keeps m (all_marked c.args.g.now.ends c.args.ms.now.touches c.args.from c.args.a.now c.begin.new.marks c.begin.ensures.marked m s))

@@ -1,0 +1,72 @@
+-- What a search finds: one pair more, or a closed set that shows that there is none.
+use Rattle.std.specs.Prelude.{◌≡◌, ◌≢◌, ℕ, ◌+◌, ◌<◌, ◌≤◌, Bool, true, Option, None, List, length}
+use Rattle.obs_graph.specs.declared.Ends.{Ends}
+use Rattle.obs_graph.specs.Shape.{Shape}
+use Rattle.obs_matroid.specs.Lists.{In}
+use Rattle.obs_matroid.specs.Assignments.{Pair, items}
+use Rattle.obs_matroid.specs.Closed.{Extends}
+use Rattle.obs_meter.specs.declared.Touch.{Touch}
+use Rattle.obs_meter.specs.Assignments.{IsAssignmentAt}
+use Rattle.obs_meter.specs.Touches.{every_item}
+use Rattle.obs_assign.specs.Assigned.{Assigned, branch_at, has_flag, is_frozen, pairs}
+use Rattle.obs_assign.specs.Moves.{turned}
+use Rattle.obs_exchange.specs.declared.Found.{Found}
+use Rattle.obs_exchange.specs.declared.Found.TheVariants.{Grown, Closed}
+use Rattle.obs_exchange.specs.declared.Sources.{Sources}
+use Rattle.obs_exchange.specs.declared.Sources.TheVariants.{All, One}
+use Rattle.obs_exchange.specs.Closed.{IsLeastClosedAt, IsSource}
+
+-- the one meter that is asked for is one that has no pair
+abbrev pub CanBegin : Sources → Assigned → Type 0
+CanBegin All a = Unit {0}
+CanBegin (One m) a = (m < length a.slots) × (branch_at a m ≡ None)
+
+-- a grew to b by one pair: the source m has a pair now, no meter lost its pair, and the frozen pairs are as before
+pub record HasGrown (ends : List (Option Ends)) (touches : List Touch) (from : Sources) (a b : Assigned) (m : ℕ) : Type 0 where
+  pub source : IsSource ends touches from a m
+  pub gains : branch_at b m ≢ None
+  pub keeps : (x : ℕ) → branch_at a x ≢ None → branch_at b x ≢ None
+  pub frozen : b.frozen ≡ a.frozen
+  pub frozen_pairs : (x : ℕ) → is_frozen a x ≡ true → branch_at b x ≡ branch_at a x
+  pub longer : length (pairs b) ≡ length (pairs a) + 1
+  pub turns : b.turns ≡ turned a.turns
+
+-- an assignment B of the meters extends the frozen pairs of a, gives each meter that has a pair in a a branch, and adds a source
+pub record AddsSource (ends : List (Option Ends)) (touches : List Touch) (from : Sources) (a : Assigned) (B : List Pair) : Type 0 where
+  pub assigns : IsAssignmentAt ends touches (every_item touches) B
+  pub extends : Extends (is_frozen a) (pairs a) B
+  pub keeps : (x : ℕ) → In x (items (pairs a)) → In x (items B)
+  pub source : ℕ
+  pub is_source : IsSource ends touches from a source
+  pub adds : In source (items B)
+
+-- a is unchanged in b, the flags mark the least closed set that holds the live sources, and no assignment adds a source
+pub record HasClosed (ends : List (Option Ends)) (touches : List Touch) (from : Sources) (a b : Assigned) (reached : List Bool) : Type 0 where
+  pub same : b ≡ a
+  pub flags : length reached ≡ length touches
+  pub least : IsLeastClosedAt ends touches from a (has_flag reached)
+  pub none : (B : List Pair) → AddsSource ends touches from a B → ⊥
+
+-- the answer of a search that found a and left b, and whose flags mark what it reached
+abbrev pub IsFound : List (Option Ends) → List Touch → Sources → Assigned → Assigned → List Bool → Found → Type 0
+IsFound ends touches from a b flags (Grown m) = HasGrown ends touches from a b m
+IsFound ends touches from a b flags Closed = HasClosed ends touches from a b flags
+
+-- what a work value is seen as: a flag for each meter that the last closed search reached, and the sizes that it was made for
+pub record Working : Type 0 where
+  pub reached : List Bool
+  pub most_meters : ℕ
+  pub most_branches : ℕ
+  pub most_vertices : ℕ
+
+-- the graph and the number of meters are within the sizes that the work value was made for
+pub record HasRoomFor (w : Working) (g : Shape) (touches : List Touch) : Type 0 where
+  pub meters : length touches ≤ w.most_meters
+  pub branches : length g.ends ≤ w.most_branches
+  pub vertices : g.vertices ≤ w.most_vertices
+
+-- the sizes are as before
+pub record HasSizesOf (v w : Working) : Type 0 where
+  pub meters : w.most_meters ≡ v.most_meters
+  pub branches : w.most_branches ≡ v.most_branches
+  pub vertices : w.most_vertices ≡ v.most_vertices

@@ -1,0 +1,5 @@
+pub mod Closed
+pub mod Found
+pub mod Searching
+pub mod Critical
+pub mod Laws

@@ -1,0 +1,35 @@
+// The search for one pair more.
+ghost use Rattle.std.specs.Prelude.{◌≡◌, ◌+◌, ◌<◌};
+ghost use Rattle.obs_meter.specs.Touches.{AreInRange};
+ghost use Rattle.obs_assign.specs.Assigned.{HasRoomOf, IsWhole, StandsOver};
+ghost use Rattle.obs_exchange.specs.Found.{CanBegin, HasRoomFor, HasSizesOf, IsFound};
+
+use crate::{Found, Sources, Work};
+use obs_assign::{Assignment, Steps};
+use obs_graph::Graph;
+use obs_meter::Meters;
+use std::sync::ledger::Ledger;
+
+/// Looks for one pair more from the sources, and ticks once. Either a source has a pair afterwards, and no meter lost its
+/// own; or there is none, and the meters that were reached are the least closed set.
+pub fn search<L: Ledger>(
+    g: &Graph,
+    ms: &Meters,
+    a: &mut Assignment,
+    from: Sources,
+    work: &mut Work,
+    steps: &mut Steps<L>,
+) -> Found
+    requires stands { StandsOver a.old g.now ms.now.touches }
+    requires in_range { AreInRange g.now ms.now.touches }
+    requires room { HasRoomFor work.old g.now ms.now.touches }
+    requires begins { CanBegin from a.old }
+    ensures found { IsFound g.now.ends ms.now.touches from a.old a.new work.new.reached result }
+    ensures tick { steps.new ≡ steps.old + 1 }
+    ensures stands { StandsOver a.new g.now ms.now.touches }
+    ensures whole { IsWhole a.new }
+    ensures same_room { HasRoomOf a.old a.new }
+    ensures same_sizes { HasSizesOf work.old work.new }
+{
+    work.run(g, ms, a, from, steps)
+}

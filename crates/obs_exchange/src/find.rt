@@ -1,0 +1,197 @@
+// The path of moves by which the assignment grows.
+ghost use Rattle.std.specs.Prelude.{◌≡◌, ◌+◌, ◌<◌, ◌≤◌, Bool, List, false, IfSome, MatchOption, None, Some, length, drop, take};
+ghost use Rattle.obs_graph.specs.Positions.{AreBranches};
+ghost use Rattle.obs_meter.specs.Touches.{AreInRange};
+ghost use Rattle.obs_assign.specs.Assigned.{HasRoomOf, IsWhole, StandsOver, has_flag};
+ghost use Rattle.obs_exchange.specs.Closed.{IsLeastClosedAt, IsSource};
+ghost use Rattle.obs_exchange.specs.Found.{IsFound};
+ghost use Rattle.obs_exchange.specs.Searching.{IsEnd, IsFreeFor, IsReady, end_of};
+
+use crate::queue::{begin, first_source, is_source, sources_end};
+use crate::visit::spread;
+use crate::walk::is_free;
+use crate::{Found, Sources};
+use obs_assign::{Assignment, Move, Steps};
+use obs_graph::Graph;
+use obs_meter::{Meters, Touch};
+use std::sync::ledger::Ledger;
+
+/// The first free branch that the meter touches.
+fn free_branch(g: &Graph, ms: &Meters, a: &Assignment, m: u32) -> Option<u32>
+    requires stands { StandsOver a.now g.now ms.now.touches }
+    requires whole { IsWhole a.now }
+    requires in_range { AreInRange g.now ms.now.touches }
+    requires m { m < length ms.now.touches }
+    ensures free { IfSome result (λ e. IsFreeFor g.now.ends ms.now.touches a.now m e) }
+{
+    for e in ms.touch(g, m) {
+        if is_free(g, a, *e) {
+            return Some(*e);
+        }
+    }
+    None
+}
+
+/// The first free branch that the meter touches. The branches at a vertex are tried once: they aren't free for a further
+/// meter there.
+fn untried_branch(g: &Graph, ms: &Meters, a: &Assignment, m: u32, tried: &mut [bool]) -> Option<u32>
+    requires stands { StandsOver a.now g.now ms.now.touches }
+    requires whole { IsWhole a.now }
+    requires in_range { AreInRange g.now ms.now.touches }
+    requires m { m < length ms.now.touches }
+    requires tried { g.now.vertices ≤ length tried.old }
+    ensures free { IfSome result (λ e. IsFreeFor g.now.ends ms.now.touches a.now m e) }
+{
+    let Touch::Star(v) = ms.kind(m) else {
+        return free_branch(g, ms, a, m);
+    };
+    if tried[v as usize] {
+        return None;
+    }
+    tried[v as usize] = true;
+    free_branch(g, ms, a, m)
+}
+
+/// The move of the first source that touches a free branch.
+fn free_move(
+    g: &Graph,
+    ms: &Meters,
+    a: &Assignment,
+    from: Sources,
+    tried: &mut [bool],
+) -> Option<Move>
+    requires stands { StandsOver a.now g.now ms.now.touches }
+    requires whole { IsWhole a.now }
+    requires in_range { AreInRange g.now ms.now.touches }
+    requires low { end_of from (length ms.now.touches) ≤ length ms.now.touches }
+    requires tried { g.now.vertices ≤ length tried.old }
+    ensures free { IfSome result (λ x. (x.meter < length ms.now.touches) × IsSource g.now.ends ms.now.touches from a.now x.meter × IsFreeFor g.now.ends ms.now.touches a.now x.meter x.branch) }
+{
+    for m in first_source(from)..sources_end(from, ms.count()) {
+        if is_source(g, ms, a, from, m) {
+            if let Some(e) = untried_branch(g, ms, a, m, tried) {
+                return Some(Move {
+                    meter: m,
+                    branch: e,
+                });
+            }
+        }
+    }
+    None
+}
+
+/// Writes the moves from a source to the last one at the end of the path, and says where they begin.
+fn trace(
+    g: &Graph,
+    ms: &Meters,
+    a: &Assignment,
+    from: Sources,
+    last: Move,
+    marks: &[bool],
+    parents: &[Option<Move>],
+    queue: &[u32],
+    tail: usize,
+    walked: &[bool],
+    path: &mut [Move],
+) -> usize
+    requires branches { AreBranches g.now.vertices g.now.ends }
+    requires stands { StandsOver a.now g.now ms.now.touches }
+    requires whole { IsWhole a.now }
+    requires room { length ms.now.touches ≤ length path.old }
+    requires end { IsEnd g.now.ends ms.now.touches from a.now marks.now parents.now queue.now tail walked.now last }
+    ensures bound { result ≤ length path.new }
+    ensures ready { IsReady g.now.ends ms.now.touches from a.now (drop result path.new) }
+{
+    let _ = g;
+    let _ = ms;
+    let _ = a;
+    let _ = from;
+    let _ = marks;
+    let _ = queue;
+    let _ = tail;
+    let _ = walked;
+    let mut start = path.len() - 1;
+    path[start] = last;
+    let mut x = last.meter;
+    while let Some(p) = parents[x as usize] {
+        start -= 1;
+        path[start] = p;
+        x = p.meter;
+    }
+    start
+}
+
+/// Looks for a path of moves that gives a source a pair, writes it at the end of the array and says where it begins. None
+/// where there is no such path; the marks are then the least closed set.
+pub fn find(
+    g: &Graph,
+    ms: &Meters,
+    a: &Assignment,
+    from: Sources,
+    marks: &mut [bool],
+    parents: &mut [Option<Move>],
+    queue: &mut [u32],
+    walked: &mut [bool],
+    stars: &mut [bool],
+    path: &mut [Move],
+    cycle: &mut [u32],
+) -> Option<usize>
+    requires stands { StandsOver a.now g.now ms.now.touches }
+    requires in_range { AreInRange g.now ms.now.touches }
+    requires low { end_of from (length ms.now.touches) ≤ length ms.now.touches }
+    requires marks { length ms.now.touches ≤ length marks.old }
+    requires parents { length ms.now.touches ≤ length parents.old }
+    requires queue { length ms.now.touches ≤ length queue.old }
+    requires path { length ms.now.touches ≤ length path.old }
+    requires walked { length g.now.ends ≤ length walked.old }
+    requires stars { g.now.vertices ≤ length stars.old }
+    requires cycle { g.now.vertices ≤ length cycle.old }
+    ensures bound { IfSome result (λ k. k ≤ length path.new) }
+    ensures found { MatchOption result
+        (IsLeastClosedAt g.now.ends ms.now.touches from a.now (has_flag (take (length ms.now.touches) marks.new)))
+        (λ k. IsReady g.now.ends ms.now.touches from a.now (drop k path.new)) }
+{
+    let _ = g.vertices();
+    let _ = a.length();
+    stars.fill(false);
+    if let Some(x) = free_move(g, ms, a, from, stars) {
+        let last = path.len() - 1;
+        path[last] = x;
+        return Some(last);
+    }
+    marks.fill(false);
+    walked.fill(false);
+    stars.fill(false);
+    let mut tail = 0;
+    begin(g, ms, a, from, marks, parents, queue, &mut tail, walked);
+    match spread(
+        g, ms, a, from, marks, parents, queue, &mut tail, walked, stars, cycle,
+    ) {
+        Some(x) => Some(trace(g, ms, a, from, x, marks, parents, queue, tail, walked, path)),
+        None => None,
+    }
+}
+
+/// Puts the moves of a path in, and ticks once.
+pub fn grow<L: Ledger>(
+    g: &Graph,
+    ms: &Meters,
+    a: &mut Assignment,
+    from: Sources,
+    path: &[Move],
+    steps: &mut Steps<L>,
+) -> Found
+    requires stands { StandsOver a.old g.now ms.now.touches }
+    requires ready { IsReady g.now.ends ms.now.touches from a.old path.now }
+    ensures found { (flags : List Bool) → IsFound g.now.ends ms.now.touches from a.old a.new flags result }
+    ensures tick { steps.new ≡ steps.old + 1 }
+    ensures stands { StandsOver a.new g.now ms.now.touches }
+    ensures whole { IsWhole a.new }
+    ensures same_room { HasRoomOf a.old a.new }
+{
+    let _ = from;
+    let _ = a.length();
+    let first = path[0].meter;
+    a.augment(g, ms, path, steps);
+    Found::Grown(first)
+}

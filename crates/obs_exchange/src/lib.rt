@@ -1,0 +1,33 @@
+//! The search for one pair more: the kept assignment grows by one, or a closed set shows that it can't.
+#![tactic(auto)]
+
+/// From which meters a search begins: all live ones without a pair, or one.
+#[derive(Clone, Copy, Debug, PartialEq, Eq)]
+pub enum Sources {
+    All,
+    One(u32),
+}
+
+/// What a search found: one pair more, for this meter, or a closed set.
+#[derive(Clone, Copy, Debug, PartialEq, Eq)]
+pub enum Found {
+    Grown(u32),
+    Closed,
+}
+
+mod exchange;
+mod find;
+pub mod laws;
+mod memory;
+#[cfg(test)]
+mod mesh_tests;
+mod queue;
+#[cfg(test)]
+mod tests;
+mod visit;
+mod walk;
+mod work;
+
+pub use exchange::search;
+pub use memory::NoMemory;
+pub use work::Work;

@@ -1,0 +1,121 @@
+// The arrays of a search.
+ghost use Rattle.std.specs.Prelude.{◌≡◌, ◌+◌, ◌<◌, [], length, IfOk};
+ghost use Rattle.obs_meter.specs.Touches.{AreInRange};
+ghost use Rattle.obs_assign.specs.Assigned.{HasRoomOf, IsWhole, StandsOver};
+ghost use Rattle.obs_exchange.specs.Found.{CanBegin, HasRoomFor, HasSizesOf, IsFound};
+
+use crate::find::{find, grow};
+use crate::memory::NoMemory;
+use crate::{Found, Sources};
+use obs_assign::{Assignment, Move, Steps};
+use obs_graph::Graph;
+use obs_meter::Meters;
+use std::alloc::Global;
+use std::marker::Model;
+use std::sync::ledger::Ledger;
+
+/// The arrays of a search, and what the last one reached.
+#[derive(Drop)]
+pub struct Work {
+    meters: usize,
+    reached: Vec<bool>,
+    parents: Vec<Option<Move>>,
+    queue: Vec<u32>,
+    walked: Vec<bool>,
+    stars: Vec<bool>,
+    path: Vec<Move>,
+    cycle: Vec<u32>,
+}
+
+impl Model for Work {
+    ghost use Rattle.std.specs.Prelude.{◌≡◌, ◌≤◌, ◌<◌, length, take};
+    ghost use Rattle.obs_exchange.specs.Found.{Working};
+
+    ghost Value = { Working };
+
+    ghost view = { λ w. record { reached = take w.meters w.reached.items; most_meters = length w.reached.items; most_branches = length w.walked.items; most_vertices = length w.stars.items } };
+
+    ghost invariant = { λ w.
+        (w.meters ≤ length w.reached.items) × (length w.parents.items ≡ length w.reached.items)
+        × (length w.queue.items ≡ length w.reached.items) × (length w.path.items ≡ length w.reached.items)
+        × (length w.cycle.items ≡ length w.stars.items) };
+}
+
+impl Work {
+    /// Room for a search over so many meters, branches and vertices.
+    pub fn make(
+        alloc: Global,
+        most_meters: u32,
+        most_branches: u32,
+        most_vertices: u32,
+    ) -> Result<Work, NoMemory>
+        ensures empty { IfOk result (λ w. w ≡ record { reached = []; most_meters = most_meters; most_branches = most_branches; most_vertices = most_vertices }) }
+    {
+        let no_move = Move {
+            meter: 0,
+            branch: 0,
+        };
+        Ok(Work {
+            meters: 0,
+            reached: vec![in alloc; false; most_meters as usize]?,
+            parents: vec![in alloc; None; most_meters as usize]?,
+            queue: vec![in alloc; 0; most_meters as usize]?,
+            walked: vec![in alloc; false; most_branches as usize]?,
+            stars: vec![in alloc; false; most_vertices as usize]?,
+            path: vec![in alloc; no_move; most_meters as usize]?,
+            cycle: vec![in alloc; 0; most_vertices as usize]?,
+        })
+    }
+
+    /// A flag for each meter: whether the last search reached it, where that search ended with `Closed`.
+    pub fn reached(&self) -> &[bool]
+        ensures reached { result.now ≡ self.now.reached }
+    {
+        &self.reached[..self.meters]
+    }
+
+    /// The body of `search`.
+    pub(crate) fn run<L: Ledger>(
+        &mut self,
+        g: &Graph,
+        ms: &Meters,
+        a: &mut Assignment,
+        from: Sources,
+        steps: &mut Steps<L>,
+    ) -> Found
+        requires stands { StandsOver a.old g.now ms.now.touches }
+        requires in_range { AreInRange g.now ms.now.touches }
+        requires room { HasRoomFor self.old g.now ms.now.touches }
+        requires begins { CanBegin from a.old }
+        ensures found { IsFound g.now.ends ms.now.touches from a.old a.new self.new.reached result }
+        ensures tick { steps.new ≡ steps.old + 1 }
+        ensures stands { StandsOver a.new g.now ms.now.touches }
+        ensures whole { IsWhole a.new }
+        ensures same_room { HasRoomOf a.old a.new }
+        ensures same_sizes { HasSizesOf self.old self.new }
+    {
+        let _ = g.vertices();
+        let _ = a.length();
+        self.meters = ms.count() as usize;
+        let start = find(
+            g,
+            ms,
+            a,
+            from,
+            &mut self.reached,
+            &mut self.parents,
+            &mut self.queue,
+            &mut self.walked,
+            &mut self.stars,
+            &mut self.path,
+            &mut self.cycle,
+        );
+        match start {
+            Some(k) => grow(g, ms, a, from, &self.path[k..], steps),
+            None => {
+                steps.tick();
+                Found::Closed
+            }
+        }
+    }
+}

@@ -1,0 +1,38 @@
+use Rattle.std.proofs.Common.{◌<◌, length, sym, ◌∙◌, subst, arith}
+use Rattle.obs_meter.specs.Touches.{touched}
+use Rattle.obs_rankcut.specs.Flags.{marked}
+use Rattle.obs_rankcut.specs.Marks.{AreMarkedToo}
+use Rattle.obs_rankcut.proofs.Passing.{Passed-counted, Passed-flags, Passed-idle, Passed-listed, Passed-out}
+use Rattle.obs_rankcut.proofs.listing.pass.Goals as goal
+use Rattle.obs_rankcut.proofs.listing.pass.Goals.{then-scope-m+then-live+then-marks-m, then-scope-m+then-live+else-marks-m, else-scope-m, else-scope-m-via-then-scope-m+else-live, else-scope-m-via-else-scope-m}
+
+pub overflow_add-outside : goal.overflow_add-outside
+overflow_add-outside c = let b = c.loop-m.invariant.bound_outside in omega arith
+
+pub loop-m-preserved : goal.loop-m-preserved
+loop-m-preserved c =
+    let l = c.loop-m in
+    let ends = c.args.g.now.ends in
+    let touches = c.args.ms.now.touches in
+    let marks = marked c.args.marks.now in
+    let scope = marked c.args.scope.now in
+    let low : l.m < length touches = let e = c.count-m-end.ensures.count in let t = c.loop-m-test.true in omega arith in
+    elim c.if-scope-m.branch [
+      | then-scope-m+then-live+then-marks-m w ↦ rw (w.flags-is, w.stars-is, w.list-is, w.count-is, w.outside-is)
+          (Passed-listed ends touches marks scope l.m low l.flags l.stars l.list l.count l.outside l.invariant (sym w.live.ensures.live ∙ w.if-live.true) w.if-scope-m.true w.if-marks-m.true (omega arith)
+          w.mark_touched.new.flags w.mark_touched.new.stars
+          (subst (λ t. AreMarkedToo l.flags (touched ends t) w.mark_touched.new.flags) w.kind.ensures.kind w.mark_touched.ensures.marks)
+          w.mark_touched.ensures.done)
+      | then-scope-m+then-live+else-marks-m w ↦ rw (w.flags-is, w.stars-is, w.list-is, w.count-is, w.outside-is)
+          (Passed-counted ends touches marks scope l.m low l.flags l.stars l.list l.count l.outside l.invariant (sym w.live.ensures.live ∙ w.if-live.true) w.if-scope-m.true w.if-marks-m.false)
+      | else-scope-m w ↦ rw (w.flags-is, w.stars-is, w.list-is, w.count-is, w.outside-is)
+          (elim w.else-scope-m.branch [
+            | else-scope-m-via-then-scope-m+else-live v ↦ Passed-idle ends touches marks scope l.m low l.flags l.stars l.list l.count l.outside l.invariant (sym v.live.ensures.live ∙ v.if-live.false)
+            | else-scope-m-via-else-scope-m v ↦ Passed-out ends touches marks scope l.m low l.flags l.stars l.list l.count l.outside l.invariant v.if-scope-m.false
+          ])
+    ]
+
+pub returns-clause-flags : goal.returns-clause-flags
+returns-clause-flags c =
+    Passed-flags c.args.g.now.ends c.args.ms.now.touches (marked c.args.marks.now) (marked c.args.scope.now)
+    c.loop-m.flags c.loop-m.stars c.loop-m.list c.loop-m.count c.loop-m.outside c.loop-m.m (omega arith) c.loop-m.invariant

@@ -1,0 +1,6 @@
+use Rattle.obs_rankcut.specs.Flags.{marked}
+use Rattle.obs_rankcut.proofs.Passing.{IsPassed}
+use Rattle.obs_rankcut.proofs.listing.pass.Given as goal
+
+abbrev pub invariant-loop-m : goal.invariant-loop-m
+invariant-loop-m l = IsPassed l.g.ends l.ms.touches (marked l.marks) (marked l.scope) l.flags l.stars l.list l.count l.outside l.m
