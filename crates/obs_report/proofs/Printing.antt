@@ -1,5 +1,5 @@
 -- Texts that are printed piece by piece.
-use Rattle.std.proofs.Common.{ℕ, ◌≡◌, ◌∙◌, ◌+◌, ◌≤◌, ap, sym, refl, subst, List, [], ◌++◌, length, arith, Option, Some, None, Result, Ok, Err, append_assoc, append-nil, length-append}
+use Rattle.std.proofs.Common.{ℕ, ◌≡◌, ◌∙◌, ◌+◌, ap, sym, refl, subst, List, [], ◌++◌, length, arith, Option, Some, None, Result, Ok, Err, append_assoc, append-nil, length-append}
 use Rattle.std.specs.Prelude.{IsOk, OnErr}
 use Rattle.obs_io.specs.Bytes.{Writes, Wrote, WrotePart, and_then}
 use Rattle.obs_io.specs.Causes.{Rose, HasCause}
@@ -41,6 +41,19 @@ held_passed a b d held x (Ok y) front bytes none (sent, whole, wrote) writes =
 held_passed a b d held x (Err e) front bytes none (sent, whole, wrote) writes =
     let is : front ≡ sent = whole ∙ (ap (λ t. sent ++ t) none ∙ append-nil sent) in
     subst (λ t. WrotePart a d (t ++ bytes)) (sym is) (part_behind a b d sent bytes wrote writes)
+
+-- nothing is printed
+pub nothing_printed : {T E : Type 0} {a : Option (List ℕ)} {h : List ℕ} {f : ℕ} {p : ℕ → Type 0} (r : Result T E) → IsPrinted a a h h f f p p r r []
+nothing_printed {T = T} {E = E} {a = a} {h = h} {f = f} {p = p} r = record {
+  written = λ start front held. subst (HoldsSince start a h r) (sym (append-nil front)) held;
+  later = omega arith;
+  cause = cause r;
+  room = λ ok rest has. (ok, subst p (omega arith) has);
+}
+  where
+    cause : (r : Result T E) → IsOk r → OnErr r (Rose f f)
+    cause (Ok x) ok = tt
+    cause (Err e) ok = absurd cc
 
 -- one piece and then another
 pub then_printed : {T E : Type 0} {a b d : Option (List ℕ)} {h i j : List ℕ} {f k l : ℕ} {p q o : ℕ → Type 0} {r s t : Result T E} {one two : List ℕ}

@@ -1,13 +1,17 @@
 //! The printed text: lines of words, appended to a sink.
 #![tactic(auto)]
 
+mod counts;
 mod gathered;
 mod lines;
+mod meters;
 mod nodes;
 #[cfg(test)]
 mod tests;
 mod words;
 
+pub use counts::print_counts;
 pub use lines::{print_count, print_fault, print_last_line};
+pub use meters::{print_bound, print_critical};
 pub use nodes::print_nodes;
 pub use words::{print_end, print_number, print_word};

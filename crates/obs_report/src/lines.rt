@@ -1,24 +1,38 @@
 // Whole lines that stand in several answers.
 ghost use Rattle.std.specs.Prelude.{◌≡◌};
 ghost use Rattle.obs_report.specs.Lines.{count_line, fault_line, last_line};
-ghost use Rattle.obs_report.specs.Printed.{Appends};
+ghost use Rattle.obs_report.specs.Printed.{Appends, IsPrinted};
 
 use crate::gathered::Gathered;
 use obs_io::{Failed, Sink, write_all};
 use obs_text::Digits;
+
+/// Prints the line of a number of something.
+pub(crate) fn count_in<W: Sink>(
+    gathered: &mut Gathered,
+    output: &mut W,
+    so_far: Result<(), Failed>,
+    what: &[u8],
+    n: u64,
+) -> Result<(), Failed>
+    ensures printed { IsPrinted (W.written output.old) (W.written output.new) gathered.old gathered.new
+        (W.faults output.old) (W.faults output.new) (W.has_room output.old) (W.has_room output.new) so_far result (count_line what.now n) }
+{
+    let mut digits = Digits::new();
+    let begun = gathered.print(output, so_far, b"count");
+    let named = gathered.tabbed(output, begun, what);
+    let numbered = gathered.tabbed(output, named, digits.text(n));
+    gathered.end(output, numbered)
+}
 
 /// Appends the line of a number of something, as `count`, `buses` and the number.
 pub fn print_count<W: Sink>(output: &mut W, what: &[u8], n: u64) -> Result<(), Failed>
     ensures appends { Appends (W.written output.old) (W.written output.new) (W.faults output.old) (W.faults output.new)
         (W.has_room output.old) (W.has_room output.new) result (count_line what.now n) }
 {
-    let mut digits = Digits::new();
     let mut gathered = Gathered::new();
-    let begun = gathered.print(output, Ok(()), b"count");
-    let named = gathered.tabbed(output, begun, what);
-    let numbered = gathered.tabbed(output, named, digits.text(n));
-    let ended = gathered.end(output, numbered);
-    gathered.finish(output, ended)
+    let printed = count_in(&mut gathered, output, Ok(()), what, n);
+    gathered.finish(output, printed)
 }
 
 /// Appends the line on a fault in an input: the part of the input, the place in it (a row or a line,

@@ -10,15 +10,16 @@ use obs_case::{Case, Node};
 use obs_io::{Failed, Sink};
 use obs_switch::Buses;
 
-// The name of the node at a position.
-fn name_at(case: &Case, node: u32) -> &[u8]
+/// The name of the node at a position.
+pub(crate) fn name_at(case: &Case, node: u32) -> &[u8]
     requires node { node < length case.now.nodes }
     ensures name { result.now ≡ node_name case.now node }
 {
     case.nodes()[node as usize].name.bytes()
 }
 
-fn first_of(members: &[u32]) -> u32
+/// The first of some nodes.
+pub(crate) fn first_of(members: &[u32]) -> u32
     requires some { 0 < length members.now }
     ensures first { result ≡ slice_index members.now 0 }
 {

@@ -1,10 +1,5 @@
-use Rattle.std.proofs.Common.{codes, decimal}
-use Rattle.obs_report.proofs.LineLemmas.{line_of-3}
-use Rattle.obs_report.proofs.Printing.{then_printed, then_line, finished}
+use Rattle.obs_report.proofs.Printing.{finished}
 use Rattle.obs_report.proofs.lines.print_count.Goals as goal
 
 pub returns : goal.returns
-returns g c =
-    let numbered = rw c.text.ensures.decimal at c.tabbed-numbered.ensures.printed in
-    let line = then_line (then_printed (then_printed c.print-begun.ensures.printed c.tabbed-named.ensures.printed) numbered) c.end-ended.ensures.printed (line_of-3 (codes "count") c.args.what.now (decimal c.args.n)) in
-    record { appends = finished (tt {0}) c.new-gathered.ensures.empty line c.finish.ensures.printed }
+returns g c = record { appends = finished (tt {0}) c.new-gathered.ensures.empty c.count_in-printed.ensures.printed c.finish.ensures.printed }

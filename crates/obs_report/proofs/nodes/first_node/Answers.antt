@@ -1,6 +1,6 @@
-use Rattle.std.proofs.Common.{◌≡◌, ◌<◌, ℕ, length, get_or, ap, sym, ◌∙◌, subst, arith}
+use Rattle.std.proofs.Common.{◌≡◌, ◌<◌, length, get_or, ap, sym, ◌∙◌, subst, arith}
 use Rattle.std.proofs.lemmas.List.FromFn.{length-map-range_with_len}
-use Rattle.obs_network.specs.Switched.{closed_links, case_buses}
+use Rattle.obs_network.specs.Switched.{closed_links}
 use Rattle.obs_switch.specs.Buses.{bus_of, buses_of, members_of}
 use Rattle.obs_switch.proofs.FirstNodes.{buses_of-at, first_member, first_node-le}
 use Rattle.obs_report.proofs.nodes.first_node.Goals as goal

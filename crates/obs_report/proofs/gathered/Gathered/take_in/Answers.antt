@@ -1,4 +1,4 @@
-use Rattle.std.proofs.Common.{◌≡◌, List, ℕ, [], arith}
+use Rattle.std.proofs.Common.{◌≡◌, [], arith}
 use Rattle.obs_report.proofs.Printing.{passed_printed}
 use Rattle.obs_report.proofs.gathered.Gathered.take_in.Goals as goal
 
