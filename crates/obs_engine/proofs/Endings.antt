@@ -1,40 +1,14 @@
 -- How runs end.
-use Rattle.std.proofs.Common.{ℕ, ◌≡◌, ◌∙◌, ◌+◌, ◌⊎◌, inl, inr, sym, refl, subst, List, [], length, Option, Some, None, Ok, Err, IsOk}
-use Rattle.std.specs.Prelude.{nat_lt}
-use Rattle.std.proofs.lemmas.Bool.{cases_Bool}
+use Rattle.std.proofs.Common.{ℕ, ◌≡◌, ◌∙◌, ◌+◌, ◌⊎◌, inl, inr, sym, refl, subst, List, [], length, Option, None, Ok, Err, IsOk}
 use Rattle.obs_io.specs.Bytes.{Wrote}
-use Rattle.obs_io.specs.Causes.{Rose}
 use Rattle.obs_report.specs.Printed.{Appends}
 use Rattle.obs_report.proofs.Printing.{and_then_none}
 use Rattle.obs_engine.specs.declared.status.Status.{Status}
 use Rattle.obs_engine.specs.declared.status.Status.TheVariants.{Done, Short, Usage, InputFault, ReadFault, WriteFault, NoMemory, SessionTooLong}
 use Rattle.obs_engine.specs.declared.words.Form.{Form}
-use Rattle.obs_engine.specs.declared.words.Form.TheVariants.{Topology}
 use Rattle.obs_engine.specs.Ending.{Answers, AnswersPart, Ends, EndsWith, HasRoom, IsReplied, answered_before}
-use Rattle.obs_engine.specs.Forms.{CanAnswer, IsFileWord, ReadRose}
-use Rattle.obs_engine.specs.Replies.{Reply, usage_reply, most_bytes}
-use Rattle.obs_engine.specs.Stated.{Told, Tells, IsStated}
-use Rattle.obs_engine.specs.declared.taken.Taken.{Taken}
-use Rattle.obs_engine.specs.declared.taken.Taken.TheVariants.{Whole, Faulty, TooLong}
-use Rattle.obs_engine.specs.Taken.{reply_of}
-use Rattle.obs_engine.specs.Topology.{case_reply, topology_case, topology_reply}
-
--- a status that a stated reply can have
-abbrev pub IsOfReply : Status → Type 0
-IsOfReply status = (status ≡ Done) ⊎ (status ≡ InputFault)
-
-case_reply-status : (r : _) → IsOfReply (case_reply r).status
-case_reply-status (Ok t) = inl refl
-case_reply-status (Err fault) = inr refl
-
-pub topology_reply-status : (nodes switches : List ℕ) → IsOfReply (topology_reply nodes switches).status
-topology_reply-status nodes switches = elim (cases_Bool (nat_lt most_bytes (length nodes))) [
-  | inl long ↦ rw long (inr refl)
-  | inr short ↦ rw short (elim (cases_Bool (nat_lt most_bytes (length switches))) [
-    | inl long ↦ rw long (inr refl)
-    | inr fits ↦ rw fits (case_reply-status (topology_case nodes switches))
-  ])
-]
+use Rattle.obs_engine.specs.Replies.{Reply, usage_reply}
+use Rattle.obs_engine.specs.Stated.{Told, IsStated}
 
 -- a reply that was written whole
 pub replied_whole : {T E : Type 0} {x : T} {a b : Option (List ℕ)} {f k : ℕ} {p q : ℕ → Type 0} (reply : Reply) → (reply.status ≡ ReadFault → ⊥) → (reply.status ≡ WriteFault → ⊥)
@@ -130,14 +104,6 @@ complete_stated form told reply status a b is read write (inr (inl (e, part))) =
 complete_stated form told reply status a b is read write (inr (inr (inl (e, same)))) = absurd (read e)
 complete_stated form told reply status a b is read write (inr (inr (inr (e, same)))) = inl e
 
-no_failure : (status : Status) → IsOfReply status → IsFailure status → ⊥
-no_failure status (inl done) (inl e) = absurd cc
-no_failure status (inl done) (inr (inl e)) = absurd cc
-no_failure status (inl done) (inr (inr e)) = absurd cc
-no_failure status (inr fault) (inl e) = absurd cc
-no_failure status (inr fault) (inr (inl e)) = absurd cc
-no_failure status (inr fault) (inr (inr e)) = absurd cc
-
 usage_no_failure : IsFailure usage_reply.status → ⊥
 usage_no_failure (inl e) = absurd cc
 usage_no_failure (inr (inl e)) = absurd cc
@@ -156,47 +122,26 @@ usage_complete {a = a} {b = b} {room = room} {status = status} form told e has r
     subst (λ f. (status ≡ NoMemory) ⊎ Answers f told status a b) e
     (complete_stated None told usage_reply status a b refl replied.reads (replied.room fits.0 fits.1) replied.ends)
 
--- the buses of two tables
-pub topology_told : (form : Option Form) (f : Form) (content : ℕ → Option (List ℕ)) (left : Option (List ℕ)) (told : Told) → Some f ≡ form → Tells form content left told → (content 1 ≡ Some (told.file 1)) × (content 2 ≡ Some (told.file 2))
-topology_told form Topology content left told e tells =
-    let here : Tells (Some Topology) content left told = subst (λ f. Tells f content left told) (sym e) tells in
-    (here.files 1 (inl refl), here.files 2 (inr refl))
+-- a form whose reply is this function of the contents of its files
+pub record IsFileForm (form : Option Form) (reply : (ℕ → List ℕ) → Reply) : Type 0 where
+  pub stated : (told : Told) → IsStated form told (reply told.file)
+  pub settled : (file : ℕ → List ℕ) → IsFailure (reply file).status → ⊥
+  pub nothing_before : (told : Told) (left : Option (List ℕ)) → answered_before form told left ≡ []
 
-pub topology_ends : (form : Option Form) (f : Form) (told : Told) (left : Option (List ℕ)) (status : Status) (a b : Option (List ℕ)) → Some f ≡ form → EndsWith (topology_reply (told.file 1) (told.file 2)) status a b → Ends form told left status a b
-topology_ends form Topology told left status a b e ends =
-    let reply = topology_reply (told.file 1) (told.file 2) in
-    subst (λ f. Ends f told left status a b) e
-    (ends_stated (Some Topology) told left reply status a b refl (no_failure reply.status (topology_reply-status (told.file 1) (told.file 2))) refl ends)
+pub file_form_ends : (form : Option Form) (reply : (ℕ → List ℕ) → Reply) → IsFileForm form reply → (told : Told) (left : Option (List ℕ)) (status : Status) (a b : Option (List ℕ))
+    → EndsWith (reply told.file) status a b → Ends form told left status a b
+file_form_ends form reply is told left status a b ends =
+    ends_stated form told left (reply told.file) status a b (is.stated told) (is.settled told.file) (is.nothing_before told left) ends
 
-pub topology_complete : (form : Option Form) (f : Form) (told : Told) (status : Status) (a b : Option (List ℕ)) (room : ℕ → Type 0) → Some f ≡ form → HasRoom form told room → (status ≡ ReadFault → ⊥)
-    → ((rest : ℕ) → room (length (topology_reply (told.file 1) (told.file 2)).text + rest) → status ≡ WriteFault → ⊥) → EndsWith (topology_reply (told.file 1) (told.file 2)) status a b → (status ≡ NoMemory) ⊎ Answers form told status a b
-topology_complete form Topology told status a b room e has read write ends =
-    let reply = topology_reply (told.file 1) (told.file 2) in
-    let here : HasRoom (Some Topology) told room = subst (λ f. HasRoom f told room) (sym e) has in
-    let fits = here reply refl in
-    subst (λ f. (status ≡ NoMemory) ⊎ Answers f told status a b) e (complete_stated (Some Topology) told reply status a b refl read (write fits.0 fits.1) ends)
+pub file_form_complete : (form : Option Form) (reply : (ℕ → List ℕ) → Reply) → IsFileForm form reply → (told : Told) (status : Status) (a b : Option (List ℕ)) (room : ℕ → Type 0) → HasRoom form told room
+    → (status ≡ ReadFault → ⊥) → ((rest : ℕ) → room (length (reply told.file).text + rest) → status ≡ WriteFault → ⊥) → EndsWith (reply told.file) status a b → (status ≡ NoMemory) ⊎ Answers form told status a b
+file_form_complete form reply is told status a b room has read write ends =
+    let fits = has (reply told.file) (is.stated told) in
+    complete_stated form told (reply told.file) status a b (is.stated told) read (write fits.0 fits.1) ends
 
-pub topology_steady : (form : Option Form) (f : Form) (P : ℕ → Type 0) → Some f ≡ form → ((w : ℕ) → IsFileWord form w → P w) → P 1 × P 2
-topology_steady form Topology P e each =
-    let here : (w : ℕ) → IsFileWord (Some Topology) w → P w = subst (λ f. (w : ℕ) → IsFileWord f w → P w) (sym e) each in
-    (here 1 (inl refl), here 2 (inr refl))
-
-pub topology_rose : (form : Option Form) (f : Form) (old new : ℕ → ℕ) (m n : ℕ) → Some f ≡ form → Rose (old 1) (new 1) ⊎ Rose (old 2) (new 2) → ReadRose form old new m n
-topology_rose form Topology old new m n e (inl rose) = subst (λ f. ReadRose f old new m n) e (inl (1, inl refl, rose))
-topology_rose form Topology old new m n e (inr rose) = subst (λ f. ReadRose f old new m n) e (inl (2, inr refl, rose))
-
--- the statuses of an answer to what was taken
-pub reply_of-status : (taken : Taken) → IsOfReply (reply_of taken).status
-reply_of-status (Whole case) = inl refl
-reply_of-status (Faulty fault) = inr refl
-reply_of-status (TooLong part) = inr refl
-
-pub replied_statuses : (reply : Reply) (status : Status) (a b : Option (List ℕ)) → IsOfReply reply.status → (status ≡ ReadFault → ⊥) → EndsWith reply status a b → CanAnswer (Some Topology) status
-replied_statuses reply status a b of read (inl (same, wrote)) = by of
-  where
-    by : IsOfReply reply.status → CanAnswer (Some Topology) status
-    by (inl done) = inl (same ∙ done)
-    by (inr fault) = inr (inl (same ∙ fault))
-replied_statuses reply status a b of read (inr (inl (e, part))) = inr (inr (inr (inl e)))
-replied_statuses reply status a b of read (inr (inr (inl (e, same)))) = absurd (read e)
-replied_statuses reply status a b of read (inr (inr (inr (e, same)))) = inr (inr (inr (inr e)))
+-- the statuses of a command that replies so
+pub replied_statuses : (P : Status → Type 0) (reply : Reply) (status : Status) (a b : Option (List ℕ)) → P reply.status → P WriteFault → P NoMemory → (status ≡ ReadFault → ⊥) → EndsWith reply status a b → P status
+replied_statuses P reply status a b own write memory read (inl (same, wrote)) = subst P (sym same) own
+replied_statuses P reply status a b own write memory read (inr (inl (e, part))) = subst P (sym e) write
+replied_statuses P reply status a b own write memory read (inr (inr (inl (e, same)))) = absurd (read e)
+replied_statuses P reply status a b own write memory read (inr (inr (inr (e, same)))) = subst P (sym e) memory

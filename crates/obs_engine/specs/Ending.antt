@@ -5,7 +5,7 @@ use Rattle.obs_io.specs.Causes.{Rose}
 use Rattle.obs_engine.specs.declared.status.Status.{Status}
 use Rattle.obs_engine.specs.declared.status.Status.TheVariants.{Done, Short, Usage, InputFault, ReadFault, WriteFault, NoMemory, SessionTooLong}
 use Rattle.obs_engine.specs.declared.words.Form.{Form}
-use Rattle.obs_engine.specs.declared.words.Form.TheVariants.{Topology}
+use Rattle.obs_engine.specs.declared.words.Form.TheVariants.{Topology, Report}
 use Rattle.obs_engine.specs.Replies.{Reply}
 use Rattle.obs_engine.specs.Stated.{Told, IsStated}
 
@@ -13,6 +13,7 @@ use Rattle.obs_engine.specs.Stated.{Told, IsStated}
 abbrev pub answered_before : Option Form → Told → Option (List ℕ) → List ℕ
 answered_before None told left = []
 answered_before (Some Topology) told left = []
+answered_before (Some (Report from)) told left = []
 
 -- the run wrote the whole stated text and answered the stated status
 abbrev pub Answers : Option Form → Told → Status → Option (List ℕ) → Option (List ℕ) → Type 0

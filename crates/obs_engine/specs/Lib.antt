@@ -1,7 +1,10 @@
 pub mod Codes
 pub mod Ending
+pub mod Files
+pub mod Findings
 pub mod Forms
 pub mod Replies
+pub mod Report
 pub mod Stated
 pub mod Taken
 pub mod Topology

@@ -1,12 +1,35 @@
--- What was taken from the files of two tables, and the reply to it.
-use Rattle.obs_engine.specs.declared.taken.Taken.{Taken}
-use Rattle.obs_engine.specs.declared.taken.Taken.TheVariants.{Whole, Faulty, TooLong}
-use Rattle.obs_engine.specs.declared.status.Status.TheVariants.{Done}
-use Rattle.obs_engine.specs.Replies.{Reply, fault_reply, too_long_reply}
-use Rattle.obs_engine.specs.Topology.{topology_text}
+-- What was taken from files, beside what these hold.
+use Rattle.std.specs.Prelude.{ℕ, ◌≡◌, true, false, List, Result, Ok, Err, Vec}
+use Rattle.std.specs.declared.alloc.Global.{Global}
+use Rattle.obs_case.specs.Tables.{Tables}
+use Rattle.obs_engine.specs.declared.taken.Refusal.{Refusal}
+use Rattle.obs_engine.specs.declared.taken.Refusal.TheVariants.{TooLong, Table, Cdf}
+use Rattle.obs_engine.specs.declared.taken.Untaken.{Untaken}
+use Rattle.obs_engine.specs.declared.taken.Untaken.TheVariants.{Refused, Read, NoMemory}
+use Rattle.obs_engine.specs.Files.{is_too_long}
+use Rattle.obs_engine.specs.Replies.{Reply, cdf_fault_reply, fault_reply, too_long_reply}
 
--- the reply to what was taken
-abbrev pub reply_of : Taken → Reply
-reply_of (Whole case) = record { status = Done; text = topology_text case }
-reply_of (Faulty fault) = fault_reply fault
-reply_of (TooLong part) = too_long_reply part.now
+-- the reply to a refusal
+abbrev pub refusal_reply : Refusal → Reply
+refusal_reply (TooLong part) = too_long_reply part.now
+refusal_reply (Table fault) = fault_reply fault
+refusal_reply (Cdf fault) = cdf_fault_reply fault
+
+-- why nothing was taken from files that hold this: they are refused with the reply that is stated, or reading them failed, or there
+-- was no memory
+abbrev pub IsUntaken : Result Tables Reply → Untaken → Type 0
+IsUntaken stated (Refused why) = stated ≡ Err (refusal_reply why)
+IsUntaken stated Read = Unit {0}
+IsUntaken stated NoMemory = Unit {0}
+
+-- what was taken from files that hold this
+abbrev pub IsTaken : Result Tables Reply → Result Tables Untaken → Type 0
+IsTaken stated (Ok t) = stated ≡ Ok t
+IsTaken stated (Err why) = IsUntaken stated why
+
+-- what was taken from one file that has this content and is this part of the input
+abbrev pub IsFile : List ℕ → List ℕ → Result (Vec ℕ Global) Untaken → Type 0
+IsFile part content (Ok bytes) = (bytes.items ≡ content) × (is_too_long content ≡ false)
+IsFile part content (Err (Refused why)) = (is_too_long content ≡ true) × (refusal_reply why ≡ too_long_reply part)
+IsFile part content (Err Read) = Unit {0}
+IsFile part content (Err NoMemory) = Unit {0}

@@ -1,33 +1,21 @@
-// What was taken from the files of two tables.
-ghost use Rattle.std.specs.Prelude.{◌≡◌};
-
-use obs_case::Case;
+// Why no case was taken from files.
 use obs_case_csv::TableFault;
-use obs_network::NoMemory;
+use obs_ieee_cdf::CdfFault;
 
-/// A whole case, or why there is none: the first fault, or a part of the input that is too long.
-#[derive(Drop)]
-pub(crate) enum Taken {
-    Whole(Case),
-    Faulty(TableFault),
+/// Why files are no case: a part of the input is too long, or the first fault.
+#[derive(Clone, Copy, Debug)]
+pub(crate) enum Refusal {
     TooLong(&'static [u8]),
+    Table(TableFault),
+    Cdf(CdfFault),
 }
 
-/// Why nothing was taken.
-#[derive(Clone, Copy, Debug, PartialEq, Eq)]
-pub(crate) enum Stop {
+/// Why nothing was taken from files.
+#[derive(Clone, Copy, Debug)]
+pub(crate) enum Untaken {
+    Refused(Refusal),
     /// A read failed.
     Read,
     /// There is no memory.
-    Memory,
-}
-
-impl From<NoMemory> for Stop {
-    ghost use Rattle.obs_engine.specs.declared.taken.Stop.TheVariants.{Memory};
-
-    ghost from_gives = { λ _ e. e ≡ Memory };
-
-    fn from(_: NoMemory) -> Self {
-        Stop::Memory
-    }
+    NoMemory,
 }

@@ -3,6 +3,7 @@ use crate::{Status, run};
 use obs_io::{Entry, MemFiles, MemSink, MemSource};
 use obs_text::Digits;
 use std::alloc::Global;
+use std::process::Abort;
 use std::test::Fail;
 
 fn texts(alloc: Global, words: &[&str]) -> Result<Vec<String>, Fail> {
@@ -25,14 +26,14 @@ fn entries(alloc: Global, files: &[&[u8]]) -> Result<Vec<Entry>, Fail> {
 }
 
 #[derive(Drop)]
-struct Ended {
-    status: Status,
-    text: Vec<u8>,
+pub(crate) struct Ended {
+    pub(crate) status: Status,
+    pub(crate) text: Vec<u8>,
 }
 
 // A run whose files are those of the words behind the first one, over outsides in memory whose
 // calls with these numbers fail.
-fn outcome(
+pub(crate) fn outcome(
     alloc: Global,
     words: &[&str],
     files: &[&[u8]],
@@ -53,73 +54,140 @@ fn outcome(
     })
 }
 
+// A run in which no call fails ends so.
+pub(crate) fn answers(
+    rt: &impl Abort,
+    alloc: Global,
+    words: &[&str],
+    files: &[&[u8]],
+    status: Status,
+    text: &[u8],
+) -> Result<(), Fail> {
+    let found = outcome(alloc, words, files, &[], &[])?;
+    assert!(rt; found.status == status);
+    assert!(rt; found.text.as_slice() == text);
+    Ok(())
+}
+
+// How many reads a run makes, of which each has failed in turn. After a failed one nothing is written.
+pub(crate) fn failing_reads(
+    rt: &impl Abort,
+    alloc: Global,
+    words: &[&str],
+    files: &[&[u8]],
+) -> Result<u64, Fail> {
+    let mut calls = 0;
+    for call in 0..1000 {
+        let found = outcome(alloc, words, files, &[call], &[])?;
+        if found.status != Status::ReadFault {
+            break;
+        }
+        assert!(rt; found.text.is_empty(), "at {call}");
+        calls = call.saturating_add(1);
+    }
+    Ok(calls)
+}
+
+// How many writes a run makes, of which each has failed in turn. After a failed one less is written than this text.
+pub(crate) fn failing_writes(
+    rt: &impl Abort,
+    alloc: Global,
+    words: &[&str],
+    files: &[&[u8]],
+    text: &[u8],
+) -> Result<u64, Fail> {
+    let mut calls = 0;
+    for call in 0..1000 {
+        let found = outcome(alloc, words, files, &[], &[call])?;
+        if found.status != Status::WriteFault {
+            break;
+        }
+        assert!(rt; found.text.len() < text.len(), "at {call}");
+        assert!(rt; text.starts_with(&found.text), "at {call}");
+        calls = call.saturating_add(1);
+    }
+    Ok(calls)
+}
+
 const TOPOLOGY: [&str; 3] = ["topology", "n", "s"];
+
+// Two tables, and what is printed of them.
+#[derive(Clone, Copy)]
+struct Row {
+    nodes: &'static [u8],
+    switches: &'static [u8],
+    text: &'static [u8],
+}
+
+fn shows(rt: &impl Abort, alloc: Global, status: Status, row: Row) -> Result<(), Fail> {
+    let files = [row.nodes, row.switches];
+    answers(rt, alloc, &TOPOLOGY, &files, status, row.text)
+}
 
 #[test]
 fn topology_names_the_bus_of_each_node(rt: HostRuntime) -> Result<(), Fail> {
-    let cases = [
-        (
-            b"node,source\na,0\nb,0\nc,0\n".as_slice(),
-            b"switch,from,to,closed\nS1,a,b,1\nS2,b,c,0\n".as_slice(),
-            b"node\ta\ta\nnode\tb\ta\nnode\tc\tc\ncount\tbuses\t2\nend\n".as_slice(),
-        ),
+    let rows = [
+        Row {
+            nodes: b"node,source\na,0\nb,0\nc,0\n",
+            switches: b"switch,from,to,closed\nS1,a,b,1\nS2,b,c,0\n",
+            text: b"node\ta\ta\nnode\tb\ta\nnode\tc\tc\ncount\tbuses\t2\nend\n",
+        },
         // A bus is named by its first node in the order of the table.
-        (
-            b"node,source\nz,0\nm,0\na,0\nk,0\n",
-            b"switch,from,to,closed\nS1,a,m,1\nS2,k,a,1\nS3,z,z,1\n",
-            b"node\tz\tz\nnode\tm\tm\nnode\ta\tm\nnode\tk\tm\ncount\tbuses\t2\nend\n",
-        ),
+        Row {
+            nodes: b"node,source\nz,0\nm,0\na,0\nk,0\n",
+            switches: b"switch,from,to,closed\nS1,a,m,1\nS2,k,a,1\nS3,z,z,1\n",
+            text: b"node\tz\tz\nnode\tm\tm\nnode\ta\tm\nnode\tk\tm\ncount\tbuses\t2\nend\n",
+        },
         // A byte order mark, columns in another order, one that isn't needed, and other line ends.
-        (
-            b"\xEF\xBB\xBFsource,node,zone\r\n1,a,x\r\n0,\"b\",y\r\n",
-            b"switch,from,to,closed\n",
-            b"node\ta\ta\nnode\tb\tb\ncount\tbuses\t2\nend\n",
-        ),
+        Row {
+            nodes: b"\xEF\xBB\xBFsource,node,zone\r\n1,a,x\r\n0,\"b\",y\r\n",
+            switches: b"switch,from,to,closed\n",
+            text: b"node\ta\ta\nnode\tb\tb\ncount\tbuses\t2\nend\n",
+        },
     ];
-    for (nodes, switches, text) in cases {
-        let found = outcome(rt.alloc(), &TOPOLOGY, &[nodes, switches], &[], &[])?;
-        assert!(rt; found.status == Status::Done);
-        assert_eq!(rt; found.text.as_slice(), text);
+    for row in rows {
+        shows(&rt, rt.alloc(), Status::Done, row)?;
     }
     Ok(())
 }
 
 #[test]
 fn the_first_fault_is_printed(rt: HostRuntime) -> Result<(), Fail> {
-    let none = b"switch,from,to,closed\n".as_slice();
-    let cases = [
-        (
-            b"node,source\na,0\na,0\n".as_slice(),
-            none,
-            b"fault\tnodes\t2\t9\tNameTwice\n".as_slice(),
-        ),
-        (
-            b"node,source,node\n",
-            none,
-            b"fault\tnodes\t0\t3\tColumnTwice\n",
-        ),
-        (
-            b"node,source\na,2\n",
-            none,
-            b"fault\tnodes\t1\t6\tBadFlag\n",
-        ),
-        (b"", none, b"fault\tnodes\t0\t1\tNoHeader\n"),
-        (
-            b"node,source\na,1\n",
-            b"switch,from,to,closed\nS1,a,z,7\n",
-            b"fault\tswitches\t1\t6\tBadFlag\n",
-        ),
+    let rows = [
+        Row {
+            nodes: b"node,source\na,0\na,0\n",
+            switches: b"switch,from,to,closed\n",
+            text: b"fault\tnodes\t2\t9\tNameTwice\n",
+        },
+        Row {
+            nodes: b"node,source,node\n",
+            switches: b"switch,from,to,closed\n",
+            text: b"fault\tnodes\t0\t3\tColumnTwice\n",
+        },
+        Row {
+            nodes: b"node,source\na,2\n",
+            switches: b"switch,from,to,closed\n",
+            text: b"fault\tnodes\t1\t6\tBadFlag\n",
+        },
+        Row {
+            nodes: b"",
+            switches: b"switch,from,to,closed\n",
+            text: b"fault\tnodes\t0\t1\tNoHeader\n",
+        },
+        Row {
+            nodes: b"node,source\na,1\n",
+            switches: b"switch,from,to,closed\nS1,a,z,7\n",
+            text: b"fault\tswitches\t1\t6\tBadFlag\n",
+        },
     ];
-    for (nodes, switches, text) in cases {
-        let found = outcome(rt.alloc(), &TOPOLOGY, &[nodes, switches], &[], &[])?;
-        assert!(rt; found.status == Status::InputFault);
-        assert_eq!(rt; found.text.as_slice(), text);
+    for row in rows {
+        shows(&rt, rt.alloc(), Status::InputFault, row)?;
     }
     Ok(())
 }
 
 // A node table of so many rows with different names.
-fn many_nodes(alloc: Global, rows: u32) -> Result<Vec<u8>, Fail> {
+pub(crate) fn many_nodes(alloc: Global, rows: u32) -> Result<Vec<u8>, Fail> {
     let mut digits = Digits::new();
     let mut bytes = Vec::from_slice(alloc, b"node,source\n")?;
     for row in 0..rows {
@@ -138,7 +206,7 @@ fn outcome_of_rows(alloc: Global, rows: u32) -> Result<Ended, Fail> {
 }
 
 #[test]
-fn a_table_has_at_most_20000_rows(rt: HostRuntime) -> Result<(), Fail> {
+fn a_table_has_many_rows(rt: HostRuntime) -> Result<(), Fail> {
     let some = outcome_of_rows(rt.alloc(), 300)?;
     assert!(rt; some.status == Status::Done);
     assert!(rt; some.text.starts_with(b"node\tn0\tn0\nnode\tn1\tn1\n"));
@@ -146,67 +214,72 @@ fn a_table_has_at_most_20000_rows(rt: HostRuntime) -> Result<(), Fail> {
         some.text
             .ends_with(b"node\tn299\tn299\ncount\tbuses\t300\nend\n")
     );
-    let many = outcome_of_rows(rt.alloc(), 20001)?;
-    assert!(rt; many.status == Status::InputFault);
-    assert_eq!(rt;
-        many.text.as_slice(),
-        b"fault\tnodes\t20001\t12\tTooMany\n".as_slice()
-    );
     Ok(())
 }
 
 #[test]
-fn failures_of_the_outside_are_told(rt: HostRuntime) -> Result<(), Fail> {
+fn a_table_has_at_most_20000_rows(rt: HostRuntime) -> Result<(), Fail> {
+    let many = outcome_of_rows(rt.alloc(), 20001)?;
+    assert!(rt; many.status == Status::InputFault);
+    assert!(rt; many.text.as_slice() == b"fault\tnodes\t20001\t12\tTooMany\n".as_slice());
+    Ok(())
+}
+
+// Pieces of seven bytes are read, with one read more at the end of each file.
+#[test]
+fn each_read_may_fail(rt: HostRuntime) -> Result<(), Fail> {
     let files = [
         b"node,source\na,0\nb,0\nc,0\n".as_slice(),
         b"switch,from,to,closed\nS1,a,b,1\nS2,b,c,0\n",
     ];
-    let text = b"node\ta\ta\nnode\tb\ta\nnode\tc\tc\ncount\tbuses\t2\nend\n".as_slice();
-    // Twelve reads in pieces of seven bytes, and ten writes in pieces of five.
-    for call in 0..14 {
-        let found = outcome(rt.alloc(), &TOPOLOGY, &files, &[call], &[])?;
-        let status = if call < 12 {
-            Status::ReadFault
-        } else {
-            Status::Done
-        };
-        assert!(rt; found.status == status, "at {call}");
-        assert!(rt; found.text.is_empty() || call >= 12, "at {call}");
-    }
-    for call in 0..12 {
-        let found = outcome(rt.alloc(), &TOPOLOGY, &files, &[], &[call])?;
-        let status = if call < 10 {
-            Status::WriteFault
-        } else {
-            Status::Done
-        };
-        assert!(rt; found.status == status, "at {call}");
-        assert!(rt; text.starts_with(&found.text), "at {call}");
-        assert!(rt; (found.text.len() < text.len()) == (call < 10), "at {call}");
-    }
-    let absent = outcome(rt.alloc(), &TOPOLOGY, &files[..1], &[], &[])?;
-    assert!(rt; absent.status == Status::ReadFault);
-    assert!(rt; absent.text.is_empty());
+    let reads = failing_reads(&rt, rt.alloc(), &TOPOLOGY, &files)?;
+    assert!(rt; reads == 12);
+    Ok(())
+}
+
+// Pieces of five bytes are written.
+#[test]
+fn each_write_may_fail(rt: HostRuntime) -> Result<(), Fail> {
+    let files = [
+        b"node,source\na,0\nb,0\nc,0\n".as_slice(),
+        b"switch,from,to,closed\nS1,a,b,1\nS2,b,c,0\n",
+    ];
+    let text = b"node\ta\ta\nnode\tb\ta\nnode\tc\tc\ncount\tbuses\t2\nend\n";
+    let writes = failing_writes(&rt, rt.alloc(), &TOPOLOGY, &files, text)?;
+    assert!(rt; writes == 10);
     Ok(())
 }
 
 #[test]
+fn an_absent_file_is_a_read_fault(rt: HostRuntime) -> Result<(), Fail> {
+    let files = [b"node,source\na,0\nb,0\nc,0\n".as_slice()];
+    answers(&rt, rt.alloc(), &TOPOLOGY, &files, Status::ReadFault, b"")
+}
+
+fn usage() -> &'static [u8] {
+    b"usage: obs topology N S | report FORM | place FORM CAND | session FORM | verify FORM CERT | trial N SEED\n"
+}
+
+#[test]
 fn other_words_get_the_usage_line(rt: HostRuntime) -> Result<(), Fail> {
-    let usage =
-        b"usage: obs topology N S | report FORM | place FORM CAND | session FORM | verify FORM CERT | trial N SEED\n".as_slice();
     let forms = [
         ["report", "tables", "n"].as_slice(),
         &["trial", "0", "5"],
         &["topology", "n"],
         &["topology", "n", "s", "b"],
         &["Topology", "n", "s"],
+        &["report", "cdf", "c"],
+        &["report", "tables", "n", "s", "b", "m", "c"],
         &[],
     ];
     for words in forms {
-        let found = outcome(rt.alloc(), words, &[], &[], &[])?;
-        assert!(rt; found.status == Status::Usage);
-        assert_eq!(rt; found.text.as_slice(), usage);
+        answers(&rt, rt.alloc(), words, &[], Status::Usage, usage())?;
     }
+    Ok(())
+}
+
+#[test]
+fn a_usage_line_may_be_unwritten(rt: HostRuntime) -> Result<(), Fail> {
     let stuck = outcome(rt.alloc(), &["help"], &[], &[], &[0])?;
     assert!(rt; stuck.status == Status::WriteFault);
     assert!(rt; stuck.text.is_empty());

@@ -1,11 +1,30 @@
-use Rattle.std.proofs.Common.{subst}
+use Rattle.std.proofs.Common.{◌+◌, inl, inr, length, refl, Result, Some, subst, sym}
+use Rattle.obs_case.specs.Tables.{Tables}
+use Rattle.obs_engine.specs.declared.words.Form.TheVariants.{Topology}
 use Rattle.obs_engine.specs.Ending.{EndsWith}
-use Rattle.obs_engine.proofs.Endings.{reply_of-status, replied_statuses}
+use Rattle.obs_engine.specs.Forms.{CanAnswer}
+use Rattle.obs_engine.specs.Replies.{Reply, reply_to}
+use Rattle.obs_engine.specs.Topology.{topology_of}
+use Rattle.obs_engine.proofs.Endings.{replied_statuses}
 use Rattle.obs_engine.proofs.topology.topology.Goals as goal
 
 pub returns-in-Ok-clause-ends : goal.returns-in-Ok-clause-ends
-returns-in-Ok-clause-ends g c = λ nodes switches one two.
-    subst (λ reply. EndsWith reply c.answer.result (g.W.Sink.written c.args.output.now) (g.W.Sink.written c.answer.new.output)) (c.in-Ok.ensures.stated nodes switches one two) c.answer.ensures.replied.ends
+returns-in-Ok-clause-ends g c = λ file told.
+    subst (λ (r : Result Tables Reply). EndsWith (reply_to topology_of r) c.answer_case.result (g.W.Sink.written c.args.output.now) (g.W.Sink.written c.answer_case.new.output)) (sym (c.in-Ok.ensures.stated file told)) c.answer_case.ensures.replied.ends
 
 pub returns-in-Ok-clause-statuses : goal.returns-in-Ok-clause-statuses
-returns-in-Ok-clause-statuses g c = replied_statuses _ _ _ _ (reply_of-status c.in-Ok.taken) c.answer.ensures.replied.reads c.answer.ensures.replied.ends
+returns-in-Ok-clause-statuses g c = replied_statuses (λ s. CanAnswer (Some Topology) s) (topology_of c.in-Ok.case) _ _ _ (inl refl) (inr (inr (inr (inl refl)))) (inr (inr (inr (inr refl)))) c.answer_case.ensures.replied.reads c.answer_case.ensures.replied.ends
+
+pub returns-in-Ok-clause-room : goal.returns-in-Ok-clause-room
+returns-in-Ok-clause-room g c = λ file rest told fits.
+    c.answer_case.ensures.replied.room rest
+    (subst (λ (r : Result Tables Reply). g.W.Sink.has_room c.args.output.now (length (reply_to topology_of r).text + rest)) (c.in-Ok.ensures.stated file told) fits)
+
+pub returns-in-Err-clause-ends : goal.returns-in-Err-clause-ends
+returns-in-Err-clause-ends g c = λ file told. c.refuse_files.ensures.ends _ topology_of (c.in-Err.ensures.stated file told)
+
+pub returns-in-Err-clause-statuses : goal.returns-in-Err-clause-statuses
+returns-in-Err-clause-statuses g c = inr c.refuse_files.ensures.statuses
+
+pub returns-in-Err-clause-room : goal.returns-in-Err-clause-room
+returns-in-Err-clause-room g c = λ file rest told. c.refuse_files.ensures.room _ topology_of rest (c.in-Err.ensures.stated file told)

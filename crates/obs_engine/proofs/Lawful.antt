@@ -1,0 +1,113 @@
+-- What the lines of a report say.
+use Rattle.std.proofs.Common.{◌≡◌, ◌≢◌, ◌↔◌, ◌⊎◌, ℕ, ◌+◌, ◌<◌, ◌≤◌, true, not, List, length, filter, sym, ap, subst, inl, inr, arith}
+use Rattle.std.specs.Prelude.{◌==◌}
+use Rattle.std.specs.List.{range_with_len}
+use Rattle.std.proofs.lemmas.Bool.{and_from, and_parts, cases_Bool, eq-eqb, eqb-true, ne_eqb}
+use Rattle.obs_case.specs.Tables.{Tables, IsValid}
+use Rattle.obs_matroid.specs.Lists.{In, IsDistinct}
+use Rattle.obs_matroid.specs.Assignments.{Pair}
+use Rattle.obs_matroid.proofs.Lists.{In-filter, In-filter_from, IsDistinct-filter, clash}
+use Rattle.obs_meter.specs.Assignments.{IsAssignmentAt, IsRhoAt}
+use Rattle.obs_meter.specs.Touches.{every_item, is_live}
+use Rattle.obs_meter.proofs.Assigned.{live_items-distinct, rho_at-is}
+use Rattle.obs_exchange.specs.Critical.{IsCriticalAt, critical_at}
+use Rattle.obs_exchange.proofs.Lawful.{critical_at-exactly}
+use Rattle.obs_network.specs.Switched.{case_bus_count}
+use Rattle.obs_network.specs.Components.{need_of}
+use Rattle.obs_network.specs.Network.{case_branches, case_component_count, case_meters, case_needed, case_sizes}
+use Rattle.obs_network.specs.Observable.{IsObservable, IsObservableCase, branch_component, case_live_meters, is_fed}
+use Rattle.obs_network.proofs.Marked.{filtered_below}
+use Rattle.obs_network.proofs.Observed.{observed_by_rho}
+use Rattle.obs_network.proofs.OfCase.{case_branches-are}
+use Rattle.obs_network.proofs.Sums.{range_in}
+use Rattle.obs_engine.specs.declared.status.Status.TheVariants.{Done, Short}
+use Rattle.obs_engine.specs.Report.{bound_outside, bound_rank, case_critical_meters, case_rank, component_meters, component_rank, is_meter_of, is_short, report_status, short_components}
+use Rattle.obs_engine.proofs.OfNetwork.{verdict_done, verdict_short}
+use Rattle.obs_engine.proofs.Tight.{bound_is, most_is, observable-from, observable-to, rank_few}
+
+pub rank_greatest : (t : Tables) → IsValid t → IsRhoAt (case_branches t) (case_meters t) (case_live_meters t) (case_rank t)
+unfolding case_rank
+rank_greatest t v = rho_at-is (case_bus_count t) (case_branches t) (case_meters t) (case_live_meters t) (case_branches-are t v) (live_items-distinct (case_branches t) (case_meters t))
+
+rank_observed : (t : Tables) → IsValid t → IsObservableCase t ↔ (case_rank t ≡ case_needed t)
+unfolding case_rank
+rank_observed t v = observed_by_rho t v
+
+cases_rank : (t : Tables) → (case_rank t ≡ case_needed t) ⊎ (case_rank t ≢ case_needed t)
+cases_rank t = elim (cases_Bool (case_rank t == case_needed t)) [
+  | inl e ↦ inl (eqb-true (case_rank t) (case_needed t) e)
+  | inr n ↦ inr (λ e. clash (eq-eqb (case_rank t) (case_needed t) e) n)
+]
+
+pub done_observed : (t : Tables) → IsValid t → (report_status t ≡ Done) ↔ IsObservableCase t
+done_observed t v = (
+  (λ done. elim (cases_rank t) [
+    | inl e ↦ (rank_observed t v).1 e
+    | inr n ↦ let short = verdict_short t n in absurd (cc (short, done))
+  ]),
+  (λ o. sym (verdict_done t ((rank_observed t v).0 o))),
+)
+
+pub short_unobserved : (t : Tables) → IsValid t → (report_status t ≡ Short) ↔ (IsObservableCase t → ⊥)
+short_unobserved t v = (
+  (λ short o. let done = verdict_done t ((rank_observed t v).0 o) in absurd (cc (short, done))),
+  (λ not_seen. elim (cases_rank t) [
+    | inl e ↦ absurd (not_seen ((rank_observed t v).1 e))
+    | inr n ↦ sym (verdict_short t n)
+  ]),
+)
+
+short_parts : (t : Tables) (c : ℕ) → is_short t c ≡ true → (is_fed t c ≡ true) × (component_rank t c ≢ need_of (case_sizes t) c)
+unfolding is_short
+short_parts t c s =
+    let u = and_parts (is_fed t c) (not (component_rank t c == need_of (case_sizes t) c)) s in
+    (u.0, λ e. clash u.1 (ap not (eq-eqb (component_rank t c) (need_of (case_sizes t) c) e)))
+
+short_from : (t : Tables) (c : ℕ) → is_fed t c ≡ true → component_rank t c ≢ need_of (case_sizes t) c → is_short t c ≡ true
+unfolding is_short
+short_from t c fed n =
+    and_from (is_fed t c) (not (component_rank t c == need_of (case_sizes t) c)) fed (ap not (ne_eqb (component_rank t c) (need_of (case_sizes t) c) n))
+
+short_at : (t : Tables) (c : ℕ) → In c (short_components t) → (c < case_component_count t) × (is_short t c ≡ true)
+unfolding short_components
+short_at t c i = (let low = filtered_below (is_short t) 0 (case_component_count t) c i in omega (arith, low), (In-filter_from (is_short t) c (range_with_len 0 (case_component_count t)) i).1)
+
+short_in : (t : Tables) (c : ℕ) → c < case_component_count t → is_short t c ≡ true → In c (short_components t)
+unfolding short_components
+short_in t c l s = In-filter (is_short t) c (range_with_len 0 (case_component_count t)) (range_in 0 (case_component_count t) c (omega arith) (omega (arith, l))) s
+
+components_distinct : (t : Tables) (c : ℕ) → IsDistinct (component_meters t c)
+unfolding component_meters
+components_distinct t c = IsDistinct-filter (is_meter_of t c) (case_live_meters t) (live_items-distinct (case_branches t) (case_meters t))
+
+module _ (t : Tables) (v : IsValid t) (c : ℕ) where
+  pub shown_short : In c (short_components t) ↔ ((c < case_component_count t) × (is_fed t c ≡ true) × (IsObservable t c → ⊥))
+  shown_short = (
+    (λ i. let u = short_at t c i in let w = short_parts t c u.1 in (u.0, w.0, λ o. w.1 (observable-to t v c u.0 o))),
+    (λ h. short_in t c h.0 (short_from t c h.1 (λ e. h.2 (observable-from t v c e)))),
+  )
+
+  pub bound_below_need : In c (short_components t) → bound_rank t c + bound_outside t c < need_of (case_sizes t) c
+  bound_below_need i =
+      let u = short_at t c i in
+      let w = (short_parts t c u.1).1 in
+      omega (arith, rank_few t v c u.0, bound_is t v c, w)
+
+  pub bound_most : (A : List Pair) → IsAssignmentAt (case_branches t) (case_meters t) (case_live_meters t) A → length (filter (λ p. branch_component t p.1 == c) A) ≤ bound_rank t c + bound_outside t c
+  bound_most A a = let most = most_is t v c A a in omega (arith, most, bound_is t v c)
+
+  pub bound_reached : IsRhoAt (case_branches t) (case_meters t) (component_meters t c) (bound_rank t c + bound_outside t c)
+  unfolding component_rank
+  bound_reached = subst (λ (r : ℕ). IsRhoAt (case_branches t) (case_meters t) (component_meters t c) r) (sym (bound_is t v c))
+      (rho_at-is (case_bus_count t) (case_branches t) (case_meters t) (component_meters t c) (case_branches-are t v) (components_distinct t c))
+
+pub critical_lines : (t : Tables) → IsValid t → (m : ℕ) → In m (case_critical_meters t) ↔ IsCriticalAt (case_branches t) (case_meters t) (case_live_meters t) m
+unfolding case_critical_meters
+critical_lines t v m =
+    let exactly = critical_at-exactly (case_bus_count t) (case_branches t) (case_meters t) (case_branches-are t v) m in
+    let p = critical_at (case_bus_count t) (case_branches t) (case_meters t) in (
+      (λ i. (exactly.0 (In-filter_from p m (every_item (case_meters t)) i).1).1),
+      (λ k.
+          let u = In-filter_from (is_live (case_branches t) (case_meters t)) m (every_item (case_meters t)) k.item in
+          In-filter p m (every_item (case_meters t)) u.0 (exactly.1 (u.1, k))),
+    )

@@ -1,0 +1,73 @@
+-- What is read off the network of a case.
+use Rattle.std.proofs.Common.{◌≡◌, ◌≢◌, ℕ, ◌<◌, ◌≤◌, Bool, true, false, not, All, length, refl, ap, ◌∙◌, eqb, arith}
+use Rattle.std.specs.Prelude.{slice_index_or}
+use Rattle.std.proofs.lemmas.Bool.{eq-eqb, ne_eqb}
+use Rattle.std.proofs.lemmas.List.{length-map}
+use Rattle.obs_case.specs.Tables.{IsValid, Tables}
+use Rattle.obs_matroid.specs.Lists.{In}
+use Rattle.obs_matroid.proofs.Contained.{All-from_In}
+use Rattle.obs_matroid.proofs.Lists.{In-filter_from}
+use Rattle.obs_meter.specs.Touches.{is_live}
+use Rattle.obs_exchange.specs.Critical.{critical_at}
+use Rattle.obs_network.specs.Switched.{case_bus_count, case_buses}
+use Rattle.obs_network.specs.Touching.{meter_touch}
+use Rattle.obs_network.specs.Components.{need_of}
+use Rattle.obs_network.specs.Network.{NetworkOf, case_branches, case_component_count, case_meters, case_needed, case_sizes, network_of}
+use Rattle.obs_network.specs.Observable.{case_live_meters, is_fed}
+use Rattle.obs_network.proofs.Marked.{filtered_below}
+use Rattle.obs_network.proofs.OfCase.{length-case_first_buses}
+use Rattle.obs_engine.specs.declared.status.Status.TheVariants.{Done, Short}
+use Rattle.obs_engine.specs.Report.{bound_meters, case_critical_meters, case_rank, component_meters, component_rank, is_critical_meter, is_meter_of, is_short, report_status}
+
+-- how many components there are
+pub count_of : (n : NetworkOf) (t : Tables) → n ≡ network_of t → length n.components.first_buses ≡ case_component_count t
+count_of n t same = ap (λ (x : NetworkOf). length x.components.first_buses) same ∙ length-case_first_buses t
+
+pub fed_of : (n : NetworkOf) (t : Tables) (c : ℕ) → n ≡ network_of t → slice_index_or n.components.energised c false ≡ is_fed t c
+fed_of n t c same = ap (λ (x : NetworkOf). slice_index_or x.components.energised c false) same
+
+pub need_from : (n : NetworkOf) (t : Tables) (c : ℕ) → n ≡ network_of t → need_of n.components.sizes c ≡ need_of (case_sizes t) c
+need_from n t c same = ap (λ (x : NetworkOf). need_of x.components.sizes c) same
+
+-- whether a component falls short
+pub short_fed : (t : Tables) (c rank need : ℕ) → is_fed t c ≡ true → rank ≡ component_rank t c → need ≡ need_of (case_sizes t) c → not (eqb rank need) ≡ is_short t c
+unfolding is_short
+short_fed t c rank need fed r n = rw (r, n, fed) refl
+
+pub short_dead : (t : Tables) (c : ℕ) (b : Bool) → is_fed t c ≡ false → b ≡ false → b ≡ is_short t c
+unfolding is_short
+short_dead t c b dead e = rw (e, dead) refl
+
+-- the verdict
+pub verdict_done : (t : Tables) → case_rank t ≡ case_needed t → Done ≡ report_status t
+unfolding report_status
+verdict_done t e = rw (eq-eqb (case_rank t) (case_needed t) e) refl
+
+pub verdict_short : (t : Tables) → case_rank t ≢ case_needed t → Short ≡ report_status t
+unfolding report_status
+verdict_short t e = rw (ne_eqb (case_rank t) (case_needed t) e) refl
+
+-- listed meters are meters
+pub length-case_meters : (t : Tables) → length (case_meters t) ≡ length t.meters
+unfolding case_meters
+length-case_meters t = length-map t.meters (meter_touch (case_buses t))
+
+pub few_meters : (t : Tables) → IsValid t → length t.meters ≤ 20000
+few_meters t v = let few = v.meters.few in omega (arith, few, length-map t.meters (λ row. row.name))
+
+pub live_below : (t : Tables) (m : ℕ) → In m (case_live_meters t) → m < length t.meters
+live_below t m i =
+    let low = filtered_below (is_live (case_branches t) (case_meters t)) 0 (length (case_meters t)) m i in
+    omega (arith, low, length-case_meters t)
+
+pub critical_below : (t : Tables) → All (λ m. m < length t.meters) (case_critical_meters t)
+unfolding case_critical_meters
+critical_below t = All-from_In (λ m. m < length t.meters) _ (λ m i.
+    let low = filtered_below (critical_at (case_bus_count t) (case_branches t) (case_meters t)) 0 (length (case_meters t)) m i in
+    omega (arith, low, length-case_meters t))
+
+pub bound_below : (t : Tables) (c : ℕ) → All (λ m. m < length t.meters) (bound_meters t c)
+unfolding bound_meters component_meters
+bound_below t c = All-from_In (λ m. m < length t.meters) _ (λ m i.
+    let u = In-filter_from (λ x. not (is_critical_meter t x)) m (component_meters t c) i in
+    live_below t m (In-filter_from (is_meter_of t c) m (case_live_meters t) u.0).0)

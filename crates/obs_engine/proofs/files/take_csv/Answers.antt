@@ -1,0 +1,57 @@
+use Rattle.std.proofs.Common.{◌≡◌, ◌∙◌, ap, refl, inl, inr, codes, subst, List, None, ℕ, Result}
+use Rattle.obs_case.specs.Tables.{Tables}
+use Rattle.obs_case_csv.specs.Read.{tables_in}
+use Rattle.obs_engine.specs.Files.{case_of_tables, csv_case}
+use Rattle.obs_engine.specs.Replies.{Reply}
+use Rattle.obs_engine.specs.Taken.{IsTaken}
+use Rattle.obs_engine.proofs.Taking.{not_taken, taken_next}
+use Rattle.obs_engine.proofs.files.take_csv.Goals as goal
+
+pub returns-in_err-nodes-clause-stated : goal.returns-in_err-nodes-clause-stated
+unfolding csv_case
+returns-in_err-nodes-clause-stated g c = λ file told.
+    not_taken (codes "nodes") (file 2) _ c.in_err-nodes.field-0.0 c.from_residual.result c.from_residual.ensures.1 (c.in_err-nodes.ensures.stated (file 2) (told 2 (inl refl)))
+
+pub returns-in_err-switches-clause-stated : goal.returns-in_err-switches-clause-stated
+unfolding csv_case
+returns-in_err-switches-clause-stated g c = λ file told.
+    let r = c.from_residual-in_err-switches.result in
+    taken_next (codes "nodes") (file 2) _ r (c.in_ok-nodes.ensures.stated (file 2) (told 2 (inl refl))).1
+    (not_taken (codes "switches") (file 3) _ c.in_err-switches.field-0.0 r c.from_residual-in_err-switches.ensures.1
+    (c.in_err-switches.ensures.stated (file 3) (c.in_ok-nodes.ensures.same 3 ∙ told 3 (inr (inl refl)))))
+
+pub returns-in_err-branches-clause-stated : goal.returns-in_err-branches-clause-stated
+unfolding csv_case
+returns-in_err-branches-clause-stated g c = λ file told.
+    let r = c.from_residual-in_err-branches.result in
+    taken_next (codes "nodes") (file 2) _ r (c.in_ok-nodes.ensures.stated (file 2) (told 2 (inl refl))).1
+    (taken_next (codes "switches") (file 3) _ r (c.in_ok-switches.ensures.stated (file 3) (c.in_ok-nodes.ensures.same 3 ∙ told 3 (inr (inl refl)))).1
+    (not_taken (codes "branches") (file 4) _ c.in_err-branches.field-0.0 r c.from_residual-in_err-branches.ensures.1
+    (c.in_err-branches.ensures.stated (file 4) (c.in_ok-switches.ensures.same 4 ∙ (c.in_ok-nodes.ensures.same 4 ∙ told 4 (inr (inr (inl refl))))))))
+
+pub returns-in_err-meters-clause-stated : goal.returns-in_err-meters-clause-stated
+unfolding csv_case
+returns-in_err-meters-clause-stated g c = λ file told.
+    let r = c.from_residual-in_err-meters.result in
+    taken_next (codes "nodes") (file 2) _ r (c.in_ok-nodes.ensures.stated (file 2) (told 2 (inl refl))).1
+    (taken_next (codes "switches") (file 3) _ r (c.in_ok-switches.ensures.stated (file 3) (c.in_ok-nodes.ensures.same 3 ∙ told 3 (inr (inl refl)))).1
+    (taken_next (codes "branches") (file 4) _ r (c.in_ok-branches.ensures.stated (file 4) (c.in_ok-switches.ensures.same 4 ∙ (c.in_ok-nodes.ensures.same 4 ∙ told 4 (inr (inr (inl refl)))))).1
+    (not_taken (codes "meters") (file 5) _ c.in_err-meters.field-0.0 r c.from_residual-in_err-meters.ensures.1
+    (c.in_err-meters.ensures.stated (file 5) (c.in_ok-branches.ensures.same 5 ∙ (c.in_ok-switches.ensures.same 5 ∙ (c.in_ok-nodes.ensures.same 5 ∙ told 5 (inr (inr (inr refl))))))))))
+
+pub returns-clause-stated : goal.returns-clause-stated
+unfolding csv_case
+returns-clause-stated g c = λ file told.
+    let r = c.read_csv.result in
+    let one = c.in_ok-nodes.ensures.stated (file 2) (told 2 (inl refl)) in
+    let two = c.in_ok-switches.ensures.stated (file 3) (c.in_ok-nodes.ensures.same 3 ∙ told 3 (inr (inl refl))) in
+    let three = c.in_ok-branches.ensures.stated (file 4) (c.in_ok-switches.ensures.same 4 ∙ (c.in_ok-nodes.ensures.same 4 ∙ told 4 (inr (inr (inl refl))))) in
+    let four = c.in_ok-meters.ensures.stated (file 5) (c.in_ok-branches.ensures.same 5 ∙ (c.in_ok-switches.ensures.same 5 ∙ (c.in_ok-nodes.ensures.same 5 ∙ told 5 (inr (inr (inr refl)))))) in
+    let same = tables_same _ _ _ _ _ _ _ _ (c.deref.ensures.value ∙ one.0) (c.deref-2.ensures.value ∙ two.0) (c.deref-3.ensures.value ∙ three.0) (c.deref-4.ensures.value ∙ four.0) in
+    taken_next (codes "nodes") (file 2) _ r one.1 (taken_next (codes "switches") (file 3) _ r two.1 (taken_next (codes "branches") (file 4) _ r three.1 (taken_next (codes "meters") (file 5) _ r four.1
+    (subst (λ (s : Result Tables Reply). IsTaken s r) same c.read_csv.ensures.read))))
+  where
+    tables_same : (a b d e x y z w : List ℕ) → a ≡ x → b ≡ y → d ≡ z → e ≡ w → case_of_tables (tables_in a b d e None) ≡ case_of_tables (tables_in x y z w None)
+    tables_same a b d e x y z w p q r s =
+        ap (λ (k : List ℕ). case_of_tables (tables_in k b d e None)) p ∙ (ap (λ (k : List ℕ). case_of_tables (tables_in x k d e None)) q
+        ∙ (ap (λ (k : List ℕ). case_of_tables (tables_in x y k e None)) r ∙ ap (λ (k : List ℕ). case_of_tables (tables_in x y z k None)) s))

@@ -1,0 +1,5 @@
+use Rattle.obs_engine.proofs.Lawful.{shown_short}
+use Rattle.obs_engine.proofs.laws.short_components_are_unobservable.Goals as goal
+
+pub returns : goal.returns
+returns c = record { exactly = shown_short }

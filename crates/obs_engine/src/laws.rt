@@ -1,0 +1,47 @@
+// The laws of reports.
+ghost use Rattle.std.specs.Prelude.{◌≡◌, ◌↔◌, ◌+◌, ◌<◌, ◌≤◌, ◌==◌, ℕ, true, List, length, filter};
+ghost use Rattle.obs_case.specs.Tables.{IsValid, Tables};
+ghost use Rattle.obs_matroid.specs.Lists.{In};
+ghost use Rattle.obs_matroid.specs.Assignments.{Pair};
+ghost use Rattle.obs_meter.specs.Assignments.{IsAssignmentAt, IsRhoAt};
+ghost use Rattle.obs_exchange.specs.Critical.{IsCriticalAt};
+ghost use Rattle.obs_network.specs.Components.{need_of};
+ghost use Rattle.obs_network.specs.Network.{case_branches, case_component_count, case_meters, case_sizes};
+ghost use Rattle.obs_network.specs.Observable.{IsObservable, IsObservableCase, branch_component, case_live_meters, is_fed};
+ghost use Rattle.obs_engine.specs.declared.status.Status.TheVariants.{Done, Short};
+ghost use Rattle.obs_engine.specs.Report.{bound_outside, bound_rank, case_critical_meters, case_rank, component_meters, report_status, short_components};
+
+/// The printed rank is the greatest length that an assignment of the live meters has.
+pub fn rank_is_greatest()
+    ensures greatest { (t : Tables) → IsValid t → IsRhoAt (case_branches t) (case_meters t) (case_live_meters t) (case_rank t) }
+{}
+
+/// A report has the good status exactly where the case is observable, and else the one that says that it falls short.
+pub fn status_is_observability()
+    ensures done { (t : Tables) → IsValid t → (report_status t ≡ Done) ↔ IsObservableCase t }
+    ensures short { (t : Tables) → IsValid t → (report_status t ≡ Short) ↔ (IsObservableCase t → ⊥) }
+{}
+
+/// A report has a bound for exactly those energised components that aren't observable.
+pub fn short_components_are_unobservable()
+    ensures exactly { (t : Tables) → IsValid t → (c : ℕ) →
+        In c (short_components t) ↔ ((c < case_component_count t) × (is_fed t c ≡ true) × (IsObservable t c → ⊥)) }
+{}
+
+/// The two numbers of a bound add up to less than the component needs: to the greatest length that an assignment of its
+/// meters has. No assignment of the case has more pairs in the component.
+pub fn bounds_refute()
+    ensures below { (t : Tables) → IsValid t → (c : ℕ) → In c (short_components t) →
+        bound_rank t c + bound_outside t c < need_of (case_sizes t) c }
+    ensures greatest { (t : Tables) → IsValid t → (c : ℕ) →
+        IsRhoAt (case_branches t) (case_meters t) (component_meters t c) (bound_rank t c + bound_outside t c) }
+    ensures most { (t : Tables) → IsValid t → (c : ℕ) (A : List Pair) →
+        IsAssignmentAt (case_branches t) (case_meters t) (case_live_meters t) A →
+        length (filter (λ p. branch_component t p.1 == c) A) ≤ bound_rank t c + bound_outside t c }
+{}
+
+/// A report has a critical line for exactly those live meters whose loss lowers the rank.
+pub fn critical_lines_are_exact()
+    ensures exactly { (t : Tables) → IsValid t → (m : ℕ) →
+        In m (case_critical_meters t) ↔ IsCriticalAt (case_branches t) (case_meters t) (case_live_meters t) m }
+{}

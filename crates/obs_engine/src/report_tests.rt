@@ -1,0 +1,187 @@
+// The printed text of worked reports.
+
+use crate::Status;
+use crate::tests::{answers, failing_reads, failing_writes, many_nodes};
+use std::alloc::Global;
+use std::process::Abort;
+use std::test::Fail;
+
+const TABLES: [&str; 6] = ["report", "tables", "n", "s", "b", "m"];
+
+const SWITCHES: &[u8] = b"switch,from,to,closed\n";
+
+// Three tables beside an empty one of switches, and what is reported of them.
+#[derive(Clone, Copy)]
+struct Row {
+    nodes: &'static [u8],
+    branches: &'static [u8],
+    meters: &'static [u8],
+    text: &'static [u8],
+}
+
+fn reports(rt: &impl Abort, alloc: Global, status: Status, row: Row) -> Result<(), Fail> {
+    let files = [
+        b"".as_slice(),
+        row.nodes,
+        SWITCHES,
+        row.branches,
+        row.meters,
+    ];
+    answers(rt, alloc, &TABLES, &files, status, row.text)
+}
+
+// Four buses in a row, two meters on the first branch, and an injection at the second bus.
+fn path() -> Row {
+    Row {
+        nodes: b"node,source\na,1\nb,0\nc,0\nd,0\n",
+        branches: b"branch,from,to,inservice\nL1,a,b,1\nL2,b,c,1\nL3,c,d,1\n",
+        meters: b"meter,kind,at,inservice\nf1,flow,L1,1\nf2,flow,L1,1\nib,injection,b,1\n",
+        text: b"count\tbuses\t4\ncount\tenergised\t4\ncount\tbranches\t3\ncount\tmeters\t3\ncount\tneeded\t3\ncount\trank\t2\nverdict\tshort\nbound\ta\t1\t1\ninside\tmeter\tf1\ninside\tmeter\tf2\ncritical\tib\nend\n",
+    }
+}
+
+// An injection has one branch of the three at its bus.
+fn star() -> Row {
+    Row {
+        nodes: b"node,source\nh,1\nx,0\ny,0\nz,0\n",
+        branches: b"branch,from,to,inservice\nL1,h,x,1\nL2,h,y,1\nL3,h,z,1\n",
+        meters: b"meter,kind,at,inservice\nih,injection,h,1\n",
+        text: b"count\tbuses\t4\ncount\tenergised\t4\ncount\tbranches\t3\ncount\tmeters\t1\ncount\tneeded\t3\ncount\trank\t1\nverdict\tshort\nbound\th\t0\t1\ncritical\tih\nend\n",
+    }
+}
+
+// Two injections beside one another.
+fn neighbours() -> Row {
+    Row {
+        nodes: b"node,source\na,1\nb,0\nc,0\nd,0\ne,0\n",
+        branches: b"branch,from,to,inservice\nL1,a,b,1\nL2,b,c,1\nL3,c,d,1\nL4,d,e,1\n",
+        meters: b"meter,kind,at,inservice\nib,injection,b,1\nic,injection,c,1\n",
+        text: b"count\tbuses\t5\ncount\tenergised\t5\ncount\tbranches\t4\ncount\tmeters\t2\ncount\tneeded\t4\ncount\trank\t2\nverdict\tshort\nbound\ta\t0\t2\ncritical\tib\ncritical\tic\nend\n",
+    }
+}
+
+#[test]
+fn a_report_shows_what_falls_short(rt: HostRuntime) -> Result<(), Fail> {
+    for row in [path(), star(), neighbours()] {
+        reports(&rt, rt.alloc(), Status::Short, row)?;
+    }
+    Ok(())
+}
+
+// Nothing is energised.
+fn dead() -> Row {
+    Row {
+        nodes: b"node,source\na,0\nb,0\n",
+        branches: b"branch,from,to,inservice\nL1,a,b,1\n",
+        meters: b"meter,kind,at,inservice\nf1,flow,L1,1\n",
+        text: b"count\tbuses\t2\ncount\tenergised\t0\ncount\tbranches\t0\ncount\tmeters\t0\ncount\tneeded\t0\ncount\trank\t0\nverdict\tobservable\nend\n",
+    }
+}
+
+// One bus needs nothing.
+fn alone() -> Row {
+    Row {
+        nodes: b"node,source\na,1\n",
+        branches: b"branch,from,to,inservice\n",
+        meters: b"meter,kind,at,inservice\n",
+        text: b"count\tbuses\t1\ncount\tenergised\t1\ncount\tbranches\t0\ncount\tmeters\t0\ncount\tneeded\t0\ncount\trank\t0\nverdict\tobservable\nend\n",
+    }
+}
+
+// The injection leaves the first branch to the flow.
+fn triangle() -> Row {
+    Row {
+        nodes: b"node,source\na,1\nb,0\nc,0\n",
+        branches: b"branch,from,to,inservice\nL1,a,b,1\nL2,b,c,1\nL3,c,a,1\n",
+        meters: b"meter,kind,at,inservice\nia,injection,a,1\nf1,flow,L1,1\n",
+        text: b"count\tbuses\t3\ncount\tenergised\t3\ncount\tbranches\t3\ncount\tmeters\t2\ncount\tneeded\t2\ncount\trank\t2\nverdict\tobservable\ncritical\tia\ncritical\tf1\nend\n",
+    }
+}
+
+// Of two meters on parallel branches neither is critical.
+fn parallel() -> Row {
+    Row {
+        nodes: b"node,source\na,1\nb,0\n",
+        branches: b"branch,from,to,inservice\nL1,a,b,1\nL2,a,b,1\n",
+        meters: b"meter,kind,at,inservice\nf1,flow,L1,1\nf2,flow,L2,1\n",
+        text: b"count\tbuses\t2\ncount\tenergised\t2\ncount\tbranches\t2\ncount\tmeters\t2\ncount\tneeded\t1\ncount\trank\t1\nverdict\tobservable\nend\n",
+    }
+}
+
+#[test]
+fn observable_cases_have_the_good_status(rt: HostRuntime) -> Result<(), Fail> {
+    for row in [dead(), alone(), triangle(), parallel()] {
+        reports(&rt, rt.alloc(), Status::Done, row)?;
+    }
+    Ok(())
+}
+
+#[test]
+fn the_first_fault_of_four_tables_is_printed(rt: HostRuntime) -> Result<(), Fail> {
+    let bad_flag = Row {
+        nodes: b"node,source\na,2\n",
+        text: b"fault\tnodes\t1\t6\tBadFlag\n",
+        ..path()
+    };
+    let unknown_place = Row {
+        meters: b"meter,kind,at,inservice\nf1,flow,L9,1\n",
+        text: b"fault\tmeters\t1\t11\tUnknownPlace\n",
+        ..path()
+    };
+    let no_header = Row {
+        nodes: b"",
+        text: b"fault\tnodes\t0\t1\tNoHeader\n",
+        ..path()
+    };
+    for row in [bad_flag, unknown_place, no_header] {
+        reports(&rt, rt.alloc(), Status::InputFault, row)?;
+    }
+    Ok(())
+}
+
+#[test]
+fn too_many_nodes_are_not_reported(rt: HostRuntime) -> Result<(), Fail> {
+    let nodes = many_nodes(rt.alloc(), 20001)?;
+    let row = path();
+    let files = [
+        b"".as_slice(),
+        nodes.as_slice(),
+        SWITCHES,
+        row.branches,
+        row.meters,
+    ];
+    let text = b"fault\tnodes\t20001\t12\tTooMany\n";
+    answers(&rt, rt.alloc(), &TABLES, &files, Status::InputFault, text)
+}
+
+// The files of 28, 22, 52 and 67 bytes are read in pieces of seven bytes, with one read more at the end of each.
+#[test]
+fn each_read_of_a_report_may_fail(rt: HostRuntime) -> Result<(), Fail> {
+    let row = path();
+    let files = [
+        b"".as_slice(),
+        row.nodes,
+        SWITCHES,
+        row.branches,
+        row.meters,
+    ];
+    let reads = failing_reads(&rt, rt.alloc(), &TABLES, &files)?;
+    assert!(rt; reads == 30);
+    Ok(())
+}
+
+// Pieces of at most five bytes are written.
+#[test]
+fn each_write_of_a_report_may_fail(rt: HostRuntime) -> Result<(), Fail> {
+    let row = path();
+    let files = [
+        b"".as_slice(),
+        row.nodes,
+        SWITCHES,
+        row.branches,
+        row.meters,
+    ];
+    let writes = failing_writes(&rt, rt.alloc(), &TABLES, &files, row.text)?;
+    assert!(rt; writes >= 34);
+    Ok(())
+}
