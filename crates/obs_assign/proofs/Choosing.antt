@@ -7,7 +7,7 @@ use Rattle.obs_graph.specs.declared.Ends.{Ends}
 use Rattle.obs_graph.specs.declared.search.Up.{Up}
 use Rattle.obs_graph.specs.Positions.{branches_at, has_end}
 use Rattle.obs_graph.proofs.AtVertex.{at_vertex, has_end-at_vertex}
-use Rattle.obs_matroid.proofs.Lists.{same_Bool}
+use Rattle.std.specs.Cmp.Derive.{one_truth}
 use Rattle.obs_meter.specs.declared.Touch.{Touch}
 use Rattle.obs_forest.specs.Holding.{has_position}
 use Rattle.obs_forest.proofs.Held.{has_position-contains, contains-has_position}
@@ -18,7 +18,7 @@ use Rattle.obs_assign.proofs.Slotted.{none_some, some_same}
 
 -- the branches at v are those with an end there
 pub star_position : (ends : List (Option Ends)) (v e : ℕ) → has_position (branches_at ends v) e ≡ has_end v (get_or ends e None)
-star_position ends v e = same_Bool (has_position (branches_at ends v) e) (has_end v (get_or ends e None))
+star_position ends v e = one_truth (has_position (branches_at ends v) e) (has_end v (get_or ends e None))
     (λ t. has_end-at_vertex ends v e (has_position-contains (branches_at ends v) e t))
     (λ t. contains-has_position (branches_at ends v) e (at_vertex ends v e t))
 

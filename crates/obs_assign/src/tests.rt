@@ -21,7 +21,7 @@ fn has(rt: &impl Abort, a: &Assignment, want: &[Option<u32>])
 }
 
 // A path of three branches, with two flow meters on the first one and an injection behind it. A flow meter takes the
-// first branch and the injection the second one, and then the flow meter gives its branch up.
+// first branch and the injection the second one, and then the flow meter gives its branch up. What is left is carried over.
 fn grow<L: Ledger>(
     rt: &impl Abort,
     g: &mut Graph,
@@ -66,10 +66,28 @@ fn grow<L: Ledger>(
         }],
         steps,
     );
-    assert!(rt; a.length() == 2);
+    assert!(rt; a.length() == 2 && a.turns() == 2);
     has(rt, a, &[Some(0), None, Some(1)]);
     a.drop_pair(g, 0);
     has(rt, a, &[None, None, Some(1)]);
+    carry(rt, g, ms, a);
+}
+
+// The pair of the injection and the second branch is carried over to a network in which it stands, and to one in which its
+// branch is absent.
+fn carry(rt: &impl Abort, g: &mut Graph, ms: &Meters, a: &mut Assignment)
+    requires vertices { 3 ≤ g.old.most_vertices }
+    requires branches { 3 ≤ g.old.most_branches }
+    requires meters { length ms.now.touches ≡ length a.old.slots }
+    requires positions { length a.old.forest.held ≡ 3 }
+    requires most_vertices { 3 ≤ a.old.forest.most_vertices }
+{
+    let first = Some(Ends { a: 0, b: 1 });
+    let third = Some(Ends { a: 1, b: 2 });
+    g.refill(3, &[first, Some(Ends { a: 1, b: 0 }), third]);
+    assert!(rt; a.retain_touching(g, ms) == 1);
+    g.refill(3, &[first, None, third]);
+    assert!(rt; a.retain_touching(g, ms) == 0);
 }
 
 // A triangle with an injection at the first vertex and a flow meter on the first branch. Once the injection is pinned to

@@ -1,21 +1,19 @@
 -- The rows of one table: what a reading without a fault gives, and what a table's rows are read as.
-use Rattle.std.proofs.Common.{ℕ, ◌≡◌, ◌∙◌, ◌+◌, ◌<◌, ◌≤◌, ap, refl, sym, subst, List, [], ◌∷◌, ◌++◌, length, Bool, true, false, arith, Option, Some, None, map, nat_eq, append_assoc, ◌||◌}
+use Rattle.std.proofs.Common.{ℕ, ◌≡◌, ◌∙◌, ◌<◌, ◌≤◌, ap, refl, sym, subst, List, [], ◌∷◌, ◌++◌, length, true, false, arith, None, map, nat_eq, append_assoc, ◌||◌}
 use Rattle.std.proofs.lemmas.Bool.{and_parts, eqb-false, ne_eqb}
 use Rattle.std.proofs.lemmas.List.Folds.{list_all-append, list_any-append}
-use Rattle.std.specs.List.{list_all, list_any}
+use Rattle.std.specs.List.{list_all}
 use Rattle.std.specs.Str.{bytes_eq}
-use Rattle.std.proofs.lemmas.List.{append-nil, length-append, length-map, map-append}
+use Rattle.std.proofs.lemmas.List.{append-nil, length-append, map-append}
 use Rattle.obs_text.specs.Names.{is_name}
 use Rattle.obs_case.specs.Tables.{IsNamed, Tables, are_different, has_name, most_rows}
 use Rattle.obs_case.proofs.NameLemmas.{bytes_eq-back, different-parts, named-none, named-push}
-use Rattle.obs_case_csv.specs.declared.faults.RowFault.{RowFault}
 use Rattle.obs_case_csv.specs.declared.faults.Table.{Table}
-use Rattle.obs_case_csv.specs.declared.faults.TableFault.{TableFault}
-use Rattle.obs_case_csv.specs.Fields.{Record, columns_fault, needed_columns}
+use Rattle.obs_case_csv.specs.Fields.{Record}
 use Rattle.obs_case_csv.specs.IsCase.{AreRows, EachIs}
-use Rattle.obs_case_csv.specs.Read.{earlier, fault_at, fault_in, fault_of_records, first_fault, rows_before, rows_in, rows_of_records, table_records}
+use Rattle.obs_case_csv.specs.Read.{fault_in, fault_of_records, first_fault, rows_before, rows_in, rows_of_records, table_records}
 use Rattle.obs_case_csv.specs.Rows.{names_in, row_fault, with_record}
-use Rattle.obs_case_csv.proofs.ReadLemmas.{first_fault-end, first_fault-next, row_fault-none, rows_before-end, rows_before-next, with_header}
+use Rattle.obs_case_csv.proofs.ReadLemmas.{first_fault-end, first_fault-next, header-none, row_fault-none, rows_before-end, rows_before-next, with_header}
 use Rattle.obs_case_csv.proofs.ReadingLemmas.{or_none, row_fault-parts}
 
 -- a table of a case: its rows, and what is known of one record
@@ -75,7 +73,7 @@ module _ {R : Type 0} (table : Table) (own : R → List ℕ) (get : Tables → L
   regroup t x xs = ap (λ l. l ++ xs) (h.get_put t (get t ++ x ∷ [])) ∙ append_assoc (get t) (x ∷ []) xs
 
   -- rows without a fault are read
-  forward : (header : Record) (rows : List Record) (t : Tables) → first_fault table header t rows ≡ None → IsNamed (map own (get t))
+  pub forward : (header : Record) (rows : List Record) (t : Tables) → first_fault table header t rows ≡ None → IsNamed (map own (get t))
       → (xs : List R) × (rows_before table header t rows ≡ put t (get t ++ xs)) × EachIs (is t header) rows xs × IsNamed (map own (get t ++ xs))
   forward header [] t e named = (
     [],
@@ -101,7 +99,7 @@ module _ {R : Type 0} (table : Table) (own : R → List ℕ) (get : Tables → L
       )
 
   -- the rows of a table have no fault
-  backward : (header : Record) (rows : List Record) (xs : List R) (t : Tables) → EachIs (is t header) rows xs → IsNamed (map own (get t ++ xs))
+  pub backward : (header : Record) (rows : List Record) (xs : List R) (t : Tables) → EachIs (is t header) rows xs → IsNamed (map own (get t ++ xs))
       → (first_fault table header t rows ≡ None) × (rows_before table header t rows ≡ put t (get t ++ xs))
   unfolding EachIs
   backward header [] [] t each named = (first_fault-end table header t, rows_before-end table header t ∙ sym (h.put_get t) ∙ ap (put t) (sym (append-nil (get t))))
@@ -124,16 +122,11 @@ module _ {R : Type 0} (table : Table) (own : R → List ℕ) (get : Tables → L
       → (xs : List R) × (rows_in table t bytes ≡ put t xs) × AreRows (is t) table bytes xs × IsNamed (map own xs)
   table-forward t bytes empty e = by (table_records bytes) refl e
     where
-      none : (header : Record) (rows : List Record) (o : Option RowFault) → columns_fault (needed_columns table) header ≡ o
-          → earlier (fault_at table 0 o) (first_fault table header t rows) ≡ None → (columns_fault (needed_columns table) header ≡ None) × (first_fault table header t rows ≡ None)
-      none header rows None is e = (is, e)
-      none header rows (Some code) is e = cc
-
       by : (records : List Record) → table_records bytes ≡ records → fault_of_records table t records ≡ None
           → (xs : List R) × (rows_in table t bytes ≡ put t xs) × AreRows (is t) table bytes xs × IsNamed (map own xs)
       by [] at e = cc
       by (header ∷ rows) at e =
-          let fine = none header rows (columns_fault (needed_columns table) header) refl e in
+          let fine = header-none table t header rows e in
           let read = forward header rows t fine.1 (subst (λ l. IsNamed (map own l)) (sym empty) named-none) in (
             read.0,
             ap (rows_of_records table t) at ∙ (with_header table t header rows fine.0).1 ∙ read.1 ∙ ap (λ l. put t (l ++ read.0)) empty,

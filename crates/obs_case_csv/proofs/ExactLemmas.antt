@@ -3,7 +3,6 @@ use Rattle.std.proofs.Common.{ℕ, ◌≡◌, ◌∙◌, ◌<◌, ◌≤◌, ap,
 use Rattle.std.proofs.lemmas.Bool.{leb-true}
 use Rattle.std.proofs.lemmas.List.{length-map}
 use Rattle.std.proofs.lemmas.List.Elements.{All-cons, All-nil}
-use Rattle.std.proofs.lemmas.Option.{option_and_then_some}
 use Rattle.std.specs.Option.{option_and_then}
 use Rattle.std.specs.Str.{bytes_eq}
 use Rattle.obs_text.specs.Numbers.{whole_of}
@@ -14,7 +13,7 @@ use Rattle.obs_case.specs.declared.rows.Kind.TheVariants.{Flow, Injection, Zero}
 use Rattle.obs_case.specs.declared.rows.Meter.{Meter}
 use Rattle.obs_case.specs.declared.rows.Node.{Node}
 use Rattle.obs_case.specs.declared.rows.Switch.{Switch}
-use Rattle.obs_case.specs.Tables.{IsNamed, IsValid, Tables, most_price, no_rows, place_names, places, position_of}
+use Rattle.obs_case.specs.Tables.{IsNamed, Tables, most_price, no_rows, place_names, places, position_of}
 use Rattle.obs_case.proofs.NameLemmas.{named-none, place-there, position-some}
 use Rattle.obs_case_csv.specs.declared.faults.Table.{Table}
 use Rattle.obs_case_csv.specs.declared.faults.Table.TheVariants.{Nodes, Switches, Branches, Meters, Candidates}
@@ -41,7 +40,7 @@ put_meters t rows = record t { meters = rows }
 abbrev pub put_candidates : Tables → List Candidate → Tables
 put_candidates t rows = record t { candidates = rows }
 
-nodes_table : IsTable Nodes (λ (r : Node). r.name) (λ t. t.nodes) put_nodes IsNode node_made
+pub nodes_table : IsTable Nodes (λ (r : Node). r.name) (λ t. t.nodes) put_nodes IsNode node_made
 nodes_table =
     record {
       names = λ t. refl;
@@ -55,7 +54,7 @@ nodes_table =
       fits = node-fits;
     }
 
-switches_table : IsTable Switches (λ (r : Switch). r.name) (λ t. t.switches) put_switches IsSwitch switch_made
+pub switches_table : IsTable Switches (λ (r : Switch). r.name) (λ t. t.switches) put_switches IsSwitch switch_made
 switches_table =
     record {
       names = λ t. refl;
@@ -69,7 +68,7 @@ switches_table =
       fits = switch-fits;
     }
 
-branches_table : IsTable Branches (λ (r : Branch). r.name) (λ t. t.branches) put_branches IsBranch branch_made
+pub branches_table : IsTable Branches (λ (r : Branch). r.name) (λ t. t.branches) put_branches IsBranch branch_made
 branches_table =
     record {
       names = λ t. refl;
@@ -83,7 +82,7 @@ branches_table =
       fits = branch-fits;
     }
 
-meters_table : IsTable Meters (λ (r : Meter). r.name) (λ t. t.meters) put_meters IsMeter meter_made
+pub meters_table : IsTable Meters (λ (r : Meter). r.name) (λ t. t.meters) put_meters IsMeter meter_made
 meters_table =
     record {
       names = λ t. refl;
@@ -97,7 +96,7 @@ meters_table =
       fits = meter-fits;
     }
 
-candidates_table : IsTable Candidates (λ (r : Candidate). r.name) (λ t. t.candidates) put_candidates IsCandidate candidate_made
+pub candidates_table : IsTable Candidates (λ (r : Candidate). r.name) (λ t. t.candidates) put_candidates IsCandidate candidate_made
 candidates_table =
     record {
       names = λ t. refl;
@@ -112,7 +111,7 @@ candidates_table =
     }
 
 -- the same rows among other tables
-are-map : {R : Type 0} (is also : Record → Record → R → Type 0) (table : Table) (bytes : List ℕ) (xs : List R) → ((header row : Record) (x : R) → is header row x → also header row x)
+pub are-map : {R : Type 0} (is also : Record → Record → R → Type 0) (table : Table) (bytes : List ℕ) (xs : List R) → ((header row : Record) (x : R) → is header row x → also header row x)
     → AreRows is table bytes xs → AreRows also table bytes xs
 are-map is also table bytes xs f h =
     record { header = h.header; records = h.records; records_are = h.records_are; columns = h.columns; each = each-map (is h.header) (also h.header) (f h.header) h.records xs h.each }
@@ -132,16 +131,16 @@ within names (Some name) i h =
     let there = place-there (bytes_eq name) names found.0 in
     omega (arith, found.1)
 
-within_rows : {R : Type 0} (own : R → List ℕ) (rows : List R) (o : Option (List ℕ)) (i : ℕ) → option_and_then (position_of (map own rows)) o ≡ Some i → i < length rows
+pub within_rows : {R : Type 0} (own : R → List ℕ) (rows : List R) (o : Option (List ℕ)) (i : ℕ) → option_and_then (position_of (map own rows)) o ≡ Some i → i < length rows
 within_rows own rows o i h = let lt = within (map own rows) o i h in omega (arith, length-map rows own)
 
-within_places : (t : Tables) (kind : Kind) (o : Option (List ℕ)) (i : ℕ) → option_and_then (position_of (place_names t kind)) o ≡ Some i → i < places t kind
+pub within_places : (t : Tables) (kind : Kind) (o : Option (List ℕ)) (i : ℕ) → option_and_then (position_of (place_names t kind)) o ≡ Some i → i < places t kind
 within_places t Flow o i h = within_rows (λ (r : Branch). r.name) t.branches o i h
 within_places t Injection o i h = within_rows (λ (r : Node). r.name) t.nodes o i h
 within_places t Zero o i h = within_rows (λ (r : Node). r.name) t.nodes o i h
 
 -- a price is in range
-cheap : (o : Option (List ℕ)) (n : ℕ) → option_and_then price_of o ≡ Some n → n ≤ most_price
+pub cheap : (o : Option (List ℕ)) (n : ℕ) → option_and_then price_of o ≡ Some n → n ≤ most_price
 cheap None n h = cc
 cheap (Some bytes) n h = by (whole_of bytes) h
   where
@@ -156,7 +155,7 @@ cheap (Some bytes) n h = by (whole_of bytes) h
 -- a table that was read
 module _ {R : Type 0} (table : Table) (own : R → List ℕ) (get : Tables → List R) (put : Tables → List R → Tables) (is : Tables → Record → Record → R → Type 0)
     (made : Record → Tables → Record → R) (h : IsTable table own get put is made) (t : Tables) (bytes : List ℕ) (empty : get t ≡ []) where
-  then-forward : (u : Tables) → then_read table bytes (Ok t) ≡ Ok u → (xs : List R) × (u ≡ put t xs) × AreRows (is t) table bytes xs × IsNamed (map own xs)
+  pub then-forward : (u : Tables) → then_read table bytes (Ok t) ≡ Ok u → (xs : List R) × (u ≡ put t xs) × AreRows (is t) table bytes xs × IsNamed (map own xs)
   then-forward u e = by (fault_in table t bytes) refl e
     where
       by : (o : Option TableFault) → fault_in table t bytes ≡ o → tables_or o (rows_in table t bytes) ≡ Ok u → (xs : List R) × (u ≡ put t xs) × AreRows (is t) table bytes xs × IsNamed (map own xs)
@@ -166,13 +165,13 @@ module _ {R : Type 0} (table : Table) (own : R → List ℕ) (get : Tables → L
           let same : u ≡ rows_in table t bytes = cc in
           (read.0, same ∙ read.1, read.2, read.3)
 
-  then-backward : (xs : List R) → AreRows (is t) table bytes xs → IsNamed (map own xs) → then_read table bytes (Ok t) ≡ Ok (put t xs)
+  pub then-backward : (xs : List R) → AreRows (is t) table bytes xs → IsNamed (map own xs) → then_read table bytes (Ok t) ≡ Ok (put t xs)
   then-backward xs are named =
       let read = table-backward table own get put is made h t bytes xs empty are named in
       ap (λ o. tables_or o (rows_in table t bytes)) read.0 ∙ ap Ok read.1
 
 -- what was read before
-ok_before : (table : Table) (bytes : List ℕ) (r : Result Tables TableFault) (u : Tables) → then_read table bytes r ≡ Ok u → (t : Tables) × (r ≡ Ok t) × (then_read table bytes (Ok t) ≡ Ok u)
+pub ok_before : (table : Table) (bytes : List ℕ) (r : Result Tables TableFault) (u : Tables) → then_read table bytes r ≡ Ok u → (t : Tables) × (r ≡ Ok t) × (then_read table bytes (Ok t) ≡ Ok u)
 ok_before table bytes (Ok t) u e = (t, refl, e)
 ok_before table bytes (Err fault) u e = cc
 

@@ -1,10 +1,8 @@
 -- The fields that the code hands on are those under the columns of the header.
-use Rattle.std.proofs.Common.{ℕ, ◌≡◌, ◌∙◌, ap, refl, sym, List, [], ◌∷◌, Bool, ◌||◌, true, false, Option, Some, None, is_none, unwrap_or, codes}
-use Rattle.std.specs.List.{list_any}
+use Rattle.std.proofs.Common.{ℕ, ◌≡◌, ◌∙◌, ap, refl, sym, List, [], Bool, ◌||◌, true, false, Some, is_none, unwrap_or, codes}
 use Rattle.csv.specs.Records.{field_at}
 use Rattle.obs_case.specs.Tables.{Tables, place_of}
 use Rattle.obs_case_csv.specs.declared.columns.Places.{Places}
-use Rattle.obs_case_csv.specs.declared.faults.RowFault.{RowFault}
 use Rattle.obs_case_csv.specs.declared.faults.Table.{Table}
 use Rattle.obs_case_csv.specs.declared.faults.Table.TheVariants.{Nodes, Switches, Branches, Meters, Candidates}
 use Rattle.obs_case_csv.specs.Columns.{ArePlaces, fourth_column, lacks_field, ordered_fault, own_column, second_column, third_column, with_ordered}

@@ -1,7 +1,12 @@
+pub mod AmongLemmas
 pub mod CaseLemmas
 pub mod ExactLemmas
 pub mod FieldLemmas
+pub mod FirstLemmas
 pub mod ReadLemmas
 pub mod ReadingLemmas
 pub mod RecordLemmas
 pub mod SeekLemmas
+pub mod TableLemmas
+pub mod TestLemmas
+pub mod ValidLemmas

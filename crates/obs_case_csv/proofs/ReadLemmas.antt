@@ -1,6 +1,6 @@
 -- Rows one after another: what is known of a table of which some rows were read.
-use Rattle.std.proofs.Common.{ℕ, ◌≡◌, ◌∙◌, ◌+◌, ◌<◌, ◌≤◌, ap, refl, sym, subst, List, [], ◌∷◌, ◌++◌, length, take, Bool, true, false, arith, suc, zero, Option, Some, None, Err, if◌then◌else◌, is_none, map}
-use Rattle.std.proofs.lemmas.List.{append-nil, length-append, length-map, map-append}
+use Rattle.std.proofs.Common.{ℕ, ◌≡◌, ◌∙◌, ◌+◌, ap, refl, sym, subst, List, [], ◌∷◌, ◌++◌, length, take, true, false, suc, Option, Some, None, Err, if◌then◌else◌, is_none}
+use Rattle.std.proofs.lemmas.List.{length-append, map-append}
 use Rattle.obs_case.specs.Tables.{Tables}
 use Rattle.obs_case_csv.specs.declared.columns.Places.{Places}
 use Rattle.obs_case_csv.specs.declared.faults.RowFault.{RowFault}
@@ -8,7 +8,6 @@ use Rattle.obs_case_csv.specs.declared.faults.Table.{Table}
 use Rattle.obs_case_csv.specs.declared.faults.Table.TheVariants.{Nodes, Switches, Branches, Meters, Candidates}
 use Rattle.obs_case_csv.specs.declared.faults.TableEnd.{TableEnd}
 use Rattle.obs_case_csv.specs.declared.faults.TableEnd.TheVariants.{Fault, NoMemory}
-use Rattle.obs_case_csv.specs.declared.faults.TableFault.{TableFault}
 use Rattle.obs_case_csv.specs.Columns.{ArePlaces}
 use Rattle.obs_case_csv.specs.Fields.{Record, columns_fault, needed_columns}
 use Rattle.obs_case_csv.specs.Read.{Ends, HoldsFirstRows, UnlessNoMemory, earlier, fault_at, fault_in, fault_of_records, first_fault, rows_before, rows_in, rows_of_records, table_records}
@@ -116,6 +115,16 @@ pub record IsReading (table : Table) (bytes : List ℕ) (old now : Tables) (plac
 pub with_header : (table : Table) (old : Tables) (header : Record) (rows : List Record) → columns_fault (needed_columns table) header ≡ None
     → (fault_of_records table old (header ∷ rows) ≡ first_fault table header old rows) × (rows_of_records table old (header ∷ rows) ≡ rows_before table header old rows)
 with_header table old header rows e = (rw e refl, rw e refl)
+
+-- records without a fault have a header that is fine
+pub header-none : (table : Table) (old : Tables) (header : Record) (rows : List Record) → fault_of_records table old (header ∷ rows) ≡ None
+    → (columns_fault (needed_columns table) header ≡ None) × (first_fault table header old rows ≡ None)
+header-none table old header rows e = by (columns_fault (needed_columns table) header) refl e
+  where
+    by : (o : Option RowFault) → columns_fault (needed_columns table) header ≡ o
+        → earlier (fault_at table 0 o) (first_fault table header old rows) ≡ None → (columns_fault (needed_columns table) header ≡ None) × (first_fault table header old rows ≡ None)
+    by None is e = (is, e)
+    by (Some code) is e = cc
 
 module _ (table : Table) (bytes : List ℕ) (old now : Tables) (places : Places) (number : ℕ) where
   pub reading-starts : (header : Record) (unread : List Record) → table_records bytes ≡ header ∷ unread → ArePlaces table header places → columns_fault (needed_columns table) header ≡ None

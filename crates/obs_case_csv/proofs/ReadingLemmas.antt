@@ -1,9 +1,7 @@
 -- A record that isn't refused is a row, and a record that is a row isn't refused: one table after the other.
-use Rattle.std.proofs.Common.{ℕ, ◌≡◌, ◌∙◌, ◌||◌, ◌&&◌, ap, refl, sym, List, [], ◌∷◌, length, Bool, not, true, false, Option, Some, None, is_none, unwrap_or, codes, if◌then◌else◌, nat_eq}
-use Rattle.std.proofs.lemmas.Bool.{and_parts, and_from, not-true, not-false}
-use Rattle.std.proofs.lemmas.Option.{option_and_then_some}
+use Rattle.std.proofs.Common.{ℕ, ◌≡◌, ◌∙◌, ◌||◌, ap, refl, sym, List, [], ◌∷◌, length, Bool, not, true, false, Option, Some, None, is_none, unwrap_or, codes, if◌then◌else◌, nat_eq}
+use Rattle.std.proofs.lemmas.Bool.{and_parts, and_from, not-false}
 use Rattle.std.specs.Option.{option_and_then}
-use Rattle.std.specs.List.{list_any}
 use Rattle.std.specs.Str.{bytes_eq}
 use Rattle.obs_text.specs.Names.{is_name}
 use Rattle.obs_case.specs.declared.rows.Branch.{Branch}

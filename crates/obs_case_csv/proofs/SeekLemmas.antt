@@ -1,5 +1,5 @@
 -- A column is sought from the end of a header to its start.
-use Rattle.std.proofs.Common.{inl, inr, ℕ, ◌≡◌, ◌∙◌, ◌+◌, ◌<◌, ◌≤◌, ap, refl, sym, subst, List, [], ◌∷◌, length, drop, Bool, not, ◌||◌, cond, true, false, arith, suc, zero, get_or, Option, Some, None, option_map, unwrap_or, drop-cons, if◌then◌else◌}
+use Rattle.std.proofs.Common.{ℕ, ◌≡◌, ◌∙◌, ◌+◌, ◌<◌, ap, refl, sym, List, [], ◌∷◌, length, drop, Bool, true, false, arith, suc, zero, get_or, option_map, unwrap_or, drop-cons}
 use Rattle.std.proofs.lemmas.List.{drop_all}
 use Rattle.std.specs.Str.{bytes_eq}
 use Rattle.csv.specs.Records.{field_at}

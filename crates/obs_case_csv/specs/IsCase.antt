@@ -1,5 +1,5 @@
 -- When the bytes of five tables are a case, and the law that a fault is given exactly where they are none.
-use Rattle.std.specs.Prelude.{ℕ, ◌≡◌, List, [], ◌∷◌, codes, map, Option, None, Some, MatchResult, option_and_then}
+use Rattle.std.specs.Prelude.{ℕ, ◌≡◌, List, [], ◌∷◌, codes, Option, None, Some, MatchResult, option_and_then}
 use Rattle.obs_case.specs.declared.rows.Branch.{Branch}
 use Rattle.obs_case.specs.declared.rows.Candidate.{Candidate}
 use Rattle.obs_case.specs.declared.rows.Meter.{Meter}

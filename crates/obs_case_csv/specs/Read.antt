@@ -1,5 +1,5 @@
 -- What the bytes of tables are: the tables that have their rows, or the first fault.
-use Rattle.std.specs.Prelude.{ℕ, ◌≡◌, Bool, List, [], ◌∷◌, take, Option, None, Some, is_none, if◌then◌else◌, Result, Ok, Err}
+use Rattle.std.specs.Prelude.{ℕ, ◌≡◌, List, [], ◌∷◌, take, Option, None, Some, is_none, if◌then◌else◌, Result, Ok, Err}
 use Rattle.csv.specs.Reading.{default_config, records_from, strip_bom}
 use Rattle.csv.specs.declared.parser.State.TheVariants as st
 use Rattle.obs_case.specs.Tables.{Tables, no_rows}

@@ -1,5 +1,5 @@
 -- One row of a table: why it is refused, and the tables that have it.
-use Rattle.std.specs.Prelude.{ℕ, ◌==◌, ◌+◌, ◌&&◌, Bool, true, false, not, List, [], ◌∷◌, length, codes, Option, None, Some, is_none, unwrap_or, if◌then◌else◌}
+use Rattle.std.specs.Prelude.{ℕ, ◌==◌, ◌+◌, ◌&&◌, Bool, false, not, List, [], ◌∷◌, length, codes, Option, None, Some, is_none, unwrap_or, if◌then◌else◌}
 use Rattle.obs_text.specs.Names.{is_name}
 use Rattle.obs_case.specs.declared.rows.Kind.{Kind}
 use Rattle.obs_case.specs.declared.rows.Kind.TheVariants.{Zero}

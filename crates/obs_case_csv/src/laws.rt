@@ -1,8 +1,38 @@
 //! What the definitions of this crate imply.
 ghost use Rattle.obs_case_csv.specs.IsCase.{ReadExactly};
+ghost use Rattle.obs_case_csv.specs.Laws.{FirstFault, FirstFaultOfCase, KeepsValid, SwitchingIsRead, TableIsRead};
 
 /// The case that is read is the only one that the bytes are, and a fault is given exactly where the
 /// bytes are no case.
 pub fn read_exactly()
     ensures exactly { ReadExactly }
+{}
+
+/// Valid tables stay valid as the rows of a table before its first fault are added.
+pub fn reading_keeps_valid()
+    ensures valid { KeepsValid }
+{}
+
+/// Of a table that valid tables have no rows of, no fault is met exactly where the bytes are that
+/// table, and then these are the rows that are read.
+pub fn table_is_read()
+    ensures table { TableIsRead }
+{}
+
+/// The case of nodes and switches alone that is read is the only one that the bytes are, and a fault
+/// is given exactly where they are none.
+pub fn switching_is_read()
+    ensures exactly { SwitchingIsRead }
+{}
+
+/// The fault that is met in a table is one, and no fault of the table comes before it; none is met
+/// exactly where the table has none.
+pub fn first_fault()
+    ensures first { FirstFault }
+{}
+
+/// The fault that is met in the tables of a case is one, and no fault of them comes before it, by
+/// table, then row, then code; none is met exactly where they have none.
+pub fn first_fault_of_case()
+    ensures first { FirstFaultOfCase }
 {}

@@ -220,6 +220,7 @@ fn tables_that_are_not_given_are_empty(rt: HostRuntime) {
         return;
     };
     assert_eq!(rt; case.nodes().len(), 1);
+    assert_eq!(rt; case.meters().len(), 1);
     assert_eq!(rt; case.find_meter(b"i1"), Some(0));
     assert!(rt;
         case.meters()

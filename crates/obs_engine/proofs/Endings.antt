@@ -14,7 +14,7 @@ use Rattle.obs_engine.specs.Stated.{Told, IsStated}
 pub replied_whole : {T E : Type 0} {x : T} {a b : Option (List ℕ)} {f k : ℕ} {p q : ℕ → Type 0} (reply : Reply) → (reply.status ≡ ReadFault → ⊥) → (reply.status ≡ WriteFault → ⊥)
     → Appends {E = E} a b f k p q (Ok x) reply.text → IsReplied a b f k p reply.status reply
 replied_whole reply not_read not_write call =
-    record { ends = inl (refl, call.writes); reads = not_read; write = λ e. absurd (not_write e); room = λ rest has. not_write }
+    record { ends = inl (refl, call.writes); reads = not_read; write = λ e. absurd (not_write e); quiet = λ none. call.quiet refl; room = λ rest has. not_write }
 
 -- a write that failed
 pub replied_failed : {T E : Type 0} {e : E} {a b : Option (List ℕ)} {f k : ℕ} {p q : ℕ → Type 0} (reply : Reply) → Appends {T = T} a b f k p q (Err e) reply.text → IsReplied a b f k p WriteFault reply
@@ -22,6 +22,7 @@ replied_failed {T = T} {E = E} {e = e} reply call = record {
   ends = inr (inl (refl, call.writes));
   reads = λ s. absurd cc;
   write = λ s. call.cause.failed;
+  quiet = λ none. absurd (none refl);
   room = λ rest has s. clash (call.fits rest has).0;
 }
   where
@@ -29,8 +30,8 @@ replied_failed {T = T} {E = E} {e = e} reply call = record {
     clash ok = absurd cc
 
 -- no memory, and nothing was written
-pub replied_memory : {a : Option (List ℕ)} {f k : ℕ} {p : ℕ → Type 0} (reply : Reply) → IsReplied a a f k p NoMemory reply
-replied_memory reply = record { ends = inr (inr (inr (refl, refl))); reads = λ s. absurd cc; write = λ s. absurd cc; room = λ rest has s. absurd cc }
+pub replied_memory : {a : Option (List ℕ)} {f : ℕ} {p : ℕ → Type 0} (reply : Reply) → IsReplied a a f f p NoMemory reply
+replied_memory reply = record { ends = inr (inr (inr (refl, refl))); reads = λ s. absurd cc; write = λ s. absurd cc; quiet = λ none. refl; room = λ rest has s. absurd cc }
 
 -- all statuses that say that something failed
 abbrev pub IsFailure : Status → Type 0

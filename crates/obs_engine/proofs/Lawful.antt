@@ -15,13 +15,14 @@ use Rattle.obs_exchange.proofs.Lawful.{critical_at-exactly}
 use Rattle.obs_network.specs.Switched.{case_bus_count}
 use Rattle.obs_network.specs.Components.{need_of}
 use Rattle.obs_network.specs.Network.{case_branches, case_component_count, case_meters, case_needed, case_sizes}
-use Rattle.obs_network.specs.Observable.{IsObservable, IsObservableCase, branch_component, case_live_meters, is_fed}
+use Rattle.obs_network.specs.Observable.{IsObservable, IsObservableCase, branch_component, case_live_meters, is_fed, item_component}
 use Rattle.obs_network.proofs.Marked.{filtered_below}
 use Rattle.obs_network.proofs.Observed.{observed_by_rho}
 use Rattle.obs_network.proofs.OfCase.{case_branches-are}
 use Rattle.obs_network.proofs.Sums.{range_in}
 use Rattle.obs_engine.specs.declared.status.Status.TheVariants.{Done, Short}
-use Rattle.obs_engine.specs.Report.{bound_outside, bound_rank, case_critical_meters, case_rank, component_meters, component_rank, is_meter_of, is_short, report_status, short_components}
+use Rattle.obs_engine.specs.Laws.{ListsNonCritical}
+use Rattle.obs_engine.specs.Report.{bound_meters, bound_outside, bound_rank, case_critical_meters, case_rank, component_meters, component_rank, is_critical_meter, is_meter_of, is_short, report_status, short_components}
 use Rattle.obs_engine.proofs.OfNetwork.{verdict_done, verdict_short}
 use Rattle.obs_engine.proofs.Tight.{bound_is, most_is, observable-from, observable-to, rank_few}
 
@@ -110,4 +111,22 @@ critical_lines t v m =
       (λ k.
           let u = In-filter_from (is_live (case_branches t) (case_meters t)) m (every_item (case_meters t)) k.item in
           In-filter p m (every_item (case_meters t)) u.0 (exactly.1 (u.1, k))),
+    )
+
+-- the bound of a component lists its live meters that aren't critical
+pub lists_noncritical : ListsNonCritical
+unfolding bound_meters component_meters is_critical_meter
+lists_noncritical t v c m =
+    let exactly = critical_at-exactly (case_bus_count t) (case_branches t) (case_meters t) (case_branches-are t v) m in
+    let p = critical_at (case_bus_count t) (case_branches t) (case_meters t) in
+    let live = is_live (case_branches t) (case_meters t) in (
+      (λ i.
+          let u = In-filter_from (λ x. not (p x)) m (filter (is_meter_of t c) (case_live_meters t)) i in
+          let w = In-filter_from (is_meter_of t c) m (case_live_meters t) u.0 in
+          let there = (In-filter_from live m (every_item (case_meters t)) w.0).1 in
+          (w.0, eqb-true (item_component t (case_meters t) m) c w.1, λ k. clash u.1 (ap not (exactly.1 (there, k))))),
+      (λ h. elim (cases_Bool (p m)) [
+        | inl y ↦ absurd (h.2 (exactly.0 y).1)
+        | inr n ↦ In-filter (λ x. not (p x)) m (filter (is_meter_of t c) (case_live_meters t)) (In-filter (is_meter_of t c) m (case_live_meters t) h.0 (eq-eqb (item_component t (case_meters t) m) c h.1)) (ap not n)
+      ]),
     )

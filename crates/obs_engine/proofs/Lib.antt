@@ -7,4 +7,6 @@ pub mod Taking
 pub mod Growing
 pub mod Ranked
 pub mod Claimed
+pub mod Keyed
 pub mod Lawful
+pub mod Valid

@@ -47,9 +47,10 @@ EndsWith reply status before after =
     ⊎ (((status ≡ ReadFault) × (after ≡ before)) ⊎ ((status ≡ NoMemory) × (after ≡ before))))
 
 -- a command that needs no further reading ends with this reply; a write fails only where the count of faults rose, and not
--- while there is room for the text
+-- while there is room for the text; where none failed the count is as before
 pub record IsReplied (before after : Option (List ℕ)) (faults_before faults_after : ℕ) (has_room : ℕ → Type 0) (status : Status) (reply : Reply) : Type 0 where
   pub ends : EndsWith reply status before after
   pub reads : status ≡ ReadFault → ⊥
   pub write : status ≡ WriteFault → Rose faults_before faults_after
+  pub quiet : (status ≡ WriteFault → ⊥) → faults_after ≡ faults_before
   pub room : (rest : ℕ) → has_room (length reply.text + rest) → status ≡ WriteFault → ⊥

@@ -3,6 +3,7 @@ pub mod Ending
 pub mod Files
 pub mod Findings
 pub mod Forms
+pub mod Laws
 pub mod Replies
 pub mod Report
 pub mod Stated

@@ -220,6 +220,26 @@ fn a_bus_stands_once_in_a_cdf_file(rt: HostRuntime) -> Result<(), Fail> {
     reports_cdf(&rt, rt.alloc(), &cdf, Status::InputFault, text)
 }
 
+// The file up to its branch lines, and then the same line so many times.
+fn with_branch_lines(alloc: Global, lines: u32, line: &[u8]) -> Result<Vec<u8>, Fail> {
+    let mut bytes = Vec::from_slice(alloc, front(ieee14(), 441))?;
+    for _ in 0..lines {
+        bytes.extend_from_slice(line)?;
+    }
+    Ok(bytes)
+}
+
+// The first branch line is line 19 of the file.
+#[test]
+fn the_first_fault_of_branch_lines_is_printed(rt: HostRuntime) -> Result<(), Fail> {
+    let unknown = with_branch_lines(rt.alloc(), 1, b"   1   99\n")?;
+    let text = b"fault\tcdf\t19\t8\tUnknownBus\n";
+    reports_cdf(&rt, rt.alloc(), &unknown, Status::InputFault, text)?;
+    let many = with_branch_lines(rt.alloc(), 20001, b"   1    2\n")?;
+    let text = b"fault\tcdf\t20019\t9\tTooMany\n";
+    reports_cdf(&rt, rt.alloc(), &many, Status::InputFault, text)
+}
+
 // The file with blanks behind it up to this length.
 fn padded(alloc: Global, length: usize) -> Result<Vec<u8>, Fail> {
     let mut bytes = Vec::from_slice(alloc, ieee14())?;

@@ -32,6 +32,7 @@ pub(crate) fn take_file<F: Files>(
     ensures same { (w : ℕ) → F.content files.new w ≡ F.content files.old w }
     ensures later { F.faults files.old word ≤ F.faults files.new word }
     ensures read { IsErrOf result Untaken.Read → Rose (F.faults files.old word) (F.faults files.new word) }
+    ensures quiet { (IsErrOf result Untaken.Read → ⊥) → (w : ℕ) → F.faults files.new w ≡ F.faults files.old w }
     ensures others { (w : ℕ) → w ≢ word → F.faults files.new w ≡ F.faults files.old w }
     ensures steady { (w : ℕ) → F.steady files.old w → F.steady files.new w }
     ensures succeeds { F.steady files.old word → IsErrOf result Untaken.Read → ⊥ }
@@ -67,6 +68,7 @@ fn take_csv<F: Files>(alloc: Global, files: &mut F) -> Result<Case, Untaken>
     ensures stated { (file : ℕ → List ℕ) → ((w : ℕ) → IsCaseWord Csv w → F.content files.old w ≡ Some (file w))
         → IsTaken (csv_case (file 2) (file 3) (file 4) (file 5)) result }
     ensures read { IsErrOf result Untaken.Read → (w : ℕ) × IsCaseWord Csv w × Rose (F.faults files.old w) (F.faults files.new w) }
+    ensures quiet { (IsErrOf result Untaken.Read → ⊥) → (w : ℕ) → F.faults files.new w ≡ F.faults files.old w }
     ensures steady { ((w : ℕ) → IsCaseWord Csv w → F.steady files.old w) → IsErrOf result Untaken.Read → ⊥ }
 {
     let nodes = take_file(alloc, files, 2, b"nodes")?;
@@ -95,6 +97,7 @@ fn take_cdf<F: Files>(alloc: Global, files: &mut F) -> Result<Case, Untaken>
     ensures stated { (file : ℕ → List ℕ) → ((w : ℕ) → IsCaseWord Cdf w → F.content files.old w ≡ Some (file w))
         → IsTaken (cdf_case (file 2) (file 3)) result }
     ensures read { IsErrOf result Untaken.Read → (w : ℕ) × IsCaseWord Cdf w × Rose (F.faults files.old w) (F.faults files.new w) }
+    ensures quiet { (IsErrOf result Untaken.Read → ⊥) → (w : ℕ) → F.faults files.new w ≡ F.faults files.old w }
     ensures steady { ((w : ℕ) → IsCaseWord Cdf w → F.steady files.old w) → IsErrOf result Untaken.Read → ⊥ }
 {
     let cdf = take_file(alloc, files, 2, b"cdf")?;
@@ -111,6 +114,7 @@ pub(crate) fn take_case<F: Files>(
     ensures stated { (file : ℕ → List ℕ) → ((w : ℕ) → IsCaseWord from w → F.content files.old w ≡ Some (file w))
         → IsTaken (case_in_files from file) result }
     ensures read { IsErrOf result Untaken.Read → (w : ℕ) × IsCaseWord from w × Rose (F.faults files.old w) (F.faults files.new w) }
+    ensures quiet { (IsErrOf result Untaken.Read → ⊥) → (w : ℕ) → F.faults files.new w ≡ F.faults files.old w }
     ensures steady { ((w : ℕ) → IsCaseWord from w → F.steady files.old w) → IsErrOf result Untaken.Read → ⊥ }
 {
     match from {

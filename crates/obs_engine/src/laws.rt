@@ -9,7 +9,13 @@ ghost use Rattle.obs_network.specs.Components.{need_of};
 ghost use Rattle.obs_network.specs.Network.{case_branches, case_component_count, case_meters, case_sizes};
 ghost use Rattle.obs_network.specs.Observable.{IsObservable, IsObservableCase, branch_component, case_live_meters, is_fed};
 ghost use Rattle.obs_engine.specs.declared.status.Status.TheVariants.{Done, Short};
+ghost use Rattle.obs_engine.specs.Laws.{CasesAreValid, ListsNonCritical};
 ghost use Rattle.obs_engine.specs.Report.{bound_outside, bound_rank, case_critical_meters, case_rank, component_meters, report_status, short_components};
+
+/// Every case that files are is valid. The other laws ask this of a case.
+pub fn cases_are_valid()
+    ensures valid { CasesAreValid }
+{}
 
 /// The printed rank is the greatest length that an assignment of the live meters has.
 pub fn rank_is_greatest()
@@ -38,6 +44,12 @@ pub fn bounds_refute()
     ensures most { (t : Tables) → IsValid t → (c : ℕ) (A : List Pair) →
         IsAssignmentAt (case_branches t) (case_meters t) (case_live_meters t) A →
         length (filter (λ p. branch_component t p.1 == c) A) ≤ bound_rank t c + bound_outside t c }
+{}
+
+/// The bound of a component lists exactly those of its live meters that aren't critical. A listed meter can be lost, and the
+/// rank of the case stays.
+pub fn bounds_list_the_meters_that_are_not_critical()
+    ensures lists { ListsNonCritical }
 {}
 
 /// A report has a critical line for exactly those live meters whose loss lowers the rank.

@@ -15,6 +15,7 @@ mod report;
 #[cfg(test)]
 mod report_tests;
 mod search;
+mod sorted;
 mod status;
 mod taken;
 #[cfg(test)]

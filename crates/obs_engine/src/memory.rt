@@ -39,14 +39,6 @@ impl From<obs_exchange::NoMemory> for NoMemory {
     }
 }
 
-impl From<obs_rankcut::NoMemory> for NoMemory {
-    ghost from_gives = { λ _ e. e ≡ e };
-
-    fn from(_: obs_rankcut::NoMemory) -> Self {
-        NoMemory
-    }
-}
-
 impl From<obs_critical::NoMemory> for NoMemory {
     ghost from_gives = { λ _ e. e ≡ e };
 

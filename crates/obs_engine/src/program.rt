@@ -40,6 +40,10 @@ pub fn run<F: Files, S: Source, W: Sink>(
         → ReadRose (form_of (map string_bytes words.now)) (F.faults files.old) (F.faults files.new) (S.faults input.old) (S.faults input.new) }
     ensures write { result ≡ Status.WriteFault → Rose (W.faults output.old) (W.faults output.new) }
 
+    // A call that fails ends the run, which says so: with another answer the counts are as they were.
+    ensures quiet_files { result ≢ Status.ReadFault → (w : ℕ) → F.faults files.new w ≡ F.faults files.old w }
+    ensures quiet_output { result ≢ Status.WriteFault → W.faults output.new ≡ W.faults output.old }
+
     // What a run leaves that found no memory, or that didn't get its files.
     ensures memory { result ≡ Status.NoMemory → W.written output.new ≡ W.written output.old }
     ensures memory_input { result ≡ Status.NoMemory → S.left input.new ≡ S.left input.old }

@@ -87,7 +87,9 @@ pub(crate) fn refuse_files<W: Sink>(output: &mut W, why: Untaken) -> Status
         → EndsWith (reply_to answered stated) result (W.written output.old) (W.written output.new) }
     ensures statuses { (result ≡ Status.InputFault) ⊎ (result ≡ Status.ReadFault) ⊎ (result ≡ Status.WriteFault) ⊎ (result ≡ Status.NoMemory) }
     ensures read { result ≡ Status.ReadFault → why ≡ Untaken.Read }
+    ensures unanswered { why ≡ Untaken.Read → result ≡ Status.ReadFault }
     ensures write { result ≡ Status.WriteFault → Rose (W.faults output.old) (W.faults output.new) }
+    ensures quiet { result ≢ Status.WriteFault → W.faults output.new ≡ W.faults output.old }
     ensures memory { result ≡ Status.NoMemory → W.written output.new ≡ W.written output.old }
     ensures unread { result ≡ Status.ReadFault → W.written output.new ≡ W.written output.old }
     ensures room { (stated : Result Tables Reply) (answered : Tables → Reply) (rest : ℕ) → IsUntaken stated why

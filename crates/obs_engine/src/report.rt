@@ -1,13 +1,12 @@
 // The report on a case, printed.
 ghost use Rattle.std.specs.Prelude.{◌≡◌, ◌++◌, ◌≤◌, length};
 ghost use Rattle.obs_assign.specs.Assigned.{pairs};
-ghost use Rattle.obs_rankcut.specs.Bounds.{HasRoomFor};
 ghost use Rattle.obs_report.specs.Lines.{last_line};
 ghost use Rattle.obs_report.specs.Meters.{critical_text};
 ghost use Rattle.obs_report.specs.Printed.{Appends};
 ghost use Rattle.obs_network.specs.Network.{case_meters, network_of};
 ghost use Rattle.obs_engine.specs.Ending.{IsReplied};
-ghost use Rattle.obs_engine.specs.Findings.{AreHomes, AreMarks, AreRanks, IsSearched};
+ghost use Rattle.obs_engine.specs.Findings.{AreRanks, AreSorted, IsSearched};
 ghost use Rattle.obs_engine.specs.Report.{case_critical_meters, case_rank, claims_text, report_of, report_status, report_text};
 
 use crate::claims::print_claims;
@@ -17,7 +16,6 @@ use obs_case::Case;
 use obs_critical::{CriticalWork, critical};
 use obs_io::{Failed, Sink};
 use obs_network::Network;
-use obs_rankcut::CutWork;
 use obs_report::{print_counts, print_critical, print_last_line};
 
 // Prints the critical meters and the last line.
@@ -58,24 +56,20 @@ fn print_rest<W: Sink>(
     network: &Network,
     kept: &Assignment,
     reached: &[bool],
-    homes: &[u32],
     ranks: &[u32],
-    scope: &mut [bool],
-    cut: &mut CutWork,
+    members: &[u32],
+    starts: &[usize],
     listing: &mut CriticalWork,
 ) -> Result<(), Failed>
     requires network { network.now ≡ network_of case.now }
     requires searched { IsSearched (network_of case.now).graph (case_meters case.now) kept.now reached.now }
-    requires marks { AreMarks case.now reached.now }
-    requires homes { AreHomes case.now homes.now }
     requires ranks { AreRanks case.now ranks.now }
-    requires scope { length scope.old ≡ length (case_meters case.now) }
-    requires cut { HasRoomFor cut.old (network_of case.now).graph (case_meters case.now) }
+    requires sorted { AreSorted case.now members.now starts.now }
     requires listing { length (case_meters case.now) ≤ listing.old.most_meters }
     ensures appends { Appends (W.written output.old) (W.written output.new) (W.faults output.old) (W.faults output.new)
         (W.has_room output.old) (W.has_room output.new) result (claims_text case.now ++ (critical_text case.now (case_critical_meters case.now) ++ last_line)) }
 {
-    match print_claims(output, case, network, reached, homes, ranks, scope, cut) {
+    match print_claims(output, case, network, ranks, members, starts) {
         Ok(()) => print_list(output, case, network, kept, reached, listing),
         Err(Failed) => Err(Failed),
     }
@@ -88,27 +82,23 @@ fn print_report<W: Sink>(
     network: &Network,
     kept: &Assignment,
     reached: &[bool],
-    homes: &[u32],
     ranks: &[u32],
-    scope: &mut [bool],
-    cut: &mut CutWork,
+    members: &[u32],
+    starts: &[usize],
     listing: &mut CriticalWork,
 ) -> Result<(), Failed>
     requires network { network.now ≡ network_of case.now }
     requires searched { IsSearched (network_of case.now).graph (case_meters case.now) kept.now reached.now }
     requires rank { length (pairs kept.now) ≡ case_rank case.now }
-    requires marks { AreMarks case.now reached.now }
-    requires homes { AreHomes case.now homes.now }
     requires ranks { AreRanks case.now ranks.now }
-    requires scope { length scope.old ≡ length (case_meters case.now) }
-    requires cut { HasRoomFor cut.old (network_of case.now).graph (case_meters case.now) }
+    requires sorted { AreSorted case.now members.now starts.now }
     requires listing { length (case_meters case.now) ≤ listing.old.most_meters }
     ensures appends { Appends (W.written output.old) (W.written output.new) (W.faults output.old) (W.faults output.new)
         (W.has_room output.old) (W.has_room output.new) result (report_text case.now) }
 {
     match print_counts(output, network, kept.length()) {
         Ok(()) => print_rest(
-            output, case, network, kept, reached, homes, ranks, scope, cut, listing,
+            output, case, network, kept, reached, ranks, members, starts, listing,
         ),
         Err(Failed) => Err(Failed),
     }
@@ -135,27 +125,23 @@ pub(crate) fn answer_found<W: Sink>(
     network: &Network,
     kept: &Assignment,
     reached: &[bool],
-    homes: &[u32],
     ranks: &[u32],
-    scope: &mut [bool],
-    cut: &mut CutWork,
+    members: &[u32],
+    starts: &[usize],
     listing: &mut CriticalWork,
 ) -> Status
     requires network { network.now ≡ network_of case.now }
     requires searched { IsSearched (network_of case.now).graph (case_meters case.now) kept.now reached.now }
     requires rank { length (pairs kept.now) ≡ case_rank case.now }
-    requires marks { AreMarks case.now reached.now }
-    requires homes { AreHomes case.now homes.now }
     requires ranks { AreRanks case.now ranks.now }
-    requires scope { length scope.old ≡ length (case_meters case.now) }
-    requires cut { HasRoomFor cut.old (network_of case.now).graph (case_meters case.now) }
+    requires sorted { AreSorted case.now members.now starts.now }
     requires listing { length (case_meters case.now) ≤ listing.old.most_meters }
     ensures replied { IsReplied (W.written output.old) (W.written output.new) (W.faults output.old) (W.faults output.new)
         (W.has_room output.old) result (report_of case.now) }
 {
     let status = verdict(case, network, kept);
     match print_report(
-        output, case, network, kept, reached, homes, ranks, scope, cut, listing,
+        output, case, network, kept, reached, ranks, members, starts, listing,
     ) {
         Ok(()) => status,
         Err(Failed) => Status::WriteFault,

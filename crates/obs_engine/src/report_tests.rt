@@ -142,16 +142,62 @@ fn the_first_fault_of_four_tables_is_printed(rt: HostRuntime) -> Result<(), Fail
 #[test]
 fn too_many_nodes_are_not_reported(rt: HostRuntime) -> Result<(), Fail> {
     let nodes = many_nodes(rt.alloc(), 20001)?;
-    let row = path();
+    let text = b"fault\tnodes\t20001\t12\tTooMany\n";
+    for row in [path(), alone()] {
+        let files = [
+            b"".as_slice(),
+            nodes.as_slice(),
+            SWITCHES,
+            row.branches,
+            row.meters,
+        ];
+        answers(&rt, rt.alloc(), &TABLES, &files, Status::InputFault, text)?;
+    }
+    Ok(())
+}
+
+// The other tables have headers alone.
+#[test]
+fn a_fault_of_nodes_alone_is_printed(rt: HostRuntime) -> Result<(), Fail> {
+    let bad_flag = Row {
+        nodes: b"node,source\na,2\n",
+        text: b"fault\tnodes\t1\t6\tBadFlag\n",
+        ..alone()
+    };
+    let no_header = Row {
+        nodes: b"",
+        text: b"fault\tnodes\t0\t1\tNoHeader\n",
+        ..alone()
+    };
+    for row in [bad_flag, no_header] {
+        reports(&rt, rt.alloc(), Status::InputFault, row)?;
+    }
+    Ok(())
+}
+
+// A ring of six buses, of which one is two bars with a closed coupler between them. Two meters on one line, a flow and an
+// injection count; a meter on a line that is out of service doesn't, and neither does a meter that is.
+fn ring() -> Row {
+    Row {
+        nodes: b"node,source\nAlder,1\nBirch,0\nCedar,0\nDune,0\nElm,0\nFern,0\nFern bar 2,0\n",
+        branches: b"branch,from,to,inservice\nAlder-Birch,Alder,Birch,1\nBirch-Cedar,Birch,Cedar,1\nCedar-Dune,Cedar,Dune,1\nDune-Elm,Dune,Elm,1\nElm-Fern,Elm,Fern,1\nFern-Alder,Fern bar 2,Alder,1\nBirch-Elm,Birch,Elm,0\n",
+        meters: b"meter,kind,at,inservice\nAlder line P,flow,Alder-Birch,1\nBirch line P,flow,Alder-Birch,1\nCedar line P,flow,Cedar-Dune,1\nElm bus P,injection,Elm,1\nBirch tie P,flow,Birch-Elm,1\nFern bus P,injection,Fern,0\n",
+        text: b"count\tbuses\t6\ncount\tenergised\t6\ncount\tbranches\t6\ncount\tmeters\t4\ncount\tneeded\t5\ncount\trank\t3\nverdict\tshort\nbound\tAlder\t1\t2\ninside\tmeter\tAlder line P\ninside\tmeter\tBirch line P\ncritical\tCedar line P\ncritical\tElm bus P\nend\n",
+    }
+}
+
+#[test]
+fn the_short_example_is_reported(rt: HostRuntime) -> Result<(), Fail> {
+    let row = ring();
+    let coupler = b"switch,from,to,closed\nFern coupler,Fern,Fern bar 2,1\n";
     let files = [
         b"".as_slice(),
-        nodes.as_slice(),
-        SWITCHES,
+        row.nodes,
+        coupler.as_slice(),
         row.branches,
         row.meters,
     ];
-    let text = b"fault\tnodes\t20001\t12\tTooMany\n";
-    answers(&rt, rt.alloc(), &TABLES, &files, Status::InputFault, text)
+    answers(&rt, rt.alloc(), &TABLES, &files, Status::Short, row.text)
 }
 
 // The files of 28, 22, 52 and 67 bytes are read in pieces of seven bytes, with one read more at the end of each.

@@ -6,6 +6,9 @@ use std::alloc::Global;
 use std::process::Abort;
 use std::test::Fail;
 
+// How many bytes the output takes at once.
+const MOVED: usize = 5;
+
 fn texts(alloc: Global, words: &[&str]) -> Result<Vec<String>, Fail> {
     let mut all = Vec::new(alloc);
     for word in words {
@@ -31,20 +34,19 @@ pub(crate) struct Ended {
     pub(crate) text: Vec<u8>,
 }
 
-// A run whose files are those of the words behind the first one, over outsides in memory whose
-// calls with these numbers fail.
-pub(crate) fn outcome(
+// A run over these files and outsides in memory whose calls with these numbers fail.
+fn outcome_over(
     alloc: Global,
     words: &[&str],
-    files: &[&[u8]],
+    entries: Vec<Entry>,
     read_fails: &[u64],
     write_fails: &[u64],
 ) -> Result<Ended, Fail> {
     let words = texts(alloc, words)?;
-    let entries = entries(alloc, files)?;
     let mut files = MemFiles::new(entries, 7, Vec::from_slice(alloc, read_fails)?);
     let mut input = MemSource::new(Vec::new(alloc), 1, Vec::new(alloc));
-    let mut output = MemSink::with_room(alloc, 65536, 5, Vec::from_slice(alloc, write_fails)?)
+    let room = 65536;
+    let mut output = MemSink::with_room(alloc, room, MOVED, Vec::from_slice(alloc, write_fails)?)
         .ok()
         .ok_or("no room")?;
     let status = run(alloc, &words, &mut files, &mut input, &mut output);
@@ -52,6 +54,18 @@ pub(crate) fn outcome(
         status,
         text: Vec::from_slice(alloc, output.written())?,
     })
+}
+
+// A run whose files are those of the words behind the first one.
+pub(crate) fn outcome(
+    alloc: Global,
+    words: &[&str],
+    files: &[&[u8]],
+    read_fails: &[u64],
+    write_fails: &[u64],
+) -> Result<Ended, Fail> {
+    let entries = entries(alloc, files)?;
+    outcome_over(alloc, words, entries, read_fails, write_fails)
 }
 
 // A run in which no call fails ends so.
@@ -88,7 +102,8 @@ pub(crate) fn failing_reads(
     Ok(calls)
 }
 
-// How many writes a run makes, of which each has failed in turn. After a failed one less is written than this text.
+// How many writes a run makes, of which each has failed in turn. After a failed one a front of this text is written, and no
+// more of it than the calls before could take: nothing where the first one failed.
 pub(crate) fn failing_writes(
     rt: &impl Abort,
     alloc: Global,
@@ -102,6 +117,8 @@ pub(crate) fn failing_writes(
         if found.status != Status::WriteFault {
             break;
         }
+        let most = (call as usize).saturating_mul(MOVED);
+        assert!(rt; found.text.len() <= most, "at {call}");
         assert!(rt; found.text.len() < text.len(), "at {call}");
         assert!(rt; text.starts_with(&found.text), "at {call}");
         calls = call.saturating_add(1);
@@ -254,6 +271,34 @@ fn each_write_may_fail(rt: HostRuntime) -> Result<(), Fail> {
 fn an_absent_file_is_a_read_fault(rt: HostRuntime) -> Result<(), Fail> {
     let files = [b"node,source\na,0\nb,0\nc,0\n".as_slice()];
     answers(&rt, rt.alloc(), &TOPOLOGY, &files, Status::ReadFault, b"")
+}
+
+// One byte more than a file may have.
+fn too_long(alloc: Global) -> Result<Vec<u8>, Fail> {
+    Ok(vec![in alloc; b'x'; 16_777_217]?)
+}
+
+// No file of switches is held.
+#[test]
+fn nodes_are_judged_before_switches_are_read(rt: HostRuntime) -> Result<(), Fail> {
+    let nodes = too_long(rt.alloc())?;
+    let text = b"fault\tnodes\t0\t14\tTooLong\n";
+    let status = Status::InputFault;
+    answers(&rt, rt.alloc(), &TOPOLOGY, &[&nodes], status, text)
+}
+
+// The file of switches would be too long.
+#[test]
+fn nodes_are_read_before_switches(rt: HostRuntime) -> Result<(), Fail> {
+    let mut entries = Vec::new(rt.alloc());
+    entries.push(Entry {
+        word: 2,
+        bytes: too_long(rt.alloc())?,
+    })?;
+    let found = outcome_over(rt.alloc(), &TOPOLOGY, entries, &[], &[])?;
+    assert!(rt; found.status == Status::ReadFault);
+    assert!(rt; found.text.is_empty());
+    Ok(())
 }
 
 fn usage() -> &'static [u8] {

@@ -49,6 +49,7 @@ fn take_switching<F: Files>(alloc: Global, files: &mut F) -> Result<Case, Untake
     ensures stated { (file : ℕ → List ℕ) → AreFiles (Some Topology) (F.content files.old) file
         → IsTaken (switching_case (file 1) (file 2)) result }
     ensures read { IsErrOf result Untaken.Read → FileRose (Some Topology) (F.faults files.old) (F.faults files.new) }
+    ensures quiet { (IsErrOf result Untaken.Read → ⊥) → (w : ℕ) → F.faults files.new w ≡ F.faults files.old w }
     ensures steady { ((w : ℕ) → IsFileWord (Some Topology) w → F.steady files.old w) → IsErrOf result Untaken.Read → ⊥ }
 {
     let nodes = take_file(alloc, files, 1, b"nodes")?;
@@ -101,6 +102,8 @@ pub(crate) fn topology<F: Files, W: Sink>(alloc: Global, files: &mut F, output: 
     ensures statuses { CanAnswer (Some Topology) result }
     ensures read { result ≡ Status.ReadFault → FileRose (Some Topology) (F.faults files.old) (F.faults files.new) }
     ensures write { result ≡ Status.WriteFault → Rose (W.faults output.old) (W.faults output.new) }
+    ensures quiet { result ≢ Status.WriteFault → W.faults output.new ≡ W.faults output.old }
+    ensures quiet_files { result ≢ Status.ReadFault → (w : ℕ) → F.faults files.new w ≡ F.faults files.old w }
     ensures memory { result ≡ Status.NoMemory → W.written output.new ≡ W.written output.old }
     ensures unread { result ≡ Status.ReadFault → W.written output.new ≡ W.written output.old }
     ensures steady { ((w : ℕ) → IsFileWord (Some Topology) w → F.steady files.old w) → result ≢ Status.ReadFault }

@@ -15,7 +15,8 @@ use Rattle.obs_matroid.proofs.Closed.{closed_longest}
 use Rattle.obs_matroid.proofs.Components.{component_longest, component_tight}
 use Rattle.obs_matroid.proofs.Computed.{is_critical_is}
 use Rattle.obs_matroid.proofs.Critical.{closed_tight, longest_from_closed, marks_critical, tight_marks, tight_outside}
-use Rattle.obs_matroid.proofs.Lists.{clash, same_Bool}
+use Rattle.std.specs.Cmp.Derive.{one_truth}
+use Rattle.obs_matroid.proofs.Lists.{clash}
 use Rattle.obs_matroid.proofs.Slots.{slot_at, slot_from}
 use Rattle.obs_matroid.proofs.Comparing.{cases_Option}
 use Rattle.obs_meter.specs.declared.Touch.{Touch}
@@ -114,7 +115,7 @@ module _ (a : Assigned) (g : Shape) (touches : List Touch) (S : ℕ → Bool) (h
         let live = is_live g.ends touches m in
         let is = is_critical_is mat laws touch M d m in
         let marks : In m M → (S m ≡ false) ↔ IsCritical mat touch M m = marks_critical mat laws touch M (pairs a) S d (IsAssignment-live n a g touches h.whole h.stands) c m in
-        same_Bool (live && is_critical mat touch M m) (live && not (S m))
+        one_truth (live && is_critical mat touch M m) (live && not (S m))
         (λ t. let u = and_parts live (is_critical mat touch M m) t in
         and_from live (not (S m)) u.0 (ap not ((marks (In-live g.ends touches m u.0)).1 (is.0 u.1))))
         (λ t. let u = and_parts live (not (S m)) t in

@@ -5,9 +5,9 @@ ghost use Rattle.obs_meter.specs.Touches.{AreInRange};
 ghost use Rattle.obs_assign.specs.Assigned.{HasRoomOf, IsWhole, StandsOver, has_flag};
 ghost use Rattle.obs_exchange.specs.Closed.{IsLeastClosedAt, IsSource};
 ghost use Rattle.obs_exchange.specs.Found.{IsFound};
-ghost use Rattle.obs_exchange.specs.Searching.{IsEnd, IsFreeFor, IsReady, end_of};
+ghost use Rattle.obs_exchange.specs.Searching.{IsEnd, IsFreeFor, IsReady, end_of, first_of};
 
-use crate::queue::{begin, first_source, is_source, sources_end};
+use crate::queue::{begin, is_source, sources_end};
 use crate::visit::spread;
 use crate::walk::is_free;
 use crate::{Found, Sources};
@@ -52,22 +52,24 @@ fn untried_branch(g: &Graph, ms: &Meters, a: &Assignment, m: u32, tried: &mut [b
     free_branch(g, ms, a, m)
 }
 
-/// The move of the first source that touches a free branch.
+/// The move of the first source that touches a free branch. Sources before the given meter are passed over.
 fn free_move(
     g: &Graph,
     ms: &Meters,
     a: &Assignment,
     from: Sources,
+    first: u32,
     tried: &mut [bool],
 ) -> Option<Move>
     requires stands { StandsOver a.now g.now ms.now.touches }
     requires whole { IsWhole a.now }
     requires in_range { AreInRange g.now ms.now.touches }
     requires low { end_of from (length ms.now.touches) ≤ length ms.now.touches }
+    requires first { first_of from ≤ first }
     requires tried { g.now.vertices ≤ length tried.old }
     ensures free { IfSome result (λ x. (x.meter < length ms.now.touches) × IsSource g.now.ends ms.now.touches from a.now x.meter × IsFreeFor g.now.ends ms.now.touches a.now x.meter x.branch) }
 {
-    for m in first_source(from)..sources_end(from, ms.count()) {
+    for m in first..sources_end(from, ms.count()) {
         if is_source(g, ms, a, from, m) {
             if let Some(e) = untried_branch(g, ms, a, m, tried) {
                 return Some(Move {
@@ -122,12 +124,14 @@ fn trace(
 }
 
 /// Looks for a path of moves that gives a source a pair, writes it at the end of the array and says where it begins. None
-/// where there is no such path; the marks are then the least closed set.
+/// where there is no such path; the marks are then the least closed set. The sources from the given meter on are tried for
+/// a free branch first.
 pub fn find(
     g: &Graph,
     ms: &Meters,
     a: &Assignment,
     from: Sources,
+    first: u32,
     marks: &mut [bool],
     parents: &mut [Option<Move>],
     queue: &mut [u32],
@@ -139,6 +143,7 @@ pub fn find(
     requires stands { StandsOver a.now g.now ms.now.touches }
     requires in_range { AreInRange g.now ms.now.touches }
     requires low { end_of from (length ms.now.touches) ≤ length ms.now.touches }
+    requires first { first_of from ≤ first }
     requires marks { length ms.now.touches ≤ length marks.old }
     requires parents { length ms.now.touches ≤ length parents.old }
     requires queue { length ms.now.touches ≤ length queue.old }
@@ -154,7 +159,7 @@ pub fn find(
     let _ = g.vertices();
     let _ = a.length();
     stars.fill(false);
-    if let Some(x) = free_move(g, ms, a, from, stars) {
+    if let Some(x) = free_move(g, ms, a, from, first, stars) {
         let last = path.len() - 1;
         path[last] = x;
         return Some(last);

@@ -21,6 +21,7 @@ pub mod laws;
 mod memory;
 #[cfg(test)]
 mod mesh_tests;
+mod pass;
 mod queue;
 #[cfg(test)]
 mod tests;

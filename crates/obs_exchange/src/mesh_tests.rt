@@ -129,3 +129,10 @@ fn a_grid_grows_to_a_spanning_tree(rt: HostRuntime) -> Result<(), Fail> {
     assert_eq!(rt; grid(&rt, 10)?, 99);
     Ok(())
 }
+
+// A transmission network's size: 10,000 vertices, 19,800 branches and meters.
+#[test]
+fn a_large_grid_grows_to_a_spanning_tree(rt: HostRuntime) -> Result<(), Fail> {
+    assert_eq!(rt; grid(&rt, 100)?, 9_999);
+    Ok(())
+}

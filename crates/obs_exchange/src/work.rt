@@ -6,6 +6,7 @@ ghost use Rattle.obs_exchange.specs.Found.{CanBegin, HasRoomFor, HasSizesOf, IsF
 
 use crate::find::{find, grow};
 use crate::memory::NoMemory;
+use crate::pass::{Pass, first_tried, next_tried};
 use crate::{Found, Sources};
 use obs_assign::{Assignment, Move, Steps};
 use obs_graph::Graph;
@@ -25,6 +26,7 @@ pub struct Work {
     stars: Vec<bool>,
     path: Vec<Move>,
     cycle: Vec<u32>,
+    pass: Pass,
 }
 
 impl Model for Work {
@@ -64,6 +66,7 @@ impl Work {
             stars: vec![in alloc; false; most_vertices as usize]?,
             path: vec![in alloc; no_move; most_meters as usize]?,
             cycle: vec![in alloc; 0; most_vertices as usize]?,
+            pass: Pass::new(),
         })
     }
 
@@ -97,11 +100,13 @@ impl Work {
         let _ = g.vertices();
         let _ = a.length();
         self.meters = ms.count() as usize;
+        let first = first_tried(self.pass, a, from);
         let start = find(
             g,
             ms,
             a,
             from,
+            first,
             &mut self.reached,
             &mut self.parents,
             &mut self.queue,
@@ -111,8 +116,14 @@ impl Work {
             &mut self.cycle,
         );
         match start {
-            Some(k) => grow(g, ms, a, from, &self.path[k..], steps),
+            Some(k) => {
+                let next = next_tried(&self.path[k..], ms.count());
+                let found = grow(g, ms, a, from, &self.path[k..], steps);
+                self.pass = Pass::after(a, from, next);
+                found
+            }
             None => {
+                self.pass = Pass::new();
                 steps.tick();
                 Found::Closed
             }

@@ -3,6 +3,7 @@ use Rattle.std.proofs.Common.{◌≡◌, ℕ, zero, suc, ◌<◌, ◌≤◌, max
 use Rattle.std.specs.List.{Contains}
 use Rattle.std.proofs.lemmas.Bool.{cases_eq, cases_lt, cases_Bool, and_from, and_parts, or_cases, cond-true, cond-false, true≢false}
 use Rattle.std.proofs.lemmas.List.Elements.{All-head, All-tail}
+use Rattle.std.specs.Cmp.Derive.{one_truth}
 use Rattle.obs_graph.specs.declared.Ends.{Ends}
 use Rattle.obs_graph.specs.Joined.{is_joined, first_joined, joined_by, some_below, rank_in, InRange, LiesIn, IsForest}
 use Rattle.obs_graph.proofs.Counts.{count_below-agree, count_below-le, count_below-one_more, count_below-none, some_below-true, some_below-from_true}
@@ -114,12 +115,6 @@ module _ (inside : ℕ → Bool) (es : List Ends) where
       (λ no_it. no_it)
       (cases_Bool (is_counted inside es (low u)))
 
-pub same_Bool : (p q : Bool) → (p ≡ true → q ≡ true) → (q ≡ true → p ≡ true) → p ≡ q
-same_Bool true true a b = refl
-same_Bool true false a b = absurd (true≢false (sym (a refl)))
-same_Bool false true a b = absurd (true≢false (sym (b refl)))
-same_Bool false false a b = refl
-
 -- what joins more counts more
 pub is_counted-more : (inside : ℕ → Bool) (es fs : List Ends) → ((u v : ℕ) → first_joined es u ≡ first_joined es v → first_joined fs u ≡ first_joined fs v) → (u : ℕ) → is_counted inside es u ≡ true → is_counted inside fs u ≡ true
 is_counted-more inside es fs more u e =
@@ -185,7 +180,7 @@ module _ (inside : ℕ → Bool) (e : Ends) (es : List Ends) (in_a : inside e.a 
 
     others_same : (u : ℕ) → (u ≡ max x y → ⊥) → is_counted inside es u ≡ is_counted inside (e ∷ es) u
     others_same u ne =
-        same_Bool (is_counted inside es u) (is_counted inside (e ∷ es) u) (is_counted-more inside es (e ∷ es) keeps u) (λ now.
+        one_truth (is_counted inside es u) (is_counted inside (e ∷ es) u) (is_counted-more inside es (e ∷ es) keeps u) (λ now.
         let c = counted-from inside (e ∷ es) u now in
         ⊎_elim
         (λ old. counted inside es u c.1 c.0 c.3 c.2 old)
@@ -234,7 +229,7 @@ module _ (inside : ℕ → Bool) (e : Ends) (es : List Ends) (in_a : inside e.a 
 pub rank_in-add_joined : (inside : ℕ → Bool) (n : ℕ) (e : Ends) (es : List Ends) → SameFirst es e → rank_in inside n (e ∷ es) ≡ rank_in inside n es
 rank_in-add_joined inside n e es same =
     count_below-agree (is_counted inside (e ∷ es)) (is_counted inside es) n (λ k l.
-    same_Bool (is_counted inside (e ∷ es) k) (is_counted inside es k)
+    one_truth (is_counted inside (e ∷ es) k) (is_counted inside es k)
     (is_counted-more inside (e ∷ es) es (λ u v joined. sym (first_joined-add_joined e es same u) ∙ (joined ∙ first_joined-add_joined e es same v)) k)
     (is_counted-more inside es (e ∷ es) (λ u v joined. first_joined-add_joined e es same u ∙ (joined ∙ sym (first_joined-add_joined e es same v))) k))
 

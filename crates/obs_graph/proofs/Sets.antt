@@ -3,11 +3,12 @@ use Rattle.std.proofs.Common.{◌≡◌, ℕ, zero, suc, ◌+◌, ◌<◌, ◌�
 use Rattle.std.specs.List.{Contains}
 use Rattle.std.proofs.lemmas.Bool.{cases_eq, cases_Bool, eq-eqb, ne_eqb, eqb-true, and_left, or_cases, or_left, or_right, or_from, cond-true, cond-false}
 use Rattle.std.proofs.lemmas.List.Elements.{All-contains}
+use Rattle.std.specs.Cmp.Derive.{one_truth}
 use Rattle.obs_graph.specs.declared.Ends.{Ends}
 use Rattle.obs_graph.specs.Joined.{is_joined, first_joined, count_below, some_below, rank, rank_in, IsSeparate, kept_in}
 use Rattle.obs_graph.proofs.Counts.{count_below-yes, count_below-no, count_below-agree, count_below-le, count_below-one_more}
 use Rattle.obs_graph.proofs.Chains.{Contains-here, Contains-there, Contains-cases, same_from_Chain, Chain-from_same_first, first_joined-contains, same_first-more}
-use Rattle.obs_graph.proofs.RankIn.{is_counted, counted, counted-from, low, low-facts, low-le, low-uncounted, same_Bool}
+use Rattle.obs_graph.proofs.RankIn.{is_counted, counted, counted-from, low, low-facts, low-le, low-uncounted}
 
 -- two firsts of a set are not counted, so a set with one uncounted vertex at most is joined
 module _ (inside : ℕ → Bool) (n : ℕ) (es : List Ends) where
@@ -62,7 +63,7 @@ module _ (inside : ℕ → Bool) (n : ℕ) (es : List Ends) where
       let one = with_one-more p x (omega (arith, f.2)) (low-uncounted inside es m in_m) in
       let same : count_below (λ k. p k || eqb k x) n ≡ count_below inside n =
       count_below-agree (λ k. p k || eqb k x) inside n (λ k lk.
-      same_Bool (p k || eqb k x) (inside k)
+      one_truth (p k || eqb k x) (inside k)
       (λ e. ⊎_elim
       (λ (at_p : p k ≡ true). (counted-from inside es k at_p).0)
       (λ (at_x : eqb k x ≡ true). ap inside (eqb-true k x at_x) ∙ f.0)
@@ -104,14 +105,14 @@ module _ (inside : ℕ → Bool) (es : List Ends) (separate : IsSeparate inside 
       ⊎_elim
       (λ (in_u : inside u ≡ true). inl (
         in_u,
-        same_Bool (is_counted (λ x. true) es u) (is_counted inside es u)
+        one_truth (is_counted (λ x. true) es u) (is_counted inside es u)
             (λ e. let c = counted-from (λ x. true) es u e in counted inside es u c.1 in_u (sym (stays u c.1 c.4) ∙ in_u) c.2 c.4)
             (λ e. let c = counted-from inside es u e in counted (λ x. true) es u c.1 refl refl c.2 c.4),
         and_left (not (inside u)) (some_below (λ v. not (inside v) && is_joined es u v) u) (ap not in_u),
       ))
       (λ (out_u : inside u ≡ false). inr (
         out_u,
-        same_Bool (is_counted (λ x. true) es u) (is_counted (λ x. not (inside x)) es u)
+        one_truth (is_counted (λ x. true) es u) (is_counted (λ x. not (inside x)) es u)
             (λ e. let c = counted-from (λ x. true) es u e in counted (λ x. not (inside x)) es u c.1 (ap not out_u) (ap not (sym (stays u c.1 c.4) ∙ out_u)) c.2 c.4)
             (λ e. let c = counted-from (λ x. not (inside x)) es u e in counted (λ x. true) es u c.1 refl refl c.2 c.4),
         and_left (inside u) (some_below (λ v. inside v && is_joined es u v) u) out_u,
@@ -190,7 +191,7 @@ kept_among inside (x ∷ es) e has = by_test (inside x.a) (kept_in inside es) (�
 pub rank_in_of_kept : (inside : ℕ → Bool) (n : ℕ) (es : List Ends) → IsSeparate inside es → rank_in inside n (kept_in inside es) ≡ rank_in inside n es
 rank_in_of_kept inside n es separate =
     count_below-agree (is_counted inside (kept_in inside es)) (is_counted inside es) n (λ u l.
-    same_Bool (is_counted inside (kept_in inside es) u) (is_counted inside es u)
+    one_truth (is_counted inside (kept_in inside es) u) (is_counted inside es u)
     (λ e. let c = counted-from inside (kept_in inside es) u e in
     counted inside es u c.1 c.0 c.3 c.2 (same_first-more (kept_in inside es) es (λ d has. first_joined-contains es d (kept_among inside es d has)) u c.1 c.4))
     (λ e. let c = counted-from inside es u e in counted inside (kept_in inside es) u c.1 c.0 c.3 c.2 (joined_by_kept inside es separate u c.1 c.0 c.4)))

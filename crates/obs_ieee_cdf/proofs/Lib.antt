@@ -7,3 +7,4 @@ pub mod RowLemmas
 pub mod SearchLemmas
 pub mod SectionLemmas
 pub mod TableLemmas
+pub mod ValidLemmas

@@ -69,7 +69,7 @@ is_name-branch n small =
     short_name (branch_name n) (omega arith) (omega (arith, few)) (digits-name (decimal n) (digits_decimal numerals n small))
 
 -- two numbers have one name exactly where they are one
-same_name : (m n : ℕ) → m < 2 ^ 64 → n < 2 ^ 64 → bytes_eq (decimal n) (decimal m) ≡ eqb m n
+pub same_name : (m n : ℕ) → m < 2 ^ 64 → n < 2 ^ 64 → bytes_eq (decimal n) (decimal m) ≡ eqb m n
 same_name m n small below =
     same_from_decides {P = m ≡ n} (bytes_eq (decimal n) (decimal m)) (eqb m n)
     (Decides-like {P = decimal n ≡ decimal m} {Q = m ≡ n} (bytes_eq (decimal n) (decimal m)) (λ e. sym (decimal_injective n m below small e)) (λ e. ap decimal (sym e)) (bytes_decides (decimal n) (decimal m)))

@@ -1,6 +1,6 @@
 -- The reading of bytes and what bytes are.
 use Rattle.std.specs.Prelude.{◌≡◌, ℕ, List, Option, Ok, Err}
-use Rattle.obs_case.specs.Tables.{Tables}
+use Rattle.obs_case.specs.Tables.{IsValid, Tables}
 use Rattle.obs_ieee_cdf.specs.declared.fault.CdfEnd.{CdfEnd}
 use Rattle.obs_ieee_cdf.specs.Case.{IsCase, IsFile}
 use Rattle.obs_ieee_cdf.specs.Read.{case_in}
@@ -22,3 +22,7 @@ FaultWhereNoCase =
     (cdf meters : List ℕ) (candidates : Option (List ℕ)) →
     ((fault : CdfEnd) → case_in cdf meters candidates ≡ Err fault → (tables : Tables) → ¬ IsCase cdf meters candidates tables)
     × (((tables : Tables) → ¬ IsCase cdf meters candidates tables) → (fault : CdfEnd) × (case_in cdf meters candidates ≡ Err fault))
+
+-- a case that is read is valid
+abbrev pub CasesAreValid : Type 0
+CasesAreValid = (cdf meters : List ℕ) (candidates : Option (List ℕ)) (tables : Tables) → case_in cdf meters candidates ≡ Ok tables → IsValid tables

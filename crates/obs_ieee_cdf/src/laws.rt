@@ -1,5 +1,5 @@
 //! What bytes are, and what is read from them.
-ghost use Rattle.obs_ieee_cdf.specs.Laws.{CaseIsRead, FaultWhereNoCase, FileIsRead};
+ghost use Rattle.obs_ieee_cdf.specs.Laws.{CaseIsRead, CasesAreValid, FaultWhereNoCase, FileIsRead};
 
 /// The nodes and branches that are read from a file are those that its bytes are: each bus line is a
 /// bus, no two of them have one number, and each branch line is a branch between two buses.
@@ -11,4 +11,10 @@ pub fn file_is_read()
 pub fn case_is_read()
     ensures case { CaseIsRead }
     ensures fault { FaultWhereNoCase }
+{}
+
+/// A case that is read is valid: in each table the names are names, no two of them are equal and
+/// there are at most 20,000 rows, and positions and prices are in range.
+pub fn cases_are_valid()
+    ensures valid { CasesAreValid }
 {}

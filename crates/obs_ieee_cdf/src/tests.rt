@@ -172,6 +172,19 @@ fn cut_files(rt: HostRuntime) {
     }
 }
 
+// Each front of a file is refused until the whole end of its branch section stands in it.
+#[test]
+fn fronts_of_a_file(rt: HostRuntime) {
+    for count in 0..647usize {
+        let refused = match end_of(rt.alloc(), front(ieee14(), count)) {
+            Some(CdfEnd::Cdf(_)) => true,
+            Some(_) => false,
+            None => false,
+        };
+        assert!(rt; refused == (count < 645));
+    }
+}
+
 // Files with one fault, or with two of which the first counts.
 fn bus_case(i: u8) -> (&'static [u8], CdfFault) {
     match i {

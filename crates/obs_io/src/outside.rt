@@ -27,6 +27,7 @@ pub trait Files {
         ensures bytes { ReadsPart (content self.old word) at result into.new }
         ensures same { (w : ℕ) → content self.new w ≡ content self.old w }
         ensures cause { HasCause (faults self.old word) (faults self.new word) result }
+        ensures quiet { IfOk result (λ _. faults self.new word ≡ faults self.old word) }
         ensures others { (w : ℕ) → w ≢ word → faults self.new w ≡ faults self.old w }
         ensures steady { (w : ℕ) → steady self.old w → steady self.new w }
         ensures succeeds { steady self.old word → IsOk result };
@@ -49,6 +50,7 @@ pub trait Source {
         ensures bound { IfOk result (λ n. n ≤ length into.new) }
         ensures bytes { TakesFront (left self.old) (left self.new) result into.new }
         ensures cause { HasCause (faults self.old) (faults self.new) result }
+        ensures quiet { IfOk result (λ _. faults self.new ≡ faults self.old) }
         ensures steady { steady self.old → steady self.new }
         ensures succeeds { steady self.old → IsOk result };
 }
@@ -71,6 +73,7 @@ pub trait Sink {
         ensures bound { IfOk result (λ n. n ≤ length bytes.now) }
         ensures bytes { PutsFront (written self.old) (written self.new) result bytes.now }
         ensures cause { HasCause (faults self.old) (faults self.new) result }
+        ensures quiet { IfOk result (λ _. faults self.new ≡ faults self.old) }
         ensures room { (room : ℕ) → has_room self.old room → length bytes.now ≤ room
             → IfOk result (λ n. has_room self.new (room - n)) }
         ensures succeeds { (room : ℕ) → has_room self.old room → length bytes.now ≤ room → IsOk result };

@@ -1,12 +1,12 @@
-// What no contract says: what the real things give, and that calls succeed.
+// What no contract says: what the real things give, that calls succeed, and which calls fail.
 use crate::{
     DirFiles, Entry, Failed, Files, FromRead, MemFiles, MemSink, MemSource, ReadEnd, Sink, Source,
     ToWrite, read_all, write_all,
 };
 use std::alloc::Global;
-use std::fs;
-use std::io::Cursor;
+use std::io::{Cursor, Read, Write};
 use std::test::Fail;
+use std::{fs, io};
 
 fn listed(alloc: Global, calls: &[u64]) -> Result<Vec<u64>, Fail> {
     Ok(Vec::from_slice(alloc, calls)?)
@@ -112,4 +112,78 @@ fn a_reader_and_a_writer_stand_under_the_traits(rt: HostRuntime) -> Result<(), F
     assert_eq!(rt; write_all(&mut output, b"end\n"), Ok(()));
     assert_eq!(rt; write_all(&mut output, b"more"), Err(Failed));
     Ok(())
+}
+
+#[test]
+fn a_word_that_is_not_held_fails(rt: HostRuntime) -> Result<(), Fail> {
+    let mut entries = Vec::new(rt.alloc());
+    entries.push(Entry {
+        word: 2,
+        bytes: Vec::from_slice(rt.alloc(), b"north")?,
+    })?;
+    let mut files = MemFiles::new(entries, 8, Vec::new(rt.alloc()));
+    let mut into = [0; 8];
+    assert_eq!(rt; files.part(1, 0, &mut into), Err(Failed));
+    assert_eq!(rt; files.part(3, 16_777_216, &mut into), Err(Failed));
+    assert_eq!(rt; files.part(2, 0, &mut into), Ok(5));
+    Ok(())
+}
+
+// Gives its bytes, but the calls with these numbers fail.
+#[derive(Drop)]
+struct Unreadable<'a> {
+    bytes: &'a [u8],
+    fail: &'a [u64],
+    calls: u64,
+}
+
+impl Read for Unreadable<'_> {
+    fn read(&mut self, buf: &mut [u8]) -> io::Result<usize> {
+        let call = self.calls;
+        self.calls = call.saturating_add(1);
+        if self.fail.contains(&call) {
+            return Err(io::Error::from(io::ErrorKind::BrokenPipe));
+        }
+        self.bytes.read(buf)
+    }
+}
+
+// What a source gives is no end of its bytes where its reader failed before: the reader is asked anew.
+#[test]
+fn a_reader_that_failed_is_asked_anew(rt: HostRuntime) -> Result<(), Fail> {
+    let mut input = FromRead::new(Unreadable {
+        bytes: b"close S1\n",
+        fail: &[1, 2],
+        calls: 0,
+    });
+    let mut into = [0; 5];
+    assert_eq!(rt; input.take(&mut into), Ok(5));
+    assert_eq!(rt; input.take(&mut into), Err(Failed));
+    assert_eq!(rt; input.take(&mut into), Err(Failed));
+    assert_eq!(rt; input.take(&mut into), Ok(4));
+    assert_eq!(rt; &into[..4], b" S1\n".as_slice());
+    assert_eq!(rt; input.take(&mut into), Ok(0));
+    Ok(())
+}
+
+// Takes all bytes, and can't flush them.
+#[derive(Drop)]
+struct Unflushed;
+
+impl Write for Unflushed {
+    fn write(&mut self, buf: &[u8]) -> io::Result<usize> {
+        Ok(buf.len())
+    }
+
+    fn flush(&mut self) -> io::Result<()> {
+        Err(io::Error::from(io::ErrorKind::BrokenPipe))
+    }
+}
+
+#[test]
+fn a_writer_that_cannot_flush_fails(rt: HostRuntime) {
+    let mut output = ToWrite::new(Unflushed);
+    assert_eq!(rt; output.put(b"end\n"), Err(Failed));
+    assert_eq!(rt; write_all(&mut output, b"end\n"), Err(Failed));
+    assert_eq!(rt; write_all(&mut output, b""), Ok(()));
 }

@@ -55,6 +55,7 @@ fn add_piece<F: Files>(
     ensures same { (w : ℕ) → F.content files.new w ≡ F.content files.old w }
     ensures later { F.faults files.old word ≤ F.faults files.new word }
     ensures failed { IsErrOf result ReadEnd.Failed → Rose (F.faults files.old word) (F.faults files.new word) }
+    ensures quiet { (IsErrOf result ReadEnd.Failed → ⊥) → F.faults files.new word ≡ F.faults files.old word }
     ensures others { (w : ℕ) → w ≢ word → F.faults files.new w ≡ F.faults files.old w }
     ensures steady { (w : ℕ) → F.steady files.old w → F.steady files.new w }
     ensures succeeds { F.steady files.old word → IsErrOf result ReadEnd.Failed → ⊥ }
@@ -83,6 +84,7 @@ pub fn read_all<F: Files>(
     ensures same { (w : ℕ) → F.content files.new w ≡ F.content files.old w }
     ensures later { F.faults files.old word ≤ F.faults files.new word }
     ensures failed { IsErrOf result ReadEnd.Failed → Rose (F.faults files.old word) (F.faults files.new word) }
+    ensures quiet { (IsErrOf result ReadEnd.Failed → ⊥) → F.faults files.new word ≡ F.faults files.old word }
     ensures others { (w : ℕ) → w ≢ word → F.faults files.new w ≡ F.faults files.old w }
     ensures steady { (w : ℕ) → F.steady files.old w → F.steady files.new w }
     ensures succeeds { F.steady files.old word → IsErrOf result ReadEnd.Failed → ⊥ }
@@ -104,6 +106,7 @@ pub fn read_all<F: Files>(
 pub fn write_all<W: Sink>(output: &mut W, bytes: &[u8]) -> Result<(), Failed>
     ensures writes { Writes (W.written output.old) (W.written output.new) result bytes.now }
     ensures cause { HasCause (W.faults output.old) (W.faults output.new) result }
+    ensures quiet { IsOk result → W.faults output.new ≡ W.faults output.old }
     ensures succeeds { (rest : ℕ) → W.has_room output.old (length bytes.now + rest) → IsOk result }
     ensures room { (rest : ℕ) → W.has_room output.old (length bytes.now + rest) → W.has_room output.new rest }
 {

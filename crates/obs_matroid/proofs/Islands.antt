@@ -9,7 +9,8 @@ use Rattle.obs_matroid.specs.Assignments.{Pair, items, branches, part, others, I
 use Rattle.obs_matroid.specs.Closed.{none, every}
 use Rattle.obs_matroid.specs.Islands.{LiesInside, IsSpanned, IsIsland}
 use Rattle.obs_matroid.specs.Graphic.{IsJoining, graphic}
-use Rattle.obs_matroid.proofs.Lists.{clash, same_Bool, In_same, In-filter, In-filter_from, In-append_cases, In-flat_map, In-flat_map_from, cases_In, is_in, is_in_from, is_in_at, length-within, IsDistinct-filter, find_in, length-without_lt, other_true}
+use Rattle.std.specs.Cmp.Derive.{one_truth}
+use Rattle.obs_matroid.proofs.Lists.{clash, In_same, In-filter, In-filter_from, In-append_cases, In-flat_map, In-flat_map_from, cases_In, is_in, is_in_from, is_in_at, length-within, IsDistinct-filter, find_in, length-without_lt, other_true}
 use Rattle.obs_matroid.proofs.Pairs.{IsDistinct-filter_items, In-items, In-items_from, In-branches, In-branches_from, In-part, In-part_from, IsDistinct-part, branches_within, independent_part, own}
 use Rattle.obs_matroid.proofs.Bounds.{length-items, length-branches, length-parts}
 use Rattle.obs_matroid.proofs.Least.{grows_or_closes}
@@ -264,7 +265,7 @@ module _ (ends : ℕ → ℕ × ℕ) (joined : List ℕ → ℕ → ℕ → Bool
   module _ (U : List ℕ) (A : List Pair) (st : IsSettled ends joined rank touch vs M U A) where
     piece_ends : (v e : ℕ) → g.spans (branches A) e ≡ true → piece joined A v (ends e).0 ≡ piece joined A v (ends e).1
     piece_ends v e t =
-        same_Bool (piece joined A v (ends e).0) (piece joined A v (ends e).1)
+        one_truth (piece joined A v (ends e).0) (piece joined A v (ends e).1)
         (λ x. joining.on (branches A) v (ends e).0 (ends e).1 x t)
         (λ x. joining.on (branches A) v (ends e).1 (ends e).0 x (joining.back (branches A) (ends e).0 (ends e).1 t))
 
@@ -326,7 +327,7 @@ module _ (ends : ℕ → ℕ × ℕ) (joined : List ℕ → ℕ → ℕ → Bool
 
     -- and the only one that holds its vertices
     pub island_piece : (v : ℕ) → In v vs → (T : ℕ → Bool) → IsIsland ends g touch vs M T → T v ≡ true → (u : ℕ) → In u vs → T u ≡ piece joined A v u
-    island_piece v iv T t tv u iu = same_Bool (T u) (piece joined A v u)
+    island_piece v iv T t tv u iu = one_truth (T u) (piece joined A v u)
         (λ y. contained T t.spanned v u iv iu tv y)
         (t.largest (piece joined A v) (piece_spanned v iv) (λ w iw y. contained T t.spanned v w iv iw tv y) u iu)
 

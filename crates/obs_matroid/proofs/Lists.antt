@@ -9,12 +9,6 @@ use Rattle.obs_matroid.specs.Lists.{In, IsDistinct, other_than}
 pub clash : {P : Type 0} {b : Bool} → b ≡ true → b ≡ false → P
 clash t f = cc
 
--- two booleans are the same where each is true if the other is
-pub same_Bool : (x y : Bool) → (x ≡ true → y ≡ true) → (y ≡ true → x ≡ true) → x ≡ y
-same_Bool true y f h = sym (f refl)
-same_Bool false true f h = h refl
-same_Bool false false f h = refl
-
 pub In_same : {X : Type 0} (x y : X) (xs : List X) → x ≡ y → In y xs → In x xs
 In_same x y xs e i = rw e i
 

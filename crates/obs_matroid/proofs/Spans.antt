@@ -3,7 +3,8 @@ use Rattle.std.proofs.Common.{◌≡◌, ℕ, List, ◌∷◌, ◌↔◌, inl, i
 use Rattle.std.proofs.lemmas.Bool.{cases_Bool}
 use Rattle.obs_matroid.specs.Lists.{In}
 use Rattle.obs_matroid.specs.Matroid.{Matroid, IsMatroid}
-use Rattle.obs_matroid.proofs.Lists.{clash, same_Bool}
+use Rattle.std.specs.Cmp.Derive.{one_truth}
+use Rattle.obs_matroid.proofs.Lists.{clash}
 
 module _ (g : Matroid) (laws : IsMatroid g) where
   -- what a list spans, each list that holds it spans
@@ -19,4 +20,4 @@ module _ (g : Matroid) (laws : IsMatroid g) where
 
   -- two lists of the same branches span the same
   pub spans_same : (L K : List ℕ) (e : ℕ) → ((x : ℕ) → In x L ↔ In x K) → g.spans L e ≡ g.spans K e
-  spans_same L K e h = same_Bool (g.spans L e) (g.spans K e) (spans_more L K e (λ x i. (h x).0 i)) (spans_more K L e (λ x i. (h x).1 i))
+  spans_same L K e h = one_truth (g.spans L e) (g.spans K e) (spans_more L K e (λ x i. (h x).0 i)) (spans_more K L e (λ x i. (h x).1 i))

@@ -33,7 +33,7 @@ pub record IsAssignment (g : Matroid) (touch : ℕ → List ℕ) (M : List ℕ) 
   pub independent : IsIndependent g (branches A)
 
 -- r is the greatest length of an assignment of items of M
--- (the rank of M in the matroid on the items that Rado's theorem gives, or 'rho')
+-- (the rank of M in the matroid that the branches induce on the items through `touch`, whose rank formula is Rado's; or 'rho')
 pub record IsRho (g : Matroid) (touch : ℕ → List ℕ) (M : List ℕ) (r : ℕ) : Type 0 where
   pub longest : List Pair
   pub assigns : IsAssignment g touch M longest

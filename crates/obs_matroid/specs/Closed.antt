@@ -1,4 +1,5 @@
--- Closed sets of items (not flats of the matroid: sets that no exchange path from inside leaves), and an assignment that has grown.
+-- Closed sets of items (not flats of the matroid: sets that no exchange path from inside, as in Exchange, leaves or ends in at a free
+-- branch), and an assignment that has grown.
 -- Some items may be frozen: they must keep the branches that they have.
 use Rattle.std.specs.Prelude.{◌≡◌, ℕ, suc, Bool, true, false, List, length, ◌≤◌, ◌||◌}
 use Rattle.obs_matroid.specs.Lists.{In}
@@ -17,7 +18,7 @@ every x = true
 abbrev pub HasFrozen : (ℕ → Bool) → List Pair → Type 0
 HasFrozen frozen A = (m : ℕ) → frozen m ≡ true → In m (items A)
 
--- B has the frozen pairs of A (it may lack the others)
+-- B has the frozen pairs of A, and these alone are asked for: it may lack the others
 abbrev pub Extends : (ℕ → Bool) → List Pair → List Pair → Type 0
 Extends frozen A B = (p : Pair) → In p A → frozen p.0 ≡ true → In p B
 

@@ -1,4 +1,5 @@
--- Components: kinds of branches that have nothing to do with one another.
+-- Components: kinds of branches that have nothing to do with one another, as the summands of a direct sum (which need not be connected).
+-- A kind is said of a branch, a component of an item.
 use Rattle.std.specs.Prelude.{◌≡◌, ℕ, Bool, true, List, filter, ◌==◌}
 use Rattle.obs_matroid.specs.Matroid.{Matroid}
 

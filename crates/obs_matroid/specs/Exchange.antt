@@ -9,7 +9,7 @@ use Rattle.obs_matroid.specs.Closed.{Extends}
 abbrev pub put : Pair → List Pair → List Pair
 put p A = p ∷ part (other_than p.0) A
 
--- A after these moves, the first of the list first
+-- A after these moves, the first of the list first; of an exchange path, which is listed from its last move back, the last move is put first
 abbrev pub put_all : List Pair → List Pair → List Pair
 put_all [] A = A
 put_all (p ∷ back) A = put_all back (put p A)
@@ -37,7 +37,7 @@ pub record IsExchangePath (g : Matroid) (touch : ℕ → List ℕ) (M : List ℕ
   pub free : g.spans (branches A) last.1 ≡ false
   pub leads : LeadsTo g A last.0 back
 
--- B has one pair more than A: the item s has a pair now, and no item lost its pair
+-- B has one pair more than A: the item s has a pair (that it had none in A is said by the path), and no item lost its pair
 pub record IsLonger (g : Matroid) (touch : ℕ → List ℕ) (M : List ℕ) (A B : List Pair) (s : ℕ) : Type 0 where
   pub assigns : IsAssignment g touch M B
   pub longer : length B ≡ suc (length A)

@@ -14,7 +14,7 @@ IsBefore (Some a) (Some b) = a < b
 IsBefore (Some a) None = Unit {0}
 IsBefore None o = ⊥
 
--- by the items in order, A does not come after B: at the first item where they differ, A has what comes before
+-- by the items in the order of the list, A does not come after B: at the first item where they differ, A has what comes before
 abbrev pub IsNotAfter : List ℕ → List Pair → List Pair → Type 0
 IsNotAfter [] A B = Unit {0}
 IsNotAfter (m ∷ ms) A B = IsBefore (branch_at A m) (branch_at B m) ⊎ ((branch_at A m ≡ branch_at B m) × IsNotAfter ms A B)

@@ -1,5 +1,5 @@
 -- The matroid of a graph: a list of branches spans a branch where it joins its two ends.
--- It has every number as a branch: one that is not in the network must be a loop, with two equal ends.
+-- It has every number as a branch: give a number that is no branch of the graph two equal ends, so that it is a loop.
 use Rattle.std.specs.Prelude.{◌≡◌, ℕ, Bool, true, List, [], ◌∷◌, ◌⊎◌, ◌↔◌}
 use Rattle.obs_matroid.specs.Matroid.{Matroid}
 
@@ -15,6 +15,6 @@ pub record IsJoining (ends : ℕ → ℕ × ℕ) (joined : List ℕ → ℕ → 
   pub same : (L : List ℕ) (u : ℕ) → joined L u u ≡ true
   pub back : (L : List ℕ) (u v : ℕ) → joined L u v ≡ true → joined L v u ≡ true
   pub on : (L : List ℕ) (u v w : ℕ) → joined L u v ≡ true → joined L v w ≡ true → joined L u w ≡ true
-  -- one more branch joins what was joined, and what hangs on its two ends
+  -- with one more branch is joined what was joined, and what hangs on its two ends, and no more
   pub added : (e : ℕ) (L : List ℕ) (u v : ℕ) → joined (e ∷ L) u v ≡ true
-      ↔ (joined L u v ≡ true) ⊎ ((joined L u (ends e).0 ≡ true) × (joined L (ends e).1 v ≡ true) ⊎ (joined L u (ends e).1 ≡ true) × (joined L (ends e).0 v ≡ true))
+      ↔ (joined L u v ≡ true) ⊎ (((joined L u (ends e).0 ≡ true) × (joined L (ends e).1 v ≡ true)) ⊎ ((joined L u (ends e).1 ≡ true) × (joined L (ends e).0 v ≡ true)))

@@ -8,7 +8,8 @@ use Rattle.obs_matroid.specs.Assignments.{Pair, items, IsAssignment}
 abbrev pub LiesInside : (ℕ → ℕ × ℕ) → (ℕ → List ℕ) → (ℕ → Bool) → ℕ → Type 0
 LiesInside ends touch S m = (e : ℕ) → In e (touch m) → (S (ends e).0 ≡ true) × (S (ends e).1 ≡ true)
 
--- S is spanned from inside: it isn't empty, and the items of M that lie inside it have an assignment of one pair fewer than S has vertices
+-- S is spanned from inside: it isn't empty, and the items of M that lie inside it have an assignment of one pair fewer than S has vertices,
+-- whose branches are then a spanning tree of S
 pub record IsSpanned (ends : ℕ → ℕ × ℕ) (g : Matroid) (touch : ℕ → List ℕ) (vs M : List ℕ) (S : ℕ → Bool) : Type 0 where
   pub vertex : ℕ
   pub vertex_in : In vertex vs

@@ -1,5 +1,6 @@
 -- What is proved. In all of it g is a matroid, `touch m` are the branches that the item m touches, M is a list of items,
--- A and B are assignments, and J, S and T are sets of items, as tests.
+-- A and B are assignments, and J, S and T are sets of items, as tests (in IslandsPartition S and T are sets of vertices). Where items
+-- may be added at a price, E or es are the candidates and xs the answer.
 use Rattle.std.specs.Prelude.{◌≡◌, ℕ, ◌+◌, ◌≤◌, ◌<◌, Bool, true, false, ◌⊎◌, ◌↔◌, ◌||◌, List, [], ◌∷◌, ◌++◌, length, filter, sum_by}
 use Rattle.obs_matroid.specs.Lists.{In, IsDistinct, IsRising, without}
 use Rattle.obs_matroid.specs.Matroid.{Matroid, IsMatroid, IsIndependent}
@@ -100,7 +101,7 @@ ClosedIsLongest = (g : Matroid) → IsMatroid g → (touch : ℕ → List ℕ) (
     → IsAssignment g touch M A → IsAssignment g touch M B → HasFrozen frozen A → Extends frozen A B → IsClosed g touch M frozen A S
     → HoldsSources M every A S → length B ≤ length A
 
--- with nothing frozen, the bound of a closed set that holds each item of M without a pair is the number of pairs
+-- with nothing frozen, the bound of a closed set that holds each item of M without a pair is the number of pairs: by WeakBound, the set is tight
 abbrev pub ClosedIsTight : Type 0
 ClosedIsTight = (g : Matroid) → IsMatroid g → (touch : ℕ → List ℕ) (M : List ℕ) → IsDistinct M → (A : List Pair) (S : ℕ → Bool)
     → IsAssignment g touch M A → IsClosed g touch M none A S → HoldsSources M every A S → bound g touch S M ≡ length A
@@ -110,12 +111,12 @@ abbrev pub LeastClosedHasNoFrozen : Type 0
 LeastClosedHasNoFrozen = (g : Matroid) → IsMatroid g → (touch : ℕ → List ℕ) (M : List ℕ) (frozen from : ℕ → Bool) (A : List Pair) (S : ℕ → Bool)
     → HasFrozen frozen A → IsLeastClosed g touch M frozen from A S → (m : ℕ) → S m ≡ true → frozen m ≡ false
 
--- two closed sets together are closed
+-- the union of two closed sets is closed
 abbrev pub ClosedTogether : Type 0
 ClosedTogether = (g : Matroid) → IsMatroid g → (touch : ℕ → List ℕ) (M : List ℕ) (frozen : ℕ → Bool) (A : List Pair) (S T : ℕ → Bool)
     → IsClosed g touch M frozen A S → IsClosed g touch M frozen A T → IsClosed g touch M frozen A (λ x. S x || T x)
 
--- the moves of an exchange path give an assignment of one more pair
+-- the moves of an exchange path without shortcuts (an augmenting path) give an assignment of one more pair
 abbrev pub ExchangePathGrows : Type 0
 ExchangePathGrows = (g : Matroid) → IsMatroid g → (touch : ℕ → List ℕ) (M : List ℕ) (A : List Pair) (last : Pair) (back : List Pair)
     → IsAssignment g touch M A → IsExchangePath g touch M A last back → IsLonger g touch M A (put_all (last ∷ back) A) (source last.0 back)
@@ -146,8 +147,8 @@ abbrev pub FirstUnique : Type 0
 FirstUnique = (g : Matroid) (touch : ℕ → List ℕ) (M : List ℕ) (A B : List Pair) → IsFirst g touch M A → IsFirst g touch M B
     → (p : Pair) → In p A ↔ In p B
 
--- where the matroid is the sum of its kinds and each item touches branches of one kind, a closed set that holds each item without a pair
--- is tight over the items of each kind K, and no assignment has more pairs there
+-- where the matroid is the sum of its kinds and each item touches branches of one kind, the bound of a closed set that holds each item
+-- without a pair, over the items of a component K, is the number of A's pairs there, and no assignment has more pairs there
 abbrev pub ComponentBound : Type 0
 ComponentBound = (g : Matroid) → IsMatroid g → (touch : ℕ → List ℕ) (kind of : ℕ → ℕ) → IsSumOfKinds g kind
     → ((m e : ℕ) → In e (touch m) → kind e ≡ of m) → (M : List ℕ) → IsDistinct M → (A : List Pair) (S : ℕ → Bool)
@@ -164,7 +165,7 @@ IslandsPartition = (ends : ℕ → ℕ × ℕ) (joined : List ℕ → ℕ → �
     → (v : ℕ) → In v vs → (S : ℕ → Bool) × IsIsland ends (graphic ends joined rank) touch vs M S × (S v ≡ true)
     × ((T : ℕ → Bool) → IsIsland ends (graphic ends joined rank) touch vs M T → T v ≡ true → (u : ℕ) → In u vs → T u ≡ S u)
 
--- each set of candidates that brings the greatest length to the needed one costs at least what the layers show
+-- each set of candidates that brings the greatest length to exactly the needed one costs at least what the layers show, for layers that run on from 0
 abbrev pub LayerBound : Type 0
 LayerBound = (g : Matroid) → IsMatroid g → (touch : ℕ → List ℕ) (price : ℕ → ℕ) (M E X : List ℕ) (needed : ℕ) (ls : List Layer) → RunOn 0 ls
     → ((l : Layer) → In l ls → IsShown g touch price M E l) → ((c : ℕ) → In c X → In c E) → IsRho g touch (M ++ X) needed
@@ -197,7 +198,7 @@ AnswerLacks = (g : Matroid) → IsMatroid g → (touch : ℕ → List ℕ) (pric
     → IsAnswer g touch M es xs → IsApart M es → IsByPrice price es → IsRho g touch M r → In c xs → t ≤ price c
     → IsRho g touch (M ++ below price t es) s → s < r + length xs
 
--- layers whose lists are tight, and which no price of the answer cuts, show its whole cost
+-- layers whose lists are tight, and which no price of the answer cuts or exceeds, show its whole cost
 abbrev pub AnswerCost : Type 0
 AnswerCost = (g : Matroid) → IsMatroid g → (touch : ℕ → List ℕ) (price : ℕ → ℕ) (M es xs : List ℕ) (r : ℕ) (ls : List Layer)
     → IsAnswer g touch M es xs

@@ -6,7 +6,7 @@ abbrev pub In : {X : Type 0} → X → List X → Type 0
 In x [] = ⊥
 In x (y ∷ ys) = (x ≡ y) ⊎ In x ys
 
--- no element stands twice
+-- no element stands twice; std's word of this name is a test, this is the fact
 abbrev pub IsDistinct : {X : Type 0} → List X → Type 0
 IsDistinct [] = Unit {0}
 IsDistinct (x ∷ xs) = (In x xs → ⊥) × IsDistinct xs

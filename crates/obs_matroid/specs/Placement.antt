@@ -26,6 +26,7 @@ abbrev pub Raises : Matroid → (ℕ → List ℕ) → List ℕ → ℕ → Type
 Raises g touch M c = (r s : ℕ) → IsRho g touch M r → IsRho g touch (c ∷ M) s → r < s
 
 -- the lists are the items, the candidates in order, and the answer (the greedy choice): of the candidates in order, each that raises the greatest length of the items and all candidates before it
+-- (a basis of the candidates after the items are contracted)
 pub data IsAnswer (g : Matroid) (touch : ℕ → List ℕ) : List ℕ → List ℕ → List ℕ → Type 0 where
   finished : {M : List ℕ} → IsAnswer g touch M [] []
   chosen : {M : List ℕ} {c : ℕ} {es xs : List ℕ} → Raises g touch M c → IsAnswer g touch (c ∷ M) es xs → IsAnswer g touch M (c ∷ es) (c ∷ xs)
@@ -52,12 +53,12 @@ abbrev pub RunOn : ℕ → List Layer → Type 0
 RunOn f [] = Unit {0}
 RunOn f (l ∷ ls) = (l.from ≡ f) × (f < l.to) × RunOn l.to ls
 
--- no price of xs lies inside a layer or above the last one
+-- no price of xs lies inside a layer or above the last one; the layers begin at the price f, and where there is none, no price is above f
 abbrev pub RunsThrough : (ℕ → ℕ) → ℕ → List Layer → List ℕ → Type 0
 RunsThrough price f [] xs = (c : ℕ) → In c xs → price c ≤ f
 RunsThrough price f (l ∷ ls) xs = ((c : ℕ) → In c xs → (price c ≤ f) ⊎ (l.to ≤ price c)) × RunsThrough price l.to ls xs
 
--- what the layers show of the cost: in each, what its bound lacks to the needed length, times its height
+-- what the layers show of the cost: in each, what its bound lacks to the needed length (nothing where it is more), times its height
 abbrev pub layers_sum : ℕ → List Layer → ℕ
 layers_sum needed [] = 0
 layers_sum needed (l ∷ ls) = (needed - l.rank - l.outside) * (l.to - l.from) + layers_sum needed ls
@@ -68,7 +69,7 @@ pub record IsShown (g : Matroid) (touch : ℕ → List ℕ) (price : ℕ → ℕ
   pub rank_is : g.rank (flat_map touch (inside marks (M ++ below price l.to E))) ≡ l.rank
   pub outside_is : length (outside marks (M ++ below price l.to E)) ≡ l.outside
 
--- of the items M and the candidates of E below a price, those that are not critical among them
+-- the own list of a price: of the items M and the candidates of E below it, those that are not critical among them
 abbrev pub own_list : Matroid → (ℕ → List ℕ) → (ℕ → ℕ) → List ℕ → List ℕ → ℕ → List ℕ
 own_list g touch price M E to = inside (λ m. not (is_critical g touch (M ++ below price to E) m)) (M ++ below price to E)
 

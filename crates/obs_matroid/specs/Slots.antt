@@ -1,4 +1,4 @@
--- Pairs as a list of slots: the slot at each place has the branch of that item, or none.
+-- Pairs as a list of slots, as obs_assign keeps them: the slot at each place has the branch of the item with that number, or none.
 use Rattle.std.specs.Prelude.{ℕ, suc, List, [], ◌∷◌, Option, Some, None}
 use Rattle.obs_matroid.specs.Assignments.{Pair}
 

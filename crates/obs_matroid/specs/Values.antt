@@ -9,7 +9,7 @@ use Rattle.obs_matroid.specs.Assignments.{Pair}
 abbrev pub longer : List Pair → List Pair → List Pair
 longer A B = cond (nat_lt (length A) (length B)) B A
 
--- of what the branches that pass give, in order, and then of what no branch gives, the first of the longest
+-- the first of the longest among what each branch that passes gives, in order, and last `bare`, which needs no branch
 abbrev pub pick : (ℕ → Bool) → (ℕ → List Pair) → List Pair → List ℕ → List Pair
 pick passes given bare [] = bare
 pick passes given bare (e ∷ es) = cond (passes e) (longer (given e) (pick passes given bare es)) (pick passes given bare es)

@@ -30,7 +30,7 @@ pub fn least_tight()
     ensures least { OutsideTightIsCritical }
 {}
 
-/// An item is critical exactly where the test says so, and where the least closed set, with nothing frozen and every item a source, does not hold it; and then also in each smaller list that holds it.
+/// An item is critical exactly where the test says so, and where the least closed set, with nothing frozen and every item a source, does not hold it. What is critical in a list is critical in each smaller list that holds it.
 pub fn critical()
     ensures computed { CriticalComputed }
     ensures outside_least_closed { LeastClosedIsNonCritical }
@@ -74,7 +74,7 @@ pub fn first_assignment()
     ensures unique { FirstUnique }
 {}
 
-/// A closed set bounds the number of pairs in each component.
+/// A closed set that holds each item without a pair, with nothing frozen, bounds the number of pairs in each component.
 pub fn component_bound()
     ensures tight { ComponentBound }
 {}
@@ -89,7 +89,7 @@ pub fn layer_bound()
     ensures cost { LayerBound }
 {}
 
-/// There is one answer, and `answer_of` gives it; it does as much as all candidates, layers with tight lists that its prices do not cut show its whole cost, and none that does as much is cheaper.
+/// There is one answer, and `answer_of` gives it; it does as much as all candidates, layers with tight lists that its prices neither cut nor exceed show its whole cost, and none that does as much is cheaper.
 pub fn answer()
     ensures computed { AnswerComputed }
     ensures unique { AnswerUnique }

@@ -69,10 +69,12 @@ struct Rows<'a> {
     candidates: &'a [(u8, Kind, u8)],
 }
 
-// The first bus, the size, the flag and the need of each component, the branches that each offered item touches, and
-// the needed number.
+// The number of buses, which branches are present, the first bus, the size, the flag and the need of each component, the
+// branches that each offered item touches, and the needed number.
 #[derive(Clone, Copy)]
 struct Seen<'a> {
+    buses: u32,
+    present: &'a [bool],
     components: &'a [(u32, u32, bool, u32)],
     touches: &'a [&'a [u32]],
     needed: u32,
@@ -116,28 +118,46 @@ fn touches(rt: &impl Abort, network: &Network, want: &[&[u32]]) {
     }
 }
 
+fn has_present(rt: &impl Abort, network: &Network, want: &[bool]) {
+    let graph = network.graph();
+    assert!(rt; graph.positions() as usize == want.len());
+    for e in 0..graph.positions() {
+        assert!(rt; graph.ends(e).is_some() == want[e as usize]);
+    }
+}
+
 fn look(rt: &impl Abort, network: &Network, seen: &Seen) {
+    assert!(rt; network.buses().count() == seen.buses);
+    has_present(rt, network, seen.present);
     has_components(rt, network, seen.components);
     touches(rt, network, seen.touches);
     assert!(rt; network.needed() == seen.needed);
 }
 
-// The network of these rows, and then with that switch opened or closed.
+// A switch, whether it is closed, and what is seen then.
+#[derive(Clone, Copy)]
+struct Switching<'a> {
+    switch: u8,
+    closed: bool,
+    seen: Seen<'a>,
+}
+
+// The network of these rows, and then after each switching.
 fn switched(
     rt: &impl Abort,
     alloc: Global,
     rows: &Rows,
     made: &Seen,
-    switch: u8,
-    closed: bool,
-    remade: &Seen,
+    switchings: &[Switching],
 ) -> Result<(), NoMemory> {
     let mut case = case_of(rt, alloc, rows);
     let mut network = Network::make(alloc, &case)?;
     look(rt, &network, made);
-    set(&mut case, switch, closed);
-    network.refresh(&case);
-    look(rt, &network, remade);
+    for switching in switchings {
+        set(&mut case, switching.switch, switching.closed);
+        network.refresh(&case);
+        look(rt, &network, &switching.seen);
+    }
     Ok(())
 }
 
@@ -159,16 +179,25 @@ fn a_component_without_a_source_has_no_branches(rt: HostRuntime) -> Result<(), F
         candidates: &[],
     };
     let made = Seen {
+        buses: 4,
+        present: &[true, false, false],
         components: &[(0, 2, true, 1), (2, 2, false, 1)],
         touches: &[&[0], &[], &[0]],
         needed: 1,
     };
     let remade = Seen {
+        buses: 3,
+        present: &[true, false, false],
         components: &[(0, 2, true, 1), (2, 1, false, 0)],
         touches: &[&[0], &[], &[0]],
         needed: 1,
     };
-    switched(&rt, rt.alloc(), &rows, &made, b's', true, &remade)?;
+    let closing = Switching {
+        switch: b's',
+        closed: true,
+        seen: remade,
+    };
+    switched(&rt, rt.alloc(), &rows, &made, &[closing])?;
     Ok(())
 }
 
@@ -190,15 +219,18 @@ fn touches_of_a_path(rt: HostRuntime) -> Result<(), Fail> {
         candidates: &[(b'p', Kind::Injection, b'c')],
     };
     let seen = Seen {
+        buses: 4,
+        present: &[true, true, true],
         components: &[(0, 4, true, 3)],
         touches: &[&[0], &[0], &[0, 1], &[1, 2]],
         needed: 3,
     };
-    switched(&rt, rt.alloc(), &rows, &seen, b'-', true, &seen)?;
+    switched(&rt, rt.alloc(), &rows, &seen, &[])?;
     Ok(())
 }
 
-// With switches 1 and 2 closed a, b and c are one bus, whether 3 is closed too or open; without 1, a is a bus of its own.
+// With all three switches closed a, b and c are one bus, and without the third one too; without the first one as well, a is
+// a bus of its own.
 #[test]
 fn an_opened_switch_parts_a_bus(rt: HostRuntime) -> Result<(), Fail> {
     let rows = Rows {
@@ -206,24 +238,37 @@ fn an_opened_switch_parts_a_bus(rt: HostRuntime) -> Result<(), Fail> {
         switches: &[
             (b'1', b'a', b'b', true),
             (b'2', b'b', b'c', true),
-            (b'3', b'c', b'a', false),
+            (b'3', b'c', b'a', true),
         ],
         branches: &[],
         meters: &[],
         candidates: &[],
     };
     let made = Seen {
+        buses: 1,
+        present: &[],
         components: &[(0, 1, true, 0)],
         touches: &[],
         needed: 0,
     };
     let remade = Seen {
+        buses: 2,
+        present: &[],
         components: &[(0, 1, true, 0), (1, 1, false, 0)],
         touches: &[],
         needed: 0,
     };
-    switched(&rt, rt.alloc(), &rows, &made, b'3', true, &made)?;
-    switched(&rt, rt.alloc(), &rows, &made, b'1', false, &remade)?;
+    let open_third = Switching {
+        switch: b'3',
+        closed: false,
+        seen: made,
+    };
+    let open_first = Switching {
+        switch: b'1',
+        closed: false,
+        seen: remade,
+    };
+    switched(&rt, rt.alloc(), &rows, &made, &[open_third, open_first])?;
     Ok(())
 }
 
@@ -237,16 +282,25 @@ fn a_closed_switch_across_a_branch_takes_it_out(rt: HostRuntime) -> Result<(), F
         candidates: &[],
     };
     let made = Seen {
+        buses: 2,
+        present: &[true],
         components: &[(0, 2, true, 1)],
         touches: &[&[0]],
         needed: 1,
     };
     let remade = Seen {
+        buses: 1,
+        present: &[false],
         components: &[(0, 1, true, 0)],
         touches: &[&[]],
         needed: 0,
     };
-    switched(&rt, rt.alloc(), &rows, &made, b's', true, &remade)?;
+    let closing = Switching {
+        switch: b's',
+        closed: true,
+        seen: remade,
+    };
+    switched(&rt, rt.alloc(), &rows, &made, &[closing])?;
     Ok(())
 }
 
@@ -280,16 +334,25 @@ fn a_closed_switch_joins_two_components(rt: HostRuntime) -> Result<(), Fail> {
         candidates: &[],
     };
     let made = Seen {
+        buses: 7,
+        present: &[true, true, true, true, true],
         components: &[(0, 2, true, 1), (1, 5, true, 4)],
         touches: &[&[4], &[4], &[4], &[4], &[4]],
         needed: 5,
     };
     let all: &[u32] = &[0, 1, 2, 3, 4];
     let remade = Seen {
+        buses: 6,
+        present: &[true, true, true, true, true],
         components: &[(0, 6, true, 5)],
         touches: &[all, all, all, all, all],
         needed: 5,
     };
-    switched(&rt, rt.alloc(), &rows, &made, b's', true, &remade)?;
+    let closing = Switching {
+        switch: b's',
+        closed: true,
+        seen: remade,
+    };
+    switched(&rt, rt.alloc(), &rows, &made, &[closing])?;
     Ok(())
 }

@@ -48,6 +48,7 @@ nothing_printed {T = T} {E = E} {a = a} {h = h} {f = f} {p = p} r = record {
   written = λ start front held. subst (HoldsSince start a h r) (sym (append-nil front)) held;
   later = omega arith;
   cause = cause r;
+  quiet = λ ok. (ok, refl);
   room = λ ok rest has. (ok, subst p (omega arith) has);
 }
   where
@@ -62,6 +63,10 @@ then_printed {T = T} {E = E} {a = a} {b = b} {d = d} {h = h} {i = i} {j = j} {f 
   written = λ start front held. rw (← append_assoc front one two) (v.written start (front ++ one) (u.written start front held));
   later = omega (arith, u.later, v.later);
   cause = causes r s t u.cause v.cause;
+  quiet = λ ok.
+      let last = v.quiet ok in
+      let first = u.quiet last.0 in
+      (first.0, last.1 ∙ first.1);
   room = λ ok rest has.
       let first = u.room ok (length two + rest) (subst p (omega (arith, length-append one two)) has) in
       v.room first.0 rest first.1;
@@ -74,11 +79,12 @@ then_printed {T = T} {E = E} {a = a} {b = b} {d = d} {h = h} {i = i} {j = j} {f 
 
 -- what is held is sent, and nothing is printed behind it
 pub sent_printed : {T E : Type 0} (x : T) {a b : Option (List ℕ)} {held : List ℕ} {f k : ℕ} {p q : ℕ → Type 0} {r : Result T E}
-    → Writes a b r held → HasCause f k r → FitsIn p q r held → IsPrinted {E = E} a b held [] f k p q (Ok x) r []
-sent_printed {E = E} x {a = a} {b = b} {held = held} {p = p} {q = q} {r = r} writes cause fits = record {
+    → Writes a b r held → HasCause f k r → (IsOk r → k ≡ f) → FitsIn p q r held → IsPrinted {E = E} a b held [] f k p q (Ok x) r []
+sent_printed {E = E} x {a = a} {b = b} {held = held} {p = p} {q = q} {r = r} writes cause quiet fits = record {
   written = λ start front h. subst (HoldsSince start b [] r) (sym (append-nil front)) (held_sent start a b held x r front h writes);
   later = cause.later;
   cause = λ ok. cause.failed;
+  quiet = λ ok. (refl, quiet ok);
   room = λ ok rest has.
       let found = fits rest (subst p (omega arith) has) in
       (found.0, subst q (omega arith) found.1);
@@ -86,11 +92,12 @@ sent_printed {E = E} x {a = a} {b = b} {held = held} {p = p} {q = q} {r = r} wri
 
 -- bytes are sent at once
 pub passed_printed : {T E : Type 0} (x : T) {a b : Option (List ℕ)} {held bytes : List ℕ} {f k : ℕ} {p q : ℕ → Type 0} {r : Result T E}
-    → held ≡ [] → Writes a b r bytes → HasCause f k r → FitsIn p q r bytes → IsPrinted {E = E} a b held held f k p q (Ok x) r bytes
-passed_printed {E = E} x {a = a} {b = b} {held = held} {bytes = bytes} {p = p} {q = q} {r = r} none writes cause fits = record {
+    → held ≡ [] → Writes a b r bytes → HasCause f k r → (IsOk r → k ≡ f) → FitsIn p q r bytes → IsPrinted {E = E} a b held held f k p q (Ok x) r bytes
+passed_printed {E = E} x {a = a} {b = b} {held = held} {bytes = bytes} {p = p} {q = q} {r = r} none writes cause quiet fits = record {
   written = λ start front h. held_passed start a b held x r front bytes none h writes;
   later = cause.later;
   cause = λ ok. cause.failed;
+  quiet = λ ok. (refl, quiet ok);
   room = λ ok rest has.
       let found = fits rest (subst p (omega (arith, ap length none)) has) in
       (found.0, subst q (omega (arith, ap length none)) found.1);
@@ -112,6 +119,9 @@ writes_whole {T = T} {E = E} x {a = a} {b = b} {r = r} {text = text} u = by r (u
 pub cause_whole : {T E : Type 0} (x : T) {a b : Option (List ℕ)} {f k : ℕ} {p q : ℕ → Type 0} {r : Result T E} {text : List ℕ} → IsPrinted {E = E} a b [] [] f k p q (Ok x) r text → HasCause f k r
 cause_whole x u = record { later = u.later; failed = u.cause refl }
 
+pub quiet_whole : {T E : Type 0} (x : T) {a b : Option (List ℕ)} {f k : ℕ} {p q : ℕ → Type 0} {r : Result T E} {text : List ℕ} → IsPrinted {E = E} a b [] [] f k p q (Ok x) r text → IsOk r → k ≡ f
+quiet_whole x u ok = (u.quiet ok).1
+
 pub fits_whole : {T E : Type 0} (x : T) {a b : Option (List ℕ)} {f k : ℕ} {p q : ℕ → Type 0} {r : Result T E} {text : List ℕ} → IsPrinted {E = E} a b [] [] f k p q (Ok x) r text → FitsIn p q r text
 fits_whole x {p = p} {q = q} {text = text} u = λ rest has.
     let found = u.room refl rest (subst p (omega arith) has) in
@@ -122,7 +132,7 @@ pub finished : {T E : Type 0} (x : T) {a b d : Option (List ℕ)} {h i : List �
     → h ≡ [] → IsPrinted {E = E} a b h i f k p q (Ok x) s text → IsPrinted b d i [] k l q o s t [] → Appends a d f l p o t text
 finished x {text = text} none u v =
     let whole = then_line (rw none at u) v (append-nil text) in
-    record { writes = writes_whole x whole; cause = cause_whole x whole; fits = fits_whole x whole }
+    record { writes = writes_whole x whole; cause = cause_whole x whole; quiet = quiet_whole x whole; fits = fits_whole x whole }
 
 -- one call and then another
 pub then_call : {T E : Type 0} {x : T} {a b d : Option (List ℕ)} {f k l : ℕ} {p q o : ℕ → Type 0} {r : Result T E} {one two : List ℕ}
@@ -130,6 +140,7 @@ pub then_call : {T E : Type 0} {x : T} {a b d : Option (List ℕ)} {f k l : ℕ}
 then_call {T = T} {E = E} {x = x} {a = a} {b = b} {d = d} {f = f} {k = k} {l = l} {p = p} {q = q} {o = o} {r = r} {one = one} {two = two} u v = record {
   writes = by r v.writes;
   cause = record { later = omega (arith, u.cause.later, v.cause.later); failed = causes r v.cause };
+  quiet = λ ok. v.quiet ok ∙ u.quiet refl;
   fits = λ rest has.
       let first = u.fits (length two + rest) (subst p (omega (arith, length-append one two)) has) in
       v.fits rest first.1;
@@ -149,6 +160,7 @@ pub failed_call : {T E : Type 0} {e : E} {a b : Option (List ℕ)} {f k : ℕ} {
 failed_call {T = T} {E = E} {e = e} {a = a} {b = b} {p = p} {one = one} two u = record {
   writes = part_longer a b one two u.writes;
   cause = u.cause;
+  quiet = λ ok. absurd (no ok);
   fits = λ rest has. absurd (no (u.fits (length two + rest) (subst p (omega (arith, length-append one two)) has)).0);
 }
   where

@@ -13,15 +13,19 @@ HoldsSince start written held (Ok x) text = (sent : List ℕ) × (text ≡ sent 
 HoldsSince start written held (Err e) text = WrotePart start written text
 
 -- what one piece more does, after pieces whose result was so_far: whatever was printed since some start, this text
--- stands behind it; a failure is new only where the count of faults rose, and doesn't come while there is room
+-- stands behind it; a failure is new only where the count of faults rose, and doesn't come while there is room; a piece is
+-- printed only behind pieces that were, and the count of faults is then as before
 pub record IsPrinted {T U E F : Type 0} (before after : Option (List ℕ)) (held_before held_after : List ℕ) (faults_before faults_after : ℕ) (room_before room_after : ℕ → Type 0) (so_far : Result T E) (result : Result U F) (text : List ℕ) : Type 0 where
   pub written : (start : Option (List ℕ)) (front : List ℕ) → HoldsSince start before held_before so_far front → HoldsSince start after held_after result (front ++ text)
   pub later : faults_before ≤ faults_after
   pub cause : IsOk so_far → OnErr result (Rose faults_before faults_after)
+  pub quiet : IsOk result → IsOk so_far × (faults_after ≡ faults_before)
   pub room : IsOk so_far → (rest : ℕ) → room_before (length held_before + (length text + rest)) → IsOk result × room_after (length held_after + rest)
 
--- a call appends this text to a sink, or fails behind a front of it, and then only where the count of faults rose
+-- a call appends this text to a sink, with the count of faults as before, or fails behind a front of it, and then only where
+-- the count rose
 pub record Appends {T E : Type 0} (before after : Option (List ℕ)) (faults_before faults_after : ℕ) (room_before room_after : ℕ → Type 0) (result : Result T E) (text : List ℕ) : Type 0 where
   pub writes : Writes before after result text
   pub cause : HasCause faults_before faults_after result
+  pub quiet : IsOk result → faults_after ≡ faults_before
   pub fits : FitsIn room_before room_after result text

@@ -68,6 +68,7 @@ impl Gathered {
         ensures empty { self.new ≡ [] }
         ensures writes { Writes (W.written output.old) (W.written output.new) result self.old }
         ensures cause { HasCause (W.faults output.old) (W.faults output.new) result }
+        ensures quiet { IsOk result → W.faults output.new ≡ W.faults output.old }
         ensures room { FitsIn (W.has_room output.old) (W.has_room output.new) result self.old }
     {
         let result = write_all(output, &self.bytes[..self.len]);

@@ -1,7 +1,7 @@
 //! Buses: the classes of nodes that closed switches join.
 #![tactic(auto)]
 
-mod group;
+pub mod group;
 mod labels;
 pub mod laws;
 mod link;

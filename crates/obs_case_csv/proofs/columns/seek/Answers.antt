@@ -1,4 +1,4 @@
-use Rattle.std.proofs.Common.{◌≡◌, ◌<◌, ◌∙◌, ◌-◌, ℕ, arith, length, refl, subst, suc, sym}
+use Rattle.std.proofs.Common.{◌≡◌, ◌<◌, ◌∙◌, ◌-◌, arith, length, refl, subst, suc, sym}
 use Rattle.csv.specs.Records.{fields_of}
 use Rattle.obs_case_csv.proofs.SeekLemmas.{IsSought, sought-here, sought-later, sought-none}
 use Rattle.obs_case_csv.proofs.columns.seek.Goals as goal

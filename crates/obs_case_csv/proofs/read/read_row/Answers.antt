@@ -1,4 +1,4 @@
-use Rattle.std.proofs.Common.{◌≡◌, ◌∙◌, sym}
+use Rattle.std.proofs.Common.{◌∙◌, sym}
 use Rattle.csv.specs.Records.{fields_of}
 use Rattle.obs_case_csv.specs.Columns.{fourth_column, own_column, second_column, third_column}
 use Rattle.obs_case_csv.proofs.FieldLemmas.{field_of-at, with_fields-ordered}

@@ -1,5 +1,4 @@
 use Rattle.std.proofs.Common.{◌∙◌, ap, refl}
-use Rattle.obs_case.specs.Tables.{no_rows}
 use Rattle.obs_case_csv.specs.declared.faults.Table.TheVariants.{Nodes, Switches, Branches, Meters, Candidates}
 use Rattle.obs_case_csv.specs.Rows.{names_in}
 use Rattle.obs_case_csv.proofs.ReadLemmas.{other_names}

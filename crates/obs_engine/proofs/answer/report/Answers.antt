@@ -7,6 +7,7 @@ use Rattle.obs_engine.specs.Replies.{Reply, reply_to}
 use Rattle.obs_engine.specs.Report.{report_of}
 use Rattle.obs_engine.proofs.Endings.{replied_statuses}
 use Rattle.obs_engine.proofs.Replied.{report-can, report_unwritten}
+use Rattle.obs_engine.proofs.Taking.{ok_not_read, read_is}
 use Rattle.obs_engine.proofs.answer.report.Goals as goal
 
 pub returns-in-Ok-clause-ends : goal.returns-in-Ok-clause-ends
@@ -32,3 +33,9 @@ returns-in-Err-clause-room g c = λ file rest told. c.refuse_files.ensures.room 
 
 pub returns-in-Ok-clause-memory : goal.returns-in-Ok-clause-memory
 returns-in-Ok-clause-memory g c = report_unwritten c.in-Ok.case _ _ _ c.answer_case.ensures.replied.ends
+
+pub returns-in-Ok-clause-quiet_files : goal.returns-in-Ok-clause-quiet_files
+returns-in-Ok-clause-quiet_files g c = λ none w. c.in-Ok.ensures.quiet (ok_not_read _) w
+
+pub returns-in-Err-clause-quiet_files : goal.returns-in-Err-clause-quiet_files
+returns-in-Err-clause-quiet_files g c = λ none w. c.in-Err.ensures.quiet (λ e. none (c.refuse_files.ensures.unanswered (read_is _ e))) w

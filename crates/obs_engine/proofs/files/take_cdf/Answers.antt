@@ -4,7 +4,7 @@ use Rattle.obs_ieee_cdf.specs.Rows.{cdf_of}
 use Rattle.obs_engine.specs.Files.{case_with_meters, cdf_case}
 use Rattle.obs_engine.specs.Replies.{Reply}
 use Rattle.obs_engine.specs.Taken.{IsTaken}
-use Rattle.obs_engine.proofs.Taking.{not_taken, taken_next}
+use Rattle.obs_engine.proofs.Taking.{not_read, not_taken, ok_not_read, taken_next}
 use Rattle.obs_engine.proofs.files.take_cdf.Goals as goal
 
 pub returns-in_err-cdf-clause-stated : goal.returns-in_err-cdf-clause-stated
@@ -30,3 +30,12 @@ returns-clause-stated g c = λ file told.
     (taken_next (codes "meters") (file 3) _ c.read_cdf_tables.result two.1
     (subst (λ (s : Result Tables Reply). IsTaken s c.read_cdf_tables.result) (ap (λ (x : List ℕ). case_with_meters x (cdf_of c.deref.result.now)) meters ∙ ap (λ (x : List ℕ). case_with_meters (file 3) (cdf_of x)) cdf)
     c.read_cdf_tables.ensures.read))
+
+pub returns-in_err-cdf-clause-quiet : goal.returns-in_err-cdf-clause-quiet
+returns-in_err-cdf-clause-quiet g c = λ none w. c.in_err-cdf.ensures.quiet (not_read _ c.from_residual.result c.from_residual.ensures.1 none) w
+
+pub returns-in_err-meters-clause-quiet : goal.returns-in_err-meters-clause-quiet
+returns-in_err-meters-clause-quiet g c = λ none w. c.in_err-meters.ensures.quiet (not_read _ c.from_residual-in_err-meters.result c.from_residual-in_err-meters.ensures.1 none) w ∙ (c.in_ok-cdf.ensures.quiet (ok_not_read _) w)
+
+pub returns-clause-quiet : goal.returns-clause-quiet
+returns-clause-quiet g c = λ none w. c.in_ok-meters.ensures.quiet (ok_not_read _) w ∙ (c.in_ok-cdf.ensures.quiet (ok_not_read _) w)

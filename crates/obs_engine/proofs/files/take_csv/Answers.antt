@@ -4,7 +4,7 @@ use Rattle.obs_case_csv.specs.Read.{tables_in}
 use Rattle.obs_engine.specs.Files.{case_of_tables, csv_case}
 use Rattle.obs_engine.specs.Replies.{Reply}
 use Rattle.obs_engine.specs.Taken.{IsTaken}
-use Rattle.obs_engine.proofs.Taking.{not_taken, taken_next}
+use Rattle.obs_engine.proofs.Taking.{not_read, not_taken, ok_not_read, taken_next}
 use Rattle.obs_engine.proofs.files.take_csv.Goals as goal
 
 pub returns-in_err-nodes-clause-stated : goal.returns-in_err-nodes-clause-stated
@@ -55,3 +55,18 @@ returns-clause-stated g c = λ file told.
     tables_same a b d e x y z w p q r s =
         ap (λ (k : List ℕ). case_of_tables (tables_in k b d e None)) p ∙ (ap (λ (k : List ℕ). case_of_tables (tables_in x k d e None)) q
         ∙ (ap (λ (k : List ℕ). case_of_tables (tables_in x y k e None)) r ∙ ap (λ (k : List ℕ). case_of_tables (tables_in x y z k None)) s))
+
+pub returns-in_err-nodes-clause-quiet : goal.returns-in_err-nodes-clause-quiet
+returns-in_err-nodes-clause-quiet g c = λ none w. c.in_err-nodes.ensures.quiet (not_read _ c.from_residual.result c.from_residual.ensures.1 none) w
+
+pub returns-in_err-switches-clause-quiet : goal.returns-in_err-switches-clause-quiet
+returns-in_err-switches-clause-quiet g c = λ none w. c.in_err-switches.ensures.quiet (not_read _ c.from_residual-in_err-switches.result c.from_residual-in_err-switches.ensures.1 none) w ∙ (c.in_ok-nodes.ensures.quiet (ok_not_read _) w)
+
+pub returns-in_err-branches-clause-quiet : goal.returns-in_err-branches-clause-quiet
+returns-in_err-branches-clause-quiet g c = λ none w. c.in_err-branches.ensures.quiet (not_read _ c.from_residual-in_err-branches.result c.from_residual-in_err-branches.ensures.1 none) w ∙ (c.in_ok-switches.ensures.quiet (ok_not_read _) w ∙ (c.in_ok-nodes.ensures.quiet (ok_not_read _) w))
+
+pub returns-in_err-meters-clause-quiet : goal.returns-in_err-meters-clause-quiet
+returns-in_err-meters-clause-quiet g c = λ none w. c.in_err-meters.ensures.quiet (not_read _ c.from_residual-in_err-meters.result c.from_residual-in_err-meters.ensures.1 none) w ∙ (c.in_ok-branches.ensures.quiet (ok_not_read _) w ∙ (c.in_ok-switches.ensures.quiet (ok_not_read _) w ∙ (c.in_ok-nodes.ensures.quiet (ok_not_read _) w)))
+
+pub returns-clause-quiet : goal.returns-clause-quiet
+returns-clause-quiet g c = λ none w. c.in_ok-meters.ensures.quiet (ok_not_read _) w ∙ (c.in_ok-branches.ensures.quiet (ok_not_read _) w ∙ (c.in_ok-switches.ensures.quiet (ok_not_read _) w ∙ (c.in_ok-nodes.ensures.quiet (ok_not_read _) w)))

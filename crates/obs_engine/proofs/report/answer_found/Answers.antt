@@ -22,11 +22,8 @@ print_report-requires g c = record {
   network = c.requires.network;
   searched = c.requires.searched;
   rank = c.requires.rank;
-  marks = c.requires.marks;
-  homes = c.requires.homes;
   ranks = c.requires.ranks;
-  scope = c.requires.scope;
-  cut = c.requires.cut;
+  sorted = c.requires.sorted;
   listing = c.requires.listing;
 }
 

@@ -9,11 +9,8 @@ pub print_rest-requires : goal.print_rest-requires
 print_rest-requires g c = record {
   network = c.requires.network;
   searched = c.requires.searched;
-  marks = c.requires.marks;
-  homes = c.requires.homes;
   ranks = c.requires.ranks;
-  scope = c.requires.scope;
-  cut = c.requires.cut;
+  sorted = c.requires.sorted;
   listing = c.requires.listing;
 }
 

@@ -8,20 +8,11 @@ use Rattle.obs_engine.proofs.report.print_rest.Goals as goal
 pub print_claims-requires-clause-network : goal.print_claims-requires-clause-network
 print_claims-requires-clause-network g c = c.requires.network
 
-pub print_claims-requires-clause-marks : goal.print_claims-requires-clause-marks
-print_claims-requires-clause-marks g c = c.requires.marks
-
-pub print_claims-requires-clause-homes : goal.print_claims-requires-clause-homes
-print_claims-requires-clause-homes g c = c.requires.homes
-
 pub print_claims-requires-clause-ranks : goal.print_claims-requires-clause-ranks
 print_claims-requires-clause-ranks g c = c.requires.ranks
 
-pub print_claims-requires-clause-scope : goal.print_claims-requires-clause-scope
-print_claims-requires-clause-scope g c = c.requires.scope
-
-pub print_claims-requires-clause-room : goal.print_claims-requires-clause-room
-print_claims-requires-clause-room g c = c.requires.cut
+pub print_claims-requires-clause-sorted : goal.print_claims-requires-clause-sorted
+print_claims-requires-clause-sorted g c = c.requires.sorted
 
 pub print_list-requires-clause-network : goal.print_list-requires-clause-network
 print_list-requires-clause-network g c = c.requires.network

@@ -5,7 +5,7 @@ use Rattle.obs_case_csv.specs.Read.{then_read}
 use Rattle.obs_engine.specs.Files.{case_of_tables, switching_case}
 use Rattle.obs_engine.specs.Replies.{Reply}
 use Rattle.obs_engine.specs.Taken.{IsTaken}
-use Rattle.obs_engine.proofs.Taking.{not_taken, taken_next}
+use Rattle.obs_engine.proofs.Taking.{not_read, not_taken, ok_not_read, taken_next}
 use Rattle.obs_engine.proofs.topology.take_switching.Goals as goal
 
 pub returns-in_err-nodes-clause-stated : goal.returns-in_err-nodes-clause-stated
@@ -34,3 +34,12 @@ returns-clause-stated g c = λ file told.
     tables_same a b x y p q =
         ap (λ (k : List ℕ). case_of_tables (then_read Switches b (then_read Nodes k (Ok no_rows)))) p
         ∙ ap (λ (k : List ℕ). case_of_tables (then_read Switches k (then_read Nodes x (Ok no_rows)))) q
+
+pub returns-in_err-nodes-clause-quiet : goal.returns-in_err-nodes-clause-quiet
+returns-in_err-nodes-clause-quiet g c = λ none w. c.in_err-nodes.ensures.quiet (not_read _ c.from_residual.result c.from_residual.ensures.1 none) w
+
+pub returns-in_err-switches-clause-quiet : goal.returns-in_err-switches-clause-quiet
+returns-in_err-switches-clause-quiet g c = λ none w. c.in_err-switches.ensures.quiet (not_read _ c.from_residual-in_err-switches.result c.from_residual-in_err-switches.ensures.1 none) w ∙ (c.in_ok-nodes.ensures.quiet (ok_not_read _) w)
+
+pub returns-clause-quiet : goal.returns-clause-quiet
+returns-clause-quiet g c = λ none w. c.in_ok-switches.ensures.quiet (ok_not_read _) w ∙ (c.in_ok-nodes.ensures.quiet (ok_not_read _) w)

@@ -6,6 +6,7 @@ use Rattle.obs_engine.specs.Forms.{CanAnswer}
 use Rattle.obs_engine.specs.Replies.{Reply, reply_to}
 use Rattle.obs_engine.specs.Topology.{topology_of}
 use Rattle.obs_engine.proofs.Endings.{replied_statuses}
+use Rattle.obs_engine.proofs.Taking.{ok_not_read, read_is}
 use Rattle.obs_engine.proofs.topology.topology.Goals as goal
 
 pub returns-in-Ok-clause-ends : goal.returns-in-Ok-clause-ends
@@ -28,3 +29,9 @@ returns-in-Err-clause-statuses g c = inr c.refuse_files.ensures.statuses
 
 pub returns-in-Err-clause-room : goal.returns-in-Err-clause-room
 returns-in-Err-clause-room g c = λ file rest told. c.refuse_files.ensures.room _ topology_of rest (c.in-Err.ensures.stated file told)
+
+pub returns-in-Ok-clause-quiet_files : goal.returns-in-Ok-clause-quiet_files
+returns-in-Ok-clause-quiet_files g c = λ none w. c.in-Ok.ensures.quiet (ok_not_read _) w
+
+pub returns-in-Err-clause-quiet_files : goal.returns-in-Err-clause-quiet_files
+returns-in-Err-clause-quiet_files g c = λ none w. c.in-Err.ensures.quiet (λ e. none (c.refuse_files.ensures.unanswered (read_is _ e))) w

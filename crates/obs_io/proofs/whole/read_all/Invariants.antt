@@ -8,7 +8,7 @@ invariant-loop-bytes g l = record {
   within : vec_len l.bytes ≤ l.limit + 1;
   front : IfSome (g.F.Files.content l.fn.files l.word) (λ c. (l.bytes.items ≡ take (vec_len l.bytes) c) × (vec_len l.bytes ≤ length c));
   same : (w : ℕ) → g.F.Files.content l.files w ≡ g.F.Files.content l.fn.files w;
-  later : g.F.Files.faults l.fn.files l.word ≤ g.F.Files.faults l.files l.word;
+  quiet : g.F.Files.faults l.files l.word ≡ g.F.Files.faults l.fn.files l.word;
   others : (w : ℕ) → w ≢ l.word → g.F.Files.faults l.files w ≡ g.F.Files.faults l.fn.files w;
   steady : (w : ℕ) → g.F.Files.steady l.fn.files w → g.F.Files.steady l.files w;
 }

@@ -3,10 +3,12 @@ use Rattle.obs_forest.proofs.Keeping.{written_back}
 use Rattle.obs_exchange.specs.Found.{Working}
 use Rattle.obs_exchange.proofs.Closing.{HasClosed-flags}
 use Rattle.obs_exchange.proofs.work.Work.run.Goals as goal
-use Rattle.obs_exchange.proofs.work.Work.run.Goals.{in-Some, in-None}
 
-pub returns-clause-found : goal.returns-clause-found
-returns-clause-found g c =
+pub returns-in-Some-clause-found : goal.returns-in-Some-clause-found
+returns-in-Some-clause-found g c = c.grow-found.ensures.found _
+
+pub returns-in-None-clause-found : goal.returns-in-None-clause-found
+returns-in-None-clause-found g c =
     let ins = c.self.inside in
     let marks = c.find-start.new.marks in
     let len : length marks ≡ length ins.reached.items = c.find-start.auto.marks ∙ ap (λ (s : List Bool). length s) c.deref_mut.ensures.value in
@@ -14,8 +16,5 @@ returns-clause-found g c =
     let most = ap (λ (w : Working). w.most_meters) c.self.view_is in
     let room = c.requires.room.meters in
     let low : length c.args.ms.now.touches ≤ length marks = omega (arith, len, most, room) in
-    elim c.match-start.branch [
-      | in-Some w ↦ rw (w.a-is, w.result-is) (w.grow.ensures.found _)
-      | in-None w ↦ rw (w.a-is, w.result-is, back)
-          (HasClosed-flags c.args.g.now c.args.ms.now.touches c.args.from c.args.a.now c.vertices.ensures.branches c.length.ensures.whole c.requires.stands marks c.count.result c.count.ensures.count low w.in-None.ensures.found)
-    ]
+    rw back
+    (HasClosed-flags c.args.g.now c.args.ms.now.touches c.args.from c.args.a.now c.vertices.ensures.branches c.length.ensures.whole c.requires.stands marks c.count.result c.count.ensures.count low c.in-None.ensures.found)

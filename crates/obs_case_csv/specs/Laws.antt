@@ -1,0 +1,51 @@
+-- What the reading of one table, and of two, gives and keeps.
+use Rattle.std.specs.Prelude.{ℕ, ◌≡◌, List, [], Option, None, MatchOption, MatchResult, Ok}
+use Rattle.obs_case.specs.Tables.{IsValid, Tables, no_rows}
+use Rattle.obs_case_csv.specs.declared.faults.RowFault.{RowFault}
+use Rattle.obs_case_csv.specs.declared.faults.Table.{Table}
+use Rattle.obs_case_csv.specs.declared.faults.Table.TheVariants.{Nodes, Switches}
+use Rattle.obs_case_csv.specs.IsFault.{IsFault, IsFaultAmong, NotAfter, NotAfterAmong, files_of}
+use Rattle.obs_case_csv.specs.OneTable.{IsSwitchingCase, IsTableOf}
+use Rattle.obs_case_csv.specs.Read.{fault_in, rows_in, tables_in, then_read}
+use Rattle.obs_case_csv.specs.Rows.{names_in}
+
+-- valid tables stay valid as a table's rows before its first fault are added
+abbrev pub KeepsValid : Type 0
+KeepsValid = (table : Table) (t : Tables) (bytes : List ℕ) → IsValid t → IsValid (rows_in table t bytes)
+
+-- of a table that valid tables have no rows of: no fault is met exactly where the bytes are that table, and then these are the rows that
+-- are read
+abbrev pub TableIsRead : Type 0
+TableIsRead =
+    (table : Table) (t : Tables) (bytes : List ℕ) → IsValid t → names_in table t ≡ [] →
+    (fault_in table t bytes ≡ None → IsTableOf table bytes t (rows_in table t bytes))
+    × ((u : Tables) → IsTableOf table bytes t u → (fault_in table t bytes ≡ None) × (rows_in table t bytes ≡ u))
+
+-- of nodes and switches alone: the case that is read is the only one that the bytes are, and a fault is given exactly where they are none
+abbrev pub SwitchingIsRead : Type 0
+SwitchingIsRead =
+    (nodes switches : List ℕ)
+    → MatchResult (then_read Switches switches (then_read Nodes nodes (Ok no_rows)))
+    (λ t. IsSwitchingCase nodes switches t × ((u : Tables) → IsSwitchingCase nodes switches u → u ≡ t))
+    (λ fault. (t : Tables) → IsSwitchingCase nodes switches t → ⊥)
+
+-- of a table that valid tables have no rows of: the fault that is met is one, and no fault of the table comes before it; none is met
+-- exactly where the table has none
+abbrev pub FirstFault : Type 0
+FirstFault =
+    (table : Table) (t : Tables) (bytes : List ℕ) → IsValid t → names_in table t ≡ [] →
+    MatchOption (fault_in table t bytes) ((row : ℕ) (code : RowFault) → IsFault table t bytes row code → ⊥)
+    (λ fault.
+    (fault.table ≡ table) × IsFault table t bytes fault.row fault.code
+    × ((row : ℕ) (code : RowFault) → IsFault table t bytes row code → NotAfter fault.row fault.code row code))
+
+-- of the tables of a case: the fault that is met is one, and no fault of them comes before it; none is met exactly where they have none
+abbrev pub FirstFaultOfCase : Type 0
+FirstFaultOfCase =
+    (nodes switches branches meters : List ℕ) (candidates : Option (List ℕ)) →
+    let files = files_of nodes switches branches meters candidates in
+    MatchResult (tables_in nodes switches branches meters candidates)
+    (λ t. (table : Table) (row : ℕ) (code : RowFault) → IsFaultAmong files no_rows table row code → ⊥)
+    (λ fault.
+    IsFaultAmong files no_rows fault.table fault.row fault.code
+    × ((table : Table) (row : ℕ) (code : RowFault) → IsFaultAmong files no_rows table row code → NotAfterAmong fault.table fault.row fault.code table row code))

@@ -1,0 +1,5 @@
+use Rattle.obs_engine.proofs.Lawful.{lists_noncritical}
+use Rattle.obs_engine.proofs.laws.bounds_list_the_meters_that_are_not_critical.Goals as goal
+
+pub returns : goal.returns
+returns c = record { lists = lists_noncritical }

@@ -1,0 +1,8 @@
+pub mod Ranges
+pub mod Frozen
+pub mod Taking
+pub mod Deciding
+pub mod Counting
+pub mod Swapping
+pub mod Listed
+pub mod Lawful

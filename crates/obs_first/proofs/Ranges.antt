@@ -1,0 +1,50 @@
+-- Numbers in a row, and the first elements of a list.
+use Rattle.std.proofs.Common.{◌≡◌, ℕ, zero, suc, ◌+◌, ◌<◌, ◌≤◌, List, [], ◌∷◌, ◌++◌, length, take, get_or, ap, ◌∙◌, subst, inl, inr, ◌⊎◌, arith}
+use Rattle.std.specs.List.{range_with_len}
+use Rattle.std.proofs.lemmas.Bool.{cases_eq}
+use Rattle.std.proofs.lemmas.List.{take_more}
+use Rattle.obs_matroid.specs.Lists.{In, IsRising}
+use Rattle.obs_matroid.proofs.Lists.{In-append_cases}
+
+pub range_in : (a n x : ℕ) → a ≤ x → x < a + n → In x (range_with_len a n)
+range_in a zero x l h = absurd (omega arith)
+range_in a (suc n) x l h = elim (cases_eq x a) [ inl y ↦ inl y | inr k ↦ inr (range_in (a + 1) n x (omega arith) (omega arith)) ]
+
+pub range_from : (a n x : ℕ) → In x (range_with_len a n) → (a ≤ x) × (x < a + n)
+range_from a zero x i = absurd i
+range_from a (suc n) x (inl e) = (omega (arith, e), omega (arith, e))
+range_from a (suc n) x (inr i) = let h = range_from (a + 1) n x i in let l = h.0 in let u = h.1 in (omega (arith, l), omega (arith, u))
+
+pub below_in : (i x : ℕ) → x < i → In x (range_with_len 0 i)
+below_in i x l = range_in 0 i x (omega arith) (omega arith)
+
+pub below_from : (i x : ℕ) → In x (range_with_len 0 i) → x < i
+below_from i x j = let h = (range_from 0 i x j).1 in omega (arith, h)
+
+pub range_rising : (a n : ℕ) → IsRising (range_with_len a n)
+range_rising a zero = tt
+range_rising a (suc n) = ((λ y i. let l = (range_from (a + 1) n y i).0 in omega (arith, l)), range_rising (a + 1) n)
+
+range_last : (a n j : ℕ) → a + n ≡ j → range_with_len a (suc n) ≡ range_with_len a n ++ j ∷ []
+range_last a zero j e = let same : a ≡ j = omega arith in ap (λ k. k ∷ []) same
+range_last a (suc n) j e = ap (λ l. a ∷ l) (range_last (a + 1) n j (omega arith))
+
+pub range_more : (i : ℕ) → range_with_len 0 (i + 1) ≡ range_with_len 0 i ++ i ∷ []
+range_more i = let on : i + 1 ≡ suc i = omega arith in ap (range_with_len 0) on ∙ range_last 0 i i (omega arith)
+
+-- one of the first k + 1 elements is one of the first k, or the next one
+pub In-take_more : (xs : List ℕ) (k d y : ℕ) → k < length xs → In y (take (k + 1) xs) → In y (take k xs) ⊎ (y ≡ get_or xs k d)
+In-take_more xs k d y l i =
+    let j : In y (take k xs ++ get_or xs k d ∷ []) = subst (λ ys. In y ys) (take_more xs k d l) i in
+    elim (In-append_cases y (take k xs) (get_or xs k d ∷ []) j) [
+      | inl h ↦ inl h
+      | inr h ↦ elim h [ inl e ↦ inr e | inr n ↦ absurd n ]
+    ]
+
+-- where the elements rise, one below that at k is one of the first k
+pub In-take_lower : (xs : List ℕ) (k d y : ℕ) → IsRising xs → k < length xs → In y xs → y < get_or xs k d → In y (take k xs)
+In-take_lower [] k d y r l i low = absurd i
+In-take_lower (x ∷ xs) zero d y r l (inl e) low = absurd (omega (arith, e, low))
+In-take_lower (x ∷ xs) zero d y r l (inr i) low = let h = r.0 y i in absurd (omega (arith, h, low))
+In-take_lower (x ∷ xs) (suc k) d y r l (inl e) low = inl e
+In-take_lower (x ∷ xs) (suc k) d y r l (inr i) low = inr (In-take_lower xs k d y r.1 (omega (arith, l)) i low)

@@ -1,0 +1,66 @@
+-- A meter takes a branch, or is refused it.
+use Rattle.std.proofs.Common.{◌≡◌, ℕ, ◌<◌, Bool, true, false, Option, None, List, length, get_or, set, refl, sym, ap, ◌∙◌, inl, inr, get_or-set_other, set-set}
+use Rattle.std.proofs.lemmas.Bool.{cases_Bool}
+use Rattle.std.proofs.lemmas.List.{set-get_or}
+use Rattle.obs_graph.specs.Positions.{AreBranches}
+use Rattle.obs_graph.specs.Shape.{Shape}
+use Rattle.obs_matroid.specs.Lists.{In}
+use Rattle.obs_matroid.specs.Assignments.{Pair, part}
+use Rattle.obs_matroid.proofs.Lists.{clash, In_same}
+use Rattle.obs_matroid.proofs.Pairs.{In-branches, In-part}
+use Rattle.obs_matroid.proofs.Pin.{pin_impossible}
+use Rattle.obs_matroid.proofs.Slots.{pair_from_parts, slot_at, slot_from}
+use Rattle.obs_meter.specs.declared.Touch.{Touch}
+use Rattle.obs_meter.specs.Spanned.{graph_matroid}
+use Rattle.obs_meter.specs.Touches.{every_item, touch_at}
+use Rattle.obs_meter.proofs.Assigned.{to_matroid}
+use Rattle.obs_meter.proofs.Instance.{IsMatroid-graph}
+use Rattle.obs_assign.specs.Assigned.{Assigned, frozen_branches, has_flag, is_frozen, pairs}
+use Rattle.obs_assign.specs.Pins.{IsPinnedAt, MayPin, joins}
+use Rattle.obs_assign.proofs.Paths.{joins-own}
+use Rattle.obs_assign.proofs.Pinning.{pinned-from}
+use Rattle.obs_first.specs.Deciding.{HasFrozenOf, HasRefused, NoneSoLong}
+
+module _ (g : Shape) (touches : List Touch) (ok : AreBranches g.vertices g.ends) (a : Assigned) (m e : ℕ) (thawed : is_frozen a m ≡ false) where
+  -- where the branch may not be pinned, the frozen branches join its ends
+  frozen_join : (MayPin a g.ends m e → ⊥) → joins g.ends (frozen_branches a) e ≡ true
+  frozen_join out = elim (cases_Bool (joins g.ends (frozen_branches a) e)) [
+    | inl t ↦ t
+    | inr f ↦ absurd (out (record {
+      thawed = thawed;
+      free = λ x t h. clash (joins-own g.ends (frozen_branches a) e (In-branches (part (is_frozen a) (pairs a)) (x, e) (In-part (is_frozen a) (pairs a) (x, e) (slot_at a.slots x e h) t))) f;
+      apart = f;
+    }))
+  ]
+
+  -- so no assignment that has the frozen pairs has this one
+  pub HasRefused-joined : (long : ℕ) → (MayPin a g.ends m e → ⊥) → HasRefused g.ends touches a a m e long
+  HasRefused-joined long out = record {
+    frozen = refl;
+    none = λ B b i. absurd (pin_impossible (graph_matroid g.vertices g.ends) (IsMatroid-graph g.vertices g.ends ok) (touch_at g.ends touches) (every_item touches) (is_frozen a) (pairs a) B m e
+        (to_matroid g.vertices g.ends touches (every_item touches) B b.assigns) b.extends thawed (frozen_join out) i);
+  }
+
+  module _ (b : Assigned) (low : m < length a.slots) (x : ℕ) (p : IsPinnedAt a g.ends m e b.slots x) (frozen : b.frozen ≡ set a.frozen m true) where
+    at_other : (y : ℕ) → (y ≡ m → ⊥) → is_frozen b y ≡ is_frozen a y
+    at_other y n = ap (λ (f : List Bool). has_flag f y) frozen ∙ get_or-set_other a.frozen m y true false n
+
+    -- an assignment that has the frozen pairs and the new one
+    pub HasFrozenOf-pinned : (B : List Pair) → HasFrozenOf g.ends touches a B → In (m, e) B → HasFrozenOf g.ends touches b B
+    HasFrozenOf-pinned B h i = record {
+      assigns = h.assigns;
+      extends = λ q j t.
+          elim (pinned-from a.slots m e x low q.0 q.1 (ap (λ (s : List (Option ℕ)). get_or s q.0 None) (sym p.pairs_are) ∙ slot_from b.slots q j)) [
+            | inl s ↦ In_same q (m, e) B (pair_from_parts q m e s.0 s.1) i
+            | inr s ↦ h.extends q (slot_at a.slots q.0 q.1 s.2) (sym (at_other q.0 s.0) ∙ t)
+          ];
+    }
+
+    -- where that is too short, the pair is dropped again
+    pub HasRefused-dropped : (c d : Assigned) → c.frozen ≡ b.frozen → d.frozen ≡ set c.frozen m false → (long : ℕ) → NoneSoLong g.ends touches b long → HasRefused g.ends touches a d m e long
+    HasRefused-dropped c d same thaws long none = record {
+      frozen =
+          thaws ∙ (ap (λ (f : List Bool). set f m false) (same ∙ frozen)
+          ∙ (set-set a.frozen m true false ∙ (ap (set a.frozen m) (sym thawed) ∙ set-get_or a.frozen m false)));
+      none = λ B h i. none B (HasFrozenOf-pinned B h i);
+    }

@@ -1,0 +1,109 @@
+use Rattle.std.proofs.Common.{rules, ◌≡◌, ◌+◌, ◌<◌, ◌∙◌, Bool, true, List, get_or, length, set, sym, ap, subst, arith, take}
+use Rattle.std.proofs.lemmas.List.{take_all}
+use Rattle.obs_matroid.specs.Lists.{In}
+use Rattle.obs_matroid.proofs.Contained.{In-get_or}
+use Rattle.obs_meter.specs.Touches.{touch_at}
+use Rattle.obs_assign.specs.Assigned.{pairs}
+use Rattle.obs_first.specs.Deciding.{HasRefused}
+use Rattle.obs_first.proofs.Counting.{Decided-full, count_same, count_taken, next_thawed}
+use Rattle.obs_first.proofs.Deciding.{AreRefused, Decided-none, Decided-taken, Trying-more, Trying-passed, regrown_long}
+use Rattle.obs_first.proofs.Frozen.{KeepsFrozen-on}
+use Rattle.obs_first.proofs.Swapping.{refused_passed}
+use Rattle.obs_first.proofs.decide.decide.Goals as goal
+
+pub take_branch-requires-clause-touched : goal.take_branch-requires-clause-touched
+take_branch-requires-clause-touched g c =
+    let xs = c.touch-e-items.result.now in
+    let k = c.loop-e.e-index in
+    subst (λ ys. In (get_or xs k 0) ys) c.touch-e-items.ensures.touched (In-get_or xs k 0 (omega arith))
+
+pub returns-then-take_branch-clause-decided : goal.returns-then-take_branch-clause-decided
+returns-then-take_branch-clause-decided g c =
+    let xs = c.touch-e-items.result.now in
+    let is = c.touch-e-items.ensures.touched in
+    let l = c.loop-e in
+    let t = l.invariant.trying in
+    let b = c.take_branch.new.a in
+    let taken = c.if-take_branch.ensures.taken in
+    let meters = c.requires.stands.meters in
+    let m = c.requires.m in
+    let same = ap length is in
+    Decided-taken c.args.g.now c.args.ms.now.touches c.args.a.now c.args.m c.args.rank c.requires.decided c.length.ensures.whole c.requires.stands b c.take_branch.ensures.whole
+    c.take_branch.ensures.stands (KeepsFrozen-on c.args.a.now l.a b t.frozen t.keeps c.take_branch.ensures.keeps) taken.long_enough (get_or xs l.e-index 0) taken.has
+    l.e-index 0 (omega arith) (ap (λ ys. get_or ys l.e-index 0) is) t.refused (omega arith) (taken.frozen ∙ ap (λ (f : List Bool). set f c.args.m true) t.frozen)
+
+pub loop-e-preserved : goal.loop-e-preserved
+loop-e-preserved g c =
+    let xs = c.touch-e-items.result.now in
+    let is = c.touch-e-items.ensures.touched in
+    let l = c.loop-e in
+    let b = c.take_branch.new.a in
+    let same = ap length is in
+    record {
+      trying = Trying-more c.args.g.now c.args.ms.now.touches c.args.a.now l.a b c.args.m c.args.rank (touch_at c.args.g.now.ends c.args.ms.now.touches c.args.m) l.e-index 0 l.invariant.trying (omega arith)
+          (subst (λ e. HasRefused c.args.g.now.ends c.args.ms.now.touches l.a b c.args.m e c.args.rank) (ap (λ ys. get_or ys l.e-index 0) is) c.if-take_branch.ensures.taken)
+          c.take_branch.ensures.keeps c.take_branch.ensures.stands c.take_branch.ensures.whole;
+      room = search rules;
+      same_room = search rules;
+      same_sizes = search rules;
+    }
+
+pub loop-e-preserved-then-e-low : goal.loop-e-preserved-then-e-low
+loop-e-preserved-then-e-low g c =
+    let l = c.loop-e in
+    let touches = c.args.ms.now.touches in
+    let xs = touch_at c.args.g.now.ends touches c.args.m in
+    let k = l.e-index in
+    let is = c.touch-e-items.ensures.touched in
+    let same = ap length is in
+    let passed = c.lowest_for-low.ensures.passed (get_or xs k 0) (subst (λ ys. get_or ys k 0 < c.lowest_for-low.result) is c.if-e-low.true) in
+    record {
+      trying = Trying-passed c.args.g.now touches c.args.a.now l.a c.args.m c.args.rank xs k 0 l.invariant.trying (omega arith)
+          (refused_passed c.args.g.now touches c.args.a.now c.args.m c.args.rank (get_or xs k 0) c.requires.decided c.requires.m passed);
+      room = l.invariant.room;
+      same_room = l.invariant.same_room;
+      same_sizes = l.invariant.same_sizes;
+    }
+
+pub returns-clause-decided : goal.returns-clause-decided
+returns-clause-decided g c =
+    let touches = c.args.ms.now.touches in
+    let a = c.args.a.now in
+    let l = c.loop-e in
+    let t = l.invariant.trying in
+    let b = c.regrow.new.a in
+    let e = c.regrow.ensures in
+    let xs = touch_at c.args.g.now.ends touches c.args.m in
+    let same = ap length c.touch-e-items.ensures.touched in
+    let all : take l.e-index xs ≡ xs = take_all l.e-index xs (omega arith) in
+    Decided-none c.args.g.now touches a c.args.m c.args.rank c.requires.decided c.length.ensures.whole c.requires.stands b e.whole e.stands (KeepsFrozen-on a l.a b t.frozen t.keeps e.keeps)
+    (regrown_long c.args.g.now touches a l.a c.args.rank c.length.ensures.whole c.requires.stands c.requires.decided.length_is t.frozen t.keeps c.regrow.result (length (pairs b)) e.grown)
+    (subst (λ ys. AreRefused c.args.g.now touches a c.args.m c.args.rank ys) all t.refused) (e.frozen ∙ t.frozen)
+
+pub returns-then-taken-rank-clause-decided : goal.returns-then-taken-rank-clause-decided
+returns-then-taken-rank-clause-decided g c =
+    let n = c.requires.taken in
+    let more = c.if-taken-rank.true in
+    Decided-full c.args.g.now c.args.ms.now.touches c.args.a.now c.args.m c.args.rank c.requires.decided c.length.ensures.whole c.requires.stands (omega arith)
+
+pub returns-then-take_branch-clause-taken : goal.returns-then-take_branch-clause-taken
+returns-then-take_branch-clause-taken g c =
+    let a = c.args.a.now in
+    let l = c.loop-e in
+    let t = l.invariant.trying in
+    let b = c.take_branch.new.a in
+    let taken = c.if-take_branch.ensures.taken in
+    let flags = c.length.ensures.whole.paired.flags in
+    let meters = c.requires.stands.meters in
+    let m = c.requires.m in
+    let more = count_taken a b c.args.m (get_or c.touch-e-items.result.now l.e-index 0) (omega arith) (next_thawed c.args.g.now c.args.ms.now.touches a c.args.m c.args.rank c.requires.decided) taken.has
+    (taken.frozen ∙ ap (λ (f : List Bool). set f c.args.m true) t.frozen) (KeepsFrozen-on a l.a b t.frozen t.keeps c.take_branch.ensures.keeps) in
+    ap (λ n. n + 1) c.requires.taken ∙ sym more
+
+pub returns-clause-taken : goal.returns-clause-taken
+returns-clause-taken g c =
+    let a = c.args.a.now in
+    let l = c.loop-e in
+    let t = l.invariant.trying in
+    let e = c.regrow.ensures in
+    c.requires.taken ∙ sym (count_same a c.regrow.new.a (e.frozen ∙ t.frozen) (KeepsFrozen-on a l.a c.regrow.new.a t.frozen t.keeps e.keeps))

@@ -1,0 +1,139 @@
+// How one meter is decided: it takes the lowest branch with which the pairs can be as many as before.
+ghost use Rattle.std.specs.Prelude.{◌≡◌, ◌+◌, ◌<◌, ◌≤◌, false, ℕ, length, MatchBool};
+ghost use Rattle.obs_matroid.specs.Lists.{In};
+ghost use Rattle.obs_meter.specs.Touches.{AreInRange, touch_at};
+ghost use Rattle.obs_assign.specs.Assigned.{HasRoomOf, IsWhole, StandsOver, is_frozen, pairs};
+ghost use Rattle.obs_exchange.specs.Found.{HasRoomFor, HasSizesOf};
+ghost use Rattle.obs_first.specs.Deciding.{HasRefused, HasTaken, IsDecided, IsPassed, KeepsFrozen, NoneSoLong, frozen_pairs};
+
+use obs_assign::{Assignment, Steps};
+use obs_exchange::{Found, Sources, Work, search};
+use obs_graph::Graph;
+use obs_meter::Meters;
+use std::sync::ledger::Ledger;
+
+/// Searches until there are so many pairs, and says whether that came about.
+fn regrow<L: Ledger>(
+    g: &Graph,
+    ms: &Meters,
+    a: &mut Assignment,
+    rank: u32,
+    work: &mut Work,
+    steps: &mut Steps<L>,
+) -> bool
+    requires stands { StandsOver a.old g.now ms.now.touches }
+    requires in_range { AreInRange g.now ms.now.touches }
+    requires room { HasRoomFor work.old g.now ms.now.touches }
+    ensures grown { MatchBool result (rank ≤ length (pairs a.new)) (NoneSoLong g.now.ends ms.now.touches a.old rank) }
+    ensures frozen { a.new.frozen ≡ a.old.frozen }
+    ensures keeps { KeepsFrozen a.old a.new }
+    ensures stands { StandsOver a.new g.now ms.now.touches }
+    ensures whole { IsWhole a.new }
+    ensures same_room { HasRoomOf a.old a.new }
+    ensures same_sizes { HasSizesOf work.old work.new }
+{
+    let _ = g.vertices();
+    for _ in a.length()..rank {
+        if let Found::Closed = search(g, ms, a, Sources::All, work, steps) {
+            return false;
+        }
+    }
+    true
+}
+
+/// Gives the meter the branch and freezes the pair, where the pairs can be so many then. Says whether that is so.
+fn take_branch<L: Ledger>(
+    g: &Graph,
+    ms: &Meters,
+    a: &mut Assignment,
+    m: u32,
+    e: u32,
+    rank: u32,
+    work: &mut Work,
+    steps: &mut Steps<L>,
+) -> bool
+    requires stands { StandsOver a.old g.now ms.now.touches }
+    requires in_range { AreInRange g.now ms.now.touches }
+    requires room { HasRoomFor work.old g.now ms.now.touches }
+    requires m { m < length a.old.slots }
+    requires thawed { is_frozen a.old m ≡ false }
+    requires touched { In e (touch_at g.now.ends ms.now.touches m) }
+    ensures taken { MatchBool result (HasTaken a.old a.new m e rank) (HasRefused g.now.ends ms.now.touches a.old a.new m e rank) }
+    ensures keeps { KeepsFrozen a.old a.new }
+    ensures stands { StandsOver a.new g.now ms.now.touches }
+    ensures whole { IsWhole a.new }
+    ensures same_room { HasRoomOf a.old a.new }
+    ensures same_sizes { HasSizesOf work.old work.new }
+{
+    let _ = g.vertices();
+    let _ = a.length();
+    if !a.may_pin(g, m, e) {
+        return false;
+    }
+    a.pin(g, ms, m, e, steps);
+    if regrow(g, ms, a, rank, work, steps) {
+        return true;
+    }
+    a.drop_pair(g, m);
+    false
+}
+
+/// A bound below which the meter can have no branch: where the one before touches the same, this one can have none that
+/// would have been lower there.
+fn lowest_for(ms: &Meters, a: &Assignment, m: u32) -> u32
+    requires m { m < length ms.now.touches }
+    requires meters { length ms.now.touches ≡ length a.now.slots }
+    ensures passed { (y : ℕ) → y < result → IsPassed ms.now.touches a.now m y }
+{
+    if m == 0 || ms.kind(m - 1) != ms.kind(m) {
+        return 0;
+    }
+    match a.branch_of(m - 1) {
+        Some(e) => e,
+        None => u32::MAX,
+    }
+}
+
+/// Decides the meter, where those before it are decided, and so many of these have a pair: it takes the lowest branch with
+/// which the pairs can be as many as before, or none where there is no such branch. Says how many have a pair then. Once
+/// all pairs are those of decided meters, the further ones have none.
+pub fn decide<L: Ledger>(
+    g: &Graph,
+    ms: &Meters,
+    a: &mut Assignment,
+    m: u32,
+    rank: u32,
+    taken: u32,
+    work: &mut Work,
+    steps: &mut Steps<L>,
+) -> u32
+    requires stands { StandsOver a.old g.now ms.now.touches }
+    requires in_range { AreInRange g.now ms.now.touches }
+    requires room { HasRoomFor work.old g.now ms.now.touches }
+    requires m { m < length ms.now.touches }
+    requires decided { IsDecided g.now.ends ms.now.touches a.old m rank }
+    requires taken { taken ≡ length (frozen_pairs a.old) }
+    ensures decided { IsDecided g.now.ends ms.now.touches a.new (m + 1) rank }
+    ensures taken { result ≡ length (frozen_pairs a.new) }
+    ensures stands { StandsOver a.new g.now ms.now.touches }
+    ensures whole { IsWhole a.new }
+    ensures same_room { HasRoomOf a.old a.new }
+    ensures same_sizes { HasSizesOf work.old work.new }
+{
+    let _ = g.vertices();
+    let _ = a.length();
+    if taken >= rank {
+        return taken;
+    }
+    let low = lowest_for(ms, a, m);
+    for e in ms.touch(g, m) {
+        if *e < low {
+            continue;
+        }
+        if take_branch(g, ms, a, m, *e, rank, work, steps) {
+            return taken + 1;
+        }
+    }
+    let _ = regrow(g, ms, a, rank, work, steps);
+    taken
+}

@@ -1,0 +1,54 @@
+// The first assignment.
+ghost use Rattle.std.specs.Prelude.{◌≡◌, false, length, replicate};
+ghost use Rattle.obs_meter.specs.Assignments.{IsRhoAt};
+ghost use Rattle.obs_meter.specs.Touches.{AreInRange, live_items};
+ghost use Rattle.obs_assign.specs.Assigned.{HasRoomOf, IsWhole, StandsOver, pairs};
+ghost use Rattle.obs_exchange.specs.Found.{HasRoomFor, HasSizesOf};
+ghost use Rattle.obs_exchange.specs.Laws.{IsThawed};
+ghost use Rattle.obs_first.specs.First.{first_pairs};
+
+use crate::decide::decide;
+use obs_assign::{Assignment, Steps};
+use obs_exchange::Work;
+use obs_graph::Graph;
+use obs_meter::Meters;
+use std::sync::ledger::Ledger;
+
+/// Thaws all meters, and keeps the pairs. Says how many they are.
+fn thaw(a: &mut Assignment) -> u32
+    ensures thawed { a.new ≡ record a.old { frozen = replicate (length a.old.frozen) false } }
+    ensures length { result ≡ length (pairs a.new) }
+    ensures whole { IsWhole a.new }
+{
+    a.unpin_all();
+    a.length()
+}
+
+/// Makes a longest assignment the first one: of the longest assignments the least, compared meter by meter, where a lower
+/// branch comes before a higher one, and a branch before none. Thaws all meters. How many steps it takes isn't said.
+pub fn first<L: Ledger>(
+    g: &Graph,
+    ms: &Meters,
+    a: &mut Assignment,
+    work: &mut Work,
+    steps: &mut Steps<L>,
+)
+    requires stands { StandsOver a.old g.now ms.now.touches }
+    requires in_range { AreInRange g.now ms.now.touches }
+    requires room { HasRoomFor work.old g.now ms.now.touches }
+    requires longest { IsRhoAt g.now.ends ms.now.touches (live_items g.now.ends ms.now.touches) (length (pairs a.old)) }
+    ensures first { pairs a.new ≡ first_pairs g.now.vertices g.now.ends ms.now.touches }
+    ensures thawed { IsThawed a.new }
+    ensures stands { StandsOver a.new g.now ms.now.touches }
+    ensures whole { IsWhole a.new }
+    ensures same_room { HasRoomOf a.old a.new }
+    ensures same_sizes { HasSizesOf work.old work.new }
+{
+    let _ = g.vertices();
+    let rank = thaw(a);
+    let mut taken = 0;
+    for m in 0..ms.count() {
+        taken = decide(g, ms, a, m, rank, taken, work, steps);
+    }
+    let _ = thaw(a);
+}

@@ -1,0 +1,10 @@
+//! The first assignment: the least of the longest ones, compared meter by meter.
+#![tactic(auto)]
+
+mod decide;
+pub mod laws;
+mod least;
+#[cfg(test)]
+mod tests;
+
+pub use least::first;

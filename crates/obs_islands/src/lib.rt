@@ -1,0 +1,15 @@
+//! Islands: the largest sets of vertices that the meters lying inside them span.
+#![tactic(auto)]
+
+mod discard;
+mod grow;
+pub mod laws;
+mod memory;
+mod pieces;
+mod settle;
+#[cfg(test)]
+mod tests;
+mod work;
+
+pub use memory::NoMemory;
+pub use work::{IslandWork, find_islands, islands};

@@ -1,0 +1,122 @@
+// Islands, and what they are found in.
+ghost use Rattle.std.specs.Prelude.{◌≡◌, [], IfOk};
+ghost use Rattle.obs_meter.specs.Touches.{AreInRange};
+ghost use Rattle.obs_islands.specs.Firsts.{islands_of};
+ghost use Rattle.obs_islands.specs.Islanding.{HasRoomFor, HasSizesOf};
+
+use crate::memory::NoMemory;
+use crate::settle::find_firsts;
+use obs_assign::{Assignment, Steps};
+use obs_exchange::Work;
+use obs_graph::Graph;
+use obs_meter::{Meters, Touch};
+use std::alloc::Global;
+use std::marker::Model;
+use std::sync::ledger::Ledger;
+
+/// Room for finding islands, and those that were found last.
+#[derive(Drop)]
+pub struct IslandWork {
+    vertices: usize,
+    meters: u32,
+    positions: u32,
+    firsts: Vec<u32>,
+    crossed: Vec<bool>,
+    touches: Vec<Touch>,
+    used: Meters,
+    pairs: Assignment,
+    search: Work,
+}
+
+impl Model for IslandWork {
+    ghost use Rattle.std.specs.Prelude.{◌≡◌, ◌≤◌, length, take};
+    ghost use Rattle.obs_islands.specs.Islanding.{Islanding};
+
+    ghost Value = { Islanding };
+
+    ghost view = { λ w. record { firsts = take w.vertices w.firsts.items; most_meters = length w.touches.items; most_branches = w.search.most_branches; most_vertices = length w.firsts.items } };
+
+    ghost invariant = { λ w. record {
+      found : w.vertices ≤ length w.firsts.items;
+      meters : w.meters ≡ length w.pairs.slots;
+      positions : w.positions ≡ length w.pairs.forest.held;
+      crossed : length w.crossed.items ≡ length w.firsts.items;
+      used : w.used.most ≡ length w.touches.items;
+      pair_meters : w.pairs.most_meters ≡ length w.touches.items;
+      pair_branches : w.pairs.forest.most_branches ≡ w.search.most_branches;
+      pair_vertices : w.pairs.forest.most_vertices ≡ length w.firsts.items;
+      search_meters : w.search.most_meters ≡ length w.touches.items;
+      search_vertices : w.search.most_vertices ≡ length w.firsts.items;
+    } };
+}
+
+impl IslandWork {
+    /// Room for so many meters, branches and vertices.
+    pub fn make(
+        alloc: Global,
+        most_meters: u32,
+        most_branches: u32,
+        most_vertices: u32,
+    ) -> Result<IslandWork, NoMemory>
+        ensures empty { IfOk result (λ w. w ≡ record { firsts = []; most_meters = most_meters; most_branches = most_branches; most_vertices = most_vertices }) }
+    {
+        Ok(IslandWork {
+            vertices: 0,
+            meters: 0,
+            positions: 0,
+            firsts: vec![in alloc; 0; most_vertices as usize]?,
+            crossed: vec![in alloc; false; most_vertices as usize]?,
+            touches: vec![in alloc; Touch::Nothing; most_meters as usize]?,
+            used: Meters::make(alloc, most_meters)?,
+            pairs: Assignment::make(alloc, most_meters, most_branches, most_vertices)?,
+            search: Work::make(alloc, most_meters, most_branches, most_vertices)?,
+        })
+    }
+
+    /// Of each vertex the first vertex of its island, as `find_islands` found them last.
+    pub fn firsts(&self) -> &[u32]
+        ensures firsts { result.now ≡ self.now.firsts }
+    {
+        &self.firsts[..self.vertices]
+    }
+}
+
+/// Finds the islands. `IslandWork::firsts` then has for each vertex the first vertex of its island.
+pub fn find_islands<L: Ledger>(g: &Graph, ms: &Meters, work: &mut IslandWork, steps: &mut Steps<L>)
+    requires in_range { AreInRange g.now ms.now.touches }
+    requires room { HasRoomFor work.old g.now ms.now.touches }
+    ensures islands { work.new.firsts ≡ islands_of g.now.vertices g.now.ends ms.now.touches }
+    ensures same_sizes { HasSizesOf work.old work.new }
+{
+    find_firsts(
+        g,
+        ms,
+        &mut work.used,
+        &mut work.touches,
+        &mut work.pairs,
+        work.meters,
+        work.positions,
+        &mut work.search,
+        &mut work.firsts,
+        &mut work.crossed,
+        steps,
+    );
+    work.vertices = g.vertices() as usize;
+    work.meters = ms.count();
+    work.positions = g.positions();
+}
+
+/// For each vertex the first vertex of its island. A vertex without a branch is an island of its own.
+pub fn islands<'a, L: Ledger>(
+    g: &Graph,
+    ms: &Meters,
+    work: &'a mut IslandWork,
+    steps: &mut Steps<L>,
+) -> &'a [u32]
+    requires in_range { AreInRange g.now ms.now.touches }
+    requires room { HasRoomFor work.old g.now ms.now.touches }
+    ensures islands { result.now ≡ islands_of g.now.vertices g.now.ends ms.now.touches }
+{
+    find_islands(g, ms, work, steps);
+    work.firsts()
+}

@@ -1,0 +1,165 @@
+-- The chosen candidates are listed, and what they cost is added up.
+use Rattle.std.proofs.Common.{◌≡◌, ℕ, zero, suc, ◌+◌, ◌-◌, ◌*◌, ◌<◌, ◌≤◌, Bool, true, false, List, [], ◌∷◌, ◌++◌, length, get_or, set, take, refl, sym, ap, ◌∙◌, arith, append_assoc, All, inl, inr, subst, replicate}
+use Rattle.std.specs.Prelude.{filter}
+use Rattle.std.specs.List.{range_with_len}
+use Rattle.std.proofs.lemmas.Bool.{and_parts, cases_Bool, cases_eq, cases_lt, le-ltb, lt-ltb}
+use Rattle.std.proofs.lemmas.List.Sums.{sum_by-cons}
+use Rattle.std.proofs.lemmas.List.{append-nil, get_or-replicate, get_or_past, length-replicate, take_more_set}
+use Rattle.obs_graph.specs.Shape.{Shape}
+use Rattle.obs_graph.specs.Positions.{AreBranches}
+use Rattle.obs_matroid.specs.Lists.{In}
+use Rattle.obs_matroid.specs.Assignments.{Pair, items}
+use Rattle.obs_matroid.specs.Placement.{is_raising}
+use Rattle.obs_matroid.specs.Values.{rho_of}
+use Rattle.obs_matroid.proofs.Computed.{rho_of_is}
+use Rattle.obs_matroid.proofs.Critical.{rho_same}
+use Rattle.obs_matroid.proofs.Lists.{In-filter, filter_same}
+use Rattle.obs_meter.specs.declared.Touch.{Touch}
+use Rattle.obs_meter.specs.Assignments.{rho_at}
+use Rattle.obs_meter.specs.Spanned.{graph_matroid}
+use Rattle.obs_meter.specs.Touches.{is_live, live_items, touch_at}
+use Rattle.obs_meter.proofs.Assigned.{live_items-distinct}
+use Rattle.obs_meter.proofs.Instance.{IsMatroid-graph}
+use Rattle.obs_assign.specs.Assigned.{Assigned, IsWhole, StandsOver, has_flag, is_frozen, pairs}
+use Rattle.obs_placement.specs.Answer.{chosen_of, cost_of, earlier_items, is_chosen}
+use Rattle.obs_placement.specs.Choosing.{HavePairsOnly}
+use Rattle.obs_placement.specs.Order.{price_of}
+use Rattle.obs_placement.specs.Taking.{AreTaken, IsStanding, is_known, is_raised, never, since_at}
+use Rattle.obs_placement.proofs.Going.{live_low}
+use Rattle.obs_placement.proofs.Taken.{IsTaken-rho}
+
+-- the numbers from i on, below n
+abbrev later : ℕ → ℕ → List ℕ
+later n i = range_with_len i (n - i)
+
+later_next : (n i : ℕ) → i < n → later n i ≡ i ∷ later n (i + 1)
+later_next n i l = let e : n - i ≡ suc (n - (i + 1)) = omega arith in ap (range_with_len i) e
+
+module _ (passes : ℕ → Bool) (prices : List ℕ) where
+  -- of the candidates before i those that pass are listed, with their cost
+  pub record AreListed (list : List ℕ) (count cost i : ℕ) : Type 0 where
+    pub bound : count ≤ i
+    pub lists : take count list ++ filter passes (later (length prices) i) ≡ filter passes (range_with_len 0 (length prices))
+    pub costs : cost + cost_of prices (filter passes (later (length prices) i)) ≡ cost_of prices (filter passes (range_with_len 0 (length prices)))
+    pub cheap : cost ≤ i * 1000000000
+
+  pub AreListed-begun : (list : List ℕ) → AreListed list 0 0 0
+  AreListed-begun list = record {
+    bound = omega arith;
+    lists = let e : length prices - 0 ≡ length prices = omega arith in ap (λ k. filter passes (range_with_len 0 k)) e;
+    costs = let e : length prices - 0 ≡ length prices = omega arith in let k = ap (λ k. cost_of prices (filter passes (range_with_len 0 k))) e in omega (arith, k);
+    cheap = omega arith;
+  }
+
+  module _ (list : List ℕ) (count cost i : ℕ) (h : AreListed list count cost i) where
+    pub AreListed-over : i < length prices → passes i ≡ false → AreListed list count cost (i + 1)
+    AreListed-over low f =
+        let rest : filter passes (later (length prices) i) ≡ filter passes (later (length prices) (i + 1)) = rw (later_next (length prices) i low, f) refl in
+        record {
+          bound = let b = h.bound in omega arith;
+          lists = rw (← rest) h.lists;
+          costs = rw (← rest) h.costs;
+          cheap = let b = h.cheap in omega (arith, b);
+        }
+
+    pub AreListed-more : i < length prices → length prices ≤ length list → passes i ≡ true → get_or prices i 0 ≤ 1000000000
+        → AreListed (set list count i) (count + 1) (cost + get_or prices i 0) (i + 1)
+    AreListed-more low long t dear =
+        let b = h.bound in
+        let more : take (count + 1) (set list count i) ≡ take count list ++ i ∷ [] = take_more_set list count i (omega arith) in
+        let rest : filter passes (later (length prices) i) ≡ i ∷ filter passes (later (length prices) (i + 1)) = rw (later_next (length prices) i low, t) refl in
+        let k : cost_of prices (filter passes (later (length prices) i)) ≡ get_or prices i 0 + cost_of prices (filter passes (later (length prices) (i + 1))) = ap (cost_of prices) rest ∙ sum_by-cons (λ k. get_or prices k 0) i (filter passes (later (length prices) (i + 1))) in
+        let s = h.costs in
+        let m = h.cheap in
+        record {
+          bound = omega arith;
+          lists =
+              ap (λ xs. xs ++ filter passes (later (length prices) (i + 1))) more
+              ∙ (append_assoc (take count list) (i ∷ []) (filter passes (later (length prices) (i + 1))) ∙ (ap (λ xs. take count list ++ xs) (sym rest) ∙ h.lists));
+          costs = omega (arith, k, s);
+          cheap = omega (arith, m, dear);
+        }
+
+    pub AreListed-ended : length prices ≤ i → i ≤ length prices → (take count list ≡ filter passes (range_with_len 0 (length prices))) × (cost ≡ cost_of prices (filter passes (range_with_len 0 (length prices))))
+    AreListed-ended end most =
+        let none : later (length prices) i ≡ [] = let e : length prices - i ≡ 0 = omega arith in ap (range_with_len i) e in
+        let k = ap (λ xs. cost_of prices (filter passes xs)) none in
+        let s = h.costs in (
+          sym (append-nil (take count list)) ∙ (ap (λ xs. take count list ++ filter passes xs) (sym none) ∙ h.lists),
+          omega (arith, k, s),
+        )
+
+-- each price is below the one that says that an item isn't known
+pub cheap_price : (meters : ℕ) (prices : List ℕ) → All (λ p. p ≤ 1000000000) prices → (m : ℕ) → price_of meters prices m < never
+cheap_price meters prices h m = elim (cases_lt m meters) [
+  | inl l ↦ rw (lt-ltb m meters l) (omega arith)
+  | inr l ↦ rw (le-ltb m meters l) (elim (cases_lt (m - meters) (length prices)) [
+    | inl u ↦ let b = h (m - meters) 0 u in omega (arith, b)
+    | inr u ↦ let e = get_or_past prices (m - meters) 0 u in omega (arith, e)
+  ])
+]
+
+pub cleared_standing : (g : Shape) (touches : List Touch) (a : Assigned) → StandsOver a g touches → IsWhole a → pairs a ≡ [] → IsStanding g touches a
+cleared_standing g touches a s w e = record {
+  stands = s;
+  whole = w;
+  thawed = λ m. elim (cases_Bool (is_frozen a m)) [
+    | inl y ↦ absurd (subst (λ (A : List Pair). In m (items A)) e (w.paired.frozen_have m y))
+    | inr f ↦ f
+  ];
+}
+
+pub replicated : (n m : ℕ) → since_at (replicate n never) m ≡ never
+replicated n m = elim (cases_lt m n) [
+  | inl l ↦ get_or-replicate n m never never l
+  | inr l ↦ get_or_past (replicate n never) m never (let k = length-replicate n never in omega (arith, k, l))
+]
+
+pub unset : (n m : ℕ) → has_flag (replicate n false) m ≡ false
+unset n m = elim (cases_lt m n) [
+  | inl l ↦ get_or-replicate n m false false l
+  | inr l ↦ get_or_past (replicate n false) m false (let k = length-replicate n false in omega (arith, k, l))
+]
+
+in_range_from : (n a x : ℕ) → In x (range_with_len a n) → x < a + n
+in_range_from zero a x i = absurd i
+in_range_from (suc n) a x (inl e) = omega (arith, e)
+in_range_from (suc n) a x (inr i) = let k = in_range_from n (a + 1) x i in omega (arith, k)
+
+range_in : (n a x : ℕ) → a ≤ x → x < a + n → In x (range_with_len a n)
+range_in zero a x l u = absurd (omega (arith, l, u))
+range_in (suc n) a x l u = elim (cases_eq x a) [ inl e ↦ inl e | inr k ↦ inr (range_in n (a + 1) x (omega (arith, l, k)) (omega (arith, u))) ]
+
+in_range : (k n : ℕ) → In k (range_with_len 0 n) → k < n
+in_range k n i = let l = in_range_from n 0 k i in omega (arith, l)
+
+module _ (g : Shape) (touches : List Touch) (meters : ℕ) (prices : List ℕ) (a : Assigned) (since : List ℕ) (raised : List Bool) (ok : AreBranches g.vertices g.ends)
+    (t : AreTaken g touches (price_of meters prices) a since raised) (count : length touches ≡ meters + length prices) where
+  pub chosen_list : filter (is_raised raised meters) (range_with_len 0 (length prices)) ≡ chosen_of g.vertices g.ends touches meters prices
+  chosen_list = filter_same (is_raised raised meters) (λ k. is_chosen g.vertices g.ends touches (price_of meters prices) (meters + k)) (range_with_len 0 (length prices))
+      (λ k i. t.chosen (meters + k) (let l = in_range k (length prices) i in omega (arith, l, count)))
+
+  pub only_chosen : HavePairsOnly meters (chosen_of g.vertices g.ends touches meters prices) a
+  only_chosen m i = elim (cases_lt m meters) [
+    | inl l ↦ inl l
+    | inr l ↦
+        let y = t.held m i in
+        let low = live_low g.ends touches m (and_parts (is_live g.ends touches m) (is_raising (graph_matroid g.vertices g.ends) (touch_at g.ends touches) (earlier_items g.ends touches (price_of meters prices) m) m) y).0 in
+        let e : meters + (m - meters) ≡ m = omega (arith, l) in
+        inr (In-filter (λ k. is_chosen g.vertices g.ends touches (price_of meters prices) (meters + k)) (m - meters) (range_with_len 0 (length prices))
+        (range_in (length prices) 0 (m - meters) (omega arith) (omega (arith, l, low, count))) (subst (λ (x : ℕ). is_chosen g.vertices g.ends touches (price_of meters prices) x ≡ true) (sym e) y))
+  ]
+
+  pub rank_of_all : length (pairs a) ≡ rho_at g.vertices g.ends touches (live_items g.ends touches)
+  rank_of_all =
+      let mat = graph_matroid g.vertices g.ends in
+      let laws = IsMatroid-graph g.vertices g.ends ok in
+      let M = live_items g.ends touches in
+      rho_same mat (touch_at g.ends touches) M (length (pairs a)) (rho_of mat (touch_at g.ends touches) M)
+      (IsTaken-rho mat laws (touch_at g.ends touches) M (pairs a) (is_known since) t.taken) (rho_of_is mat laws (touch_at g.ends touches) M (live_items-distinct g.ends touches))
+
+pub replicated_at : (n : ℕ) (xs : List ℕ) → xs ≡ replicate n never → (m : ℕ) → since_at xs m ≡ never
+replicated_at n xs e m = rw e (replicated n m)
+
+pub unset_at : (n : ℕ) (xs : List Bool) → xs ≡ replicate n false → (m : ℕ) → has_flag xs m ≡ false
+unset_at n xs e m = rw e (unset n m)

@@ -1,0 +1,179 @@
+-- One item over a graph: what the search from it says.
+use Rattle.std.proofs.Common.{◌≡◌, ℕ, ◌≤◌, ◌<◌, Bool, true, false, ◌||◌, ◌&&◌, Option, None, List, ◌∷◌, length, refl, sym, ◌∙◌, inl, inr, arith, subst, eqb, ltb}
+use Rattle.std.specs.Prelude.{nat_lt}
+use Rattle.std.proofs.lemmas.Bool.{cases_eq, or_cases, or_left, and_parts, and_from, ne_eqb, lt-ltb, le-ltb}
+use Rattle.std.proofs.lemmas.Bool.Decides.{nat_tests}
+use Rattle.obs_graph.specs.declared.Ends.{Ends}
+use Rattle.obs_graph.specs.Positions.{AreBranches}
+use Rattle.obs_graph.specs.Shape.{Shape}
+use Rattle.obs_matroid.specs.Lists.{In, IsDistinct}
+use Rattle.obs_matroid.specs.Matroid.{Matroid, IsMatroid}
+use Rattle.obs_matroid.specs.Assignments.{items, branches, part, IsRho}
+use Rattle.obs_matroid.specs.Closed.{IsClosed, none}
+use Rattle.obs_matroid.specs.Placement.{is_raising}
+use Rattle.obs_matroid.specs.Values.{rho_of}
+use Rattle.obs_matroid.proofs.Computed.{rho_of_is}
+use Rattle.obs_matroid.proofs.Critical.{rho_same}
+use Rattle.obs_matroid.proofs.Lists.{clash, In_same, In-filter_from, is_in, is_in_from, is_in_at}
+use Rattle.obs_matroid.proofs.Pairs.{In-items_from, In-part, In-part_from, more_pairs}
+use Rattle.obs_meter.specs.declared.Touch.{Touch}
+use Rattle.obs_meter.specs.Spanned.{graph_matroid}
+use Rattle.obs_meter.specs.Touches.{is_live, live_items, touch_at}
+use Rattle.obs_meter.proofs.Instance.{IsMatroid-graph}
+use Rattle.obs_assign.specs.Assigned.{Assigned, branch_at, has_flag, is_frozen, pairs}
+use Rattle.obs_exchange.specs.declared.Sources.TheVariants.{One}
+use Rattle.obs_exchange.specs.Closed.{IsClosedAt, IsLeastClosedAt}
+use Rattle.obs_exchange.specs.Found.{AddsSource, HasClosed, HasGrown}
+use Rattle.obs_exchange.proofs.AtGraph.{IsAssignment-live, IsClosed-to_matroid, bare-from_out, live-from_live_items}
+use Rattle.obs_exchange.proofs.Lawful.{AddsSource-grown}
+use Rattle.obs_placement.specs.Answer.{earlier_items, is_chosen}
+use Rattle.obs_placement.specs.Order.{is_earlier}
+use Rattle.obs_placement.specs.Taking.{AreHeld, IsStanding, IsTaken, IsTakenAt, is_known, never, since_after, since_at}
+use Rattle.obs_placement.proofs.Taken.{IsReached, grown_only, IsTaken-grown, IsTaken-passed, IsTaken-rho, IsTaken-same, passed_rho}
+
+-- the first i places are marked
+pub record AreMarked (reached : ℕ → Bool) (price : ℕ) (before : List ℕ) (i : ℕ) (since : List ℕ) : Type 0 where
+  pub count : length since ≡ length before
+  pub marked : (m : ℕ) → m < i → since_at since m ≡ since_after (reached m) price (since_at before m)
+  pub rest : (m : ℕ) → i ≤ m → since_at since m ≡ since_at before m
+
+not_itself : (p c : ℕ) → (ltb p p || (eqb p p && ltb c c)) ≡ false
+not_itself p c = grind (arith, nat_tests)
+
+-- whether an item raises the greatest length, by the two numbers
+pub raising_by : (g : Matroid) → IsMatroid g → (touch : ℕ → List ℕ) (M : List ℕ) (c r s : ℕ) → IsDistinct (c ∷ M) → IsRho g touch M r → IsRho g touch (c ∷ M) s
+    → is_raising g touch M c ≡ nat_lt r s
+unfolding is_raising
+raising_by g laws touch M c r s d p q =
+    let a = rho_same g touch M r (rho_of g touch M) p (rho_of_is g laws touch M d.1) in
+    let b = rho_same g touch (c ∷ M) s (rho_of g touch (c ∷ M)) q (rho_of_is g laws touch (c ∷ M) d) in
+    rw (a, b) refl
+
+module _ (a : Assigned) (g : Shape) (touches : List Touch) (ok : AreBranches g.vertices g.ends) (standing : IsStanding g touches a) (N : List ℕ) (c : ℕ)
+    (S : ℕ → Bool) (taken : IsTaken (graph_matroid g.vertices g.ends) (touch_at g.ends touches) N (pairs a) S)
+    (lives : (x : ℕ) → In x N → is_live g.ends touches x ≡ true) (out : In c N → ⊥) (live : is_live g.ends touches c ≡ true) where
+  abbrev pub mat : Matroid
+  mat = graph_matroid g.vertices g.ends
+
+  item_in : (x : ℕ) → In x (items (pairs a)) → In x N
+  item_in x i = let v = In-items_from (pairs a) x i in In_same x v.0.0 N v.2 (taken.assigns.of_items v.0 v.1)
+
+  pub bare_source : branch_at a c ≡ None
+  bare_source = bare-from_out a c (λ i. out (item_in c i))
+
+  thawed_same : is_frozen a ≡ none
+  thawed_same = λ i m. standing.thawed m i
+
+  module _ (R : ℕ → Bool) (h : IsLeastClosedAt g.ends touches (One c) a R) where
+    source : R c ≡ true
+    source = h.holds c (refl, live, bare_source)
+
+    -- the set that T and the items have in common holds the reached ones, where T is closed
+    within_closed : (T : ℕ → Bool) → ((m e : ℕ) → In m (c ∷ N) → T m ≡ true → In e (touch_at g.ends touches m)
+        → mat.spans (branches (part (λ x. T x || none x) (pairs a))) e ≡ true) → T c ≡ true
+        → (m : ℕ) → R m ≡ true → (T m && is_in (c ∷ N) m) ≡ true
+    within_closed T spanned t m r =
+        let U : ℕ → Bool = λ x. T x && is_in (c ∷ N) x in
+        let at : (x : ℕ) → U x ≡ true → In x (c ∷ N) = λ x u. is_in_from (c ∷ N) x (and_parts (T x) (is_in (c ∷ N) x) u).1 in
+        let lives_too : (x : ℕ) → In x (c ∷ N) → is_live g.ends touches x ≡ true = λ x i. elim i [ inl e ↦ subst (λ (y : ℕ). is_live g.ends touches y ≡ true) (sym e) live | inr j ↦ lives x j ] in
+        let closed : IsClosedAt g.ends touches a U = record {
+          live = λ x u. lives_too x (at x u);
+          joined = λ x e u j.
+              more_pairs mat (IsMatroid-graph g.vertices g.ends ok) (part (λ z. T z || none z) (pairs a)) (part (λ z. U z || is_frozen a z) (pairs a)) e
+              (λ p i. let w = In-part_from (λ z. T z || none z) (pairs a) p i in
+              In-part (λ z. U z || is_frozen a z) (pairs a) p w.0 (or_left (U p.0) (is_frozen a p.0)
+              (and_from (T p.0) (is_in (c ∷ N) p.0) (elim (or_cases (T p.0) (none p.0) w.1) [ inl y ↦ y | inr f ↦ clash f refl ])
+              (is_in_at (c ∷ N) p.0 (inr (taken.assigns.of_items p w.0))))))
+              (spanned x e (at x u) (and_parts (T x) (is_in (c ∷ N) x) u).0 j);
+        } in
+        h.least U closed (λ x k. subst (λ (y : ℕ). U y ≡ true) (sym k.0) (and_from (T c) (is_in (c ∷ N) c) t (is_in_at (c ∷ N) c (inl refl)))) m r
+
+    reached_closed : IsClosed mat (touch_at g.ends touches) (c ∷ N) none (pairs a) R
+    reached_closed = subst (λ (f : ℕ → Bool). IsClosed mat (touch_at g.ends touches) (c ∷ N) f (pairs a) R) thawed_same
+        (IsClosed-to_matroid g.vertices a g touches standing.stands (c ∷ N) R h.closed)
+
+    pub IsReached-closed : IsReached mat (touch_at g.ends touches) N c (pairs a) R
+    IsReached-closed = record {
+      closed = reached_closed;
+      source = source;
+      least = λ T k t m r. (and_parts (T m) (is_in (c ∷ N) m) (within_closed T (λ x e i y j. k.spanned x e i y j) t m r)).0;
+      within = λ m r. is_in_from (c ∷ N) m (and_parts (R m) (is_in (c ∷ N) m) (within_closed R (λ x e i y j. reached_closed.spanned x e i y j) source m r)).1;
+    }
+
+    pub passed_taken : IsTaken mat (touch_at g.ends touches) (c ∷ N) (pairs a) (λ m. S m || R m)
+    passed_taken = IsTaken-passed mat (IsMatroid-graph g.vertices g.ends ok) (touch_at g.ends touches) N c (pairs a) S taken out R IsReached-closed
+
+    pub passed_not_raising : is_raising mat (touch_at g.ends touches) N c ≡ false
+    passed_not_raising =
+        raising_by mat (IsMatroid-graph g.vertices g.ends ok) (touch_at g.ends touches) N c (length (pairs a)) (length (pairs a)) (out, taken.distinct)
+        (IsTaken-rho mat (IsMatroid-graph g.vertices g.ends ok) (touch_at g.ends touches) N (pairs a) S taken)
+        (passed_rho mat (IsMatroid-graph g.vertices g.ends ok) (touch_at g.ends touches) N c (pairs a) S taken out R IsReached-closed)
+        ∙ le-ltb (length (pairs a)) (length (pairs a)) (omega arith)
+
+  module _ (b : Assigned) (m : ℕ) (later : IsStanding g touches b) (h : HasGrown g.ends touches (One c) a b m) where
+    added : AddsSource g.ends touches (One c) a (pairs b)
+    added = AddsSource-grown a b g touches (One c) m later.whole later.stands h
+
+    pub grown_taken : IsTaken mat (touch_at g.ends touches) (c ∷ N) (pairs b) S
+    grown_taken = IsTaken-grown mat (IsMatroid-graph g.vertices g.ends ok) (touch_at g.ends touches) N c (pairs a) S taken out (live_items g.ends touches) (pairs b)
+        (IsAssignment-live g.vertices b g touches later.whole later.stands) h.longer (In_same c added.source (items (pairs b)) (sym added.is_source.0) added.adds) added.keeps
+
+    pub grown_held : (price : ℕ → ℕ) → AreHeld g touches price a → is_chosen g.vertices g.ends touches price c ≡ true → AreHeld g touches price b
+    grown_held price old mine x i =
+        elim (grown_only mat (IsMatroid-graph g.vertices g.ends ok) (touch_at g.ends touches) N c (pairs a) S taken out (live_items g.ends touches) (pairs b)
+        (IsAssignment-live g.vertices b g touches later.whole later.stands) h.longer (In_same c added.source (items (pairs b)) (sym added.is_source.0) added.adds) added.keeps x i) [
+          | inl e ↦ subst (λ (y : ℕ). is_chosen g.vertices g.ends touches price y ≡ true) (sym e) mine
+          | inr j ↦ old x j
+        ]
+
+    pub grown_raising : is_raising mat (touch_at g.ends touches) N c ≡ true
+    grown_raising =
+        raising_by mat (IsMatroid-graph g.vertices g.ends ok) (touch_at g.ends touches) N c (length (pairs a)) (length (pairs b)) (out, taken.distinct)
+        (IsTaken-rho mat (IsMatroid-graph g.vertices g.ends ok) (touch_at g.ends touches) N (pairs a) S taken)
+        (IsTaken-rho mat (IsMatroid-graph g.vertices g.ends ok) (touch_at g.ends touches) (c ∷ N) (pairs b) S grown_taken)
+        ∙ lt-ltb (length (pairs a)) (length (pairs b)) (let l = h.longer in omega (arith, l))
+
+-- the items that are taken before one don't hold it
+pub earlier-out : (ends : List (Option Ends)) (touches : List Touch) (price : ℕ → ℕ) (c : ℕ) → In c (earlier_items ends touches price c) → ⊥
+earlier-out ends touches price c i = clash (In-filter_from (is_earlier price c) c (live_items ends touches) i).1 (not_itself (price c) c)
+
+pub earlier-live : (ends : List (Option Ends)) (touches : List Touch) (price : ℕ → ℕ) (c x : ℕ) → In x (earlier_items ends touches price c) → is_live ends touches x ≡ true
+earlier-live ends touches price c x i = live-from_live_items ends touches x (In-filter_from (is_earlier price c) x (live_items ends touches) i).0
+
+or_none : (b : Bool) → b ≡ (b || false)
+or_none true = refl
+or_none false = refl
+
+-- what is known after a mark
+pub known_after : (reached : ℕ → Bool) (price : ℕ) (before after : List ℕ) → price < never
+    → ((m : ℕ) → since_at after m ≡ since_after (reached m) price (since_at before m))
+    → ((m : ℕ) → since_at before m ≤ never)
+    → (m : ℕ) → is_known after m ≡ (is_known before m || reached m)
+known_after reached price before after low e b m = rw (e m) (core (reached m) (since_at before m) (b m))
+  where
+    core : (r : Bool) (s : ℕ) → s ≤ never → nat_lt (since_after r price s) never ≡ (nat_lt s never || r)
+    core false s l = or_none (nat_lt s never)
+    core true s l = elim (cases_eq s never) [
+      | inl w ↦ rw w (lt-ltb price never low)
+      | inr n ↦ rw (ne_eqb s never n, lt-ltb s never (omega (arith, l, n))) refl
+    ]
+
+-- the closed answer of a search from one item, with the mark after it
+pub passed_at : (a b : Assigned) (g : Shape) (touches : List Touch) (ok : AreBranches g.vertices g.ends) (standing : IsStanding g touches a) (price : ℕ → ℕ) (c p : ℕ)
+    (before after : List ℕ) (reached : List Bool) → is_live g.ends touches c ≡ true → p < never → ((m : ℕ) → since_at before m ≤ never)
+    → IsTakenAt g touches (earlier_items g.ends touches price c) a before → HasClosed g.ends touches (One c) a b reached
+    → ((m : ℕ) → since_at after m ≡ since_after (has_flag reached m) p (since_at before m))
+    → IsTakenAt g touches (c ∷ earlier_items g.ends touches price c) b after
+passed_at a b g touches ok standing price c p before after reached live low fits taken closed marked =
+    let N = earlier_items g.ends touches price c in
+    let mat = graph_matroid g.vertices g.ends in
+    let known = known_after (has_flag reached) p before after low marked fits in
+    let t = passed_taken a g touches ok standing N c (is_known before) taken (earlier-live g.ends touches price c) (earlier-out g.ends touches price c) live (has_flag reached) closed.least in
+    subst (λ (x : Assigned). IsTakenAt g touches (c ∷ N) x after) (sym closed.same)
+    (IsTaken-same mat (IsMatroid-graph g.vertices g.ends ok) (touch_at g.ends touches) (c ∷ N) (c ∷ N) (pairs a) (λ m. is_known before m || has_flag reached m) (is_known after)
+    t.distinct (λ x i. i) (λ x i. i) known t)
+
+-- a live item is chosen where it raises the greatest length
+pub chosen_by : (g : Shape) (touches : List Touch) (price : ℕ → ℕ) (c : ℕ) (r : Bool) → is_live g.ends touches c ≡ true
+    → is_raising (graph_matroid g.vertices g.ends) (touch_at g.ends touches) (earlier_items g.ends touches price c) c ≡ r → r ≡ is_chosen g.vertices g.ends touches price c
+chosen_by g touches price c r live e = sym (rw live e)

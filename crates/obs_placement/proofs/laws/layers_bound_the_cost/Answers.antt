@@ -1,0 +1,5 @@
+use Rattle.obs_placement.proofs.Lawful.{layers_bound}
+use Rattle.obs_placement.proofs.laws.layers_bound_the_cost.Goals as goal
+
+pub returns : goal.returns
+returns c = record { bound = layers_bound }

@@ -1,0 +1,4 @@
+use Rattle.obs_placement.proofs.tests.free_candidate.Given as goal
+
+abbrev pub ghosts-choose_once : goal.ghosts-choose_once
+ghosts-choose_once g a = record { name = a.blank.name; parts = a.blank.parts }

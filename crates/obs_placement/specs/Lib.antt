@@ -1,0 +1,5 @@
+pub mod Order
+pub mod Answer
+pub mod Taking
+pub mod Choosing
+pub mod Laws

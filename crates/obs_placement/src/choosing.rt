@@ -1,0 +1,154 @@
+// The answer: which candidates are chosen, and what they cost.
+ghost use Rattle.std.specs.Prelude.{◌≡◌, ◌+◌, ◌<◌, ◌≤◌, ◌^◌, ℕ, All, false, filter, length, replicate, take};
+ghost use Rattle.std.specs.List.{range_with_len};
+ghost use Rattle.obs_meter.specs.Assignments.{rho_at};
+ghost use Rattle.obs_meter.specs.Touches.{AreInRange, live_items};
+ghost use Rattle.obs_assign.specs.Assigned.{Fits, HasRoomOf};
+ghost use Rattle.obs_assign.specs.Assigned.{pairs as pairs_at};
+ghost use Rattle.obs_exchange.specs.Found.{HasRoomFor, HasSizesOf};
+ghost use Rattle.obs_placement.specs.Answer.{chosen_of, cost_of};
+ghost use Rattle.obs_placement.specs.Choosing.{HavePairsOnly};
+ghost use Rattle.obs_placement.specs.Order.{price_of};
+ghost use Rattle.obs_placement.specs.Taking.{AreKnown, IsStanding, is_raised, never};
+
+use crate::order::put_in_order;
+use crate::taking::{NEVER, take_all};
+use obs_assign::{Assignment, Steps};
+use obs_exchange::Work;
+use obs_graph::Graph;
+use obs_meter::Meters;
+use std::sync::ledger::Ledger;
+
+/// How many candidates are listed, and what they cost.
+#[derive(Clone, Copy)]
+pub struct Listed {
+    pub count: usize,
+    pub cost: u64,
+}
+
+/// Lists the positions of the candidates with a flag, rising.
+fn list_raised(meters: u32, prices: &[u64], raised: &[bool], list: &mut [u32]) -> Listed
+    requires raised { length raised.now ≡ meters + length prices.now }
+    requires small { meters + length prices.now < 2 ^ 32 }
+    requires few { length prices.now ≤ 20000 }
+    requires cheap { All (λ p. p ≤ 1000000000) prices.now }
+    requires room { length prices.now ≤ length list.old }
+    ensures bound { result.count ≤ length prices.now }
+    ensures listed { take result.count list.new ≡ filter (is_raised raised.now meters) (range_with_len 0 (length prices.now)) }
+    ensures cost { result.cost ≡ cost_of prices.now (filter (is_raised raised.now meters) (range_with_len 0 (length prices.now))) }
+{
+    let mut count = 0;
+    let mut cost = 0;
+    for k in 0..prices.len() {
+        if raised[meters as usize + k] {
+            list[count] = k as u32;
+            count += 1;
+            cost += prices[k];
+        }
+    }
+    Listed { count, cost }
+}
+
+/// Takes all flags back, and forgets from which price on an item isn't critical.
+fn begin(since: &mut [u64], raised: &mut [bool])
+    ensures since { since.new ≡ replicate (length since.old) never }
+    ensures raised { raised.new ≡ replicate (length raised.old) false }
+{
+    since.fill(NEVER);
+    raised.fill(false);
+}
+
+/// Takes all items in their order, and lists the chosen candidates.
+fn choose_in<L: Ledger>(
+    g: &Graph,
+    offered: &Meters,
+    meters: u32,
+    prices: &[u64],
+    keys: &mut [(u64, u32)],
+    pairs: &mut Assignment,
+    search: &mut Work,
+    since: &mut [u64],
+    raised: &mut [bool],
+    list: &mut [u32],
+    steps: &mut Steps<L>,
+) -> Listed
+    requires in_range { AreInRange g.now offered.now.touches }
+    requires items { length offered.now.touches ≡ meters + length prices.now }
+    requires few { length prices.now ≤ 20000 }
+    requires cheap { All (λ p. p ≤ 1000000000) prices.now }
+    requires fits { Fits pairs.old g.now offered.now.touches }
+    requires room { HasRoomFor search.old g.now offered.now.touches }
+    requires keys { length keys.old ≡ length offered.now.touches }
+    requires since { length since.old ≡ length offered.now.touches }
+    requires raised { length raised.old ≡ length offered.now.touches }
+    requires list { length prices.now ≤ length list.old }
+    ensures bound { result.count ≤ length prices.now }
+    ensures chosen { take result.count list.new ≡ chosen_of g.now.vertices g.now.ends offered.now.touches meters prices.now }
+    ensures cost { result.cost ≡ cost_of prices.now (chosen_of g.now.vertices g.now.ends offered.now.touches meters prices.now) }
+    ensures rank { length (pairs_at pairs.new) ≡ rho_at g.now.vertices g.now.ends offered.now.touches (live_items g.now.ends offered.now.touches) }
+    ensures standing { IsStanding g.now offered.now.touches pairs.new }
+    ensures only_chosen { HavePairsOnly meters (chosen_of g.now.vertices g.now.ends offered.now.touches meters prices.now) pairs.new }
+    ensures known { AreKnown g.now offered.now.touches (price_of meters prices.now) since.new }
+    ensures same_room { HasRoomOf pairs.old pairs.new }
+    ensures same_sizes { HasSizesOf search.old search.new }
+{
+    let _ = offered.count();
+    let _ = g.vertices();
+    pairs.clear(g, offered);
+    put_in_order(meters, prices, keys);
+    begin(since, raised);
+    take_all(
+        g, offered, meters, prices, keys, pairs, search, since, raised, steps,
+    );
+    list_raised(meters, prices, raised, list)
+}
+
+/// The same in arrays that may have more places.
+pub fn choose_first<L: Ledger>(
+    g: &Graph,
+    offered: &Meters,
+    meters: u32,
+    prices: &[u64],
+    keys: &mut [(u64, u32)],
+    pairs: &mut Assignment,
+    search: &mut Work,
+    since: &mut [u64],
+    raised: &mut [bool],
+    list: &mut [u32],
+    steps: &mut Steps<L>,
+) -> Listed
+    requires in_range { AreInRange g.now offered.now.touches }
+    requires items { length offered.now.touches ≡ meters + length prices.now }
+    requires few { length prices.now ≤ 20000 }
+    requires cheap { All (λ p. p ≤ 1000000000) prices.now }
+    requires fits { Fits pairs.old g.now offered.now.touches }
+    requires room { HasRoomFor search.old g.now offered.now.touches }
+    requires keys { length offered.now.touches ≤ length keys.old }
+    requires since { length offered.now.touches ≤ length since.old }
+    requires raised { length offered.now.touches ≤ length raised.old }
+    requires list { length prices.now ≤ length list.old }
+    ensures bound { result.count ≤ length prices.now }
+    ensures chosen { take result.count list.new ≡ chosen_of g.now.vertices g.now.ends offered.now.touches meters prices.now }
+    ensures cost { result.cost ≡ cost_of prices.now (chosen_of g.now.vertices g.now.ends offered.now.touches meters prices.now) }
+    ensures rank { length (pairs_at pairs.new) ≡ rho_at g.now.vertices g.now.ends offered.now.touches (live_items g.now.ends offered.now.touches) }
+    ensures standing { IsStanding g.now offered.now.touches pairs.new }
+    ensures only_chosen { HavePairsOnly meters (chosen_of g.now.vertices g.now.ends offered.now.touches meters prices.now) pairs.new }
+    ensures known { AreKnown g.now offered.now.touches (price_of meters prices.now) (take (length offered.now.touches) since.new) }
+    ensures same_room { HasRoomOf pairs.old pairs.new }
+    ensures same_sizes { HasSizesOf search.old search.new }
+{
+    let n = offered.count() as usize;
+    choose_in(
+        g,
+        offered,
+        meters,
+        prices,
+        &mut keys[..n],
+        pairs,
+        search,
+        &mut since[..n],
+        &mut raised[..n],
+        list,
+        steps,
+    )
+}

@@ -1,0 +1,3 @@
+pub mod HeldLemmas
+pub mod LineLemmas
+pub mod WordLemmas

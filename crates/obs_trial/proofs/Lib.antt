@@ -1,0 +1,4 @@
+pub mod CountLemmas
+pub mod NameLemmas
+pub mod RowLemmas
+pub mod ValidLemmas

@@ -1,0 +1,24 @@
+use Rattle.std.proofs.Common.{◌≡◌, ℕ, ◌+◌, ◌-◌, ◌<◌, List, [], ◌∷◌, ◌++◌, length, take, set, refl, ap, ◌∙◌, arith}
+use Rattle.std.proofs.Math.ListN.{length-set}
+use Rattle.std.proofs.lemmas.Slice.{take-put_mid}
+use Rattle.obs_trial.proofs.NameLemmas.{length-decimal}
+use Rattle.obs_trial.proofs.names.numbered.Goals as goal
+
+-- a list whose first item is set begins with it
+first_set : (xs : List ℕ) (x : ℕ) → 0 < length xs → take 1 (set xs 0 x) ≡ x ∷ []
+first_set [] x some = absurd (omega arith)
+first_set (y ∷ xs) x some = refl
+
+pub slice_bounds-copy_from_slice-end : goal.slice_bounds-copy_from_slice-end
+slice_bounds-copy_from_slice-end c = omega (arith, length-decimal c.args.number c.ranges.number.fits, ap length c.text-text.ensures.decimal)
+
+pub returns : goal.returns
+returns c = record {
+  name =
+      let text = c.text-text.result.now in
+      let letter = c.args.letter in
+      let same : length c.copy_from_slice.new.self ≡ length text = ap length c.copy_from_slice.ensures.after in
+      take-put_mid 1 (length text + 1 - 1) (set c.args.room.now 0 letter) c.copy_from_slice.new.self (length text + 1) (omega (arith, same)) (omega (arith, length-set {A = ℕ}))
+      ∙ ap (λ front. front ++ c.copy_from_slice.new.self) (first_set c.args.room.now letter (omega arith))
+      ∙ ap (λ rest. letter ∷ rest) (c.copy_from_slice.ensures.after ∙ c.text-text.ensures.decimal);
+}
