@@ -1,5 +1,5 @@
 -- Passes over the slots and the ways up that keep some of the pairs.
-use Rattle.std.proofs.Common.{◌≡◌, ℕ, ◌+◌, ◌<◌, ◌≤◌, Bool, true, false, Option, Some, None, List, length, get_or, set, refl, sym, ap, ◌∙◌, inl, inr, ◌⊎◌, ◌↔◌, arith, get_or-set_same, get_or-set_other}
+use Rattle.std.proofs.Common.{◌≡◌, ℕ, ◌+◌, ◌<◌, ◌≤◌, Option, Some, None, List, length, get_or, set, refl, sym, ap, ◌∙◌, inl, inr, arith, get_or-set_same, get_or-set_other}
 use Rattle.std.specs.Prelude.{IfSome}
 use Rattle.std.proofs.lemmas.Bool.{cases_eq, cases_lt}
 use Rattle.std.proofs.lemmas.List.{get_or_past}
@@ -13,7 +13,7 @@ use Rattle.obs_forest.specs.Holding.{has_position}
 use Rattle.obs_forest.proofs.Held.{has_position-contains, contains-has_position}
 use Rattle.obs_assign.specs.declared.Move.{Move}
 use Rattle.obs_assign.specs.Kept.{IsInverse}
-use Rattle.obs_assign.specs.Retain.{AreChosen, IsPairUp, LeadsUp, touched_slot}
+use Rattle.obs_assign.specs.Retain.{AreChosen, IsPairUp, touched_slot}
 use Rattle.obs_assign.proofs.Slotted.{none_some, some_same}
 
 -- the branches at v are those with an end there

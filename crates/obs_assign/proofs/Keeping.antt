@@ -1,29 +1,28 @@
 -- What an assignment keeps when its pairs have changed.
-use Rattle.std.proofs.Common.{◌≡◌, ◌≢◌, ℕ, zero, suc, ◌+◌, ◌<◌, ◌≤◌, min, Bool, true, false, Option, Some, None, List, [], ◌∷◌, length, get_or, set, take, refl, sym, ap, ◌∙◌, subst, inl, inr, ◌⊎◌, ◌↔◌, arith, replicate, length-set, get_or-set_same, get_or-set_other}
-use Rattle.std.specs.Prelude.{IfSome, All}
-use Rattle.std.proofs.lemmas.Bool.{cases_eq, cases_lt, cases_Bool}
-use Rattle.std.proofs.lemmas.List.{get_or-take, get_or-replicate, get_or_past, length-take, length-take-le, same_lists, take-replicate, length-replicate}
+use Rattle.std.proofs.Common.{◌≡◌, ◌≢◌, ℕ, suc, ◌+◌, ◌<◌, ◌≤◌, Bool, false, Option, Some, None, List, [], ◌∷◌, length, get_or, set, take, refl, sym, ap, ◌∙◌, subst, inl, inr, arith, replicate, length-set, get_or-set_same, get_or-set_other}
+use Rattle.std.specs.Prelude.{IfSome}
+use Rattle.std.proofs.lemmas.Bool.{cases_eq, cases_lt}
+use Rattle.std.proofs.lemmas.List.{get_or-take, get_or-replicate, get_or_past, length-take, length-take-le, take-replicate, length-replicate}
 use Rattle.std.proofs.Math.Seq.{take-set-lt}
 use Rattle.obs_graph.specs.declared.Ends.{Ends}
 use Rattle.obs_graph.specs.Positions.{IsForestAt}
 use Rattle.obs_graph.specs.Search.{State}
 use Rattle.obs_graph.specs.Shape.{Shape}
 use Rattle.obs_matroid.specs.Lists.{In}
-use Rattle.obs_matroid.specs.Assignments.{Pair, branches, items}
+use Rattle.obs_matroid.specs.Assignments.{Pair, branches}
 use Rattle.obs_matroid.specs.Closed.{HasFrozen}
 use Rattle.obs_matroid.specs.Slots.{pairs_from, pairs_of}
 use Rattle.obs_matroid.proofs.Contained.{In-from_All}
 use Rattle.obs_matroid.proofs.Lists.{clash}
-use Rattle.obs_matroid.proofs.Slots.{slot_at, slot_from}
 use Rattle.obs_meter.specs.declared.Touch.{Touch}
 use Rattle.obs_meter.specs.Touches.{touch_at}
 use Rattle.obs_forest.specs.Holding.{Holding, taken}
 use Rattle.obs_forest.specs.Holding.{StandsOver as ForestStandsOver}
 use Rattle.obs_forest.proofs.Held.{length-taken, part-taken}
 use Rattle.obs_assign.specs.declared.Move.{Move}
-use Rattle.obs_assign.specs.Assigned.{ArePaired, Assigned, HoldsPairs, IsWhole, StandsOver, has_flag, is_frozen, pairs}
-use Rattle.obs_assign.specs.Kept.{HasArrays, IsInverse, IsKept, Lengths, seen}
-use Rattle.obs_assign.specs.Moves.{ArePath, IsPath, moved}
+use Rattle.obs_assign.specs.Assigned.{Assigned, HoldsPairs, IsWhole, StandsOver, has_flag, pairs}
+use Rattle.obs_assign.specs.Kept.{HasArrays, IsInverse, IsKept, IsListed, Lengths, seen}
+use Rattle.obs_assign.specs.Moves.{ArePath, moved}
 use Rattle.obs_assign.proofs.Slotted.{HoldsPairs-taken, IsForestAt-nil, item_slot, none_some, slot_item, slot_low}
 use Rattle.obs_assign.proofs.Moving.{length-moved_path, moved-some}
 
@@ -94,6 +93,15 @@ HasFrozen-clear n m A = λ k t. clash t (clear_flag n m k)
 pub path_low : (a : Assigned) (path : List Move) → ArePath a path → (x : Move) → In x path → x.meter < length a.slots
 path_low a [] h x i = absurd i
 path_low a (first ∷ rest) h x i = In-from_All (λ (y : Move). y.meter < length a.slots) (first ∷ rest) h.low x i
+
+-- the meter of the only move has no pair
+pub only_move : (a : Assigned) (meters : ℕ) (slots : List (Option ℕ)) (path : List Move) (x : Move) → take meters slots ≡ a.slots → ArePath a path → path ≡ x ∷ [] → get_or slots x.meter None ≡ None
+only_move a meters slots path x is h one =
+    let p : ArePath a (x ∷ []) = subst (λ (t : List Move). ArePath a t) one h in
+    let low = path_low a (x ∷ []) p x (inl refl) in
+    let len = ap (λ (s : List (Option ℕ)). length s) is in
+    let front : x.meter < meters = omega (arith, low, len, length-take meters slots) in
+    sym (get_or-take meters slots x.meter None front) ∙ (ap (λ (s : List (Option ℕ)). get_or s x.meter None) is ∙ p.bare)
 
 pub length-path : (a : Assigned) (path : List Move) → ArePath a path → length (pairs_of (moved path a.slots)) ≡ length (pairs a) + 1
 length-path a [] h = absurd h
@@ -181,13 +189,13 @@ HasArrays-same a b meters after n k s h m v p low same =
       order = omega arith;
     }
 
-pub IsKept-by : (a : Assigned) → IsWhole a → (meters count : ℕ) (owners : List (Option ℕ)) (n : Lengths) (s : State) → HasArrays a meters n s → count ≡ length (pairs a) → IsInverse a.slots owners
-    → length owners ≡ a.forest.most_branches → IsKept a meters count owners n s
-IsKept-by a whole meters count owners n s arrays count_is inverse owners_len = record { whole = whole; arrays = arrays; count_is = count_is; inverse = inverse; owners_len = owners_len }
+pub IsKept-by : (a : Assigned) → IsWhole a → (meters count : ℕ) (owners : List (Option ℕ)) (list : List ℕ) (n : Lengths) (s : State) → HasArrays a meters n s → count ≡ length (pairs a) → IsInverse a.slots owners
+    → length owners ≡ a.forest.most_branches → IsListed a.slots list → IsKept a meters count owners list n s
+IsKept-by a whole meters count owners list n s arrays count_is inverse owners_len listed = record { whole = whole; arrays = arrays; count_is = count_is; inverse = inverse; owners_len = owners_len; listed = listed }
 
 -- no pair, and nothing in use
 pub IsKept-none : (slots : List (Option ℕ)) (frozen : List Bool) (forest : Holding) (owners : List (Option ℕ)) (n : Lengths) (s : State) (v b : ℕ) → forest ≡ record { vertices = 0; held = []; most_vertices = v; most_branches = b }
-    → ((k : ℕ) → get_or owners k None ≡ None) → length owners ≡ b → HasArrays (seen 0 slots frozen 0 forest) 0 n s → IsKept (seen 0 slots frozen 0 forest) 0 0 owners n s
+    → ((k : ℕ) → get_or owners k None ≡ None) → length owners ≡ b → HasArrays (seen 0 slots frozen 0 forest) 0 n s → IsKept (seen 0 slots frozen 0 forest) 0 0 owners [] n s
 IsKept-none slots frozen forest owners n s v b is none len arrays =
     let fv = ap (λ (h : Holding). h.vertices) is in
     let fb = ap (λ (h : Holding). h.most_branches) is in
@@ -207,4 +215,5 @@ IsKept-none slots frozen forest owners n s v b is none len arrays =
       count_is = refl;
       inverse = λ m e. ((λ h. absurd (none_some e h)), (λ h. absurd (none_some m (sym (none e) ∙ h))));
       owners_len = omega (arith, len, fb);
+      listed = record { different = tt; exactly = λ e. ((λ i. i), (λ i. i)) };
     }

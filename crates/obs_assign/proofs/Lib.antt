@@ -1,4 +1,5 @@
 pub mod Slotted
+pub mod Listed
 pub mod Listing
 pub mod Moving
 pub mod Standing

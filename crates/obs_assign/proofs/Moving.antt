@@ -1,5 +1,5 @@
 -- Slots after moves.
-use Rattle.std.proofs.Common.{◌≡◌, ◌≢◌, ℕ, zero, suc, ◌+◌, ◌<◌, ◌≤◌, Option, Some, None, List, [], ◌∷◌, length, get_or, set, map, refl, sym, ap, ◌∙◌, inl, inr, ◌⊎◌, ◌↔◌, arith, get_or-set_same, get_or-set_other, length-set}
+use Rattle.std.proofs.Common.{◌≡◌, ◌≢◌, ℕ, zero, suc, ◌+◌, ◌<◌, Option, Some, None, List, [], ◌∷◌, length, get_or, set, map, refl, sym, ap, ◌∙◌, inl, inr, ◌↔◌, arith, get_or-set_same, get_or-set_other, length-set}
 use Rattle.std.proofs.lemmas.Bool.{cases_eq}
 use Rattle.obs_matroid.specs.Lists.{In}
 use Rattle.obs_matroid.specs.Assignments.{Pair}
@@ -9,7 +9,7 @@ use Rattle.obs_matroid.proofs.Order.{put_all_within}
 use Rattle.obs_matroid.proofs.Slots.{slots_put}
 use Rattle.obs_assign.specs.declared.Move.{Move}
 use Rattle.obs_assign.specs.Moves.{moved}
-use Rattle.obs_assign.proofs.Slotted.{some_same, none_some, slot_low}
+use Rattle.obs_assign.proofs.Slotted.{none_some, slot_low}
 
 -- the pair that a move makes
 abbrev pub pair_of : Move → Pair

@@ -1,20 +1,20 @@
 -- Which meter may give up its pair for a branch e: what the held branches join, and the path between the ends of e.
-use Rattle.std.proofs.Common.{◌≡◌, ℕ, ◌+◌, ◌<◌, ◌≤◌, Bool, true, false, Option, Some, None, List, length, get_or, refl, sym, ap, ◌∙◌, subst, inl, inr, ◌⊎◌, ◌↔◌, arith}
-use Rattle.std.specs.Prelude.{MatchOption, IfSome, IsSome, is_some, All}
+use Rattle.std.proofs.Common.{◌≡◌, ℕ, ◌<◌, Bool, true, false, Option, Some, None, List, length, get_or, refl, sym, ap, ◌∙◌, subst, inl, inr}
+use Rattle.std.specs.Prelude.{MatchOption, IfSome, IsSome, is_some}
 use Rattle.std.specs.List.{Contains}
 use Rattle.std.proofs.lemmas.Bool.{cases_eq, cases_Bool}
 use Rattle.obs_graph.specs.declared.Ends.{Ends}
-use Rattle.obs_graph.specs.Joined.{first_joined, is_joined}
+use Rattle.obs_graph.specs.Joined.{first_joined}
 use Rattle.obs_graph.specs.Positions.{AreBranches, ends_of, present}
 use Rattle.obs_graph.specs.Search.{IsPart}
-use Rattle.obs_graph.proofs.AtPositions.{contains-ends_of, ends_of-contains, there_at}
+use Rattle.obs_graph.proofs.AtPositions.{contains-ends_of, ends_of-contains}
 use Rattle.obs_graph.proofs.Forests.{AreAmong, same_first-among}
 use Rattle.obs_graph.proofs.IsJoined.{same-from_true, true-from_same, apart-from_false, false-from_apart}
 use Rattle.obs_graph.proofs.Present.{contains_present, present_contains}
 use Rattle.obs_matroid.specs.Lists.{In, other_than}
-use Rattle.obs_matroid.specs.Assignments.{Pair, branches, others, part}
+use Rattle.obs_matroid.specs.Assignments.{branches, others, part}
 use Rattle.obs_matroid.specs.Slots.{pairs_of}
-use Rattle.obs_matroid.proofs.Lists.{clash, other_true, other_ne, other_self}
+use Rattle.obs_matroid.proofs.Lists.{clash, other_true, other_ne}
 use Rattle.obs_matroid.proofs.Pairs.{In-branches, In-branches_from, In-part, In-part_from, own}
 use Rattle.obs_matroid.proofs.Contained.{Contains-from_In, In-from_Contains, In-from_All}
 use Rattle.obs_matroid.proofs.Graphs.{joined_member}
@@ -26,10 +26,10 @@ use Rattle.obs_forest.specs.Cycle.{IsCycle, without}
 use Rattle.obs_forest.proofs.Without.{other_present}
 use Rattle.obs_forest.proofs.Keeping.{present_low}
 use Rattle.obs_assign.specs.Assigned.{ArePaired, Assigned, HoldsPairs, frozen_branches, has_flag, is_frozen}
-use Rattle.obs_assign.specs.Kept.{IsInverse, SlotsApart}
+use Rattle.obs_assign.specs.Kept.{IsInverse}
 use Rattle.obs_assign.specs.Pins.{MayPin, joins}
 use Rattle.obs_assign.specs.Spare.{IsSpare, IsSpareOf}
-use Rattle.obs_assign.proofs.Slotted.{IsForestAt-over, branch_slot, slot_branch, slot_low, slots_apart, some_same, none_some}
+use Rattle.obs_assign.proofs.Slotted.{IsForestAt-over, branch_slot, slot_branch, slot_low, slots_apart}
 
 -- more branches join more
 pub joined-more : (ends : List (Option Ends)) (L K : List ℕ) (u v : ℕ) → ((p : ℕ) → In p L → In p K) → joined_at ends L u v ≡ true → joined_at ends K u v ≡ true

@@ -1,13 +1,12 @@
 -- An assignment after a pin, and after the pairs were carried over.
-use Rattle.std.proofs.Common.{◌≡◌, ℕ, zero, suc, ◌+◌, ◌<◌, ◌≤◌, Bool, true, false, Option, Some, None, List, [], ◌∷◌, length, get_or, set, take, refl, sym, ap, ◌∙◌, subst, inl, inr, ◌⊎◌, arith, replicate, length-set, get_or-set_same, get_or-set_other}
+use Rattle.std.proofs.Common.{◌≡◌, ℕ, zero, suc, ◌+◌, ◌<◌, ◌≤◌, Bool, true, false, Option, Some, None, List, [], ◌∷◌, length, get_or, set, take, refl, sym, ap, ◌∙◌, subst, inl, inr, arith, replicate, length-set, get_or-set_other}
 use Rattle.std.proofs.lemmas.Bool.{cases_eq}
 use Rattle.std.proofs.lemmas.List.{length-replicate, length-take-le}
 use Rattle.std.proofs.Math.Seq.{take-set-lt}
-use Rattle.obs_graph.specs.declared.Ends.{Ends}
 use Rattle.obs_graph.specs.Positions.{AreBranches, IsForestAt}
 use Rattle.obs_graph.specs.Shape.{Shape}
 use Rattle.obs_matroid.specs.Lists.{In, other_than}
-use Rattle.obs_matroid.specs.Assignments.{Pair, branches, others, part}
+use Rattle.obs_matroid.specs.Assignments.{branches, others, part}
 use Rattle.obs_matroid.specs.Closed.{HasFrozen}
 use Rattle.obs_matroid.specs.Exchange.{pinned}
 use Rattle.obs_matroid.specs.Slots.{pairs_from, pairs_of}
@@ -23,12 +22,12 @@ use Rattle.obs_meter.proofs.Assigned.{forest_at-from_independent, independent-fr
 use Rattle.obs_meter.proofs.Instance.{IsMatroid-graph}
 use Rattle.obs_forest.specs.Holding.{Holding, taken}
 use Rattle.obs_forest.specs.Holding.{StandsOver as ForestStandsOver}
-use Rattle.obs_assign.specs.Assigned.{Assigned, HoldsPairs, IsWhole, StandsOver, frozen_branches, has_flag, is_frozen, pairs}
-use Rattle.obs_assign.specs.Kept.{SlotsApart, seen}
-use Rattle.obs_assign.specs.Pins.{IsPinnedAt, joins, pinned_slots}
+use Rattle.obs_assign.specs.Assigned.{Assigned, HoldsPairs, IsWhole, StandsOver, has_flag, is_frozen, pairs}
+use Rattle.obs_assign.specs.Kept.{seen}
+use Rattle.obs_assign.specs.Pins.{IsPinnedAt, pinned_slots}
 use Rattle.obs_assign.specs.Spare.{IsSpare}
 use Rattle.obs_assign.specs.Still.{AreRetained}
-use Rattle.obs_assign.proofs.Slotted.{IsForestAt-over, branch_low, item_slot, none_some, slot_item, slot_low, slots_apart}
+use Rattle.obs_assign.proofs.Slotted.{IsForestAt-over, branch_low, item_slot, slot_item}
 use Rattle.obs_assign.proofs.Moving.{length-put_bare, length-put_paired}
 use Rattle.obs_assign.proofs.Pinning.{pinned-at, pinned-from, pinned-other}
 use Rattle.obs_assign.proofs.Paths.{joins-own}

@@ -1,5 +1,5 @@
 -- Slots after a pin, where the branches stay the same.
-use Rattle.std.proofs.Common.{◌≡◌, ℕ, ◌+◌, ◌<◌, ◌≤◌, Option, Some, None, List, length, get_or, set, take, refl, sym, ap, ◌∙◌, inl, inr, ◌⊎◌, ◌↔◌, arith, get_or-set_same, get_or-set_other, length-set}
+use Rattle.std.proofs.Common.{◌≡◌, ℕ, ◌<◌, Option, Some, None, List, length, get_or, set, take, refl, sym, ap, ◌∙◌, inl, inr, ◌⊎◌, ◌↔◌, arith, get_or-set_same, get_or-set_other, length-set}
 use Rattle.std.specs.Prelude.{IsSome}
 use Rattle.std.proofs.lemmas.Bool.{cases_eq, cases_lt}
 use Rattle.std.proofs.lemmas.List.{get_or_past}
@@ -76,7 +76,7 @@ module _ (slots : List (Option ℕ)) (m e x : ℕ) (low : m < length slots) wher
       ]),
     )
 
-    same_branches : (f : ℕ) → In f (branches (pairs_of (pinned_slots slots m e x))) ↔ In f (branches (pairs_of slots))
+    pub same_branches : (f : ℕ) → In f (branches (pairs_of (pinned_slots slots m e x))) ↔ In f (branches (pairs_of slots))
     same_branches f = (
       (λ i. let s = branch_slot (pinned_slots slots m e x) f i in
           elim (pinned-from s.0 f s.1) [

@@ -1,21 +1,21 @@
 -- The branches that lead up after a search: a forest that joins what all held branches join.
-use Rattle.std.proofs.Common.{◌≡◌, ℕ, zero, suc, ◌+◌, ◌<◌, ◌≤◌, Bool, true, false, cond, not, eqb, Option, Some, None, List, [], ◌∷◌, length, get_or, refl, sym, ap, ◌∙◌, subst, inl, inr, ◌⊎◌, ◌↔◌, arith, eq-eqb}
-use Rattle.std.specs.Prelude.{IsSome, is_some, All, MatchOption, slice_index_or}
-use Rattle.std.specs.List.{Contains, cons_option}
-use Rattle.std.proofs.lemmas.Bool.{cases_eq, cases_lt, ne_eqb}
+use Rattle.std.proofs.Common.{◌≡◌, ℕ, zero, suc, ◌<◌, ◌≤◌, Bool, true, false, cond, not, Option, Some, None, List, [], length, get_or, refl, sym, ap, ◌∙◌, subst, inl, inr, ◌⊎◌, arith, eq-eqb}
+use Rattle.std.specs.Prelude.{IsSome, is_some, All, slice_index_or}
+use Rattle.std.specs.List.{cons_option}
+use Rattle.std.proofs.lemmas.Bool.{cases_eq, ne_eqb}
 use Rattle.std.proofs.lemmas.List.Elements.{Contains-get_or}
 use Rattle.obs_graph.specs.declared.Ends.{Ends}
 use Rattle.obs_graph.specs.declared.search.Up.{Up}
-use Rattle.obs_graph.specs.Joined.{InRange, Leads, count_below, first_joined, is_joined, rank}
+use Rattle.obs_graph.specs.Joined.{InRange, Leads, count_below, first_joined}
 use Rattle.obs_graph.specs.Positions.{AreBranches, IsForestAt, ends_of, present}
-use Rattle.obs_graph.specs.Search.{AreBelow, AreWaysUp, IsPart, IsWayUp, Reaches}
+use Rattle.obs_graph.specs.Search.{AreWaysUp, IsPart, IsWayUp, Reaches}
 use Rattle.obs_graph.proofs.AtPositions.{IsForestAt-among, IsForestAt-by_rank, contains-ends_of, ends_of-contains, length-ends_of}
 use Rattle.obs_graph.proofs.Chains.{first_joined-contains}
 use Rattle.obs_graph.proofs.Forests.{rank-le-length}
 use Rattle.obs_graph.proofs.Present.{AreBelow-part, branch_at, contains_present, present_contains, some_is_in}
 use Rattle.obs_graph.proofs.Ranks.{is_moved, rank-le, rank_is}
 use Rattle.obs_matroid.specs.Lists.{In}
-use Rattle.obs_matroid.specs.Assignments.{Pair, branches}
+use Rattle.obs_matroid.specs.Assignments.{branches}
 use Rattle.obs_matroid.specs.Slots.{pairs_of}
 use Rattle.obs_matroid.proofs.Contained.{All-from_In, Contains-from_In, In-from_Contains, pairs_from_IsDistinct}
 use Rattle.obs_matroid.proofs.Lists.{In-filter, In-filter_from}
@@ -26,10 +26,9 @@ use Rattle.obs_meter.specs.declared.Touch.TheVariants.{Nothing}
 use Rattle.obs_meter.specs.Touches.{touch_at}
 use Rattle.obs_meter.specs.Spanned.{joined_at}
 use Rattle.obs_meter.proofs.Touched.{touched-present}
-use Rattle.obs_forest.specs.Holding.{has_position, taken}
+use Rattle.obs_forest.specs.Holding.{taken}
 use Rattle.obs_forest.proofs.Held.{has_position-contains, part-taken, taken-at, taken-some}
 use Rattle.obs_assign.specs.Kept.{SlotsApart}
-use Rattle.obs_assign.specs.Pins.{joins}
 use Rattle.obs_assign.specs.Retain.{AreChosen, touched_slot}
 use Rattle.obs_assign.specs.Still.{AreRetained, is_still}
 use Rattle.obs_assign.proofs.Slotted.{branch_slot, distinct-from_apart, none_some, slot_branch, some_same}

@@ -1,7 +1,6 @@
 -- The pairs of slots, and their branches.
-use Rattle.std.proofs.Common.{◌≡◌, ◌≢◌, ℕ, zero, suc, ◌+◌, ◌<◌, ◌≤◌, Bool, true, false, Option, Some, None, List, [], ◌∷◌, length, get_or, set, refl, sym, ap, ◌∙◌, subst, inl, inr, ◌⊎◌, ◌↔◌, arith}
-use Rattle.std.specs.Prelude.{IsSome, is_some, All, AllPairs}
-use Rattle.std.specs.List.{Contains}
+use Rattle.std.proofs.Common.{◌≡◌, ℕ, suc, ◌<◌, ◌≤◌, Option, Some, None, List, [], ◌∷◌, length, get_or, refl, sym, ap, ◌∙◌, subst, inl, inr, ◌↔◌, arith}
+use Rattle.std.specs.Prelude.{IsSome, is_some}
 use Rattle.std.proofs.lemmas.Bool.{cases_lt}
 use Rattle.std.proofs.lemmas.List.{get_or_past}
 use Rattle.obs_graph.specs.declared.Ends.{Ends}
@@ -15,13 +14,12 @@ use Rattle.obs_matroid.specs.Lists.{In, IsDistinct}
 use Rattle.obs_matroid.specs.Assignments.{Pair, items, branches}
 use Rattle.obs_matroid.specs.Slots.{pairs_from, pairs_of}
 use Rattle.obs_matroid.proofs.Lists.{length-within}
-use Rattle.obs_matroid.proofs.Pairs.{In-branches, In-branches_from, In-items, In-items_from}
+use Rattle.obs_matroid.proofs.Pairs.{In-branches, In-branches_from, In-items, In-items_from, same_pair_by_branch}
 use Rattle.obs_matroid.proofs.Bounds.{length-branches}
-use Rattle.obs_matroid.proofs.Others.{same_pair_by_branch}
 use Rattle.obs_matroid.proofs.Contained.{Contains-from_In, In-from_Contains, In-from_All, All-from_In, IsDistinct-from_pairs, pairs_from_IsDistinct}
 use Rattle.obs_matroid.proofs.Slots.{slot_from, slot_at, IsDistinct-slots}
 use Rattle.obs_forest.specs.Holding.{taken}
-use Rattle.obs_forest.proofs.Held.{taken-at, length-taken, part-taken}
+use Rattle.obs_forest.proofs.Held.{taken-at}
 use Rattle.obs_forest.proofs.Keeping.{positions_in, held_exactly}
 use Rattle.obs_assign.specs.Assigned.{HoldsPairs}
 use Rattle.obs_assign.specs.Kept.{SlotsApart}
@@ -35,6 +33,15 @@ none_some a e = absurd cc
 -- a slot with a branch is one of the list
 pub slot_low : (slots : List (Option ℕ)) (m e : ℕ) → get_or slots m None ≡ Some e → m < length slots
 slot_low slots m e h = elim (cases_lt m (length slots)) [ inl l ↦ l | inr l ↦ absurd (none_some e (sym (get_or_past slots m None l) ∙ h)) ]
+
+-- each pair has a slot
+pairs_few : (n : ℕ) (slots : List (Option ℕ)) → length (pairs_from n slots) ≤ length slots
+pairs_few n [] = omega arith
+pairs_few n (None ∷ slots) = let l = pairs_few (suc n) slots in omega arith
+pairs_few n (Some e ∷ slots) = let l = pairs_few (suc n) slots in omega arith
+
+pub length-pairs_of : (slots : List (Option ℕ)) → length (pairs_of slots) ≤ length slots
+length-pairs_of slots = pairs_few 0 slots
 
 pub slot_branch : (slots : List (Option ℕ)) (m e : ℕ) → get_or slots m None ≡ Some e → In e (branches (pairs_of slots))
 slot_branch slots m e h = In-branches (pairs_of slots) (m, e) (slot_at slots m e h)

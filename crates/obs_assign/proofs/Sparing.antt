@@ -1,13 +1,13 @@
 -- A pass over branches that looks for a meter that may give up its pair.
-use Rattle.std.proofs.Common.{◌≡◌, ℕ, zero, suc, ◌+◌, ◌<◌, ◌≤◌, Bool, true, false, Option, Some, None, List, [], ◌∷◌, length, get_or, refl, sym, ap, ◌∙◌, inl, inr, ◌⊎◌, arith}
-use Rattle.std.specs.Prelude.{MatchOption, All, IsSome}
+use Rattle.std.proofs.Common.{◌≡◌, ℕ, ◌+◌, ◌<◌, Bool, true, false, Option, Some, None, List, length, get_or, refl, sym, ap, ◌∙◌, inl, inr, arith}
+use Rattle.std.specs.Prelude.{MatchOption}
 use Rattle.std.specs.List.{Contains}
 use Rattle.std.proofs.lemmas.Bool.{cases_eq}
 use Rattle.std.proofs.lemmas.List.{get_or_default}
 use Rattle.std.proofs.lemmas.List.Elements.{Contains-get_or}
 use Rattle.obs_assign.specs.Assigned.{has_flag}
 use Rattle.obs_assign.specs.Spare.{IsSpareOf}
-use Rattle.obs_assign.proofs.Slotted.{some_same, none_some}
+use Rattle.obs_assign.proofs.Slotted.{some_same}
 
 -- a meter of one of the first i branches isn't frozen
 abbrev pub IsFree : List ℕ → List (Option ℕ) → List Bool → ℕ → ℕ → Type 0

@@ -1,27 +1,24 @@
 -- An assignment that stands over a graph and meters, and its laws.
-use Rattle.std.proofs.Common.{◌≡◌, ℕ, zero, suc, ◌+◌, ◌<◌, ◌≤◌, Bool, true, false, Option, Some, None, List, [], ◌∷◌, length, get_or, refl, sym, ap, ◌∙◌, inl, inr, ◌⊎◌, ◌↔◌, arith}
-use Rattle.std.specs.List.{range_with_len, Contains}
+use Rattle.std.proofs.Common.{◌≡◌, ℕ, zero, suc, ◌+◌, ◌<◌, ◌≤◌, Bool, Option, List, length, inl, inr, arith}
+use Rattle.std.specs.List.{range_with_len}
 use Rattle.std.proofs.lemmas.Bool.{cases_eq}
 use Rattle.obs_graph.specs.declared.Ends.{Ends}
 use Rattle.obs_graph.specs.Positions.{AreBranches, IsForestAt}
 use Rattle.obs_graph.specs.Shape.{Shape}
 use Rattle.obs_matroid.specs.Lists.{In}
-use Rattle.obs_matroid.specs.Matroid.{IsMatroid}
 use Rattle.obs_matroid.specs.Assignments.{Pair, branches}
-use Rattle.obs_matroid.specs.Slots.{pairs_of}
 use Rattle.obs_matroid.proofs.Lists.{In-filter, In-filter_from}
 use Rattle.obs_matroid.proofs.Contained.{Contains-from_In, In-from_Contains}
-use Rattle.obs_matroid.proofs.Pairs.{In-branches, In-branches_from, branches_within}
+use Rattle.obs_matroid.proofs.Pairs.{In-branches_from, branches_within}
 use Rattle.obs_matroid.proofs.Ranks.{rank-independent, rank-within}
 use Rattle.obs_matroid.proofs.Bounds.{length-branches, weak_bound}
-use Rattle.obs_matroid.proofs.Slots.{slot_from, slot_at, IsDistinct-slots}
+use Rattle.obs_matroid.proofs.Slots.{slot_from, IsDistinct-slots}
 use Rattle.obs_meter.specs.declared.Touch.{Touch}
 use Rattle.obs_meter.specs.Touches.{every_item, touch_at}
 use Rattle.obs_meter.specs.Assignments.{IsAssignmentAt, bound_at}
 use Rattle.obs_meter.specs.Spanned.{graph_matroid, rank_at}
 use Rattle.obs_meter.proofs.Assigned.{to_matroid, independent-from_forest_at}
 use Rattle.obs_meter.proofs.Instance.{IsMatroid-graph}
-use Rattle.obs_forest.specs.Holding.{has_position}
 use Rattle.obs_forest.proofs.Held.{has_position-contains, contains-has_position}
 use Rattle.obs_assign.specs.Assigned.{Assigned, IsWhole, StandsOver, pairs}
 use Rattle.obs_assign.specs.Still.{AreRetained, is_still, still}

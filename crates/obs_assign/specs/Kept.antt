@@ -1,6 +1,9 @@
 -- What the arrays of an assignment keep.
 use Rattle.std.specs.Prelude.{◌≡◌, ◌↔◌, ℕ, ◌≤◌, ◌<◌, ◌^◌, Bool, Option, Some, None, List, length, take, slice_index_or}
 use Rattle.obs_graph.specs.Search.{State}
+use Rattle.obs_matroid.specs.Lists.{In, IsDistinct}
+use Rattle.obs_matroid.specs.Assignments.{branches}
+use Rattle.obs_matroid.specs.Slots.{pairs_of}
 use Rattle.obs_forest.specs.Holding.{Holding}
 use Rattle.obs_assign.specs.Assigned.{Assigned, pairs, IsWhole}
 
@@ -16,6 +19,11 @@ IsInverse slots owners = (m e : ℕ) → (slice_index_or slots m None ≡ Some e
 -- no two meters have one branch
 abbrev pub SlotsApart : List (Option ℕ) → Type 0
 SlotsApart slots = (m n e : ℕ) → slice_index_or slots m None ≡ Some e → slice_index_or slots n None ≡ Some e → m ≡ n
+
+-- the list has the branches of the pairs, each once
+pub record IsListed (slots : List (Option ℕ)) (list : List ℕ) : Type 0 where
+  pub different : IsDistinct list
+  pub exactly : (e : ℕ) → In e list ↔ In e (branches (pairs_of slots))
 
 -- how many places the arrays have
 pub record Lengths : Type 0 where
@@ -37,10 +45,11 @@ pub record HasArrays (a : Assigned) (meters : ℕ) (n : Lengths) (s : State) : T
   pub depths : length s.depths ≡ a.forest.most_vertices
   pub order : length s.order ≡ a.forest.most_vertices
 
--- the pairs are counted, and found by their branch
-pub record IsKept (a : Assigned) (meters count : ℕ) (owners : List (Option ℕ)) (n : Lengths) (s : State) : Type 0 where
+-- the pairs are counted, and found by their branch, and their branches are listed
+pub record IsKept (a : Assigned) (meters count : ℕ) (owners : List (Option ℕ)) (list : List ℕ) (n : Lengths) (s : State) : Type 0 where
   pub whole : IsWhole a
   pub arrays : HasArrays a meters n s
   pub count_is : count ≡ length (pairs a)
   pub inverse : IsInverse a.slots owners
   pub owners_len : length owners ≡ a.forest.most_branches
+  pub listed : IsListed a.slots list

@@ -1,5 +1,5 @@
 -- Moves of an assignment, and its turns.
-use Rattle.std.specs.Prelude.{◌≡◌, ◌≢◌, ℕ, ◌+◌, ◌<◌, false, min, Option, Some, None, List, [], ◌∷◌, All, AllPairs, length, slice_index_or, slice_set}
+use Rattle.std.specs.Prelude.{◌≡◌, ◌≢◌, ℕ, ◌+◌, ◌<◌, false, min, Option, Some, None, List, [], ◌∷◌, All, AllPairs, length, slice_set}
 use Rattle.obs_assign.specs.declared.Move.{Move}
 use Rattle.obs_assign.specs.Assigned.{Assigned, branch_at, is_frozen}
 

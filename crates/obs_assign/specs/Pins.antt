@@ -1,10 +1,9 @@
 -- Pairs that are pinned: the meter is frozen and keeps its branch.
-use Rattle.std.specs.Prelude.{◌≡◌, ◌⊎◌, ℕ, Bool, true, false, Option, Some, None, List, length, slice_index_or, slice_set, ◌<◌}
+use Rattle.std.specs.Prelude.{◌≡◌, ◌⊎◌, ℕ, Bool, true, false, Option, Some, None, List, length, slice_set, ◌<◌}
 use Rattle.obs_graph.specs.declared.Ends.{Ends}
-use Rattle.obs_matroid.specs.Assignments.{branches, others}
-use Rattle.obs_matroid.specs.Slots.{pairs_of}
+use Rattle.obs_matroid.specs.Assignments.{others}
 use Rattle.obs_meter.specs.Spanned.{ends_at, joined_at}
-use Rattle.obs_assign.specs.Assigned.{Assigned, branch_at, frozen_branches, has_flag, is_frozen, pairs}
+use Rattle.obs_assign.specs.Assigned.{Assigned, branch_at, frozen_branches, is_frozen, pairs}
 
 -- whether the branches at these positions join the two ends of e
 abbrev pub joins : List (Option Ends) → List ℕ → ℕ → Bool

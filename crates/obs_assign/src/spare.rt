@@ -6,7 +6,7 @@ ghost use Rattle.obs_matroid.specs.Lists.{other_than};
 ghost use Rattle.obs_matroid.specs.Slots.{pairs_of};
 ghost use Rattle.obs_forest.specs.Holding.{StandsOver};
 ghost use Rattle.obs_assign.specs.Assigned.{ArePaired, HoldsPairs, has_flag};
-ghost use Rattle.obs_assign.specs.Kept.{IsInverse};
+ghost use Rattle.obs_assign.specs.Kept.{IsInverse, IsListed};
 ghost use Rattle.obs_assign.specs.Pins.{joins, pinned_slots};
 ghost use Rattle.obs_assign.specs.Spare.{IsSpare, IsSpareOf};
 
@@ -115,12 +115,14 @@ pub fn take_pin(
     requires stands { StandsOver forest.old g.now }
     requires inverse { IsInverse (take meters slots.old) owners.old }
     requires holds { HoldsPairs (take meters slots.old) forest.old.held }
+    requires listed { IsListed (take meters slots.old) (take count list.old) }
     requires count { count ≡ length (pairs_of (take meters slots.old)) }
     requires spare { (y : ℕ) → slice_index_or (take meters slots.old) y None ≡ Some pin.branch → y ≡ x }
     requires forest { IsForestAt g.now.ends (branches (pairs_of (pinned_slots (take meters slots.old) pin.meter pin.branch x))) }
     ensures slots { take meters slots.new ≡ pinned_slots (take meters slots.old) pin.meter pin.branch x }
     ensures inverse { IsInverse (take meters slots.new) owners.new }
     ensures count { result ≡ length (pairs_of (take meters slots.new)) }
+    ensures listed { IsListed (take meters slots.new) (take result list.new) }
     ensures holds { HoldsPairs (take meters slots.new) forest.new.held }
     ensures stands { StandsOver forest.new g.now }
     ensures most_vertices { forest.new.most_vertices ≡ forest.old.most_vertices }

@@ -12,7 +12,7 @@ ghost use Rattle.obs_assign.specs.Pins.{IsPinnedAt, MayPin};
 ghost use Rattle.obs_assign.specs.Still.{AreRetained};
 
 use crate::Move;
-use crate::hold::{clear_flags, empty, hold_pairs, write_moves};
+use crate::hold::{clear_flags, empty, hold_pairs, take_path};
 use crate::memory::NoMemory;
 use crate::retain::retain;
 use crate::spare::{spare_for, take_pin};
@@ -44,7 +44,7 @@ pub struct Assignment {
 }
 
 impl Model for Assignment {
-    ghost use Rattle.std.specs.Prelude.{length};
+    ghost use Rattle.std.specs.Prelude.{length, take};
     ghost use Rattle.obs_graph.specs.Search.{state_of};
     ghost use Rattle.obs_assign.specs.Assigned.{Assigned};
     ghost use Rattle.obs_assign.specs.Kept.{seen, IsKept};
@@ -54,7 +54,7 @@ impl Model for Assignment {
     ghost view = { λ a. seen a.meters a.slots.items a.frozen.items a.turns a.forest };
 
     ghost invariant = { λ a.
-        IsKept (seen a.meters a.slots.items a.frozen.items a.turns a.forest) a.meters a.count a.owners.items
+        IsKept (seen a.meters a.slots.items a.frozen.items a.turns a.forest) a.meters a.count a.owners.items (take a.count a.list.items)
         (record { frozen = length a.frozen.items; list = length a.list.items; path = length a.path.items; candidates = length a.candidates.items })
         (state_of a.search) };
 }
@@ -198,14 +198,15 @@ impl Assignment {
         ensures same_room { HasRoomOf self.old self.new }
     {
         let _ = ms;
-        write_moves(path, &mut self.slots);
-        self.count = hold_pairs(
+        self.count = take_path(
             g,
             self.meters,
-            &self.slots,
+            &mut self.slots,
             &mut self.owners,
             &mut self.list,
             &mut self.forest,
+            self.count,
+            path,
         );
         self.turns = turn(self.turns, steps);
     }

@@ -28,25 +28,26 @@ room_again g touches v w s r = record {
   vertices = let a = s.vertices in let b = r.vertices in omega (arith, a, b);
 }
 
-module _ (g : Shape) (touches : List Touch) (a b : Assigned) (v w : Working) (h : IsGrowing g touches a v) (stands : StandsOver b g touches) (sizes : HasSizesOf v w) where
-  pub Growing-more : (m : ℕ) → HasGrown g.ends touches All a b m → IsGrowing g touches b w
-  Growing-more m k = record {
-    stands = stands;
-    room = room_again g touches v w sizes h.room;
-    thawed = λ x. ap (λ (f : List Bool). has_flag f x) k.frozen ∙ h.thawed x;
-  }
+module _ (g : Shape) (touches : List Touch) (a b : Assigned) (thawed : (m : ℕ) → is_frozen a m ≡ false) where
+  pub thawed_grown : (m : ℕ) → HasGrown g.ends touches All a b m → (x : ℕ) → is_frozen b x ≡ false
+  thawed_grown m k x = ap (λ (f : List Bool). has_flag f x) k.frozen ∙ thawed x
 
-  pub Growing-smaller : (m : ℕ) → HasGrown g.ends touches All a b m → length touches - length (pairs b) < length touches - length (pairs a)
-  Growing-smaller m k = let few = pairs_few g touches b stands in let l = k.longer in omega (arith, few, l)
+  pub thawed_closed : (flags : List Bool) → HasClosed g.ends touches All a b flags → (x : ℕ) → is_frozen b x ≡ false
+  thawed_closed flags k x = ap (λ (c : Assigned). is_frozen c x) k.same ∙ thawed x
 
-  pub Growing-closed : IsWhole b → (flags : List Bool) → HasClosed g.ends touches All a b flags → IsSearched g touches b flags
-  Growing-closed whole flags k = record {
+  pub searched_closed : StandsOver b g touches → IsWhole b → (flags : List Bool) → HasClosed g.ends touches All a b flags → IsSearched g touches b flags
+  searched_closed stands whole flags k = record {
     stands = stands;
     whole = whole;
-    thawed = λ x. ap (λ (c : Assigned). is_frozen c x) k.same ∙ h.thawed x;
+    thawed = thawed_closed flags k;
     one_each = k.flags;
     closed = subst (λ (c : Assigned). IsLeastClosedAt g.ends touches All c (has_flag flags)) (sym k.same) k.least;
   }
+
+-- a longer assignment leaves less to be added
+pub Growing-smaller : (g : Shape) (touches : List Touch) (a b : Assigned) → StandsOver b g touches → length (pairs a) < length (pairs b)
+    → length touches - length (pairs b) < length touches - length (pairs a)
+Growing-smaller g touches a b stands longer = let few = pairs_few g touches b stands in omega (arith, few, longer)
 
 -- without a pair nothing is frozen
 pub bare_thawed : (a : Assigned) → IsWhole a → pairs a ≡ [] → (m : ℕ) → is_frozen a m ≡ false

@@ -12,7 +12,7 @@ use Rattle.obs_case_csv.proofs.TableLemmas.{SwitchingIsRead-holds}
 use Rattle.obs_ieee_cdf.specs.declared.fault.CdfFault.{CdfFault}
 use Rattle.obs_ieee_cdf.specs.Read.{as_end, tables_after, with_tables}
 use Rattle.obs_ieee_cdf.specs.Rows.{cdf_of}
-use Rattle.obs_ieee_cdf.proofs.ValidLemmas.{CasesAreValid-holds as cdf_case-valid}
+use Rattle.obs_ieee_cdf.proofs.CaseLemmas.{CasesAreValid-holds as cdf_case-valid}
 use Rattle.obs_engine.specs.declared.words.CaseForm.{CaseForm}
 use Rattle.obs_engine.specs.declared.words.CaseForm.TheVariants.{Csv, Cdf}
 use Rattle.obs_engine.specs.Files.{case_in_files, case_of_tables, case_with_meters, cdf_case, csv_case, if_fits, is_too_long, switching_case}

@@ -42,6 +42,7 @@ pub fn run<F: Files, S: Source, W: Sink>(
 
     // A call that fails ends the run, which says so: with another answer the counts are as they were.
     ensures quiet_files { result ≢ Status.ReadFault → (w : ℕ) → F.faults files.new w ≡ F.faults files.old w }
+    ensures quiet_input { result ≢ Status.ReadFault → S.faults input.new ≡ S.faults input.old }
     ensures quiet_output { result ≢ Status.WriteFault → W.faults output.new ≡ W.faults output.old }
 
     // What a run leaves that found no memory, or that didn't get its files.

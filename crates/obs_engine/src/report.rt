@@ -4,7 +4,7 @@ ghost use Rattle.obs_assign.specs.Assigned.{pairs};
 ghost use Rattle.obs_report.specs.Lines.{last_line};
 ghost use Rattle.obs_report.specs.Meters.{critical_text};
 ghost use Rattle.obs_report.specs.Printed.{Appends};
-ghost use Rattle.obs_network.specs.Network.{case_meters, network_of};
+ghost use Rattle.obs_network.specs.Network.{case_meters, case_needed, network_of};
 ghost use Rattle.obs_engine.specs.Ending.{IsReplied};
 ghost use Rattle.obs_engine.specs.Findings.{AreRanks, AreSorted, IsSearched};
 ghost use Rattle.obs_engine.specs.Report.{case_critical_meters, case_rank, claims_text, report_of, report_status, report_text};
@@ -104,14 +104,14 @@ fn print_report<W: Sink>(
     }
 }
 
-// Done where the case has as many pairs as it needs.
-fn verdict(case: &Case, network: &Network, kept: &Assignment) -> Status
-    requires network { network.now ≡ network_of case.now }
-    requires rank { length (pairs kept.now) ≡ case_rank case.now }
+// Done where the rank of a case is what it needs.
+fn verdict(case: &Case, rank: u32, needed: u32) -> Status
+    requires rank { rank ≡ case_rank case.now }
+    requires needed { needed ≡ case_needed case.now }
     ensures status { result ≡ report_status case.now }
 {
     let _case = case;
-    if kept.length() == network.needed() {
+    if rank == needed {
         Status::Done
     } else {
         Status::Short
@@ -139,7 +139,9 @@ pub(crate) fn answer_found<W: Sink>(
     ensures replied { IsReplied (W.written output.old) (W.written output.new) (W.faults output.old) (W.faults output.new)
         (W.has_room output.old) result (report_of case.now) }
 {
-    let status = verdict(case, network, kept);
+    let rank = kept.length();
+    let needed = network.needed();
+    let status = verdict(case, rank, needed);
     match print_report(
         output, case, network, kept, reached, ranks, members, starts, listing,
     ) {

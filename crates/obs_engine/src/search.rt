@@ -1,7 +1,7 @@
 // A longest assignment of the meters of a network.
-ghost use Rattle.std.specs.Prelude.{◌≡◌, ◌<◌, ℕ, IfOk, false, length};
+ghost use Rattle.std.specs.Prelude.{◌≡◌, ◌<◌, ℕ, IfOk, false, length, true};
 ghost use Rattle.obs_meter.specs.Touches.{AreInRange};
-ghost use Rattle.obs_assign.specs.Assigned.{StandsOver, is_frozen};
+ghost use Rattle.obs_assign.specs.Assigned.{StandsOver, is_frozen, pairs};
 ghost use Rattle.obs_exchange.specs.Found.{HasRoomFor};
 ghost use Rattle.obs_engine.specs.Findings.{IsSearched};
 
@@ -21,6 +21,30 @@ pub(crate) struct Searched {
     pub(crate) work: Work,
 }
 
+// Adds one pair more, and says whether there was one. Where there was none, there are as many as there can be.
+fn add_pair<L: Ledger>(
+    g: &Graph,
+    ms: &Meters,
+    kept: &mut Assignment,
+    work: &mut Work,
+    steps: &mut Steps<L>,
+) -> bool
+    requires stands { StandsOver kept.old g.now ms.now.touches }
+    requires in_range { AreInRange g.now ms.now.touches }
+    requires room { HasRoomFor work.old g.now ms.now.touches }
+    requires thawed { (m : ℕ) → is_frozen kept.old m ≡ false }
+    ensures stands { StandsOver kept.new g.now ms.now.touches }
+    ensures room { HasRoomFor work.new g.now ms.now.touches }
+    ensures thawed { (m : ℕ) → is_frozen kept.new m ≡ false }
+    ensures longer { result ≡ true → length (pairs kept.old) < length (pairs kept.new) }
+    ensures searched { result ≡ false → IsSearched g.now ms.now.touches kept.new work.new.reached }
+{
+    match search(g, ms, kept, Sources::All, work, steps) {
+        Found::Grown(_) => true,
+        Found::Closed => false,
+    }
+}
+
 // Adds pairs until there is none more.
 fn grow<L: Ledger>(
     g: &Graph,
@@ -35,7 +59,7 @@ fn grow<L: Ledger>(
     requires thawed { (m : ℕ) → is_frozen pairs.old m ≡ false }
     ensures searched { IsSearched g.now ms.now.touches pairs.new work.new.reached }
 {
-    while let Found::Grown(_) = search(g, ms, pairs, Sources::All, work, steps) {}
+    while add_pair(g, ms, pairs, work, steps) {}
 }
 
 // Adds pairs until there is none more, and counts the searches in a ledger of its own.

@@ -7,7 +7,7 @@ ghost use Rattle.obs_exchange.specs.Closed.{IsLeastClosedAt, IsSource};
 ghost use Rattle.obs_exchange.specs.Found.{IsFound};
 ghost use Rattle.obs_exchange.specs.Searching.{IsEnd, IsFreeFor, IsReady, end_of, first_of};
 
-use crate::queue::{begin, is_source, sources_end};
+use crate::queue::{begin, first_source, is_source, sources_end};
 use crate::visit::spread;
 use crate::walk::is_free;
 use crate::{Found, Sources};
@@ -32,8 +32,8 @@ fn free_branch(g: &Graph, ms: &Meters, a: &Assignment, m: u32) -> Option<u32>
     None
 }
 
-/// The first free branch that the meter touches. The branches at a vertex are tried once: they aren't free for a further
-/// meter there.
+/// The first free branch that the meter touches. Where none of the branches at a vertex is free, they aren't tried again
+/// for a further meter there.
 fn untried_branch(g: &Graph, ms: &Meters, a: &Assignment, m: u32, tried: &mut [bool]) -> Option<u32>
     requires stands { StandsOver a.now g.now ms.now.touches }
     requires whole { IsWhole a.now }
@@ -48,8 +48,9 @@ fn untried_branch(g: &Graph, ms: &Meters, a: &Assignment, m: u32, tried: &mut [b
     if tried[v as usize] {
         return None;
     }
-    tried[v as usize] = true;
-    free_branch(g, ms, a, m)
+    let free = free_branch(g, ms, a, m);
+    tried[v as usize] = free.is_none();
+    free
 }
 
 /// The move of the first source that touches a free branch. Sources before the given meter are passed over.
@@ -125,7 +126,8 @@ fn trace(
 
 /// Looks for a path of moves that gives a source a pair, writes it at the end of the array and says where it begins. None
 /// where there is no such path; the marks are then the least closed set. The sources from the given meter on are tried for
-/// a free branch first.
+/// a free branch first; where this isn't the first source, the stars tell at which vertices an earlier search found no free
+/// branch.
 pub fn find(
     g: &Graph,
     ms: &Meters,
@@ -158,7 +160,9 @@ pub fn find(
 {
     let _ = g.vertices();
     let _ = a.length();
-    stars.fill(false);
+    if first == first_source(from) {
+        stars.fill(false);
+    }
     if let Some(x) = free_move(g, ms, a, from, first, stars) {
         let last = path.len() - 1;
         path[last] = x;

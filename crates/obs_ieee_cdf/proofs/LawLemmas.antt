@@ -5,13 +5,10 @@ use Rattle.std.specs.List.{AllByRecursion, IsDistinct}
 use Rattle.obs_text.specs.Lines.{ended_lines}
 use Rattle.obs_case.specs.Tables.{Tables, most_rows}
 use Rattle.obs_case.specs.declared.rows.Branch.{Branch}
-use Rattle.obs_case_csv.specs.declared.faults.TableFault.{TableFault}
-use Rattle.obs_ieee_cdf.specs.declared.fault.CdfEnd.{CdfEnd}
 use Rattle.obs_ieee_cdf.specs.declared.fault.CdfFault.{CdfFault}
-use Rattle.obs_ieee_cdf.specs.Case.{AreBranchLines, AreBusLines, IsBranchLine, IsBusLine, IsCase, IsFile}
+use Rattle.obs_ieee_cdf.specs.Case.{AreBranchLines, AreBusLines, IsBranchLine, IsBusLine, IsFile}
 use Rattle.obs_ieee_cdf.specs.Fields.{bus_field, number_of, source_of, tap_field, type_field, z_field}
-use Rattle.obs_ieee_cdf.specs.Laws.{CaseIsRead, FaultWhereNoCase, FileIsRead}
-use Rattle.obs_ieee_cdf.specs.Read.{as_end, case_in, tables_after, with_tables}
+use Rattle.obs_ieee_cdf.specs.Laws.{FileIsRead}
 use Rattle.obs_ieee_cdf.specs.Rows.{Bus, at_end, branch_name, branch_of, branch_rows, bus_of, bus_rows, cdf_of, has_bus, on_ok, place_of_bus, read_branch, read_bus, read_rows, tables_of_rows}
 use Rattle.obs_ieee_cdf.specs.Sections.{end_fault}
 use Rattle.obs_ieee_cdf.proofs.FileLemmas.{read_rows-buses}
@@ -191,10 +188,10 @@ module _ (bytes : List ℕ) (tables : Tables) where
   buses_read (Err fault) of_buses is = cc
   buses_read (Ok buses) of_buses is = branches_read buses (read_rows (read_branch buses) [] (branch_rows (ended_lines bytes))) of_buses refl is
 
-  file_is : cdf_of bytes ≡ Ok tables → IsFile bytes tables
+  pub file_is : cdf_of bytes ≡ Ok tables → IsFile bytes tables
   file_is is = buses_read (read_rows read_bus [] (bus_rows (ended_lines bytes))) refl is
 
-  file_read : IsFile bytes tables → cdf_of bytes ≡ Ok tables
+  pub file_read : IsFile bytes tables → cdf_of bytes ≡ Ok tables
   file_read (buses, branches, are, is) =
       ap (λ r. on_ok r (λ bs. on_ok (read_rows (read_branch bs) [] (branch_rows (ended_lines bytes))) (λ rows. at_end (end_fault (ended_lines bytes)) (tables_of_rows bs rows))))
       (read-bus_lines [] (bus_rows (ended_lines bytes)) buses are.bus_lines are.different)
@@ -204,27 +201,3 @@ module _ (bytes : List ℕ) (tables : Tables) where
 
 pub FileIsRead-holds : FileIsRead
 FileIsRead-holds bytes tables = (file_is bytes tables, file_read bytes tables)
-
-as_end-ok : (r : Result Tables TableFault) (tables : Tables) → as_end r ≡ Ok tables → r ≡ Ok tables
-as_end-ok (Ok t) tables is = (let same : Ok t ≡ Ok tables = is in let e : t ≡ tables = cc in ap (λ u. Ok u) e)
-as_end-ok (Err fault) tables is = cc
-
-case_is : (cdf meters : List ℕ) (candidates : Option (List ℕ)) (tables : Tables) (r : Result Tables CdfFault) → cdf_of cdf ≡ r → with_tables meters candidates r ≡ Ok tables → IsCase cdf meters candidates tables
-case_is cdf meters candidates tables (Err fault) read is = cc
-case_is cdf meters candidates tables (Ok file) read is = (file, file_is cdf file read, as_end-ok (tables_after meters candidates file) tables is)
-
-case_read : (cdf meters : List ℕ) (candidates : Option (List ℕ)) (tables : Tables) → IsCase cdf meters candidates tables → case_in cdf meters candidates ≡ Ok tables
-case_read cdf meters candidates tables (file, is_file, is) = ap (with_tables meters candidates) (file_read cdf file is_file) ∙ ap as_end is
-
-pub CaseIsRead-holds : CaseIsRead
-CaseIsRead-holds cdf meters candidates tables = (case_is cdf meters candidates tables (cdf_of cdf) refl, case_read cdf meters candidates tables)
-
-found_fault : (cdf meters : List ℕ) (candidates : Option (List ℕ)) (r : Result Tables CdfEnd) → case_in cdf meters candidates ≡ r → ((tables : Tables) → ¬ IsCase cdf meters candidates tables) → (fault : CdfEnd) × (case_in cdf meters candidates ≡ Err fault)
-found_fault cdf meters candidates (Err fault) read none = (fault, read)
-found_fault cdf meters candidates (Ok tables) read none = absurd (none tables (case_is cdf meters candidates tables (cdf_of cdf) refl read))
-
-pub FaultWhereNoCase-holds : FaultWhereNoCase
-FaultWhereNoCase-holds cdf meters candidates = (
-  λ fault is tables case. (let read = case_read cdf meters candidates tables case in cc),
-  found_fault cdf meters candidates (case_in cdf meters candidates) refl,
-)

@@ -1,3 +1,4 @@
+pub mod CaseLemmas
 pub mod EndedLemmas
 pub mod FileLemmas
 pub mod LawLemmas

@@ -1,5 +1,5 @@
 -- A case that is read is valid.
-use Rattle.std.proofs.Common.{◌≡◌, ℕ, suc, ◌+◌, ◌^◌, ◌<◌, ◌≤◌, true, false, eqb, List, [], ◌∷◌, length, map, decimal, Option, Some, None, Result, Ok, Err, All, IsTrue, refl, sym, ap, ◌∙◌, subst, arith}
+use Rattle.std.proofs.Common.{◌≡◌, ℕ, suc, ◌+◌, ◌^◌, ◌<◌, ◌≤◌, true, false, eqb, List, [], ◌∷◌, length, map, decimal, All, IsTrue, refl, sym, ap, ◌∙◌, arith}
 use Rattle.std.proofs.lemmas.Bool.{and_from, ne_eqb}
 use Rattle.std.proofs.lemmas.List.{length-map}
 use Rattle.std.proofs.lemmas.List.Elements.{All-cons, All-nil}
@@ -7,22 +7,14 @@ use Rattle.std.specs.Cmp.{nat_eq_equiv}
 use Rattle.std.specs.List.{AllByRecursion, IsDistinct, list_all}
 use Rattle.std.specs.Str.{bytes_eq}
 use Rattle.obs_text.specs.Names.{is_name}
-use Rattle.obs_text.specs.Lines.{ended_lines}
-use Rattle.obs_case.specs.Tables.{IsNamed, IsValid, Tables, are_different, has_name, most_rows, node_names}
+use Rattle.obs_case.specs.Tables.{IsNamed, IsValid, are_different, has_name, most_rows, node_names}
 use Rattle.obs_case.specs.declared.rows.Branch.{Branch}
 use Rattle.obs_case.specs.declared.rows.Node.{Node}
 use Rattle.obs_case.proofs.NameLemmas.{different-from, different-none, named-none, place-there}
-use Rattle.obs_case_csv.specs.Read.{then_read, then_read_given}
-use Rattle.obs_case_csv.specs.declared.faults.Table.TheVariants.{Meters, Candidates}
-use Rattle.obs_case_csv.specs.declared.faults.TableFault.{TableFault}
-use Rattle.obs_case_csv.proofs.ValidLemmas.{valid-then_read, valid-then_read_given}
 use Rattle.obs_ieee_cdf.specs.Case.{AreBranchLines, AreBusLines, AreLines, IsEnd}
 use Rattle.obs_ieee_cdf.specs.Fields.{bus_field, tap_field, z_field}
-use Rattle.obs_ieee_cdf.specs.Laws.{CasesAreValid}
-use Rattle.obs_ieee_cdf.specs.Read.{tables_after}
 use Rattle.obs_ieee_cdf.specs.Reading.{AreBuses, AreNamed}
 use Rattle.obs_ieee_cdf.specs.Rows.{Bus, branch_name, branch_rows, bus_rows, has_bus, node_of_bus, tables_of_rows}
-use Rattle.obs_ieee_cdf.proofs.LawLemmas.{CaseIsRead-holds}
 use Rattle.obs_ieee_cdf.proofs.NumberLemmas.{has_name-bus, is_name-branch, is_name-decimal, length-buses, number_of-lt, same_name}
 
 -- ---- nodes
@@ -108,7 +100,7 @@ ends_within buses k (line ∷ lines) (branch ∷ branches) are =
 
 -- ---- files and cases
 
-valid-lines : (file : List (List ℕ)) (buses : List Bus) (branches : List Branch) → AreLines file buses branches → IsValid (tables_of_rows buses branches)
+pub valid-lines : (file : List (List ℕ)) (buses : List Bus) (branches : List Branch) → AreLines file buses branches → IsValid (tables_of_rows buses branches)
 valid-lines file buses branches are =
     let order = named_in_order buses 1 (branch_rows file) branches are.branch_lines in
     record {
@@ -123,21 +115,3 @@ valid-lines file buses branches are =
       candidate_places = All-nil _;
       prices = All-nil _;
     }
-
-valid-tables_after : (meters : List ℕ) (candidates : Option (List ℕ)) (file tables : Tables) → IsValid file → tables_after meters candidates file ≡ Ok tables → IsValid tables
-valid-tables_after meters candidates file tables h e = by (then_read Meters meters (Ok file)) refl e
-  where
-    by : (r : Result Tables TableFault) → then_read Meters meters (Ok file) ≡ r → then_read_given Candidates candidates r ≡ Ok tables → IsValid tables
-    by (Ok t) is e = valid-then_read_given Candidates candidates t tables (valid-then_read Meters meters file t h is) e
-    by (Err fault) is e = none candidates e
-      where
-        none : (given : Option (List ℕ)) → then_read_given Candidates given (Err fault) ≡ Ok tables → IsValid tables
-        none None e = cc
-        none (Some bytes) e = cc
-
-pub CasesAreValid-holds : CasesAreValid
-CasesAreValid-holds cdf meters candidates tables is =
-    let case = (CaseIsRead-holds cdf meters candidates tables).0 is in
-    let file = case.1 in
-    let valid = subst IsValid (sym file.3) (valid-lines (ended_lines cdf) file.0 file.1 file.2) in
-    valid-tables_after meters candidates case.0 tables valid case.2

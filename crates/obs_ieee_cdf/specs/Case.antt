@@ -1,11 +1,12 @@
 -- When bytes are the nodes and branches of a case: a relation on the whole lists of lines.
-use Rattle.std.specs.Prelude.{◌≡◌, ℕ, suc, ◌≤◌, true, nat_eq, List, [], ◌∷◌, length, map, Option, None, Some, Ok}
+use Rattle.std.specs.Prelude.{◌≡◌, ℕ, suc, ◌≤◌, true, nat_eq, List, [], ◌∷◌, length, map, Option, None, Some}
 use Rattle.std.specs.List.{IsDistinct}
 use Rattle.obs_text.specs.Lines.{ended_lines}
 use Rattle.obs_case.specs.Tables.{Tables, most_rows}
 use Rattle.obs_case.specs.declared.rows.Branch.{Branch}
+use Rattle.obs_case_csv.specs.declared.faults.Table.TheVariants.{Meters, Candidates}
+use Rattle.obs_case_csv.specs.OneTable.{IsTableOf}
 use Rattle.obs_ieee_cdf.specs.Fields.{bus_field, number_of, source_of, tap_field, type_field, z_field}
-use Rattle.obs_ieee_cdf.specs.Read.{tables_after}
 use Rattle.obs_ieee_cdf.specs.Rows.{Bus, branch_name, branch_rows, bus_rows, has_bus, place_of_bus, tables_of_rows}
 use Rattle.obs_ieee_cdf.specs.Sections.{end_fault}
 
@@ -55,6 +56,12 @@ abbrev pub IsFile : List ℕ → Tables → Type 0
 IsFile bytes tables =
     (buses : List Bus) × (branches : List Branch) × AreLines (ended_lines bytes) buses branches × (tables ≡ tables_of_rows buses branches)
 
--- a file's bytes and those of its tables are this case
+-- tables have the candidates of these bytes, or none where no bytes are given, and else are those before
+abbrev pub HasCandidates : Option (List ℕ) → Tables → Tables → Type 0
+HasCandidates None before tables = tables ≡ before
+HasCandidates (Some bytes) before tables = IsTableOf Candidates bytes before tables
+
+-- a file's bytes and those of its tables are this case: it has the file's nodes and branches, and the rows of the tables
 abbrev pub IsCase : List ℕ → List ℕ → Option (List ℕ) → Tables → Type 0
-IsCase cdf meters candidates tables = (file : Tables) × IsFile cdf file × (tables_after meters candidates file ≡ Ok tables)
+IsCase cdf meters candidates tables =
+    (file metered : Tables) × IsFile cdf file × IsTableOf Meters meters file metered × HasCandidates candidates metered tables

@@ -55,10 +55,12 @@ IsNotAfter-push [] m A B n h = elim (h (λ x i. absurd i)) [ inl b ↦ inl b | i
 IsNotAfter-push (x ∷ P) m A B (inl b) h = inl b
 IsNotAfter-push (x ∷ P) m A B (inr k) h = inr (k.0, IsNotAfter-push P m A B k.1 (λ a. h (λ y i. elim i [ inl e ↦ rw e k.0 | inr j ↦ a y j ])))
 
-pub IsNotAfter-agree : (P : List ℕ) (A C B : List Pair) → Agree P A C → IsNotAfter P A B → IsNotAfter P C B
-IsNotAfter-agree [] A C B a n = tt
-IsNotAfter-agree (x ∷ P) A C B a (inl b) = inl (rw (← (a x (inl refl))) b)
-IsNotAfter-agree (x ∷ P) A C B a (inr k) = inr (sym (a x (inl refl)) ∙ k.0, IsNotAfter-agree P A C B (λ y i. a y (inr i)) k.1)
+-- what agrees stands in the same order
+pub IsNotAfter-same : (P : List ℕ) (A C B D : List Pair) → Agree P A C → Agree P B D → IsNotAfter P A B → IsNotAfter P C D
+IsNotAfter-same [] A C B D h k n = tt
+IsNotAfter-same (x ∷ P) A C B D h k (inl b) = inl (rw (← (h x (inl refl)), ← (k x (inl refl))) b)
+IsNotAfter-same (x ∷ P) A C B D h k (inr c) =
+    inr (sym (h x (inl refl)) ∙ c.0 ∙ k x (inl refl), IsNotAfter-same P A C B D (λ y i. h y (inr i)) (λ y i. k y (inr i)) c.1)
 
 -- where A does not come after C, and C has what A has, they agree
 pub Agree-from : (P : List ℕ) (A C : List Pair) → IsNotAfter P A C → ((x e : ℕ) → In x P → branch_at A x ≡ Some e → branch_at C x ≡ Some e) → Agree P A C

@@ -15,7 +15,7 @@ use Rattle.obs_matroid.proofs.Pairs.{In-items, In-items_from, In-branches, In-br
 use Rattle.obs_matroid.proofs.Exchange.{length-put_in}
 use Rattle.obs_matroid.proofs.Bounds.{length-branches}
 use Rattle.obs_matroid.proofs.Critical.{rho_same, tight_marks}
-use Rattle.obs_matroid.proofs.Comparing.{branch_at_from, branch_at_none, branch_at_out, cases_Option}
+use Rattle.obs_matroid.proofs.Comparing.{IsNotAfter-same, branch_at_from, branch_at_none, branch_at_out, cases_Option}
 
 none_of_nil : (B : List Pair) → ((p : Pair) → In p B → In p.0 []) → length B ≤ 0
 none_of_nil [] h = omega arith
@@ -37,13 +37,6 @@ branch_at_part m (p ∷ A) x n =
   where
     not_other : (m x : ℕ) → x ≡ m → other_than m x ≡ false
     not_other m x s = rw s (other_self m)
-
-IsNotAfter-same : (M : List ℕ) (A A' B B' : List Pair) → ((x : ℕ) → In x M → branch_at A x ≡ branch_at A' x) → ((x : ℕ) → In x M → branch_at B x ≡ branch_at B' x)
-    → IsNotAfter M A B → IsNotAfter M A' B'
-IsNotAfter-same [] A A' B B' h k n = tt
-IsNotAfter-same (x ∷ M) A A' B B' h k (inl b) = inl (rw (← (h x (inl refl)), ← (k x (inl refl))) b)
-IsNotAfter-same (x ∷ M) A A' B B' h k (inr c) =
-    inr (sym (h x (inl refl)) ∙ c.0 ∙ k x (inl refl), IsNotAfter-same M A A' B B' (λ y i. h y (inr i)) (λ y i. k y (inr i)) c.1)
 
 -- what `pick` gives
 module _ (passes : ℕ → Bool) (given : ℕ → List Pair) (bare : List Pair) where

@@ -1,5 +1,5 @@
 -- The first assignment, found item by item: what is known when some items are decided, and how the next one is.
-use Rattle.std.proofs.Common.{◌≡◌, ℕ, ◌≤◌, ◌<◌, List, [], ◌∷◌, ◌++◌, length, sym, ap, ◌∙◌, inl, inr, Bool, true, false, ◌||◌, ◌&&◌, arith, Some, None, eqb}
+use Rattle.std.proofs.Common.{refl, ◌≡◌, ℕ, ◌≤◌, ◌<◌, List, [], ◌∷◌, ◌++◌, length, sym, ap, ◌∙◌, inl, inr, Bool, true, false, ◌||◌, ◌&&◌, arith, Some, None, eqb}
 use Rattle.std.proofs.lemmas.Bool.{cases_Bool, cases_order, or_cases, and_parts, and_from, eqb-true}
 use Rattle.obs_matroid.specs.Lists.{In}
 use Rattle.obs_matroid.specs.Matroid.{Matroid, IsMatroid}
@@ -9,7 +9,7 @@ use Rattle.obs_matroid.specs.First.{branch_at, IsNotAfter, IsFirst}
 use Rattle.obs_matroid.proofs.Lists.{In_same, is_in, is_in_from, is_in_at}
 use Rattle.obs_matroid.proofs.Pairs.{In-items, In-items_from, same_pair}
 use Rattle.obs_matroid.proofs.Pin.{pin_impossible}
-use Rattle.obs_matroid.proofs.Comparing.{branch_at_in, branch_at_from, cases_Option, Agree, IsNotAfter-push, IsNotAfter-agree, Agree-from}
+use Rattle.obs_matroid.proofs.Comparing.{branch_at_in, branch_at_from, cases_Option, Agree, IsNotAfter-push, IsNotAfter-same, Agree-from}
 
 module _ (g : Matroid) (touch : ℕ → List ℕ) (M : List ℕ) where
   -- A is longest, and the least of the longest by the items of P, which are decided
@@ -65,7 +65,7 @@ module _ (g : Matroid) (touch : ℕ → List ℕ) (M P : List ℕ) (m : ℕ) (A 
     least = λ B b k.
         let ac : Agree P A C = agree_with C c l x in
         let kb : length B ≡ length A = omega (arith, k, l) in
-        IsNotAfter-push P m C B (IsNotAfter-agree P A C B ac (a.least B b kb)) (λ cb.
+        IsNotAfter-push P m C B (IsNotAfter-same P A C B B ac (λ x i. refl) (a.least B b kb)) (λ cb.
         let ce : branch_at C m ≡ Some e = branch_at_in C m e c.different j in
         elim (cases_Option (branch_at B m)) [
           | inl n ↦ inl (rw (ce, n) tt)
@@ -95,7 +95,7 @@ module _ (g : Matroid) (touch : ℕ → List ℕ) (M P : List ℕ) (m : ℕ) (A 
         longest = λ B b. let k = a.longest B b in omega (arith, k, l);
         least = λ B b k.
             let kb : length B ≡ length A = omega (arith, k, l) in
-            IsNotAfter-push P m C B (IsNotAfter-agree P A C B ac (a.least B b kb)) (λ cb.
+            IsNotAfter-push P m C B (IsNotAfter-same P A C B B ac (λ x i. refl) (a.least B b kb)) (λ cb.
             inr (bare C c l ac ∙ sym (bare B b kb (λ y q. ac y q ∙ cb y q))));
       }
 

@@ -1,21 +1,14 @@
 -- The branches of all pairs but one: the list of branches without that one.
-use Rattle.std.proofs.Common.{◌≡◌, ℕ, List, [], ◌∷◌, sym, ap, ◌∙◌, inl, inr, ◌↔◌}
+use Rattle.std.proofs.Common.{◌≡◌, ℕ, List, sym, ap, ◌∙◌, ◌↔◌}
 use Rattle.obs_matroid.specs.Lists.{In, IsDistinct, other_than, without}
 use Rattle.obs_matroid.specs.Matroid.{Matroid, IsMatroid}
 use Rattle.obs_matroid.specs.Assignments.{Pair, items, branches, part, others, IsAssignment}
 use Rattle.obs_matroid.proofs.Lists.{In_same, In-filter, In-filter_from, other_true, other_ne}
 use Rattle.obs_matroid.proofs.Spans.{spans_same}
 use Rattle.obs_matroid.proofs.Ranks.{IsDistinct-independent}
-use Rattle.obs_matroid.proofs.Pairs.{In-branches, In-branches_from, In-part, In-part_from, same_pair}
+use Rattle.obs_matroid.proofs.Pairs.{In-branches, In-branches_from, In-part, In-part_from, same_pair, same_pair_by_branch}
 
 -- a branch has one pair
-pub same_pair_by_branch : (A : List Pair) (p q : Pair) → IsDistinct (branches A) → In p A → In q A → p.1 ≡ q.1 → p ≡ q
-same_pair_by_branch [] p q d i j e = absurd i
-same_pair_by_branch (r ∷ A) p q d (inl a) (inl b) e = a ∙ sym b
-same_pair_by_branch (r ∷ A) p q d (inl a) (inr j) e = absurd (d.0 (rw (← (ap (λ (x : Pair). x.1) a), e) (In-branches A q j)))
-same_pair_by_branch (r ∷ A) p q d (inr i) (inl b) e = absurd (d.0 (rw (← (ap (λ (x : Pair). x.1) b), ← e) (In-branches A p i)))
-same_pair_by_branch (r ∷ A) p q d (inr i) (inr j) e = same_pair_by_branch A p q d.1 i j e
-
 others_without : (A : List Pair) (p : Pair) → IsDistinct (items A) → IsDistinct (branches A) → In p A → (e : ℕ) → In e (others A p.0) ↔ In e (without p.1 (branches A))
 others_without A p d c i e = (
   (λ j. let v = In-branches_from (part (other_than p.0) A) e j in

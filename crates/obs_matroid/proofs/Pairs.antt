@@ -1,5 +1,5 @@
 -- The items and branches of pairs: what the pairs of some items span, and what they span without one of them.
-use Rattle.std.proofs.Common.{◌≡◌, ℕ, List, [], ◌∷◌, sym, ap, ◌∙◌, inl, inr, Bool, true, false, ◌&&◌}
+use Rattle.std.proofs.Common.{map, ◌≡◌, ℕ, List, [], ◌∷◌, sym, ap, ◌∙◌, inl, inr, Bool, true, false, ◌&&◌}
 use Rattle.std.specs.List.{filter}
 use Rattle.std.proofs.lemmas.Bool.{cases_Bool, cases_eq, and_parts, and_from}
 use Rattle.obs_matroid.specs.Lists.{In, IsDistinct, other_than}
@@ -48,12 +48,19 @@ pub IsDistinct-part : (S : ℕ → Bool) (A : List Pair) → IsDistinct (items A
 IsDistinct-part S A d = IsDistinct-filter_items (λ (p : Pair). S p.0) A d
 
 -- in an assignment an item has one pair
+-- pairs that a number tells apart: those of one number are one
+same_by : (f : Pair → ℕ) (A : List Pair) (p q : Pair) → IsDistinct (map f A) → In p A → In q A → f p ≡ f q → p ≡ q
+same_by f [] p q d i j e = absurd i
+same_by f (r ∷ A) p q d (inl a) (inl b) e = a ∙ sym b
+same_by f (r ∷ A) p q d (inl a) (inr j) e = absurd (d.0 (rw (← (ap f a), e) (In-map f q A j)))
+same_by f (r ∷ A) p q d (inr i) (inl b) e = absurd (d.0 (rw (← (ap f b), ← e) (In-map f p A i)))
+same_by f (r ∷ A) p q d (inr i) (inr j) e = same_by f A p q d.1 i j e
+
 pub same_pair : (A : List Pair) (p q : Pair) → IsDistinct (items A) → In p A → In q A → p.0 ≡ q.0 → p ≡ q
-same_pair [] p q d i j e = absurd i
-same_pair (r ∷ A) p q d (inl a) (inl b) e = a ∙ sym b
-same_pair (r ∷ A) p q d (inl a) (inr j) e = absurd (d.0 (rw (← (ap (λ (x : Pair). x.0) a), e) (In-items A q j)))
-same_pair (r ∷ A) p q d (inr i) (inl b) e = absurd (d.0 (rw (← (ap (λ (x : Pair). x.0) b), ← e) (In-items A p i)))
-same_pair (r ∷ A) p q d (inr i) (inr j) e = same_pair A p q d.1 i j e
+same_pair = same_by (λ (p : Pair). p.0)
+
+pub same_pair_by_branch : (A : List Pair) (p q : Pair) → IsDistinct (branches A) → In p A → In q A → p.1 ≡ q.1 → p ≡ q
+same_pair_by_branch = same_by (λ (p : Pair). p.1)
 
 module _ (g : Matroid) (laws : IsMatroid g) where
   pub more_pairs : (A B : List Pair) (e : ℕ) → ((p : Pair) → In p A → In p B) → g.spans (branches A) e ≡ true → g.spans (branches B) e ≡ true

@@ -44,15 +44,15 @@ earlier_chain p q r a b c f h = grind (arith, nat_tests, f, h)
 
 module _ (price : ℕ → ℕ) where
   -- each is taken before those after it
-  abbrev InOrder : List ℕ → Type 0
+  abbrev pub InOrder : List ℕ → Type 0
   InOrder [] = Unit {0}
   InOrder (c ∷ es) = ((x : ℕ) → In x es → is_earlier price x c ≡ true) × InOrder es
 
-  abbrev insert : ℕ → List ℕ → List ℕ
+  abbrev pub insert : ℕ → List ℕ → List ℕ
   insert c [] = c ∷ []
   insert c (e ∷ es) = cond (is_earlier price e c) (c ∷ e ∷ es) (e ∷ insert c es)
 
-  abbrev sorted : List ℕ → List ℕ
+  abbrev pub sorted : List ℕ → List ℕ
   sorted [] = []
   sorted (c ∷ es) = insert c (sorted es)
 
@@ -91,12 +91,12 @@ module _ (price : ℕ → ℕ) where
     )
   ]
 
-  sorted_in : (es : List ℕ) (x : ℕ) → In x es → In x (sorted es)
+  pub sorted_in : (es : List ℕ) (x : ℕ) → In x es → In x (sorted es)
   sorted_in [] x i = i
   sorted_in (c ∷ es) x (inl e) = insert_in c (sorted es) x (inl e)
   sorted_in (c ∷ es) x (inr i) = insert_in c (sorted es) x (inr (sorted_in es x i))
 
-  sorted_from : (es : List ℕ) (x : ℕ) → In x (sorted es) → In x es
+  pub sorted_from : (es : List ℕ) (x : ℕ) → In x (sorted es) → In x es
   sorted_from [] x i = i
   sorted_from (c ∷ es) x i = elim (insert_from c (sorted es) x i) [ inl e ↦ inl e | inr j ↦ inr (sorted_from es x j) ]
 
@@ -104,7 +104,7 @@ module _ (price : ℕ → ℕ) where
   sorted_order [] d = tt
   sorted_order (c ∷ es) d = insert_order c (sorted es) (λ i. d.0 (sorted_from es c i)) (sorted_order es d.1)
 
-  order_price : (es : List ℕ) → InOrder es → IsByPrice price es
+  pub order_price : (es : List ℕ) → InOrder es → IsByPrice price es
   order_price [] o = tt
   order_price (c ∷ es) o = ((λ x i. earlier_cheap (price c) (price x) c x (o.0 x i)), order_price es o.1)
 
@@ -130,7 +130,7 @@ module _ (price : ℕ → ℕ) where
       | inr f ↦ rw f (let a = sum_one e (insert c es) in let b = insert_sum c es in let d = sum_one e es in omega (arith, a, b, d))
     ]
 
-    sorted_sum : (es : List ℕ) → sum_by price (filter P (sorted es)) ≡ sum_by price (filter P es)
+    pub sorted_sum : (es : List ℕ) → sum_by price (filter P (sorted es)) ≡ sum_by price (filter P es)
     sorted_sum [] = refl
     sorted_sum (c ∷ es) = let a = insert_sum c (sorted es) in let b = sorted_sum es in let d = sum_one c es in omega (arith, a, b, d)
 
@@ -179,25 +179,25 @@ module _ (n : ℕ) (ends : List (Option Ends)) (touches : List Touch) (ok : AreB
       ]
 
 module _ (n : ℕ) (ends : List (Option Ends)) (touches : List Touch) (meters : ℕ) (prices : List ℕ) (ok : AreBranches n ends) where
-  abbrev price : ℕ → ℕ
+  abbrev pub price : ℕ → ℕ
   price = price_of meters prices
 
-  abbrev M : List ℕ
+  abbrev pub M : List ℕ
   M = live_meters ends touches meters
 
-  abbrev E : List ℕ
+  abbrev pub E : List ℕ
   E = live_candidates ends touches meters
 
-  abbrev es : List ℕ
+  abbrev pub es : List ℕ
   es = sorted price E
 
-  abbrev xs : List ℕ
+  abbrev pub xs : List ℕ
   xs = filter (is_chosen n ends touches price) es
 
-  es_candidate : (x : ℕ) → In x es → In x (live_items ends touches) × (not (nat_lt x meters) ≡ true)
+  pub es_candidate : (x : ℕ) → In x es → In x (live_items ends touches) × (not (nat_lt x meters) ≡ true)
   es_candidate x i = In-filter_from (λ m. not (nat_lt m meters)) x (live_items ends touches) (sorted_from price E x i)
 
-  m_meter : (x : ℕ) → In x M → In x (live_items ends touches) × (nat_lt x meters ≡ true)
+  pub m_meter : (x : ℕ) → In x M → In x (live_items ends touches) × (nat_lt x meters ≡ true)
   m_meter x i = In-filter_from (λ m. nat_lt m meters) x (live_items ends touches) i
 
   cover : (x : ℕ) → In x (live_items ends touches) → In x M ⊎ In x es
@@ -206,10 +206,10 @@ module _ (n : ℕ) (ends : List (Option Ends)) (touches : List Touch) (meters : 
     | inr f ↦ inr (sorted_in price E x (In-filter (λ m. not (nat_lt m meters)) x (live_items ends touches) i (ap not f)))
   ]
 
-  meters_distinct : IsDistinct M
+  pub meters_distinct : IsDistinct M
   meters_distinct = IsDistinct-filter (λ m. nat_lt m meters) (live_items ends touches) (live_items-distinct ends touches)
 
-  in_order : InOrder price es
+  pub in_order : InOrder price es
   in_order = sorted_order price E (IsDistinct-filter (λ m. not (nat_lt m meters)) (live_items ends touches) (live_items-distinct ends touches))
 
   meter_before : (x y : ℕ) → In x M → In y es → is_earlier price y x ≡ true
@@ -221,12 +221,12 @@ module _ (n : ℕ) (ends : List (Option Ends)) (touches : List Touch) (meters : 
       let free : price x ≡ 0 = rw t refl in
       meter_first (price x) (price y) x y free low
 
-  answer : IsAnswer (graph_matroid n ends) (touch_at ends touches) M es xs
+  pub answer : IsAnswer (graph_matroid n ends) (touch_at ends touches) M es xs
   answer = is_answer n ends touches ok price M es meters_distinct in_order
       (λ x i. live-from_live_items ends touches x (es_candidate x i).0) (λ x i. live-from_live_items ends touches x (m_meter x i).0)
       (λ x t. cover x (In-live ends touches x t)) meter_before
 
-  apart : IsApart M es
+  pub apart : IsApart M es
   apart = record {
     items_differ = meters_distinct;
     candidates_differ = order_distinct price es in_order;
@@ -234,13 +234,13 @@ module _ (n : ℕ) (ends : List (Option Ends)) (touches : List Touch) (meters : 
   }
 
   module _ (r : ℕ) (all : IsRhoAt ends touches (live_items ends touches) r) where
-    abbrev base : (s : ℕ) × IsRho (graph_matroid n ends) (touch_at ends touches) M s
+    abbrev pub base : (s : ℕ) × IsRho (graph_matroid n ends) (touch_at ends touches) M s
     base = rho_exists (graph_matroid n ends) (IsMatroid-graph n ends ok) (touch_at ends touches) M meters_distinct
 
-    abbrev completes : IsRho (graph_matroid n ends) (touch_at ends touches) (M ++ es) (base.0 + length xs) × IsRho (graph_matroid n ends) (touch_at ends touches) (M ++ xs) (base.0 + length xs)
+    abbrev pub completes : IsRho (graph_matroid n ends) (touch_at ends touches) (M ++ es) (base.0 + length xs) × IsRho (graph_matroid n ends) (touch_at ends touches) (M ++ xs) (base.0 + length xs)
     completes = answer_completes (graph_matroid n ends) (IsMatroid-graph n ends ok) (touch_at ends touches) M es xs base.0 answer apart base.1
 
-    same_length : r ≡ base.0 + length xs
+    pub same_length : r ≡ base.0 + length xs
     same_length =
         let mat = graph_matroid n ends in
         let touch = touch_at ends touches in

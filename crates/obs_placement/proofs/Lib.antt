@@ -5,3 +5,10 @@ pub mod Going
 pub mod Listing
 pub mod Lawful
 pub mod Positions
+pub mod Measures
+pub mod Adding
+pub mod Laying
+pub mod Lacking
+pub mod Growing
+pub mod Refuting
+pub mod Costed

@@ -29,10 +29,10 @@ use Rattle.obs_placement.proofs.Going.{live_low}
 use Rattle.obs_placement.proofs.Taken.{IsTaken-rho}
 
 -- the numbers from i on, below n
-abbrev later : ℕ → ℕ → List ℕ
+abbrev pub later : ℕ → ℕ → List ℕ
 later n i = range_with_len i (n - i)
 
-later_next : (n i : ℕ) → i < n → later n i ≡ i ∷ later n (i + 1)
+pub later_next : (n i : ℕ) → i < n → later n i ≡ i ∷ later n (i + 1)
 later_next n i l = let e : n - i ≡ suc (n - (i + 1)) = omega arith in ap (range_with_len i) e
 
 module _ (passes : ℕ → Bool) (prices : List ℕ) where
@@ -121,16 +121,16 @@ unset n m = elim (cases_lt m n) [
   | inr l ↦ get_or_past (replicate n false) m false (let k = length-replicate n false in omega (arith, k, l))
 ]
 
-in_range_from : (n a x : ℕ) → In x (range_with_len a n) → x < a + n
+pub in_range_from : (n a x : ℕ) → In x (range_with_len a n) → x < a + n
 in_range_from zero a x i = absurd i
 in_range_from (suc n) a x (inl e) = omega (arith, e)
 in_range_from (suc n) a x (inr i) = let k = in_range_from n (a + 1) x i in omega (arith, k)
 
-range_in : (n a x : ℕ) → a ≤ x → x < a + n → In x (range_with_len a n)
+pub range_in : (n a x : ℕ) → a ≤ x → x < a + n → In x (range_with_len a n)
 range_in zero a x l u = absurd (omega (arith, l, u))
 range_in (suc n) a x l u = elim (cases_eq x a) [ inl e ↦ inl e | inr k ↦ inr (range_in n (a + 1) x (omega (arith, l, k)) (omega (arith, u))) ]
 
-in_range : (k n : ℕ) → In k (range_with_len 0 n) → k < n
+pub in_range : (k n : ℕ) → In k (range_with_len 0 n) → k < n
 in_range k n i = let l = in_range_from n 0 k i in omega (arith, l)
 
 module _ (g : Shape) (touches : List Touch) (meters : ℕ) (prices : List ℕ) (a : Assigned) (since : List ℕ) (raised : List Bool) (ok : AreBranches g.vertices g.ends)

@@ -5,9 +5,11 @@ use Rattle.obs_matroid.specs.Lists.{In}
 use Rattle.obs_matroid.specs.Assignments.{items}
 use Rattle.obs_meter.specs.declared.Touch.{Touch}
 use Rattle.obs_assign.specs.Assigned.{Assigned, pairs}
+use Rattle.obs_placement.specs.Placed.{Placed}
 
--- what a work value is seen as: the positions that were chosen last, the price from which on each item isn't critical, the pairs, and the sizes that it was made for
+-- what a work value is seen as: the placement that was found last, the positions that were chosen then, the price from which on each item isn't critical, the pairs, and the sizes that it was made for
 pub record Placing : Type 0 where
+  pub placed : Placed
   pub chosen : List ℕ
   pub since : List ℕ
   pub pairs : Assigned

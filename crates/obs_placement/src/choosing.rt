@@ -3,12 +3,12 @@ ghost use Rattle.std.specs.Prelude.{◌≡◌, ◌+◌, ◌<◌, ◌≤◌, ◌^
 ghost use Rattle.std.specs.List.{range_with_len};
 ghost use Rattle.obs_meter.specs.Assignments.{rho_at};
 ghost use Rattle.obs_meter.specs.Touches.{AreInRange, live_items};
-ghost use Rattle.obs_assign.specs.Assigned.{Fits, HasRoomOf};
+ghost use Rattle.obs_assign.specs.Assigned.{Fits, HasRoomOf, has_flag};
 ghost use Rattle.obs_assign.specs.Assigned.{pairs as pairs_at};
 ghost use Rattle.obs_exchange.specs.Found.{HasRoomFor, HasSizesOf};
-ghost use Rattle.obs_placement.specs.Answer.{chosen_of, cost_of};
+ghost use Rattle.obs_placement.specs.Answer.{chosen_of, cost_of, is_chosen};
 ghost use Rattle.obs_placement.specs.Choosing.{HavePairsOnly};
-ghost use Rattle.obs_placement.specs.Order.{price_of};
+ghost use Rattle.obs_placement.specs.Order.{IsOrder, price_of};
 ghost use Rattle.obs_placement.specs.Taking.{AreKnown, IsStanding, is_raised, never};
 
 use crate::order::put_in_order;
@@ -59,7 +59,7 @@ fn begin(since: &mut [u64], raised: &mut [bool])
 }
 
 /// Takes all items in their order, and lists the chosen candidates.
-fn choose_in<L: Ledger>(
+pub fn choose_in<L: Ledger>(
     g: &Graph,
     offered: &Meters,
     meters: u32,
@@ -89,6 +89,8 @@ fn choose_in<L: Ledger>(
     ensures standing { IsStanding g.now offered.now.touches pairs.new }
     ensures only_chosen { HavePairsOnly meters (chosen_of g.now.vertices g.now.ends offered.now.touches meters prices.now) pairs.new }
     ensures known { AreKnown g.now offered.now.touches (price_of meters prices.now) since.new }
+    ensures order { IsOrder (price_of meters prices.now) (length offered.now.touches) keys.new }
+    ensures raised { (m : ℕ) → m < length offered.now.touches → has_flag raised.new m ≡ is_chosen g.now.vertices g.now.ends offered.now.touches (price_of meters prices.now) m }
     ensures same_room { HasRoomOf pairs.old pairs.new }
     ensures same_sizes { HasSizesOf search.old search.new }
 {
@@ -101,54 +103,4 @@ fn choose_in<L: Ledger>(
         g, offered, meters, prices, keys, pairs, search, since, raised, steps,
     );
     list_raised(meters, prices, raised, list)
-}
-
-/// The same in arrays that may have more places.
-pub fn choose_first<L: Ledger>(
-    g: &Graph,
-    offered: &Meters,
-    meters: u32,
-    prices: &[u64],
-    keys: &mut [(u64, u32)],
-    pairs: &mut Assignment,
-    search: &mut Work,
-    since: &mut [u64],
-    raised: &mut [bool],
-    list: &mut [u32],
-    steps: &mut Steps<L>,
-) -> Listed
-    requires in_range { AreInRange g.now offered.now.touches }
-    requires items { length offered.now.touches ≡ meters + length prices.now }
-    requires few { length prices.now ≤ 20000 }
-    requires cheap { All (λ p. p ≤ 1000000000) prices.now }
-    requires fits { Fits pairs.old g.now offered.now.touches }
-    requires room { HasRoomFor search.old g.now offered.now.touches }
-    requires keys { length offered.now.touches ≤ length keys.old }
-    requires since { length offered.now.touches ≤ length since.old }
-    requires raised { length offered.now.touches ≤ length raised.old }
-    requires list { length prices.now ≤ length list.old }
-    ensures bound { result.count ≤ length prices.now }
-    ensures chosen { take result.count list.new ≡ chosen_of g.now.vertices g.now.ends offered.now.touches meters prices.now }
-    ensures cost { result.cost ≡ cost_of prices.now (chosen_of g.now.vertices g.now.ends offered.now.touches meters prices.now) }
-    ensures rank { length (pairs_at pairs.new) ≡ rho_at g.now.vertices g.now.ends offered.now.touches (live_items g.now.ends offered.now.touches) }
-    ensures standing { IsStanding g.now offered.now.touches pairs.new }
-    ensures only_chosen { HavePairsOnly meters (chosen_of g.now.vertices g.now.ends offered.now.touches meters prices.now) pairs.new }
-    ensures known { AreKnown g.now offered.now.touches (price_of meters prices.now) (take (length offered.now.touches) since.new) }
-    ensures same_room { HasRoomOf pairs.old pairs.new }
-    ensures same_sizes { HasSizesOf search.old search.new }
-{
-    let n = offered.count() as usize;
-    choose_in(
-        g,
-        offered,
-        meters,
-        prices,
-        &mut keys[..n],
-        pairs,
-        search,
-        &mut since[..n],
-        &mut raised[..n],
-        list,
-        steps,
-    )
 }

@@ -1,15 +1,20 @@
-//! Placement, in part: chooses candidates that do as much, with the meters, as all that is offered, at the least cost. The plan
-//! with its layers, and the bound that shows a shortfall, are not built yet.
+//! Placement: the candidates that complete the meters at the least cost, with the layers of prices that prove it, or the bound
+//! which shows that all candidates together fall short.
 #![tactic(auto)]
 
 mod choosing;
 pub mod laws;
+mod layering;
+mod measuring;
 mod memory;
 mod order;
+mod placing;
+mod plans;
 mod taking;
 #[cfg(test)]
 mod tests;
 mod work;
 
 pub use memory::NoMemory;
-pub use work::{Choice, PlaceWork, choose};
+pub use plans::{Layer, Placement, Plan};
+pub use work::{PlaceWork, find_placement, place};

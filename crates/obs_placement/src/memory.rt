@@ -30,3 +30,11 @@ impl From<obs_exchange::NoMemory> for NoMemory {
         NoMemory
     }
 }
+
+impl From<obs_rankcut::NoMemory> for NoMemory {
+    ghost from_gives = { λ _ e. e ≡ e };
+
+    fn from(_: obs_rankcut::NoMemory) -> Self {
+        NoMemory
+    }
+}

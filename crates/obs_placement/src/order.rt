@@ -3,7 +3,7 @@ ghost use Rattle.std.specs.Prelude.{◌≡◌, ◌+◌, ◌<◌, ◌^◌, ℕ, l
 ghost use Rattle.obs_placement.specs.Order.{AreNumbered, IsOrder, price_of};
 
 /// The price of an item: a meter costs nothing.
-fn price_at(meters: u32, prices: &[u64], m: u32) -> u64
+pub fn price_at(meters: u32, prices: &[u64], m: u32) -> u64
     requires m { m < meters + length prices.now }
     ensures price { result ≡ price_of meters prices.now m }
 {

@@ -3,7 +3,7 @@ ghost use Rattle.std.specs.Prelude.{◌≡◌, ◌+◌, ◌<◌, ◌≤◌, All,
 ghost use Rattle.obs_meter.specs.Touches.{AreInRange};
 ghost use Rattle.obs_placement.specs.Choosing.{HasRoomFor, HasSizesOf};
 
-use crate::{Choice, PlaceWork, choose};
+use crate::{Layer, PlaceWork, Placement, find_placement, place};
 use obs_assign::Steps;
 use obs_graph::{Ends, Graph};
 use obs_meter::{Meters, Touch};
@@ -23,15 +23,16 @@ const TRIANGLE: [Option<Ends>; 3] = [
     Some(Ends { a: 2, b: 0 }),
 ];
 
-// Chooses with steps of its own.
-fn choose_once<L: Ledger>(
+// Finds a placement with steps of its own.
+fn find_once<L: Ledger>(
     blank: Blank,
     g: &Graph,
     offered: &Meters,
     meters: u32,
     prices: &[u64],
+    needed: u32,
     work: &mut PlaceWork,
-) -> Choice
+)
     requires name { blank.name ≡ L.name }
     requires parts { blank.parts ≡ L.parts }
     requires some { 0 < L.parts }
@@ -43,7 +44,66 @@ fn choose_once<L: Ledger>(
     ensures same_sizes { HasSizesOf work.old work.new }
 {
     let mut steps = Steps::<L>::begin(blank);
-    choose(g, offered, meters, prices, work, &mut steps)
+    find_placement(g, offered, meters, prices, needed, work, &mut steps)
+}
+
+// The same, lent.
+fn place_once<'a, L: Ledger>(
+    blank: Blank,
+    g: &Graph,
+    offered: &Meters,
+    meters: u32,
+    prices: &[u64],
+    needed: u32,
+    work: &'a mut PlaceWork,
+) -> Placement<'a>
+    requires name { blank.name ≡ L.name }
+    requires parts { blank.parts ≡ L.parts }
+    requires some { 0 < L.parts }
+    requires in_range { AreInRange g.now offered.now.touches }
+    requires items { length offered.now.touches ≡ meters + length prices.now }
+    requires few { length prices.now ≤ 20000 }
+    requires cheap { All (λ p. p ≤ 1000000000) prices.now }
+    requires room { HasRoomFor work.old g.now offered.now.touches }
+{
+    let mut steps = Steps::<L>::begin(blank);
+    place(g, offered, meters, prices, needed, work, &mut steps)
+}
+
+fn is_plan(
+    found: Placement<'_>,
+    chosen: &[u32],
+    cost: u64,
+    layers: &[Layer],
+    inside: &[u32],
+) -> bool {
+    match found {
+        Placement::Cheapest(plan) => {
+            plan.chosen == chosen
+                && plan.cost == cost
+                && plan.layers == layers
+                && plan.inside == inside
+        }
+        Placement::Shortfall(_) => false,
+    }
+}
+
+fn is_shortfall(
+    found: Placement<'_>,
+    inside: &[u32],
+    rank: u32,
+    outside: u32,
+    needed: u32,
+) -> bool {
+    match found {
+        Placement::Cheapest(_) => false,
+        Placement::Shortfall(bound) => {
+            bound.inside == inside
+                && bound.rank == rank
+                && bound.outside == outside
+                && bound.needed == needed
+        }
+    }
 }
 
 #[test]
@@ -60,9 +120,15 @@ fn cheaper_of_two_that_complete(rt: HostRuntime) -> Result<(), Fail> {
         Touch::Edge(2),
     ]);
     let mut work = PlaceWork::make(rt.alloc(), 6, 3, 4)?;
-    let choice = choose_once::<Brand>(Blank::new(1), &g, &offered, 3, &[0, 3, 5], &mut work);
-    assert!(rt; choice.rank == 3 && choice.cost == 3);
-    assert!(rt; work.chosen() == [1].as_slice());
+    let found = place_once::<Brand>(Blank::new(1), &g, &offered, 3, &[0, 3, 5], 3, &mut work);
+    let layer = Layer {
+        from: 0,
+        to: 3,
+        rank: 2,
+        outside: 0,
+        upto: 4,
+    };
+    assert!(rt; is_plan(found, &[1], 3, &[layer], &[0, 1, 2, 3]));
     Ok(())
 }
 
@@ -78,9 +144,8 @@ fn none_that_completes(rt: HostRuntime) -> Result<(), Fail> {
         Touch::Edge(1),
     ]);
     let mut work = PlaceWork::make(rt.alloc(), 4, 3, 4)?;
-    let choice = choose_once::<Brand>(Blank::new(1), &g, &offered, 3, &[0], &mut work);
-    assert!(rt; choice.rank == 2 && choice.cost == 0);
-    assert!(rt; work.chosen().is_empty());
+    let found = place_once::<Brand>(Blank::new(1), &g, &offered, 3, &[0], 3, &mut work);
+    assert!(rt; is_shortfall(found, &[0, 1, 2, 3], 2, 0, 3));
     Ok(())
 }
 
@@ -96,9 +161,8 @@ fn free_candidate(rt: HostRuntime) -> Result<(), Fail> {
         Touch::Edge(2),
     ]);
     let mut work = PlaceWork::make(rt.alloc(), 4, 3, 4)?;
-    let choice = choose_once::<Brand>(Blank::new(1), &g, &offered, 3, &[0], &mut work);
-    assert!(rt; choice.rank == 3 && choice.cost == 0);
-    assert!(rt; work.chosen() == [0].as_slice());
+    let found = place_once::<Brand>(Blank::new(1), &g, &offered, 3, &[0], 3, &mut work);
+    assert!(rt; is_plan(found, &[0], 0, &[], &[]));
     Ok(())
 }
 
@@ -109,14 +173,13 @@ fn candidate_that_is_not_needed(rt: HostRuntime) -> Result<(), Fail> {
     let mut offered = Meters::make(rt.alloc(), 3)?;
     offered.refill(&[Touch::Star(0), Touch::Edge(0), Touch::Edge(1)]);
     let mut work = PlaceWork::make(rt.alloc(), 3, 3, 3)?;
-    let choice = choose_once::<Brand>(Blank::new(1), &g, &offered, 2, &[9], &mut work);
-    assert!(rt; choice.rank == 2 && choice.cost == 0);
-    assert!(rt; work.chosen().is_empty());
+    let found = place_once::<Brand>(Blank::new(1), &g, &offered, 2, &[9], 2, &mut work);
+    assert!(rt; is_plan(found, &[], 0, &[], &[]));
     Ok(())
 }
 
 #[test]
-fn second_choice_in_the_same_arrays(rt: HostRuntime) -> Result<(), Fail> {
+fn second_placement_in_the_same_arrays(rt: HostRuntime) -> Result<(), Fail> {
     let mut g = Graph::make(rt.alloc(), 4, 3)?;
     g.refill(4, &PATH);
     let mut offered = Meters::make(rt.alloc(), 5)?;
@@ -128,12 +191,28 @@ fn second_choice_in_the_same_arrays(rt: HostRuntime) -> Result<(), Fail> {
         Touch::Edge(1),
     ]);
     let mut work = PlaceWork::make(rt.alloc(), 5, 3, 4)?;
-    let choice = choose_once::<Brand>(Blank::new(1), &g, &offered, 2, &[4, 3, 3], &mut work);
-    assert!(rt; choice.rank == 3 && choice.cost == 7 && work.pairs().length() == 3);
-    assert!(rt; work.chosen() == [0, 1].as_slice());
+    find_once::<Brand>(Blank::new(1), &g, &offered, 2, &[4, 3, 3], 3, &mut work);
+    let layers = [
+        Layer {
+            from: 0,
+            to: 3,
+            rank: 0,
+            outside: 1,
+            upto: 0,
+        },
+        Layer {
+            from: 3,
+            to: 4,
+            rank: 1,
+            outside: 1,
+            upto: 2,
+        },
+    ];
+    assert!(rt; is_plan(work.found(), &[0, 1], 7, &layers, &[3, 4]));
+    assert!(rt; work.pairs().length() == 3);
     offered.refill(&[Touch::Edge(1), Touch::Nothing, Touch::Edge(1)]);
-    let again = choose_once::<Brand>(Blank::new(1), &g, &offered, 1, &[0, 0], &mut work);
-    assert!(rt; again.rank == 1 && again.cost == 0 && work.pairs().length() == 1);
-    assert!(rt; work.chosen().is_empty());
+    find_once::<Brand>(Blank::new(1), &g, &offered, 1, &[0, 0], 2, &mut work);
+    assert!(rt; is_shortfall(work.found(), &[0, 2], 1, 0, 2));
+    assert!(rt; work.pairs().length() == 1 && work.chosen().is_empty());
     Ok(())
 }

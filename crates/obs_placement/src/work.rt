@@ -1,54 +1,91 @@
-// The parts of a placement.
-ghost use Rattle.std.specs.Prelude.{◌≡◌, ◌+◌, ◌≤◌, [], All, IfOk, length};
+// What a placement is worked out in.
+ghost use Rattle.std.specs.Prelude.{◌≡◌, ◌+◌, ◌≤◌, All, IfOk, length};
 ghost use Rattle.obs_meter.specs.Assignments.{rho_at};
 ghost use Rattle.obs_meter.specs.Touches.{AreInRange, live_items};
 ghost use Rattle.obs_assign.specs.Assigned.{pairs as pairs_at};
-ghost use Rattle.obs_placement.specs.Answer.{chosen_of, cost_of};
+ghost use Rattle.obs_placement.specs.Answer.{chosen_of};
 ghost use Rattle.obs_placement.specs.Choosing.{HasRoomFor, HasSizesOf, HasSizes, HavePairsOnly};
 ghost use Rattle.obs_placement.specs.Order.{price_of};
+ghost use Rattle.obs_placement.specs.Placed.{placed_of, placement_of};
 ghost use Rattle.obs_placement.specs.Taking.{AreKnown, IsStanding};
 
-use crate::choosing::choose_first;
 use crate::memory::NoMemory;
+use crate::placing::{Laid, place_first};
+use crate::plans::{Layer, Placement, Plan};
 use obs_assign::{Assignment, Steps};
 use obs_exchange::Work;
 use obs_graph::Graph;
 use obs_meter::Meters;
+use obs_rankcut::{Bound, CutWork};
 use std::alloc::Global;
 use std::marker::Model;
 use std::sync::ledger::Ledger;
 
-/// Room for a placement, and the candidates that were chosen last.
+const NO_LAYER: Layer = Layer {
+    from: 0,
+    to: 0,
+    rank: 0,
+    outside: 0,
+    upto: 0,
+};
+
+const NOTHING: Laid = Laid {
+    short: false,
+    count: 0,
+    cost: 0,
+    rank: 0,
+    outside: 0,
+    needed: 0,
+    layers: 0,
+    inside: 0,
+};
+
+/// Room for a placement, and what was found last.
 #[derive(Drop)]
 pub struct PlaceWork {
     offered: usize,
-    count: usize,
+    laid: Laid,
     keys: Vec<(u64, u32)>,
     since: Vec<u64>,
     raised: Vec<bool>,
     list: Vec<u32>,
+    marks: Vec<bool>,
+    scope: Vec<bool>,
+    layers: Vec<Layer>,
+    inside: Vec<u32>,
     pairs: Assignment,
     search: Work,
+    cut: CutWork,
 }
 
 impl Model for PlaceWork {
     ghost use Rattle.std.specs.Prelude.{◌≡◌, ◌≤◌, length, take};
     ghost use Rattle.obs_placement.specs.Choosing.{Placing};
+    ghost use Rattle.obs_placement.specs.Placed.{laid_in};
 
     ghost Value = { Placing };
 
-    ghost view = { λ w. record { chosen = take w.count w.list.items; since = take w.offered w.since.items; pairs = w.pairs; most_offered = length w.since.items; most_branches = w.search.most_branches; most_vertices = w.search.most_vertices } };
+    ghost view = { λ w. record { placed = laid_in w.laid w.list.items w.cut.inside w.layers.items w.inside.items; chosen = take w.laid.count w.list.items; since = take w.offered w.since.items; pairs = w.pairs; most_offered = length w.since.items; most_branches = w.search.most_branches; most_vertices = w.search.most_vertices } };
 
     ghost invariant = { λ w. record {
       offered : w.offered ≤ length w.since.items;
-      count : w.count ≤ length w.list.items;
+      count : w.laid.count ≤ length w.list.items;
+      layers_count : w.laid.layers ≤ length w.layers.items;
+      inside_count : w.laid.inside ≤ length w.inside.items;
       keys : length w.keys.items ≡ length w.since.items;
       raised : length w.raised.items ≡ length w.since.items;
       list : length w.list.items ≡ length w.since.items;
+      marks : length w.marks.items ≡ length w.since.items;
+      scope : length w.scope.items ≡ length w.since.items;
+      layers : length w.layers.items ≡ length w.since.items;
+      inside : length w.inside.items ≡ length w.since.items;
       pairs : w.pairs.most_meters ≡ length w.since.items;
       branches : w.pairs.forest.most_branches ≡ w.search.most_branches;
       vertices : w.pairs.forest.most_vertices ≡ w.search.most_vertices;
       search : w.search.most_meters ≡ length w.since.items;
+      cut : w.cut.most_meters ≡ length w.since.items;
+      cut_branches : w.cut.most_branches ≡ w.search.most_branches;
+      cut_vertices : w.cut.most_vertices ≡ w.search.most_vertices;
     } };
 }
 
@@ -64,25 +101,52 @@ impl PlaceWork {
     {
         Ok(PlaceWork {
             offered: 0,
-            count: 0,
+            laid: NOTHING,
             keys: vec![in alloc; (0, 0); most_offered as usize]?,
             since: vec![in alloc; 0; most_offered as usize]?,
             raised: vec![in alloc; false; most_offered as usize]?,
             list: vec![in alloc; 0; most_offered as usize]?,
+            marks: vec![in alloc; false; most_offered as usize]?,
+            scope: vec![in alloc; false; most_offered as usize]?,
+            layers: vec![in alloc; NO_LAYER; most_offered as usize]?,
+            inside: vec![in alloc; 0; most_offered as usize]?,
             pairs: Assignment::make(alloc, most_offered, most_branches, most_vertices)?,
             search: Work::make(alloc, most_offered, most_branches, most_vertices)?,
+            cut: CutWork::make(alloc, most_offered, most_branches, most_vertices)?,
         })
     }
 
-    /// The positions of the candidates that were chosen last, rising.
+    /// The placement that was found last.
+    pub fn found(&self) -> Placement<'_>
+        ensures placed { placed_of result ≡ self.now.placed }
+    {
+        if self.laid.short {
+            Placement::Shortfall(Bound {
+                inside: self.cut.inside(),
+                rank: self.laid.rank,
+                outside: self.laid.outside,
+                needed: self.laid.needed,
+            })
+        } else {
+            Placement::Cheapest(Plan {
+                chosen: &self.list[..self.laid.count],
+                cost: self.laid.cost,
+                layers: &self.layers[..self.laid.layers],
+                inside: &self.inside[..self.laid.inside],
+            })
+        }
+    }
+
+    /// The positions of the candidates that were chosen last, rising: of those that each raise the greatest length, also where
+    /// all that was offered fell short.
     pub fn chosen(&self) -> &[u32]
         ensures chosen { result.now ≡ self.now.chosen }
     {
-        &self.list[..self.count]
+        &self.list[..self.laid.count]
     }
 
-    /// The pairs after the last choice: of meters and chosen candidates alone, and as many as the greatest length of all that was
-    /// offered. Before the first choice nothing is said of them.
+    /// The pairs after the last placement: of meters and chosen candidates alone, and as many as the greatest length of all that
+    /// was offered. Before the first placement nothing is said of them.
     pub fn pairs(&self) -> &Assignment
         ensures pairs { result.now ≡ self.now.pairs }
     {
@@ -90,56 +154,74 @@ impl PlaceWork {
     }
 }
 
-/// What a choice gives: the greatest length of all that was offered, and what the chosen candidates cost.
-#[derive(Clone, Copy, Debug, PartialEq, Eq)]
-pub struct Choice {
-    pub rank: u32,
-    pub cost: u64,
-}
-
-/// Chooses, of the candidates by rising price and then by position, each that raises the greatest length of the meters and
-/// all candidates before it. `PlaceWork::chosen` then has their positions.
-pub fn choose<L: Ledger>(
+/// Finds the cheapest candidates that, with the meters, reach the needed number, or the bound which shows that all of them don't.
+/// `offered` are so many meters and then the candidates. `PlaceWork::found` then has the placement.
+pub fn find_placement<L: Ledger>(
     g: &Graph,
     offered: &Meters,
     meters: u32,
     prices: &[u64],
+    needed: u32,
     work: &mut PlaceWork,
     steps: &mut Steps<L>,
-) -> Choice
+)
     requires in_range { AreInRange g.now offered.now.touches }
     requires items { length offered.now.touches ≡ meters + length prices.now }
     requires few { length prices.now ≤ 20000 }
     requires cheap { All (λ p. p ≤ 1000000000) prices.now }
     requires room { HasRoomFor work.old g.now offered.now.touches }
-    ensures rank { result.rank ≡ rho_at g.now.vertices g.now.ends offered.now.touches (live_items g.now.ends offered.now.touches) }
-    ensures cost { result.cost ≡ cost_of prices.now (chosen_of g.now.vertices g.now.ends offered.now.touches meters prices.now) }
+    ensures placed { work.new.placed ≡ placement_of g.now.vertices g.now.ends offered.now.touches meters prices.now needed }
     ensures chosen { work.new.chosen ≡ chosen_of g.now.vertices g.now.ends offered.now.touches meters prices.now }
+    ensures longest { length (pairs_at work.new.pairs) ≡ rho_at g.now.vertices g.now.ends offered.now.touches (live_items g.now.ends offered.now.touches) }
     ensures standing { IsStanding g.now offered.now.touches work.new.pairs }
-    ensures longest { length (pairs_at work.new.pairs) ≡ result.rank }
     ensures only_chosen { HavePairsOnly meters (chosen_of g.now.vertices g.now.ends offered.now.touches meters prices.now) work.new.pairs }
     ensures known { AreKnown g.now offered.now.touches (price_of meters prices.now) work.new.since }
     ensures same_sizes { HasSizesOf work.old work.new }
 {
     let _ = g.vertices();
     let n = offered.count() as usize;
-    let listed = choose_first(
+    let laid = place_first(
         g,
         offered,
         meters,
         prices,
+        needed,
         &mut work.keys,
         &mut work.pairs,
         &mut work.search,
         &mut work.since,
         &mut work.raised,
         &mut work.list,
+        &mut work.marks,
+        &mut work.scope,
+        &mut work.cut,
+        &mut work.layers,
+        &mut work.inside,
         steps,
     );
     work.offered = n;
-    work.count = listed.count;
-    Choice {
-        rank: work.pairs.length(),
-        cost: listed.cost,
-    }
+    work.laid = laid;
+}
+
+/// The cheapest candidates that, with the meters, reach the needed number, with the layers that prove it; or, where all candidates
+/// together fall short of it, the bound that shows this. `offered` are so many meters and then the candidates, whose prices these
+/// are. No memory is taken.
+pub fn place<'a, L: Ledger>(
+    g: &Graph,
+    offered: &Meters,
+    meters: u32,
+    prices: &[u64],
+    needed: u32,
+    work: &'a mut PlaceWork,
+    steps: &mut Steps<L>,
+) -> Placement<'a>
+    requires in_range { AreInRange g.now offered.now.touches }
+    requires items { length offered.now.touches ≡ meters + length prices.now }
+    requires few { length prices.now ≤ 20000 }
+    requires cheap { All (λ p. p ≤ 1000000000) prices.now }
+    requires room { HasRoomFor work.old g.now offered.now.touches }
+    ensures placed { placed_of result ≡ placement_of g.now.vertices g.now.ends offered.now.touches meters prices.now needed }
+{
+    find_placement(g, offered, meters, prices, needed, work, steps);
+    work.found()
 }

@@ -1,5 +1,5 @@
 -- A pass over the meters.
-use Rattle.std.proofs.Common.{◌≡◌, ℕ, suc, ◌+◌, ◌-◌, ◌<◌, ◌≤◌, Bool, true, false, not, Option, List, [], ◌∷◌, ◌++◌, length, set, take, refl, sym, ap, ◌∙◌, subst, inl, inr, arith, append_assoc}
+use Rattle.std.proofs.Common.{◌≡◌, ℕ, suc, ◌+◌, ◌-◌, ◌<◌, ◌≤◌, Bool, true, false, not, ◌&&◌, Option, List, [], ◌∷◌, ◌++◌, length, set, take, refl, sym, ap, ◌∙◌, subst, inl, inr, arith, append_assoc}
 use Rattle.std.specs.Prelude.{filter, flat_map}
 use Rattle.std.specs.List.{range_with_len}
 use Rattle.std.proofs.lemmas.Bool.{cases_Bool}
@@ -12,6 +12,12 @@ use Rattle.obs_meter.specs.Touches.{is_live, touch_at}
 use Rattle.obs_rankcut.specs.Bounds.{listed, unlisted}
 use Rattle.obs_rankcut.specs.Flags.{marked}
 use Rattle.obs_rankcut.specs.Marks.{AreMarkedToo, AreStarsMarked, MarksJust}
+
+-- what is neither marked nor unmarked isn't live
+pub idle : (live mark : Bool) → (live && mark) ≡ false → (live && not mark) ≡ false → live ≡ false
+idle false mark a b = refl
+idle true true a b = a
+idle true false a b = b
 
 -- the numbers from i on, below n
 abbrev rest : ℕ → ℕ → List ℕ

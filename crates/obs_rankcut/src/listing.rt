@@ -1,6 +1,6 @@
 // One pass over the meters: the marked ones of the scope are listed with the branches that they touch, and the others
 // counted.
-ghost use Rattle.std.specs.Prelude.{◌≡◌, ◌<◌, ◌≤◌, ℕ, All, false, flat_map, length, replicate, take};
+ghost use Rattle.std.specs.Prelude.{◌≡◌, ◌<◌, ◌≤◌, ◌&&◌, ℕ, All, false, flat_map, length, not, replicate, take};
 ghost use Rattle.obs_meter.specs.Touches.{AreInRange, IsInRange, touch_at, touched};
 ghost use Rattle.obs_graph.specs.Positions.{branches_at};
 ghost use Rattle.obs_rankcut.specs.Bounds.{listed, listed_rank, unlisted};
@@ -58,6 +58,20 @@ fn mark_touched(g: &Graph, touch: Touch, flags: &mut [bool], stars: &mut [bool])
     }
 }
 
+// Whether a meter of the scope is listed: it is live and marked.
+fn is_listed(live: bool, mark: bool) -> bool
+    ensures listed { result ≡ (live && mark) }
+{
+    live && mark
+}
+
+// Whether a meter of the scope is counted as outside: it is live and not marked.
+fn is_outside(live: bool, mark: bool) -> bool
+    ensures outside { result ≡ (live && not mark) }
+{
+    live && !mark
+}
+
 /// How many meters are listed, and how many other live meters the scope has.
 #[derive(Clone, Copy)]
 pub struct Passed {
@@ -91,12 +105,14 @@ pub fn pass(
     let mut count = 0;
     let mut outside = 0;
     for m in 0..ms.count() {
-        if scope[m as usize] && ms.live(g, m) {
-            if marks[m as usize] {
+        if scope[m as usize] {
+            let live = ms.live(g, m);
+            let mark = marks[m as usize];
+            if is_listed(live, mark) {
                 list[count] = m;
                 count += 1;
                 mark_touched(g, ms.kind(m), flags, stars);
-            } else {
+            } else if is_outside(live, mark) {
                 outside += 1;
             }
         }

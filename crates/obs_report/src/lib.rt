@@ -3,15 +3,22 @@
 
 mod counts;
 mod gathered;
+mod islands;
 mod lines;
 mod meters;
+mod names;
 mod nodes;
 #[cfg(test)]
 mod tests;
+#[cfg(test)]
+mod tree_tests;
+mod trees;
 mod words;
 
 pub use counts::print_counts;
+pub use islands::print_islands;
 pub use lines::{print_count, print_fault, print_last_line};
 pub use meters::{print_bound, print_critical};
 pub use nodes::print_nodes;
+pub use trees::print_tree;
 pub use words::{print_end, print_number, print_word};

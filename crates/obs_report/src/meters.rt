@@ -6,30 +6,12 @@ ghost use Rattle.obs_report.specs.Meters.{bound_line, bound_text, component_name
 ghost use Rattle.obs_report.specs.Printed.{Appends, IsPrinted};
 
 use crate::gathered::Gathered;
-use crate::nodes::{first_of, name_at};
+use crate::names::{component_at, meter_at};
 use obs_case::Case;
 use obs_io::{Failed, Sink};
 use obs_network::Network;
 use obs_rankcut::Bound;
 use obs_text::Digits;
-
-// The name of the meter at a position.
-fn meter_at(case: &Case, m: u32) -> &[u8]
-    requires meter { m < length case.now.meters }
-    ensures name { result.now ≡ meter_name case.now m }
-{
-    case.meters()[m as usize].name.bytes()
-}
-
-// The name of a component.
-fn component_at<'a>(case: &'a Case, network: &Network, c: u32) -> &'a [u8]
-    requires network { network.now ≡ network_of case.now }
-    requires component { c < length network.now.components.first_buses }
-    ensures name { result.now ≡ component_name case.now c }
-{
-    let bus = network.first_bus(c);
-    name_at(case, first_of(network.buses().members(bus)))
-}
 
 // Prints the line of a component's bound.
 fn print_numbers<W: Sink>(

@@ -6,25 +6,10 @@ ghost use Rattle.obs_report.specs.Nodes.{node_line, node_lines, node_name};
 ghost use Rattle.obs_report.specs.Printed.{Appends, IsPrinted};
 
 use crate::gathered::Gathered;
+use crate::names::{first_of, name_at};
 use obs_case::{Case, Node};
 use obs_io::{Failed, Sink};
 use obs_switch::Buses;
-
-/// The name of the node at a position.
-pub(crate) fn name_at(case: &Case, node: u32) -> &[u8]
-    requires node { node < length case.now.nodes }
-    ensures name { result.now ≡ node_name case.now node }
-{
-    case.nodes()[node as usize].name.bytes()
-}
-
-/// The first of some nodes.
-pub(crate) fn first_of(members: &[u32]) -> u32
-    requires some { 0 < length members.now }
-    ensures first { result ≡ slice_index members.now 0 }
-{
-    members[0]
-}
 
 // The first node of a node's bus.
 fn first_node(case: &Case, buses: &Buses, node: u32) -> u32

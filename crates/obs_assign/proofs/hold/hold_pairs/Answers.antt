@@ -1,8 +1,6 @@
-use Rattle.std.proofs.Common.{◌≡◌, ℕ, length, take, ap, sym, ◌∙◌, subst, arith}
-use Rattle.std.proofs.lemmas.List.{length-take-le}
-use Rattle.obs_graph.specs.Positions.{IsForestAt}
-use Rattle.obs_matroid.specs.Slots.{pairs_of}
-use Rattle.obs_matroid.proofs.Bounds.{length-branches}
+use Rattle.std.proofs.Common.{ℕ, List, take, sym, subst, arith}
+use Rattle.obs_assign.specs.Kept.{IsListed}
+use Rattle.obs_assign.proofs.Listed.{IsListed-all}
 use Rattle.obs_assign.proofs.Slotted.{branch_low, slots_apart}
 use Rattle.obs_assign.proofs.hold.hold_pairs.Goals as goal
 
@@ -11,3 +9,8 @@ list_pairs-count-requires-clause-low c = λ m e h. let l = branch_low c.args.g.n
 
 pub list_pairs-count-requires-clause-apart : goal.list_pairs-count-requires-clause-apart
 list_pairs-count-requires-clause-apart c = slots_apart c.args.g.now.ends (take c.args.meters c.args.slots.now) c.requires.forest
+
+pub returns-clause-listed : goal.returns-clause-listed
+returns-clause-listed c =
+    let slots = take c.args.meters c.args.slots.now in
+    subst (λ (l : List ℕ). IsListed slots l) (sym c.list_pairs-count.ensures.list) (IsListed-all c.args.g.now.ends slots c.requires.forest)

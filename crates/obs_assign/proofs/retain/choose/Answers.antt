@@ -1,4 +1,4 @@
-use Rattle.std.proofs.Common.{◌≡◌, ℕ, None, get_or, sym, ap, ◌∙◌, arith}
+use Rattle.std.proofs.Common.{arith}
 use Rattle.obs_assign.proofs.Choosing.{Choosing-ended, Choosing-none, Choosing-put}
 use Rattle.obs_assign.proofs.retain.choose.Goals as goal
 use Rattle.obs_assign.proofs.retain.choose.Goals.{in-Some, in_default}

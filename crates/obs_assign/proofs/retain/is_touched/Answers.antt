@@ -1,4 +1,4 @@
-use Rattle.std.proofs.Common.{◌≡◌, None, Bool, get_or, sym, ap, ◌∙◌, subst}
+use Rattle.std.proofs.Common.{None, sym, ap, ◌∙◌}
 use Rattle.std.proofs.lemmas.List.{get_or_default}
 use Rattle.obs_graph.specs.Positions.{has_end}
 use Rattle.obs_meter.specs.declared.Touch.{Touch}

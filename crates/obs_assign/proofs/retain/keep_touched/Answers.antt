@@ -1,4 +1,4 @@
-use Rattle.std.proofs.Common.{◌≡◌, ◌<◌, ℕ, length, None, get_or, sym, ◌∙◌, arith}
+use Rattle.std.proofs.Common.{◌<◌, length, None, get_or, sym, ◌∙◌, arith}
 use Rattle.obs_assign.proofs.Choosing.{IfSome-by}
 use Rattle.obs_assign.proofs.retain.keep_touched.Goals as goal
 

@@ -1,12 +1,9 @@
-use Rattle.std.proofs.Common.{◌≡◌, ◌<◌, ◌++◌, ℕ, List, Option, Some, None, length, get_or, take, drop, refl, sym, ap, ◌∙◌, subst, arith}
+use Rattle.std.proofs.Common.{◌≡◌, ◌<◌, ◌++◌, ℕ, List, Option, length, take, drop, sym, ◌∙◌, subst, arith}
 use Rattle.std.specs.Prelude.{All}
-use Rattle.std.proofs.lemmas.List.{get_or-take, length-take-le, take_all, take-append-le}
-use Rattle.obs_graph.specs.declared.search.Up.{Up}
+use Rattle.std.proofs.lemmas.List.{length-take-le, take_all, take-append-le}
 use Rattle.obs_graph.specs.Positions.{IsForestAt}
-use Rattle.obs_graph.specs.Search.{AreWaysUp, IsWayUp, state_of}
 use Rattle.obs_matroid.specs.Assignments.{branches}
 use Rattle.obs_matroid.specs.Slots.{pairs_of}
-use Rattle.obs_forest.specs.Holding.{taken}
 use Rattle.obs_assign.specs.Still.{AreRetained}
 use Rattle.obs_assign.proofs.Slotted.{slot_low}
 use Rattle.obs_assign.proofs.Retained.{IsRetained, IsRetained-made, low_positions, ups_low}

@@ -1,16 +1,15 @@
-use Rattle.std.proofs.Common.{◌≡◌, ℕ, List, Option, Some, None, get_or, set, take, length, ap, sym, ◌∙◌, subst, arith}
-use Rattle.std.specs.Prelude.{IsSome}
+use Rattle.std.proofs.Common.{Some, None, get_or, set, take, length, ap, sym, ◌∙◌, subst, arith}
 use Rattle.std.proofs.lemmas.List.{get_or-take, length-take-le}
 use Rattle.obs_graph.specs.Positions.{IsForestAt}
 use Rattle.obs_matroid.specs.Assignments.{branches}
 use Rattle.obs_matroid.specs.Slots.{pairs_of}
 use Rattle.obs_forest.specs.Holding.{Holding, StandsOver}
-use Rattle.obs_forest.proofs.Held.{length-taken, part-taken}
 use Rattle.obs_assign.specs.Assigned.{HoldsPairs}
-use Rattle.obs_assign.specs.Kept.{IsInverse}
+use Rattle.obs_assign.specs.Kept.{IsInverse, IsListed}
 use Rattle.obs_assign.specs.Pins.{pinned_slots}
 use Rattle.obs_assign.proofs.Slotted.{HoldsPairs-taken}
-use Rattle.obs_assign.proofs.Pinning.{HoldsPairs-swapped, inverse-swapped, some_there, take-pinned}
+use Rattle.obs_assign.proofs.Pinning.{HoldsPairs-swapped, inverse-swapped, same_branches, some_there, take-pinned}
+use Rattle.obs_assign.proofs.Listed.{IsListed-same}
 use Rattle.obs_assign.proofs.Keeping.{StandsOver-taken}
 use Rattle.obs_assign.proofs.spare.take_pin.Goals as goal
 
@@ -55,6 +54,21 @@ returns-then-keeps_branches-clause-count c =
     r.count ∙ (sym (HoldsPairs-swapped slots m e c.args.x (omega (arith, len, r.m)) c.args.owners.now r.inverse o.0 o.1 r.spare
     (λ f h. k.1 f (sym (get_or-take c.args.meters c.args.slots.now m None r.m) ∙ h)) (omega (arith, r.e, r.owners)) c.args.g.now.ends c.args.forest.now.held r.holds r.forest).1
     ∙ ap (λ s. length (pairs_of s)) (sym (take-pinned c.args.meters c.args.slots.now m e c.args.x r.m r.x)))
+
+pub returns-then-keeps_branches-clause-listed : goal.returns-then-keeps_branches-clause-listed
+returns-then-keeps_branches-clause-listed c =
+    let r = c.requires in
+    let slots = take c.args.meters c.args.slots.now in
+    let m = c.args.pin.meter in
+    let e = c.args.pin.branch in
+    let k = c.keeps_branches.ensures.keeps c.if-keeps_branches.true in
+    let o = some_there (get_or c.args.owners.now e None) k.0 in
+    let len = length-take-le c.args.meters c.args.slots.now r.meters in
+    let list = take c.args.count c.args.list.now in
+    subst (λ s. IsListed s list) (sym (take-pinned c.args.meters c.args.slots.now m e c.args.x r.m r.x))
+    (IsListed-same slots (pinned_slots slots m e c.args.x) list r.listed
+    (same_branches slots m e c.args.x (omega (arith, len, r.m)) c.args.owners.now r.inverse o.0 o.1 r.spare
+    (λ f h. k.1 f (sym (get_or-take c.args.meters c.args.slots.now m None r.m) ∙ h)) (omega (arith, r.e, r.owners))))
 
 pub hold_pairs-requires-clause-forest : goal.hold_pairs-requires-clause-forest
 hold_pairs-requires-clause-forest c =

@@ -14,9 +14,6 @@ no_read t e = elim (report_status-is t) [ inl d ↦ absurd cc | inr s ↦ absurd
 no_write : (t : Tables) → report_status t ≡ WriteFault → ⊥
 no_write t e = elim (report_status-is t) [ inl d ↦ absurd cc | inr s ↦ absurd cc ]
 
-pub verdict-status-requires : goal.verdict-status-requires
-verdict-status-requires g c = record { network = c.requires.network; rank = c.requires.rank }
-
 pub print_report-requires : goal.print_report-requires
 print_report-requires g c = record {
   network = c.requires.network;

@@ -1,16 +1,9 @@
-use Rattle.std.proofs.Common.{◌∙◌, sym, ap}
-use Rattle.obs_network.specs.Network.{NetworkOf}
+use Rattle.std.proofs.Common.{◌∙◌, sym}
 use Rattle.obs_engine.proofs.OfNetwork.{verdict_done, verdict_short}
 use Rattle.obs_engine.proofs.report.verdict.Goals as goal
 
-pub returns-then-length-needed : goal.returns-then-length-needed
-returns-then-length-needed c = record {
-  status = verdict_done c.args.case.now
-      (sym c.requires.rank ∙ (sym c.length.ensures.length ∙ (c.if-length-needed.true ∙ (c.needed.ensures.needed ∙ ap (λ (n : NetworkOf). n.needed) c.requires.network))));
-}
+pub returns-then-rank-needed : goal.returns-then-rank-needed
+returns-then-rank-needed c = record { status = verdict_done c.args.case.now (sym c.requires.rank ∙ (c.if-rank-needed.true ∙ c.requires.needed)) }
 
-pub returns-else-length-needed : goal.returns-else-length-needed
-returns-else-length-needed c = record {
-  status = verdict_short c.args.case.now
-      (λ e. c.if-length-needed.false (c.length.ensures.length ∙ (c.requires.rank ∙ (e ∙ sym (c.needed.ensures.needed ∙ ap (λ (n : NetworkOf). n.needed) c.requires.network)))));
-}
+pub returns-else-rank-needed : goal.returns-else-rank-needed
+returns-else-rank-needed c = record { status = verdict_short c.args.case.now (λ e. c.if-rank-needed.false (c.requires.rank ∙ (e ∙ sym c.requires.needed))) }

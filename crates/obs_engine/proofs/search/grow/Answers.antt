@@ -2,5 +2,4 @@ use Rattle.obs_engine.proofs.Growing.{Growing-smaller}
 use Rattle.obs_engine.proofs.search.grow.Goals as goal
 
 pub loop-smaller : goal.loop-smaller
-loop-smaller g c =
-    Growing-smaller c.args.g.now c.args.ms.now.touches c.loop.pairs c.search.new.a c.loop.work c.search.new.work c.loop.invariant c.search.ensures.stands c.search.ensures.same_sizes c.in-Grown.field-0 c.in-Grown.ensures.found
+loop-smaller g c = Growing-smaller c.args.g.now c.args.ms.now.touches c.loop.pairs c.add_pair.new.kept c.add_pair.ensures.stands (c.add_pair.ensures.longer c.loop-test.true)

@@ -1,4 +1,4 @@
-use Rattle.obs_ieee_cdf.proofs.LawLemmas.{CaseIsRead-holds, FaultWhereNoCase-holds}
+use Rattle.obs_ieee_cdf.proofs.CaseLemmas.{CaseIsRead-holds, FaultWhereNoCase-holds}
 use Rattle.obs_ieee_cdf.proofs.laws.case_is_read.Goals as goal
 
 pub returns-clause-case : goal.returns-clause-case

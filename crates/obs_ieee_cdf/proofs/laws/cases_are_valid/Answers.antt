@@ -1,4 +1,4 @@
-use Rattle.obs_ieee_cdf.proofs.ValidLemmas.{CasesAreValid-holds}
+use Rattle.obs_ieee_cdf.proofs.CaseLemmas.{CasesAreValid-holds}
 use Rattle.obs_ieee_cdf.proofs.laws.cases_are_valid.Goals as goal
 
 pub returns : goal.returns

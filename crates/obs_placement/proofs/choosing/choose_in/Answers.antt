@@ -37,3 +37,6 @@ pub returns-clause-only_chosen : goal.returns-clause-only_chosen
 returns-clause-only_chosen g c =
     only_chosen c.args.g.now c.args.offered.now.touches c.args.meters c.args.prices.now c.take_all.new.a c.take_all.new.since c.take_all.new.raised c.vertices.ensures.branches
     c.take_all.ensures.taken c.requires.items
+
+pub returns-clause-raised : goal.returns-clause-raised
+returns-clause-raised g c = c.take_all.ensures.taken.chosen

@@ -1,10 +1,12 @@
-use Rattle.std.proofs.Common.{◌<◌, length, sym, ◌∙◌, subst, arith}
+use Rattle.std.proofs.Common.{◌<◌, false, not, length, sym, ◌∙◌, subst, arith}
+use Rattle.std.specs.Prelude.{slice_index_or}
+use Rattle.std.proofs.lemmas.Bool.{and_parts, not-true}
 use Rattle.obs_meter.specs.Touches.{touched}
 use Rattle.obs_rankcut.specs.Flags.{marked}
 use Rattle.obs_rankcut.specs.Marks.{AreMarkedToo}
-use Rattle.obs_rankcut.proofs.Passing.{Passed-counted, Passed-flags, Passed-idle, Passed-listed, Passed-out}
+use Rattle.obs_rankcut.proofs.Passing.{Passed-counted, Passed-flags, Passed-idle, Passed-listed, Passed-out, idle}
 use Rattle.obs_rankcut.proofs.listing.pass.Goals as goal
-use Rattle.obs_rankcut.proofs.listing.pass.Goals.{then-scope-m+then-live+then-marks-m, then-scope-m+then-live+else-marks-m, else-scope-m, else-scope-m-via-then-scope-m+else-live, else-scope-m-via-else-scope-m}
+use Rattle.obs_rankcut.proofs.listing.pass.Goals.{then-scope-m+then-is_listed, then-scope-m+else-is_listed+then-is_outside, then-scope-m+else-is_listed+else-is_outside, else-scope-m}
 
 pub overflow_add-outside : goal.overflow_add-outside
 overflow_add-outside c = let b = c.loop-m.invariant.bound_outside in omega arith
@@ -18,18 +20,23 @@ loop-m-preserved c =
     let scope = marked c.args.scope.now in
     let low : l.m < length touches = let e = c.count-m-end.ensures.count in let t = c.loop-m-test.true in omega arith in
     elim c.if-scope-m.branch [
-      | then-scope-m+then-live+then-marks-m w ↦ rw (w.flags-is, w.stars-is, w.list-is, w.count-is, w.outside-is)
-          (Passed-listed ends touches marks scope l.m low l.flags l.stars l.list l.count l.outside l.invariant (sym w.live.ensures.live ∙ w.if-live.true) w.if-scope-m.true w.if-marks-m.true (omega arith)
+      | then-scope-m+then-is_listed w ↦
+          let parts = and_parts w.live-live.result (slice_index_or c.args.marks.now l.m false) (sym w.is_listed.ensures.listed ∙ w.if-is_listed.true) in
+          rw (w.flags-is, w.stars-is, w.list-is, w.count-is, w.outside-is)
+          (Passed-listed ends touches marks scope l.m low l.flags l.stars l.list l.count l.outside l.invariant (sym w.live-live.ensures.live ∙ parts.0) w.if-scope-m.true parts.1 (omega arith)
           w.mark_touched.new.flags w.mark_touched.new.stars
           (subst (λ t. AreMarkedToo l.flags (touched ends t) w.mark_touched.new.flags) w.kind.ensures.kind w.mark_touched.ensures.marks)
           w.mark_touched.ensures.done)
-      | then-scope-m+then-live+else-marks-m w ↦ rw (w.flags-is, w.stars-is, w.list-is, w.count-is, w.outside-is)
-          (Passed-counted ends touches marks scope l.m low l.flags l.stars l.list l.count l.outside l.invariant (sym w.live.ensures.live ∙ w.if-live.true) w.if-scope-m.true w.if-marks-m.false)
+      | then-scope-m+else-is_listed+then-is_outside w ↦
+          let parts = and_parts w.live-live.result (not (slice_index_or c.args.marks.now l.m false)) (sym w.is_outside.ensures.outside ∙ w.if-is_outside.true) in
+          rw (w.flags-is, w.stars-is, w.list-is, w.count-is, w.outside-is)
+          (Passed-counted ends touches marks scope l.m low l.flags l.stars l.list l.count l.outside l.invariant (sym w.live-live.ensures.live ∙ parts.0) w.if-scope-m.true (not-true (slice_index_or c.args.marks.now l.m false) parts.1))
+      | then-scope-m+else-is_listed+else-is_outside w ↦
+          let none = idle w.live-live.result (slice_index_or c.args.marks.now l.m false) (sym w.is_listed.ensures.listed ∙ w.if-is_listed.false) (sym w.is_outside.ensures.outside ∙ w.if-is_outside.false) in
+          rw (w.flags-is, w.stars-is, w.list-is, w.count-is, w.outside-is)
+          (Passed-idle ends touches marks scope l.m low l.flags l.stars l.list l.count l.outside l.invariant (sym w.live-live.ensures.live ∙ none))
       | else-scope-m w ↦ rw (w.flags-is, w.stars-is, w.list-is, w.count-is, w.outside-is)
-          (elim w.else-scope-m.branch [
-            | else-scope-m-via-then-scope-m+else-live v ↦ Passed-idle ends touches marks scope l.m low l.flags l.stars l.list l.count l.outside l.invariant (sym v.live.ensures.live ∙ v.if-live.false)
-            | else-scope-m-via-else-scope-m v ↦ Passed-out ends touches marks scope l.m low l.flags l.stars l.list l.count l.outside l.invariant v.if-scope-m.false
-          ])
+          (Passed-out ends touches marks scope l.m low l.flags l.stars l.list l.count l.outside l.invariant w.if-scope-m.false)
     ]
 
 pub returns-clause-flags : goal.returns-clause-flags

@@ -1,79 +1,69 @@
-use Rattle.std.proofs.Common.{◌≡◌, ◌++◌, ℕ, List, Option, length, take, drop, refl, ap, sym, ◌∙◌, subst, arith}
-use Rattle.std.specs.Prelude.{Some, None}
-use Rattle.obs_graph.specs.Positions.{IsForestAt}
+use Rattle.std.proofs.Common.{◌≡◌, ◌++◌, ℕ, List, Option, get_or, length, take, drop, refl, ap, sym, ◌∙◌, subst}
+use Rattle.std.specs.Prelude.{None}
 use Rattle.obs_graph.specs.Search.{state_of}
 use Rattle.obs_matroid.specs.Assignments.{branches}
 use Rattle.obs_matroid.specs.Slots.{pairs_of}
 use Rattle.obs_forest.specs.Holding.{Holding, taken}
 use Rattle.obs_forest.proofs.Keeping.{written_back}
-use Rattle.obs_assign.specs.Assigned.{Assigned, IsWhole, StandsOver, pairs}
-use Rattle.obs_assign.specs.Kept.{IsInverse, seen}
+use Rattle.obs_assign.specs.Assigned.{Assigned, IsWhole, StandsOver}
+use Rattle.obs_assign.specs.Kept.{seen}
 use Rattle.obs_assign.specs.Moves.{moved}
-use Rattle.obs_assign.proofs.Keeping.{HasArrays-same, IsKept-by}
-use Rattle.obs_assign.proofs.Changes.{IsMoved, IsMoved-made, moved_first}
+use Rattle.obs_assign.proofs.Keeping.{HasArrays-same, IsKept-by, only_move}
+use Rattle.obs_assign.proofs.Changes.{IsMoved, IsMoved-made}
 use Rattle.obs_assign.proofs.whole.Assignment.augment.Goals as goal
 
-pub hold_pairs-self-inside-requires-clause-forest : goal.hold_pairs-self-inside-requires-clause-forest
-hold_pairs-self-inside-requires-clause-forest g c =
+pub take_path-self-inside-requires-clause-bare : goal.take_path-self-inside-requires-clause-bare
+take_path-self-inside-requires-clause-bare g c = λ x one.
     let ins = c.self.inside in
-    let kept = c.self.invariant in
-    let low = kept.arrays.meters_low in
-    let new = c.write_moves.new.slots in
-    let len : length new ≡ length ins.slots.items = c.write_moves.auto.slots ∙ ap (λ (s : List (Option ℕ)). length s) c.deref_mut.ensures.value in
-    let back : take ins.slots.len (new ++ drop (length new) ins.slots.items) ≡ new = written_back ins.slots.len new ins.slots.items len ins.slots.ok.0 in
-    let new_is : new ≡ moved c.args.path.now ins.slots.items = c.write_moves.ensures.moved ∙ ap (moved c.args.path.now) c.deref_mut.ensures.value in
-    let first = moved_first c.args.self.now c.args.path.now ins.meters ins.slots.items new ins.frozen.items ins.turns ins.forest c.self.view_is low c.requires.path new_is in
-    subst (λ (s : List (Option ℕ)). IsForestAt c.args.g.now.ends (branches (pairs_of (take ins.meters s)))) (sym (c.deref.ensures.value ∙ back))
-    (subst (λ (s : List (Option ℕ)). IsForestAt c.args.g.now.ends (branches (pairs_of s))) (sym first) c.requires.assignment.forest)
+    ap (λ (s : List (Option ℕ)). get_or s x.meter None) c.deref_mut.ensures.value
+    ∙ only_move c.args.self.now ins.meters ins.slots.items c.args.path.now x (ap (λ (a : Assigned). a.slots) c.self.view_is) c.requires.path one
 
 pub invariant_of-self : goal.invariant_of-self
 invariant_of-self g c =
     let ins = c.self.inside in
     let kept = c.self.invariant in
     let low = kept.arrays.meters_low in
-    let new = c.write_moves.new.slots in
-    let len : length new ≡ length ins.slots.items = c.write_moves.auto.slots ∙ ap (λ (s : List (Option ℕ)). length s) c.deref_mut.ensures.value in
+    let new = c.take_path-self-inside.new.slots in
+    let len : length new ≡ length ins.slots.items = c.take_path-self-inside.auto.slots ∙ ap (λ (s : List (Option ℕ)). length s) c.deref_mut.ensures.value in
     let back : take ins.slots.len (new ++ drop (length new) ins.slots.items) ≡ new = written_back ins.slots.len new ins.slots.items len ins.slots.ok.0 in
-    let new_is : new ≡ moved c.args.path.now ins.slots.items = c.write_moves.ensures.moved ∙ ap (moved c.args.path.now) c.deref_mut.ensures.value in
-    let d_is : c.deref.result.now ≡ new = c.deref.ensures.value ∙ back in
-    let after = c.hold_pairs-self-inside.new.forest in
+    let new_is : new ≡ moved c.args.path.now ins.slots.items = c.take_path-self-inside.ensures.moved ∙ ap (moved c.args.path.now) c.deref_mut.ensures.value in
+    let after = c.take_path-self-inside.new.forest in
     let after_is : after ≡ record ins.forest { vertices = c.args.g.now.vertices; held = taken c.args.g.now.ends (branches (pairs_of (take ins.meters new))) } =
-    subst (λ (s : List (Option ℕ)). after ≡ record ins.forest { vertices = c.args.g.now.vertices; held = taken c.args.g.now.ends (branches (pairs_of (take ins.meters s))) }) d_is c.hold_pairs-self-inside.ensures.forest in
+    c.take_path-self-inside.ensures.forest in
     let made : IsMoved c.args.self.now c.args.path.now c.args.g.now c.args.ms.now.touches (seen ins.meters new ins.frozen.items c.turn-self-inside.result after) =
     IsMoved-made c.args.self.now c.args.path.now c.args.g.now c.args.ms.now.touches ins.meters ins.slots.items new ins.frozen.items ins.turns c.turn-self-inside.result ins.forest after
     c.self.view_is kept.whole low kept.arrays.frozen c.requires.stands c.requires.path c.requires.assignment new_is len after_is in
-    let owners = c.hold_pairs-self-inside.new.owners in
-    let list = c.hold_pairs-self-inside.new.list in
-    let owners_len : length owners ≡ length ins.owners.items = c.hold_pairs-self-inside.auto.owners ∙ ap (λ (s : List (Option ℕ)). length s) c.deref_mut-2.ensures.value in
-    let list_len : length list ≡ length ins.list.items = c.hold_pairs-self-inside.auto.list ∙ ap (λ (s : List ℕ). length s) c.deref_mut-3.ensures.value in
+    let owners = c.take_path-self-inside.new.owners in
+    let list = c.take_path-self-inside.new.list in
+    let owners_len : length owners ≡ length ins.owners.items = c.take_path-self-inside.auto.owners ∙ ap (λ (s : List (Option ℕ)). length s) c.deref_mut-2.ensures.value in
+    let list_len : length list ≡ length ins.list.items = c.take_path-self-inside.auto.list ∙ ap (λ (s : List ℕ). length s) c.deref_mut-3.ensures.value in
     let back_owners : take ins.owners.len (owners ++ drop (length owners) ins.owners.items) ≡ owners = written_back ins.owners.len owners ins.owners.items owners_len ins.owners.ok.0 in
     let back_list : take ins.list.len (list ++ drop (length list) ins.list.items) ≡ list = written_back ins.list.len list ins.list.items list_len ins.list.ok.0 in
     let most_v = ap (λ (h : Holding). h.most_vertices) after_is in
     let most_b = ap (λ (h : Holding). h.most_branches) after_is in
     let a = kept.arrays in
     rw (back, back_owners, back_list) (IsKept-by (seen ins.meters new ins.frozen.items c.turn-self-inside.result after) made.whole
-    ins.meters c.hold_pairs-self-inside.result owners (record { frozen = length ins.frozen.items; list = length list; path = length ins.path.items; candidates = length ins.candidates.items }) (state_of ins.search)
+    ins.meters c.take_path-self-inside.result owners (take c.take_path-self-inside.result list) (record { frozen = length ins.frozen.items; list = length list; path = length ins.path.items; candidates = length ins.candidates.items }) (state_of ins.search)
     (HasArrays-same (seen ins.meters ins.slots.items ins.frozen.items ins.turns ins.forest) (seen ins.meters new ins.frozen.items c.turn-self-inside.result after) ins.meters ins.meters
     (record { frozen = length ins.frozen.items; list = length ins.list.items; path = length ins.path.items; candidates = length ins.candidates.items })
     (record { frozen = length ins.frozen.items; list = length list; path = length ins.path.items; candidates = length ins.candidates.items }) (state_of ins.search) a len most_v most_b low
     (record { frozen = refl; list = list_len; path = refl; candidates = refl }))
-    (subst (λ (s : List (Option ℕ)). c.hold_pairs-self-inside.result ≡ length (pairs_of (take ins.meters s))) d_is c.hold_pairs-self-inside.ensures.count)
-    (subst (λ (s : List (Option ℕ)). IsInverse (take ins.meters s) owners) d_is c.hold_pairs-self-inside.ensures.inverse)
-    (owners_len ∙ (kept.owners_len ∙ sym most_b)))
+    c.take_path-self-inside.ensures.count
+    c.take_path-self-inside.ensures.inverse
+    (owners_len ∙ (kept.owners_len ∙ sym most_b)) c.take_path-self-inside.ensures.listed)
 
 pub returns-clause-moved : goal.returns-clause-moved
 returns-clause-moved g c =
     let ins = c.self.inside in
     let kept = c.self.invariant in
     let low = kept.arrays.meters_low in
-    let new = c.write_moves.new.slots in
-    let len : length new ≡ length ins.slots.items = c.write_moves.auto.slots ∙ ap (λ (s : List (Option ℕ)). length s) c.deref_mut.ensures.value in
+    let new = c.take_path-self-inside.new.slots in
+    let len : length new ≡ length ins.slots.items = c.take_path-self-inside.auto.slots ∙ ap (λ (s : List (Option ℕ)). length s) c.deref_mut.ensures.value in
     let back : take ins.slots.len (new ++ drop (length new) ins.slots.items) ≡ new = written_back ins.slots.len new ins.slots.items len ins.slots.ok.0 in
-    let new_is : new ≡ moved c.args.path.now ins.slots.items = c.write_moves.ensures.moved ∙ ap (moved c.args.path.now) c.deref_mut.ensures.value in
-    let d_is : c.deref.result.now ≡ new = c.deref.ensures.value ∙ back in
-    let after = c.hold_pairs-self-inside.new.forest in
+    let new_is : new ≡ moved c.args.path.now ins.slots.items = c.take_path-self-inside.ensures.moved ∙ ap (moved c.args.path.now) c.deref_mut.ensures.value in
+    let after = c.take_path-self-inside.new.forest in
     let after_is : after ≡ record ins.forest { vertices = c.args.g.now.vertices; held = taken c.args.g.now.ends (branches (pairs_of (take ins.meters new))) } =
-    subst (λ (s : List (Option ℕ)). after ≡ record ins.forest { vertices = c.args.g.now.vertices; held = taken c.args.g.now.ends (branches (pairs_of (take ins.meters s))) }) d_is c.hold_pairs-self-inside.ensures.forest in
+    c.take_path-self-inside.ensures.forest in
     let made : IsMoved c.args.self.now c.args.path.now c.args.g.now c.args.ms.now.touches (seen ins.meters new ins.frozen.items c.turn-self-inside.result after) =
     IsMoved-made c.args.self.now c.args.path.now c.args.g.now c.args.ms.now.touches ins.meters ins.slots.items new ins.frozen.items ins.turns c.turn-self-inside.result ins.forest after
     c.self.view_is kept.whole low kept.arrays.frozen c.requires.stands c.requires.path c.requires.assignment new_is len after_is in
@@ -84,14 +74,13 @@ returns-clause-longer g c =
     let ins = c.self.inside in
     let kept = c.self.invariant in
     let low = kept.arrays.meters_low in
-    let new = c.write_moves.new.slots in
-    let len : length new ≡ length ins.slots.items = c.write_moves.auto.slots ∙ ap (λ (s : List (Option ℕ)). length s) c.deref_mut.ensures.value in
+    let new = c.take_path-self-inside.new.slots in
+    let len : length new ≡ length ins.slots.items = c.take_path-self-inside.auto.slots ∙ ap (λ (s : List (Option ℕ)). length s) c.deref_mut.ensures.value in
     let back : take ins.slots.len (new ++ drop (length new) ins.slots.items) ≡ new = written_back ins.slots.len new ins.slots.items len ins.slots.ok.0 in
-    let new_is : new ≡ moved c.args.path.now ins.slots.items = c.write_moves.ensures.moved ∙ ap (moved c.args.path.now) c.deref_mut.ensures.value in
-    let d_is : c.deref.result.now ≡ new = c.deref.ensures.value ∙ back in
-    let after = c.hold_pairs-self-inside.new.forest in
+    let new_is : new ≡ moved c.args.path.now ins.slots.items = c.take_path-self-inside.ensures.moved ∙ ap (moved c.args.path.now) c.deref_mut.ensures.value in
+    let after = c.take_path-self-inside.new.forest in
     let after_is : after ≡ record ins.forest { vertices = c.args.g.now.vertices; held = taken c.args.g.now.ends (branches (pairs_of (take ins.meters new))) } =
-    subst (λ (s : List (Option ℕ)). after ≡ record ins.forest { vertices = c.args.g.now.vertices; held = taken c.args.g.now.ends (branches (pairs_of (take ins.meters s))) }) d_is c.hold_pairs-self-inside.ensures.forest in
+    c.take_path-self-inside.ensures.forest in
     let made : IsMoved c.args.self.now c.args.path.now c.args.g.now c.args.ms.now.touches (seen ins.meters new ins.frozen.items c.turn-self-inside.result after) =
     IsMoved-made c.args.self.now c.args.path.now c.args.g.now c.args.ms.now.touches ins.meters ins.slots.items new ins.frozen.items ins.turns c.turn-self-inside.result ins.forest after
     c.self.view_is kept.whole low kept.arrays.frozen c.requires.stands c.requires.path c.requires.assignment new_is len after_is in
@@ -102,14 +91,13 @@ returns-clause-stands g c =
     let ins = c.self.inside in
     let kept = c.self.invariant in
     let low = kept.arrays.meters_low in
-    let new = c.write_moves.new.slots in
-    let len : length new ≡ length ins.slots.items = c.write_moves.auto.slots ∙ ap (λ (s : List (Option ℕ)). length s) c.deref_mut.ensures.value in
+    let new = c.take_path-self-inside.new.slots in
+    let len : length new ≡ length ins.slots.items = c.take_path-self-inside.auto.slots ∙ ap (λ (s : List (Option ℕ)). length s) c.deref_mut.ensures.value in
     let back : take ins.slots.len (new ++ drop (length new) ins.slots.items) ≡ new = written_back ins.slots.len new ins.slots.items len ins.slots.ok.0 in
-    let new_is : new ≡ moved c.args.path.now ins.slots.items = c.write_moves.ensures.moved ∙ ap (moved c.args.path.now) c.deref_mut.ensures.value in
-    let d_is : c.deref.result.now ≡ new = c.deref.ensures.value ∙ back in
-    let after = c.hold_pairs-self-inside.new.forest in
+    let new_is : new ≡ moved c.args.path.now ins.slots.items = c.take_path-self-inside.ensures.moved ∙ ap (moved c.args.path.now) c.deref_mut.ensures.value in
+    let after = c.take_path-self-inside.new.forest in
     let after_is : after ≡ record ins.forest { vertices = c.args.g.now.vertices; held = taken c.args.g.now.ends (branches (pairs_of (take ins.meters new))) } =
-    subst (λ (s : List (Option ℕ)). after ≡ record ins.forest { vertices = c.args.g.now.vertices; held = taken c.args.g.now.ends (branches (pairs_of (take ins.meters s))) }) d_is c.hold_pairs-self-inside.ensures.forest in
+    c.take_path-self-inside.ensures.forest in
     let made : IsMoved c.args.self.now c.args.path.now c.args.g.now c.args.ms.now.touches (seen ins.meters new ins.frozen.items c.turn-self-inside.result after) =
     IsMoved-made c.args.self.now c.args.path.now c.args.g.now c.args.ms.now.touches ins.meters ins.slots.items new ins.frozen.items ins.turns c.turn-self-inside.result ins.forest after
     c.self.view_is kept.whole low kept.arrays.frozen c.requires.stands c.requires.path c.requires.assignment new_is len after_is in
@@ -120,14 +108,13 @@ returns-clause-whole g c =
     let ins = c.self.inside in
     let kept = c.self.invariant in
     let low = kept.arrays.meters_low in
-    let new = c.write_moves.new.slots in
-    let len : length new ≡ length ins.slots.items = c.write_moves.auto.slots ∙ ap (λ (s : List (Option ℕ)). length s) c.deref_mut.ensures.value in
+    let new = c.take_path-self-inside.new.slots in
+    let len : length new ≡ length ins.slots.items = c.take_path-self-inside.auto.slots ∙ ap (λ (s : List (Option ℕ)). length s) c.deref_mut.ensures.value in
     let back : take ins.slots.len (new ++ drop (length new) ins.slots.items) ≡ new = written_back ins.slots.len new ins.slots.items len ins.slots.ok.0 in
-    let new_is : new ≡ moved c.args.path.now ins.slots.items = c.write_moves.ensures.moved ∙ ap (moved c.args.path.now) c.deref_mut.ensures.value in
-    let d_is : c.deref.result.now ≡ new = c.deref.ensures.value ∙ back in
-    let after = c.hold_pairs-self-inside.new.forest in
+    let new_is : new ≡ moved c.args.path.now ins.slots.items = c.take_path-self-inside.ensures.moved ∙ ap (moved c.args.path.now) c.deref_mut.ensures.value in
+    let after = c.take_path-self-inside.new.forest in
     let after_is : after ≡ record ins.forest { vertices = c.args.g.now.vertices; held = taken c.args.g.now.ends (branches (pairs_of (take ins.meters new))) } =
-    subst (λ (s : List (Option ℕ)). after ≡ record ins.forest { vertices = c.args.g.now.vertices; held = taken c.args.g.now.ends (branches (pairs_of (take ins.meters s))) }) d_is c.hold_pairs-self-inside.ensures.forest in
+    c.take_path-self-inside.ensures.forest in
     let made : IsMoved c.args.self.now c.args.path.now c.args.g.now c.args.ms.now.touches (seen ins.meters new ins.frozen.items c.turn-self-inside.result after) =
     IsMoved-made c.args.self.now c.args.path.now c.args.g.now c.args.ms.now.touches ins.meters ins.slots.items new ins.frozen.items ins.turns c.turn-self-inside.result ins.forest after
     c.self.view_is kept.whole low kept.arrays.frozen c.requires.stands c.requires.path c.requires.assignment new_is len after_is in

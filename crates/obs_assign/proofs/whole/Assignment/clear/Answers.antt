@@ -1,18 +1,16 @@
 use Rattle.std.proofs.Common.{◌≡◌, ◌++◌, ℕ, Bool, List, Option, length, take, drop, ap, sym, ◌∙◌, subst, arith}
-use Rattle.std.specs.Prelude.{Some, None}
+use Rattle.std.specs.Prelude.{None}
 use Rattle.obs_graph.specs.Positions.{IsForestAt}
 use Rattle.obs_graph.specs.Search.{state_of}
 use Rattle.obs_matroid.specs.Assignments.{branches}
 use Rattle.obs_matroid.specs.Slots.{pairs_of}
 use Rattle.obs_forest.specs.Holding.{Holding, taken}
 use Rattle.obs_forest.proofs.Keeping.{written_back}
-use Rattle.obs_assign.specs.Assigned.{Assigned, IsWhole, StandsOver, pairs}
-use Rattle.obs_assign.specs.Kept.{IsInverse, seen}
-use Rattle.obs_forest.specs.Holding.{StandsOver as ForestStandsOver}
+use Rattle.obs_assign.specs.Assigned.{Assigned, IsWhole, StandsOver}
+use Rattle.obs_assign.specs.Kept.{IsInverse, IsListed, seen}
 use Rattle.obs_assign.proofs.Keeping.{HasArrays-same, IsForestAt-empty, IsKept-by}
-use Rattle.std.proofs.Common.{refl, set, replicate, false}
+use Rattle.std.proofs.Common.{refl, replicate, false}
 use Rattle.std.proofs.lemmas.List.{length-replicate}
-use Rattle.obs_meter.specs.declared.Touch.{Touch}
 use Rattle.obs_assign.proofs.Changes.{IsCleared, IsCleared-made}
 use Rattle.obs_assign.proofs.whole.Assignment.clear.Goals as goal
 
@@ -60,14 +58,15 @@ invariant_of-self c =
     let most_v = ap (λ (h : Holding). h.most_vertices) after_is in
     let most_b = ap (λ (h : Holding). h.most_branches) after_is in
     rw (back, back_flags, back_owners, back_list) (IsKept-by (seen meters (replicate n None) (replicate k false) ins.turns after) made.whole
-    meters c.hold_pairs-self-inside.result owners (record { frozen = length (replicate k false); list = length list; path = length ins.path.items; candidates = length ins.candidates.items }) (state_of ins.search)
+    meters c.hold_pairs-self-inside.result owners (take c.hold_pairs-self-inside.result list) (record { frozen = length (replicate k false); list = length list; path = length ins.path.items; candidates = length ins.candidates.items }) (state_of ins.search)
     (HasArrays-same (seen ins.meters ins.slots.items ins.frozen.items ins.turns ins.forest) (seen meters (replicate n None) (replicate k false) ins.turns after) ins.meters meters
     (record { frozen = length ins.frozen.items; list = length ins.list.items; path = length ins.path.items; candidates = length ins.candidates.items })
     (record { frozen = length (replicate k false); list = length list; path = length ins.path.items; candidates = length ins.candidates.items }) (state_of ins.search) kept.arrays (length-replicate {A = Option ℕ} n None) most_v most_b (omega (arith, room.meters, most, count))
     (record { frozen = length-replicate k false; list = list_len; path = refl; candidates = refl }))
     (subst (λ (s : List (Option ℕ)). c.hold_pairs-self-inside.result ≡ length (pairs_of (take meters s))) d_is c.hold_pairs-self-inside.ensures.count)
     (subst (λ (s : List (Option ℕ)). IsInverse (take meters s) owners) d_is c.hold_pairs-self-inside.ensures.inverse)
-    (owners_len ∙ (kept.owners_len ∙ sym most_b)))
+    (owners_len ∙ (kept.owners_len ∙ sym most_b))
+    (subst (λ (s : List (Option ℕ)). IsListed (take meters s) (take c.hold_pairs-self-inside.result list)) d_is c.hold_pairs-self-inside.ensures.listed))
 
 pub returns-clause-no_pair : goal.returns-clause-no_pair
 returns-clause-no_pair c =

@@ -1,17 +1,14 @@
-use Rattle.std.proofs.Common.{◌≡◌, ◌++◌, ℕ, List, Option, length, take, drop, ap, sym, ◌∙◌, subst, arith}
-use Rattle.std.specs.Prelude.{Some, None}
+use Rattle.std.proofs.Common.{◌≡◌, ◌++◌, ℕ, List, Option, length, take, drop, ap, sym, ◌∙◌, subst}
+use Rattle.std.specs.Prelude.{None}
 use Rattle.obs_graph.specs.Positions.{IsForestAt}
 use Rattle.obs_graph.specs.Search.{state_of}
 use Rattle.obs_matroid.specs.Assignments.{branches}
 use Rattle.obs_matroid.specs.Slots.{pairs_of}
 use Rattle.obs_forest.specs.Holding.{Holding, taken}
 use Rattle.obs_forest.proofs.Keeping.{written_back}
-use Rattle.obs_assign.specs.Assigned.{Assigned, IsWhole, StandsOver, pairs}
-use Rattle.obs_assign.specs.Kept.{IsInverse, seen}
-use Rattle.obs_forest.specs.Holding.{StandsOver as ForestStandsOver}
+use Rattle.obs_assign.specs.Kept.{IsInverse, IsListed, seen}
 use Rattle.obs_assign.proofs.Keeping.{HasArrays-same, IsKept-by}
 use Rattle.std.proofs.Common.{refl, set, length-set, false}
-use Rattle.obs_meter.specs.declared.Touch.{Touch}
 use Rattle.obs_assign.proofs.Changes.{IsDropped, IsDropped-made, dropped_first}
 use Rattle.obs_assign.proofs.whole.Assignment.drop_pair.Goals as goal
 
@@ -45,14 +42,15 @@ invariant_of-self c =
     let most_b = ap (λ (h : Holding). h.most_branches) after_is in
     let flags = set ins.frozen.items c.args.m false in
     rw (back_owners, back_list) (IsKept-by (seen ins.meters new flags ins.turns after) made.whole
-    ins.meters c.hold_pairs-self-inside.result owners (record { frozen = length flags; list = length list; path = length ins.path.items; candidates = length ins.candidates.items }) (state_of ins.search)
+    ins.meters c.hold_pairs-self-inside.result owners (take c.hold_pairs-self-inside.result list) (record { frozen = length flags; list = length list; path = length ins.path.items; candidates = length ins.candidates.items }) (state_of ins.search)
     (HasArrays-same (seen ins.meters ins.slots.items ins.frozen.items ins.turns ins.forest) (seen ins.meters new flags ins.turns after) ins.meters ins.meters
     (record { frozen = length ins.frozen.items; list = length ins.list.items; path = length ins.path.items; candidates = length ins.candidates.items })
     (record { frozen = length flags; list = length list; path = length ins.path.items; candidates = length ins.candidates.items }) (state_of ins.search) kept.arrays (length-set ins.slots.items c.args.m None) most_v most_b low
     (record { frozen = length-set ins.frozen.items c.args.m false; list = list_len; path = refl; candidates = refl }))
     (subst (λ (s : List (Option ℕ)). c.hold_pairs-self-inside.result ≡ length (pairs_of (take ins.meters s))) c.deref.ensures.value c.hold_pairs-self-inside.ensures.count)
     (subst (λ (s : List (Option ℕ)). IsInverse (take ins.meters s) owners) c.deref.ensures.value c.hold_pairs-self-inside.ensures.inverse)
-    (owners_len ∙ (kept.owners_len ∙ sym most_b)))
+    (owners_len ∙ (kept.owners_len ∙ sym most_b))
+    (subst (λ (s : List (Option ℕ)). IsListed (take ins.meters s) (take c.hold_pairs-self-inside.result list)) c.deref.ensures.value c.hold_pairs-self-inside.ensures.listed))
 
 pub returns-clause-dropped : goal.returns-clause-dropped
 returns-clause-dropped c =

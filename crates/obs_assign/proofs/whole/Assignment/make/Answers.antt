@@ -1,4 +1,4 @@
-use Rattle.std.proofs.Common.{◌≡◌, ◌++◌, ℕ, List, take, drop, Option, Some, None, length, get_or, replicate, refl, sym, ap, ◌∙◌, arith}
+use Rattle.std.proofs.Common.{◌≡◌, ◌++◌, ℕ, List, take, drop, Option, None, length, get_or, replicate, ap, ◌∙◌, arith}
 use Rattle.std.proofs.lemmas.List.{length-replicate}
 use Rattle.obs_forest.proofs.Keeping.{written_back}
 use Rattle.obs_graph.specs.Search.{state_of}

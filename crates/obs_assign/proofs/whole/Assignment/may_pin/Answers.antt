@@ -1,11 +1,11 @@
-use Rattle.std.proofs.Common.{◌≡◌, ℕ, Bool, List, Option, false, true, length, get_or, take, sym, ap, ◌∙◌, subst, arith}
-use Rattle.std.specs.Prelude.{IsSome, MatchOption, is_some}
+use Rattle.std.proofs.Common.{◌≡◌, ℕ, Bool, List, Option, false, true, length, take, sym, ap, ◌∙◌, subst, arith}
+use Rattle.std.specs.Prelude.{MatchOption}
 use Rattle.std.proofs.lemmas.List.{get_or-take, get_or_default, length-take-le}
 use Rattle.obs_matroid.specs.Assignments.{branches, part}
 use Rattle.obs_matroid.specs.Slots.{pairs_of}
 use Rattle.obs_assign.specs.Assigned.{Assigned, has_flag}
 use Rattle.obs_assign.specs.Kept.{seen}
-use Rattle.obs_assign.specs.Pins.{MayPin, joins}
+use Rattle.obs_assign.specs.Pins.{joins}
 use Rattle.obs_assign.specs.Spare.{IsSpare}
 use Rattle.obs_assign.proofs.Paths.{may_from}
 use Rattle.obs_assign.proofs.whole.Assignment.may_pin.Goals as goal

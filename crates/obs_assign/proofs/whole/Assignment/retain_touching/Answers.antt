@@ -1,14 +1,12 @@
-use Rattle.std.proofs.Common.{◌≡◌, ◌++◌, ℕ, Bool, List, Option, None, Some, length, take, drop, refl, false, replicate, ap, sym, ◌∙◌, subst, get_or, arith}
+use Rattle.std.proofs.Common.{◌≡◌, ◌++◌, ℕ, Bool, List, Option, None, length, take, drop, false, replicate, ap, sym, ◌∙◌, subst, get_or, arith}
 use Rattle.std.proofs.lemmas.List.{length-replicate}
 use Rattle.obs_graph.specs.declared.Ends.{Ends}
-use Rattle.obs_graph.specs.Positions.{IsForestAt}
-use Rattle.obs_graph.specs.Search.{State, state_of}
-use Rattle.obs_matroid.specs.Assignments.{branches}
+use Rattle.obs_graph.specs.Search.{state_of}
 use Rattle.obs_matroid.specs.Slots.{pairs_of}
-use Rattle.obs_forest.specs.Holding.{Holding, taken}
+use Rattle.obs_forest.specs.Holding.{Holding}
 use Rattle.obs_forest.proofs.Keeping.{written_back}
 use Rattle.obs_assign.specs.Assigned.{Assigned, IsWhole, StandsOver, is_frozen, pairs}
-use Rattle.obs_assign.specs.Kept.{HasArrays, IsInverse, SlotsApart, seen}
+use Rattle.obs_assign.specs.Kept.{SlotsApart, seen}
 use Rattle.obs_assign.specs.Still.{AreRetained}
 use Rattle.obs_assign.proofs.Keeping.{IsKept-by}
 use Rattle.obs_assign.proofs.Slotted.{slots_apart}
@@ -83,9 +81,9 @@ invariant_of-self c =
     let c3 = a.candidates in
     let fl = length-replicate k false in
     rw (back, back_flags, back_owners, back_list, back_candidates) (IsKept-by (seen ins.meters new (replicate k false) ins.turns after) made.whole
-    ins.meters r.result owners (record { frozen = length (replicate k false); list = length list; path = length ins.path.items; candidates = length candidates }) (state_of r.new.search)
+    ins.meters r.result owners (take r.result list) (record { frozen = length (replicate k false); list = length list; path = length ins.path.items; candidates = length candidates }) (state_of r.new.search)
     (record { few = omega arith; meters_low = omega arith; frozen = omega arith; list = omega arith; path = omega arith; candidates = omega arith; piece = omega arith; ups = omega arith; depths = omega arith; order = omega arith })
-    r.ensures.count r.ensures.inverse (owners_len ∙ (kept.owners_len ∙ sym fb)))
+    r.ensures.count r.ensures.inverse (owners_len ∙ (kept.owners_len ∙ sym fb)) r.ensures.listed)
 
 pub returns-clause-retained : goal.returns-clause-retained
 returns-clause-retained c =

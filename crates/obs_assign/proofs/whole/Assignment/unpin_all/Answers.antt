@@ -1,8 +1,6 @@
-use Rattle.std.proofs.Common.{◌≡◌, ◌++◌, ℕ, Bool, List, length, take, drop, ap, sym, ◌∙◌, false, replicate, subst, arith}
+use Rattle.std.proofs.Common.{◌≡◌, ◌++◌, Bool, List, length, take, drop, ap, ◌∙◌, false, replicate, arith}
 use Rattle.std.proofs.lemmas.List.{length-replicate}
 use Rattle.obs_forest.proofs.Keeping.{written_back}
-use Rattle.obs_assign.specs.Assigned.{Assigned}
-use Rattle.obs_assign.specs.Kept.{seen}
 use Rattle.obs_assign.proofs.Keeping.{seen-thawed}
 use Rattle.obs_assign.proofs.whole.Assignment.unpin_all.Goals as goal
 

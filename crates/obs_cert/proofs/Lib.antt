@@ -1,0 +1,5 @@
+pub mod CountLemmas
+pub mod FaultLemmas
+pub mod LawLemmas
+pub mod OrderLemmas
+pub mod WordLemmas

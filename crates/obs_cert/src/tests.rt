@@ -1,0 +1,182 @@
+ghost use Rattle.std.specs.Prelude.{◌≤◌, length};
+
+use crate::line::{Item, Line, read_line};
+use crate::{CertCode, CertEnd, CertFault, read_cert};
+use std::alloc::Global;
+
+const MOST_BYTES: usize = 16_777_216;
+
+// The first bytes.
+fn front(bytes: &[u8], count: usize) -> &[u8]
+    ensures short { length result.now ≤ count }
+{
+    if count <= bytes.len() {
+        &bytes[..count]
+    } else {
+        bytes
+    }
+}
+
+// How many claims the bytes are.
+fn count(alloc: Global, bytes: &[u8]) -> Result<u32, CertEnd> {
+    match read_cert(alloc, front(bytes, MOST_BYTES)) {
+        Ok(cert) => Ok(cert.claims()),
+        Err(end) => Err(end),
+    }
+}
+
+fn refused(line: u32, code: CertCode) -> Result<u32, CertEnd> {
+    Err(CertEnd::Fault(CertFault { line, code }))
+}
+
+// A plan with one layer.
+fn plan() -> &'static [u8] {
+    b"cost\t3\nchosen\tp2\npair\tmeter\tf1\tL1\npair\tmeter\tib\tL2\npair\tcandidate\tp2\tL3\nlayer\t0\t3\t2\t0\ninside\tmeter\tf1\ninside\tmeter\tf2\ninside\tmeter\tib\ninside\tcandidate\tp1\nend\n"
+}
+
+#[test]
+fn certificates(rt: HostRuntime) {
+    for (bytes, claims) in [
+        (
+            b"bound\ta\t1\t1\ninside\tmeter\tf1\ninside\tmeter\tf2\nend\n".as_slice(),
+            1,
+        ),
+        (plan(), 1),
+        (b"end\n".as_slice(), 0),
+        (b"end".as_slice(), 0),
+        (b"end\r\n".as_slice(), 0),
+        (b"tree\ta\r\npair\tmeter\tf1\tL1\r\nend\r\n".as_slice(), 1),
+        (b"tree\ta\nbound\tb\t0\t0\ntree\tc\nend".as_slice(), 3),
+        (
+            b"cost\t007\nlayer\t0\t1\t0\t0\nlayer\t1\t2\t0\t0\ncost\t0\nend".as_slice(),
+            2,
+        ),
+        (
+            b"shortfall\t2\t0\ninside\tcandidate\tp 1\nend\n".as_slice(),
+            1,
+        ),
+    ] {
+        assert!(rt; count(rt.alloc(), bytes) == Ok(claims));
+    }
+}
+
+#[test]
+fn bad_lines(rt: HostRuntime) {
+    for bytes in [
+        b"\n".as_slice(),
+        b"tree a\nend\n".as_slice(),
+        b"tree\t\nend\n".as_slice(),
+        b"tree\ta\t\nend\n".as_slice(),
+        b"tree\nend\n".as_slice(),
+        b"Tree\ta\nend\n".as_slice(),
+        b"end\t\n".as_slice(),
+        b"end\r\r\n".as_slice(),
+        b"cost\t00000000000000000000\nend\n".as_slice(),
+        b"cost\t-1\nend\n".as_slice(),
+        b"inside\tbranch\tL1\n".as_slice(),
+        b"layer\t0\t1\t2\t3\t4\n".as_slice(),
+        b"status\n".as_slice(),
+    ] {
+        assert!(rt; count(rt.alloc(), bytes) == refused(1, CertCode::BadLine));
+    }
+}
+
+#[test]
+fn places(rt: HostRuntime) {
+    for (bytes, line) in [
+        (b"pair\tmeter\tf1\tL1\nend\n".as_slice(), 1),
+        (b"inside\tmeter\tf1\nend\n".as_slice(), 1),
+        (b"chosen\tp1\nend\n".as_slice(), 1),
+        (b"layer\t0\t1\t0\t0\nend\n".as_slice(), 1),
+        (
+            b"bound\ta\t1\t1\ninside\tmeter\tf1\npair\tmeter\tf1\tL1\nend\n".as_slice(),
+            3,
+        ),
+        (
+            b"tree\ta\npair\tmeter\tf1\tL1\nlayer\t0\t1\t0\t0\nend\n".as_slice(),
+            3,
+        ),
+        (
+            b"cost\t1\npair\tmeter\tf1\tL1\nchosen\tp1\nend\n".as_slice(),
+            3,
+        ),
+        (b"cost\t1\ninside\tmeter\tf1\nend\n".as_slice(), 2),
+        (b"tree\ta\ninside\tmeter\tf1\nend\n".as_slice(), 2),
+        (
+            b"cost\t1\nlayer\t0\t1\t0\t0\npair\tmeter\tf1\tL1\n".as_slice(),
+            3,
+        ),
+    ] {
+        assert!(rt; count(rt.alloc(), bytes) == refused(line, CertCode::OutOfPlace));
+    }
+}
+
+#[test]
+fn ends(rt: HostRuntime) {
+    for (bytes, line, code) in [
+        (b"".as_slice(), 0, CertCode::NoEnd),
+        (
+            b"bound\ta\t1\t1\ninside\tmeter\tf1\n".as_slice(),
+            0,
+            CertCode::NoEnd,
+        ),
+        (
+            b"tree\ta\nx\npair\tmeter\tf1\tL1".as_slice(),
+            2,
+            CertCode::BadLine,
+        ),
+        (b"tree\ta\nchosen\tc\nx".as_slice(), 2, CertCode::OutOfPlace),
+        (b"end\nend\n".as_slice(), 2, CertCode::AfterEnd),
+        (b"end\n\n".as_slice(), 2, CertCode::AfterEnd),
+        (
+            b"end\ninside\tmeter\tf1\n".as_slice(),
+            2,
+            CertCode::AfterEnd,
+        ),
+        (b"x\nend\nend\n".as_slice(), 1, CertCode::BadLine),
+    ] {
+        assert!(rt; count(rt.alloc(), bytes) == refused(line, code));
+    }
+}
+
+#[test]
+fn lines_of_each_kind(rt: HostRuntime) {
+    let f1 = b"f1".as_slice();
+    let branch = b"L 1".as_slice();
+    for (bytes, line) in [
+        (b"tree\tf1".as_slice(), Line::Tree(f1)),
+        (b"bound\tf1\t2\t3".as_slice(), Line::Bound(f1, 2, 3)),
+        (
+            b"cost\t9999999999999999999".as_slice(),
+            Line::Cost(9_999_999_999_999_999_999),
+        ),
+        (b"shortfall\t2\t3".as_slice(), Line::Shortfall(2, 3)),
+        (
+            b"pair\tcandidate\tf1\tL 1".as_slice(),
+            Line::Pair(Item::Candidate(f1), branch),
+        ),
+        (b"chosen\tf1".as_slice(), Line::Chosen(f1)),
+        (b"layer\t1\t2\t3\t4".as_slice(), Line::Layer(1, 2, 3, 4)),
+        (
+            b"inside\tmeter\tf1".as_slice(),
+            Line::Inside(Item::Meter(f1)),
+        ),
+        (b"end".as_slice(), Line::End),
+    ] {
+        assert!(rt; read_line(bytes) == Some(line));
+    }
+}
+
+#[test]
+fn faults(rt: HostRuntime) {
+    for (code, number, name) in [
+        (CertCode::BadLine, 1, b"BadLine".as_slice()),
+        (CertCode::OutOfPlace, 2, b"OutOfPlace".as_slice()),
+        (CertCode::NoEnd, 3, b"NoEnd".as_slice()),
+        (CertCode::AfterEnd, 4, b"AfterEnd".as_slice()),
+    ] {
+        assert!(rt; code.code() == number);
+        assert!(rt; code as u32 == number);
+        assert!(rt; code.name() == name);
+    }
+}

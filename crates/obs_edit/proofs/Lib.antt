@@ -1,0 +1,4 @@
+pub mod Growing
+pub mod OfNetwork
+pub mod Paired
+pub mod Enough

@@ -1,0 +1,54 @@
+-- What is read off the network of a case, and the room for it.
+use Rattle.std.proofs.Common.{◌≡◌, ℕ, ◌≤◌, length, sym, ap, ◌∙◌, subst, arith}
+use Rattle.std.proofs.lemmas.List.{length-map}
+use Rattle.obs_graph.specs.Shape.{Shape}
+use Rattle.obs_case.specs.Tables.{IsValid, Tables}
+use Rattle.obs_meter.specs.Held.{Items}
+use Rattle.obs_meter.specs.Touches.{every_item}
+use Rattle.obs_assign.specs.Assigned.{Assigned, Fits}
+use Rattle.obs_exchange.specs.Found.{Working}
+use Rattle.obs_network.specs.Switched.{case_buses}
+use Rattle.obs_network.specs.Components.{need_of}
+use Rattle.obs_network.specs.Touching.{meter_touch}
+use Rattle.obs_network.specs.Network.{NetworkOf, case_branches, case_component_count, case_meters, case_needed, case_sizes, network_of}
+use Rattle.obs_network.proofs.OfCase.{case_bus_count-le, length-case_branches, length-case_first_buses}
+use Rattle.obs_network.proofs.Observed.{most_pairs}
+use Rattle.obs_edit.specs.Growing.{IsMost}
+use Rattle.obs_edit.specs.Sessions.{HasRoom}
+
+pub length-case_meters : (t : Tables) → length (case_meters t) ≡ length t.meters
+unfolding case_meters
+length-case_meters t = length-map t.meters (meter_touch (case_buses t))
+
+pub few_meters : (t : Tables) → IsValid t → length (case_meters t) ≤ 20000
+few_meters t v = let few = v.meters.few in omega (arith, few, length-map t.meters (λ row. row.name), length-case_meters t)
+
+-- how many components there are
+pub count_of : (n : NetworkOf) (t : Tables) → n ≡ network_of t → length n.components.first_buses ≡ case_component_count t
+count_of n t same = ap (λ (x : NetworkOf). length x.components.first_buses) same ∙ length-case_first_buses t
+
+pub need_from : (n : NetworkOf) (t : Tables) (c : ℕ) → n ≡ network_of t → need_of n.components.sizes c ≡ need_of (case_sizes t) c
+need_from n t c same = ap (λ (x : NetworkOf). need_of x.components.sizes c) same
+
+pub fits_case : (t : Tables) (a : Assigned) (w : Working) → HasRoom t a w → Fits a (network_of t).graph (case_meters t)
+fits_case t a w r = record {
+  meters = let p = r.pair_meters in omega (arith, p, length-case_meters t);
+  vertices = let p = r.pair_vertices in omega (arith, p, case_bus_count-le t);
+  branches = let p = r.pair_branches in omega (arith, p, length-case_branches t);
+}
+
+pub fits_network : (n : NetworkOf) (t : Tables) (g : Shape) (i : Items) (a : Assigned) (w : Working) → n ≡ network_of t → g ≡ n.graph → i ≡ n.meters → HasRoom t a w → Fits a g i.touches
+fits_network n t g i a w same graph meters r =
+    let gs : g ≡ (network_of t).graph = graph ∙ ap (λ (x : NetworkOf). x.graph) same in
+    let is : i ≡ (network_of t).meters = meters ∙ ap (λ (x : NetworkOf). x.meters) same in
+    subst (λ (h : Shape). Fits a h i.touches) (sym gs) (subst (λ (j : Items). Fits a (network_of t).graph j.touches) (sym is) (fits_case t a w r))
+
+-- the needed number bounds the pairs
+pub most_of_network : (n : NetworkOf) (t : Tables) (g : Shape) (i : Items) (k : ℕ) → IsValid t → n ≡ network_of t → g ≡ n.graph → i ≡ n.meters → k ≡ n.needed → IsMost g.ends i.touches k
+most_of_network n t g i k v same graph meters needed =
+    let gs : g ≡ (network_of t).graph = graph ∙ ap (λ (x : NetworkOf). x.graph) same in
+    let is : i ≡ (network_of t).meters = meters ∙ ap (λ (x : NetworkOf). x.meters) same in
+    let ks : k ≡ case_needed t = needed ∙ ap (λ (x : NetworkOf). x.needed) same in
+    let most : IsMost (case_branches t) (case_meters t) (case_needed t) = λ B x. most_pairs t v (case_meters t) (every_item (case_meters t)) B x in
+    subst (λ (h : Shape). IsMost h.ends i.touches k) (sym gs)
+    (subst (λ (j : Items). IsMost (case_branches t) j.touches k) (sym is) (subst (λ (x : ℕ). IsMost (case_branches t) (case_meters t) x) (sym ks) most))

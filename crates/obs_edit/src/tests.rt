@@ -1,0 +1,223 @@
+// Sessions as they begin. Names are short and lie in the ranges of names.
+ghost use Rattle.std.specs.Prelude.{◌≡◌, ◌<◌, IsTrue};
+ghost use Rattle.obs_text.specs.Names.{is_name};
+
+use crate::{NoMemory, Session, State};
+use obs_assign::Steps;
+use obs_case::{Case, Kind};
+use obs_text::name_of;
+use std::alloc::Global;
+use std::marker::Brand;
+use std::process::Abort;
+use std::sync::ledger::{Blank, Ledger};
+use std::test::Fail;
+
+// Bytes that are a name.
+fn name<'a>(rt: &impl Abort, bytes: &'a [u8]) -> &'a [u8]
+    ensures name { IsTrue (is_name result.now) }
+{
+    name_of(bytes).expect(rt, "the bytes are a name")
+}
+
+fn add_nodes(rt: &impl Abort, case: &mut Case, nodes: &[(u8, bool)]) {
+    for (node, source) in nodes {
+        assert!(rt; case.add_node(name(rt, &[*node]), *source).is_ok());
+    }
+}
+
+fn add_switches(rt: &impl Abort, case: &mut Case, switches: &[(u8, u8, u8, bool)]) {
+    for (switch, from, to, closed) in switches {
+        assert!(rt;
+            case.add_switch(name(rt, &[*switch]), &[*from], &[*to], *closed)
+                .is_ok()
+        );
+    }
+}
+
+fn add_branches(rt: &impl Abort, case: &mut Case, branches: &[(u8, u8, u8)]) {
+    for (branch, from, to) in branches {
+        assert!(rt;
+            case.add_branch(name(rt, &[*branch]), &[*from], &[*to], true)
+                .is_ok()
+        );
+    }
+}
+
+fn add_meters(rt: &impl Abort, case: &mut Case, meters: &[(u8, Kind, u8)]) {
+    for (meter, kind, at) in meters {
+        assert!(rt;
+            case.add_meter(name(rt, &[*meter]), *kind, &[*at], true)
+                .is_ok()
+        );
+    }
+}
+
+fn begin<L: Ledger>(
+    alloc: Global,
+    blank: Blank,
+    case: Case,
+    offered: bool,
+) -> Result<Session, NoMemory>
+    requires name { blank.name ≡ L.name }
+    requires parts { blank.parts ≡ L.parts }
+    requires some { 0 < L.parts }
+{
+    let mut steps = Steps::<L>::begin(blank);
+    Session::begin(alloc, case, offered, &mut steps)
+}
+
+// Whether the first component is observable, where it is energised.
+fn is_first_observable(session: &Session) -> Option<bool> {
+    let network = session.network();
+    if network.components() == 0 || !network.energised(0) {
+        return None;
+    }
+    Some(session.observable(0))
+}
+
+// The branch of a meter, or None where it has no pair or isn't one.
+fn branch_of(session: &Session, m: u32) -> Option<u32> {
+    let pairs = session.pairs();
+    if m < session.network().meters().count() {
+        pairs.branch_of(m)
+    } else {
+        None
+    }
+}
+
+// A path of four buses with two flow meters on its first branch and an injection meter at its second bus.
+fn path(rt: &impl Abort, alloc: Global) -> Case {
+    let mut case = Case::new(alloc);
+    add_nodes(
+        rt,
+        &mut case,
+        &[(b'a', true), (b'b', false), (b'c', false), (b'd', false)],
+    );
+    add_branches(
+        rt,
+        &mut case,
+        &[(b'1', b'a', b'b'), (b'2', b'b', b'c'), (b'3', b'c', b'd')],
+    );
+    add_meters(
+        rt,
+        &mut case,
+        &[
+            (b'f', Kind::Flow, b'1'),
+            (b'g', Kind::Flow, b'1'),
+            (b'i', Kind::Injection, b'b'),
+        ],
+    );
+    case
+}
+
+// Each longest assignment has the injection on the second branch, and one of the two flows on the first.
+#[test]
+fn path_falls_short(rt: HostRuntime) -> Result<(), Fail> {
+    let case = path(&rt, rt.alloc());
+    let session = begin::<Brand>(rt.alloc(), Blank::new(1), case, true)?;
+    assert!(rt; session.state() == State { rank: 2, needed: 3 });
+    assert!(rt; session.offered());
+    assert!(rt; session.present().meters().len() == 3);
+    assert!(rt; is_first_observable(&session) == Some(false));
+    assert!(rt; session.pairs().length() == 2);
+    assert!(rt; branch_of(&session, 2) == Some(1));
+    assert!(rt; branch_of(&session, 0).is_some() != branch_of(&session, 1).is_some());
+    assert!(rt; branch_of(&session, 0).or(branch_of(&session, 1)) == Some(0));
+    Ok(())
+}
+
+// A triangle with an injection meter and a flow meter is observable.
+#[test]
+fn triangle_is_observable(rt: HostRuntime) -> Result<(), Fail> {
+    let mut case = Case::new(rt.alloc());
+    add_nodes(
+        &rt,
+        &mut case,
+        &[(b'a', true), (b'b', false), (b'c', false)],
+    );
+    add_branches(
+        &rt,
+        &mut case,
+        &[(b'1', b'a', b'b'), (b'2', b'b', b'c'), (b'3', b'c', b'a')],
+    );
+    add_meters(
+        &rt,
+        &mut case,
+        &[(b'i', Kind::Injection, b'a'), (b'f', Kind::Flow, b'1')],
+    );
+    let session = begin::<Brand>(rt.alloc(), Blank::new(1), case, false)?;
+    assert!(rt; session.state() == State { rank: 2, needed: 2 });
+    assert!(rt; !session.offered());
+    assert!(rt; is_first_observable(&session) == Some(true));
+    Ok(())
+}
+
+// Five injection meters at the end of one branch, beside a star that an open switch keeps apart.
+#[test]
+fn star_behind_an_open_switch(rt: HostRuntime) -> Result<(), Fail> {
+    let mut case = Case::new(rt.alloc());
+    add_nodes(
+        &rt,
+        &mut case,
+        &[
+            (b'x', true),
+            (b'h', true),
+            (b'y', false),
+            (b'p', false),
+            (b'q', false),
+            (b'r', false),
+            (b's', false),
+        ],
+    );
+    add_switches(&rt, &mut case, &[(b'S', b'x', b'h', false)]);
+    add_branches(
+        &rt,
+        &mut case,
+        &[
+            (b'1', b'h', b'p'),
+            (b'2', b'h', b'q'),
+            (b'3', b'h', b'r'),
+            (b'4', b'h', b's'),
+            (b'5', b'x', b'y'),
+        ],
+    );
+    add_meters(
+        &rt,
+        &mut case,
+        &[
+            (b'a', Kind::Injection, b'x'),
+            (b'b', Kind::Injection, b'x'),
+            (b'c', Kind::Injection, b'x'),
+            (b'd', Kind::Injection, b'x'),
+            (b'e', Kind::Injection, b'x'),
+        ],
+    );
+    let session = begin::<Brand>(rt.alloc(), Blank::new(1), case, false)?;
+    assert!(rt; session.state() == State { rank: 1, needed: 5 });
+    assert!(rt; is_first_observable(&session) == Some(true));
+    Ok(())
+}
+
+// Three nodes that closed switches make one bus need no pair.
+#[test]
+fn one_bus_needs_nothing(rt: HostRuntime) -> Result<(), Fail> {
+    let mut case = Case::new(rt.alloc());
+    add_nodes(
+        &rt,
+        &mut case,
+        &[(b'a', true), (b'b', false), (b'c', false)],
+    );
+    add_switches(
+        &rt,
+        &mut case,
+        &[
+            (b'1', b'a', b'b', true),
+            (b'2', b'b', b'c', true),
+            (b'3', b'c', b'a', true),
+        ],
+    );
+    let session = begin::<Brand>(rt.alloc(), Blank::new(1), case, false)?;
+    assert!(rt; session.state() == State { rank: 0, needed: 0 });
+    assert!(rt; is_first_observable(&session) == Some(true));
+    Ok(())
+}

@@ -1,0 +1,114 @@
+-- The items that a layer adds are listed after those of the layers before it.
+use Rattle.std.proofs.Common.{◌≡◌, ℕ, zero, suc, ◌+◌, ◌-◌, ◌<◌, ◌≤◌, ◌&&◌, Bool, true, false, not, List, [], ◌∷◌, ◌++◌, length, set, take, refl, sym, ap, ◌∙◌, arith, append_assoc, inl, inr, ltb}
+use Rattle.std.specs.Prelude.{filter}
+use Rattle.std.specs.List.{range_with_len}
+use Rattle.std.proofs.lemmas.Bool.{cases_Bool, cases_lt, le-ltb, lt-ltb}
+use Rattle.std.proofs.lemmas.List.{append-nil, length-set, take_more_set}
+use Rattle.obs_graph.specs.Shape.{Shape}
+use Rattle.obs_matroid.proofs.Lists.{filter_same, length-split}
+use Rattle.obs_meter.specs.declared.Touch.{Touch}
+use Rattle.obs_placement.specs.Layers.{added_items, count_known, is_added}
+use Rattle.obs_placement.specs.Taking.{AreKnown, is_own, never, since_at}
+use Rattle.obs_placement.proofs.Listing.{later, later_next}
+
+module _ (since : List ℕ) where
+  abbrev n : ℕ
+  n = length since
+
+  -- those below f and those from f to t are those below t
+  split_known : (f t : ℕ) → f ≤ t → (xs : List ℕ)
+      → length (filter (λ m. ltb (since_at since m) f) xs) + length (filter (is_added since f t) xs) ≡ length (filter (λ m. ltb (since_at since m) t) xs)
+  split_known f t l [] = refl
+  split_known f t l (x ∷ xs) =
+      let r = split_known f t l xs in
+      elim (cases_lt (since_at since x) f) [
+        | inl a ↦ rw (lt-ltb (since_at since x) f a, lt-ltb (since_at since x) t (omega (arith, a, l))) (omega (arith, r))
+        | inr a ↦ elim (cases_lt (since_at since x) t) [
+          | inl b ↦ rw (le-ltb (since_at since x) f a, lt-ltb (since_at since x) t b) (omega (arith, r))
+          | inr b ↦ rw (le-ltb (since_at since x) f a, le-ltb (since_at since x) t b) r
+        ]
+      ]
+
+  range_length : (a k : ℕ) → length (range_with_len a k) ≡ k
+  range_length a zero = refl
+  range_length a (suc k) = ap suc (range_length (a + 1) k)
+
+  pub known_most : (t : ℕ) → count_known since t ≤ n
+  known_most t =
+      let s = length-split (λ m. ltb (since_at since m) t) (range_with_len 0 n) in
+      let k = range_length 0 n in
+      omega (arith, s, k)
+
+  pub known_split : (f t : ℕ) → f ≤ t → count_known since t ≡ count_known since f + length (filter (is_added since f t) (range_with_len 0 n))
+  known_split f t l = sym (split_known f t l (range_with_len 0 n))
+
+  module _ (f t : ℕ) (before : List ℕ) (upto : ℕ) where
+    -- of the items below i those that are added are listed
+    pub record IsAdding (inside : List ℕ) (count i : ℕ) : Type 0 where
+      pub size : length inside ≡ length before
+      pub lists : take count inside ++ filter (is_added since f t) (later n i) ≡ take upto before ++ filter (is_added since f t) (range_with_len 0 n)
+      pub counts : count + length (filter (is_added since f t) (later n i)) ≡ count_known since t
+
+    pub IsAdding-begun : f ≤ t → upto ≡ count_known since f → IsAdding before upto 0
+    IsAdding-begun l e = record {
+      size = refl;
+      lists = let e : n - 0 ≡ n = omega arith in ap (λ k. take upto before ++ filter (is_added since f t) (range_with_len 0 k)) e;
+      counts =
+          let s = split_known f t l (range_with_len 0 n) in
+          let z : n - 0 ≡ n = omega arith in
+          let k = ap (λ k. length (filter (is_added since f t) (range_with_len 0 k))) z in
+          omega (arith, s, e, k);
+    }
+
+    module _ (inside : List ℕ) (count i : ℕ) (h : IsAdding inside count i) (low : i < n) where
+      pub IsAdding-over : is_added since f t i ≡ false → IsAdding inside count (i + 1)
+      IsAdding-over e =
+          let rest : filter (is_added since f t) (later n i) ≡ filter (is_added since f t) (later n (i + 1)) = rw (later_next n i low, e) refl in
+          record { size = h.size; lists = rw (← rest) h.lists; counts = rw (← rest) h.counts }
+
+      more : is_added since f t i ≡ true → filter (is_added since f t) (later n i) ≡ i ∷ filter (is_added since f t) (later n (i + 1))
+      more e = rw (later_next n i low, e) refl
+
+      pub IsAdding-room : n ≤ length before → is_added since f t i ≡ true → count < length inside
+      IsAdding-room room e = let r = ap length (more e) in let c = h.counts in let k = known_most t in let s = h.size in omega (arith, r, c, k, s, room)
+
+      pub IsAdding-more : n ≤ length before → is_added since f t i ≡ true → IsAdding (set inside count i) (count + 1) (i + 1)
+      IsAdding-more room e =
+          let r = ap length (more e) in
+          let c = h.counts in record {
+            size = length-set inside count i ∙ h.size;
+            lists =
+                ap (λ xs. xs ++ filter (is_added since f t) (later n (i + 1))) (take_more_set inside count i (IsAdding-room room e))
+                ∙ (append_assoc (take count inside) (i ∷ []) (filter (is_added since f t) (later n (i + 1))) ∙ (ap (λ xs. take count inside ++ xs) (sym (more e)) ∙ h.lists));
+            counts = omega (arith, r, c);
+          }
+
+    module _ (inside : List ℕ) (count i : ℕ) (h : IsAdding inside count i) (end : n ≤ i) where
+      none : later n i ≡ []
+      none = let e : n - i ≡ 0 = omega (arith, end) in ap (range_with_len i) e
+
+      pub IsAdding-list : take count inside ≡ take upto before ++ filter (is_added since f t) (range_with_len 0 n)
+      IsAdding-list = sym (append-nil (take count inside)) ∙ (ap (λ xs. take count inside ++ filter (is_added since f t) xs) (sym none) ∙ h.lists)
+
+      pub IsAdding-count : count ≡ count_known since t
+      IsAdding-count = let e = ap (λ xs. length (filter (is_added since f t) xs)) none in let c = h.counts in omega (arith, e, c)
+
+and_swap : (a b : Bool) → (a && b) ≡ (b && a)
+and_swap a b = elim (cases_Bool a) [
+  | inl x ↦ rw x (elim (cases_Bool b) [ inl y ↦ rw y refl | inr y ↦ rw y refl ])
+  | inr x ↦ rw x (elim (cases_Bool b) [ inl y ↦ rw y refl | inr y ↦ rw y refl ])
+]
+
+module _ (g : Shape) (touches : List Touch) (price : ℕ → ℕ) (since : List ℕ) (f t : ℕ) (known : AreKnown g touches price since) (count : length since ≡ length touches) (low : f ≤ never) (high : t ≤ never) where
+  -- what is listed for a layer is what it adds
+  pub added_same : filter (is_added since f t) (range_with_len 0 (length since)) ≡ added_items g.vertices g.ends touches price f t
+  added_same =
+      ap (λ k. filter (is_added since f t) (range_with_len 0 k)) count
+      ∙ filter_same (is_added since f t) (λ m. is_own g.vertices g.ends touches price t m && not (is_own g.vertices g.ends touches price f m)) (range_with_len 0 (length touches))
+      (λ m i.
+      ap (λ b. not b && ltb (since_at since m) t) (known f m low)
+      ∙ (ap (λ b. not (is_own g.vertices g.ends touches price f m) && b) (known t m high)
+      ∙ and_swap (not (is_own g.vertices g.ends touches price f m)) (is_own g.vertices g.ends touches price t m)))
+
+  pub added_count : f ≤ t → (upto : ℕ) → upto ≡ count_known since f → count_known since t ≡ upto + length (added_items g.vertices g.ends touches price f t)
+  added_count l upto e = let s = known_split since f t l in let k = ap length added_same in omega (arith, s, k, e)

@@ -1,0 +1,73 @@
+-- What a placement is: the plan where all that is offered reaches the needed number, and else the shortfall.
+use Rattle.std.specs.Prelude.{ℕ, not, cond, nat_lt, Option, List, take, length, filter, flat_map}
+use Rattle.obs_graph.specs.declared.Ends.{Ends}
+use Rattle.obs_meter.specs.declared.Touch.{Touch}
+use Rattle.obs_meter.specs.Assignments.{rho_at}
+use Rattle.obs_meter.specs.Spanned.{rank_at}
+use Rattle.obs_meter.specs.Touches.{live_items, touch_at}
+use Rattle.obs_exchange.specs.Laws.{noncritical_in}
+use Rattle.obs_placement.specs.declared.plans.Layer.{Layer}
+use Rattle.obs_placement.specs.declared.plans.Placement.{Placement}
+use Rattle.obs_placement.specs.declared.plans.Placement.TheVariants.{Cheapest, Shortfall}
+use Rattle.obs_placement.specs.declared.placing.Laid.{Laid}
+use Rattle.obs_placement.specs.Answer.{chosen_of, cost_of}
+use Rattle.obs_placement.specs.Layers.{inside_of, layers_of, prices_above}
+use Rattle.obs_placement.specs.Order.{price_of}
+
+-- the chosen positions, what they cost, the layers, and what these list
+pub record Planned : Type 0 where
+  pub chosen : List ℕ
+  pub cost : ℕ
+  pub layers : List Layer
+  pub inside : List ℕ
+
+-- the items that the bound lists, the rank of what they touch, the number of the other live items, and the needed number
+pub record Lacking : Type 0 where
+  pub inside : List ℕ
+  pub rank : ℕ
+  pub outside : ℕ
+  pub needed : ℕ
+
+-- a plan, or what shows a shortfall
+pub data Placed : Type 0 where
+  cheapest : Planned → Placed
+  shortfall : Lacking → Placed
+
+-- what a placement says
+abbrev pub placed_of : Placement → Placed
+placed_of (Cheapest p) = cheapest (record { chosen = p.chosen.now; cost = p.cost; layers = p.layers.now; inside = p.inside.now })
+placed_of (Shortfall b) = shortfall (record { inside = b.inside.now; rank = b.rank; outside = b.outside; needed = b.needed })
+
+-- the plan; the graph has n vertices
+abbrev pub plan_of : ℕ → List (Option Ends) → List Touch → ℕ → List ℕ → Planned
+plan_of n ends touches meters prices = record {
+  chosen = chosen_of n ends touches meters prices;
+  cost = cost_of prices (chosen_of n ends touches meters prices);
+  layers = layers_of n ends touches (price_of meters prices) 0 0 (prices_above prices (chosen_of n ends touches meters prices) 0);
+  inside = inside_of n ends touches (price_of meters prices) 0 (prices_above prices (chosen_of n ends touches meters prices) 0);
+}
+
+-- the live items that aren't critical in all live items
+abbrev pub loose_items : ℕ → List (Option Ends) → List Touch → List ℕ
+loose_items n ends touches = filter (noncritical_in n ends touches (live_items ends touches)) (live_items ends touches)
+
+-- the bound of these over all live items
+abbrev pub lack_of : ℕ → List (Option Ends) → List Touch → ℕ → Lacking
+lack_of n ends touches needed = record {
+  inside = loose_items n ends touches;
+  rank = rank_at n ends (flat_map (touch_at ends touches) (loose_items n ends touches));
+  outside = length (filter (λ m. not (noncritical_in n ends touches (live_items ends touches) m)) (live_items ends touches));
+  needed = needed;
+}
+
+-- the shortfall exactly where the greatest length of all that is offered is below the needed number, and else the plan
+abbrev pub placement_of : ℕ → List (Option Ends) → List Touch → ℕ → List ℕ → ℕ → Placed
+placement_of n ends touches meters prices needed =
+    cond (nat_lt (rho_at n ends touches (live_items ends touches)) needed) (shortfall (lack_of n ends touches needed)) (cheapest (plan_of n ends touches meters prices))
+
+-- what was laid out in these arrays: the chosen positions, the list of the bound that was measured last, the layers, and what they list
+abbrev pub laid_in : Laid → List ℕ → List ℕ → List Layer → List ℕ → Placed
+laid_in l list bound layers inside =
+    cond l.short
+    (shortfall (record { inside = bound; rank = l.rank; outside = l.outside; needed = l.needed }))
+    (cheapest (record { chosen = take l.count list; cost = l.cost; layers = take l.layers layers; inside = take l.inside inside }))

@@ -1,0 +1,59 @@
+// The names of rows, buses and components.
+ghost use Rattle.std.specs.Prelude.{◌≡◌, ◌<◌, length, slice_index, slice_index_or};
+ghost use Rattle.obs_network.specs.Network.{network_of};
+ghost use Rattle.obs_report.specs.Meters.{bus_name, component_name, meter_name};
+ghost use Rattle.obs_report.specs.Nodes.{node_name};
+ghost use Rattle.obs_report.specs.Trees.{branch_name};
+
+use obs_case::{Branch, Case, Meter, Node};
+use obs_network::Network;
+
+/// The name of the node at a position.
+pub(crate) fn name_at(case: &Case, node: u32) -> &[u8]
+    requires node { node < length case.now.nodes }
+    ensures name { result.now ≡ node_name case.now node }
+{
+    case.nodes()[node as usize].name.bytes()
+}
+
+/// The name of the branch at a position.
+pub(crate) fn branch_at(case: &Case, e: u32) -> &[u8]
+    requires branch { e < length case.now.branches }
+    ensures name { result.now ≡ branch_name case.now e }
+{
+    case.branches()[e as usize].name.bytes()
+}
+
+/// The name of the meter at a position.
+pub(crate) fn meter_at(case: &Case, m: u32) -> &[u8]
+    requires meter { m < length case.now.meters }
+    ensures name { result.now ≡ meter_name case.now m }
+{
+    case.meters()[m as usize].name.bytes()
+}
+
+/// The first of some nodes.
+pub(crate) fn first_of(members: &[u32]) -> u32
+    requires some { 0 < length members.now }
+    ensures first { result ≡ slice_index members.now 0 }
+{
+    members[0]
+}
+
+/// The name of a bus.
+pub(crate) fn bus_at<'a>(case: &'a Case, network: &Network, bus: u32) -> &'a [u8]
+    requires network { network.now ≡ network_of case.now }
+    requires bus { bus < network.now.buses.count }
+    ensures name { result.now ≡ bus_name case.now bus }
+{
+    name_at(case, first_of(network.buses().members(bus)))
+}
+
+/// The name of a component.
+pub(crate) fn component_at<'a>(case: &'a Case, network: &Network, c: u32) -> &'a [u8]
+    requires network { network.now ≡ network_of case.now }
+    requires component { c < length network.now.components.first_buses }
+    ensures name { result.now ≡ component_name case.now c }
+{
+    bus_at(case, network, network.first_bus(c))
+}
