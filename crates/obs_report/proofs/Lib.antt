@@ -5,3 +5,4 @@ pub mod Listed
 pub mod Passed
 pub mod Named
 pub mod OfPairs
+pub mod Slotted

@@ -5,3 +5,4 @@ pub mod Meters
 pub mod Trees
 pub mod Islands
 pub mod Printed
+pub mod Placements

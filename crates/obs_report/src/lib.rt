@@ -4,10 +4,14 @@
 mod counts;
 mod gathered;
 mod islands;
+mod items;
 mod lines;
 mod meters;
 mod names;
 mod nodes;
+#[cfg(test)]
+mod placement_tests;
+mod placements;
 #[cfg(test)]
 mod tests;
 #[cfg(test)]
@@ -20,5 +24,6 @@ pub use islands::print_islands;
 pub use lines::{print_count, print_fault, print_last_line};
 pub use meters::{print_bound, print_critical};
 pub use nodes::print_nodes;
+pub use placements::print_placement;
 pub use trees::print_tree;
 pub use words::{print_end, print_number, print_word};

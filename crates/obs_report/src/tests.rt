@@ -38,7 +38,7 @@ fn lines_are_words_with_tabs(rt: HostRuntime) -> Result<(), Fail> {
 }
 
 // Bytes that are a name.
-fn name<'a>(rt: &impl Abort, bytes: &'a [u8]) -> &'a [u8]
+pub(crate) fn name<'a>(rt: &impl Abort, bytes: &'a [u8]) -> &'a [u8]
     ensures name { IsTrue (is_name result.now) }
 {
     name_of(bytes).expect(rt, "the bytes are a name")

@@ -1,12 +1,15 @@
 // Printed trees and islands.
 ghost use Rattle.std.specs.Prelude.{◌≡◌, ◌<◌, ◌≤◌, ℕ, length, slice_index};
 ghost use Rattle.obs_matroid.specs.Lists.{In};
+ghost use Rattle.obs_meter.specs.Touches.{AreInRange};
 ghost use Rattle.obs_assign.specs.Assigned.{StandsOver};
 
 use crate::tests::{add_branches, add_meters, add_nodes, parted, path, sink};
 use crate::{print_islands, print_tree};
 use obs_assign::{Assignment, Steps};
 use obs_case::{Case, Kind};
+use obs_graph::Graph;
+use obs_meter::Meters;
 use obs_network::Network;
 use std::alloc::Global;
 use std::marker::Brand;
@@ -29,36 +32,38 @@ fn is_one_of(rt: &impl Abort, branches: &[u32], e: u32)
 // Gives the meter the branch, and stops where it may not have it.
 fn pair_up<L: Ledger>(
     rt: &impl Abort,
-    network: &Network,
+    graph: &Graph,
+    items: &Meters,
     pairs: &mut Assignment,
     steps: &mut Steps<L>,
     m: u32,
     e: u32,
 )
-    requires stands { StandsOver pairs.old network.now.graph network.now.meters.touches }
-    ensures stands { StandsOver pairs.new network.now.graph network.now.meters.touches }
+    requires in_range { AreInRange graph.now items.now.touches }
+    requires stands { StandsOver pairs.old graph.now items.now.touches }
+    ensures stands { StandsOver pairs.new graph.now items.now.touches }
 {
-    let graph = network.graph();
-    let meters = network.meters();
-    assert!(rt; m < meters.count() && e < graph.positions());
+    assert!(rt; m < items.count() && e < graph.positions());
     assert!(rt; graph.ends(e).is_some());
-    is_one_of(rt, meters.touch(graph, m), e);
+    is_one_of(rt, items.touch(graph, m), e);
     assert!(rt; pairs.may_pin(graph, m, e));
-    pairs.pin(graph, meters, m, e, steps);
+    pairs.pin(graph, items, m, e, steps);
 }
 
-fn pair_all<L: Ledger>(
+pub(crate) fn pair_all<L: Ledger>(
     rt: &impl Abort,
-    network: &Network,
+    graph: &Graph,
+    items: &Meters,
     pairs: &mut Assignment,
     steps: &mut Steps<L>,
     list: &[[u32; 2]],
 )
-    requires stands { StandsOver pairs.old network.now.graph network.now.meters.touches }
-    ensures stands { StandsOver pairs.new network.now.graph network.now.meters.touches }
+    requires in_range { AreInRange graph.now items.now.touches }
+    requires stands { StandsOver pairs.old graph.now items.now.touches }
+    ensures stands { StandsOver pairs.new graph.now items.now.touches }
 {
     for [m, e] in list {
-        pair_up(rt, network, pairs, steps, *m, *e);
+        pair_up(rt, graph, items, pairs, steps, *m, *e);
     }
 }
 
@@ -99,7 +104,7 @@ fn grows<L: Ledger>(
     let mut pairs = Assignment::make(alloc, meters.count(), graph.positions(), graph.vertices())?;
     let mut steps: Steps<L> = Steps::begin(blank);
     pairs.clear(graph, meters);
-    pair_all(rt, &network, &mut pairs, &mut steps, want.pairs);
+    pair_all(rt, graph, meters, &mut pairs, &mut steps, want.pairs);
     assert!(rt; want.component < network.components());
     assert!(rt; want.islands.len() == graph.vertices() as usize);
     begin_low(rt, want.islands);

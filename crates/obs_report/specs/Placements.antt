@@ -1,0 +1,86 @@
+-- The lines of placements: plans with their layers, and shortfalls. Items are the meters of a case and then its candidates.
+use Rattle.std.specs.Prelude.{ℕ, ◌+◌, ◌-◌, ◌<◌, ◌≤◌, All, Bool, List, [], ◌∷◌, ◌++◌, codes, decimal, drop, if◌then◌else◌, length, nat_lt, slice_index_or, take}
+use Rattle.std.specs.List.{flat_map}
+use Rattle.obs_case.specs.Tables.{Tables, candidate_names}
+use Rattle.obs_matroid.specs.Assignments.{Pair}
+use Rattle.obs_placement.specs.declared.plans.Layer.{Layer}
+use Rattle.obs_placement.specs.Placed.{Lacking, Placed, Planned, cheapest, shortfall}
+use Rattle.obs_report.specs.Lines.{line_of}
+use Rattle.obs_report.specs.Meters.{meter_name}
+use Rattle.obs_report.specs.Trees.{branch_name}
+
+-- how many items a case has
+abbrev pub item_count : Tables → ℕ
+item_count t = length t.meters + length t.candidates
+
+-- whether an item is a meter
+abbrev pub is_meter : Tables → ℕ → Bool
+is_meter t m = nat_lt m (length t.meters)
+
+-- the name of the candidate at a position
+abbrev pub candidate_name : Tables → ℕ → List ℕ
+candidate_name t k = slice_index_or (candidate_names t) k []
+
+-- what an item is, and its name
+abbrev pub item_sort : Tables → ℕ → List ℕ
+item_sort t m = if is_meter t m then codes "meter" else codes "candidate"
+
+abbrev pub item_name : Tables → ℕ → List ℕ
+item_name t m = if is_meter t m then meter_name t m else candidate_name t (m - length t.meters)
+
+-- an item that is inside a list
+abbrev pub listed_line : Tables → ℕ → List ℕ
+listed_line t m = line_of (codes "inside" ∷ item_sort t m ∷ item_name t m ∷ [])
+
+-- an item and the branch that it is given
+abbrev pub given_line : Tables → Pair → List ℕ
+given_line t p = line_of (codes "pair" ∷ item_sort t p.0 ∷ item_name t p.0 ∷ branch_name t p.1 ∷ [])
+
+-- what a plan costs, and a candidate that it chooses
+abbrev pub cost_line : ℕ → List ℕ
+cost_line cost = line_of (codes "cost" ∷ decimal cost ∷ [])
+
+abbrev pub chosen_line : Tables → ℕ → List ℕ
+chosen_line t k = line_of (codes "chosen" ∷ candidate_name t k ∷ [])
+
+-- the line of a layer: its two prices, and the two numbers of its bound
+abbrev pub layer_line : Layer → List ℕ
+layer_line l = line_of (codes "layer" ∷ decimal l.from ∷ decimal l.to ∷ decimal l.rank ∷ decimal l.outside ∷ [])
+
+-- the line of a shortfall: the two numbers of its bound
+abbrev pub shortfall_line : ℕ → ℕ → List ℕ
+shortfall_line rank outside = line_of (codes "shortfall" ∷ decimal rank ∷ decimal outside ∷ [])
+
+-- the listed items from one place up to another
+abbrev pub listed_between : Tables → List ℕ → ℕ → ℕ → List ℕ
+listed_between t inside from to = flat_map (listed_line t) (take (to - from) (drop from inside))
+
+-- each layer's line and those of the items that it adds, where u items are listed before the first
+abbrev pub layers_text : Tables → List ℕ → ℕ → List Layer → List ℕ
+layers_text t inside u [] = []
+layers_text t inside u (l ∷ ls) = (layer_line l ++ listed_between t inside u l.upto) ++ layers_text t inside l.upto ls
+
+-- a plan, with the pairs of meters and candidates
+abbrev pub plan_text : Tables → Planned → List Pair → List ℕ
+plan_text t p pairs =
+    ((cost_line p.cost ++ flat_map (chosen_line t) p.chosen) ++ flat_map (given_line t) pairs) ++ layers_text t p.inside 0 p.layers
+
+-- a shortfall, with the items that its bound lists
+abbrev pub shortfall_text : Tables → Lacking → List ℕ
+shortfall_text t b = shortfall_line b.rank b.outside ++ flat_map (listed_line t) b.inside
+
+-- a placement; a shortfall has no pairs
+abbrev pub placement_text : Tables → Placed → List Pair → List ℕ
+placement_text t (cheapest p) pairs = plan_text t p pairs
+placement_text t (shortfall b) pairs = shortfall_text t b
+
+-- the counts of the layers don't fall, from u on, and none is above n
+abbrev pub AreCountsOf : ℕ → ℕ → List Layer → Type 0
+AreCountsOf n u [] = Unit {0}
+AreCountsOf n u (l ∷ ls) = (u ≤ l.upto) × (l.upto ≤ n) × AreCountsOf n l.upto ls
+
+-- the positions of a placement are within a case: chosen candidates, listed items and the counts of layers
+abbrev pub IsWithin : Tables → Placed → Type 0
+IsWithin t (cheapest p) =
+    All (λ k. k < length t.candidates) p.chosen × All (λ m. m < item_count t) p.inside × AreCountsOf (length p.inside) 0 p.layers
+IsWithin t (shortfall b) = All (λ m. m < item_count t) b.inside
