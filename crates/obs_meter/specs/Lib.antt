@@ -2,3 +2,4 @@ pub mod Touches
 pub mod Held
 pub mod Spanned
 pub mod Assignments
+pub mod Sizes
