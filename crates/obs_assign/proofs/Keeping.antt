@@ -6,7 +6,6 @@ use Rattle.std.proofs.lemmas.List.{get_or-take, get_or-replicate, get_or_past, l
 use Rattle.std.proofs.Math.Seq.{take-set-lt}
 use Rattle.obs_graph.specs.declared.Ends.{Ends}
 use Rattle.obs_graph.specs.Positions.{IsForestAt}
-use Rattle.obs_graph.specs.Search.{State}
 use Rattle.obs_graph.specs.Shape.{Shape}
 use Rattle.obs_matroid.specs.Lists.{In}
 use Rattle.obs_matroid.specs.Assignments.{Pair, branches}
@@ -159,23 +158,22 @@ pub record AreSame (n k : Lengths) : Type 0 where
   pub list : k.list ≡ n.list
   pub path : k.path ≡ n.path
   pub candidates : k.candidates ≡ n.candidates
+  pub search : k.search ≡ n.search
 
-pub HasArrays-same : (a b : Assigned) (meters after : ℕ) (n k : Lengths) (s : State) → HasArrays a meters n s → b.most_meters ≡ a.most_meters → b.forest.most_vertices ≡ a.forest.most_vertices → b.forest.most_branches ≡ a.forest.most_branches
-    → after ≤ a.most_meters → AreSame n k → HasArrays b after k s
-HasArrays-same a b meters after n k s h m v p low same =
+pub HasArrays-same : (a b : Assigned) (meters after : ℕ) (n k : Lengths) → HasArrays a meters n → b.most_meters ≡ a.most_meters → b.forest.most_vertices ≡ a.forest.most_vertices → b.forest.most_branches ≡ a.forest.most_branches
+    → after ≤ a.most_meters → AreSame n k → HasArrays b after k
+HasArrays-same a b meters after n k h m v p low same =
     let few = h.few in
     let frozen = h.frozen in
     let list = h.list in
     let path = h.path in
     let candidates = h.candidates in
-    let piece = h.piece in
-    let ups = h.ups in
-    let depths = h.depths in
-    let order = h.order in
+    let search = h.search in
     let f2 = same.frozen in
     let l2 = same.list in
     let p2 = same.path in
     let c2 = same.candidates in
+    let s2 = same.search in
     record {
       few = omega arith;
       meters_low = omega arith;
@@ -183,20 +181,17 @@ HasArrays-same a b meters after n k s h m v p low same =
       list = omega arith;
       path = omega arith;
       candidates = omega arith;
-      piece = omega arith;
-      ups = omega arith;
-      depths = omega arith;
-      order = omega arith;
+      search = omega arith;
     }
 
-pub IsKept-by : (a : Assigned) → IsWhole a → (meters count : ℕ) (owners : List (Option ℕ)) (list : List ℕ) (n : Lengths) (s : State) → HasArrays a meters n s → count ≡ length (pairs a) → IsInverse a.slots owners
-    → length owners ≡ a.forest.most_branches → IsListed a.slots list → IsKept a meters count owners list n s
-IsKept-by a whole meters count owners list n s arrays count_is inverse owners_len listed = record { whole = whole; arrays = arrays; count_is = count_is; inverse = inverse; owners_len = owners_len; listed = listed }
+pub IsKept-by : (a : Assigned) → IsWhole a → (meters count : ℕ) (owners : List (Option ℕ)) (list : List ℕ) (n : Lengths) → HasArrays a meters n → count ≡ length (pairs a) → IsInverse a.slots owners
+    → length owners ≡ a.forest.most_branches → IsListed a.slots list → IsKept a meters count owners list n
+IsKept-by a whole meters count owners list n arrays count_is inverse owners_len listed = record { whole = whole; arrays = arrays; count_is = count_is; inverse = inverse; owners_len = owners_len; listed = listed }
 
 -- no pair, and nothing in use
-pub IsKept-none : (slots : List (Option ℕ)) (frozen : List Bool) (forest : Holding) (owners : List (Option ℕ)) (n : Lengths) (s : State) (v b : ℕ) → forest ≡ record { vertices = 0; held = []; most_vertices = v; most_branches = b }
-    → ((k : ℕ) → get_or owners k None ≡ None) → length owners ≡ b → HasArrays (seen 0 slots frozen 0 forest) 0 n s → IsKept (seen 0 slots frozen 0 forest) 0 0 owners [] n s
-IsKept-none slots frozen forest owners n s v b is none len arrays =
+pub IsKept-none : (slots : List (Option ℕ)) (frozen : List Bool) (forest : Holding) (owners : List (Option ℕ)) (n : Lengths) (v b : ℕ) → forest ≡ record { vertices = 0; held = []; most_vertices = v; most_branches = b }
+    → ((k : ℕ) → get_or owners k None ≡ None) → length owners ≡ b → HasArrays (seen 0 slots frozen 0 forest) 0 n → IsKept (seen 0 slots frozen 0 forest) 0 0 owners [] n
+IsKept-none slots frozen forest owners n v b is none len arrays =
     let fv = ap (λ (h : Holding). h.vertices) is in
     let fb = ap (λ (h : Holding). h.most_branches) is in
     let fh = ap (λ (h : Holding). length h.held) is in

@@ -3,10 +3,9 @@ use Rattle.std.proofs.Common.{◌≡◌, ◌<◌, ◌≤◌, ℕ, List, Option, 
 use Rattle.std.specs.Prelude.{All}
 use Rattle.std.proofs.lemmas.List.{get_or-take, length-take}
 use Rattle.obs_graph.specs.declared.Ends.{Ends}
-use Rattle.obs_graph.specs.declared.search.Search.{Search}
 use Rattle.obs_graph.specs.declared.search.Up.{Up}
 use Rattle.obs_graph.specs.Positions.{AreBranches, IsForestAt}
-use Rattle.obs_graph.specs.Search.{AreWaysUp, IsRooted, IsWayUp, Reaches, state_of}
+use Rattle.obs_graph.specs.Search.{AreWaysUp, IsRooted, IsWayUp, Reaches, State}
 use Rattle.obs_graph.proofs.Present.{some_is_in}
 use Rattle.obs_matroid.specs.Assignments.{branches}
 use Rattle.obs_matroid.specs.Slots.{pairs_of}
@@ -30,19 +29,19 @@ pub record IsRetained (ends : List (Option Ends)) (touches : List Touch) (before
   pub forest : IsForestAt ends (branches (pairs_of new))
   pub retained : AreRetained ends touches (pairs_of before) (pairs_of new)
 
-pub IsRetained-made : (n : ℕ) (ends : List (Option Ends)) (touches : List Touch) (before kept new : List (Option ℕ)) (ups : List (Option Up)) (s : Search) (k : ℕ) → k ≡ n → (L : List ℕ) → AreBranches n ends
-    → ((m : ℕ) → get_or kept m None ≡ touched_slot ends touches m (get_or before m None)) → SlotsApart before → L ≡ branches (pairs_of kept) → ups ≡ s.ups.items → IsRooted n (taken ends L) (state_of s)
+pub IsRetained-made : (n : ℕ) (ends : List (Option Ends)) (touches : List Touch) (before kept new : List (Option ℕ)) (ups : List (Option Up)) (s : State) (k : ℕ) → k ≡ n → (L : List ℕ) → AreBranches n ends
+    → ((m : ℕ) → get_or kept m None ≡ touched_slot ends touches m (get_or before m None)) → SlotsApart before → L ≡ branches (pairs_of kept) → ups ≡ s.ups → IsRooted n (taken ends L) s
     → AreChosen (take k ups) kept new → IsRetained ends touches before new
 IsRetained-made n ends touches before kept new ups s k k_is L ok kept_is apart L_is ups_is rooted chosen =
     let held = taken ends (branches (pairs_of kept)) in
-    let root : IsRooted n held (state_of s) = subst (λ (l : List ℕ). IsRooted n (taken ends l) (state_of s)) L_is rooted in
-    let first = take n s.ups.items in
-    let ways : AreWaysUp n held first s.depths.items = λ v l. subst (λ (o : Option Up). IsWayUp n held s.depths.items v o) (sym (get_or-take n s.ups.items v None l)) (root.ways v l) in
+    let root : IsRooted n held s = subst (λ (l : List ℕ). IsRooted n (taken ends l) s) L_is rooted in
+    let first = take n s.ups in
+    let ways : AreWaysUp n held first s.depths = λ v l. subst (λ (o : Option Up). IsWayUp n held s.depths v o) (sym (get_or-take n s.ups v None l)) (root.ways v l) in
     let chosen_n : AreChosen first kept new = subst (λ (u : List (Option Up)). AreChosen (take n u) kept new) ups_is (subst (λ (j : ℕ). AreChosen (take j ups) kept new) k_is chosen) in
-    let few : length first ≤ n = (let e = length-take n s.ups.items in omega arith) in
+    let few : length first ≤ n = (let e = length-take n s.ups in omega arith) in
     record {
-      forest = IsForestAt-retained n ends touches before kept new first s.depths.items ok few kept_is apart ways chosen_n;
-      retained = AreRetained-made n ends touches before kept new first s.depths.items ok few kept_is apart ways chosen_n;
+      forest = IsForestAt-retained n ends touches before kept new first s.depths ok few kept_is apart ways chosen_n;
+      retained = AreRetained-made n ends touches before kept new first s.depths ok few kept_is apart ways chosen_n;
     }
 
 reach_of : (n : ℕ) (held : List (Option Ends)) (depths : List ℕ) (v : ℕ) (o : Option Up) (x : Up) → IsWayUp n held depths v o → o ≡ Some x → Reaches held v x.vertex x.branch
@@ -50,11 +49,11 @@ reach_of n held depths v None x w e = absurd cc
 reach_of n held depths v (Some y) x w e = let s : y ≡ x = cc in subst (λ (u : Up). Reaches held v u.vertex u.branch) s w.1
 
 -- the branches that lead up are branches of the graph
-pub ups_low : (n : ℕ) (ends : List (Option Ends)) (L : List ℕ) (ups : List (Option Up)) (s : Search) (k : ℕ) → k ≡ n → ups ≡ s.ups.items → IsRooted n (taken ends L) (state_of s)
+pub ups_low : (n : ℕ) (ends : List (Option Ends)) (L : List ℕ) (ups : List (Option Up)) (s : State) (k : ℕ) → k ≡ n → ups ≡ s.ups → IsRooted n (taken ends L) s
     → (v : ℕ) (x : Up) → get_or (take k ups) v None ≡ Some x → x.branch < length ends
 ups_low n ends L ups s k k_is ups_is rooted v x h =
     let in_list = up_low (take k ups) v x h in
     let l : v < k = (let e = length-take k ups in omega arith) in
-    let at : get_or s.ups.items v None ≡ Some x = ap (λ (u : List (Option Up)). get_or u v None) (sym ups_is) ∙ (sym (get_or-take k ups v None l) ∙ h) in
-    let r = reach_of n (taken ends L) s.depths.items v (get_or s.ups.items v None) x (rooted.ways v (omega arith)) at in
+    let at : get_or s.ups v None ≡ Some x = ap (λ (u : List (Option Up)). get_or u v None) (sym ups_is) ∙ (sym (get_or-take k ups v None l) ∙ h) in
+    let r = reach_of n (taken ends L) s.depths v (get_or s.ups v None) x (rooted.ways v (omega arith)) at in
     some_is_in ends x.branch r.0 (taken-some ends L x.branch r.0 r.1).0

@@ -1,6 +1,5 @@
 -- What the arrays of an assignment keep.
 use Rattle.std.specs.Prelude.{◌≡◌, ◌↔◌, ℕ, ◌≤◌, ◌<◌, ◌^◌, Bool, Option, Some, None, List, length, take, slice_index_or}
-use Rattle.obs_graph.specs.Search.{State}
 use Rattle.obs_matroid.specs.Lists.{In, IsDistinct}
 use Rattle.obs_matroid.specs.Assignments.{branches}
 use Rattle.obs_matroid.specs.Slots.{pairs_of}
@@ -25,30 +24,28 @@ pub record IsListed (slots : List (Option ℕ)) (list : List ℕ) : Type 0 where
   pub different : IsDistinct list
   pub exactly : (e : ℕ) → In e list ↔ In e (branches (pairs_of slots))
 
--- how many places the arrays have
+-- how many places the arrays have, and the search
 pub record Lengths : Type 0 where
   pub frozen : ℕ
   pub list : ℕ
   pub path : ℕ
   pub candidates : ℕ
+  pub search : ℕ
 
 -- the arrays have room for what the assignment was made for
-pub record HasArrays (a : Assigned) (meters : ℕ) (n : Lengths) (s : State) : Type 0 where
+pub record HasArrays (a : Assigned) (meters : ℕ) (n : Lengths) : Type 0 where
   pub few : a.most_meters < 2 ^ 32
   pub meters_low : meters ≤ a.most_meters
   pub frozen : n.frozen ≡ a.most_meters
   pub list : n.list ≡ a.most_meters
   pub path : n.path ≡ a.forest.most_vertices
   pub candidates : n.candidates ≡ a.forest.most_branches
-  pub piece : length s.piece ≡ a.forest.most_vertices
-  pub ups : length s.ups ≡ a.forest.most_vertices
-  pub depths : length s.depths ≡ a.forest.most_vertices
-  pub order : length s.order ≡ a.forest.most_vertices
+  pub search : n.search ≡ a.forest.most_vertices
 
 -- the pairs are counted, and found by their branch, and their branches are listed
-pub record IsKept (a : Assigned) (meters count : ℕ) (owners : List (Option ℕ)) (list : List ℕ) (n : Lengths) (s : State) : Type 0 where
+pub record IsKept (a : Assigned) (meters count : ℕ) (owners : List (Option ℕ)) (list : List ℕ) (n : Lengths) : Type 0 where
   pub whole : IsWhole a
-  pub arrays : HasArrays a meters n s
+  pub arrays : HasArrays a meters n
   pub count_is : count ≡ length (pairs a)
   pub inverse : IsInverse a.slots owners
   pub owners_len : length owners ≡ a.forest.most_branches

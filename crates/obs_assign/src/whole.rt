@@ -45,7 +45,7 @@ pub struct Assignment {
 
 impl Model for Assignment {
     ghost use Rattle.std.specs.Prelude.{length, take};
-    ghost use Rattle.obs_graph.specs.Search.{state_of};
+    ghost use Rattle.obs_graph.specs.Search.{room_of};
     ghost use Rattle.obs_assign.specs.Assigned.{Assigned};
     ghost use Rattle.obs_assign.specs.Kept.{seen, IsKept};
 
@@ -55,8 +55,7 @@ impl Model for Assignment {
 
     ghost invariant = { λ a.
         IsKept (seen a.meters a.slots.items a.frozen.items a.turns a.forest) a.meters a.count a.owners.items (take a.count a.list.items)
-        (record { frozen = length a.frozen.items; list = length a.list.items; path = length a.path.items; candidates = length a.candidates.items })
-        (state_of a.search) };
+        (record { frozen = length a.frozen.items; list = length a.list.items; path = length a.path.items; candidates = length a.candidates.items; search = room_of a.search }) };
 }
 
 impl Assignment {

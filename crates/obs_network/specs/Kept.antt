@@ -1,7 +1,7 @@
 -- What the arrays of a network hold.
 use Rattle.std.specs.Prelude.{ℕ, ◌≡◌, ◌<◌, ◌≤◌, ◌^◌, All, Bool, Option, List, length, take}
 use Rattle.obs_graph.specs.declared.Ends.{Ends}
-use Rattle.obs_graph.specs.declared.search.Search.{Search}
+use Rattle.obs_graph.specs.Search.{State, room_of}
 use Rattle.obs_graph.specs.Shape.{Shape}
 use Rattle.obs_switch.specs.declared.link.Link.{Link}
 use Rattle.obs_switch.specs.Held.{Labelled}
@@ -24,17 +24,14 @@ pub record AreGrouped (buses count : ℕ) (numbers first_buses sizes : List ℕ)
   pub most : All (λ s. s ≤ buses) (take count sizes)
 
 -- the parts of a network agree, and each has the room that it needs
-pub record AreParts (links : List Link) (live kept : List (Option Ends)) (touches : List Touch) (search : Search) (buses : Labelled) (components : Grouped) (graph : Shape) (meters offered : Items) : Type 0 where
+pub record AreParts (links : List Link) (live kept : List (Option Ends)) (touches : List Touch) (search : State) (buses : Labelled) (components : Grouped) (graph : Shape) (meters offered : Items) : Type 0 where
   pub buses_room : buses.most_nodes ≡ components.most_buses
   pub vertices_room : graph.most_vertices ≡ components.most_buses
   pub branches_room : graph.most_branches ≡ length live
   pub kept_len : length kept ≡ length live
   pub touches_len : length touches ≡ offered.most
   pub fewer : meters.most ≤ offered.most
-  pub piece_len : length search.piece.items ≡ components.most_buses
-  pub ups_len : length search.ups.items ≡ components.most_buses
-  pub depths_len : length search.depths.items ≡ components.most_buses
-  pub order_len : length search.order.items ≡ components.most_buses
+  pub search_room : room_of search ≡ components.most_buses
   pub vertices : graph.vertices ≡ buses.count
   pub of_buses : length components.of_buses ≡ buses.count
   pub meters_in_range : AreInRange graph meters.touches

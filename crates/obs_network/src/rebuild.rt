@@ -1,5 +1,6 @@
 // The parts of the network of a case, made anew one after another.
-ghost use Rattle.std.specs.Prelude.{◌≡◌, ◌-◌, ◌<◌, ◌≤◌, ◌^◌, ◌+◌, ℕ, All, length, take, vec_len};
+ghost use Rattle.std.specs.Prelude.{◌≡◌, ◌-◌, ◌<◌, ◌≤◌, ◌^◌, ◌+◌, ℕ, All, length, take};
+ghost use Rattle.obs_graph.specs.Search.{room_of};
 ghost use Rattle.obs_switch.specs.Buses.{LinksBelow};
 ghost use Rattle.obs_network.specs.Switched.{case_bus_count, case_buses, closed_links};
 ghost use Rattle.obs_network.specs.Network.{case_branches, case_components, case_energised, case_first_buses, case_live, case_meters, case_offered, case_sizes};
@@ -69,10 +70,7 @@ pub(crate) fn find_components(
     requires vertices { case_bus_count case.now ≤ graph.old.most_vertices }
     requires branches { length live.now ≤ graph.old.most_branches }
     requires room { case_bus_count case.now ≤ components.old.most_buses }
-    requires piece { case_bus_count case.now ≤ vec_len search.old.piece }
-    requires ups { case_bus_count case.now ≤ vec_len search.old.ups }
-    requires depths { case_bus_count case.now ≤ vec_len search.old.depths }
-    requires order { case_bus_count case.now ≤ vec_len search.old.order }
+    requires search_room { case_bus_count case.now ≤ room_of search.old }
     ensures of_buses { components.new.of_buses ≡ case_components case.now }
     ensures first_buses { components.new.first_buses ≡ case_first_buses case.now }
     ensures sizes { components.new.sizes ≡ case_sizes case.now }
@@ -81,16 +79,13 @@ pub(crate) fn find_components(
     ensures vertices { graph.new.vertices ≡ case_bus_count case.now }
     ensures most_vertices { graph.new.most_vertices ≡ graph.old.most_vertices }
     ensures most_branches { graph.new.most_branches ≡ graph.old.most_branches }
-    ensures piece { vec_len search.new.piece ≡ vec_len search.old.piece }
-    ensures ups { vec_len search.new.ups ≡ vec_len search.old.ups }
-    ensures depths { vec_len search.new.depths ≡ vec_len search.old.depths }
-    ensures order { vec_len search.new.order ≡ vec_len search.old.order }
+    ensures search_room { room_of search.new ≡ room_of search.old }
 {
     let nodes = case.nodes();
     let count = buses.count();
     graph.refill(count, live);
     reach_all(graph, live, search);
-    components.refill(&search.piece[..count as usize], live, nodes, buses);
+    components.refill(&search.pieces()[..count as usize], live, nodes, buses);
 }
 
 /// Makes the graph that of the live branches of energised components.

@@ -10,14 +10,14 @@ ghost use Rattle.obs_rankcut.specs.Marks.{AreMarkedToo, AreStarsMarked, MarksJus
 use obs_graph::{Graph, GraphWork};
 use obs_meter::{Meters, Touch};
 
-/// Takes all flags back.
+// Takes all flags back.
 fn clear(flags: &mut [bool])
     ensures clear { flags.new ≡ replicate (length flags.old) false }
 {
     flags.fill(false);
 }
 
-/// Marks each of the branches.
+// Marks each of the branches.
 fn mark_all(positions: &[u32], flags: &mut [bool])
     requires low { All (λ e. e < length flags.old) positions.now }
     ensures marks { AreMarkedToo flags.old positions.now flags.new }
@@ -27,7 +27,7 @@ fn mark_all(positions: &[u32], flags: &mut [bool])
     }
 }
 
-/// Marks the branches at the vertex, unless this was done before.
+// Marks the branches at the vertex, unless this was done before.
 fn mark_star(g: &Graph, v: u32, flags: &mut [bool], stars: &mut [bool])
     requires v { v < g.now.vertices }
     requires flags { length flags.old ≡ length g.now.ends }
@@ -42,7 +42,7 @@ fn mark_star(g: &Graph, v: u32, flags: &mut [bool], stars: &mut [bool])
     }
 }
 
-/// Marks the branches that are touched.
+// Marks the branches that are touched.
 fn mark_touched(g: &Graph, touch: Touch, flags: &mut [bool], stars: &mut [bool])
     requires in_range { IsInRange g.now touch }
     requires flags { length flags.old ≡ length g.now.ends }
@@ -72,15 +72,15 @@ fn is_outside(live: bool, mark: bool) -> bool
     live && !mark
 }
 
-/// How many meters are listed, and how many other live meters the scope has.
+// How many meters are listed, and how many other live meters the scope has.
 #[derive(Clone, Copy)]
-pub struct Passed {
+pub(crate) struct Passed {
     pub count: usize,
     pub outside: u32,
 }
 
-/// Lists the marked live meters of the scope and marks what they touch, and counts the other live meters of the scope.
-pub fn pass(
+// Lists the marked live meters of the scope and marks what they touch, and counts the other live meters of the scope.
+pub(crate) fn pass(
     g: &Graph,
     ms: &Meters,
     marks: &[bool],
@@ -96,9 +96,12 @@ pub fn pass(
     requires flags { length flags.old ≡ length g.now.ends }
     requires stars { length stars.old ≡ g.now.vertices }
     ensures bound { result.count ≤ length ms.now.touches }
-    ensures listed { take result.count list.new ≡ listed g.now.ends ms.now.touches (marked marks.now) (marked scope.now) }
-    ensures outside { result.outside ≡ length (unlisted g.now.ends ms.now.touches (marked marks.now) (marked scope.now)) }
-    ensures flags { MarksJust (flat_map (touch_at g.now.ends ms.now.touches) (listed g.now.ends ms.now.touches (marked marks.now) (marked scope.now))) flags.new }
+    ensures listed { take result.count list.new ≡
+        listed g.now.ends ms.now.touches (marked marks.now) (marked scope.now) }
+    ensures outside { result.outside ≡
+        length (unlisted g.now.ends ms.now.touches (marked marks.now) (marked scope.now)) }
+    ensures flags { MarksJust (flat_map (touch_at g.now.ends ms.now.touches)
+        (listed g.now.ends ms.now.touches (marked marks.now) (marked scope.now))) flags.new }
 {
     clear(flags);
     clear(stars);
@@ -120,16 +123,16 @@ pub fn pass(
     Passed { count, outside }
 }
 
-/// How many meters are listed, the rank of what they touch, and how many other live meters the scope has.
+// How many meters are listed, the rank of what they touch, and how many other live meters the scope has.
 #[derive(Clone, Copy)]
-pub struct Counted {
+pub(crate) struct Counted {
     pub count: usize,
     pub rank: u32,
     pub outside: u32,
 }
 
-/// Lists the marked live meters of the scope, and measures them.
-pub fn count_in(
+// Lists the marked live meters of the scope, and measures them.
+pub(crate) fn count_in(
     g: &Graph,
     ms: &Meters,
     marks: &[bool],
@@ -148,9 +151,12 @@ pub fn count_in(
     requires branches { length g.now.ends ≤ work.old.most_branches }
     requires vertices { g.now.vertices ≤ work.old.most_vertices }
     ensures bound { result.count ≤ length ms.now.touches }
-    ensures listed { take result.count list.new ≡ listed g.now.ends ms.now.touches (marked marks.now) (marked scope.now) }
-    ensures rank { result.rank ≡ listed_rank g.now.vertices g.now.ends ms.now.touches (marked marks.now) (marked scope.now) }
-    ensures outside { result.outside ≡ length (unlisted g.now.ends ms.now.touches (marked marks.now) (marked scope.now)) }
+    ensures listed { take result.count list.new ≡
+        listed g.now.ends ms.now.touches (marked marks.now) (marked scope.now) }
+    ensures rank { result.rank ≡
+        listed_rank g.now.vertices g.now.ends ms.now.touches (marked marks.now) (marked scope.now) }
+    ensures outside { result.outside ≡
+        length (unlisted g.now.ends ms.now.touches (marked marks.now) (marked scope.now)) }
     ensures work { work.new ≡ work.old }
 {
     let flags = &mut flags[..g.positions() as usize];

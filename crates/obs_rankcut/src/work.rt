@@ -1,8 +1,9 @@
 // What bounds are measured in.
 ghost use Rattle.std.specs.Prelude.{◌≡◌, ◌+◌, [], length, IfOk};
 ghost use Rattle.obs_meter.specs.Assignments.{bound_at};
+ghost use Rattle.obs_meter.specs.Sizes.{HasRoomFor};
 ghost use Rattle.obs_meter.specs.Touches.{AreInRange};
-ghost use Rattle.obs_rankcut.specs.Bounds.{HasRoomFor, HasSizesOf, in_scope, listed, listed_rank, unlisted};
+ghost use Rattle.obs_rankcut.specs.Bounds.{in_scope, listed, listed_rank, unlisted};
 ghost use Rattle.obs_rankcut.specs.Flags.{marked};
 
 use crate::listing::count_in;
@@ -28,7 +29,10 @@ impl Model for CutWork {
 
     ghost Value = { Measuring };
 
-    ghost view = { λ w. record { inside = take w.count w.list.items; most_meters = length w.list.items; most_branches = length w.flags.items; most_vertices = length w.stars.items } };
+    ghost view = { λ w. record {
+      inside = take w.count w.list.items;
+      sizes = record { meters = length w.list.items; branches = length w.flags.items; vertices = length w.stars.items };
+    } };
 
     ghost invariant = { λ w. record {
       count : w.count ≤ length w.list.items;
@@ -45,7 +49,10 @@ impl CutWork {
         most_branches: u32,
         most_vertices: u32,
     ) -> Result<CutWork, NoMemory>
-        ensures empty { IfOk result (λ w. w ≡ record { inside = []; most_meters = most_meters; most_branches = most_branches; most_vertices = most_vertices }) }
+        ensures empty { IfOk result (λ w. w ≡ record {
+          inside = [];
+          sizes = record { meters = most_meters; branches = most_branches; vertices = most_vertices };
+        }) }
     {
         Ok(CutWork {
             count: 0,
@@ -82,12 +89,17 @@ pub fn measure(
     requires in_range { AreInRange g.now ms.now.touches }
     requires marks { length marks.now ≡ length ms.now.touches }
     requires scope { length scope.now ≡ length ms.now.touches }
-    requires room { HasRoomFor work.old g.now ms.now.touches }
+    requires room { HasRoomFor work.old.sizes g.now ms.now.touches }
+    // the list, and the two numbers of its bound
     ensures inside { work.new.inside ≡ listed g.now.ends ms.now.touches (marked marks.now) (marked scope.now) }
-    ensures rank { result.rank ≡ listed_rank g.now.vertices g.now.ends ms.now.touches (marked marks.now) (marked scope.now) }
-    ensures outside { result.outside ≡ length (unlisted g.now.ends ms.now.touches (marked marks.now) (marked scope.now)) }
-    ensures bound { result.rank + result.outside ≡ bound_at g.now.vertices g.now.ends ms.now.touches (marked marks.now) (in_scope g.now.ends ms.now.touches (marked scope.now)) }
-    ensures same_sizes { HasSizesOf work.old work.new }
+    ensures rank { result.rank ≡
+        listed_rank g.now.vertices g.now.ends ms.now.touches (marked marks.now) (marked scope.now) }
+    ensures outside { result.outside ≡
+        length (unlisted g.now.ends ms.now.touches (marked marks.now) (marked scope.now)) }
+    ensures bound { result.rank + result.outside ≡ bound_at g.now.vertices g.now.ends ms.now.touches
+        (marked marks.now) (in_scope g.now.ends ms.now.touches (marked scope.now)) }
+    // the room stays
+    ensures same_sizes { work.new.sizes ≡ work.old.sizes }
 {
     let counted = count_in(
         g,

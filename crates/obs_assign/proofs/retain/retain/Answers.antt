@@ -19,7 +19,7 @@ choose-requires-clause-low c = λ e m h. slot_low c.keep_touched.new.slots m e (
 
 pub choose-requires-clause-ups : goal.choose-requires-clause-ups
 choose-requires-clause-ups c = λ v x h.
-    let l = ups_low c.args.g.now.vertices c.args.g.now.ends (take c.list_pairs-count.result c.list_pairs-count.new.list) c.deref.result.now c.search_along.new.search c.vertices.result c.vertices.ensures.value c.deref.ensures.value c.search_along.ensures.rooted v x h in
+    let l = ups_low c.args.g.now.vertices c.args.g.now.ends (take c.list_pairs-count.result c.list_pairs-count.new.list) c.ups.result.now c.search_along.new.search c.vertices.result c.vertices.ensures.value c.ups.ensures.ups c.search_along.ensures.rooted v x h in
     omega arith
 
 pub hold_pairs-requires-clause-forest : goal.hold_pairs-requires-clause-forest
@@ -28,10 +28,10 @@ hold_pairs-requires-clause-forest c =
     let old = take c.args.meters c.args.slots.now in
     let kept = c.keep_touched.new.slots in
     let new = c.choose.new.slots in
-    let ups = take c.vertices.result c.deref.result.now in
+    let ups = take c.vertices.result c.ups.result.now in
     let made : IsRetained g.ends c.args.ms.now.touches old new =
-    IsRetained-made g.vertices g.ends c.args.ms.now.touches old kept new c.deref.result.now c.search_along.new.search c.vertices.result c.vertices.ensures.value (take c.list_pairs-count.result c.list_pairs-count.new.list)
-    c.vertices.ensures.branches c.keep_touched.ensures.slots c.requires.apart c.list_pairs-count.ensures.list c.deref.ensures.value c.search_along.ensures.rooted c.choose.ensures.chosen in
+    IsRetained-made g.vertices g.ends c.args.ms.now.touches old kept new c.ups.result.now c.search_along.new.search c.vertices.result c.vertices.ensures.value (take c.list_pairs-count.result c.list_pairs-count.new.list)
+    c.vertices.ensures.branches c.keep_touched.ensures.slots c.requires.apart c.list_pairs-count.ensures.list c.ups.ensures.ups c.search_along.ensures.rooted c.choose.ensures.chosen in
     let len : length new ≡ c.args.meters = (let a = length-take-le c.args.meters c.args.slots.now c.requires.slots in omega arith) in
     subst (λ (s : List (Option ℕ)). IsForestAt g.ends (branches (pairs_of s))) (sym (take_all c.args.meters new (omega (arith, len)))) made.forest
 
@@ -41,10 +41,10 @@ returns-clause-retained c =
     let old = take c.args.meters c.args.slots.now in
     let kept = c.keep_touched.new.slots in
     let new = c.choose.new.slots in
-    let ups = take c.vertices.result c.deref.result.now in
+    let ups = take c.vertices.result c.ups.result.now in
     let made : IsRetained g.ends c.args.ms.now.touches old new =
-    IsRetained-made g.vertices g.ends c.args.ms.now.touches old kept new c.deref.result.now c.search_along.new.search c.vertices.result c.vertices.ensures.value (take c.list_pairs-count.result c.list_pairs-count.new.list)
-    c.vertices.ensures.branches c.keep_touched.ensures.slots c.requires.apart c.list_pairs-count.ensures.list c.deref.ensures.value c.search_along.ensures.rooted c.choose.ensures.chosen in
+    IsRetained-made g.vertices g.ends c.args.ms.now.touches old kept new c.ups.result.now c.search_along.new.search c.vertices.result c.vertices.ensures.value (take c.list_pairs-count.result c.list_pairs-count.new.list)
+    c.vertices.ensures.branches c.keep_touched.ensures.slots c.requires.apart c.list_pairs-count.ensures.list c.ups.ensures.ups c.search_along.ensures.rooted c.choose.ensures.chosen in
     let len : length new ≡ c.args.meters = (let a = length-take-le c.args.meters c.args.slots.now c.requires.slots in omega arith) in
     let cut : take c.args.meters (new ++ drop c.args.meters c.args.slots.now) ≡ new = take-append-le c.args.meters new (drop c.args.meters c.args.slots.now) (omega (arith, len)) ∙ take_all c.args.meters new (omega (arith, len)) in
     subst (λ (s : List (Option ℕ)). AreRetained g.ends c.args.ms.now.touches (pairs_of old) (pairs_of s)) (sym cut) made.retained
@@ -55,10 +55,10 @@ returns-clause-is_forest c =
     let old = take c.args.meters c.args.slots.now in
     let kept = c.keep_touched.new.slots in
     let new = c.choose.new.slots in
-    let ups = take c.vertices.result c.deref.result.now in
+    let ups = take c.vertices.result c.ups.result.now in
     let made : IsRetained g.ends c.args.ms.now.touches old new =
-    IsRetained-made g.vertices g.ends c.args.ms.now.touches old kept new c.deref.result.now c.search_along.new.search c.vertices.result c.vertices.ensures.value (take c.list_pairs-count.result c.list_pairs-count.new.list)
-    c.vertices.ensures.branches c.keep_touched.ensures.slots c.requires.apart c.list_pairs-count.ensures.list c.deref.ensures.value c.search_along.ensures.rooted c.choose.ensures.chosen in
+    IsRetained-made g.vertices g.ends c.args.ms.now.touches old kept new c.ups.result.now c.search_along.new.search c.vertices.result c.vertices.ensures.value (take c.list_pairs-count.result c.list_pairs-count.new.list)
+    c.vertices.ensures.branches c.keep_touched.ensures.slots c.requires.apart c.list_pairs-count.ensures.list c.ups.ensures.ups c.search_along.ensures.rooted c.choose.ensures.chosen in
     let len : length new ≡ c.args.meters = (let a = length-take-le c.args.meters c.args.slots.now c.requires.slots in omega arith) in
     let cut : take c.args.meters (new ++ drop c.args.meters c.args.slots.now) ≡ new = take-append-le c.args.meters new (drop c.args.meters c.args.slots.now) (omega (arith, len)) ∙ take_all c.args.meters new (omega (arith, len)) in
     subst (λ (s : List (Option ℕ)). IsForestAt g.ends (branches (pairs_of s))) (sym cut) made.forest

@@ -1,6 +1,5 @@
 use Rattle.std.proofs.Common.{◌≡◌, ◌∙◌, ℕ, List, not, eqb, get_or, take, length, ap}
 use Rattle.obs_graph.specs.Joined.{count_below}
-use Rattle.obs_graph.specs.Search.{state_of}
 use Rattle.obs_graph.proofs.Marked.{rank_of_rooted}
 use Rattle.obs_graph.proofs.rank.rank_by_search.Goals as goal
 
@@ -8,6 +7,6 @@ pub returns-clause-rank : goal.returns-clause-rank
 returns-clause-rank c =
     let F : List ℕ → ℕ = λ xs. count_below (λ v. not (eqb (get_or xs v 0) v)) (length xs) in
     let n = c.args.g.now.vertices in
-    let piece = c.reach_all.new.search.piece.items in
-    let same : take c.vertices-vertices.result c.deref.result.now ≡ take n piece = ap (λ m. take m c.deref.result.now) c.vertices-vertices.ensures.value ∙ ap (take n) c.deref.ensures.value in
-    c.count_moved.ensures.count ∙ (ap F same ∙ rank_of_rooted n c.hold_marked.new.held _ (state_of c.reach_all.new.search) c.hold_marked.ensures.present c.reach_all.ensures.rooted)
+    let piece = c.reach_all.new.search.piece in
+    let same : take c.vertices-vertices.result c.pieces.result.now ≡ take n piece = ap (λ m. take m c.pieces.result.now) c.vertices-vertices.ensures.value ∙ ap (take n) c.pieces.ensures.pieces in
+    c.count_moved.ensures.count ∙ (ap F same ∙ rank_of_rooted n c.hold_marked.new.held _ c.reach_all.new.search c.hold_marked.ensures.present c.reach_all.ensures.rooted)

@@ -1,4 +1,4 @@
-use Rattle.std.proofs.Common.{◌≡◌, ◌∙◌, refl, length, take, arith}
+use Rattle.std.proofs.Common.{◌≡◌, ◌∙◌, refl, ap, length, take, arith}
 use Rattle.std.proofs.lemmas.List.{length-take-le}
 use Rattle.obs_network.specs.Switched.{case_bus_count}
 use Rattle.obs_network.specs.Network.{case_component_count, case_components, case_energised, case_first_buses, case_sizes}
@@ -17,12 +17,11 @@ pub refill-requires-2-clause-nodes_are : goal.refill-requires-2-clause-nodes_are
 refill-requires-2-clause-nodes_are c = rw (c.nodes-nodes.ensures.rows, c.requires.buses, length-case_buses c.args.case.now) refl
 
 -- there are as many first buses as buses
-firsts : (c : goal.After-refill-2) → length (take c.count-count.result c.deref.result.now) ≡ case_bus_count c.args.case.now
+firsts : (c : goal.After-refill-2) → length (take c.count-count.result c.pieces.result.now) ≡ case_bus_count c.args.case.now
 firsts c =
-    let room = c.requires.piece in
-    let piece = c.reach_all.ensures.piece in
-    let len = c.deref.ensures.len in
-    length-take-le c.count-count.result c.deref.result.now (omega arith) ∙ (c.count-count.ensures.count ∙ c.requires.count)
+    let room = c.requires.search_room in
+    let same = c.reach_all.ensures.room in
+    length-take-le c.count-count.result c.pieces.result.now (omega (arith, ap length c.pieces.ensures.pieces)) ∙ (c.count-count.ensures.count ∙ c.requires.count)
 
 pub returns-clause-of_buses : goal.returns-clause-of_buses
 unfolding case_components

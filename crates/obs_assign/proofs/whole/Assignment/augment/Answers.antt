@@ -1,6 +1,6 @@
 use Rattle.std.proofs.Common.{◌≡◌, ◌++◌, ℕ, List, Option, get_or, length, take, drop, refl, ap, sym, ◌∙◌, subst}
 use Rattle.std.specs.Prelude.{None}
-use Rattle.obs_graph.specs.Search.{state_of}
+use Rattle.obs_graph.specs.Search.{room_of}
 use Rattle.obs_matroid.specs.Assignments.{branches}
 use Rattle.obs_matroid.specs.Slots.{pairs_of}
 use Rattle.obs_forest.specs.Holding.{Holding, taken}
@@ -43,11 +43,11 @@ invariant_of-self g c =
     let most_b = ap (λ (h : Holding). h.most_branches) after_is in
     let a = kept.arrays in
     rw (back, back_owners, back_list) (IsKept-by (seen ins.meters new ins.frozen.items c.turn-self-inside.result after) made.whole
-    ins.meters c.take_path-self-inside.result owners (take c.take_path-self-inside.result list) (record { frozen = length ins.frozen.items; list = length list; path = length ins.path.items; candidates = length ins.candidates.items }) (state_of ins.search)
+    ins.meters c.take_path-self-inside.result owners (take c.take_path-self-inside.result list) (record { frozen = length ins.frozen.items; list = length list; path = length ins.path.items; candidates = length ins.candidates.items; search = room_of ins.search })
     (HasArrays-same (seen ins.meters ins.slots.items ins.frozen.items ins.turns ins.forest) (seen ins.meters new ins.frozen.items c.turn-self-inside.result after) ins.meters ins.meters
-    (record { frozen = length ins.frozen.items; list = length ins.list.items; path = length ins.path.items; candidates = length ins.candidates.items })
-    (record { frozen = length ins.frozen.items; list = length list; path = length ins.path.items; candidates = length ins.candidates.items }) (state_of ins.search) a len most_v most_b low
-    (record { frozen = refl; list = list_len; path = refl; candidates = refl }))
+    (record { frozen = length ins.frozen.items; list = length ins.list.items; path = length ins.path.items; candidates = length ins.candidates.items; search = room_of ins.search })
+    (record { frozen = length ins.frozen.items; list = length list; path = length ins.path.items; candidates = length ins.candidates.items; search = room_of ins.search }) a len most_v most_b low
+    (record { frozen = refl; list = list_len; path = refl; candidates = refl; search = refl }))
     c.take_path-self-inside.ensures.count
     c.take_path-self-inside.ensures.inverse
     (owners_len ∙ (kept.owners_len ∙ sym most_b)) c.take_path-self-inside.ensures.listed)

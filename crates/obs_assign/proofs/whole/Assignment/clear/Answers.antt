@@ -1,7 +1,7 @@
 use Rattle.std.proofs.Common.{◌≡◌, ◌++◌, ℕ, Bool, List, Option, length, take, drop, ap, sym, ◌∙◌, subst, arith}
 use Rattle.std.specs.Prelude.{None}
 use Rattle.obs_graph.specs.Positions.{IsForestAt}
-use Rattle.obs_graph.specs.Search.{state_of}
+use Rattle.obs_graph.specs.Search.{room_of}
 use Rattle.obs_matroid.specs.Assignments.{branches}
 use Rattle.obs_matroid.specs.Slots.{pairs_of}
 use Rattle.obs_forest.specs.Holding.{Holding, taken}
@@ -58,11 +58,11 @@ invariant_of-self c =
     let most_v = ap (λ (h : Holding). h.most_vertices) after_is in
     let most_b = ap (λ (h : Holding). h.most_branches) after_is in
     rw (back, back_flags, back_owners, back_list) (IsKept-by (seen meters (replicate n None) (replicate k false) ins.turns after) made.whole
-    meters c.hold_pairs-self-inside.result owners (take c.hold_pairs-self-inside.result list) (record { frozen = length (replicate k false); list = length list; path = length ins.path.items; candidates = length ins.candidates.items }) (state_of ins.search)
+    meters c.hold_pairs-self-inside.result owners (take c.hold_pairs-self-inside.result list) (record { frozen = length (replicate k false); list = length list; path = length ins.path.items; candidates = length ins.candidates.items; search = room_of ins.search })
     (HasArrays-same (seen ins.meters ins.slots.items ins.frozen.items ins.turns ins.forest) (seen meters (replicate n None) (replicate k false) ins.turns after) ins.meters meters
-    (record { frozen = length ins.frozen.items; list = length ins.list.items; path = length ins.path.items; candidates = length ins.candidates.items })
-    (record { frozen = length (replicate k false); list = length list; path = length ins.path.items; candidates = length ins.candidates.items }) (state_of ins.search) kept.arrays (length-replicate {A = Option ℕ} n None) most_v most_b (omega (arith, room.meters, most, count))
-    (record { frozen = length-replicate k false; list = list_len; path = refl; candidates = refl }))
+    (record { frozen = length ins.frozen.items; list = length ins.list.items; path = length ins.path.items; candidates = length ins.candidates.items; search = room_of ins.search })
+    (record { frozen = length (replicate k false); list = length list; path = length ins.path.items; candidates = length ins.candidates.items; search = room_of ins.search }) kept.arrays (length-replicate {A = Option ℕ} n None) most_v most_b (omega (arith, room.meters, most, count))
+    (record { frozen = length-replicate k false; list = list_len; path = refl; candidates = refl; search = refl }))
     (subst (λ (s : List (Option ℕ)). c.hold_pairs-self-inside.result ≡ length (pairs_of (take meters s))) d_is c.hold_pairs-self-inside.ensures.count)
     (subst (λ (s : List (Option ℕ)). IsInverse (take meters s) owners) d_is c.hold_pairs-self-inside.ensures.inverse)
     (owners_len ∙ (kept.owners_len ∙ sym most_b))

@@ -1,7 +1,7 @@
 use Rattle.std.proofs.Common.{◌≡◌, ◌++◌, ℕ, List, Option, length, take, drop, ap, sym, ◌∙◌, subst}
 use Rattle.std.specs.Prelude.{None}
 use Rattle.obs_graph.specs.Positions.{IsForestAt}
-use Rattle.obs_graph.specs.Search.{state_of}
+use Rattle.obs_graph.specs.Search.{room_of}
 use Rattle.obs_matroid.specs.Assignments.{branches}
 use Rattle.obs_matroid.specs.Slots.{pairs_of}
 use Rattle.obs_forest.specs.Holding.{Holding, taken}
@@ -42,11 +42,11 @@ invariant_of-self c =
     let most_b = ap (λ (h : Holding). h.most_branches) after_is in
     let flags = set ins.frozen.items c.args.m false in
     rw (back_owners, back_list) (IsKept-by (seen ins.meters new flags ins.turns after) made.whole
-    ins.meters c.hold_pairs-self-inside.result owners (take c.hold_pairs-self-inside.result list) (record { frozen = length flags; list = length list; path = length ins.path.items; candidates = length ins.candidates.items }) (state_of ins.search)
+    ins.meters c.hold_pairs-self-inside.result owners (take c.hold_pairs-self-inside.result list) (record { frozen = length flags; list = length list; path = length ins.path.items; candidates = length ins.candidates.items; search = room_of ins.search })
     (HasArrays-same (seen ins.meters ins.slots.items ins.frozen.items ins.turns ins.forest) (seen ins.meters new flags ins.turns after) ins.meters ins.meters
-    (record { frozen = length ins.frozen.items; list = length ins.list.items; path = length ins.path.items; candidates = length ins.candidates.items })
-    (record { frozen = length flags; list = length list; path = length ins.path.items; candidates = length ins.candidates.items }) (state_of ins.search) kept.arrays (length-set ins.slots.items c.args.m None) most_v most_b low
-    (record { frozen = length-set ins.frozen.items c.args.m false; list = list_len; path = refl; candidates = refl }))
+    (record { frozen = length ins.frozen.items; list = length ins.list.items; path = length ins.path.items; candidates = length ins.candidates.items; search = room_of ins.search })
+    (record { frozen = length flags; list = length list; path = length ins.path.items; candidates = length ins.candidates.items; search = room_of ins.search }) kept.arrays (length-set ins.slots.items c.args.m None) most_v most_b low
+    (record { frozen = length-set ins.frozen.items c.args.m false; list = list_len; path = refl; candidates = refl; search = refl }))
     (subst (λ (s : List (Option ℕ)). c.hold_pairs-self-inside.result ≡ length (pairs_of (take ins.meters s))) c.deref.ensures.value c.hold_pairs-self-inside.ensures.count)
     (subst (λ (s : List (Option ℕ)). IsInverse (take ins.meters s) owners) c.deref.ensures.value c.hold_pairs-self-inside.ensures.inverse)
     (owners_len ∙ (kept.owners_len ∙ sym most_b))

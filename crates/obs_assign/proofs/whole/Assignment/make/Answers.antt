@@ -1,7 +1,7 @@
 use Rattle.std.proofs.Common.{◌≡◌, ◌++◌, ℕ, List, take, drop, Option, None, length, get_or, replicate, ap, ◌∙◌, arith}
 use Rattle.std.proofs.lemmas.List.{length-replicate}
 use Rattle.obs_forest.proofs.Keeping.{written_back}
-use Rattle.obs_graph.specs.Search.{state_of}
+use Rattle.obs_graph.specs.Search.{room_of}
 use Rattle.obs_forest.specs.Holding.{Holding}
 use Rattle.obs_assign.proofs.Keeping.{IsKept-none, empty_slot}
 use Rattle.obs_assign.proofs.whole.Assignment.make.Goals as goal
@@ -22,14 +22,7 @@ invariant_of-result c =
     let li2 = c.in_ok-list.ensures.len in
     let pa2 = c.in_ok-path.ensures.len in
     let ca2 = c.in_ok-candidates.ensures.len in
-    let p = s.piece.ok.0 in
-    let u = s.ups.ok.0 in
-    let d = s.depths.ok.0 in
-    let o = s.order.ok.0 in
-    let pe = e.piece in
-    let ue = e.ups in
-    let de = e.depths in
-    let oe = e.order in
+    let room = e.room in
     let f = c.in_ok-forest.ensures.empty in
     let fv = ap (λ (h : Holding). h.most_vertices) f in
     let fb = ap (λ (h : Holding). h.most_branches) f in
@@ -41,6 +34,5 @@ invariant_of-result c =
     let len : length new ≡ c.args.most_branches = same ∙ omega arith in
     rw back (
     IsKept-none c.in_ok-slots.slots.items c.in_ok-frozen.frozen.items c.in_ok-forest.forest new
-    (record { frozen = length c.in_ok-frozen.frozen.items; list = length c.in_ok-list.list.items; path = length c.in_ok-path.path.items; candidates = length c.in_ok-candidates.candidates.items })
-    (state_of s) c.args.most_vertices c.args.most_branches f (λ k. ap (λ (l : List (Option ℕ)). get_or l k None) none ∙ empty_slot (length c.in_ok-owners.owners.items) k) len
-    (record { few = omega arith; meters_low = omega arith; frozen = omega arith; list = omega arith; path = omega arith; candidates = omega arith; piece = omega arith; ups = omega arith; depths = omega arith; order = omega arith }))
+    (record { frozen = length c.in_ok-frozen.frozen.items; list = length c.in_ok-list.list.items; path = length c.in_ok-path.path.items; candidates = length c.in_ok-candidates.candidates.items; search = room_of s }) c.args.most_vertices c.args.most_branches f (λ k. ap (λ (l : List (Option ℕ)). get_or l k None) none ∙ empty_slot (length c.in_ok-owners.owners.items) k) len
+    (record { few = omega arith; meters_low = omega arith; frozen = omega arith; list = omega arith; path = omega arith; candidates = omega arith; search = omega arith }))

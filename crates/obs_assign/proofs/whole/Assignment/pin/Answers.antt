@@ -1,7 +1,7 @@
 use Rattle.std.proofs.Common.{◌≡◌, ◌++◌, ◌<◌, ◌≤◌, ◌+◌, ℕ, Bool, List, Option, None, length, take, drop, set, refl, true, ap, sym, ◌∙◌, subst, get_or, length-set}
 use Rattle.std.specs.Prelude.{MatchOption, is_some}
 use Rattle.obs_graph.specs.Positions.{IsForestAt}
-use Rattle.obs_graph.specs.Search.{state_of}
+use Rattle.obs_graph.specs.Search.{room_of}
 use Rattle.obs_matroid.specs.Assignments.{branches, part}
 use Rattle.obs_matroid.specs.Slots.{pairs_of}
 use Rattle.obs_forest.proofs.Keeping.{written_back}
@@ -110,11 +110,11 @@ invariant_of-self g c =
     let back_list : take ins.list.len (list ++ drop (length list) ins.list.items) ≡ list = written_back ins.list.len list ins.list.items list_len ins.list.ok.0 in
     let back_path : take ins.path.len (path ++ drop (length path) ins.path.items) ≡ path = written_back ins.path.len path ins.path.items path_len ins.path.ok.0 in
     rw (back, back_owners, back_list, back_path) (IsKept-by (seen ins.meters new flags after_turns after) made.whole
-    ins.meters t.result owners (take t.result list) (record { frozen = length flags; list = length list; path = length path; candidates = length ins.candidates.items }) (state_of ins.search)
+    ins.meters t.result owners (take t.result list) (record { frozen = length flags; list = length list; path = length path; candidates = length ins.candidates.items; search = room_of ins.search })
     (HasArrays-same a (seen ins.meters new flags after_turns after) ins.meters ins.meters
-    (record { frozen = length ins.frozen.items; list = length ins.list.items; path = length ins.path.items; candidates = length ins.candidates.items })
-    (record { frozen = length flags; list = length list; path = length path; candidates = length ins.candidates.items }) (state_of ins.search) kept.arrays len t.ensures.most_vertices t.ensures.most_branches low
-    (record { frozen = length-set ins.frozen.items m true; list = list_len; path = path_len; candidates = refl }))
+    (record { frozen = length ins.frozen.items; list = length ins.list.items; path = length ins.path.items; candidates = length ins.candidates.items; search = room_of ins.search })
+    (record { frozen = length flags; list = length list; path = length path; candidates = length ins.candidates.items; search = room_of ins.search }) kept.arrays len t.ensures.most_vertices t.ensures.most_branches low
+    (record { frozen = length-set ins.frozen.items m true; list = list_len; path = path_len; candidates = refl; search = refl }))
     t.ensures.count t.ensures.inverse (owners_len ∙ (kept.owners_len ∙ sym t.ensures.most_branches)) t.ensures.listed)
 
 pub returns-clause-pinned : goal.returns-clause-pinned

@@ -1,7 +1,7 @@
 use Rattle.std.proofs.Common.{◌≡◌, ◌++◌, ℕ, Bool, List, Option, None, length, take, drop, false, replicate, ap, sym, ◌∙◌, subst, get_or, arith}
 use Rattle.std.proofs.lemmas.List.{length-replicate}
 use Rattle.obs_graph.specs.declared.Ends.{Ends}
-use Rattle.obs_graph.specs.Search.{state_of}
+use Rattle.obs_graph.specs.Search.{room_of}
 use Rattle.obs_matroid.specs.Slots.{pairs_of}
 use Rattle.obs_forest.specs.Holding.{Holding}
 use Rattle.obs_forest.proofs.Keeping.{written_back}
@@ -59,30 +59,16 @@ invariant_of-self c =
     let fb = ap (λ (h : Holding). h.most_branches) r.ensures.forest in
     let a = kept.arrays in
     let few = a.few in
-    let p0 = ins.search.piece.ok.0 in
-    let u0 = ins.search.ups.ok.0 in
-    let d0 = ins.search.depths.ok.0 in
-    let o0 = ins.search.order.ok.0 in
-    let p1 = r.new.search.piece.ok.0 in
-    let u1 = r.new.search.ups.ok.0 in
-    let d1 = r.new.search.depths.ok.0 in
-    let o1 = r.new.search.order.ok.0 in
-    let p2 = r.ensures.piece in
-    let u2 = r.ensures.ups in
-    let d2 = r.ensures.depths in
-    let o2 = r.ensures.order in
-    let p3 = a.piece in
-    let u3 = a.ups in
-    let d3 = a.depths in
-    let o3 = a.order in
+    let room = r.ensures.room in
+    let s3 = a.search in
     let f3 = a.frozen in
     let l3 = a.list in
     let pa3 = a.path in
     let c3 = a.candidates in
     let fl = length-replicate k false in
     rw (back, back_flags, back_owners, back_list, back_candidates) (IsKept-by (seen ins.meters new (replicate k false) ins.turns after) made.whole
-    ins.meters r.result owners (take r.result list) (record { frozen = length (replicate k false); list = length list; path = length ins.path.items; candidates = length candidates }) (state_of r.new.search)
-    (record { few = omega arith; meters_low = omega arith; frozen = omega arith; list = omega arith; path = omega arith; candidates = omega arith; piece = omega arith; ups = omega arith; depths = omega arith; order = omega arith })
+    ins.meters r.result owners (take r.result list) (record { frozen = length (replicate k false); list = length list; path = length ins.path.items; candidates = length candidates; search = room_of r.new.search })
+    (record { few = omega arith; meters_low = omega arith; frozen = omega arith; list = omega arith; path = omega arith; candidates = omega arith; search = omega arith })
     r.ensures.count r.ensures.inverse (owners_len ∙ (kept.owners_len ∙ sym fb)) r.ensures.listed)
 
 pub returns-clause-retained : goal.returns-clause-retained

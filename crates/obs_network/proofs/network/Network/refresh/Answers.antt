@@ -22,33 +22,12 @@ find_components-requires-clause-room c =
     let nodes = ap (λ (r : Rows). r.nodes) rows in
     omega (arith, nodes, case_bus_count-le c.args.case.now)
 
-pub find_components-requires-clause-piece : goal.find_components-requires-clause-piece
-find_components-requires-clause-piece c =
+pub find_components-requires-clause-search_room : goal.find_components-requires-clause-search_room
+find_components-requires-clause-search_room c =
     let rows = ap (λ (n : NetworkOf). n.rows) c.self.view_is ∙ c.requires.rows in
     let nodes = ap (λ (r : Rows). r.nodes) rows in
-    let len = c.self.invariant.piece_len in
-    omega (arith, nodes, len, case_bus_count-le c.args.case.now)
-
-pub find_components-requires-clause-ups : goal.find_components-requires-clause-ups
-find_components-requires-clause-ups c =
-    let rows = ap (λ (n : NetworkOf). n.rows) c.self.view_is ∙ c.requires.rows in
-    let nodes = ap (λ (r : Rows). r.nodes) rows in
-    let len = c.self.invariant.ups_len in
-    omega (arith, nodes, len, case_bus_count-le c.args.case.now)
-
-pub find_components-requires-clause-depths : goal.find_components-requires-clause-depths
-find_components-requires-clause-depths c =
-    let rows = ap (λ (n : NetworkOf). n.rows) c.self.view_is ∙ c.requires.rows in
-    let nodes = ap (λ (r : Rows). r.nodes) rows in
-    let len = c.self.invariant.depths_len in
-    omega (arith, nodes, len, case_bus_count-le c.args.case.now)
-
-pub find_components-requires-clause-order : goal.find_components-requires-clause-order
-find_components-requires-clause-order c =
-    let rows = ap (λ (n : NetworkOf). n.rows) c.self.view_is ∙ c.requires.rows in
-    let nodes = ap (λ (r : Rows). r.nodes) rows in
-    let len = c.self.invariant.order_len in
-    omega (arith, nodes, len, case_bus_count-le c.args.case.now)
+    let room = c.self.invariant.search_room in
+    omega (arith, nodes, room, case_bus_count-le c.args.case.now)
 
 pub refill_graph-requires-clause-vertices : goal.refill_graph-requires-clause-vertices
 refill_graph-requires-clause-vertices c =
@@ -89,10 +68,7 @@ invariant_of-self c =
       kept_len = omega (arith, v.kept_len, live, keeps);
       touches_len = omega (arith, v.touches_len, touches, items.most_offered);
       fewer = omega (arith, v.fewer, items.most_meters, items.most_offered);
-      piece_len = omega (arith, v.piece_len, found.piece, found.room);
-      ups_len = omega (arith, v.ups_len, found.ups, found.room);
-      depths_len = omega (arith, v.depths_len, found.depths, found.room);
-      order_len = omega (arith, v.order_len, found.order, found.room);
+      search_room = omega (arith, v.search_room, found.search_room, found.room);
       vertices = kept.vertices ∙ sym c.relabel.ensures.count;
       of_buses = ap length found.of_buses ∙ (length-case_components t ∙ sym c.relabel.ensures.count);
       meters_in_range = rw items.meters (meters-in_range t valid c.refill_graph.new.graph kept.vertices kept.ends);
