@@ -19,7 +19,7 @@ use Rattle.obs_meter.specs.Touches.{touch_at}
 use Rattle.obs_meter.proofs.Instance.{IsJoining-graph}
 use Rattle.obs_meter.proofs.Touched.{touched-hub}
 use Rattle.obs_network.specs.Switched.{case_bus_count}
-use Rattle.obs_network.specs.Components.{component_of, if_energised, is_first_bus}
+use Rattle.obs_network.specs.Components.{if_energised, is_first_bus}
 use Rattle.obs_network.specs.Network.{case_branches, case_component_count, case_components, case_energised, case_live}
 use Rattle.obs_network.specs.Observable.{branch_component, is_fed, item_component}
 use Rattle.obs_network.proofs.Numbered.{component_of-below}

@@ -7,3 +7,4 @@ pub mod OfLaws
 pub mod InComponents
 pub mod Sums
 pub mod Observed
+pub mod Listed

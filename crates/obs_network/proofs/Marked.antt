@@ -1,12 +1,12 @@
 -- What loops over buses and nodes find.
-use Rattle.std.proofs.Common.{◌≡◌, ℕ, zero, suc, ◌+◌, ◌<◌, ◌≤◌, ◌||◌, Bool, true, false, eqb, List, [], ◌∷◌, ◌++◌, length, map, filter, take, get_or, set, refl, sym, ap, ◌∙◌, inl, inr, arith, add-one, length-append}
-use Rattle.std.specs.List.{range_with_len, list_any}
+use Rattle.std.proofs.Common.{◌≡◌, ℕ, zero, suc, ◌+◌, ◌<◌, ◌||◌, Bool, true, false, List, [], ◌∷◌, ◌++◌, length, map, filter, take, get_or, set, refl, sym, ap, ◌∙◌, inl, inr, arith, add-one, length-append}
+use Rattle.std.specs.List.{range_with_len}
 use Rattle.std.specs.Prelude.{cond, count_by, sum_by, ◌==◌}
-use Rattle.std.proofs.lemmas.Bool.{cases_Bool, cases_eq, eq-eqb, ne_eqb, cond-true, cond-false}
+use Rattle.std.proofs.lemmas.Bool.{cases_Bool, cases_eq, eq-eqb, ne_eqb}
 use Rattle.std.proofs.lemmas.Grind.{same_number_lists}
-use Rattle.std.proofs.lemmas.List.{ext_get_or, get_or_append_left, take_more_set, take-set-le, drop_all}
+use Rattle.std.proofs.lemmas.List.{ext_get_or, get_or_append_left, take_more_set}
 use Rattle.std.proofs.lemmas.List.Sums.{sum_by-append}
-use Rattle.std.proofs.lemmas.List.FromFn.{filter_of_map_range_with_len_more, get_or-map-range_with_len, length-map-range_with_len, length-range_with_len}
+use Rattle.std.proofs.lemmas.List.FromFn.{filter_of_map_range_with_len_more, get_or-map-range_with_len, length-map-range_with_len}
 use Rattle.obs_matroid.specs.Lists.{In}
 use Rattle.obs_matroid.proofs.Lists.{In-filter_from}
 use Rattle.std.proofs.Math.Seq.{get_or-append_seam}

@@ -1,13 +1,11 @@
 -- Components are numbered as buses are: live branches in the place of closed switches.
-use Rattle.std.proofs.Common.{◌≡◌, ℕ, zero, suc, ◌+◌, ◌<◌, ◌≤◌, ◌↔◌, Bool, true, false, eqb, List, [], ◌∷◌, length, map, filter, get_or, refl, sym, ap, ◌∙◌, subst, arith, inl, inr}
-use Rattle.std.specs.Prelude.{slice_index}
-use Rattle.std.specs.List.{range_with_len}
+use Rattle.std.proofs.Common.{◌≡◌, ℕ, ◌+◌, ◌<◌, ◌≤◌, ◌↔◌, List, [], ◌∷◌, get_or, refl, ap, subst, arith}
 use Rattle.std.proofs.lemmas.List.FromFn.{get_or-map-range_with_len}
 use Rattle.obs_graph.specs.declared.Ends.{Ends}
-use Rattle.obs_graph.specs.Joined.{Chain, first_joined}
+use Rattle.obs_graph.specs.Joined.{Chain}
 use Rattle.obs_switch.specs.declared.link.Link.{Link}
-use Rattle.obs_switch.specs.Buses.{ends_of_links, first_node, bus_of, bus_count, buses_of}
-use Rattle.obs_switch.proofs.FirstNodes.{bus_of-below, bus_of-order, same_first-from_same_bus, bus_at, buses_of-at, numbered_next, counted_first, counted_other, bus_count-le, one_bus, first_node-le}
+use Rattle.obs_switch.specs.Buses.{ends_of_links}
+use Rattle.obs_switch.proofs.FirstNodes.{bus_of-below, bus_of-order, same_first-from_same_bus, bus_at, numbered_next, counted_first, counted_other, bus_count-le, one_bus}
 use Rattle.obs_network.specs.Components.{component_count, component_of, components_of, first_bus}
 
 -- the branches as links

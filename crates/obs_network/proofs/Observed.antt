@@ -1,18 +1,16 @@
 -- A case is observable exactly where the greatest length of an assignment of its meters is the needed number.
-use Rattle.std.proofs.Common.{◌≡◌, ◌↔◌, ℕ, zero, suc, ◌+◌, ◌-◌, ◌<◌, ◌≤◌, Bool, true, false, eqb, Option, None, List, [], ◌∷◌, ◌++◌, length, map, filter, get_or, refl, sym, ap, ◌∙◌, subst, arith, inl, inr, ◌⊎◌, length-append}
-use Rattle.std.specs.Prelude.{IsSome, cond, count_by, slice_index, slice_index_or, ◌==◌}
+use Rattle.std.proofs.Common.{◌≡◌, ◌↔◌, ℕ, zero, suc, ◌<◌, ◌≤◌, Bool, true, false, None, List, [], ◌∷◌, ◌++◌, length, map, filter, get_or, refl, sym, ap, ◌∙◌, subst, arith, inl, inr, ◌⊎◌, length-append}
+use Rattle.std.specs.Prelude.{IsSome, cond, slice_index, slice_index_or, ◌==◌}
 use Rattle.std.specs.List.{range_with_len}
-use Rattle.std.proofs.lemmas.Bool.{cases_Bool, eq-eqb, eqb-true, ne_eqb, cond-true, cond-false}
+use Rattle.std.proofs.lemmas.Bool.{cases_Bool, eq-eqb, eqb-true, cond-true, cond-false}
 use Rattle.std.proofs.lemmas.List.{map-append}
 use Rattle.std.proofs.lemmas.List.Sums.{length-filter}
-use Rattle.obs_graph.specs.declared.Ends.{Ends}
 use Rattle.obs_graph.specs.Positions.{present, sum_below}
 use Rattle.obs_case.specs.Tables.{Tables, IsValid}
 use Rattle.obs_matroid.specs.Lists.{In, IsDistinct}
 use Rattle.obs_matroid.specs.Matroid.{Matroid, IsMatroid, IsIndependent}
-use Rattle.obs_matroid.specs.Assignments.{Pair, IsAssignment, branches, items}
-use Rattle.obs_matroid.specs.Components.{IsSumOfKinds}
-use Rattle.obs_matroid.proofs.Lists.{In-filter, In-filter_from, In-append_cases, IsDistinct-append, IsDistinct-filter, In_same}
+use Rattle.obs_matroid.specs.Assignments.{Pair, branches, items}
+use Rattle.obs_matroid.proofs.Lists.{In-filter, In-filter_from, In-append_cases, IsDistinct-append, IsDistinct-filter}
 use Rattle.obs_matroid.proofs.Bounds.{length-branches}
 use Rattle.obs_matroid.proofs.Order.{independent_within}
 use Rattle.obs_matroid.proofs.Pairs.{In-branches_from, In-items_from, IsDistinct-filter_items}
@@ -22,13 +20,13 @@ use Rattle.obs_meter.specs.declared.Touch.{Touch}
 use Rattle.obs_meter.specs.declared.Touch.TheVariants.{Nothing}
 use Rattle.obs_meter.specs.Assignments.{IsAssignmentAt, IsRhoAt, rho_at}
 use Rattle.obs_meter.specs.Spanned.{ends_at, graph_matroid, joined_at, rank_at}
-use Rattle.obs_meter.specs.Touches.{live_items, touch_at}
+use Rattle.obs_meter.specs.Touches.{touch_at}
 use Rattle.obs_meter.proofs.Assigned.{from_matroid, to_matroid, live_items-distinct, rho_at-is, rho_at-unique}
 use Rattle.obs_meter.proofs.Instance.{IsJoining-graph, IsMatroid-graph}
 use Rattle.obs_meter.proofs.Touched.{touched-present}
 use Rattle.obs_network.specs.Switched.{case_bus_count}
-use Rattle.obs_network.specs.Components.{component_of, components_of, need_of, needed_of}
-use Rattle.obs_network.specs.Network.{case_branches, case_component_count, case_components, case_energised, case_live, case_meters, case_needed, case_sizes}
+use Rattle.obs_network.specs.Components.{component_of, need_of}
+use Rattle.obs_network.specs.Network.{case_branches, case_component_count, case_components, case_live, case_meters, case_needed, case_sizes}
 use Rattle.obs_network.specs.Observable.{IsObservable, IsObservableCase, branch_component, case_live_meters, is_fed, item_component}
 use Rattle.obs_network.proofs.Numbered.{component_at}
 use Rattle.obs_network.proofs.Grouping.{sizes_of-at}

@@ -1,30 +1,29 @@
 -- What a case's network is made of is in range.
-use Rattle.std.proofs.Common.{◌≡◌, ◌≢◌, ℕ, zero, suc, ◌+◌, ◌<◌, ◌≤◌, Bool, true, false, not, ◌&&◌, eqb, Option, Some, None, List, [], ◌∷◌, ◌++◌, length, map, get_or, refl, sym, ap, ◌∙◌, subst, arith, inl, inr}
+use Rattle.std.proofs.Common.{◌≡◌, ◌≢◌, ℕ, ◌+◌, ◌<◌, ◌≤◌, Bool, true, false, not, eqb, Option, Some, None, List, [], ◌∷◌, length, map, get_or, refl, ap, ◌∙◌, arith, inl, inr, length-append}
 use Rattle.std.specs.Prelude.{All, IfSome, slice_index, slice_index_or}
-use Rattle.std.proofs.lemmas.Bool.{cases_Bool, and_parts, cases_lt, eq-eqb}
+use Rattle.std.proofs.lemmas.Bool.{cases_Bool, and_parts, eq-eqb}
 use Rattle.std.proofs.lemmas.List.{length-map}
 use Rattle.std.proofs.lemmas.List.Elements.{All-append, All-cons, All-head, All-map, All-tail}
 use Rattle.std.proofs.lemmas.List.FromFn.{length-map-range_with_len}
 use Rattle.obs_graph.specs.declared.Ends.{Ends}
 use Rattle.obs_graph.specs.Positions.{AreBranches, present}
 use Rattle.obs_graph.specs.Shape.{Shape}
-use Rattle.obs_switch.specs.Buses.{LinksBelow, bus_of, buses_of, bus_count}
+use Rattle.obs_switch.specs.Buses.{LinksBelow, bus_of}
 use Rattle.obs_switch.proofs.FirstNodes.{buses_of-at, bus_of-below, bus_count-le}
 use Rattle.obs_case.specs.declared.rows.Branch.{Branch}
-use Rattle.obs_case.specs.declared.rows.Candidate.{Candidate}
 use Rattle.obs_case.specs.declared.rows.Kind.{Kind}
 use Rattle.obs_case.specs.declared.rows.Kind.TheVariants.{Flow, Injection, Zero}
 use Rattle.obs_case.specs.declared.rows.Meter.{Meter}
 use Rattle.obs_case.specs.declared.rows.Switch.{Switch}
-use Rattle.obs_case.specs.Tables.{Tables, IsValid, places, most_rows, node_names}
-use Rattle.obs_meter.specs.declared.Touch.{Touch}
+use Rattle.obs_case.specs.Tables.{Tables, IsValid, places, most_rows}
 use Rattle.obs_meter.specs.Touches.{IsInRange, AreInRange}
 use Rattle.obs_network.specs.Switched.{case_bus_count, case_buses, closed_links}
-use Rattle.obs_network.specs.Live.{is_live_branch, live_branches, live_ends}
-use Rattle.obs_network.specs.Components.{component_of, if_energised}
-use Rattle.obs_network.specs.Touching.{candidate_touch, meter_touch, meter_touches, offered_touches, touch_of}
+use Rattle.obs_network.specs.Live.{is_live_branch, live_ends}
+use Rattle.obs_network.specs.Components.{component_of, if_energised, need_of}
+use Rattle.obs_network.specs.Touching.{candidate_touch, meter_touch, meter_touches, touch_of}
 use Rattle.obs_network.proofs.Marked.{length-first_buses_of}
-use Rattle.obs_network.specs.Network.{case_branches, case_component_count, case_components, case_first_buses, case_energised, case_live, case_meters, case_offered}
+use Rattle.obs_network.proofs.Numbered.{component_count-le}
+use Rattle.obs_network.specs.Network.{case_branches, case_component_count, case_components, case_first_buses, case_energised, case_live, case_meters, case_offered, case_sizes, NetworkOf, network_of}
 
 -- closed switches join nodes of the case
 closed-below : (n : ℕ) (switches : List Switch) → All (λ row. (row.from < n) × (row.to < n)) switches → LinksBelow n (closed_links switches)
@@ -139,10 +138,36 @@ offered-in_range t v g a b =
     (All-map (IsInRange g) (candidate_touch (case_buses t)) t.candidates
     (λ k d l. touch_in_range t g (a, b) (get_or t.candidates k d).kind (get_or t.candidates k d).at (v.candidate_places k d l)))
 
-pub few_nodes : (t : Tables) → IsValid t → length t.nodes ≤ 20000
+pub few_nodes : (t : Tables) → IsValid t → length t.nodes ≤ most_rows
 few_nodes t v = let few = v.nodes.few in omega (arith, few, length-map t.nodes (λ row. row.name))
 
 -- each component has a first bus
 pub length-case_first_buses : (t : Tables) → length (case_first_buses t) ≡ case_component_count t
 unfolding case_first_buses case_component_count
 length-case_first_buses t = length-first_buses_of (case_bus_count t) (present (case_live t))
+
+-- and there are no more of them than buses
+pub case_component_count-le : (t : Tables) → case_component_count t ≤ case_bus_count t
+unfolding case_component_count
+case_component_count-le t = component_count-le (case_bus_count t) (present (case_live t))
+
+pub length-case_meters : (t : Tables) → length (case_meters t) ≡ length t.meters
+unfolding case_meters
+length-case_meters t = length-map t.meters (meter_touch (case_buses t))
+
+pub length-case_offered : (t : Tables) → length (case_offered t) ≡ length t.meters + length t.candidates
+unfolding case_offered
+length-case_offered t =
+    let meters = length-map t.meters (meter_touch (case_buses t)) in
+    let candidates = length-map t.candidates (candidate_touch (case_buses t)) in
+    length-append (meter_touches (case_buses t) t.meters) (map (candidate_touch (case_buses t)) t.candidates) ∙ omega (arith, meters, candidates)
+
+pub few_meters : (t : Tables) → IsValid t → length t.meters ≤ most_rows
+few_meters t v = let few = v.meters.few in omega (arith, few, length-map t.meters (λ row. row.name))
+
+-- a network that is that of a case has as many components
+pub count_of : (n : NetworkOf) (t : Tables) → n ≡ network_of t → length n.components.first_buses ≡ case_component_count t
+count_of n t same = ap (λ (x : NetworkOf). length x.components.first_buses) same ∙ length-case_first_buses t
+
+pub need_from : (n : NetworkOf) (t : Tables) (c : ℕ) → n ≡ network_of t → need_of n.components.sizes c ≡ need_of (case_sizes t) c
+need_from n t c same = ap (λ (x : NetworkOf). need_of x.components.sizes c) same

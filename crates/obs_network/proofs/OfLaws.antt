@@ -1,25 +1,21 @@
 -- What a reader means by components, sources and edits.
-use Rattle.std.proofs.Common.{◌≡◌, ◌↔◌, ℕ, zero, suc, ◌<◌, ◌≤◌, Bool, true, false, ◌||◌, eqb, List, [], ◌∷◌, length, get_or, refl, sym, ap, ◌∙◌, arith, inl, inr}
-use Rattle.std.specs.Prelude.{IsTrue, slice_index, ◌==◌}
-use Rattle.std.specs.List.{Contains, list_any}
-use Rattle.std.proofs.lemmas.Bool.{eq-eqb, eqb-true}
-use Rattle.std.proofs.lemmas.List.Folds.{Any-from_list_any, list_any-from_Any}
+use Rattle.std.proofs.Common.{◌≡◌, ◌↔◌, ℕ, zero, suc, ◌<◌, ◌≤◌, Bool, List, [], ◌∷◌, length, get_or, refl, sym, ap, ◌∙◌, arith}
+use Rattle.std.specs.Prelude.{IsTrue}
 use Rattle.obs_graph.specs.declared.Ends.{Ends}
 use Rattle.obs_graph.specs.Joined.{Chain, is_joined}
 use Rattle.obs_graph.specs.Positions.{present}
-use Rattle.obs_graph.proofs.Chains.{Chain-first, Chain-from_same_first, same_first-from_Chain, is_joined-true, is_joined-from_Chain}
+use Rattle.obs_graph.proofs.Chains.{same_first-from_Chain, is_joined-true, is_joined-from_Chain}
 use Rattle.obs_graph.proofs.First.{first_joined-le}
 use Rattle.obs_switch.specs.declared.link.Link.{Link}
 use Rattle.obs_switch.specs.Buses.{bus_of, ends_of_links}
 use Rattle.obs_switch.proofs.FirstNodes.{one_bus}
-use Rattle.obs_case.specs.declared.rows.Node.{Node}
 use Rattle.obs_case.specs.declared.rows.Branch.{Branch}
 use Rattle.obs_case.specs.declared.rows.Meter.{Meter}
 use Rattle.obs_case.specs.declared.rows.Switch.{Switch}
 use Rattle.obs_case.specs.Flags.{changed_at, with_branch_inservice, with_closed, with_meter_inservice}
 use Rattle.obs_case.specs.Tables.{Tables}
 use Rattle.obs_network.specs.Switched.{case_bus_count}
-use Rattle.obs_network.specs.Components.{component_of, first_bus, is_energised, source_nodes}
+use Rattle.obs_network.specs.Components.{component_of, first_bus}
 use Rattle.obs_network.specs.Network.{case_components, case_live, rows_of}
 use Rattle.obs_network.proofs.Whole.{rows_are}
 use Rattle.obs_network.proofs.Numbered.{components_of-at, one_component}

@@ -1,14 +1,16 @@
 -- What the arrays of a network hold.
-use Rattle.std.specs.Prelude.{ℕ, ◌≡◌, ◌<◌, ◌≤◌, ◌^◌, All, Bool, Option, List, length, take}
+use Rattle.std.specs.Prelude.{ℕ, suc, ◌≡◌, ◌<◌, ◌≤◌, ◌^◌, All, Bool, Option, Some, None, List, length, map, take}
 use Rattle.obs_graph.specs.declared.Ends.{Ends}
 use Rattle.obs_graph.specs.Search.{State, room_of}
 use Rattle.obs_graph.specs.Shape.{Shape}
 use Rattle.obs_switch.specs.declared.link.Link.{Link}
+use Rattle.obs_switch.specs.Groups.{AreGroups}
 use Rattle.obs_switch.specs.Held.{Labelled}
 use Rattle.obs_meter.specs.declared.Touch.{Touch}
 use Rattle.obs_meter.specs.Held.{Items}
 use Rattle.obs_meter.specs.Touches.{AreInRange}
 use Rattle.obs_network.specs.Network.{Grouped}
+use Rattle.obs_network.specs.Located.{touch_component}
 
 -- the arrays of components, of which the first entries are in use
 pub record AreGrouped (buses count : ℕ) (numbers first_buses sizes : List ℕ) (energised : List Bool) : Type 0 where
@@ -23,8 +25,36 @@ pub record AreGrouped (buses count : ℕ) (numbers first_buses sizes : List ℕ)
   pub some : All (λ s. 0 < s) (take count sizes)
   pub most : All (λ s. s ≤ buses) (take count sizes)
 
+-- the list of what lies in a component or in none, where there are so many: that of the component, or one more
+abbrev pub list_of : ℕ → Option ℕ → ℕ
+list_of count None = count
+list_of count (Some c) = c
+
+-- the list of each meter
+abbrev pub lists_of : Grouped → Shape → Items → List ℕ
+lists_of components graph meters =
+    map (λ touch. list_of (length components.first_buses) (touch_component components.of_buses graph.ends touch))
+    meters.touches
+
+-- the list of each meter, how many components there are, and for how many of both there is room
+pub record Listed : Type 0 where
+  pub lists : List ℕ
+  pub components : ℕ
+  pub most_meters : ℕ
+  pub most_components : ℕ
+
+-- the arrays of the lists of meters: the meters stand one list after another
+pub record AreListed (meters components most_components : ℕ) (lists members starts : List ℕ) : Type 0 where
+  pub small : length lists < 2 ^ 32
+  pub fits : meters ≤ length lists
+  pub few : components ≤ most_components
+  pub members_len : length members ≡ length lists
+  pub starts_len : length starts ≡ suc most_components
+  pub groups : AreGroups (take meters lists) members starts (suc components)
+
 -- the parts of a network agree, and each has the room that it needs
-pub record AreParts (links : List Link) (live kept : List (Option Ends)) (touches : List Touch) (search : State) (buses : Labelled) (components : Grouped) (graph : Shape) (meters offered : Items) : Type 0 where
+pub record AreParts (links : List Link) (live kept : List (Option Ends)) (touches : List Touch) (search : State)
+    (buses : Labelled) (components : Grouped) (graph : Shape) (meters offered : Items) (listed : Listed) : Type 0 where
   pub buses_room : buses.most_nodes ≡ components.most_buses
   pub vertices_room : graph.most_vertices ≡ components.most_buses
   pub branches_room : graph.most_branches ≡ length live
@@ -36,3 +66,7 @@ pub record AreParts (links : List Link) (live kept : List (Option Ends)) (touche
   pub of_buses : length components.of_buses ≡ buses.count
   pub meters_in_range : AreInRange graph meters.touches
   pub offered_in_range : AreInRange graph offered.touches
+  pub listed_meters : listed.most_meters ≡ meters.most
+  pub listed_components : listed.most_components ≡ components.most_buses
+  pub listed_count : listed.components ≡ length components.first_buses
+  pub lists : listed.lists ≡ lists_of components graph meters

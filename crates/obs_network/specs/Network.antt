@@ -1,13 +1,12 @@
 -- The network that a case determines.
-use Rattle.std.specs.Prelude.{ℕ, ◌+◌, ◌≤◌, ◌<◌, ◌≡◌, All, Bool, Option, List, length}
+use Rattle.std.specs.Prelude.{ℕ, ◌+◌, Bool, Option, List, length}
 use Rattle.obs_graph.specs.declared.Ends.{Ends}
-use Rattle.obs_graph.specs.Positions.{AreBranches, present}
+use Rattle.obs_graph.specs.Positions.{present}
 use Rattle.obs_graph.specs.Shape.{Shape}
 use Rattle.obs_switch.specs.Held.{Labelled}
 use Rattle.obs_case.specs.Tables.{Tables}
 use Rattle.obs_meter.specs.declared.Touch.{Touch}
 use Rattle.obs_meter.specs.Held.{Items}
-use Rattle.obs_meter.specs.Touches.{AreInRange}
 use Rattle.obs_network.specs.Switched.{case_bus_count, case_buses}
 use Rattle.obs_network.specs.Live.{live_branches}
 use Rattle.obs_network.specs.Components.{component_count, components_of, energised_branches, energised_of, first_buses_of, needed_of, sizes_of}

@@ -1,5 +1,5 @@
 -- What the items of a case touch: its meters and then its candidates. `buses` has the bus of each node.
-use Rattle.std.specs.Prelude.{ℕ, Bool, if◌then◌else◌, List, ◌++◌, map, slice_index}
+use Rattle.std.specs.Prelude.{ℕ, if◌then◌else◌, List, ◌++◌, map, slice_index}
 use Rattle.obs_case.specs.declared.rows.Candidate.{Candidate}
 use Rattle.obs_case.specs.declared.rows.Kind.{Kind}
 use Rattle.obs_case.specs.declared.rows.Kind.TheVariants.{Flow, Injection, Zero}

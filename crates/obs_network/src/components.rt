@@ -1,5 +1,6 @@
 // The components of a network.
 ghost use Rattle.std.specs.Prelude.{◌≡◌, ◌<◌, ◌≤◌, ◌^◌, [], ℕ, All, IfOk, length, slice_index, slice_index_or, take, false};
+ghost use Rattle.obs_case.specs.Tables.{most_rows};
 ghost use Rattle.obs_graph.specs.Joined.{first_joined};
 ghost use Rattle.obs_graph.specs.Positions.{present};
 ghost use Rattle.obs_network.specs.Components.{component_count, components_of, energised_of, first_buses_of, needed_of, sizes_of};
@@ -31,9 +32,16 @@ impl Model for Components {
 
     ghost Value = { Grouped };
 
-    ghost view = { λ c. record { of_buses = take c.buses c.numbers.items; first_buses = take c.count c.first_buses.items; sizes = take c.count c.sizes.items; energised = take c.count c.energised.items; most_buses = length c.numbers.items } };
+    ghost view = { λ c. record {
+      of_buses = take c.buses c.numbers.items;
+      first_buses = take c.count c.first_buses.items;
+      sizes = take c.count c.sizes.items;
+      energised = take c.count c.energised.items;
+      most_buses = length c.numbers.items;
+    } };
 
-    ghost invariant = { λ c. AreGrouped c.buses c.count c.numbers.items c.first_buses.items c.sizes.items c.energised.items };
+    ghost invariant = { λ c.
+        AreGrouped c.buses c.count c.numbers.items c.first_buses.items c.sizes.items c.energised.items };
 }
 
 // Finds the components of some buses, of each of which the first bus of its component is given.
@@ -60,7 +68,8 @@ fn group(
     ensures count { result ≡ component_count (length firsts.now) (present live.now) }
     ensures first_buses { take result first_buses.new ≡ first_buses_of (length firsts.now) (present live.now) }
     ensures sizes { take result sizes.new ≡ sizes_of result (take (length firsts.now) numbers.new) }
-    ensures energised { take result energised.new ≡ energised_of result (take (length firsts.now) numbers.new) buses.now.buses nodes.now }
+    ensures energised { take result energised.new
+        ≡ energised_of result (take (length firsts.now) numbers.new) buses.now.buses nodes.now }
     ensures few { result ≤ length firsts.now }
     ensures below { All (λ c. c < result) (take (length firsts.now) numbers.new) }
     ensures firsts { All (λ b. b < length firsts.now) (take result first_buses.new) }
@@ -75,7 +84,13 @@ fn group(
 impl Components {
     /// Room for the components of so many buses, without a bus.
     pub(crate) fn make(alloc: Global, most_buses: u32) -> Result<Components, NoMemory>
-        ensures empty { IfOk result (λ c. c ≡ record { of_buses = []; first_buses = []; sizes = []; energised = []; most_buses = most_buses }) }
+        ensures empty { IfOk result (λ c. c ≡ record {
+          of_buses = [];
+          first_buses = [];
+          sizes = [];
+          energised = [];
+          most_buses = most_buses;
+        }) }
     {
         let room = most_buses as usize;
         Ok(Components {
@@ -101,11 +116,15 @@ impl Components {
         requires room { length firsts.now ≤ self.old.most_buses }
         requires buses { buses.now.count ≡ length firsts.now }
         requires nodes_are { length nodes.now ≡ length buses.now.buses }
-        requires firsts { (b : ℕ) → b < length firsts.now → slice_index firsts.now b ≡ first_joined (present live.now) b }
+        requires firsts { (b : ℕ) → b < length firsts.now →
+            slice_index firsts.now b ≡ first_joined (present live.now) b }
         ensures of_buses { self.new.of_buses ≡ components_of (length firsts.now) (present live.now) }
         ensures first_buses { self.new.first_buses ≡ first_buses_of (length firsts.now) (present live.now) }
-        ensures sizes { self.new.sizes ≡ sizes_of (component_count (length firsts.now) (present live.now)) self.new.of_buses }
-        ensures energised { self.new.energised ≡ energised_of (component_count (length firsts.now) (present live.now)) self.new.of_buses buses.now.buses nodes.now }
+        ensures sizes { self.new.sizes
+            ≡ sizes_of (component_count (length firsts.now) (present live.now)) self.new.of_buses }
+        ensures energised { self.new.energised
+            ≡ energised_of (component_count (length firsts.now) (present live.now))
+            self.new.of_buses buses.now.buses nodes.now }
         ensures room { self.new.most_buses ≡ self.old.most_buses }
     {
         self.count = group(
@@ -175,7 +194,7 @@ impl Components {
 
     /// What the energised components need together.
     pub(crate) fn needed(&self) -> u32
-        requires few { self.now.most_buses ≤ 20000 }
+        requires few { self.now.most_buses ≤ most_rows }
         ensures needed { result ≡ needed_of self.now.sizes self.now.energised (length self.now.first_buses) }
     {
         add_needs(&self.sizes[..self.count], &self.energised[..self.count])

@@ -1,5 +1,5 @@
 // The laws of networks.
-ghost use Rattle.std.specs.Prelude.{◌≡◌, ◌↔◌, ◌<◌, ◌≤◌, ℕ, Bool, true, false, List, Option, IsTrue, Contains, length, filter, sum_by, slice_index, slice_index_or};
+ghost use Rattle.std.specs.Prelude.{◌≡◌, ◌↔◌, ◌<◌, ◌≤◌, ℕ, Bool, true, false, List, Option, Some, None, [], IsTrue, Contains, length, filter, sum_by, slice_index, slice_index_or};
 ghost use Rattle.std.specs.List.{range_with_len};
 ghost use Rattle.obs_graph.specs.declared.Ends.{Ends};
 ghost use Rattle.obs_graph.specs.Joined.{is_joined};
@@ -9,16 +9,18 @@ ghost use Rattle.obs_switch.specs.Buses.{bus_of, ends_of_links};
 ghost use Rattle.obs_case.specs.declared.rows.Node.{Node};
 ghost use Rattle.obs_case.specs.Flags.{with_branch_inservice, with_closed, with_meter_inservice};
 ghost use Rattle.obs_case.specs.Tables.{IsValid, Tables};
-ghost use Rattle.obs_matroid.specs.Lists.{In};
+ghost use Rattle.obs_matroid.specs.Lists.{In, IsRising};
 ghost use Rattle.obs_matroid.specs.Assignments.{Pair};
 ghost use Rattle.obs_matroid.specs.Components.{IsSumOfKinds};
 ghost use Rattle.obs_meter.specs.declared.Touch.{Touch};
+ghost use Rattle.obs_meter.specs.declared.Touch.TheVariants.{Nothing};
 ghost use Rattle.obs_meter.specs.Assignments.{IsAssignmentAt, IsRhoAt, rho_at};
 ghost use Rattle.obs_meter.specs.Spanned.{graph_matroid};
 ghost use Rattle.obs_meter.specs.Touches.{AreInRange, touch_at};
 ghost use Rattle.obs_network.specs.Switched.{case_bus_count};
 ghost use Rattle.obs_network.specs.Components.{AreOneComponent, component_count, component_of, components_of, first_bus, first_buses_of, is_energised, need_of, needed_of, sizes_of, source_nodes};
-ghost use Rattle.obs_network.specs.Network.{case_branches, case_component_count, case_components, case_live, case_meters, case_needed, case_offered, case_sizes, network_of, rows_of};
+ghost use Rattle.obs_network.specs.Located.{component_of_branch, component_of_item, live_meters_of};
+ghost use Rattle.obs_network.specs.Network.{NetworkOf, case_branches, case_component_count, case_components, case_live, case_meters, case_needed, case_offered, case_sizes, network_of, rows_of};
 ghost use Rattle.obs_network.specs.Observable.{IsObservableCase, branch_component, case_live_meters, is_fed, item_component};
 
 /// Two nodes have one bus exactly where the closed switches, as branches between nodes, join them.
@@ -32,7 +34,8 @@ pub fn one_component_by_chain()
     ensures component { (live : List Ends) (b c : ℕ) →
         (component_of live b ≡ component_of live c) ↔ AreOneComponent live b c }
     ensures of_case { (t : Tables) (b c : ℕ) → b < case_bus_count t → c < case_bus_count t →
-        (slice_index (case_components t) b ≡ slice_index (case_components t) c) ↔ AreOneComponent (present (case_live t)) b c }
+        (slice_index (case_components t) b ≡ slice_index (case_components t) c)
+        ↔ AreOneComponent (present (case_live t)) b c }
 {}
 
 /// The first bus of a component is one of its buses, and none of them stands before it; it is noted at the
@@ -42,7 +45,8 @@ pub fn components_by_first_buses()
     ensures lowest { (live : List Ends) (b c : ℕ) → AreOneComponent live b c → first_bus live b ≤ c }
     ensures noted { (n : ℕ) (live : List Ends) (b : ℕ) → b < n →
         slice_index (first_buses_of n live) (component_of live b) ≡ first_bus live b }
-    ensures order { (live : List Ends) (b c : ℕ) → first_bus live b < first_bus live c → component_of live b < component_of live c }
+    ensures order { (live : List Ends) (b c : ℕ) →
+        first_bus live b < first_bus live c → component_of live b < component_of live c }
     ensures below { (n : ℕ) (live : List Ends) (b : ℕ) → b < n → component_of live b < component_count n live }
     ensures count { (n : ℕ) (live : List Ends) → length (first_buses_of n live) ≡ component_count n live }
 {}
@@ -97,12 +101,52 @@ pub fn observable_by_rank()
 
 /// A case without an energised component is observable.
 pub fn nothing_fed_is_observable()
-    ensures observable { (t : Tables) → ((c : ℕ) → c < case_component_count t → is_fed t c ≡ false) → IsObservableCase t }
+    ensures observable { (t : Tables) →
+        ((c : ℕ) → c < case_component_count t → is_fed t c ≡ false) → IsObservableCase t }
 {}
 
 /// A new flag leaves the numbers of rows.
 pub fn flags_keep_rows()
     ensures switch { (t : Tables) (at : ℕ) (closed : Bool) → rows_of (with_closed t at closed) ≡ rows_of t }
-    ensures branch { (t : Tables) (at : ℕ) (inservice : Bool) → rows_of (with_branch_inservice t at inservice) ≡ rows_of t }
-    ensures meter { (t : Tables) (at : ℕ) (inservice : Bool) → rows_of (with_meter_inservice t at inservice) ≡ rows_of t }
+    ensures branch { (t : Tables) (at : ℕ) (inservice : Bool) →
+        rows_of (with_branch_inservice t at inservice) ≡ rows_of t }
+    ensures meter { (t : Tables) (at : ℕ) (inservice : Bool) →
+        rows_of (with_meter_inservice t at inservice) ≡ rows_of t }
+{}
+
+/// Both ends of a branch lie in its component, which is energised. An absent branch has none.
+pub fn components_of_branches()
+    ensures ends { (t : Tables) → IsValid t → (e : ℕ) (ends : Ends) →
+        slice_index_or (case_branches t) e None ≡ Some ends →
+        (component_of_branch (network_of t) e ≡ Some (slice_index (case_components t) ends.a))
+        × (component_of_branch (network_of t) e ≡ Some (slice_index (case_components t) ends.b)) }
+    ensures absent { (t : Tables) (e : ℕ) → slice_index_or (case_branches t) e None ≡ None →
+        component_of_branch (network_of t) e ≡ None }
+    ensures energised { (t : Tables) → IsValid t → (e c : ℕ) → component_of_branch (network_of t) e ≡ Some c →
+        (c < case_component_count t) × (is_fed t c ≡ true) }
+{}
+
+/// An item lies in the component of each branch that it touches, and in none where it touches nothing. A meter is the
+/// item of its number.
+pub fn components_of_items()
+    ensures touching { (t : Tables) → IsValid t → (m e : ℕ) → In e (touch_at (case_branches t) (case_offered t) m) →
+        component_of_item (network_of t) m ≡ component_of_branch (network_of t) e }
+    ensures idle { (t : Tables) (m : ℕ) → touch_at (case_branches t) (case_offered t) m ≡ [] →
+        component_of_item (network_of t) m ≡ None }
+    ensures meters { (t : Tables) (m : ℕ) → m < length t.meters →
+        slice_index_or (case_offered t) m Nothing ≡ slice_index_or (case_meters t) m Nothing }
+{}
+
+/// The live meters of a component are exactly those that touch one of its branches. They rise, so that none stands
+/// twice, and each live meter of a case is in the list of exactly one component.
+pub fn live_meters_by_component()
+    ensures exactly { (t : Tables) → IsValid t → (c m : ℕ) →
+        In m (live_meters_of (network_of t) c)
+        ↔ (e : ℕ) × In e (touch_at (case_branches t) (case_meters t) m)
+        × (component_of_branch (network_of t) e ≡ Some c) }
+    ensures rising { (n : NetworkOf) (c : ℕ) → IsRising (live_meters_of n c) }
+    ensures some_list { (t : Tables) → IsValid t → (m : ℕ) → In m (case_live_meters t) →
+        (c : ℕ) × (c < case_component_count t) × In m (live_meters_of (network_of t) c) }
+    ensures one_list { (n : NetworkOf) (c d m : ℕ) →
+        In m (live_meters_of n c) → In m (live_meters_of n d) → c ≡ d }
 {}

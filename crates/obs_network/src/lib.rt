@@ -4,6 +4,8 @@
 mod components;
 pub mod laws;
 mod live;
+mod live_meters;
+mod located;
 mod marks;
 mod memory;
 mod network;

@@ -1,6 +1,7 @@
 // What is known of each component, and of all, by one pass over the buses, the nodes or the components.
 ghost use Rattle.std.specs.Prelude.{◌≡◌, ◌≢◌, ◌<◌, ◌≤◌, ◌^◌, ◌+◌, ◌*◌, ℕ, All, count_by, ◌==◌, length, slice_index, take, false, slice_index_or, IfSome};
 ghost use Rattle.obs_graph.specs.Positions.{present};
+ghost use Rattle.obs_case.specs.Tables.{most_rows};
 ghost use Rattle.obs_graph.specs.Joined.{first_joined};
 ghost use Rattle.obs_network.specs.Components.{component_count, component_of, components_of, energised_branches, energised_of, first_buses_of, if_energised, is_energised, needed_of, sizes_of};
 
@@ -79,8 +80,8 @@ pub(crate) fn mark_energised(nodes: &[Node], buses: &Buses, numbers: &[u32], ene
 /// Adds up what the energised components need.
 pub(crate) fn add_needs(sizes: &[u32], energised: &[bool]) -> u32
     requires lengths { length sizes.now ≡ length energised.now }
-    requires few { length sizes.now ≤ 20000 }
-    requires small { All (λ s. s ≤ 20000) sizes.now }
+    requires few { length sizes.now ≤ most_rows }
+    requires small { All (λ s. s ≤ most_rows) sizes.now }
     requires some { All (λ s. 0 < s) sizes.now }
     ensures needed { result ≡ needed_of sizes.now energised.now (length sizes.now) }
 {

@@ -1,13 +1,16 @@
 // The network of a case.
-ghost use Rattle.std.specs.Prelude.{◌≡◌, ◌-◌, ◌<◌, ◌≤◌, ◌^◌, ◌+◌, [], ℕ, All, IfOk, length, slice_index, slice_index_or, take, false};
+ghost use Rattle.std.specs.Prelude.{◌≡◌, ◌-◌, ◌<◌, ◌≤◌, ◌^◌, ◌+◌, [], ℕ, All, IfOk, IfSome, length, slice_index, slice_index_or, take, false};
 ghost use Rattle.obs_graph.specs.Positions.{AreBranches};
 ghost use Rattle.obs_switch.specs.Buses.{LinksBelow};
 ghost use Rattle.obs_meter.specs.Touches.{AreInRange};
 ghost use Rattle.obs_network.specs.Switched.{case_bus_count, case_buses, closed_links};
 ghost use Rattle.obs_network.specs.Components.{need_of};
+ghost use Rattle.obs_network.specs.Located.{component_of_branch, component_of_item, live_meters_of};
 ghost use Rattle.obs_network.specs.Network.{network_of, rows_of};
 
 use crate::components::Components;
+use crate::live_meters::LiveMeters;
+use crate::located::{component_of_branch, component_of_touch};
 use crate::memory::NoMemory;
 use crate::rebuild::{find_components, find_live, refill_graph, refill_items, relabel};
 use obs_case::Case;
@@ -33,6 +36,7 @@ pub struct Network {
     kept: Vec<Option<Ends>>,
     touches: Vec<Touch>,
     search: Search,
+    live_meters: LiveMeters,
 }
 
 impl Model for Network {
@@ -43,7 +47,13 @@ impl Model for Network {
     ghost Value = { NetworkOf };
 
     ghost view = { λ n. record {
-      rows = record { nodes = n.components.most_buses; switches = length n.links.items; branches = length n.live.items; meters = n.meters.most; candidates = n.offered.most - n.meters.most };
+      rows = record {
+        nodes = n.components.most_buses;
+        switches = length n.links.items;
+        branches = length n.live.items;
+        meters = n.meters.most;
+        candidates = n.offered.most - n.meters.most;
+      };
       buses = n.buses;
       components = n.components;
       graph = n.graph;
@@ -52,7 +62,9 @@ impl Model for Network {
       needed = n.needed;
     } };
 
-    ghost invariant = { λ n. AreParts n.links.items n.live.items n.kept.items n.touches.items n.search n.buses n.components n.graph n.meters n.offered };
+    ghost invariant = { λ n.
+        AreParts n.links.items n.live.items n.kept.items n.touches.items n.search
+        n.buses n.components n.graph n.meters n.offered n.live_meters };
 }
 
 impl Network {
@@ -76,6 +88,7 @@ impl Network {
             kept: vec![in alloc; None; branches]?,
             touches: vec![in alloc; Touch::Nothing; offered as usize]?,
             search: Search::make(alloc, nodes)?,
+            live_meters: LiveMeters::make(alloc, meters, nodes)?,
         })
     }
 
@@ -118,6 +131,8 @@ impl Network {
             &mut self.meters,
             &mut self.offered,
         );
+        self.live_meters
+            .refill(&self.components, &self.graph, &self.meters);
         self.needed = self.components.needed();
     }
 
@@ -168,6 +183,35 @@ impl Network {
         ensures below { result < length self.now.components.first_buses }
     {
         self.components.component(bus)
+    }
+
+    /// The component of the branch at a position, and None where the graph has none there.
+    pub fn component_of_branch(&self, e: u32) -> Option<u32>
+        requires branch { e < length self.now.graph.ends }
+        ensures component { result ≡ component_of_branch self.now e }
+        ensures below { IfSome result (λ c. c < length self.now.components.first_buses) }
+    {
+        component_of_branch(&self.components, &self.graph, e)
+    }
+
+    /// The component in which all lies that an item touches, and None where it touches nothing. The
+    /// items are the meters and then the candidates, so a meter is the item of its number.
+    pub fn component_of_item(&self, m: u32) -> Option<u32>
+        requires item { m < length self.now.offered.touches }
+        ensures component { result ≡ component_of_item self.now m }
+        ensures below { IfSome result (λ c. c < length self.now.components.first_buses) }
+    {
+        component_of_touch(&self.components, &self.graph, self.offered.kind(m))
+    }
+
+    /// The live meters of a component, rising: those that touch one of its branches. All components
+    /// together take time linear in them and in the meters.
+    pub fn live_meters(&self, c: u32) -> &[u32]
+        requires component { c < length self.now.components.first_buses }
+        ensures meters { result.now ≡ live_meters_of self.now c }
+        ensures below { All (λ m. m < length self.now.meters.touches) result.now }
+    {
+        self.live_meters.list(c)
     }
 
     /// The first bus of a component, which names it.

@@ -69,14 +69,16 @@ struct Rows<'a> {
     candidates: &'a [(u8, Kind, u8)],
 }
 
-// The number of buses, which branches are present, the first bus, the size, the flag and the need of each component, the
-// branches that each offered item touches, and the needed number.
+// The number of buses, the component of each branch that is present, the first bus, the size, the flag and the need of
+// each component, its live meters, the branches that each offered item touches and its component, and the needed number.
 #[derive(Clone, Copy)]
 struct Seen<'a> {
     buses: u32,
-    present: &'a [bool],
+    branches: &'a [Option<u32>],
     components: &'a [(u32, u32, bool, u32)],
+    live: &'a [&'a [u32]],
     touches: &'a [&'a [u32]],
+    items: &'a [Option<u32>],
     needed: u32,
 }
 
@@ -110,27 +112,38 @@ fn has_components(rt: &impl Abort, network: &Network, want: &[(u32, u32, bool, u
     }
 }
 
-fn touches(rt: &impl Abort, network: &Network, want: &[&[u32]]) {
-    let offered = network.offered();
-    assert!(rt; offered.count() as usize == want.len());
-    for m in 0..offered.count() {
-        assert!(rt; offered.touch(network.graph(), m) == want[m as usize]);
+fn has_live_meters(rt: &impl Abort, network: &Network, want: &[&[u32]]) {
+    assert!(rt; network.components() as usize == want.len());
+    for c in 0..network.components() {
+        assert!(rt; network.live_meters(c) == want[c as usize]);
     }
 }
 
-fn has_present(rt: &impl Abort, network: &Network, want: &[bool]) {
+fn touches(rt: &impl Abort, network: &Network, want: &[&[u32]], items: &[Option<u32>]) {
+    let offered = network.offered();
+    assert!(rt; offered.count() as usize == want.len());
+    assert!(rt; offered.count() as usize == items.len());
+    for m in 0..offered.count() {
+        assert!(rt; offered.touch(network.graph(), m) == want[m as usize]);
+        assert!(rt; network.component_of_item(m) == items[m as usize]);
+    }
+}
+
+fn has_branches(rt: &impl Abort, network: &Network, want: &[Option<u32>]) {
     let graph = network.graph();
     assert!(rt; graph.positions() as usize == want.len());
     for e in 0..graph.positions() {
-        assert!(rt; graph.ends(e).is_some() == want[e as usize]);
+        assert!(rt; graph.ends(e).is_some() == want[e as usize].is_some());
+        assert!(rt; network.component_of_branch(e) == want[e as usize]);
     }
 }
 
 fn look(rt: &impl Abort, network: &Network, seen: &Seen) {
     assert!(rt; network.buses().count() == seen.buses);
-    has_present(rt, network, seen.present);
+    has_branches(rt, network, seen.branches);
     has_components(rt, network, seen.components);
-    touches(rt, network, seen.touches);
+    has_live_meters(rt, network, seen.live);
+    touches(rt, network, seen.touches, seen.items);
     assert!(rt; network.needed() == seen.needed);
 }
 
@@ -180,16 +193,20 @@ fn a_component_without_a_source_has_no_branches(rt: HostRuntime) -> Result<(), F
     };
     let made = Seen {
         buses: 4,
-        present: &[true, false, false],
+        branches: &[Some(0), None, None],
         components: &[(0, 2, true, 1), (2, 2, false, 1)],
+        live: &[&[0, 2], &[]],
         touches: &[&[0], &[], &[0]],
+        items: &[Some(0), None, Some(0)],
         needed: 1,
     };
     let remade = Seen {
         buses: 3,
-        present: &[true, false, false],
+        branches: &[Some(0), None, None],
         components: &[(0, 2, true, 1), (2, 1, false, 0)],
+        live: &[&[0, 2], &[]],
         touches: &[&[0], &[], &[0]],
+        items: &[Some(0), None, Some(0)],
         needed: 1,
     };
     let closing = Switching {
@@ -220,9 +237,11 @@ fn touches_of_a_path(rt: HostRuntime) -> Result<(), Fail> {
     };
     let seen = Seen {
         buses: 4,
-        present: &[true, true, true],
+        branches: &[Some(0), Some(0), Some(0)],
         components: &[(0, 4, true, 3)],
+        live: &[&[0, 1, 2]],
         touches: &[&[0], &[0], &[0, 1], &[1, 2]],
+        items: &[Some(0), Some(0), Some(0), Some(0)],
         needed: 3,
     };
     switched(&rt, rt.alloc(), &rows, &seen, &[])?;
@@ -246,16 +265,20 @@ fn an_opened_switch_parts_a_bus(rt: HostRuntime) -> Result<(), Fail> {
     };
     let made = Seen {
         buses: 1,
-        present: &[],
+        branches: &[],
         components: &[(0, 1, true, 0)],
+        live: &[&[]],
         touches: &[],
+        items: &[],
         needed: 0,
     };
     let remade = Seen {
         buses: 2,
-        present: &[],
+        branches: &[],
         components: &[(0, 1, true, 0), (1, 1, false, 0)],
+        live: &[&[], &[]],
         touches: &[],
+        items: &[],
         needed: 0,
     };
     let open_third = Switching {
@@ -283,16 +306,20 @@ fn a_closed_switch_across_a_branch_takes_it_out(rt: HostRuntime) -> Result<(), F
     };
     let made = Seen {
         buses: 2,
-        present: &[true],
+        branches: &[Some(0)],
         components: &[(0, 2, true, 1)],
+        live: &[&[0]],
         touches: &[&[0]],
+        items: &[Some(0)],
         needed: 1,
     };
     let remade = Seen {
         buses: 1,
-        present: &[false],
+        branches: &[None],
         components: &[(0, 1, true, 0)],
+        live: &[&[]],
         touches: &[&[]],
+        items: &[None],
         needed: 0,
     };
     let closing = Switching {
@@ -333,19 +360,23 @@ fn a_closed_switch_joins_two_components(rt: HostRuntime) -> Result<(), Fail> {
         ],
         candidates: &[],
     };
+    let all: &[u32] = &[0, 1, 2, 3, 4];
     let made = Seen {
         buses: 7,
-        present: &[true, true, true, true, true],
+        branches: &[Some(1), Some(1), Some(1), Some(1), Some(0)],
         components: &[(0, 2, true, 1), (1, 5, true, 4)],
+        live: &[all, &[]],
         touches: &[&[4], &[4], &[4], &[4], &[4]],
+        items: &[Some(0), Some(0), Some(0), Some(0), Some(0)],
         needed: 5,
     };
-    let all: &[u32] = &[0, 1, 2, 3, 4];
     let remade = Seen {
         buses: 6,
-        present: &[true, true, true, true, true],
+        branches: &[Some(0), Some(0), Some(0), Some(0), Some(0)],
         components: &[(0, 6, true, 5)],
+        live: &[all],
         touches: &[all, all, all, all, all],
+        items: &[Some(0), Some(0), Some(0), Some(0), Some(0)],
         needed: 5,
     };
     let closing = Switching {
@@ -354,5 +385,40 @@ fn a_closed_switch_joins_two_components(rt: HostRuntime) -> Result<(), Fail> {
         seen: remade,
     };
     switched(&rt, rt.alloc(), &rows, &made, &[closing])?;
+    Ok(())
+}
+
+// The meters of two components stand by turns in the table, and one that touches nothing between them.
+#[test]
+fn meters_are_listed_by_component(rt: HostRuntime) -> Result<(), Fail> {
+    let rows = Rows {
+        nodes: &[
+            (b'a', true),
+            (b'b', false),
+            (b'c', true),
+            (b'd', false),
+            (b'e', false),
+        ],
+        switches: &[],
+        branches: &[(b'1', b'a', b'b', true), (b'2', b'c', b'd', true)],
+        meters: &[
+            (b'g', Kind::Flow, b'2'),
+            (b'f', Kind::Flow, b'1'),
+            (b'i', Kind::Injection, b'c'),
+            (b'n', Kind::Injection, b'e'),
+            (b'z', Kind::Zero, b'b'),
+        ],
+        candidates: &[(b'p', Kind::Injection, b'd'), (b'q', Kind::Zero, b'e')],
+    };
+    let seen = Seen {
+        buses: 5,
+        branches: &[Some(0), Some(1)],
+        components: &[(0, 2, true, 1), (2, 2, true, 1), (4, 1, false, 0)],
+        live: &[&[1, 4], &[0, 2], &[]],
+        touches: &[&[1], &[0], &[1], &[], &[0], &[1], &[]],
+        items: &[Some(1), Some(0), Some(1), None, Some(0), Some(1), None],
+        needed: 2,
+    };
+    switched(&rt, rt.alloc(), &rows, &seen, &[])?;
     Ok(())
 }

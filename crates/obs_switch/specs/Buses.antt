@@ -3,8 +3,8 @@ use Rattle.std.specs.Prelude.{ℕ, ◌<◌, ◌==◌, Bool, List, All, map}
 use Rattle.std.specs.List.{range_with_len}
 use Rattle.obs_graph.specs.declared.Ends.{Ends}
 use Rattle.obs_graph.specs.Joined.{Chain, count_below, first_joined}
-use Rattle.obs_graph.specs.Positions.{positions_from}
 use Rattle.obs_switch.specs.declared.link.Link.{Link}
+use Rattle.obs_switch.specs.Groups.{items_with}
 
 -- a closed switch is a branch between its two nodes
 abbrev pub ends_of_link : Link → Ends
@@ -39,7 +39,7 @@ bus_count nodes links = count_below (is_first_node links) nodes
 
 -- the nodes of a bus, rising, where these are the buses of the nodes
 abbrev pub members_of : List ℕ → ℕ → List ℕ
-members_of buses bus = positions_from (λ b. b == bus) 0 buses
+members_of buses bus = items_with buses bus
 
 -- both ends of each link are below a number of nodes
 abbrev pub LinksBelow : ℕ → List Link → Type 0

@@ -1,4 +1,3 @@
-use Rattle.std.proofs.Common.{◌∙◌, sym}
 use Rattle.obs_network.proofs.laws.nothing_fed_is_observable.Goals as goal
 
 pub returns : goal.returns

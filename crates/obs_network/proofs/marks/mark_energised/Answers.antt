@@ -1,4 +1,4 @@
-use Rattle.std.proofs.Common.{length, ◌∙◌, ◌||◌, ap, sym, drop, get_or, false, arith}
+use Rattle.std.proofs.Common.{length, ◌∙◌, ◌||◌, ap, sym, get_or, false, arith}
 use Rattle.std.specs.Prelude.{slice_index, ◌==◌}
 use Rattle.std.specs.List.{list_any}
 use Rattle.std.proofs.lemmas.List.{drop_all}

@@ -1,5 +1,4 @@
-use Rattle.std.proofs.Common.{length, ap, ◌∙◌, sym}
-use Rattle.obs_network.specs.Live.{live_branches}
+use Rattle.std.proofs.Common.{◌∙◌}
 use Rattle.obs_network.specs.Network.{case_live}
 use Rattle.obs_network.proofs.OfCase.{length-case_buses}
 use Rattle.obs_network.proofs.rebuild.find_live.Goals as goal

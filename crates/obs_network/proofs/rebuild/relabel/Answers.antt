@@ -1,6 +1,4 @@
-use Rattle.std.proofs.Common.{List, length, subst, sym, ap, ◌∙◌}
-use Rattle.obs_switch.specs.declared.link.Link.{Link}
-use Rattle.obs_switch.specs.Buses.{LinksBelow}
+use Rattle.std.proofs.Common.{ap, ◌∙◌}
 use Rattle.obs_network.specs.Switched.{closed_links}
 use Rattle.obs_network.proofs.OfCase.{case_links-below}
 use Rattle.obs_network.proofs.rebuild.relabel.Goals as goal

@@ -1,6 +1,4 @@
-use Rattle.std.proofs.Common.{◌∙◌, ap, refl, length}
-use Rattle.obs_case.specs.declared.rows.Switch.{Switch}
-use Rattle.obs_case.specs.Flags.{with_closed}
+use Rattle.std.proofs.Common.{◌∙◌, ap}
 use Rattle.obs_network.specs.Network.{rows_of}
 use Rattle.obs_network.proofs.OfLaws.{rows-with_closed}
 use Rattle.obs_network.proofs.tests.set.Goals as goal

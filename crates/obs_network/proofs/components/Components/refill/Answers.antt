@@ -1,4 +1,4 @@
-use Rattle.std.proofs.Common.{length, ◌∙◌, ap, arith}
+use Rattle.std.proofs.Common.{length, ap, arith}
 use Rattle.obs_graph.specs.Positions.{present}
 use Rattle.obs_network.specs.Network.{Grouped}
 use Rattle.obs_network.proofs.Grouping.{grouped_whole, written_back}

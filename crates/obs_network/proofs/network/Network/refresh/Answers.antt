@@ -1,11 +1,7 @@
-use Rattle.std.proofs.Common.{◌≡◌, ◌≤◌, ℕ, ◌+◌, ◌∙◌, sym, refl, ap, length, vec_len, arith}
-use Rattle.obs_case.specs.Tables.{Tables}
-use Rattle.obs_meter.specs.Held.{Items}
-use Rattle.obs_network.specs.Switched.{case_bus_count}
-use Rattle.obs_network.specs.Components.{needed_of}
+use Rattle.std.proofs.Common.{◌∙◌, sym, refl, ap, length, arith}
 use Rattle.obs_network.specs.Network.{NetworkOf, Rows, case_needed}
 use Rattle.obs_network.proofs.Grouping.{written_back}
-use Rattle.obs_network.proofs.OfCase.{case_bus_count-le, few_nodes, length-case_components, length-case_first_buses, meters-in_range, offered-in_range}
+use Rattle.obs_network.proofs.OfCase.{case_bus_count-le, case_component_count-le, few_nodes, length-case_components, length-case_first_buses, length-case_meters, meters-in_range, offered-in_range}
 use Rattle.obs_network.proofs.Whole.{labelled_is, grouped_is, shape_is, items_are, rows_are, network_is}
 use Rattle.obs_network.proofs.network.Network.refresh.Goals as goal
 
@@ -36,6 +32,29 @@ refill_graph-requires-clause-vertices c =
     let room = c.self.invariant.vertices_room in
     omega (arith, nodes, room, c.find_components.ensures.most_vertices, case_bus_count-le c.args.case.now)
 
+pub refill-requires-clause-vertices : goal.refill-requires-clause-vertices
+refill-requires-clause-vertices c = c.refill_graph.ensures.vertices ∙ sym (ap length c.find_components.ensures.of_buses ∙ length-case_components c.args.case.now)
+
+pub refill-requires-clause-in_range : goal.refill-requires-clause-in_range
+refill-requires-clause-in_range c =
+    let kept = c.refill_graph.ensures in
+    rw c.refill_items.ensures.meters (meters-in_range c.args.case.now c.nodes-nodes.ensures.valid c.refill_graph.new.graph kept.vertices kept.ends)
+
+pub refill-requires-clause-meters : goal.refill-requires-clause-meters
+refill-requires-clause-meters c =
+    let rows = ap (λ (n : NetworkOf). n.rows) c.self.view_is ∙ c.requires.rows in
+    let meters = ap (λ (r : Rows). r.meters) rows in
+    let room = c.self.invariant.listed_meters in
+    omega (arith, meters, room, ap length c.refill_items.ensures.meters, length-case_meters c.args.case.now)
+
+pub refill-requires-clause-components : goal.refill-requires-clause-components
+refill-requires-clause-components c =
+    let t = c.args.case.now in
+    let rows = ap (λ (n : NetworkOf). n.rows) c.self.view_is ∙ c.requires.rows in
+    let nodes = ap (λ (r : Rows). r.nodes) rows in
+    let room = c.self.invariant.listed_components in
+    omega (arith, nodes, room, ap length c.find_components.ensures.first_buses, length-case_first_buses t, case_component_count-le t, case_bus_count-le t)
+
 pub needed-self-inside-requires : goal.needed-self-inside-requires
 needed-self-inside-requires c =
     let rows = ap (λ (n : NetworkOf). n.rows) c.self.view_is ∙ c.requires.rows in
@@ -55,6 +74,7 @@ invariant_of-self c =
     let live = c.find_live.auto.live in
     let keeps = c.refill_graph.auto.kept in
     let touches = c.refill_items.auto.touches in
+    let listed = c.refill.ensures in
     rw (
       written_back s.links.len c.relabel.new.links s.links.items (omega arith) (omega arith),
       written_back s.live.len c.find_live.new.live s.live.items (omega arith) (omega arith),
@@ -73,6 +93,10 @@ invariant_of-self c =
       of_buses = ap length found.of_buses ∙ (length-case_components t ∙ sym c.relabel.ensures.count);
       meters_in_range = rw items.meters (meters-in_range t valid c.refill_graph.new.graph kept.vertices kept.ends);
       offered_in_range = rw items.offered (offered-in_range t valid c.refill_graph.new.graph kept.vertices kept.ends);
+      listed_meters = omega (arith, v.listed_meters, listed.most_meters, items.most_meters);
+      listed_components = omega (arith, v.listed_components, listed.most_components, found.room);
+      listed_count = listed.components;
+      lists = listed.lists;
     }
 
 pub returns : goal.returns

@@ -1,0 +1,40 @@
+-- Where branches and items lie: in the component in which all lies that they touch. `components` has the component of
+-- each vertex, and `ends` the ends of the branches by position.
+use Rattle.std.specs.Prelude.{ℕ, ◌==◌, Bool, nat_lt, if◌then◌else◌, Option, Some, None, List, length, filter, slice_index, slice_index_or}
+use Rattle.obs_graph.specs.declared.Ends.{Ends}
+use Rattle.obs_meter.specs.declared.Touch.{Touch}
+use Rattle.obs_meter.specs.declared.Touch.TheVariants.{Nothing}
+use Rattle.obs_meter.specs.Spanned.{hub_of}
+use Rattle.obs_meter.specs.Touches.{live_items, touched}
+use Rattle.obs_network.specs.Network.{NetworkOf}
+
+-- the component of a vertex, which is a bus
+abbrev pub vertex_component : List ℕ → ℕ → ℕ
+vertex_component components v = slice_index components v
+
+-- the component of the branch with these ends, and none of an absent one
+abbrev pub ends_component : List ℕ → Option Ends → Option ℕ
+ends_component components None = None
+ends_component components (Some e) = Some (vertex_component components e.a)
+
+-- the component of what is touched so, and none where that is nothing
+abbrev pub touch_component : List ℕ → List (Option Ends) → Touch → Option ℕ
+touch_component components ends touch =
+    if nat_lt 0 (length (touched ends touch)) then Some (vertex_component components (hub_of ends touch)) else None
+
+-- the component of the branch at a position
+abbrev pub component_of_branch : NetworkOf → ℕ → Option ℕ
+component_of_branch n e = ends_component n.components.of_buses (slice_index_or n.graph.ends e None)
+
+-- the component of a meter, or of a candidate behind all meters
+abbrev pub component_of_item : NetworkOf → ℕ → Option ℕ
+component_of_item n m = touch_component n.components.of_buses n.graph.ends (slice_index_or n.offered.touches m Nothing)
+
+-- whether what a meter touches lies in a component
+abbrev pub is_meter_in : NetworkOf → ℕ → ℕ → Bool
+is_meter_in n c m =
+    vertex_component n.components.of_buses (hub_of n.graph.ends (slice_index_or n.meters.touches m Nothing)) == c
+
+-- the live meters of a component
+abbrev pub live_meters_of : NetworkOf → ℕ → List ℕ
+live_meters_of n c = filter (is_meter_in n c) (live_items n.graph.ends n.meters.touches)

@@ -1,0 +1,155 @@
+// The live meters of each component.
+ghost use Rattle.std.specs.Prelude.{◌≡◌, ◌<◌, ◌≤◌, ◌^◌, [], ℕ, IfOk, suc, length, slice_index, take};
+ghost use Rattle.obs_meter.specs.Touches.{AreInRange, IsInRange};
+ghost use Rattle.obs_switch.specs.Groups.{AreGroups, items_with};
+ghost use Rattle.obs_network.specs.Located.{touch_component};
+ghost use Rattle.obs_network.specs.Kept.{list_of, lists_of};
+
+use crate::components::Components;
+use crate::located::component_of_touch;
+use crate::memory::NoMemory;
+use obs_graph::Graph;
+use obs_meter::{Meters, Touch};
+use obs_switch::group::{group, group_of};
+use std::alloc::Global;
+use std::marker::Model;
+
+/// The live meters of each component, rising, one list after another, and behind them the idle
+/// meters.
+#[derive(Drop)]
+pub(crate) struct LiveMeters {
+    meters: usize,
+    components: u32,
+    most_components: u32,
+    lists: Vec<u32>,
+    members: Vec<u32>,
+    starts: Vec<usize>,
+}
+
+impl Model for LiveMeters {
+    ghost use Rattle.std.specs.Prelude.{length, take};
+    ghost use Rattle.obs_network.specs.Kept.{AreListed, Listed};
+
+    ghost Value = { Listed };
+
+    ghost view = { λ l. record {
+      lists = take l.meters l.lists.items;
+      components = l.components;
+      most_meters = length l.lists.items;
+      most_components = l.most_components;
+    } };
+
+    ghost invariant = { λ l.
+        AreListed l.meters l.components l.most_components l.lists.items l.members.items l.starts.items };
+}
+
+// The list of what is touched so: that of its component, or the last where it is nothing.
+fn list_of(components: &Components, graph: &Graph, touch: Touch) -> u32
+    requires vertices { graph.now.vertices ≡ length components.now.of_buses }
+    requires in_range { IsInRange graph.now touch }
+    ensures list { result ≡ list_of (length components.now.first_buses)
+        (touch_component components.now.of_buses graph.now.ends touch) }
+    ensures below { result ≤ length components.now.first_buses }
+{
+    match component_of_touch(components, graph, touch) {
+        Some(c) => c,
+        None => components.count(),
+    }
+}
+
+// Writes the list of each meter.
+fn write_lists(components: &Components, graph: &Graph, meters: &Meters, lists: &mut [u32])
+    requires vertices { graph.now.vertices ≡ length components.now.of_buses }
+    requires in_range { AreInRange graph.now meters.now.touches }
+    requires one_each { length lists.old ≡ length meters.now.touches }
+    ensures lists { lists.new ≡ lists_of components.now graph.now meters.now }
+    ensures below { (m : ℕ) → m < length lists.new → slice_index lists.new m ≤ length components.now.first_buses }
+{
+    for m in 0..meters.count() {
+        lists[m as usize] = list_of(components, graph, meters.kind(m));
+    }
+}
+
+// Writes the list of each meter, and the meters one list after another.
+fn write_members(
+    components: &Components,
+    graph: &Graph,
+    meters: &Meters,
+    lists: &mut [u32],
+    members: &mut [u32],
+    starts: &mut [usize],
+)
+    requires vertices { graph.now.vertices ≡ length components.now.of_buses }
+    requires in_range { AreInRange graph.now meters.now.touches }
+    requires few { length lists.old < 2 ^ 32 }
+    requires meters { length meters.now.touches ≤ length lists.old }
+    requires members { length members.old ≡ length lists.old }
+    requires components { length components.now.first_buses < length starts.old }
+    ensures lists { take (length meters.now.touches) lists.new ≡ lists_of components.now graph.now meters.now }
+    ensures groups { AreGroups (take (length meters.now.touches) lists.new) members.new starts.new
+        (suc (length components.now.first_buses)) }
+{
+    let lists = &mut lists[..meters.count() as usize];
+    write_lists(components, graph, meters, lists);
+    group(
+        lists,
+        members,
+        &mut starts[..components.count() as usize + 1],
+    );
+}
+
+impl LiveMeters {
+    /// Room for so many meters and components, without any.
+    pub(crate) fn make(
+        alloc: Global,
+        most_meters: u32,
+        most_components: u32,
+    ) -> Result<LiveMeters, NoMemory>
+        ensures empty { IfOk result (λ l. l ≡ record {
+          lists = [];
+          components = 0;
+          most_meters = most_meters;
+          most_components = most_components;
+        }) }
+    {
+        Ok(LiveMeters {
+            meters: 0,
+            components: 0,
+            most_components,
+            lists: vec![in alloc; 0; most_meters as usize]?,
+            members: vec![in alloc; 0; most_meters as usize]?,
+            starts: vec![in alloc; 0; most_components as usize + 1]?,
+        })
+    }
+
+    /// Makes the lists those of these meters, which touch branches of this graph.
+    pub(crate) fn refill(&mut self, components: &Components, graph: &Graph, meters: &Meters)
+        requires vertices { graph.now.vertices ≡ length components.now.of_buses }
+        requires in_range { AreInRange graph.now meters.now.touches }
+        requires meters { length meters.now.touches ≤ self.old.most_meters }
+        requires components { length components.now.first_buses ≤ self.old.most_components }
+        ensures lists { self.new.lists ≡ lists_of components.now graph.now meters.now }
+        ensures components { self.new.components ≡ length components.now.first_buses }
+        ensures most_meters { self.new.most_meters ≡ self.old.most_meters }
+        ensures most_components { self.new.most_components ≡ self.old.most_components }
+    {
+        write_members(
+            components,
+            graph,
+            meters,
+            &mut self.lists,
+            &mut self.members,
+            &mut self.starts,
+        );
+        self.meters = meters.count() as usize;
+        self.components = components.count();
+    }
+
+    /// The meters of a list, rising.
+    pub(crate) fn list(&self, c: u32) -> &[u32]
+        requires component { c < self.now.components }
+        ensures meters { result.now ≡ items_with self.now.lists c }
+    {
+        group_of(&self.lists[..self.meters], &self.members, &self.starts, c)
+    }
+}
