@@ -34,29 +34,29 @@ impl Table {
 #[derive(Clone, Copy, Debug, PartialEq, Eq)]
 pub enum RowFault {
     /// There is no record.
-    NoHeader,
+    NoHeader = 1,
     /// A needed column isn't in the header.
-    ColumnMissing,
+    ColumnMissing = 2,
     /// A needed column is in the header twice.
-    ColumnTwice,
+    ColumnTwice = 3,
     /// The row has no field at the place of a needed column.
-    ShortRow,
+    ShortRow = 4,
     /// The row's own name is no name.
-    BadName,
+    BadName = 5,
     /// A flag is neither `0` nor `1`.
-    BadFlag,
+    BadFlag = 6,
     /// The kind is none of `flow`, `injection` and `zero`.
-    BadKind,
+    BadKind = 7,
     /// The price is no whole number, or above 1,000,000,000.
-    BadPrice,
+    BadPrice = 8,
     /// An earlier row of the table has the name.
-    NameTwice,
+    NameTwice = 9,
     /// An end names no node.
-    UnknownNode,
+    UnknownNode = 10,
     /// The place names no branch for a flow, or no node for another kind.
-    UnknownPlace,
+    UnknownPlace = 11,
     /// The row's number is 20,001.
-    TooMany,
+    TooMany = 12,
 }
 
 impl RowFault {
@@ -64,20 +64,7 @@ impl RowFault {
     pub fn code(self) -> u32
         ensures code { result ≡ fault_code self }
     {
-        match self {
-            RowFault::NoHeader => 1,
-            RowFault::ColumnMissing => 2,
-            RowFault::ColumnTwice => 3,
-            RowFault::ShortRow => 4,
-            RowFault::BadName => 5,
-            RowFault::BadFlag => 6,
-            RowFault::BadKind => 7,
-            RowFault::BadPrice => 8,
-            RowFault::NameTwice => 9,
-            RowFault::UnknownNode => 10,
-            RowFault::UnknownPlace => 11,
-            RowFault::TooMany => 12,
-        }
+        self as u32
     }
 
     /// The fault's name.

@@ -10,13 +10,13 @@ use obs_text::InputFault;
 #[derive(Clone, Copy, Debug, PartialEq, Eq)]
 pub enum CertCode {
     /// The line has none of the nine forms.
-    BadLine,
+    BadLine = 1,
     /// The line may not stand after the line before it.
-    OutOfPlace,
+    OutOfPlace = 2,
     /// No line is faulty, and there is no line `end`.
-    NoEnd,
+    NoEnd = 3,
     /// The line stands after the line `end`.
-    AfterEnd,
+    AfterEnd = 4,
 }
 
 impl CertCode {
@@ -24,12 +24,7 @@ impl CertCode {
     pub fn code(self) -> u32
         ensures code { result ≡ cert_code self }
     {
-        match self {
-            CertCode::BadLine => 1,
-            CertCode::OutOfPlace => 2,
-            CertCode::NoEnd => 3,
-            CertCode::AfterEnd => 4,
-        }
+        self as u32
     }
 
     /// The fault's name.

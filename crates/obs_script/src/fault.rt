@@ -21,12 +21,7 @@ impl LineFault {
     pub fn code(self) -> u32
         ensures code { result ≡ line_fault_code self }
     {
-        match self {
-            LineFault::UnknownCommand => 1,
-            LineFault::LineTooLong => 2,
-            LineFault::BadName => 3,
-            LineFault::WordMissing => 4,
-        }
+        self as u32
     }
 
     /// The fault's name.
