@@ -5,9 +5,10 @@ ghost use Rattle.obs_case.specs.Adds.{Refuses, branch_fault, branch_of, candidat
 ghost use Rattle.obs_case.specs.Flags.{with_branch_inservice, with_closed, with_meter_inservice};
 ghost use Rattle.obs_case.specs.Tables.{IsValid, branch_names, candidate_names, has_name, meter_names, most_price, no_rows, node_names, place_names, places, position_of, switch_names};
 
+use crate::limits::MOST_ROWS;
 use crate::name::Name;
 use crate::rows::{Branch, Candidate, Kind, Meter, Node, Switch};
-use crate::table::{AddFault, MOST_ROWS, add, find, find_both, put, refusal};
+use crate::table::{AddFault, add, find, find_both, put, refusal};
 use indexmap::IndexSet;
 use std::alloc::Global;
 use std::marker::Model;

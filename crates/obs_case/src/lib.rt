@@ -2,6 +2,7 @@
 #![tactic(auto)]
 
 mod case;
+mod limits;
 mod name;
 mod rows;
 mod table;
@@ -9,6 +10,7 @@ mod table;
 mod tests;
 
 pub use case::Case;
+pub use limits::{MOST_PRICE, MOST_ROWS};
 pub use name::Name;
 pub use rows::{Branch, Candidate, Kind, Meter, Node, Switch};
 pub use table::AddFault;

@@ -11,9 +11,6 @@ use crate::rows::{Branch, Candidate, Kind, Meter, Node, Switch};
 use indexmap::IndexSet;
 use std::hash::Hash;
 
-/// The most rows of a table.
-pub(crate) const MOST_ROWS: usize = 20000;
-
 /// Why a row isn't added, numbered from 1 in this order.
 #[derive(Clone, Copy, Debug, PartialEq, Eq)]
 pub enum AddFault {

@@ -1,8 +1,8 @@
 -- What the bytes of tables are: the tables that have their rows, or the first fault.
-use Rattle.std.specs.Prelude.{ℕ, ◌≡◌, List, [], ◌∷◌, take, Option, None, Some, is_none, if◌then◌else◌, Result, Ok, Err}
+use Rattle.std.specs.Prelude.{ℕ, ◌+◌, ◌≡◌, List, [], ◌∷◌, take, Option, None, Some, is_none, if◌then◌else◌, Result, Ok, Err}
 use Rattle.csv.specs.Reading.{default_config, records_from, strip_bom}
 use Rattle.csv.specs.declared.parser.State.TheVariants as st
-use Rattle.obs_case.specs.Tables.{Tables, no_rows}
+use Rattle.obs_case.specs.Tables.{Tables, most_rows, no_rows}
 use Rattle.obs_case_csv.specs.declared.faults.RowFault.{RowFault}
 use Rattle.obs_case_csv.specs.declared.faults.RowFault.TheVariants.{NoHeader}
 use Rattle.obs_case_csv.specs.declared.faults.Table.{Table}
@@ -15,7 +15,7 @@ use Rattle.obs_case_csv.specs.Rows.{next_row, row_fault, with_record}
 
 -- the records that are asked for: a header, and one row more than a table may have
 abbrev pub most_records : ℕ
-most_records = 20002
+most_records = most_rows + 2
 
 -- the records of a table's bytes
 abbrev pub table_records : List ℕ → List Record

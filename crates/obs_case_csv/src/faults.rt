@@ -1,6 +1,9 @@
 // What is wrong with a table, and where.
-ghost use Rattle.std.specs.Prelude.{◌≡◌};
-ghost use Rattle.obs_case_csv.specs.Faults.{fault_code, fault_name, table_name};
+ghost use Rattle.std.specs.Prelude.{◌≡◌, option_map};
+ghost use Rattle.obs_text.specs.Faults.{fault_of};
+ghost use Rattle.obs_case_csv.specs.Faults.{IsOfTable, fault_code, fault_name, table_end_fault, table_name};
+
+use obs_text::InputFault;
 
 /// The five tables, in the order in which they are read.
 #[derive(Clone, Copy, Debug, PartialEq, Eq)]
@@ -31,29 +34,29 @@ impl Table {
 #[derive(Clone, Copy, Debug, PartialEq, Eq)]
 pub enum RowFault {
     /// There is no record.
-    NoHeader = 1,
+    NoHeader,
     /// A needed column isn't in the header.
-    ColumnMissing = 2,
+    ColumnMissing,
     /// A needed column is in the header twice.
-    ColumnTwice = 3,
+    ColumnTwice,
     /// The row has no field at the place of a needed column.
-    ShortRow = 4,
+    ShortRow,
     /// The row's own name is no name.
-    BadName = 5,
+    BadName,
     /// A flag is neither `0` nor `1`.
-    BadFlag = 6,
+    BadFlag,
     /// The kind is none of `flow`, `injection` and `zero`.
-    BadKind = 7,
+    BadKind,
     /// The price is no whole number, or above 1,000,000,000.
-    BadPrice = 8,
+    BadPrice,
     /// An earlier row of the table has the name.
-    NameTwice = 9,
+    NameTwice,
     /// An end names no node.
-    UnknownNode = 10,
+    UnknownNode,
     /// The place names no branch for a flow, or no node for another kind.
-    UnknownPlace = 11,
+    UnknownPlace,
     /// The row's number is 20,001.
-    TooMany = 12,
+    TooMany,
 }
 
 impl RowFault {
@@ -106,9 +109,34 @@ pub struct TableFault {
     pub code: RowFault,
 }
 
+impl From<TableFault> for InputFault {
+    ghost from_gives = { IsOfTable };
+
+    fn from(fault: TableFault) -> InputFault {
+        InputFault {
+            part: fault.table.name(),
+            place: fault.row,
+            code: fault.code.code(),
+            name: fault.code.name(),
+        }
+    }
+}
+
 /// Why a table isn't read to its end.
 #[derive(Clone, Copy, Debug, PartialEq, Eq)]
 pub enum TableEnd {
     Fault(TableFault),
     NoMemory,
+}
+
+impl TableEnd {
+    /// The fault, or None where memory was wanting.
+    pub fn fault(self) -> Option<InputFault>
+        ensures fault { option_map fault_of result ≡ table_end_fault self }
+    {
+        match self {
+            TableEnd::Fault(fault) => Some(InputFault::from(fault)),
+            TableEnd::NoMemory => None,
+        }
+    }
 }

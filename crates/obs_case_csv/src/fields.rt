@@ -2,11 +2,8 @@
 ghost use Rattle.std.specs.Prelude.{◌≡◌};
 ghost use Rattle.obs_case_csv.specs.Fields.{flag_of, kind_of, price_of};
 
-use obs_case::Kind;
+use obs_case::{Kind, MOST_PRICE};
 use obs_text::whole;
-
-/// The highest price.
-const MOST_PRICE: u64 = 1_000_000_000;
 
 pub(crate) fn read_flag(bytes: &[u8]) -> Option<bool>
     ensures flag { result ≡ flag_of bytes.now }

@@ -12,11 +12,11 @@ use crate::faults::{RowFault, Table, TableEnd, TableFault};
 use crate::records::{next_row, open};
 use crate::rows::{RowEnd, add_row};
 use csv::ByteRecord;
-use obs_case::Case;
+use obs_case::{Case, MOST_ROWS};
 use std::alloc::Global;
 
-/// The most rows of a table.
-const MOST_ROWS: u32 = 20000;
+/// The number of the last row that a table may have.
+const LAST_ROW: u32 = MOST_ROWS as u32;
 
 fn fault(table: Table, row: u32, code: RowFault) -> TableEnd
     ensures fault { result ≡ TableEnd.Fault (record { table = table; row = row; code = code }) }
@@ -39,7 +39,7 @@ fn read_row(
     ensures added { OnOk result ((header : Record) → ArePlaces table header places.now → case.new ≡ with_record table header case.old (fields_of row.now)) }
     ensures unchanged { OnErr result (case.new ≡ case.old) }
 {
-    if number > MOST_ROWS {
+    if number > LAST_ROW {
         return Err(fault(table, number, RowFault::TooMany));
     }
     let Some(fields) = fields_at(row, places) else {
@@ -75,7 +75,7 @@ pub fn read_table(
         Ok(places) => places,
         Err(code) => return Err(fault(table, 0, code)),
     };
-    for number in 1..MOST_ROWS + 2 {
+    for number in 1..LAST_ROW + 2 {
         if !next_row(&mut reader, &mut row)? {
             return Ok(());
         }

@@ -12,10 +12,6 @@ use Rattle.obs_cert.specs.Claims.{Claim, Item, Layer, Pair, tree, bound, cost, s
 use Rattle.obs_cert.specs.Places.{is_over, step}
 use Rattle.obs_cert.specs.Words.{Line, tree_line, bound_line, cost_line, shortfall_line, pair_line, chosen_line, layer_line, inside_line, end_line}
 
--- the most bytes of a certificate
-abbrev pub most_bytes : ℕ
-most_bytes = 16777216
-
 -- a line before those that are read after it
 abbrev pub onto_lines : Line → Result (List Line) CertFault → Result (List Line) CertFault
 onto_lines line (Ok lines) = Ok (line ∷ lines)

@@ -1,6 +1,7 @@
 // Certificates from bytes.
 ghost use Rattle.std.specs.Prelude.{◌≡◌, ◌≤◌, Ok, Err, length, IfErr, IfOk};
-ghost use Rattle.obs_cert.specs.Read.{EndsCert, HasClaims, claims_of, most_bytes};
+ghost use Rattle.obs_text.specs.Limits.{most_file_bytes};
+ghost use Rattle.obs_cert.specs.Read.{EndsCert, HasClaims, claims_of};
 
 use crate::fault::{CertCode, CertEnd, CertFault};
 use crate::place::{Place, is_over, starts, step};
@@ -39,7 +40,7 @@ impl Cert {
 
 // How many claims the bytes are, or their first fault.
 fn count_claims(bytes: &[u8]) -> Result<u32, CertFault>
-    requires few { length bytes.now ≤ most_bytes }
+    requires few { length bytes.now ≤ most_file_bytes }
     ensures count { IfOk result (HasClaims bytes.now) }
     ensures refused { IfErr result (λ fault. claims_of bytes.now ≡ Err fault) }
 {
@@ -69,7 +70,7 @@ fn count_claims(bytes: &[u8]) -> Result<u32, CertFault>
 /// The claims that the bytes are, or the first fault: that of the first faulty line, or `NoEnd`
 /// where no line is faulty.
 pub fn read_cert(alloc: Global, bytes: &[u8]) -> Result<Cert, CertEnd>
-    requires few { length bytes.now ≤ most_bytes }
+    requires few { length bytes.now ≤ most_file_bytes }
     ensures read { IfOk result (λ cert. claims_of bytes.now ≡ Ok cert) }
     ensures refused { IfErr result (EndsCert (claims_of bytes.now)) }
 {

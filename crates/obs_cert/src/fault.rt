@@ -1,19 +1,22 @@
 // Why bytes are no certificate.
-ghost use Rattle.std.specs.Prelude.{◌≡◌};
-ghost use Rattle.obs_cert.specs.Faults.{cert_code, cert_name};
+ghost use Rattle.std.specs.Prelude.{◌≡◌, option_map};
+ghost use Rattle.obs_text.specs.Faults.{fault_of};
+ghost use Rattle.obs_cert.specs.Faults.{IsOfCert, cert_code, cert_end_fault, cert_name};
+
+use obs_text::InputFault;
 
 /// Why a line can't stand in a certificate, or what a certificate lacks. Where several hold of one
 /// line, `AfterEnd` is answered before `BadLine`, and this before `OutOfPlace`.
 #[derive(Clone, Copy, Debug, PartialEq, Eq)]
 pub enum CertCode {
     /// The line has none of the nine forms.
-    BadLine = 1,
+    BadLine,
     /// The line may not stand after the line before it.
-    OutOfPlace = 2,
+    OutOfPlace,
     /// No line is faulty, and there is no line `end`.
-    NoEnd = 3,
+    NoEnd,
     /// The line stands after the line `end`.
-    AfterEnd = 4,
+    AfterEnd,
 }
 
 impl CertCode {
@@ -49,9 +52,34 @@ pub struct CertFault {
     pub code: CertCode,
 }
 
+impl From<CertFault> for InputFault {
+    ghost from_gives = { IsOfCert };
+
+    fn from(fault: CertFault) -> InputFault {
+        InputFault {
+            part: b"certificate",
+            place: fault.line,
+            code: fault.code.code(),
+            name: fault.code.name(),
+        }
+    }
+}
+
 /// Why a certificate isn't read.
 #[derive(Clone, Copy, Debug, PartialEq, Eq)]
 pub enum CertEnd {
     Fault(CertFault),
     NoMemory,
+}
+
+impl CertEnd {
+    /// The fault, or None where memory was wanting.
+    pub fn fault(self) -> Option<InputFault>
+        ensures fault { option_map fault_of result ≡ cert_end_fault self }
+    {
+        match self {
+            CertEnd::Fault(fault) => Some(InputFault::from(fault)),
+            CertEnd::NoMemory => None,
+        }
+    }
 }

@@ -1,4 +1,4 @@
-pub mod Growing
+pub mod Longest
 pub mod OfNetwork
 pub mod Paired
 pub mod Enough

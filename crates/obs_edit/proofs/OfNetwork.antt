@@ -13,8 +13,8 @@ use Rattle.obs_network.specs.Touching.{meter_touch}
 use Rattle.obs_network.specs.Network.{NetworkOf, case_branches, case_component_count, case_meters, case_needed, case_sizes, network_of}
 use Rattle.obs_network.proofs.OfCase.{case_bus_count-le, length-case_branches, length-case_first_buses}
 use Rattle.obs_network.proofs.Observed.{most_pairs}
-use Rattle.obs_edit.specs.Growing.{IsMost}
-use Rattle.obs_edit.specs.Sessions.{HasRoom}
+use Rattle.obs_edit.specs.Longest.{IsLongest, IsMost}
+use Rattle.obs_edit.specs.Sessions.{AreLongest, HasRoom}
 
 pub length-case_meters : (t : Tables) → length (case_meters t) ≡ length t.meters
 unfolding case_meters
@@ -52,3 +52,10 @@ most_of_network n t g i k v same graph meters needed =
     let most : IsMost (case_branches t) (case_meters t) (case_needed t) = λ B x. most_pairs t v (case_meters t) (every_item (case_meters t)) B x in
     subst (λ (h : Shape). IsMost h.ends i.touches k) (sym gs)
     (subst (λ (j : Items). IsMost (case_branches t) j.touches k) (sym is) (subst (λ (x : ℕ). IsMost (case_branches t) (case_meters t) x) (sym ks) most))
+
+-- what is the longest over the graph and the meters of the network is so over those of the case
+pub IsLongest-of_network : (n : NetworkOf) (t : Tables) (g : Shape) (i : Items) (a : Assigned) → n ≡ network_of t → g ≡ n.graph → i ≡ n.meters → IsLongest g i.touches a → AreLongest t a
+IsLongest-of_network n t g i a same graph meters h =
+    let gs : g ≡ (network_of t).graph = graph ∙ ap (λ (x : NetworkOf). x.graph) same in
+    let is : i ≡ (network_of t).meters = meters ∙ ap (λ (x : NetworkOf). x.meters) same in
+    subst (λ (h : Shape). IsLongest h (case_meters t) a) gs (subst (λ (j : Items). IsLongest g j.touches a) is h)

@@ -1,13 +1,13 @@
 // A longest assignment of the meters of a network.
-ghost use Rattle.std.specs.Prelude.{◌≡◌, ◌<◌, ℕ, IfOk, false, length, true};
+ghost use Rattle.std.specs.Prelude.{◌≡◌, ◌<◌, [], IfOk};
+ghost use Rattle.obs_meter.specs.Sizes.{HasRoomFor};
 ghost use Rattle.obs_meter.specs.Touches.{AreInRange};
-ghost use Rattle.obs_assign.specs.Assigned.{StandsOver, is_frozen, pairs};
-ghost use Rattle.obs_exchange.specs.Found.{HasRoomFor};
+ghost use Rattle.obs_assign.specs.Assigned.{IsWhole, StandsOver, pairs};
 ghost use Rattle.obs_engine.specs.Findings.{IsSearched};
 
 use crate::memory::NoMemory;
 use obs_assign::{Assignment, Steps};
-use obs_exchange::{Found, Sources, Work, search};
+use obs_exchange::{Work, lengthen};
 use obs_graph::Graph;
 use obs_meter::Meters;
 use std::alloc::Global;
@@ -21,49 +21,8 @@ pub(crate) struct Searched {
     pub(crate) work: Work,
 }
 
-// Adds one pair more, and says whether there was one. Where there was none, there are as many as there can be.
-fn add_pair<L: Ledger>(
-    g: &Graph,
-    ms: &Meters,
-    kept: &mut Assignment,
-    work: &mut Work,
-    steps: &mut Steps<L>,
-) -> bool
-    requires stands { StandsOver kept.old g.now ms.now.touches }
-    requires in_range { AreInRange g.now ms.now.touches }
-    requires room { HasRoomFor work.old g.now ms.now.touches }
-    requires thawed { (m : ℕ) → is_frozen kept.old m ≡ false }
-    ensures stands { StandsOver kept.new g.now ms.now.touches }
-    ensures room { HasRoomFor work.new g.now ms.now.touches }
-    ensures thawed { (m : ℕ) → is_frozen kept.new m ≡ false }
-    ensures longer { result ≡ true → length (pairs kept.old) < length (pairs kept.new) }
-    ensures searched { result ≡ false → IsSearched g.now ms.now.touches kept.new work.new.reached }
-{
-    match search(g, ms, kept, Sources::All, work, steps) {
-        Found::Grown(_) => true,
-        Found::Closed => false,
-    }
-}
-
-// Adds pairs until there is none more.
-fn grow<L: Ledger>(
-    g: &Graph,
-    ms: &Meters,
-    pairs: &mut Assignment,
-    work: &mut Work,
-    steps: &mut Steps<L>,
-)
-    requires stands { StandsOver pairs.old g.now ms.now.touches }
-    requires in_range { AreInRange g.now ms.now.touches }
-    requires room { HasRoomFor work.old g.now ms.now.touches }
-    requires thawed { (m : ℕ) → is_frozen pairs.old m ≡ false }
-    ensures searched { IsSearched g.now ms.now.touches pairs.new work.new.reached }
-{
-    while add_pair(g, ms, pairs, work, steps) {}
-}
-
 // Adds pairs until there is none more, and counts the searches in a ledger of its own.
-fn grow_counted<L: Ledger>(
+fn fill<L: Ledger>(
     g: &Graph,
     ms: &Meters,
     pairs: &mut Assignment,
@@ -73,14 +32,16 @@ fn grow_counted<L: Ledger>(
     requires name { blank.name ≡ L.name }
     requires parts { blank.parts ≡ L.parts }
     requires some { 0 < L.parts }
+    requires bare { pairs pairs.old ≡ [] }
+    requires whole { IsWhole pairs.old }
     requires stands { StandsOver pairs.old g.now ms.now.touches }
     requires in_range { AreInRange g.now ms.now.touches }
-    requires room { HasRoomFor work.old g.now ms.now.touches }
-    requires thawed { (m : ℕ) → is_frozen pairs.old m ≡ false }
+    requires room { HasRoomFor work.old.sizes g.now ms.now.touches }
     ensures searched { IsSearched g.now ms.now.touches pairs.new work.new.reached }
 {
     let mut steps = Steps::<L>::begin(blank);
-    grow(g, ms, pairs, work, &mut steps);
+    let _ = g.vertices();
+    let _ = lengthen(g, ms, pairs, u32::MAX, work, &mut steps);
 }
 
 /// A longest assignment of the meters over a graph.
@@ -91,6 +52,6 @@ pub(crate) fn longest(alloc: Global, g: &Graph, ms: &Meters) -> Result<Searched,
     let mut pairs = Assignment::make(alloc, ms.count(), g.positions(), g.vertices())?;
     let mut work = Work::make(alloc, ms.count(), g.positions(), g.vertices())?;
     pairs.clear(g, ms);
-    grow_counted::<Brand>(g, ms, &mut pairs, &mut work, Blank::new(1));
+    fill::<Brand>(g, ms, &mut pairs, &mut work, Blank::new(1));
     Ok(Searched { pairs, work })
 }

@@ -7,3 +7,4 @@ pub mod Visiting
 pub mod Growing
 pub mod AtGraph
 pub mod Lawful
+pub mod Lengthening

@@ -1,12 +1,12 @@
 -- What a search finds: one pair more, or a closed set that shows that there is none.
-use Rattle.std.specs.Prelude.{◌≡◌, ◌≢◌, ℕ, ◌+◌, ◌<◌, ◌≤◌, Bool, true, Option, None, List, length}
+use Rattle.std.specs.Prelude.{◌≡◌, ◌≢◌, ℕ, ◌+◌, ◌<◌, Bool, true, Option, None, List, length}
 use Rattle.obs_graph.specs.declared.Ends.{Ends}
-use Rattle.obs_graph.specs.Shape.{Shape}
 use Rattle.obs_matroid.specs.Lists.{In}
 use Rattle.obs_matroid.specs.Assignments.{Pair, items}
 use Rattle.obs_matroid.specs.Closed.{Extends}
 use Rattle.obs_meter.specs.declared.Touch.{Touch}
 use Rattle.obs_meter.specs.Assignments.{IsAssignmentAt}
+use Rattle.obs_meter.specs.Sizes.{Sizes}
 use Rattle.obs_meter.specs.Touches.{every_item}
 use Rattle.obs_assign.specs.Assigned.{Assigned, branch_at, has_flag, is_frozen, pairs}
 use Rattle.obs_assign.specs.Moves.{turned}
@@ -55,18 +55,4 @@ IsFound ends touches from a b flags Closed = HasClosed ends touches from a b fla
 -- what a work value is seen as: a flag for each meter that the last closed search reached, and the sizes that it was made for
 pub record Working : Type 0 where
   pub reached : List Bool
-  pub most_meters : ℕ
-  pub most_branches : ℕ
-  pub most_vertices : ℕ
-
--- the graph and the number of meters are within the sizes that the work value was made for
-pub record HasRoomFor (w : Working) (g : Shape) (touches : List Touch) : Type 0 where
-  pub meters : length touches ≤ w.most_meters
-  pub branches : length g.ends ≤ w.most_branches
-  pub vertices : g.vertices ≤ w.most_vertices
-
--- the sizes are as before
-pub record HasSizesOf (v w : Working) : Type 0 where
-  pub meters : w.most_meters ≡ v.most_meters
-  pub branches : w.most_branches ≡ v.most_branches
-  pub vertices : w.most_vertices ≡ v.most_vertices
+  pub sizes : Sizes

@@ -1,5 +1,6 @@
 pub mod Closed
 pub mod Found
+pub mod Lengthened
 pub mod Searching
 pub mod Critical
 pub mod Laws

@@ -1,8 +1,9 @@
 // The search for one pair more.
 ghost use Rattle.std.specs.Prelude.{◌≡◌, ◌+◌, ◌<◌};
+ghost use Rattle.obs_meter.specs.Sizes.{HasRoomFor};
 ghost use Rattle.obs_meter.specs.Touches.{AreInRange};
 ghost use Rattle.obs_assign.specs.Assigned.{HasRoomOf, IsWhole, StandsOver};
-ghost use Rattle.obs_exchange.specs.Found.{CanBegin, HasRoomFor, HasSizesOf, IsFound};
+ghost use Rattle.obs_exchange.specs.Found.{CanBegin, IsFound};
 
 use crate::{Found, Sources, Work};
 use obs_assign::{Assignment, Steps};
@@ -22,14 +23,14 @@ pub fn search<L: Ledger>(
 ) -> Found
     requires stands { StandsOver a.old g.now ms.now.touches }
     requires in_range { AreInRange g.now ms.now.touches }
-    requires room { HasRoomFor work.old g.now ms.now.touches }
+    requires room { HasRoomFor work.old.sizes g.now ms.now.touches }
     requires begins { CanBegin from a.old }
     ensures found { IsFound g.now.ends ms.now.touches from a.old a.new work.new.reached result }
     ensures tick { steps.new ≡ steps.old + 1 }
     ensures stands { StandsOver a.new g.now ms.now.touches }
     ensures whole { IsWhole a.new }
     ensures same_room { HasRoomOf a.old a.new }
-    ensures same_sizes { HasSizesOf work.old work.new }
+    ensures same_sizes { work.new.sizes ≡ work.old.sizes }
 {
     work.run(g, ms, a, from, steps)
 }

@@ -15,14 +15,23 @@ pub enum Found {
     Closed,
 }
 
+/// How pairs were made more: by so many searches, the last of which found a closed set where `closed` is true.
+#[derive(Clone, Copy, Debug, PartialEq, Eq)]
+pub struct Lengthened {
+    pub searches: u32,
+    pub closed: bool,
+}
+
 mod exchange;
 mod find;
 pub mod laws;
+
 mod memory;
 #[cfg(test)]
 mod mesh_tests;
 mod pass;
 mod queue;
+mod repeated;
 #[cfg(test)]
 mod tests;
 mod visit;
@@ -30,5 +39,6 @@ mod walk;
 mod work;
 
 pub use exchange::search;
+pub use repeated::lengthen;
 pub use memory::NoMemory;
 pub use work::Work;

@@ -1,8 +1,8 @@
 // Searches over small networks.
 ghost use Rattle.std.specs.Prelude.{◌≡◌, ◌<◌, length};
+ghost use Rattle.obs_meter.specs.Sizes.{HasRoomFor};
 ghost use Rattle.obs_meter.specs.Touches.{AreInRange};
 ghost use Rattle.obs_assign.specs.Assigned.{StandsOver};
-ghost use Rattle.obs_exchange.specs.Found.{HasRoomFor};
 
 use crate::{Found, Sources, Work, search};
 use obs_assign::{Assignment, Steps};
@@ -27,7 +27,7 @@ fn pin_and_search<L: Ledger>(
     requires some { 0 < L.parts }
     requires stands { StandsOver a.old g.now ms.now.touches }
     requires in_range { AreInRange g.now ms.now.touches }
-    requires room { HasRoomFor work.old g.now ms.now.touches }
+    requires room { HasRoomFor work.old.sizes g.now ms.now.touches }
     requires two { 1 < length ms.now.touches }
     ensures stands { StandsOver a.new g.now ms.now.touches }
 {
@@ -63,7 +63,7 @@ pub(crate) fn grow_all<L: Ledger>(
     requires some { 0 < L.parts }
     requires stands { StandsOver a.old g.now ms.now.touches }
     requires in_range { AreInRange g.now ms.now.touches }
-    requires room { HasRoomFor work.old g.now ms.now.touches }
+    requires room { HasRoomFor work.old.sizes g.now ms.now.touches }
     ensures stands { StandsOver a.new g.now ms.now.touches }
 {
     let mut steps = Steps::<L>::begin(blank);

@@ -1,8 +1,9 @@
 // The arrays of a search.
 ghost use Rattle.std.specs.Prelude.{◌≡◌, ◌+◌, ◌<◌, [], length, IfOk};
+ghost use Rattle.obs_meter.specs.Sizes.{HasRoomFor};
 ghost use Rattle.obs_meter.specs.Touches.{AreInRange};
 ghost use Rattle.obs_assign.specs.Assigned.{HasRoomOf, IsWhole, StandsOver};
-ghost use Rattle.obs_exchange.specs.Found.{CanBegin, HasRoomFor, HasSizesOf, IsFound};
+ghost use Rattle.obs_exchange.specs.Found.{CanBegin, IsFound};
 
 use crate::find::{find, grow};
 use crate::memory::NoMemory;
@@ -35,7 +36,11 @@ impl Model for Work {
 
     ghost Value = { Working };
 
-    ghost view = { λ w. record { reached = take w.meters w.reached.items; most_meters = length w.reached.items; most_branches = length w.walked.items; most_vertices = length w.stars.items } };
+    ghost view = { λ w.
+        record {
+            reached = take w.meters w.reached.items;
+            sizes = record { meters = length w.reached.items; branches = length w.walked.items; vertices = length w.stars.items };
+        } };
 
     ghost invariant = { λ w.
         (w.meters ≤ length w.reached.items) × (length w.parents.items ≡ length w.reached.items)
@@ -51,7 +56,10 @@ impl Work {
         most_branches: u32,
         most_vertices: u32,
     ) -> Result<Work, NoMemory>
-        ensures empty { IfOk result (λ w. w ≡ record { reached = []; most_meters = most_meters; most_branches = most_branches; most_vertices = most_vertices }) }
+        ensures empty { IfOk result (λ w. w ≡ record {
+            reached = [];
+            sizes = record { meters = most_meters; branches = most_branches; vertices = most_vertices };
+        }) }
     {
         let no_move = Move {
             meter: 0,
@@ -88,14 +96,14 @@ impl Work {
     ) -> Found
         requires stands { StandsOver a.old g.now ms.now.touches }
         requires in_range { AreInRange g.now ms.now.touches }
-        requires room { HasRoomFor self.old g.now ms.now.touches }
+        requires room { HasRoomFor self.old.sizes g.now ms.now.touches }
         requires begins { CanBegin from a.old }
         ensures found { IsFound g.now.ends ms.now.touches from a.old a.new self.new.reached result }
         ensures tick { steps.new ≡ steps.old + 1 }
         ensures stands { StandsOver a.new g.now ms.now.touches }
         ensures whole { IsWhole a.new }
         ensures same_room { HasRoomOf a.old a.new }
-        ensures same_sizes { HasSizesOf self.old self.new }
+        ensures same_sizes { self.new.sizes ≡ self.old.sizes }
     {
         let _ = g.vertices();
         let _ = a.length();

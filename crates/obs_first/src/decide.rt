@@ -1,18 +1,18 @@
 // How one meter is decided: it takes the lowest branch with which the pairs can be as many as before.
 ghost use Rattle.std.specs.Prelude.{◌≡◌, ◌+◌, ◌<◌, ◌≤◌, false, ℕ, length, MatchBool};
 ghost use Rattle.obs_matroid.specs.Lists.{In};
+ghost use Rattle.obs_meter.specs.Sizes.{HasRoomFor};
 ghost use Rattle.obs_meter.specs.Touches.{AreInRange, touch_at};
 ghost use Rattle.obs_assign.specs.Assigned.{HasRoomOf, IsWhole, StandsOver, is_frozen, pairs};
-ghost use Rattle.obs_exchange.specs.Found.{HasRoomFor, HasSizesOf};
 ghost use Rattle.obs_first.specs.Deciding.{HasRefused, HasTaken, IsDecided, IsPassed, KeepsFrozen, NoneSoLong, frozen_pairs};
 
 use obs_assign::{Assignment, Steps};
-use obs_exchange::{Found, Sources, Work, search};
+use obs_exchange::{Work, lengthen};
 use obs_graph::Graph;
 use obs_meter::Meters;
 use std::sync::ledger::Ledger;
 
-/// Searches until there are so many pairs, and says whether that came about.
+/// Searches until there are so many pairs beside the frozen ones, and says whether that came about.
 fn regrow<L: Ledger>(
     g: &Graph,
     ms: &Meters,
@@ -23,22 +23,17 @@ fn regrow<L: Ledger>(
 ) -> bool
     requires stands { StandsOver a.old g.now ms.now.touches }
     requires in_range { AreInRange g.now ms.now.touches }
-    requires room { HasRoomFor work.old g.now ms.now.touches }
+    requires room { HasRoomFor work.old.sizes g.now ms.now.touches }
     ensures grown { MatchBool result (rank ≤ length (pairs a.new)) (NoneSoLong g.now.ends ms.now.touches a.old rank) }
     ensures frozen { a.new.frozen ≡ a.old.frozen }
     ensures keeps { KeepsFrozen a.old a.new }
     ensures stands { StandsOver a.new g.now ms.now.touches }
     ensures whole { IsWhole a.new }
     ensures same_room { HasRoomOf a.old a.new }
-    ensures same_sizes { HasSizesOf work.old work.new }
+    ensures same_sizes { work.new.sizes ≡ work.old.sizes }
 {
     let _ = g.vertices();
-    for _ in a.length()..rank {
-        if let Found::Closed = search(g, ms, a, Sources::All, work, steps) {
-            return false;
-        }
-    }
-    true
+    !lengthen(g, ms, a, rank, work, steps).closed
 }
 
 /// Gives the meter the branch and freezes the pair, where the pairs can be so many then. Says whether that is so.
@@ -54,7 +49,7 @@ fn take_branch<L: Ledger>(
 ) -> bool
     requires stands { StandsOver a.old g.now ms.now.touches }
     requires in_range { AreInRange g.now ms.now.touches }
-    requires room { HasRoomFor work.old g.now ms.now.touches }
+    requires room { HasRoomFor work.old.sizes g.now ms.now.touches }
     requires m { m < length a.old.slots }
     requires thawed { is_frozen a.old m ≡ false }
     requires touched { In e (touch_at g.now.ends ms.now.touches m) }
@@ -63,7 +58,7 @@ fn take_branch<L: Ledger>(
     ensures stands { StandsOver a.new g.now ms.now.touches }
     ensures whole { IsWhole a.new }
     ensures same_room { HasRoomOf a.old a.new }
-    ensures same_sizes { HasSizesOf work.old work.new }
+    ensures same_sizes { work.new.sizes ≡ work.old.sizes }
 {
     let _ = g.vertices();
     let _ = a.length();
@@ -109,7 +104,7 @@ pub fn decide<L: Ledger>(
 ) -> u32
     requires stands { StandsOver a.old g.now ms.now.touches }
     requires in_range { AreInRange g.now ms.now.touches }
-    requires room { HasRoomFor work.old g.now ms.now.touches }
+    requires room { HasRoomFor work.old.sizes g.now ms.now.touches }
     requires m { m < length ms.now.touches }
     requires decided { IsDecided g.now.ends ms.now.touches a.old m rank }
     requires taken { taken ≡ length (frozen_pairs a.old) }
@@ -118,7 +113,7 @@ pub fn decide<L: Ledger>(
     ensures stands { StandsOver a.new g.now ms.now.touches }
     ensures whole { IsWhole a.new }
     ensures same_room { HasRoomOf a.old a.new }
-    ensures same_sizes { HasSizesOf work.old work.new }
+    ensures same_sizes { work.new.sizes ≡ work.old.sizes }
 {
     let _ = g.vertices();
     let _ = a.length();

@@ -1,9 +1,9 @@
 // The first assignment.
 ghost use Rattle.std.specs.Prelude.{◌≡◌, false, length, replicate};
 ghost use Rattle.obs_meter.specs.Assignments.{IsRhoAt};
+ghost use Rattle.obs_meter.specs.Sizes.{HasRoomFor};
 ghost use Rattle.obs_meter.specs.Touches.{AreInRange, live_items};
 ghost use Rattle.obs_assign.specs.Assigned.{HasRoomOf, IsWhole, StandsOver, pairs};
-ghost use Rattle.obs_exchange.specs.Found.{HasRoomFor, HasSizesOf};
 ghost use Rattle.obs_exchange.specs.Laws.{IsThawed};
 ghost use Rattle.obs_first.specs.First.{first_pairs};
 
@@ -35,14 +35,14 @@ pub fn first<L: Ledger>(
 )
     requires stands { StandsOver a.old g.now ms.now.touches }
     requires in_range { AreInRange g.now ms.now.touches }
-    requires room { HasRoomFor work.old g.now ms.now.touches }
+    requires room { HasRoomFor work.old.sizes g.now ms.now.touches }
     requires longest { IsRhoAt g.now.ends ms.now.touches (live_items g.now.ends ms.now.touches) (length (pairs a.old)) }
     ensures first { pairs a.new ≡ first_pairs g.now.vertices g.now.ends ms.now.touches }
     ensures thawed { IsThawed a.new }
     ensures stands { StandsOver a.new g.now ms.now.touches }
     ensures whole { IsWhole a.new }
     ensures same_room { HasRoomOf a.old a.new }
-    ensures same_sizes { HasSizesOf work.old work.new }
+    ensures same_sizes { work.new.sizes ≡ work.old.sizes }
 {
     let _ = g.vertices();
     let rank = thaw(a);

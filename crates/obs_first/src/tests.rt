@@ -1,9 +1,9 @@
 // The first assignments of small networks.
 ghost use Rattle.std.specs.Prelude.{◌≡◌, ◌<◌, length, IsTrue};
 ghost use Rattle.obs_meter.specs.Assignments.{IsRhoAt};
+ghost use Rattle.obs_meter.specs.Sizes.{HasRoomFor};
 ghost use Rattle.obs_meter.specs.Touches.{AreInRange, live_items};
 ghost use Rattle.obs_assign.specs.Assigned.{StandsOver, pairs};
-ghost use Rattle.obs_exchange.specs.Found.{HasRoomFor};
 
 use crate::first;
 use obs_assign::{Assignment, Steps};
@@ -41,9 +41,9 @@ fn make_longest<L: Ledger>(
 ) -> bool
     requires stands { StandsOver a.old g.now ms.now.touches }
     requires in_range { AreInRange g.now ms.now.touches }
-    requires room { HasRoomFor work.old g.now ms.now.touches }
+    requires room { HasRoomFor work.old.sizes g.now ms.now.touches }
     ensures stands { StandsOver a.new g.now ms.now.touches }
-    ensures room { HasRoomFor work.new g.now ms.now.touches }
+    ensures room { HasRoomFor work.new.sizes g.now ms.now.touches }
     ensures longest { IsTrue result → IsRhoAt g.now.ends ms.now.touches (live_items g.now.ends ms.now.touches) (length (pairs a.new)) }
 {
     let _ = g.vertices();
@@ -71,7 +71,7 @@ fn first_from<L: Ledger>(
     requires some { 0 < L.parts }
     requires stands { StandsOver a.old g.now ms.now.touches }
     requires in_range { AreInRange g.now ms.now.touches }
-    requires room { HasRoomFor work.old g.now ms.now.touches }
+    requires room { HasRoomFor work.old.sizes g.now ms.now.touches }
     requires m { m < length ms.now.touches }
     ensures stands { StandsOver a.new g.now ms.now.touches }
 {

@@ -1,5 +1,5 @@
 -- How many of the numbers below n pass a test.
-use Rattle.std.proofs.Common.{◌≡◌, ℕ, zero, suc, ◌<◌, ◌≤◌, Bool, true, false, ⊎_elim, refl, sym, ap, ◌∙◌, arith}
+use Rattle.std.proofs.Common.{◌≡◌, ℕ, zero, suc, ◌<◌, ◌≤◌, Bool, true, false, ⊎_elim, inl, inr, refl, sym, ap, ◌∙◌, arith}
 use Rattle.std.proofs.lemmas.Bool.{cases_eq, cases_Bool, cond-true, cond-false, or_right, or_from, or_cases}
 use Rattle.obs_graph.specs.Joined.{count_below, some_below}
 
@@ -83,3 +83,13 @@ pub count_below-none : (p : ℕ → Bool) (n : ℕ) → ((k : ℕ) → k < n →
 count_below-none p zero none = refl
 count_below-none p (suc n) none =
     count_below-no p n (none n (omega arith)) ∙ count_below-none p n (λ k l. none k (omega arith))
+
+-- where the first number fails the test, one fewer at the most passes
+pub count_below-but_first : (p : ℕ → Bool) (n : ℕ) → p 0 ≡ false → count_below p (suc n) ≤ n
+count_below-but_first p zero fails = let e = count_below-no p 0 fails in omega (arith, e)
+count_below-but_first p (suc n) fails =
+    let before = count_below-but_first p n fails in
+    elim (cases_Bool (p (suc n))) [
+      | inl t ↦ let e = count_below-yes p (suc n) t in omega (arith, e, before)
+      | inr f ↦ let e = count_below-no p (suc n) f in omega (arith, e, before)
+    ]

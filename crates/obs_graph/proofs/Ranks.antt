@@ -5,7 +5,7 @@ use Rattle.std.proofs.lemmas.Bool.{eq-eqb, ne_eqb, true≢false}
 use Rattle.std.proofs.lemmas.Bool.Decides.{nat_tests}
 use Rattle.obs_graph.specs.declared.Ends.{Ends}
 use Rattle.obs_graph.specs.Joined.{merged, first_joined, is_joined, count_below, some_below, rank}
-use Rattle.obs_graph.proofs.Counts.{count_below-agree, count_below-one_more, count_below-le, count_below-le-n}
+use Rattle.obs_graph.proofs.Counts.{count_below-agree, count_below-but_first, count_below-one_more, count_below-le, count_below-le-n}
 use Rattle.obs_graph.proofs.First.{merged_cases, merged-same, first_joined-le, first_joined-first_joined, some_below-is_joined}
 use Rattle.obs_graph.proofs.Chains.{same_first-more}
 
@@ -75,3 +75,11 @@ rank-le n es fs each =
   where
     moved_ne : (es : List Ends) (u : ℕ) → is_moved es u ≡ true → first_joined es u ≤ u → (t : ℕ) → t ≤ first_joined es u → t ≡ u → ⊥
     moved_ne es u moved l t l2 back = true≢false (sym moved ∙ ap not (eq-eqb (first_joined es u) u (omega arith)))
+
+-- the rank is below the number of vertices, where there are any
+pub rank-below : (n : ℕ) (es : List Ends) → rank (suc n) es ≤ n
+rank-below n es =
+    let e = rank_is (suc n) es in
+    let first : is_moved es 0 ≡ false = ap not (eq-eqb (first_joined es 0) 0 (omega (arith, first_joined-le es 0))) in
+    let few = count_below-but_first (is_moved es) n first in
+    omega (arith, e, few)

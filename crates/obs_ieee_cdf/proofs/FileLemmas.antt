@@ -10,7 +10,8 @@ use Rattle.obs_ieee_cdf.specs.declared.stop.Stop.{Stop}
 use Rattle.obs_ieee_cdf.specs.declared.stop.Stop.TheVariants.{Fault, NoMemory}
 use Rattle.obs_ieee_cdf.specs.Reading.{Answers, AreBuses}
 use Rattle.obs_ieee_cdf.specs.Rows.{Bus, at_end, branch_rows, bus_rows, cdf_of, numbered, on_ok, read_branch, read_bus, read_rows, tables_of_rows}
-use Rattle.obs_ieee_cdf.specs.Sections.{after_branch_heading, after_bus_heading, after_buses, branch_lines, branches_from, bus_lines, buses_from, end_fault, is_branch_heading, is_bus_heading, is_end, most_bytes}
+use Rattle.obs_text.specs.Limits.{most_file_bytes}
+use Rattle.obs_ieee_cdf.specs.Sections.{after_branch_heading, after_bus_heading, after_buses, branch_lines, branches_from, bus_lines, buses_from, end_fault, is_branch_heading, is_bus_heading, is_end}
 use Rattle.obs_ieee_cdf.proofs.EndedLemmas.{concat-ended_lines, ended_lines-drop, ended_lines-take, length-ended_lines}
 use Rattle.obs_ieee_cdf.proofs.NumberLemmas.{AreBuses-none}
 use Rattle.obs_ieee_cdf.proofs.ReadLemmas.{read_bus-good}
@@ -60,7 +61,7 @@ number-le : (there : Bool) (a b n : ℕ) → a ≤ n → cond there (a - b + 1) 
 number-le true a b n few = omega arith
 number-le false a b n few = omega arith
 
-pub bus_room : (bytes : List ℕ) → length bytes ≤ most_bytes → buses_from (ended_lines bytes) + length (concat (bus_lines (ended_lines bytes))) ≤ 2 * most_bytes + 1
+pub bus_room : (bytes : List ℕ) → length bytes ≤ most_file_bytes → buses_from (ended_lines bytes) + length (concat (bus_lines (ended_lines bytes))) ≤ 2 * most_file_bytes + 1
 bus_room bytes few =
     let file = ended_lines bytes in
     omega (
@@ -71,7 +72,7 @@ bus_room bytes few =
       ap length (concat-ended_lines bytes),
     )
 
-pub branch_room : (bytes : List ℕ) → length bytes ≤ most_bytes → branches_from (ended_lines bytes) + length (concat (branch_lines (ended_lines bytes))) ≤ 2 * most_bytes + 1
+pub branch_room : (bytes : List ℕ) → length bytes ≤ most_file_bytes → branches_from (ended_lines bytes) + length (concat (branch_lines (ended_lines bytes))) ≤ 2 * most_file_bytes + 1
 branch_room bytes few =
     let file = ended_lines bytes in
     omega (

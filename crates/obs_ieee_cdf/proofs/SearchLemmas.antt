@@ -6,7 +6,8 @@ use Rattle.std.proofs.lemmas.Bool.{cases_Bool}
 use Rattle.std.proofs.lemmas.List.Folds.{list_any-append, concat-append}
 use Rattle.std.specs.List.{after_first, before_first, concat, list_any, position_or_len, starts_with}
 use Rattle.obs_text.specs.Lines.{after_line, ended_lines, lines_of}
-use Rattle.obs_ieee_cdf.specs.Sections.{IsFirstLine, begins, most_bytes}
+use Rattle.obs_text.specs.Limits.{most_file_bytes}
+use Rattle.obs_ieee_cdf.specs.Sections.{IsFirstLine, begins}
 use Rattle.obs_ieee_cdf.proofs.EndedLemmas.{IsNextLine, next_line, concat-ended_lines, length-ended_lines}
 
 -- the lines passed so far, none of which passes the test, and the bytes that are left
@@ -46,7 +47,7 @@ module _ (p : List ℕ → Bool) where
     },
   )
 
-  pub passed_room : (all left : List ℕ) (passed : ℕ) → Searched p all left passed → length all ≤ most_bytes → passed ≤ most_bytes
+  pub passed_room : (all left : List ℕ) (passed : ℕ) → Searched p all left passed → length all ≤ most_file_bytes → passed ≤ most_file_bytes
   passed_room all left passed (front, so_far) few = omega (arith, so_far.count, ap length so_far.lines, length-append front (ended_lines left), length-ended_lines all)
 
   pub passed_all : (all : List ℕ) (left : List ℕ) (passed : ℕ) → Searched p all left passed → left ≡ [] → list_any p (ended_lines all) ≡ false

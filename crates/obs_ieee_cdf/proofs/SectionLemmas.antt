@@ -8,7 +8,8 @@ use Rattle.std.specs.List.{after_first, before_first, concat, list_any, position
 use Rattle.obs_text.specs.Lines.{ended_lines}
 use Rattle.obs_ieee_cdf.specs.declared.fault.CdfFault.{CdfFault}
 use Rattle.obs_ieee_cdf.specs.declared.fault.CdfFault.TheVariants.{NoBusSection, BusSectionOpen, NoBranchSection, BranchSectionOpen}
-use Rattle.obs_ieee_cdf.specs.Sections.{IsFirstLine, after_branch_heading, after_bus_heading, after_buses, branch_lines, branches_from, bus_lines, buses_from, end_fault, is_branch_heading, is_bus_heading, is_end, most_bytes}
+use Rattle.obs_text.specs.Limits.{most_file_bytes}
+use Rattle.obs_ieee_cdf.specs.Sections.{IsFirstLine, after_branch_heading, after_bus_heading, after_buses, branch_lines, branches_from, bus_lines, buses_from, end_fault, is_branch_heading, is_bus_heading, is_end}
 use Rattle.obs_ieee_cdf.proofs.EndedLemmas.{ended_lines-drop, length-ended_lines}
 
 -- what `sections` gives
@@ -150,7 +151,7 @@ module _ (bytes front rest : List ℕ) (n : ℕ) (heading : IsFirstLine is_bus_h
       more_at : k + length (after_branch_heading (ended_lines bytes)) ≡ length (after_buses (ended_lines bytes))
       more_at = subst (λ lines. k + length (after_first is_branch_heading lines) ≡ length lines) after_end second.number
 
-      pub room_at : length bytes ≤ most_bytes → n + 1 + m + k ≤ most_bytes + 1
+      pub room_at : length bytes ≤ most_file_bytes → n + 1 + m + k ≤ most_file_bytes + 1
       room_at few = omega (arith, heading.number, ends_at, more_at, length-ended_lines bytes)
 
       pub branch_section_open_at : list_any is_end (ended_lines last) ≡ false → AreSections (ended_lines bytes) buses (n + 1) last (n + 1 + m + k) (Some BranchSectionOpen)

@@ -59,10 +59,6 @@ end_fault file =
     else if not (list_any is_end (after_branch_heading file)) then Some BranchSectionOpen
     else None
 
--- the most bytes of a file
-abbrev pub most_bytes : ℕ
-most_bytes = 16777216
-
 -- the first line of some bytes that passes a test: what stands before it and after it, and its number from 1
 pub record IsFirstLine (p : List ℕ → Bool) (bytes front rest : List ℕ) (at : ℕ) : Type 0 where
   pub some : list_any p (ended_lines bytes) ≡ true

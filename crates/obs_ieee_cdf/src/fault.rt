@@ -1,8 +1,10 @@
 // Why bytes are no case.
-ghost use Rattle.std.specs.Prelude.{◌≡◌};
-ghost use Rattle.obs_ieee_cdf.specs.Faults.{cdf_code, cdf_line, cdf_name};
+ghost use Rattle.std.specs.Prelude.{◌≡◌, option_map};
+ghost use Rattle.obs_text.specs.Faults.{fault_of};
+ghost use Rattle.obs_ieee_cdf.specs.Faults.{IsOfFile, cdf_code, cdf_end_fault, cdf_line, cdf_name};
 
 use obs_case_csv::TableFault;
+use obs_text::InputFault;
 
 /// The first fault of a file in the IEEE Common Data Format. The number is the line, from 1.
 #[derive(Clone, Copy, Debug, PartialEq, Eq)]
@@ -77,10 +79,36 @@ impl CdfFault {
     }
 }
 
+impl From<CdfFault> for InputFault {
+    ghost from_gives = { IsOfFile };
+
+    fn from(fault: CdfFault) -> InputFault {
+        InputFault {
+            part: b"cdf",
+            place: fault.line(),
+            code: fault.code(),
+            name: fault.name(),
+        }
+    }
+}
+
 /// Why a file with its tables is no case.
 #[derive(Clone, Copy, Debug, PartialEq, Eq)]
 pub enum CdfEnd {
     Cdf(CdfFault),
     Table(TableFault),
     NoMemory,
+}
+
+impl CdfEnd {
+    /// The fault, or None where memory was wanting.
+    pub fn fault(self) -> Option<InputFault>
+        ensures fault { option_map fault_of result ≡ cdf_end_fault self }
+    {
+        match self {
+            CdfEnd::Cdf(fault) => Some(InputFault::from(fault)),
+            CdfEnd::Table(fault) => Some(InputFault::from(fault)),
+            CdfEnd::NoMemory => None,
+        }
+    }
 }

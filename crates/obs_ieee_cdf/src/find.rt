@@ -2,7 +2,8 @@
 ghost use Rattle.std.specs.Prelude.{◌≡◌, ◌≤◌, false, length, IfNone, IfSome};
 ghost use Rattle.std.specs.List.{list_any};
 ghost use Rattle.obs_text.specs.Lines.{ended_lines};
-ghost use Rattle.obs_ieee_cdf.specs.Sections.{IsFirstLine, begins, most_bytes};
+ghost use Rattle.obs_text.specs.Limits.{most_file_bytes};
+ghost use Rattle.obs_ieee_cdf.specs.Sections.{IsFirstLine, begins};
 
 use obs_text::lines;
 
@@ -16,7 +17,7 @@ pub(crate) struct Found<'a> {
 
 // The first line that begins with a text.
 pub(crate) fn find_line<'a>(bytes: &'a [u8], text: &[u8]) -> Option<Found<'a>>
-    requires few { length bytes.now ≤ most_bytes }
+    requires few { length bytes.now ≤ most_file_bytes }
     ensures none { IfNone result (list_any (begins text.now) (ended_lines bytes.now) ≡ false) }
     ensures found { IfSome result (λ found. IsFirstLine (begins text.now) bytes.now found.before.now found.after.now found.number) }
 {

@@ -5,7 +5,7 @@ ghost use Rattle.obs_case_csv.specs.Read.{EndsAll};
 ghost use Rattle.obs_ieee_cdf.specs.Read.{EndsCase, case_in, tables_after};
 ghost use Rattle.obs_ieee_cdf.specs.Reading.{Answers};
 ghost use Rattle.obs_ieee_cdf.specs.Rows.{cdf_of};
-ghost use Rattle.obs_ieee_cdf.specs.Sections.{most_bytes};
+ghost use Rattle.obs_text.specs.Limits.{most_file_bytes};
 
 use crate::fault::CdfEnd;
 use crate::rows::{add_branches, add_buses};
@@ -18,7 +18,7 @@ use std::alloc::Global;
 // Adds the nodes and branches of a file to an empty case.
 fn add_file(case: &mut Case, cdf: &[u8]) -> Result<(), Stop>
     requires empty { case.old ≡ no_rows }
-    requires few { length cdf.now ≤ most_bytes }
+    requires few { length cdf.now ≤ most_file_bytes }
     ensures read { Answers (cdf_of cdf.now) (λ tables. tables) case.new result }
 {
     let parts = sections(cdf);
@@ -59,7 +59,7 @@ pub fn read_cdf(
     meters: &[u8],
     candidates: Option<&[u8]>,
 ) -> Result<Case, CdfEnd>
-    requires few { length cdf.now ≤ most_bytes }
+    requires few { length cdf.now ≤ most_file_bytes }
     ensures read { IfOk result (λ case. case_in cdf.now meters.now (option_map (λ bytes. bytes.now) candidates.entry) ≡ Ok case) }
     ensures refused { IfErr result (EndsCase (case_in cdf.now meters.now (option_map (λ bytes. bytes.now) candidates.entry))) }
 {

@@ -10,11 +10,11 @@ use crate::fault::CdfFault;
 use crate::fields::{branch_fields, bus_fields};
 use crate::stop::Stop;
 use crate::values::{bus_number, has_source, is_passed_over};
-use obs_case::{AddFault, Case};
+use obs_case::{AddFault, Case, MOST_ROWS};
 use obs_text::{Digits, lines};
 
 /// The most branches of a file.
-const MOST_BRANCHES: usize = 20_000;
+const MOST_BRANCHES: usize = MOST_ROWS;
 
 /// Room for the name of a branch: a letter and the digits of a number.
 const NAME_ROOM: usize = 21;

@@ -2,7 +2,8 @@
 ghost use Rattle.std.specs.Prelude.{◌≡◌, ◌≤◌, [], Some, length};
 ghost use Rattle.std.specs.List.{concat};
 ghost use Rattle.obs_text.specs.Lines.{ended_lines};
-ghost use Rattle.obs_ieee_cdf.specs.Sections.{branch_lines, branches_from, bus_lines, buses_from, end_fault, most_bytes};
+ghost use Rattle.obs_text.specs.Limits.{most_file_bytes};
+ghost use Rattle.obs_ieee_cdf.specs.Sections.{branch_lines, branches_from, bus_lines, buses_from, end_fault};
 
 use crate::fault::CdfFault;
 use crate::find::find_line;
@@ -37,7 +38,7 @@ fn without_branches(buses: &[u8], buses_from: u32, end: CdfFault) -> Sections<'_
 /// Where the bus lines and the branch lines of a file are, and which section isn't there or isn't
 /// ended. What comes after the branch section isn't looked at. Takes no memory.
 pub fn sections(bytes: &[u8]) -> Sections<'_>
-    requires few { length bytes.now ≤ most_bytes }
+    requires few { length bytes.now ≤ most_file_bytes }
     ensures buses { result.buses.now ≡ concat (bus_lines (ended_lines bytes.now)) }
     ensures buses_from { result.buses_from ≡ buses_from (ended_lines bytes.now) }
     ensures branches { result.branches.now ≡ concat (branch_lines (ended_lines bytes.now)) }

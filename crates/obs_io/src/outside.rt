@@ -2,6 +2,7 @@
 ghost use Rattle.std.specs.Prelude.{◌≡◌, ◌≢◌, ◌<◌, ◌≤◌, ◌-◌, ℕ, List, Option, length, IfOk, IsOk};
 ghost use Rattle.obs_io.specs.Causes.{HasCause};
 ghost use Rattle.obs_io.specs.Bytes.{ReadsPart, TakesFront, PutsFront};
+ghost use Rattle.obs_io.specs.Limits.{most_place};
 
 /// The outside failed, and its count of faults tells so.
 #[derive(Clone, Copy, Debug, PartialEq, Eq)]
@@ -22,7 +23,7 @@ pub trait Files {
     fn part(&mut self, word: usize, at: u64, into: &mut [u8]) -> Result<usize, Failed>
         requires room { 0 < length into.old }
         requires word { word < 16 }
-        requires place { at ≤ 16777216 }
+        requires place { at ≤ most_place }
         ensures bound { IfOk result (λ n. n ≤ length into.new) }
         ensures bytes { ReadsPart (content self.old word) at result into.new }
         ensures same { (w : ℕ) → content self.new w ≡ content self.old w }

@@ -2,6 +2,7 @@
 ghost use Rattle.std.specs.Prelude.{◌≡◌, ◌≢◌, ◌<◌, ◌≤◌, ◌-◌, ◌+◌, ℕ, length, IfOk, IsErrOf, IsOk, vec_len};
 ghost use Rattle.obs_io.specs.Causes.{Rose, HasCause};
 ghost use Rattle.obs_io.specs.Bytes.{AddsPart, Writes};
+ghost use Rattle.obs_io.specs.Limits.{most_place};
 ghost use Rattle.obs_io.specs.Whole.{IsWhole};
 ghost use Rattle.obs_io.specs.declared.whole.ReadEnd.TheVariants.{NoMemory};
 
@@ -45,7 +46,7 @@ fn add_piece<F: Files>(
     most: usize,
 ) -> Result<usize, ReadEnd>
     requires word { word < 16 }
-    requires place { vec_len bytes.old ≤ 16777216 }
+    requires place { vec_len bytes.old ≤ most_place }
     requires room { 0 < length buffer.old }
     requires most { 0 < most }
     ensures bound { IfOk result (λ n. n ≤ most) }
@@ -78,7 +79,7 @@ pub fn read_all<F: Files>(
     limit: u64,
 ) -> Result<Vec<u8>, ReadEnd>
     requires word { word < 16 }
-    requires limit { limit ≤ 16777216 }
+    requires limit { limit ≤ most_place }
     ensures whole { IsWhole (F.content files.old word) limit result }
     ensures short { IfOk result (λ bytes. vec_len bytes ≤ limit) }
     ensures same { (w : ℕ) → F.content files.new w ≡ F.content files.old w }

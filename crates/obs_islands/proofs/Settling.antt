@@ -5,28 +5,29 @@ use Rattle.std.proofs.lemmas.List.{length-map}
 use Rattle.obs_graph.specs.Shape.{Shape}
 use Rattle.obs_meter.specs.declared.Touch.{Touch}
 use Rattle.obs_meter.specs.declared.Touch.TheVariants.{Nothing}
+use Rattle.obs_meter.specs.Sizes.{HasRoomFor}
 use Rattle.obs_meter.specs.Touches.{AreInRange}
 use Rattle.obs_assign.specs.Assigned.{Assigned, HasRoomOf, StandsOver}
-use Rattle.obs_exchange.specs.Found.{HasRoomFor, HasSizesOf, Working}
+use Rattle.obs_exchange.specs.Found.{Working}
 use Rattle.obs_exchange.specs.Laws.{HasClosedSet, IsThawed}
+use Rattle.obs_exchange.proofs.Lengthening.{room_again, rooms}
 use Rattle.obs_islands.specs.Rounds.{AreFirsts, is_crossed, kept, remaining, straddles}
 use Rattle.obs_islands.proofs.Crossing.{fewer_stars, kept_cases, remaining_at, remaining_in_range, stars}
 use Rattle.obs_islands.proofs.Discarding.{HoldsAll, IsUsedOf, round_holds}
-use Rattle.obs_islands.proofs.Growing.{room_again, rooms, sizes}
 
 -- of the items ts those of us are still used; first and start are the assignment and the arrays as they were at first
 pub record IsSettling (g : Shape) (ts us : List Touch) (first : Assigned) (start : Working) (a : Assigned) (w : Working) : Type 0 where
   pub stands : StandsOver a g us
   pub in_range : AreInRange g us
-  pub room : HasRoomFor w g us
+  pub room : HasRoomFor w.sizes g us
   pub thawed : IsThawed a
   pub one_each : length us ≡ length ts
   pub used : IsUsedOf ts us
   pub holds : HoldsAll g ts us
   pub same_room : HasRoomOf first a
-  pub same_sizes : HasSizesOf start w
+  pub same_sizes : w.sizes ≡ start.sizes
 
-pub Settling-begun : (g : Shape) (ts : List Touch) (a : Assigned) (w : Working) → StandsOver a g ts → AreInRange g ts → HasRoomFor w g ts → IsThawed a
+pub Settling-begun : (g : Shape) (ts : List Touch) (a : Assigned) (w : Working) → StandsOver a g ts → AreInRange g ts → HasRoomFor w.sizes g ts → IsThawed a
     → IsSettling g ts ts a w a w
 Settling-begun g ts a w stands in_range room thawed = record {
   stands = stands;
@@ -37,7 +38,7 @@ Settling-begun g ts a w stands in_range room thawed = record {
   used = λ m. inl refl;
   holds = λ T t m i j. i;
   same_room = record { meters = refl; vertices = refl; branches = refl };
-  same_sizes = record { meters = refl; branches = refl; vertices = refl };
+  same_sizes = refl;
 }
 
 still_used : (ts us : List Touch) (crossed : ℕ → Bool) → IsUsedOf ts us → IsUsedOf ts (remaining crossed us)
@@ -46,12 +47,12 @@ still_used ts us crossed used m = elim (kept_cases crossed (get_or us m Nothing)
   | inl k ↦ elim (used m) [ inl e ↦ inl (remaining_at crossed us m ∙ (k ∙ e)) | inr e ↦ inr (remaining_at crossed us m ∙ (k ∙ e)) ]
 ]
 
-room_less : (g : Shape) (us vs : List Touch) (w : Working) → length vs ≡ length us → HasRoomFor w g us → HasRoomFor w g vs
+room_less : (g : Shape) (us vs : List Touch) (w : Working) → length vs ≡ length us → HasRoomFor w.sizes g us → HasRoomFor w.sizes g vs
 room_less g us vs w e r = record { meters = let m = r.meters in omega (arith, e, m); branches = r.branches; vertices = r.vertices }
 
 module _ (g : Shape) (ts us vs : List Touch) (first : Assigned) (start : Working) (a b c : Assigned) (w x : Working) (S : ℕ → Bool) (firsts : List ℕ)
     (h : IsSettling g ts us first start a w) (closed : HasClosedSet b g us S) (thawed : IsThawed b) (named : AreFirsts g.vertices b.forest.held firsts)
-    (remains : vs ≡ remaining (is_crossed g.ends firsts) us) (room : HasRoomOf a b) (size : HasSizesOf w x) where
+    (remains : vs ≡ remaining (is_crossed g.ends firsts) us) (room : HasRoomOf a b) (size : x.sizes ≡ w.sizes) where
   pub remain-length : length vs ≡ length us
   remain-length = ap (λ (ys : List Touch). length ys) remains ∙ length-map us (kept (is_crossed g.ends firsts))
 
@@ -59,13 +60,13 @@ module _ (g : Shape) (ts us vs : List Touch) (first : Assigned) (start : Working
   Settling-next stands thaw more = record {
     stands = stands;
     in_range = rw remains (remaining_in_range g (is_crossed g.ends firsts) us h.in_range);
-    room = room_less g us vs x remain-length (room_again g us w x size h.room);
+    room = room_less g us vs x remain-length (room_again g us w.sizes x.sizes size h.room);
     thawed = thaw;
     one_each = remain-length ∙ h.one_each;
     used = rw remains (still_used ts us (is_crossed g.ends firsts) h.used);
     holds = rw remains (round_holds g ts us h.used b S closed thawed firsts named h.holds);
     same_room = rooms first b c (rooms first a b h.same_room room) more;
-    same_sizes = sizes start w x h.same_sizes size;
+    same_sizes = size ∙ h.same_sizes;
   }
 
   -- where a star straddles, fewer stars remain

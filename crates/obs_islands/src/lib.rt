@@ -2,7 +2,6 @@
 #![tactic(auto)]
 
 mod discard;
-mod grow;
 pub mod laws;
 mod memory;
 mod pieces;

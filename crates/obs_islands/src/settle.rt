@@ -1,18 +1,17 @@
 // Rounds of growing and discarding.
 ghost use Rattle.std.specs.Prelude.{◌≡◌, ◌≤◌, length, take};
 ghost use Rattle.std.specs.List.{list_any};
+ghost use Rattle.obs_meter.specs.Sizes.{HasRoomFor};
 ghost use Rattle.obs_meter.specs.Touches.{AreInRange};
 ghost use Rattle.obs_assign.specs.Assigned.{Fits, HasRoomOf, StandsOver, has_flag};
-ghost use Rattle.obs_exchange.specs.Found.{HasRoomFor, HasSizesOf};
 ghost use Rattle.obs_exchange.specs.Laws.{HasClosedSet, IsThawed};
 ghost use Rattle.obs_islands.specs.Firsts.{islands_of};
 ghost use Rattle.obs_islands.specs.Rounds.{AreFirsts, is_crossed, remaining, straddles};
 
 use crate::discard::{copy_touches, discard};
-use crate::grow::grow;
 use crate::pieces::name_pieces;
 use obs_assign::{Assignment, Steps};
-use obs_exchange::Work;
+use obs_exchange::{Work, lengthen};
 use obs_graph::Graph;
 use obs_meter::{Meters, Touch};
 use std::sync::ledger::Ledger;
@@ -31,7 +30,7 @@ fn round<L: Ledger>(
 ) -> bool
     requires stands { StandsOver pairs.old g.now used.now.touches }
     requires in_range { AreInRange g.now used.now.touches }
-    requires room { HasRoomFor search.old g.now used.now.touches }
+    requires room { HasRoomFor search.old.sizes g.now used.now.touches }
     requires thawed { IsThawed pairs.old }
     requires firsts { length firsts.old ≡ g.now.vertices }
     requires crossed { length crossed.old ≡ g.now.vertices }
@@ -42,10 +41,10 @@ fn round<L: Ledger>(
     ensures remaining { touches.new ≡ remaining (is_crossed g.now.ends firsts.new) used.now.touches }
     ensures some { result ≡ list_any (straddles (is_crossed g.now.ends firsts.new)) used.now.touches }
     ensures same_room { HasRoomOf pairs.old pairs.new }
-    ensures same_sizes { HasSizesOf search.old search.new }
+    ensures same_sizes { search.new.sizes ≡ search.old.sizes }
 {
     let _ = g.vertices();
-    grow(g, used, pairs, search, steps);
+    let _ = lengthen(g, used, pairs, u32::MAX, search, steps);
     name_pieces(pairs.forest(), firsts);
     discard(g, used, firsts, crossed, touches)
 }
@@ -64,7 +63,7 @@ fn settle<L: Ledger>(
 )
     requires stands { StandsOver pairs.old g.now used.old.touches }
     requires in_range { AreInRange g.now used.old.touches }
-    requires room { HasRoomFor search.old g.now used.old.touches }
+    requires room { HasRoomFor search.old.sizes g.now used.old.touches }
     requires fits { g.now.vertices ≤ pairs.old.forest.most_vertices }
     requires most { length used.old.touches ≤ used.old.most }
     requires thawed { IsThawed pairs.old }
@@ -76,7 +75,7 @@ fn settle<L: Ledger>(
     ensures positions { length pairs.new.forest.held ≡ length g.now.ends }
     ensures same_most { used.new.most ≡ used.old.most }
     ensures same_room { HasRoomOf pairs.old pairs.new }
-    ensures same_sizes { HasSizesOf search.old search.new }
+    ensures same_sizes { search.new.sizes ≡ search.old.sizes }
 {
     while round(g, used, touches, pairs, search, firsts, crossed, steps) {
         used.refill(touches);
@@ -119,7 +118,7 @@ pub(crate) fn find_firsts<L: Ledger>(
     requires meters { meters ≡ length pairs.old.slots }
     requires positions { positions ≡ length pairs.old.forest.held }
     requires fits { Fits pairs.old g.now ms.now.touches }
-    requires room { HasRoomFor search.old g.now ms.now.touches }
+    requires room { HasRoomFor search.old.sizes g.now ms.now.touches }
     requires most { length ms.now.touches ≤ used.old.most }
     requires touches { length ms.now.touches ≤ length touches.old }
     requires firsts { g.now.vertices ≤ length firsts.old }
@@ -129,7 +128,7 @@ pub(crate) fn find_firsts<L: Ledger>(
     ensures positions { length pairs.new.forest.held ≡ length g.now.ends }
     ensures same_most { used.new.most ≡ used.old.most }
     ensures same_room { HasRoomOf pairs.old pairs.new }
-    ensures same_sizes { HasSizesOf search.old search.new }
+    ensures same_sizes { search.new.sizes ≡ search.old.sizes }
 {
     let n = g.vertices() as usize;
     let touches = &mut touches[..ms.count() as usize];

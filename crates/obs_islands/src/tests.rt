@@ -1,8 +1,8 @@
 // Islands of small networks.
 ghost use Rattle.std.specs.Prelude.{◌≡◌, ◌<◌, ◌^◌, length};
 ghost use Rattle.obs_graph.specs.Positions.{AreBranches};
+ghost use Rattle.obs_meter.specs.Sizes.{HasRoomFor};
 ghost use Rattle.obs_meter.specs.Touches.{AreInRange};
-ghost use Rattle.obs_islands.specs.Islanding.{HasRoomFor};
 
 use crate::{IslandWork, find_islands, islands};
 use obs_assign::Steps;
@@ -31,7 +31,7 @@ fn found_twice<L: Ledger>(
     requires parts { blank.parts ≡ L.parts }
     requires some { 0 < L.parts }
     requires in_range { AreInRange g.now ms.now.touches }
-    requires room { HasRoomFor work.old g.now ms.now.touches }
+    requires room { HasRoomFor work.old.sizes g.now ms.now.touches }
 {
     let mut steps = Steps::<L>::begin(blank);
     find_islands(g, ms, work, &mut steps);

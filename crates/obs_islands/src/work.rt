@@ -1,8 +1,8 @@
 // Islands, and what they are found in.
 ghost use Rattle.std.specs.Prelude.{◌≡◌, [], IfOk};
+ghost use Rattle.obs_meter.specs.Sizes.{HasRoomFor};
 ghost use Rattle.obs_meter.specs.Touches.{AreInRange};
 ghost use Rattle.obs_islands.specs.Firsts.{islands_of};
-ghost use Rattle.obs_islands.specs.Islanding.{HasRoomFor, HasSizesOf};
 
 use crate::memory::NoMemory;
 use crate::settle::find_firsts;
@@ -34,19 +34,19 @@ impl Model for IslandWork {
 
     ghost Value = { Islanding };
 
-    ghost view = { λ w. record { firsts = take w.vertices w.firsts.items; most_meters = length w.touches.items; most_branches = w.search.most_branches; most_vertices = length w.firsts.items } };
+    ghost view = { λ w. record { firsts = take w.vertices w.firsts.items; sizes = w.search.sizes } };
 
     ghost invariant = { λ w. record {
       found : w.vertices ≤ length w.firsts.items;
       meters : w.meters ≡ length w.pairs.slots;
       positions : w.positions ≡ length w.pairs.forest.held;
       crossed : length w.crossed.items ≡ length w.firsts.items;
+      touches : w.search.sizes.meters ≡ length w.touches.items;
       used : w.used.most ≡ length w.touches.items;
       pair_meters : w.pairs.most_meters ≡ length w.touches.items;
-      pair_branches : w.pairs.forest.most_branches ≡ w.search.most_branches;
+      pair_branches : w.pairs.forest.most_branches ≡ w.search.sizes.branches;
       pair_vertices : w.pairs.forest.most_vertices ≡ length w.firsts.items;
-      search_meters : w.search.most_meters ≡ length w.touches.items;
-      search_vertices : w.search.most_vertices ≡ length w.firsts.items;
+      all_vertices : w.search.sizes.vertices ≡ length w.firsts.items;
     } };
 }
 
@@ -58,7 +58,10 @@ impl IslandWork {
         most_branches: u32,
         most_vertices: u32,
     ) -> Result<IslandWork, NoMemory>
-        ensures empty { IfOk result (λ w. w ≡ record { firsts = []; most_meters = most_meters; most_branches = most_branches; most_vertices = most_vertices }) }
+        ensures empty { IfOk result (λ w. w ≡ record {
+            firsts = [];
+            sizes = record { meters = most_meters; branches = most_branches; vertices = most_vertices };
+        }) }
     {
         Ok(IslandWork {
             vertices: 0,
@@ -84,9 +87,9 @@ impl IslandWork {
 /// Finds the islands. `IslandWork::firsts` then has for each vertex the first vertex of its island.
 pub fn find_islands<L: Ledger>(g: &Graph, ms: &Meters, work: &mut IslandWork, steps: &mut Steps<L>)
     requires in_range { AreInRange g.now ms.now.touches }
-    requires room { HasRoomFor work.old g.now ms.now.touches }
+    requires room { HasRoomFor work.old.sizes g.now ms.now.touches }
     ensures islands { work.new.firsts ≡ islands_of g.now.vertices g.now.ends ms.now.touches }
-    ensures same_sizes { HasSizesOf work.old work.new }
+    ensures same_sizes { work.new.sizes ≡ work.old.sizes }
 {
     find_firsts(
         g,
@@ -114,7 +117,7 @@ pub fn islands<'a, L: Ledger>(
     steps: &mut Steps<L>,
 ) -> &'a [u32]
     requires in_range { AreInRange g.now ms.now.touches }
-    requires room { HasRoomFor work.old g.now ms.now.touches }
+    requires room { HasRoomFor work.old.sizes g.now ms.now.touches }
     ensures islands { result.now ≡ islands_of g.now.vertices g.now.ends ms.now.touches }
 {
     find_islands(g, ms, work, steps);

@@ -1,4 +1,6 @@
 pub mod Columns
+pub mod Faults
+pub mod Limits
 pub mod Lines
 pub mod Names
 pub mod Numbers

@@ -2,6 +2,8 @@
 #![tactic(auto)]
 
 mod digits;
+mod faults;
+mod limits;
 mod line_iter;
 mod names;
 mod numbers;
@@ -9,6 +11,8 @@ mod parts;
 mod split;
 
 pub use digits::Digits;
+pub use faults::InputFault;
+pub use limits::MOST_FILE_BYTES;
 pub use line_iter::Lines;
 pub use names::name_of;
 pub use numbers::whole;

@@ -1,4 +1,4 @@
-use crate::{Digits, bare, columns, lines, name_of, whole};
+use crate::{Digits, InputFault, bare, columns, lines, name_of, whole};
 
 #[test]
 fn names(rt: HostRuntime) {
@@ -91,4 +91,11 @@ fn lines_of_bytes(rt: HostRuntime) {
     ] {
         assert!(rt; lines(bytes).count() == many);
     }
+}
+
+#[test]
+fn a_file_that_is_too_long(rt: HostRuntime) {
+    let fault = InputFault::too_long(b"nodes");
+    assert!(rt; fault.part == b"nodes".as_slice() && fault.name == b"TooLong".as_slice());
+    assert!(rt; fault.place == 0 && fault.code == 14);
 }

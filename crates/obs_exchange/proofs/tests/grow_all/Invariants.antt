@@ -1,9 +1,9 @@
 use Rattle.obs_assign.specs.Assigned.{StandsOver}
-use Rattle.obs_exchange.specs.Found.{HasRoomFor}
+use Rattle.obs_meter.specs.Sizes.{HasRoomFor}
 use Rattle.obs_exchange.proofs.tests.grow_all.Given as goal
 
 abbrev pub invariant-loop-grown : goal.invariant-loop-grown
 invariant-loop-grown g l = record {
   stands : StandsOver l.a l.g l.ms.touches;
-  room : HasRoomFor l.work l.g l.ms.touches;
+  room : HasRoomFor l.work.sizes l.g l.ms.touches;
 }

@@ -1,6 +1,6 @@
-use Rattle.std.proofs.Common.{take}
+use Rattle.std.proofs.Common.{◌≡◌, take}
 use Rattle.obs_assign.specs.Assigned.{HasRoomOf}
-use Rattle.obs_exchange.specs.Found.{HasRoomFor, HasSizesOf}
+use Rattle.obs_meter.specs.Sizes.{HasRoomFor}
 use Rattle.obs_meter.specs.Touches.{touch_at}
 use Rattle.obs_first.proofs.Deciding.{IsTrying}
 use Rattle.obs_first.proofs.decide.decide.Given as goal
@@ -8,7 +8,7 @@ use Rattle.obs_first.proofs.decide.decide.Given as goal
 abbrev pub invariant-loop-e : goal.invariant-loop-e
 invariant-loop-e g l = record {
   trying : IsTrying l.g l.ms.touches l.fn.a l.a l.m l.rank (take l.e-index (touch_at l.g.ends l.ms.touches l.m));
-  room : HasRoomFor l.work l.g l.ms.touches;
+  room : HasRoomFor l.work.sizes l.g l.ms.touches;
   same_room : HasRoomOf l.fn.a l.a;
-  same_sizes : HasSizesOf l.fn.work l.work;
+  same_sizes : l.work.sizes ≡ l.fn.work.sizes;
 }

@@ -1,8 +1,8 @@
-use Rattle.obs_first.proofs.Frozen.{NoneSoLong-closed}
+use Rattle.obs_first.proofs.Frozen.{Regrown-ended}
 use Rattle.obs_first.proofs.decide.regrow.Goals as goal
 
-pub returns-in-Closed-clause-grown : goal.returns-in-Closed-clause-grown
-returns-in-Closed-clause-grown g c =
-    let l = c.loop in
-    NoneSoLong-closed c.args.g.now c.args.ms.now.touches c.args.a.now l.a l.counter l.invariant.regrowing c.search.new.a c.search.new.work.reached
-    c.in-Closed.ensures.found c.args.rank c.vertices.ensures.branches l.invariant.whole c.loop-test.true
+pub returns-clause-grown : goal.returns-clause-grown
+returns-clause-grown g c =
+    let e = c.lengthen.ensures in
+    Regrown-ended c.args.g.now c.args.ms.now.touches c.args.a.now c.lengthen.new.a c.lengthen.result.searches c.lengthen.new.work.reached c.args.rank
+    c.vertices.ensures.branches e.whole e.stands e.lengthened c.lengthen.result.closed e.ended e.short

@@ -1,6 +1,6 @@
 use Rattle.std.proofs.Common.{◌≡◌, length}
 use Rattle.obs_assign.specs.Assigned.{HasRoomOf, IsWhole, StandsOver}
-use Rattle.obs_exchange.specs.Found.{HasRoomFor, HasSizesOf}
+use Rattle.obs_meter.specs.Sizes.{HasRoomFor}
 use Rattle.obs_first.specs.Deciding.{IsDecided, frozen_pairs}
 use Rattle.obs_first.proofs.least.first.Given as goal
 
@@ -10,7 +10,7 @@ invariant-loop-m g l = record {
   taken : l.taken ≡ length (frozen_pairs l.a);
   whole : IsWhole l.a;
   stands : StandsOver l.a l.g l.ms.touches;
-  room : HasRoomFor l.work l.g l.ms.touches;
+  room : HasRoomFor l.work.sizes l.g l.ms.touches;
   same_room : HasRoomOf l.fn.a l.a;
-  same_sizes : HasSizesOf l.fn.work l.work;
+  same_sizes : l.work.sizes ≡ l.fn.work.sizes;
 }

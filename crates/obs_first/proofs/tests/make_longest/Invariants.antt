@@ -1,5 +1,5 @@
 use Rattle.obs_assign.specs.Assigned.{IsWhole, StandsOver}
-use Rattle.obs_exchange.specs.Found.{HasRoomFor}
+use Rattle.obs_meter.specs.Sizes.{HasRoomFor}
 use Rattle.obs_exchange.specs.Laws.{IsThawed}
 use Rattle.obs_first.proofs.tests.make_longest.Given as goal
 
@@ -8,5 +8,5 @@ invariant-loop g l = record {
   stands : StandsOver l.a l.g l.ms.touches;
   whole : IsWhole l.a;
   thawed : IsThawed l.a;
-  room : HasRoomFor l.work l.g l.ms.touches;
+  room : HasRoomFor l.work.sizes l.g l.ms.touches;
 }

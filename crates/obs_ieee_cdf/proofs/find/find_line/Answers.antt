@@ -1,11 +1,12 @@
 use Rattle.std.proofs.Common.{◌≤◌, sym, ◌∙◌, arith}
-use Rattle.obs_ieee_cdf.specs.Sections.{begins, most_bytes}
+use Rattle.obs_text.specs.Limits.{most_file_bytes}
+use Rattle.obs_ieee_cdf.specs.Sections.{begins}
 use Rattle.obs_ieee_cdf.proofs.SearchLemmas.{line_found, passed_room, searched_on}
 use Rattle.obs_ieee_cdf.proofs.find.find_line.Goals as goal
 
 pub overflow_add-passed : goal.overflow_add-passed
 overflow_add-passed c =
-    let room : c.loop-line.passed ≤ most_bytes = passed_room (begins c.args.text.now) c.args.bytes.now c.loop-line.rest c.loop-line.passed c.loop-line.invariant c.requires.few in
+    let room : c.loop-line.passed ≤ most_file_bytes = passed_room (begins c.args.text.now) c.args.bytes.now c.loop-line.rest c.loop-line.passed c.loop-line.invariant c.requires.few in
     omega arith
 
 pub returns-then-starts_with-clause-found : goal.returns-then-starts_with-clause-found

@@ -13,7 +13,7 @@ returns-in-None-clause-found g c =
     let marks = c.find-start.new.marks in
     let len : length marks ≡ length ins.reached.items = c.find-start.auto.marks ∙ ap (λ (s : List Bool). length s) c.deref_mut.ensures.value in
     let back : take ins.reached.len (marks ++ drop (length marks) ins.reached.items) ≡ marks = written_back ins.reached.len marks ins.reached.items len ins.reached.ok.0 in
-    let most = ap (λ (w : Working). w.most_meters) c.self.view_is in
+    let most = ap (λ (w : Working). w.sizes.meters) c.self.view_is in
     let room = c.requires.room.meters in
     let low : length c.args.ms.now.touches ≤ length marks = omega (arith, len, most, room) in
     rw back
