@@ -1,9 +1,10 @@
 -- Lists of critical meters.
-use Rattle.std.specs.Prelude.{ℕ, ◌&&◌, Bool, is_some, not}
+use Rattle.std.specs.Prelude.{ℕ, ◌&&◌, Bool, List, is_some, not}
 use Rattle.obs_assign.specs.Assigned.{Assigned, branch_at}
 
--- for how many meters there is room
+-- the meters that were found last, and for how many there is room
 pub record Listing : Type 0 where
+  pub list : List ℕ
   pub most_meters : ℕ
 
 -- whether the meter has a pair and the marks don't have it

@@ -6,5 +6,5 @@ mod memory;
 #[cfg(test)]
 mod tests;
 
-pub use critical_meters::{CriticalWork, critical};
+pub use critical_meters::{CriticalWork, critical, find_critical};
 pub use memory::NoMemory;
