@@ -23,6 +23,7 @@ use Rattle.obs_meter.proofs.Instance.{IsMatroid-graph}
 use Rattle.obs_assign.specs.Assigned.{Assigned, IsWhole, StandsOver, has_flag, is_frozen, pairs}
 use Rattle.obs_placement.specs.Answer.{chosen_of, cost_of, earlier_items, is_chosen}
 use Rattle.obs_placement.specs.Choosing.{HavePairsOnly}
+use Rattle.obs_placement.specs.Limits.{most_price}
 use Rattle.obs_placement.specs.Order.{price_of}
 use Rattle.obs_placement.specs.Taking.{AreTaken, IsStanding, is_known, is_raised, never, since_at}
 use Rattle.obs_placement.proofs.Going.{live_low}
@@ -41,7 +42,7 @@ module _ (passes : ℕ → Bool) (prices : List ℕ) where
     pub bound : count ≤ i
     pub lists : take count list ++ filter passes (later (length prices) i) ≡ filter passes (range_with_len 0 (length prices))
     pub costs : cost + cost_of prices (filter passes (later (length prices) i)) ≡ cost_of prices (filter passes (range_with_len 0 (length prices)))
-    pub cheap : cost ≤ i * 1000000000
+    pub cheap : cost ≤ i * most_price
 
   pub AreListed-begun : (list : List ℕ) → AreListed list 0 0 0
   AreListed-begun list = record {
@@ -62,7 +63,7 @@ module _ (passes : ℕ → Bool) (prices : List ℕ) where
           cheap = let b = h.cheap in omega (arith, b);
         }
 
-    pub AreListed-more : i < length prices → length prices ≤ length list → passes i ≡ true → get_or prices i 0 ≤ 1000000000
+    pub AreListed-more : i < length prices → length prices ≤ length list → passes i ≡ true → get_or prices i 0 ≤ most_price
         → AreListed (set list count i) (count + 1) (cost + get_or prices i 0) (i + 1)
     AreListed-more low long t dear =
         let b = h.bound in
@@ -90,7 +91,7 @@ module _ (passes : ℕ → Bool) (prices : List ℕ) where
         )
 
 -- each price is below the one that says that an item isn't known
-pub cheap_price : (meters : ℕ) (prices : List ℕ) → All (λ p. p ≤ 1000000000) prices → (m : ℕ) → price_of meters prices m < never
+pub cheap_price : (meters : ℕ) (prices : List ℕ) → All (λ p. p ≤ most_price) prices → (m : ℕ) → price_of meters prices m < never
 cheap_price meters prices h m = elim (cases_lt m meters) [
   | inl l ↦ rw (lt-ltb m meters l) (omega arith)
   | inr l ↦ rw (le-ltb m meters l) (elim (cases_lt (m - meters) (length prices)) [

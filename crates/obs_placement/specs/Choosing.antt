@@ -1,39 +1,38 @@
 -- What a placement is worked out in.
-use Rattle.std.specs.Prelude.{◌≡◌, ◌⊎◌, ℕ, ◌-◌, ◌≤◌, ◌<◌, List, length}
-use Rattle.obs_graph.specs.Shape.{Shape}
+use Rattle.std.specs.Prelude.{◌⊎◌, ℕ, ◌-◌, ◌<◌, List, []}
 use Rattle.obs_matroid.specs.Lists.{In}
 use Rattle.obs_matroid.specs.Assignments.{items}
-use Rattle.obs_meter.specs.declared.Touch.{Touch}
+use Rattle.obs_meter.specs.Sizes.{Sizes}
 use Rattle.obs_assign.specs.Assigned.{Assigned, pairs}
 use Rattle.obs_placement.specs.Placed.{Placed}
+use Rattle.obs_placement.specs.Placed.Placed.{cheapest}
 
--- what a work value is seen as: the placement that was found last, the positions that were chosen then, the price from which on each item isn't critical, the pairs, and the sizes that it was made for
+-- what a work value is seen as: the placement that was found last, the positions that were chosen then, the price from which
+-- on each item isn't critical, the pairs, and the sizes that it was made for, where candidates count as meters
 pub record Placing : Type 0 where
   pub placed : Placed
   pub chosen : List ℕ
   pub since : List ℕ
   pub pairs : Assigned
-  pub most_offered : ℕ
-  pub most_branches : ℕ
-  pub most_vertices : ℕ
+  pub sizes : Sizes
 
--- the graph and the number of items are within the sizes that the work value was made for
-pub record HasRoomFor (w : Placing) (g : Shape) (touches : List Touch) : Type 0 where
-  pub items : length touches ≤ w.most_offered
-  pub branches : length g.ends ≤ w.most_branches
-  pub vertices : g.vertices ≤ w.most_vertices
+-- a placement of nothing: a plan without a candidate
+abbrev pub nothing_placed : Placed
+nothing_placed = cheapest (record { chosen = []; cost = 0; layers = []; inside = [] })
 
--- the sizes are as before
-pub record HasSizesOf (v w : Placing) : Type 0 where
-  pub items : w.most_offered ≡ v.most_offered
-  pub branches : w.most_branches ≡ v.most_branches
-  pub vertices : w.most_vertices ≡ v.most_vertices
+-- no pair over no meter, with room for these sizes
+abbrev pub no_pairs : Sizes → Assigned
+no_pairs s = record {
+  slots = [];
+  frozen = [];
+  turns = 0;
+  forest = record { vertices = 0; held = []; most_vertices = s.vertices; most_branches = s.branches };
+  most_meters = s.meters;
+}
 
--- the sizes are these
-pub record HasSizes (w : Placing) (m b v : ℕ) : Type 0 where
-  pub items : w.most_offered ≡ m
-  pub branches : w.most_branches ≡ b
-  pub vertices : w.most_vertices ≡ v
+-- a work value as it is made
+abbrev pub new_placing : Sizes → Placing
+new_placing s = record { placed = nothing_placed; chosen = []; since = []; pairs = no_pairs s; sizes = s }
 
 -- only meters, and candidates at these positions, have pairs
 abbrev pub HavePairsOnly : ℕ → List ℕ → Assigned → Type 0

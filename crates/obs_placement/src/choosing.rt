@@ -2,10 +2,11 @@
 ghost use Rattle.std.specs.Prelude.{◌≡◌, ◌+◌, ◌<◌, ◌≤◌, ◌^◌, ℕ, All, false, filter, length, replicate, take};
 ghost use Rattle.std.specs.List.{range_with_len};
 ghost use Rattle.obs_meter.specs.Assignments.{rho_at};
+ghost use Rattle.obs_meter.specs.Sizes.{HasRoomFor};
 ghost use Rattle.obs_meter.specs.Touches.{AreInRange, live_items};
 ghost use Rattle.obs_assign.specs.Assigned.{Fits, HasRoomOf, has_flag};
 ghost use Rattle.obs_assign.specs.Assigned.{pairs as pairs_at};
-ghost use Rattle.obs_exchange.specs.Found.{HasRoomFor, HasSizesOf};
+ghost use Rattle.obs_placement.specs.Limits.{most_candidates, most_price};
 ghost use Rattle.obs_placement.specs.Answer.{chosen_of, cost_of, is_chosen};
 ghost use Rattle.obs_placement.specs.Choosing.{HavePairsOnly};
 ghost use Rattle.obs_placement.specs.Order.{IsOrder, price_of};
@@ -30,8 +31,8 @@ pub struct Listed {
 fn list_raised(meters: u32, prices: &[u64], raised: &[bool], list: &mut [u32]) -> Listed
     requires raised { length raised.now ≡ meters + length prices.now }
     requires small { meters + length prices.now < 2 ^ 32 }
-    requires few { length prices.now ≤ 20000 }
-    requires cheap { All (λ p. p ≤ 1000000000) prices.now }
+    requires few { length prices.now ≤ most_candidates }
+    requires cheap { All (λ p. p ≤ most_price) prices.now }
     requires room { length prices.now ≤ length list.old }
     ensures bound { result.count ≤ length prices.now }
     ensures listed { take result.count list.new ≡ filter (is_raised raised.now meters) (range_with_len 0 (length prices.now)) }
@@ -74,10 +75,10 @@ pub fn choose_in<L: Ledger>(
 ) -> Listed
     requires in_range { AreInRange g.now offered.now.touches }
     requires items { length offered.now.touches ≡ meters + length prices.now }
-    requires few { length prices.now ≤ 20000 }
-    requires cheap { All (λ p. p ≤ 1000000000) prices.now }
+    requires few { length prices.now ≤ most_candidates }
+    requires cheap { All (λ p. p ≤ most_price) prices.now }
     requires fits { Fits pairs.old g.now offered.now.touches }
-    requires room { HasRoomFor search.old g.now offered.now.touches }
+    requires room { HasRoomFor search.old.sizes g.now offered.now.touches }
     requires keys { length keys.old ≡ length offered.now.touches }
     requires since { length since.old ≡ length offered.now.touches }
     requires raised { length raised.old ≡ length offered.now.touches }
@@ -92,7 +93,7 @@ pub fn choose_in<L: Ledger>(
     ensures order { IsOrder (price_of meters prices.now) (length offered.now.touches) keys.new }
     ensures raised { (m : ℕ) → m < length offered.now.touches → has_flag raised.new m ≡ is_chosen g.now.vertices g.now.ends offered.now.touches (price_of meters prices.now) m }
     ensures same_room { HasRoomOf pairs.old pairs.new }
-    ensures same_sizes { HasSizesOf search.old search.new }
+    ensures same_sizes { search.new.sizes ≡ search.old.sizes }
 {
     let _ = offered.count();
     let _ = g.vertices();

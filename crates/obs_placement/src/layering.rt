@@ -1,9 +1,9 @@
 // The layers of a plan, read off the prices from which on items aren't critical.
 ghost use Rattle.std.specs.Prelude.{◌≡◌, ◌+◌, ◌<◌, ◌≤◌, ◌++◌, ◌^◌, ℕ, filter, length, set, take};
 ghost use Rattle.std.specs.List.{range_with_len};
+ghost use Rattle.obs_meter.specs.Sizes.{HasRoomFor};
 ghost use Rattle.obs_meter.specs.Touches.{AreInRange};
 ghost use Rattle.obs_assign.specs.Assigned.{has_flag};
-ghost use Rattle.obs_rankcut.specs.Bounds.{HasRoomFor, HasSizesOf};
 ghost use Rattle.obs_placement.specs.Answer.{chosen_of, is_chosen};
 ghost use Rattle.obs_placement.specs.Layers.{added_items, count_known, inside_of, is_added, layer_of, layers_of, prices_above};
 ghost use Rattle.obs_placement.specs.Order.{IsOrder, price_of};
@@ -67,7 +67,7 @@ fn lay_one(
     requires since { length since.now ≡ length offered.now.touches }
     requires marks { length marks.old ≡ length offered.now.touches }
     requires scope { length scope.old ≡ length offered.now.touches }
-    requires room { HasRoomFor cut.old g.now offered.now.touches }
+    requires room { HasRoomFor cut.old.sizes g.now offered.now.touches }
     requires known { AreKnown g.now offered.now.touches (price_of meters prices.now) since.now }
     requires rising { from ≤ to }
     requires count { count < length layers.old }
@@ -80,7 +80,7 @@ fn lay_one(
     ensures inside { length inside.new ≡ length inside.old }
     ensures marks { length marks.new ≡ length marks.old }
     ensures scope { length scope.new ≡ length scope.old }
-    ensures same_sizes { HasSizesOf cut.old cut.new }
+    ensures same_sizes { cut.new.sizes ≡ cut.old.sizes }
 {
     let _ = offered.count();
     let listed = list_added(since, from, to, inside, upto);
@@ -125,7 +125,7 @@ pub fn lay_all(
     requires since { length since.now ≡ length offered.now.touches }
     requires marks { length marks.old ≡ length offered.now.touches }
     requires scope { length scope.old ≡ length offered.now.touches }
-    requires room { HasRoomFor cut.old g.now offered.now.touches }
+    requires room { HasRoomFor cut.old.sizes g.now offered.now.touches }
     requires known { AreKnown g.now offered.now.touches (price_of meters prices.now) since.now }
     requires layers { length offered.now.touches ≤ length layers.old }
     requires inside { length offered.now.touches ≤ length inside.old }
@@ -135,7 +135,7 @@ pub fn lay_all(
     ensures inside_room { result.inside ≤ length inside.new }
     ensures layers_count { length layers.new ≡ length layers.old }
     ensures inside_count { length inside.new ≡ length inside.old }
-    ensures same_sizes { HasSizesOf cut.old cut.new }
+    ensures same_sizes { cut.new.sizes ≡ cut.old.sizes }
 {
     let _ = g.vertices();
     let mut last = 0;

@@ -1,7 +1,7 @@
 // The items of a price: those below it that aren't critical among them, and their bound.
 ghost use Rattle.std.specs.Prelude.{◌≡◌, ◌+◌, ◌<◌, ◌≤◌, ◌^◌, ℕ, length, nat_lt};
+ghost use Rattle.obs_meter.specs.Sizes.{HasRoomFor};
 ghost use Rattle.obs_meter.specs.Touches.{AreInRange};
-ghost use Rattle.obs_rankcut.specs.Bounds.{HasRoomFor, HasSizesOf};
 ghost use Rattle.obs_rankcut.specs.Flags.{marked};
 ghost use Rattle.obs_placement.specs.Layers.{own_items, own_outside, own_rank};
 ghost use Rattle.obs_placement.specs.Order.{price_of};
@@ -52,14 +52,14 @@ pub fn measure_own(
     requires since { length since.now ≡ length offered.now.touches }
     requires marks { length marks.old ≡ length offered.now.touches }
     requires scope { length scope.old ≡ length offered.now.touches }
-    requires room { HasRoomFor cut.old g.now offered.now.touches }
+    requires room { HasRoomFor cut.old.sizes g.now offered.now.touches }
     requires known { AreKnown g.now offered.now.touches (price_of meters prices.now) since.now }
     ensures inside { cut.new.inside ≡ own_items g.now.vertices g.now.ends offered.now.touches (price_of meters prices.now) to }
     ensures rank { result.rank ≡ own_rank g.now.vertices g.now.ends offered.now.touches (price_of meters prices.now) to }
     ensures outside { result.outside ≡ own_outside g.now.vertices g.now.ends offered.now.touches (price_of meters prices.now) to }
     ensures marks { length marks.new ≡ length marks.old }
     ensures scope { length scope.new ≡ length scope.old }
-    ensures same_sizes { HasSizesOf cut.old cut.new }
+    ensures same_sizes { cut.new.sizes ≡ cut.old.sizes }
 {
     let _ = offered.count();
     mark_known(since, to, marks);

@@ -1,11 +1,11 @@
 // A placement, worked out in arrays.
 ghost use Rattle.std.specs.Prelude.{◌≡◌, ◌+◌, ◌≤◌, All, length, take};
 ghost use Rattle.obs_meter.specs.Assignments.{rho_at};
+ghost use Rattle.obs_meter.specs.Sizes.{HasRoomFor};
 ghost use Rattle.obs_meter.specs.Touches.{AreInRange, live_items};
 ghost use Rattle.obs_assign.specs.Assigned.{Fits, HasRoomOf};
 ghost use Rattle.obs_assign.specs.Assigned.{pairs as pairs_at};
-ghost use Rattle.obs_exchange.specs.Found.{HasRoomFor, HasSizesOf};
-ghost use Rattle.obs_rankcut.specs.Bounds.{HasRoomFor as HasCutRoom, HasSizesOf as HasCutSizes};
+ghost use Rattle.obs_placement.specs.Limits.{most_candidates, most_price};
 ghost use Rattle.obs_placement.specs.Answer.{chosen_of};
 ghost use Rattle.obs_placement.specs.Choosing.{HavePairsOnly};
 ghost use Rattle.obs_placement.specs.Order.{price_of};
@@ -60,17 +60,17 @@ fn place_in<L: Ledger>(
 ) -> Laid
     requires in_range { AreInRange g.now offered.now.touches }
     requires items { length offered.now.touches ≡ meters + length prices.now }
-    requires few { length prices.now ≤ 20000 }
-    requires cheap { All (λ p. p ≤ 1000000000) prices.now }
+    requires few { length prices.now ≤ most_candidates }
+    requires cheap { All (λ p. p ≤ most_price) prices.now }
     requires fits { Fits pairs.old g.now offered.now.touches }
-    requires room { HasRoomFor search.old g.now offered.now.touches }
+    requires room { HasRoomFor search.old.sizes g.now offered.now.touches }
     requires keys { length keys.old ≡ length offered.now.touches }
     requires since { length since.old ≡ length offered.now.touches }
     requires raised { length raised.old ≡ length offered.now.touches }
     requires list { length prices.now ≤ length list.old }
     requires marks { length marks.old ≡ length offered.now.touches }
     requires scope { length scope.old ≡ length offered.now.touches }
-    requires cut { HasCutRoom cut.old g.now offered.now.touches }
+    requires cut { HasRoomFor cut.old.sizes g.now offered.now.touches }
     requires layers { length offered.now.touches ≤ length layers.old }
     requires inside { length offered.now.touches ≤ length inside.old }
     ensures placed { laid_in result list.new cut.new.inside layers.new inside.new ≡ placement_of g.now.vertices g.now.ends offered.now.touches meters prices.now needed }
@@ -83,8 +83,8 @@ fn place_in<L: Ledger>(
     ensures layers_room { result.layers ≤ length layers.new }
     ensures inside_room { result.inside ≤ length inside.new }
     ensures same_room { HasRoomOf pairs.old pairs.new }
-    ensures same_sizes { HasSizesOf search.old search.new }
-    ensures same_cut { HasCutSizes cut.old cut.new }
+    ensures same_sizes { search.new.sizes ≡ search.old.sizes }
+    ensures same_cut { cut.new.sizes ≡ cut.old.sizes }
 {
     let listed = choose_in(
         g, offered, meters, prices, keys, pairs, search, since, raised, list, steps,
@@ -140,17 +140,17 @@ pub fn place_first<L: Ledger>(
 ) -> Laid
     requires in_range { AreInRange g.now offered.now.touches }
     requires items { length offered.now.touches ≡ meters + length prices.now }
-    requires few { length prices.now ≤ 20000 }
-    requires cheap { All (λ p. p ≤ 1000000000) prices.now }
+    requires few { length prices.now ≤ most_candidates }
+    requires cheap { All (λ p. p ≤ most_price) prices.now }
     requires fits { Fits pairs.old g.now offered.now.touches }
-    requires room { HasRoomFor search.old g.now offered.now.touches }
+    requires room { HasRoomFor search.old.sizes g.now offered.now.touches }
     requires keys { length offered.now.touches ≤ length keys.old }
     requires since { length offered.now.touches ≤ length since.old }
     requires raised { length offered.now.touches ≤ length raised.old }
     requires list { length prices.now ≤ length list.old }
     requires marks { length offered.now.touches ≤ length marks.old }
     requires scope { length offered.now.touches ≤ length scope.old }
-    requires cut { HasCutRoom cut.old g.now offered.now.touches }
+    requires cut { HasRoomFor cut.old.sizes g.now offered.now.touches }
     requires layers { length offered.now.touches ≤ length layers.old }
     requires inside { length offered.now.touches ≤ length inside.old }
     ensures placed { laid_in result list.new cut.new.inside layers.new inside.new ≡ placement_of g.now.vertices g.now.ends offered.now.touches meters prices.now needed }
@@ -163,8 +163,8 @@ pub fn place_first<L: Ledger>(
     ensures layers_room { result.layers ≤ length layers.new }
     ensures inside_room { result.inside ≤ length inside.new }
     ensures same_room { HasRoomOf pairs.old pairs.new }
-    ensures same_sizes { HasSizesOf search.old search.new }
-    ensures same_cut { HasCutSizes cut.old cut.new }
+    ensures same_sizes { search.new.sizes ≡ search.old.sizes }
+    ensures same_cut { cut.new.sizes ≡ cut.old.sizes }
 {
     let n = offered.count() as usize;
     place_in(

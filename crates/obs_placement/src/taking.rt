@@ -1,9 +1,9 @@
 // Items are taken one after the other: each that raises the greatest length gets a pair, and of each other one it is kept
 // which items aren't critical from its price on.
 ghost use Rattle.std.specs.Prelude.{◌≡◌, ◌<◌, ◌≤◌, ◌∷◌, ℕ, true, length};
+ghost use Rattle.obs_meter.specs.Sizes.{HasRoomFor};
 ghost use Rattle.obs_meter.specs.Touches.{AreInRange, is_live};
 ghost use Rattle.obs_assign.specs.Assigned.{HasRoomOf, has_flag, pairs};
-ghost use Rattle.obs_exchange.specs.Found.{HasRoomFor, HasSizesOf};
 ghost use Rattle.obs_placement.specs.Answer.{earlier_items, is_chosen};
 ghost use Rattle.obs_placement.specs.Order.{IsOrder, price_of};
 ghost use Rattle.obs_placement.specs.Taking.{AreAdded, AreHeld, AreTaken, IsStanding, IsTakenAt, IsUnderWay, never, since_after, since_at};
@@ -45,7 +45,7 @@ fn take_item<L: Ledger>(
 ) -> bool
     requires c { c < length offered.now.touches }
     requires in_range { AreInRange g.now offered.now.touches }
-    requires room { HasRoomFor work.old g.now offered.now.touches }
+    requires room { HasRoomFor work.old.sizes g.now offered.now.touches }
     requires standing { IsStanding g.now offered.now.touches a.old }
     requires live { is_live g.now.ends offered.now.touches c ≡ true }
     requires count { length since.old ≡ length offered.now.touches }
@@ -60,7 +60,7 @@ fn take_item<L: Ledger>(
     ensures count { length since.new ≡ length since.old }
     ensures standing { IsStanding g.now offered.now.touches a.new }
     ensures same_room { HasRoomOf a.old a.new }
-    ensures same_sizes { HasSizesOf work.old work.new }
+    ensures same_sizes { work.new.sizes ≡ work.old.sizes }
 {
     let _ = g.vertices();
     let _ = meters;
@@ -88,14 +88,14 @@ pub fn take_all<L: Ledger>(
     steps: &mut Steps<L>,
 )
     requires in_range { AreInRange g.now offered.now.touches }
-    requires room { HasRoomFor work.old g.now offered.now.touches }
+    requires room { HasRoomFor work.old.sizes g.now offered.now.touches }
     requires cheap { (m : ℕ) → price_of meters prices.now m < never }
     requires order { IsOrder (price_of meters prices.now) (length offered.now.touches) keys.now }
     requires begun { IsUnderWay g.now offered.now.touches (price_of meters prices.now) keys.now 0 a.old since.old raised.old }
     ensures taken { AreTaken g.now offered.now.touches (price_of meters prices.now) a.new since.new raised.new }
     ensures standing { IsStanding g.now offered.now.touches a.new }
     ensures same_room { HasRoomOf a.old a.new }
-    ensures same_sizes { HasSizesOf work.old work.new }
+    ensures same_sizes { work.new.sizes ≡ work.old.sizes }
 {
     let _ = g.vertices();
     for k in 0..keys.len() {

@@ -1,7 +1,8 @@
 // Candidates beside the meters of a path and of a triangle.
 ghost use Rattle.std.specs.Prelude.{◌≡◌, ◌+◌, ◌<◌, ◌≤◌, All, length};
+ghost use Rattle.obs_meter.specs.Sizes.{HasRoomFor};
 ghost use Rattle.obs_meter.specs.Touches.{AreInRange};
-ghost use Rattle.obs_placement.specs.Choosing.{HasRoomFor, HasSizesOf};
+ghost use Rattle.obs_placement.specs.Limits.{most_candidates, most_price};
 
 use crate::{Layer, PlaceWork, Placement, find_placement, place};
 use obs_assign::Steps;
@@ -38,10 +39,10 @@ fn find_once<L: Ledger>(
     requires some { 0 < L.parts }
     requires in_range { AreInRange g.now offered.now.touches }
     requires items { length offered.now.touches ≡ meters + length prices.now }
-    requires few { length prices.now ≤ 20000 }
-    requires cheap { All (λ p. p ≤ 1000000000) prices.now }
-    requires room { HasRoomFor work.old g.now offered.now.touches }
-    ensures same_sizes { HasSizesOf work.old work.new }
+    requires few { length prices.now ≤ most_candidates }
+    requires cheap { All (λ p. p ≤ most_price) prices.now }
+    requires room { HasRoomFor work.old.sizes g.now offered.now.touches }
+    ensures same_sizes { work.new.sizes ≡ work.old.sizes }
 {
     let mut steps = Steps::<L>::begin(blank);
     find_placement(g, offered, meters, prices, needed, work, &mut steps)
@@ -62,9 +63,9 @@ fn place_once<'a, L: Ledger>(
     requires some { 0 < L.parts }
     requires in_range { AreInRange g.now offered.now.touches }
     requires items { length offered.now.touches ≡ meters + length prices.now }
-    requires few { length prices.now ≤ 20000 }
-    requires cheap { All (λ p. p ≤ 1000000000) prices.now }
-    requires room { HasRoomFor work.old g.now offered.now.touches }
+    requires few { length prices.now ≤ most_candidates }
+    requires cheap { All (λ p. p ≤ most_price) prices.now }
+    requires room { HasRoomFor work.old.sizes g.now offered.now.touches }
 {
     let mut steps = Steps::<L>::begin(blank);
     place(g, offered, meters, prices, needed, work, &mut steps)

@@ -1,10 +1,12 @@
 // What a placement is worked out in.
 ghost use Rattle.std.specs.Prelude.{◌≡◌, ◌+◌, ◌≤◌, All, IfOk, length};
 ghost use Rattle.obs_meter.specs.Assignments.{rho_at};
+ghost use Rattle.obs_meter.specs.Sizes.{HasRoomFor};
 ghost use Rattle.obs_meter.specs.Touches.{AreInRange, live_items};
 ghost use Rattle.obs_assign.specs.Assigned.{pairs as pairs_at};
+ghost use Rattle.obs_placement.specs.Limits.{most_candidates, most_price};
 ghost use Rattle.obs_placement.specs.Answer.{chosen_of};
-ghost use Rattle.obs_placement.specs.Choosing.{HasRoomFor, HasSizesOf, HasSizes, HavePairsOnly};
+ghost use Rattle.obs_placement.specs.Choosing.{HavePairsOnly, new_placing};
 ghost use Rattle.obs_placement.specs.Order.{price_of};
 ghost use Rattle.obs_placement.specs.Placed.{placed_of, placement_of};
 ghost use Rattle.obs_placement.specs.Taking.{AreKnown, IsStanding};
@@ -65,7 +67,13 @@ impl Model for PlaceWork {
 
     ghost Value = { Placing };
 
-    ghost view = { λ w. record { placed = laid_in w.laid w.list.items w.cut.inside w.layers.items w.inside.items; chosen = take w.laid.count w.list.items; since = take w.offered w.since.items; pairs = w.pairs; most_offered = length w.since.items; most_branches = w.search.most_branches; most_vertices = w.search.most_vertices } };
+    ghost view = { λ w. record {
+      placed = laid_in w.laid w.list.items w.cut.inside w.layers.items w.inside.items;
+      chosen = take w.laid.count w.list.items;
+      since = take w.offered w.since.items;
+      pairs = w.pairs;
+      sizes = w.search.sizes;
+    } };
 
     ghost invariant = { λ w. record {
       offered : w.offered ≤ length w.since.items;
@@ -80,12 +88,10 @@ impl Model for PlaceWork {
       layers : length w.layers.items ≡ length w.since.items;
       inside : length w.inside.items ≡ length w.since.items;
       pairs : w.pairs.most_meters ≡ length w.since.items;
-      branches : w.pairs.forest.most_branches ≡ w.search.most_branches;
-      vertices : w.pairs.forest.most_vertices ≡ w.search.most_vertices;
-      search : w.search.most_meters ≡ length w.since.items;
-      cut : w.cut.most_meters ≡ length w.since.items;
-      cut_branches : w.cut.most_branches ≡ w.search.most_branches;
-      cut_vertices : w.cut.most_vertices ≡ w.search.most_vertices;
+      branches : w.pairs.forest.most_branches ≡ w.search.sizes.branches;
+      vertices : w.pairs.forest.most_vertices ≡ w.search.sizes.vertices;
+      search : w.search.sizes.meters ≡ length w.since.items;
+      cut : w.cut.sizes ≡ w.search.sizes;
     } };
 }
 
@@ -97,7 +103,8 @@ impl PlaceWork {
         most_branches: u32,
         most_vertices: u32,
     ) -> Result<PlaceWork, NoMemory>
-        ensures sizes { IfOk result (λ w. HasSizes w most_offered most_branches most_vertices) }
+        ensures empty { IfOk result (λ w. w ≡
+            new_placing (record { meters = most_offered; branches = most_branches; vertices = most_vertices })) }
     {
         Ok(PlaceWork {
             offered: 0,
@@ -167,16 +174,16 @@ pub fn find_placement<L: Ledger>(
 )
     requires in_range { AreInRange g.now offered.now.touches }
     requires items { length offered.now.touches ≡ meters + length prices.now }
-    requires few { length prices.now ≤ 20000 }
-    requires cheap { All (λ p. p ≤ 1000000000) prices.now }
-    requires room { HasRoomFor work.old g.now offered.now.touches }
+    requires few { length prices.now ≤ most_candidates }
+    requires cheap { All (λ p. p ≤ most_price) prices.now }
+    requires room { HasRoomFor work.old.sizes g.now offered.now.touches }
     ensures placed { work.new.placed ≡ placement_of g.now.vertices g.now.ends offered.now.touches meters prices.now needed }
     ensures chosen { work.new.chosen ≡ chosen_of g.now.vertices g.now.ends offered.now.touches meters prices.now }
     ensures longest { length (pairs_at work.new.pairs) ≡ rho_at g.now.vertices g.now.ends offered.now.touches (live_items g.now.ends offered.now.touches) }
     ensures standing { IsStanding g.now offered.now.touches work.new.pairs }
     ensures only_chosen { HavePairsOnly meters (chosen_of g.now.vertices g.now.ends offered.now.touches meters prices.now) work.new.pairs }
     ensures known { AreKnown g.now offered.now.touches (price_of meters prices.now) work.new.since }
-    ensures same_sizes { HasSizesOf work.old work.new }
+    ensures same_sizes { work.new.sizes ≡ work.old.sizes }
 {
     let _ = g.vertices();
     let n = offered.count() as usize;
@@ -217,9 +224,9 @@ pub fn place<'a, L: Ledger>(
 ) -> Placement<'a>
     requires in_range { AreInRange g.now offered.now.touches }
     requires items { length offered.now.touches ≡ meters + length prices.now }
-    requires few { length prices.now ≤ 20000 }
-    requires cheap { All (λ p. p ≤ 1000000000) prices.now }
-    requires room { HasRoomFor work.old g.now offered.now.touches }
+    requires few { length prices.now ≤ most_candidates }
+    requires cheap { All (λ p. p ≤ most_price) prices.now }
+    requires room { HasRoomFor work.old.sizes g.now offered.now.touches }
     ensures placed { placed_of result ≡ placement_of g.now.vertices g.now.ends offered.now.touches meters prices.now needed }
 {
     find_placement(g, offered, meters, prices, needed, work, steps);

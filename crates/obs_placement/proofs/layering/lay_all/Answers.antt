@@ -9,7 +9,7 @@ use Rattle.obs_placement.proofs.layering.lay_all.Goals.{then-last-price+then-rai
 pub loop-k-init : goal.loop-k-init
 loop-k-init c = (
   IsLaying-begun c.args.g.now.vertices c.args.g.now.ends c.args.offered.now.touches c.args.meters c.args.prices.now c.args.keys.now c.args.since.now c.args.layers.now c.args.inside.now,
-  record { meters = refl; branches = refl; vertices = refl },
+  refl,
 )
 
 pub loop-k-preserved : goal.loop-k-preserved
@@ -33,7 +33,7 @@ loop-k-preserved c =
                 (sym flag ∙ w.if-raised-c.true) (slice_index_or keys l.k (0, 0)).0 key w.if-last-price.true
                 (let b = h.bound in let s = l.auto.layers in let r = c.requires.layers in omega (arith, b, s, r, low))
                 w.lay_one-upto.new.layers w.lay_one-upto.result w.lay_one-upto.new.inside e.layer e.upto e.added e.listed,
-            record { meters = same.meters ∙ sizes.meters; branches = same.branches ∙ sizes.branches; vertices = same.vertices ∙ sizes.vertices },
+            same ∙ sizes,
           )
       | else-last-price w ↦ rw (w.cut-is, w.layers-is, w.inside-is, w.last-is, w.count-is, w.upto-is) (
         IsLaying-over G.vertices G.ends T c.args.meters c.args.prices.now keys c.args.since.now order c.requires.items l.k l.last l.count l.upto l.layers l.inside h

@@ -35,7 +35,7 @@ loop-k-preserved g c =
             live_step G T price keys ok order l.k l.a l.since l.raised low w b.take_item.new.a b.take_item.new.since (slice_index_or keys l.k (0, 0)).0 b.take_item.result
                 (cheap_items price (length T) keys order cheap l.k low) (order.priced l.k low) e.count e.standing e.held e.taken e.added e.chosen (sym c.live.ensures.live ∙ b.if-live.true),
             record { meters = same_room.meters ∙ room.meters; vertices = same_room.vertices ∙ room.vertices; branches = same_room.branches ∙ room.branches },
-            record { meters = same_sizes.meters ∙ sizes.meters; branches = same_sizes.branches ∙ sizes.branches; vertices = same_sizes.vertices ∙ sizes.vertices },
+            same_sizes ∙ sizes,
           )
       | else-live b ↦
           rw (b.a-is, b.work-is, b.since-is, b.raised-is) (
