@@ -1,4 +1,5 @@
 pub mod Longest
 pub mod OfNetwork
-pub mod Paired
 pub mod Enough
+pub mod Tight
+pub mod Answered

@@ -1,6 +1,8 @@
 // The one error of the calls that allocate.
 ghost use Rattle.std.specs.Prelude.{◌≡◌};
 
+use std::alloc::AllocError;
+
 /// There is no memory.
 #[derive(Clone, Copy, Debug, PartialEq, Eq)]
 pub struct NoMemory;
@@ -25,6 +27,30 @@ impl From<obs_exchange::NoMemory> for NoMemory {
     ghost from_gives = { λ _ e. e ≡ e };
 
     fn from(_: obs_exchange::NoMemory) -> Self {
+        NoMemory
+    }
+}
+
+impl From<obs_critical::NoMemory> for NoMemory {
+    ghost from_gives = { λ _ e. e ≡ e };
+
+    fn from(_: obs_critical::NoMemory) -> Self {
+        NoMemory
+    }
+}
+
+impl From<obs_islands::NoMemory> for NoMemory {
+    ghost from_gives = { λ _ e. e ≡ e };
+
+    fn from(_: obs_islands::NoMemory) -> Self {
+        NoMemory
+    }
+}
+
+impl From<AllocError> for NoMemory {
+    ghost from_gives = { λ _ e. e ≡ e };
+
+    fn from(_: AllocError) -> Self {
         NoMemory
     }
 }

@@ -9,7 +9,8 @@ use Rattle.obs_report.proofs.Printing.{and_then_none}
 use Rattle.obs_io.specs.declared.outside.Failed.{Failed}
 use Rattle.obs_network.specs.Network.{case_component_count}
 use Rattle.obs_report.specs.Meters.{bound_text}
-use Rattle.obs_engine.specs.Report.{bound_meters, bound_outside, bound_rank, claim_text, claims_text, is_short, short_components, text_if}
+use Rattle.obs_edit.specs.Answers.{bound_meters, bound_outside, bound_rank, is_short, short_components}
+use Rattle.obs_engine.specs.Report.{claim_text, claims_text, text_if}
 
 pub not_not : (b : Bool) → not (not b) ≡ b
 not_not true = refl

@@ -24,7 +24,7 @@ use Rattle.obs_network.proofs.InComponents.{branch_component-below, touched_comp
 use Rattle.obs_network.proofs.Numbered.{component_count-le}
 use Rattle.obs_network.proofs.OfCase.{case_bus_count-le, length-case_first_buses}
 use Rattle.obs_engine.specs.Findings.{AreHomes, AreKeys, AreMarks, AreSorted, case_key, key_of_meter}
-use Rattle.obs_engine.specs.Report.{bound_meters, bound_outside, component_meters, is_critical_meter, is_meter_of}
+use Rattle.obs_edit.specs.Answers.{bound_meters, bound_outside, component_meters, is_critical_meter, is_meter_of}
 use Rattle.obs_engine.proofs.Claimed.{not_not}
 use Rattle.obs_engine.proofs.OfNetwork.{few_meters, length-case_meters}
 

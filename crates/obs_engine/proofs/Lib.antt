@@ -1,6 +1,5 @@
 pub mod Endings
 pub mod Replied
-pub mod Tight
 pub mod OfNetwork
 pub mod Counting
 pub mod Taking

@@ -19,9 +19,9 @@ use Rattle.obs_network.specs.Switched.{case_bus_count}
 use Rattle.obs_network.specs.Network.{NetworkOf, case_branches, case_component_count, case_meters, network_of}
 use Rattle.obs_network.proofs.InComponents.{branch_component-below, touched_component}
 use Rattle.obs_engine.specs.Findings.{AreCounts, AreHomes, AreMarks, AreRanks, IsSearched}
-use Rattle.obs_engine.specs.Report.{case_critical_meters, case_rank, is_meter_of}
+use Rattle.obs_edit.specs.Answers.{case_critical_meters, case_rank, is_meter_of}
 use Rattle.obs_engine.proofs.Counting.{lives_in}
-use Rattle.obs_engine.proofs.Tight.{IsClosedFor, component_rank_from, mark_from, rank_from}
+use Rattle.obs_edit.proofs.Tight.{IsClosedFor, component_rank_from, mark_from, rank_from}
 
 module _ (t : Tables) (v : IsValid t) (a : Assigned) (reached : List Bool) (h : IsSearched (network_of t).graph (case_meters t) a reached) where
   closed_for : IsClosedFor t (pairs a) (has_flag reached)

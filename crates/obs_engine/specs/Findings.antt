@@ -11,7 +11,7 @@ use Rattle.obs_exchange.specs.declared.Sources.TheVariants.{All}
 use Rattle.obs_exchange.specs.Closed.{IsLeastClosedAt}
 use Rattle.obs_network.specs.Network.{case_branches, case_component_count, case_meters}
 use Rattle.obs_network.specs.Observable.{case_live_meters, item_component}
-use Rattle.obs_engine.specs.Report.{bound_meters, bound_outside, component_rank, is_critical_meter}
+use Rattle.obs_edit.specs.Answers.{bound_meters, bound_outside, component_rank, is_critical_meter}
 
 -- the pairs stand over a graph and what its meters touch, nothing is frozen, and the flags mark what the last search reached, which
 -- found no further pair

@@ -3,7 +3,8 @@ ghost use Rattle.std.specs.Prelude.{◌≡◌, ◌<◌, length};
 ghost use Rattle.obs_network.specs.Network.{case_component_count, network_of};
 ghost use Rattle.obs_report.specs.Printed.{Appends};
 ghost use Rattle.obs_engine.specs.Findings.{AreRanks, AreSorted};
-ghost use Rattle.obs_engine.specs.Report.{bound_meters, bound_outside, bound_rank, claim_text, claims_text, is_short, text_if};
+ghost use Rattle.obs_edit.specs.Answers.{bound_meters, bound_outside, bound_rank, is_short};
+ghost use Rattle.obs_engine.specs.Report.{claim_text, claims_text, text_if};
 
 use obs_case::Case;
 use obs_graph::parts::part;

@@ -7,7 +7,8 @@ ghost use Rattle.obs_report.specs.Printed.{Appends};
 ghost use Rattle.obs_network.specs.Network.{case_meters, case_needed, network_of};
 ghost use Rattle.obs_engine.specs.Ending.{IsReplied};
 ghost use Rattle.obs_engine.specs.Findings.{AreRanks, AreSorted, IsSearched};
-ghost use Rattle.obs_engine.specs.Report.{case_critical_meters, case_rank, claims_text, report_of, report_status, report_text};
+ghost use Rattle.obs_edit.specs.Answers.{case_critical_meters, case_rank};
+ghost use Rattle.obs_engine.specs.Report.{claims_text, report_of, report_status, report_text};
 
 use crate::claims::print_claims;
 use crate::status::Status;

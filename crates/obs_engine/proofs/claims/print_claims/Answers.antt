@@ -3,7 +3,8 @@ use Rattle.obs_io.specs.declared.outside.Failed.{Failed}
 use Rattle.obs_report.specs.Printed.{Appends}
 use Rattle.obs_network.specs.Network.{case_component_count}
 use Rattle.obs_report.proofs.Printing.{failed_call, then_call}
-use Rattle.obs_engine.specs.Report.{claim_text, is_short}
+use Rattle.obs_edit.specs.Answers.{is_short}
+use Rattle.obs_engine.specs.Report.{claim_text}
 use Rattle.obs_engine.proofs.Claimed.{appends_nothing, claims_are, texts_around, texts_from, texts_more}
 use Rattle.obs_engine.proofs.OfNetwork.{count_of}
 use Rattle.obs_engine.proofs.claims.print_claims.Goals as goal

@@ -1,5 +1,5 @@
 use Rattle.std.proofs.Common.{arith}
-use Rattle.obs_engine.proofs.Tight.{bound_is}
+use Rattle.obs_edit.proofs.Tight.{bound_is}
 use Rattle.obs_engine.proofs.claims.rank_of.Goals as goal
 
 pub overflow_sub-result : goal.overflow_sub-result

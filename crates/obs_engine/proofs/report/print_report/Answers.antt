@@ -2,7 +2,8 @@ use Rattle.std.proofs.Common.{◌++◌}
 use Rattle.obs_report.specs.Lines.{last_line}
 use Rattle.obs_report.specs.Meters.{critical_text}
 use Rattle.obs_report.proofs.Printing.{failed_call, then_call}
-use Rattle.obs_engine.specs.Report.{case_critical_meters, claims_text, report_text}
+use Rattle.obs_edit.specs.Answers.{case_critical_meters}
+use Rattle.obs_engine.specs.Report.{claims_text, report_text}
 use Rattle.obs_engine.proofs.report.print_report.Goals as goal
 
 pub print_rest-requires : goal.print_rest-requires

@@ -2,7 +2,7 @@ use Rattle.std.proofs.Common.{◌++◌}
 use Rattle.obs_report.specs.Lines.{last_line}
 use Rattle.obs_report.specs.Meters.{critical_text}
 use Rattle.obs_report.proofs.Printing.{failed_call, then_call}
-use Rattle.obs_engine.specs.Report.{case_critical_meters}
+use Rattle.obs_edit.specs.Answers.{case_critical_meters}
 use Rattle.obs_engine.proofs.report.print_rest.Goals as goal
 
 pub print_claims-requires-clause-network : goal.print_claims-requires-clause-network
