@@ -25,23 +25,23 @@ pub(crate) struct Searched {
 fn fill<L: Ledger>(
     g: &Graph,
     ms: &Meters,
-    pairs: &mut Assignment,
+    a: &mut Assignment,
     work: &mut Work,
     blank: Blank,
 )
     requires name { blank.name ≡ L.name }
     requires parts { blank.parts ≡ L.parts }
     requires some { 0 < L.parts }
-    requires bare { pairs pairs.old ≡ [] }
-    requires whole { IsWhole pairs.old }
-    requires stands { StandsOver pairs.old g.now ms.now.touches }
+    requires bare { pairs a.old ≡ [] }
+    requires whole { IsWhole a.old }
+    requires stands { StandsOver a.old g.now ms.now.touches }
     requires in_range { AreInRange g.now ms.now.touches }
     requires room { HasRoomFor work.old.sizes g.now ms.now.touches }
-    ensures searched { IsSearched g.now ms.now.touches pairs.new work.new.reached }
+    ensures searched { IsSearched g.now ms.now.touches a.new work.new.reached }
 {
     let mut steps = Steps::<L>::begin(blank);
     let _ = g.vertices();
-    let _ = lengthen(g, ms, pairs, u32::MAX, work, &mut steps);
+    let _ = lengthen(g, ms, a, u32::MAX, work, &mut steps);
 }
 
 /// A longest assignment of the meters over a graph.

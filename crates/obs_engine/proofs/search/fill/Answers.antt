@@ -11,5 +11,5 @@ returns-clause-searched g c =
     let flags = c.lengthen.new.work.reached in
     let e = c.lengthen.ensures in
     let low : shape.vertices ≤ 4294967295 = omega (arith, c.vertices.ensures.value, c.vertices.type_inv) in
-    IsSearched-filled shape touches c.args.pairs.now b c.lengthen.result.searches flags c.requires.whole c.requires.bare e.lengthened e.stands e.whole
+    IsSearched-filled shape touches c.args.a.now b c.lengthen.result.searches flags c.requires.whole c.requires.bare e.lengthened e.stands e.whole
     (closed_at_last shape touches b flags c.lengthen.result.closed c.vertices.ensures.branches e.whole e.stands low e.ended)
