@@ -8,7 +8,7 @@ use Rattle.obs_engine.specs.Report.{report_of}
 use Rattle.obs_engine.proofs.Endings.{replied_statuses}
 use Rattle.obs_engine.proofs.Replied.{report-can, report_unwritten}
 use Rattle.obs_engine.proofs.Taking.{ok_not_read, read_is}
-use Rattle.obs_engine.proofs.answer.report.Goals as goal
+use Rattle.obs_engine.proofs.report.report.Goals as goal
 
 pub returns-in-Ok-clause-ends : goal.returns-in-Ok-clause-ends
 returns-in-Ok-clause-ends g c = λ file told.
