@@ -3,7 +3,10 @@
 
 mod counted;
 mod kept;
+pub mod laws;
 mod memory;
+mod pairing;
+mod placing;
 mod session;
 #[cfg(test)]
 mod tests;
