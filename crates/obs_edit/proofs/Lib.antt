@@ -5,3 +5,4 @@ pub mod Enough
 pub mod Planned
 pub mod PlanFirst
 pub mod Priced
+pub mod Offered

@@ -4,7 +4,8 @@ ghost use Rattle.obs_meter.specs.Sizes.{HasRoomFor};
 ghost use Rattle.obs_meter.specs.Touches.{AreInRange};
 ghost use Rattle.obs_assign.specs.Assigned.{StandsOver, pairs as pairs_at};
 ghost use Rattle.obs_placement.specs.Placed.{placed_of, placement_of};
-ghost use Rattle.obs_edit.specs.Planned.{new_planning, placed_pairs, prices_of};
+ghost use Rattle.obs_network.specs.Network.{network_of};
+ghost use Rattle.obs_edit.specs.Planned.{case_placed_pairs, case_placement, new_planning, offered_rows, placed_pairs, prices_of};
 
 use crate::memory::NoMemory;
 use crate::pairing::Pairing;
@@ -12,6 +13,7 @@ use obs_assign::{Assignment, Steps};
 use obs_case::{Candidate, Case};
 use obs_graph::Graph;
 use obs_meter::Meters;
+use obs_network::Network;
 use obs_placement::{PlaceWork, Placement, find_placement};
 use std::alloc::Global;
 use std::marker::Model;
@@ -125,4 +127,31 @@ impl Placing {
     {
         self.paired.found()
     }
+}
+
+/// Finds the placement of a case, and its pairs. No memory is taken.
+pub(crate) fn place<L: Ledger>(
+    case: &Case,
+    network: &Network,
+    placing: &mut Placing,
+    steps: &mut Steps<L>,
+)
+    requires network { network.now ≡ network_of case.now }
+    requires prices { placing.old.prices ≡ prices_of case.now.candidates }
+    requires sizes { placing.old.sizes ≡ offered_rows case.now }
+    ensures placed { placing.new.placed ≡ case_placement case.now }
+    ensures pairs { pairs_at placing.new.pairs ≡ case_placed_pairs case.now }
+    ensures stands { StandsOver placing.new.pairs network.now.graph network.now.offered.touches }
+    ensures same_prices { placing.new.prices ≡ placing.old.prices }
+    ensures same_sizes { placing.new.sizes ≡ placing.old.sizes }
+{
+    let _nodes = case.nodes();
+    let meters = case.meters().len() as u32;
+    placing.find(
+        network.graph(),
+        network.offered(),
+        meters,
+        network.needed(),
+        steps,
+    );
 }
