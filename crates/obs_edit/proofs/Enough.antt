@@ -26,11 +26,11 @@ use Rattle.obs_network.proofs.OfCase.{case_branches-are}
 use Rattle.obs_edit.specs.Sessions.{AreLongest}
 
 module _ (t : Tables) (v : IsValid t) (a : Assigned) (h : AreLongest t a) where
-  live_pairs : IsAssignmentAt (case_branches t) (case_meters t) (case_live_meters t) (pairs a)
+  pub live_pairs : IsAssignmentAt (case_branches t) (case_meters t) (case_live_meters t) (pairs a)
   live_pairs =
       from_matroid (case_bus_count t) (case_branches t) (case_meters t) (case_live_meters t) (pairs a) (IsAssignment-live (case_bus_count t) a (network_of t).graph (case_meters t) h.whole h.stands)
 
-  least : (S : ℕ → Bool) × IsLeastClosed (graph_matroid (case_bus_count t) (case_branches t)) (touch_at (case_branches t) (case_meters t)) (case_live_meters t) none every (pairs a) S
+  pub least : (S : ℕ → Bool) × IsLeastClosed (graph_matroid (case_bus_count t) (case_branches t)) (touch_at (case_branches t) (case_meters t)) (case_live_meters t) none every (pairs a) S
   least =
       let n = case_bus_count t in
       let ends = case_branches t in
@@ -44,7 +44,7 @@ module _ (t : Tables) (v : IsValid t) (a : Assigned) (h : AreLongest t a) where
         | inr s ↦ s
       ]
 
-  in_component : (A : List Pair) → IsAssignmentAt (case_branches t) (case_meters t) (case_live_meters t) A → (c : ℕ) → pairs_in t c A ≡ part (is_of (item_component t (case_meters t)) c) A
+  pub in_component : (A : List Pair) → IsAssignmentAt (case_branches t) (case_meters t) (case_live_meters t) A → (c : ℕ) → pairs_in t c A ≡ part (is_of (item_component t (case_meters t)) c) A
   in_component A b c =
       filter_same (λ (p : Pair). branch_component t p.1 == c) (λ (p : Pair). is_of (item_component t (case_meters t)) c p.0) A
       (λ p i. ap (λ (x : ℕ). x == c) (touched_component t v (case_meters t) p.0 p.1 (b.touched p i)))

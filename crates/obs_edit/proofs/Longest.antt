@@ -8,7 +8,7 @@ use Rattle.obs_meter.proofs.Assigned.{every-to_live, live-to_every}
 use Rattle.obs_assign.specs.Assigned.{Assigned, IsWhole, StandsOver, has_flag, pairs}
 use Rattle.obs_assign.proofs.Standing.{IsAssignmentAt-standing}
 use Rattle.obs_exchange.specs.declared.Sources.TheVariants.{All}
-use Rattle.obs_exchange.specs.Found.{HasClosed}
+use Rattle.obs_exchange.specs.Found.{HasClosed, HasGrown}
 use Rattle.obs_exchange.specs.Laws.{IsThawed}
 use Rattle.obs_exchange.specs.Lengthened.{HasLengthened}
 use Rattle.obs_exchange.proofs.Lawful.{closed_rho}
@@ -43,3 +43,10 @@ pub IsLongest-filled : (g : Shape) (touches : List Touch) (a b : Assigned) (sear
     → MatchBool closed (HasClosed g.ends touches All b b flags) (most ≤ length (pairs b)) → IsLongest g touches b
 IsLongest-filled g touches a b searches flags most closed ok whole none grown stands whole_after bound k =
     IsLongest-ended g touches b flags most closed ok stands whole_after (thawed-lengthened a b searches grown (bare-thawed a whole none)) bound k
+
+-- a longest assignment doesn't grow
+pub Grown-never : (g : Shape) (touches : List Touch) (a b : Assigned) (m : ℕ) → IsLongest g touches a → IsWhole b → StandsOver b g touches → HasGrown g.ends touches All a b m → ⊥
+Grown-never g touches a b m h whole stands k =
+    let few = h.longest.none_longer (pairs b) (every-to_live g.ends touches (pairs b) (IsAssignmentAt-standing b g touches whole stands)) in
+    let l = k.longer in
+    absurd (omega (arith, few, l))

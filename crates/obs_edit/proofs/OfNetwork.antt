@@ -4,6 +4,7 @@ use Rattle.std.proofs.lemmas.List.{length-map}
 use Rattle.obs_graph.specs.Shape.{Shape}
 use Rattle.obs_case.specs.Tables.{IsValid, Tables}
 use Rattle.obs_meter.specs.Held.{Items}
+use Rattle.obs_meter.specs.Sizes.{HasRoomFor, Sizes}
 use Rattle.obs_meter.specs.Touches.{every_item}
 use Rattle.obs_assign.specs.Assigned.{Assigned, Fits}
 use Rattle.obs_exchange.specs.Found.{Working}
@@ -14,7 +15,7 @@ use Rattle.obs_network.specs.Network.{NetworkOf, case_branches, case_component_c
 use Rattle.obs_network.proofs.OfCase.{case_bus_count-le, length-case_branches, length-case_first_buses}
 use Rattle.obs_network.proofs.Observed.{most_pairs}
 use Rattle.obs_edit.specs.Longest.{IsLongest, IsMost}
-use Rattle.obs_edit.specs.Sessions.{AreLongest, HasRoom}
+use Rattle.obs_edit.specs.Sessions.{AreLongest, HasRoom, case_rows}
 
 pub length-case_meters : (t : Tables) → length (case_meters t) ≡ length t.meters
 unfolding case_meters
@@ -59,3 +60,11 @@ IsLongest-of_network n t g i a same graph meters h =
     let gs : g ≡ (network_of t).graph = graph ∙ ap (λ (x : NetworkOf). x.graph) same in
     let is : i ≡ (network_of t).meters = meters ∙ ap (λ (x : NetworkOf). x.meters) same in
     subst (λ (h : Shape). IsLongest h (case_meters t) a) gs (subst (λ (j : Items). IsLongest g j.touches a) is h)
+
+-- what was made for the rows of a case has room for its network
+pub room_of_rows : (t : Tables) (s : Sizes) (g : Shape) (ms : Items) → g ≡ (network_of t).graph → ms ≡ (network_of t).meters → s ≡ case_rows t → HasRoomFor s g ms.touches
+room_of_rows t s g ms gg mm e = record {
+  meters = let r = ap (λ (x : Sizes). x.meters) e in let m = ap (λ (i : Items). length i.touches) mm in omega (arith, r, m, length-case_meters t);
+  branches = let r = ap (λ (x : Sizes). x.branches) e in let b = ap (λ (x : Shape). length x.ends) gg in omega (arith, r, b, length-case_branches t);
+  vertices = let r = ap (λ (x : Sizes). x.vertices) e in let v = ap (λ (x : Shape). x.vertices) gg in omega (arith, r, v, case_bus_count-le t);
+}

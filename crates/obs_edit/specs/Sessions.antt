@@ -1,19 +1,25 @@
 -- What a session keeps.
-use Rattle.std.specs.Prelude.{◌≡◌, ℕ, Bool, length}
+use Rattle.std.specs.Prelude.{◌≡◌, ℕ, ◌≤◌, Bool, true, false, not, Option, Some, List, length, slice_index_or}
 use Rattle.obs_case.specs.Tables.{Tables}
-use Rattle.obs_assign.specs.Assigned.{Assigned}
+use Rattle.obs_matroid.specs.Lists.{In}
+use Rattle.obs_assign.specs.Assigned.{Assigned, pairs}
 use Rattle.obs_exchange.specs.Found.{Working}
+use Rattle.obs_critical.specs.Listed.{Listing}
+use Rattle.obs_islands.specs.Islanding.{Islanding}
 use Rattle.obs_meter.specs.Assignments.{IsRhoAt}
 use Rattle.obs_meter.specs.Sizes.{Sizes}
 use Rattle.obs_network.specs.Network.{case_branches, case_meters, network_of}
 use Rattle.obs_network.specs.Observable.{case_live_meters}
+use Rattle.obs_edit.specs.Answers.{bound_meters, bound_outside, bound_rank, case_critical_meters, case_first_pairs, case_islands, is_critical_meter}
 use Rattle.obs_edit.specs.Longest.{IsLongest}
+use Rattle.obs_edit.specs.declared.hand.AtHand.{AtHand}
 
--- a session: the present case, whether it was begun with candidates, and the kept pairs
+-- a session: the present case, whether it was begun with candidates, the kept pairs, and what is at hand
 pub record Kept : Type 0 where
   pub tables : Tables
   pub offered : Bool
   pub pairs : Assigned
+  pub at_hand : AtHand
 
 -- the rank of a case: the greatest number of pairs of its live meters
 abbrev pub IsRankOf : Tables → ℕ → Type 0
@@ -33,3 +39,34 @@ pub record HasRoom (t : Tables) (a : Assigned) (w : Working) : Type 0 where
   pub pair_branches : a.forest.most_branches ≡ length t.branches
   pub pair_vertices : a.forest.most_vertices ≡ length t.nodes
   pub work : w.sizes ≡ case_rows t
+
+-- the flags mark, of the live meters, those that aren't critical
+pub record AreMarks (t : Tables) (flags : List Bool) : Type 0 where
+  pub one_each : length flags ≡ length (case_meters t)
+  pub mark : (m : ℕ) → In m (case_live_meters t) → slice_index_or flags m false ≡ not (is_critical_meter t m)
+
+-- the list of a bound, the rank of what it touches, and the number of the component's other live meters
+pub record BoundOf : Type 0 where
+  pub inside : List ℕ
+  pub rank : ℕ
+  pub outside : ℕ
+
+-- the bound of a component of a case
+abbrev pub case_bound : Tables → ℕ → BoundOf
+case_bound t c = record { inside = bound_meters t c; rank = bound_rank t c; outside = bound_outside t c }
+
+-- there is room for the answers to a case: flags and lists of meters, and islands
+pub record HasRoomToAnswer (t : Tables) (flags : List Bool) (listing : Listing) (found : Islanding) (list : List ℕ) (listed : ℕ) : Type 0 where
+  pub flags_len : length flags ≡ length t.meters
+  pub listing_room : listing.most_meters ≡ length t.meters
+  pub islands_room : found.sizes ≡ case_rows t
+  pub list_len : length list ≡ length t.meters
+  pub within : listed ≤ length list
+
+-- what is said to be at hand is the answer to the case
+pub record AreAnswers (t : Tables) (a : Assigned) (flags : List Bool) (listing : Listing) (found : Islanding) (measured : BoundOf) (hand : AtHand) : Type 0 where
+  pub first : hand.first ≡ true → pairs a ≡ case_first_pairs t
+  pub marks : hand.critical ≡ true → AreMarks t flags
+  pub critical : hand.critical ≡ true → listing.list ≡ case_critical_meters t
+  pub islands : hand.islands ≡ true → found.firsts ≡ case_islands t
+  pub bound : (c : ℕ) → hand.bound ≡ Some c → measured ≡ case_bound t c

@@ -1,15 +1,21 @@
-//! Sessions: a case whose flags are set one at a time, its network, and pairs that are carried along.
+//! Sessions: a case whose flags are set one at a time, its network, pairs that are carried along, and the answers to it.
 #![tactic(auto)]
 
+mod answers;
+mod asks;
+mod components;
 mod counted;
+mod hand;
 mod kept;
 pub mod laws;
 mod memory;
 mod pairing;
 mod placing;
+mod seen;
 mod session;
 #[cfg(test)]
 mod tests;
 
 pub use memory::NoMemory;
+pub use seen::Seen;
 pub use session::{Session, State};

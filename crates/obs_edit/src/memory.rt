@@ -15,14 +15,6 @@ impl From<obs_network::NoMemory> for NoMemory {
     }
 }
 
-impl From<AllocError> for NoMemory {
-    ghost from_gives = { λ _ e. e ≡ e };
-
-    fn from(_: AllocError) -> Self {
-        NoMemory
-    }
-}
-
 impl From<obs_meter::NoMemory> for NoMemory {
     ghost from_gives = { λ _ e. e ≡ e };
 
@@ -51,6 +43,30 @@ impl From<obs_exchange::NoMemory> for NoMemory {
     ghost from_gives = { λ _ e. e ≡ e };
 
     fn from(_: obs_exchange::NoMemory) -> Self {
+        NoMemory
+    }
+}
+
+impl From<obs_critical::NoMemory> for NoMemory {
+    ghost from_gives = { λ _ e. e ≡ e };
+
+    fn from(_: obs_critical::NoMemory) -> Self {
+        NoMemory
+    }
+}
+
+impl From<obs_islands::NoMemory> for NoMemory {
+    ghost from_gives = { λ _ e. e ≡ e };
+
+    fn from(_: obs_islands::NoMemory) -> Self {
+        NoMemory
+    }
+}
+
+impl From<AllocError> for NoMemory {
+    ghost from_gives = { λ _ e. e ≡ e };
+
+    fn from(_: AllocError) -> Self {
         NoMemory
     }
 }

@@ -1,15 +1,21 @@
-// A session.
-ghost use Rattle.std.specs.Prelude.{◌≡◌, ◌<◌, ◌↔◌, true, IfOk, IsTrue};
-ghost use Rattle.obs_network.specs.Network.{case_component_count, case_needed, network_of};
+//! A session.
+ghost use Rattle.std.specs.Prelude.{◌≡◌, ◌<◌, ◌↔◌, true, Some, IfOk, IsTrue};
+ghost use Rattle.obs_assign.specs.Assigned.{StandsOver, pairs};
+ghost use Rattle.obs_network.specs.Components.{need_of};
+ghost use Rattle.obs_network.specs.Network.{case_component_count, case_meters, case_needed, case_sizes, network_of};
 ghost use Rattle.obs_network.specs.Observable.{IsObservable, is_fed};
+ghost use Rattle.obs_edit.specs.Answers.{bound_meters, bound_outside, bound_rank, case_critical_meters, case_first_pairs, case_islands, case_rank};
 ghost use Rattle.obs_edit.specs.Sessions.{AreLongest, IsRankOf};
 
+use crate::answers::{Answers, make_answers};
+use crate::asks::{find_bound, find_critical, find_first, find_islands};
 use crate::counted::has_enough;
 use crate::kept::{Held, fill, make_held};
 use crate::memory::NoMemory;
 use obs_assign::{Assignment, Steps};
 use obs_case::Case;
 use obs_network::Network;
+use obs_rankcut::Bound;
 use std::alloc::Global;
 use std::marker::Model;
 use std::sync::ledger::Ledger;
@@ -21,26 +27,38 @@ pub struct State {
     pub needed: u32,
 }
 
-/// A case whose flags are set one at a time, its network, and a longest assignment of its live meters. All memory is taken when
-/// it begins.
+/// A case whose flags are set one at a time, its network, a longest assignment of its live meters, and the answers that are at
+/// hand. All memory is taken when it begins.
+///
+/// Each answer is found by a call `find_..`, which lends nothing, and seen by a call on `&self`. What was found stays at hand
+/// until an edit changes the case.
 #[derive(Drop)]
 pub struct Session {
     case: Case,
     network: Network,
     held: Held,
+    answers: Answers,
     offered: bool,
 }
 
 impl Model for Session {
-    ghost use Rattle.std.specs.Prelude.{◌≡◌};
+    ghost use Rattle.std.specs.Prelude.{◌≡◌, take};
     ghost use Rattle.obs_network.specs.Network.{network_of};
-    ghost use Rattle.obs_edit.specs.Sessions.{AreLongest, HasRoom, Kept};
+    ghost use Rattle.obs_edit.specs.Sessions.{AreAnswers, AreLongest, HasRoom, HasRoomToAnswer, Kept};
 
     ghost Value = { Kept };
 
-    ghost view = { λ s. record { tables = s.case; offered = s.offered; pairs = s.held.pairs } };
+    ghost view = { λ s. record { tables = s.case; offered = s.offered; pairs = s.held.pairs; at_hand = s.answers.hand } };
 
-    ghost invariant = { λ s. (s.network ≡ network_of s.case) × (AreLongest s.case s.held.pairs) × (HasRoom s.case s.held.pairs s.held.work) };
+    ghost invariant = { λ s. record {
+      network : s.network ≡ network_of s.case;
+      longest : AreLongest s.case s.held.pairs;
+      room : HasRoom s.case s.held.pairs s.held.work;
+      answer_room : HasRoomToAnswer s.case s.answers.marks.items s.answers.critical s.answers.islands s.answers.inside.items s.answers.measured.listed;
+      answers : AreAnswers s.case s.held.pairs s.answers.marks.items s.answers.critical s.answers.islands
+        (record { inside = take s.answers.measured.listed s.answers.inside.items; rank = s.answers.measured.rank; outside = s.answers.measured.outside })
+        s.answers.hand;
+    } };
 }
 
 impl Session {
@@ -57,11 +75,13 @@ impl Session {
     {
         let network = Network::make(alloc, &case)?;
         let mut held = make_held(alloc, &case)?;
+        let answers = make_answers(alloc, &case)?;
         fill(&case, &network, &mut held.pairs, &mut held.work, steps);
         Ok(Session {
             case,
             network,
             held,
+            answers,
             offered,
         })
     }
@@ -98,8 +118,10 @@ impl Session {
     /// The rank and the needed number of the present case.
     pub fn state(&self) -> State
         ensures rank { IsRankOf self.now.tables result.rank }
+        ensures computed { result.rank ≡ case_rank self.now.tables }
         ensures needed { result.needed ≡ case_needed self.now.tables }
     {
+        let _nodes = self.case.nodes();
         State {
             rank: self.held.pairs.length(),
             needed: self.network.needed(),
@@ -113,5 +135,130 @@ impl Session {
         ensures observable { IsTrue result ↔ IsObservable self.now.tables c }
     {
         has_enough(&self.case, &self.network, &self.held.pairs, c)
+    }
+
+    /// Makes the kept pairs the first assignment. `found_pairs` then lends it.
+    pub fn find_first<L: Ledger>(&mut self, steps: &mut Steps<L>)
+        ensures tables { self.new.tables ≡ self.old.tables }
+        ensures offered { self.new.offered ≡ self.old.offered }
+        ensures at_hand { self.new.at_hand ≡ record self.old.at_hand { first = true } }
+    {
+        if self.answers.hand.first {
+            return;
+        }
+        find_first(
+            &self.case,
+            &self.network,
+            &mut self.held.pairs,
+            &mut self.held.work,
+            steps,
+        );
+        self.answers.hand.first = true;
+    }
+
+    /// Finds the critical meters, and marks the other live ones. `found_critical` then lends them.
+    pub fn find_critical<L: Ledger>(&mut self, steps: &mut Steps<L>)
+        ensures tables { self.new.tables ≡ self.old.tables }
+        ensures offered { self.new.offered ≡ self.old.offered }
+        ensures pairs { self.new.pairs ≡ self.old.pairs }
+        ensures at_hand { self.new.at_hand ≡ record self.old.at_hand { critical = true } }
+    {
+        if self.answers.hand.critical {
+            return;
+        }
+        find_critical(
+            &self.case,
+            &self.network,
+            &mut self.held.pairs,
+            &mut self.held.work,
+            &mut self.answers.marks,
+            &mut self.answers.critical,
+            steps,
+        );
+        self.answers.hand.critical = true;
+    }
+
+    /// Finds the islands. `found_islands` then lends them.
+    pub fn find_islands<L: Ledger>(&mut self, steps: &mut Steps<L>)
+        ensures tables { self.new.tables ≡ self.old.tables }
+        ensures offered { self.new.offered ≡ self.old.offered }
+        ensures pairs { self.new.pairs ≡ self.old.pairs }
+        ensures at_hand { self.new.at_hand ≡ record self.old.at_hand { islands = true } }
+    {
+        if self.answers.hand.islands {
+            return;
+        }
+        find_islands(
+            &self.case,
+            &self.network,
+            &mut self.answers.islands,
+            steps,
+        );
+        self.answers.hand.islands = true;
+    }
+
+    /// Measures the bound of a component, where the critical meters are at hand. `found_bound` then lends it. This goes through
+    /// the component's own meters alone.
+    pub fn find_bound(&mut self, c: u32)
+        requires component { c < case_component_count self.old.tables }
+        requires critical { self.old.at_hand.critical ≡ true }
+        ensures tables { self.new.tables ≡ self.old.tables }
+        ensures offered { self.new.offered ≡ self.old.offered }
+        ensures pairs { self.new.pairs ≡ self.old.pairs }
+        ensures at_hand { self.new.at_hand ≡ record self.old.at_hand { bound = Some c } }
+    {
+        self.answers.measured = find_bound(
+            &self.case,
+            &self.network,
+            &self.held.pairs,
+            &self.answers.marks,
+            &mut self.answers.inside,
+            c,
+        );
+        self.answers.hand.bound = Some(c);
+    }
+
+    /// The first assignment of the present case's meters, where it is at hand.
+    pub fn found_pairs(&self) -> &Assignment
+        requires first { self.now.at_hand.first ≡ true }
+        ensures pairs { result.now ≡ self.now.pairs }
+        ensures first { pairs result.now ≡ case_first_pairs self.now.tables }
+        ensures stands { StandsOver result.now (network_of self.now.tables).graph (case_meters self.now.tables) }
+    {
+        &self.held.pairs
+    }
+
+    /// The critical meters of the present case, rising, where they are at hand.
+    pub fn found_critical(&self) -> &[u32]
+        requires critical { self.now.at_hand.critical ≡ true }
+        ensures critical { result.now ≡ case_critical_meters self.now.tables }
+    {
+        self.answers.critical.list()
+    }
+
+    /// Of each bus of the present case the first bus of its island, where the islands are at hand.
+    pub fn found_islands(&self) -> &[u32]
+        requires islands { self.now.at_hand.islands ≡ true }
+        ensures islands { result.now ≡ case_islands self.now.tables }
+    {
+        self.answers.islands.firsts()
+    }
+
+    /// The bound of a component of the present case, where it is at hand: its live meters that aren't critical, the rank of what
+    /// they touch, the number of its other live meters, and its need.
+    pub fn found_bound(&self, c: u32) -> Bound<'_>
+        requires component { c < case_component_count self.now.tables }
+        requires bound { self.now.at_hand.bound ≡ Some c }
+        ensures inside { result.inside.now ≡ bound_meters self.now.tables c }
+        ensures rank { result.rank ≡ bound_rank self.now.tables c }
+        ensures outside { result.outside ≡ bound_outside self.now.tables c }
+        ensures needed { result.needed ≡ need_of (case_sizes self.now.tables) c }
+    {
+        Bound {
+            inside: &self.answers.inside[..self.answers.measured.listed],
+            rank: self.answers.measured.rank,
+            outside: self.answers.measured.outside,
+            needed: self.network.need(c),
+        }
     }
 }

@@ -1,7 +1,7 @@
 -- How runs end.
 use Rattle.std.proofs.Common.{ℕ, ◌≡◌, ◌∙◌, ◌+◌, ◌⊎◌, inl, inr, sym, refl, subst, List, [], length, Option, None, Ok, Err, IsOk}
 use Rattle.obs_io.specs.Bytes.{Wrote}
-use Rattle.obs_report.specs.Printed.{Appends}
+use Rattle.obs_report.specs.Printed.{AppendsAt}
 use Rattle.obs_report.proofs.Printing.{and_then_none}
 use Rattle.obs_engine.specs.declared.status.Status.{Status}
 use Rattle.obs_engine.specs.declared.status.Status.TheVariants.{Done, Short, Usage, InputFault, ReadFault, WriteFault, NoMemory, SessionTooLong}
@@ -12,12 +12,12 @@ use Rattle.obs_engine.specs.Stated.{Told, IsStated}
 
 -- a reply that was written whole
 pub replied_whole : {T E : Type 0} {x : T} {a b : Option (List ℕ)} {f k : ℕ} {p q : ℕ → Type 0} (reply : Reply) → (reply.status ≡ ReadFault → ⊥) → (reply.status ≡ WriteFault → ⊥)
-    → Appends {E = E} a b f k p q (Ok x) reply.text → IsReplied a b f k p reply.status reply
+    → AppendsAt {E = E} a b f k p q (Ok x) reply.text → IsReplied a b f k p reply.status reply
 replied_whole reply not_read not_write call =
     record { ends = inl (refl, call.writes); reads = not_read; write = λ e. absurd (not_write e); quiet = λ none. call.quiet refl; room = λ rest has. not_write }
 
 -- a write that failed
-pub replied_failed : {T E : Type 0} {e : E} {a b : Option (List ℕ)} {f k : ℕ} {p q : ℕ → Type 0} (reply : Reply) → Appends {T = T} a b f k p q (Err e) reply.text → IsReplied a b f k p WriteFault reply
+pub replied_failed : {T E : Type 0} {e : E} {a b : Option (List ℕ)} {f k : ℕ} {p q : ℕ → Type 0} (reply : Reply) → AppendsAt {T = T} a b f k p q (Err e) reply.text → IsReplied a b f k p WriteFault reply
 replied_failed {T = T} {E = E} {e = e} reply call = record {
   ends = inr (inl (refl, call.writes));
   reads = λ s. absurd cc;

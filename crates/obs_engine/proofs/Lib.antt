@@ -1,12 +1,7 @@
 pub mod Endings
 pub mod Replied
-pub mod Tight
 pub mod OfNetwork
-pub mod Counting
 pub mod Taking
-pub mod Growing
-pub mod Ranked
-pub mod Claimed
-pub mod Keyed
 pub mod Lawful
 pub mod Valid
+pub mod Asked

@@ -21,7 +21,8 @@ use Rattle.obs_engine.specs.Ending.{Answers, Ends, EndsWith, HasRoom}
 use Rattle.obs_engine.specs.Forms.{AreFiles, CanAnswer, FileRose, IsFileWord, ReadRose}
 use Rattle.obs_engine.specs.Stated.{Told}
 use Rattle.obs_engine.specs.Replies.{Reply, reply_to}
-use Rattle.obs_engine.specs.Report.{case_rank, report_of, report_reply, report_status}
+use Rattle.obs_edit.specs.Answers.{case_rank}
+use Rattle.obs_engine.specs.Report.{report_of, report_reply, report_status}
 use Rattle.obs_engine.specs.Topology.{topology_of, topology_reply}
 use Rattle.obs_engine.proofs.Endings.{IsFailure, IsFileForm, file_form_complete, file_form_ends}
 

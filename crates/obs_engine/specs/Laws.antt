@@ -7,7 +7,7 @@ use Rattle.obs_network.specs.Network.{case_branches, case_meters}
 use Rattle.obs_network.specs.Observable.{case_live_meters, item_component}
 use Rattle.obs_engine.specs.declared.words.CaseForm.{CaseForm}
 use Rattle.obs_engine.specs.Files.{case_in_files, switching_case}
-use Rattle.obs_engine.specs.Report.{bound_meters}
+use Rattle.obs_edit.specs.Answers.{bound_meters}
 
 -- the bound of a component lists exactly those live meters of the component whose loss doesn't lower the rank of the case
 abbrev pub ListsNonCritical : Type 0

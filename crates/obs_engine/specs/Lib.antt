@@ -1,7 +1,7 @@
 pub mod Codes
 pub mod Ending
 pub mod Files
-pub mod Findings
+pub mod Asks
 pub mod Forms
 pub mod Laws
 pub mod Replies

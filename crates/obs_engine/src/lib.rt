@@ -1,12 +1,10 @@
 //! All that the program does, over any files, input and output.
 #![tactic(auto)]
 
-mod answer;
+mod asks;
 #[cfg(test)]
 mod cdf_tests;
-mod claims;
 mod files;
-mod findings;
 pub mod laws;
 mod memory;
 mod program;
@@ -14,8 +12,6 @@ mod refused;
 mod report;
 #[cfg(test)]
 mod report_tests;
-mod search;
-mod sorted;
 mod status;
 mod taken;
 #[cfg(test)]

@@ -5,7 +5,7 @@ ghost use Rattle.obs_engine.specs.Ending.{Answers, Ends, HasRoom};
 ghost use Rattle.obs_engine.specs.Forms.{form_of, CanAnswer, IsFileWord, ReadRose, TakesInput};
 ghost use Rattle.obs_engine.specs.Stated.{Told, Tells};
 
-use crate::answer::report;
+use crate::report::report;
 use crate::refused::refuse_words;
 use crate::status::Status;
 use crate::topology::topology;

@@ -1,151 +1,102 @@
-// The report on a case, printed.
-ghost use Rattle.std.specs.Prelude.{◌≡◌, ◌++◌, ◌≤◌, length};
-ghost use Rattle.obs_assign.specs.Assigned.{pairs};
-ghost use Rattle.obs_report.specs.Lines.{last_line};
-ghost use Rattle.obs_report.specs.Meters.{critical_text};
-ghost use Rattle.obs_report.specs.Printed.{Appends};
-ghost use Rattle.obs_network.specs.Network.{case_meters, case_needed, network_of};
-ghost use Rattle.obs_engine.specs.Ending.{IsReplied};
-ghost use Rattle.obs_engine.specs.Findings.{AreRanks, AreSorted, IsSearched};
-ghost use Rattle.obs_engine.specs.Report.{case_critical_meters, case_rank, claims_text, report_of, report_status, report_text};
+// The command that reports on a case.
+ghost use Rattle.std.specs.Prelude.{◌≡◌, ◌≢◌, ◌+◌, ◌<◌, ℕ, List, Some, length};
+ghost use Rattle.obs_io.specs.Causes.{Rose};
+ghost use Rattle.obs_engine.specs.declared.words.Form.TheVariants.{Report};
+ghost use Rattle.obs_engine.specs.Ending.{EndsWith, IsReplied};
+ghost use Rattle.obs_engine.specs.Forms.{AreFiles, CanAnswer, FileRose, IsFileWord};
+ghost use Rattle.obs_engine.specs.Report.{report_of, report_reply, report_status};
 
-use crate::claims::print_claims;
+use crate::asks::print_report;
+use crate::files::take_case;
+use crate::refused::refuse_files;
 use crate::status::Status;
-use obs_assign::Assignment;
+use crate::words::CaseForm;
+use obs_assign::Steps;
 use obs_case::Case;
-use obs_critical::{CriticalWork, critical};
-use obs_io::{Failed, Sink};
-use obs_network::Network;
-use obs_report::{print_counts, print_critical, print_last_line};
+use obs_edit::Session;
+use obs_io::{Failed, Files, Sink};
+use std::alloc::Global;
+use std::marker::Brand;
+use std::sync::ledger::{Blank, Ledger};
 
-// Prints the critical meters and the last line.
-fn print_ending<W: Sink>(output: &mut W, case: &Case, list: &[u32]) -> Result<(), Failed>
-    requires list { list.now ≡ case_critical_meters case.now }
-    ensures appends { Appends (W.written output.old) (W.written output.new) (W.faults output.old) (W.faults output.new)
-        (W.has_room output.old) (W.has_room output.new) result (critical_text case.now (case_critical_meters case.now) ++ last_line) }
+// Done where the present case has as many pairs as it needs.
+fn verdict(session: &Session) -> Status
+    ensures status { result ≡ report_status session.now.tables }
 {
-    match print_critical(output, case, list) {
-        Ok(()) => print_last_line(output),
-        Err(Failed) => Err(Failed),
-    }
-}
-
-// Prints the critical meters, which the last search tells, and the last line.
-fn print_list<W: Sink>(
-    output: &mut W,
-    case: &Case,
-    network: &Network,
-    pairs: &Assignment,
-    reached: &[bool],
-    work: &mut CriticalWork,
-) -> Result<(), Failed>
-    requires network { network.now ≡ network_of case.now }
-    requires searched { IsSearched (network_of case.now).graph (case_meters case.now) pairs.now reached.now }
-    requires room { length (case_meters case.now) ≤ work.old.most_meters }
-    ensures appends { Appends (W.written output.old) (W.written output.new) (W.faults output.old) (W.faults output.new)
-        (W.has_room output.old) (W.has_room output.new) result (critical_text case.now (case_critical_meters case.now) ++ last_line) }
-{
-    let list = critical(network.graph(), network.meters(), pairs, reached, work);
-    print_ending(output, case, list)
-}
-
-// Prints the bounds, the critical meters and the last line.
-fn print_rest<W: Sink>(
-    output: &mut W,
-    case: &Case,
-    network: &Network,
-    kept: &Assignment,
-    reached: &[bool],
-    ranks: &[u32],
-    members: &[u32],
-    starts: &[usize],
-    listing: &mut CriticalWork,
-) -> Result<(), Failed>
-    requires network { network.now ≡ network_of case.now }
-    requires searched { IsSearched (network_of case.now).graph (case_meters case.now) kept.now reached.now }
-    requires ranks { AreRanks case.now ranks.now }
-    requires sorted { AreSorted case.now members.now starts.now }
-    requires listing { length (case_meters case.now) ≤ listing.old.most_meters }
-    ensures appends { Appends (W.written output.old) (W.written output.new) (W.faults output.old) (W.faults output.new)
-        (W.has_room output.old) (W.has_room output.new) result (claims_text case.now ++ (critical_text case.now (case_critical_meters case.now) ++ last_line)) }
-{
-    match print_claims(output, case, network, ranks, members, starts) {
-        Ok(()) => print_list(output, case, network, kept, reached, listing),
-        Err(Failed) => Err(Failed),
-    }
-}
-
-// Prints the report on a case.
-fn print_report<W: Sink>(
-    output: &mut W,
-    case: &Case,
-    network: &Network,
-    kept: &Assignment,
-    reached: &[bool],
-    ranks: &[u32],
-    members: &[u32],
-    starts: &[usize],
-    listing: &mut CriticalWork,
-) -> Result<(), Failed>
-    requires network { network.now ≡ network_of case.now }
-    requires searched { IsSearched (network_of case.now).graph (case_meters case.now) kept.now reached.now }
-    requires rank { length (pairs kept.now) ≡ case_rank case.now }
-    requires ranks { AreRanks case.now ranks.now }
-    requires sorted { AreSorted case.now members.now starts.now }
-    requires listing { length (case_meters case.now) ≤ listing.old.most_meters }
-    ensures appends { Appends (W.written output.old) (W.written output.new) (W.faults output.old) (W.faults output.new)
-        (W.has_room output.old) (W.has_room output.new) result (report_text case.now) }
-{
-    match print_counts(output, network, kept.length()) {
-        Ok(()) => print_rest(
-            output, case, network, kept, reached, ranks, members, starts, listing,
-        ),
-        Err(Failed) => Err(Failed),
-    }
-}
-
-// Done where the rank of a case is what it needs.
-fn verdict(case: &Case, rank: u32, needed: u32) -> Status
-    requires rank { rank ≡ case_rank case.now }
-    requires needed { needed ≡ case_needed case.now }
-    ensures status { result ≡ report_status case.now }
-{
-    let _case = case;
-    if rank == needed {
+    let state = session.state();
+    if state.rank == state.needed {
         Status::Done
     } else {
         Status::Short
     }
 }
 
-/// Answers a case in which all is found.
-pub(crate) fn answer_found<W: Sink>(
+// Answers a case with which a session has begun.
+fn answer_session<W: Sink, L: Ledger>(
     output: &mut W,
-    case: &Case,
-    network: &Network,
-    kept: &Assignment,
-    reached: &[bool],
-    ranks: &[u32],
-    members: &[u32],
-    starts: &[usize],
-    listing: &mut CriticalWork,
+    session: &mut Session,
+    steps: &mut Steps<L>,
 ) -> Status
-    requires network { network.now ≡ network_of case.now }
-    requires searched { IsSearched (network_of case.now).graph (case_meters case.now) kept.now reached.now }
-    requires rank { length (pairs kept.now) ≡ case_rank case.now }
-    requires ranks { AreRanks case.now ranks.now }
-    requires sorted { AreSorted case.now members.now starts.now }
-    requires listing { length (case_meters case.now) ≤ listing.old.most_meters }
     ensures replied { IsReplied (W.written output.old) (W.written output.new) (W.faults output.old) (W.faults output.new)
-        (W.has_room output.old) result (report_of case.now) }
+        (W.has_room output.old) result (report_of session.old.tables) }
 {
-    let rank = kept.length();
-    let needed = network.needed();
-    let status = verdict(case, rank, needed);
-    match print_report(
-        output, case, network, kept, reached, ranks, members, starts, listing,
-    ) {
+    let status = verdict(session);
+    match print_report(output, session, steps) {
         Ok(()) => status,
         Err(Failed) => Status::WriteFault,
+    }
+}
+
+// Answers a case, and counts the searches in a ledger of its own.
+fn answer_counted<W: Sink, L: Ledger>(
+    alloc: Global,
+    output: &mut W,
+    case: Case,
+    blank: Blank,
+) -> Status
+    requires name { blank.name ≡ L.name }
+    requires parts { blank.parts ≡ L.parts }
+    requires some { 0 < L.parts }
+    ensures replied { IsReplied (W.written output.old) (W.written output.new) (W.faults output.old) (W.faults output.new)
+        (W.has_room output.old) result (report_of case) }
+{
+    let mut steps = Steps::<L>::begin(blank);
+    let Ok(mut session) = Session::begin(alloc, case, false, &mut steps) else {
+        return Status::NoMemory;
+    };
+    answer_session(output, &mut session, &mut steps)
+}
+
+// Answers a case.
+fn answer_case<W: Sink>(alloc: Global, output: &mut W, case: Case) -> Status
+    ensures replied { IsReplied (W.written output.old) (W.written output.new) (W.faults output.old) (W.faults output.new)
+        (W.has_room output.old) result (report_of case) }
+{
+    answer_counted::<W, Brand>(alloc, output, case, Blank::new(1))
+}
+
+/// Answers `report` for the files of this form.
+pub(crate) fn report<F: Files, W: Sink>(
+    alloc: Global,
+    files: &mut F,
+    output: &mut W,
+    from: CaseForm,
+) -> Status
+    ensures ends { (file : ℕ → List ℕ) → AreFiles (Some (Report from)) (F.content files.old) file
+        → EndsWith (report_reply from file) result (W.written output.old) (W.written output.new) }
+    ensures statuses { CanAnswer (Some (Report from)) result }
+    ensures read { result ≡ Status.ReadFault → FileRose (Some (Report from)) (F.faults files.old) (F.faults files.new) }
+    ensures write { result ≡ Status.WriteFault → Rose (W.faults output.old) (W.faults output.new) }
+    ensures quiet { result ≢ Status.WriteFault → W.faults output.new ≡ W.faults output.old }
+    ensures quiet_files { result ≢ Status.ReadFault → (w : ℕ) → F.faults files.new w ≡ F.faults files.old w }
+    ensures memory { result ≡ Status.NoMemory → W.written output.new ≡ W.written output.old }
+    ensures unread { result ≡ Status.ReadFault → W.written output.new ≡ W.written output.old }
+    ensures steady { ((w : ℕ) → IsFileWord (Some (Report from)) w → F.steady files.old w) → result ≢ Status.ReadFault }
+    ensures room { (file : ℕ → List ℕ) (rest : ℕ) → AreFiles (Some (Report from)) (F.content files.old) file
+        → W.has_room output.old (length (report_reply from file).text + rest) → result ≢ Status.WriteFault }
+{
+    match take_case(alloc, files, from) {
+        Ok(case) => answer_case(alloc, output, case),
+        Err(why) => refuse_files(output, why),
     }
 }

@@ -59,8 +59,7 @@ fn take_switching<F: Files>(alloc: Global, files: &mut F) -> Result<Case, Untake
 
 // Prints how many buses there are, and the last line.
 fn print_bus_count<W: Sink>(output: &mut W, count: u32) -> Result<(), Failed>
-    ensures appends { Appends (W.written output.old) (W.written output.new) (W.faults output.old) (W.faults output.new)
-        (W.has_room output.old) (W.has_room output.new) result (count_line (codes "buses") count ++ last_line) }
+    ensures appends { Appends W.written W.faults W.has_room output.old output.new result (count_line (codes "buses") count ++ last_line) }
 {
     match print_count(output, b"buses", count as u64) {
         Ok(()) => print_last_line(output),
@@ -72,8 +71,7 @@ fn print_bus_count<W: Sink>(output: &mut W, count: u32) -> Result<(), Failed>
 fn print_topology<W: Sink>(output: &mut W, case: &Case, buses: &Buses) -> Result<(), Failed>
     requires buses { buses.now.buses ≡ case_buses case.now }
     requires count { buses.now.count ≡ case_bus_count case.now }
-    ensures appends { Appends (W.written output.old) (W.written output.new) (W.faults output.old) (W.faults output.new)
-        (W.has_room output.old) (W.has_room output.new) result (topology_text case.now) }
+    ensures appends { Appends W.written W.faults W.has_room output.old output.new result (topology_text case.now) }
 {
     match print_nodes(output, case, buses) {
         Ok(()) => print_bus_count(output, buses.count()),

@@ -1,38 +1,34 @@
 -- Lines of words.
-use Rattle.std.proofs.Common.{ℕ, ◌≡◌, ◌∙◌, sym, ap, refl, List, [], ◌∷◌, ◌++◌, append_assoc, append-nil}
-use Rattle.obs_report.specs.Lines.{tab, end_text, line_of, tabbed}
+use Rattle.std.proofs.Common.{ℕ, ◌≡◌, ◌∙◌, ◌+◌, ◌<◌, ◌≤◌, sym, ap, refl, Bool, true, false, List, [], ◌∷◌, ◌++◌, length, drop, get_or, append_assoc, append-nil, add-one, arith}
+use Rattle.std.specs.Prelude.{◌==◌}
+use Rattle.std.proofs.Math.ListN.{drop_of_length-le}
+use Rattle.std.proofs.Math.Seq.{drop-cons}
+use Rattle.std.proofs.lemmas.Bool.{ne_eqb}
+use Rattle.obs_report.specs.Lines.{end_text, line_of, tabbed, word_text}
 
-tabbed-more : (words : List (List ℕ)) (v : List ℕ) → tabbed words ++ (tab ∷ v) ≡ tabbed (words ++ v ∷ [])
-tabbed-more [] v = ap (λ t. tab ∷ t) (sym (append-nil v))
-tabbed-more (w ∷ words) v = ap (λ t. tab ∷ t) (append_assoc w (tabbed words) (tab ∷ v) ∙ ap (λ t. w ++ t) (tabbed-more words v))
+-- some words of a line, the first of which may be that of the line
+abbrev pub words_text : Bool → List (List ℕ) → List ℕ
+words_text first [] = []
+words_text first (word ∷ words) = word_text first word ++ tabbed words
+
+pub line_is : (words : List (List ℕ)) → words_text true words ++ end_text ≡ line_of words
+line_is [] = refl
+line_is (word ∷ words) = append_assoc word (tabbed words) end_text
+
+others : (words : List (List ℕ)) → words_text false words ≡ tabbed words
+others [] = refl
+others (word ∷ words) = refl
 
 -- one word more of a line
-word_more : (w : List ℕ) (words : List (List ℕ)) (v : List ℕ) → (w ++ tabbed words) ++ (tab ∷ v) ≡ w ++ tabbed (words ++ v ∷ [])
-word_more w words v = append_assoc w (tabbed words) (tab ∷ v) ∙ ap (λ t. w ++ t) (tabbed-more words v)
+pub word_more : (words : List (List ℕ)) (i : ℕ) (word text whole : List ℕ) → i < length words → word ≡ get_or words i []
+    → text ++ words_text (i == 0) (drop i words) ≡ whole → (text ++ word_text (i == 0) word) ++ words_text (i + 1 == 0) (drop (i + 1) words) ≡ whole
+word_more words i word text whole l is all =
+    let rest = drop (i + 1) words in
+    let next : words_text (i + 1 == 0) rest ≡ tabbed rest = ap (λ b. words_text b rest) (ne_eqb (i + 1) 0 (λ e. absurd (omega (arith, e)))) ∙ others rest in
+    let here : drop i words ≡ word ∷ rest = drop-cons words i [] l ∙ (ap (λ k. get_or words i [] ∷ drop k words) (sym (add-one i)) ∙ ap (λ w. w ∷ rest) (sym is)) in
+    append_assoc text (word_text (i == 0) word) (words_text (i + 1 == 0) rest)
+    ∙ (ap (λ t. text ++ (word_text (i == 0) word ++ t)) next ∙ (ap (λ ws. text ++ words_text (i == 0) ws) (sym here) ∙ all))
 
-second_word : (a b : List ℕ) → a ++ (tab ∷ b) ≡ a ++ tabbed (b ∷ [])
-second_word a b = ap (λ t. a ++ (tab ∷ t)) (sym (append-nil b))
-
--- words that were printed one behind the other are a line
-pub line_of-1 : (a : List ℕ) → a ++ end_text ≡ line_of (a ∷ [])
-line_of-1 a = refl
-
-pub line_of-2 : (a b : List ℕ) → (a ++ (tab ∷ b)) ++ end_text ≡ line_of (a ∷ b ∷ [])
-line_of-2 a b = ap (λ t. t ++ end_text) (second_word a b) ∙ append_assoc a (tabbed (b ∷ [])) end_text
-
-pub line_of-3 : (a b c : List ℕ) → ((a ++ (tab ∷ b)) ++ (tab ∷ c)) ++ end_text ≡ line_of (a ∷ b ∷ c ∷ [])
-line_of-3 a b c =
-    ap (λ t. (t ++ (tab ∷ c)) ++ end_text) (second_word a b) ∙ (ap (λ t. t ++ end_text) (word_more a (b ∷ []) c) ∙ append_assoc a (tabbed (b ∷ c ∷ [])) end_text)
-
-pub line_of-4 : (a b c d : List ℕ) → (((a ++ (tab ∷ b)) ++ (tab ∷ c)) ++ (tab ∷ d)) ++ end_text ≡ line_of (a ∷ b ∷ c ∷ d ∷ [])
-line_of-4 a b c d =
-    ap (λ t. ((t ++ (tab ∷ c)) ++ (tab ∷ d)) ++ end_text) (second_word a b)
-    ∙ (ap (λ t. (t ++ (tab ∷ d)) ++ end_text) (word_more a (b ∷ []) c)
-    ∙ (ap (λ t. t ++ end_text) (word_more a (b ∷ c ∷ []) d) ∙ append_assoc a (tabbed (b ∷ c ∷ d ∷ [])) end_text))
-
-pub line_of-5 : (a b c d e : List ℕ) → ((((a ++ (tab ∷ b)) ++ (tab ∷ c)) ++ (tab ∷ d)) ++ (tab ∷ e)) ++ end_text ≡ line_of (a ∷ b ∷ c ∷ d ∷ e ∷ [])
-line_of-5 a b c d e =
-    ap (λ t. (((t ++ (tab ∷ c)) ++ (tab ∷ d)) ++ (tab ∷ e)) ++ end_text) (second_word a b)
-    ∙ (ap (λ t. ((t ++ (tab ∷ d)) ++ (tab ∷ e)) ++ end_text) (word_more a (b ∷ []) c)
-    ∙ (ap (λ t. (t ++ (tab ∷ e)) ++ end_text) (word_more a (b ∷ c ∷ []) d)
-    ∙ (ap (λ t. t ++ end_text) (word_more a (b ∷ c ∷ d ∷ []) e) ∙ append_assoc a (tabbed (b ∷ c ∷ d ∷ e ∷ [])) end_text)))
+-- no word is left
+pub word_none : (words : List (List ℕ)) (i : ℕ) (text whole : List ℕ) → length words ≤ i → text ++ words_text (i == 0) (drop i words) ≡ whole → text ≡ whole
+word_none words i text whole l all = sym (append-nil text) ∙ (ap (λ ws. text ++ words_text (i == 0) ws) (sym (drop_of_length-le words l)) ∙ all)

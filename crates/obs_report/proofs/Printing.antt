@@ -3,7 +3,8 @@ use Rattle.std.proofs.Common.{ℕ, ◌≡◌, ◌∙◌, ◌+◌, ap, sym, refl,
 use Rattle.std.specs.Prelude.{IsOk, OnErr}
 use Rattle.obs_io.specs.Bytes.{Writes, Wrote, WrotePart, and_then}
 use Rattle.obs_io.specs.Causes.{Rose, HasCause}
-use Rattle.obs_report.specs.Printed.{Appends, FitsIn, HoldsSince, IsPrinted}
+use Rattle.obs_io.specs.declared.outside.Failed.{Failed}
+use Rattle.obs_report.specs.Printed.{AppendsAt, Buffered, FitsIn, HoldsSince, PrintsAt, empty_buffer}
 
 pub and_then_none : (a : Option (List ℕ)) → and_then a [] ≡ a
 and_then_none None = refl
@@ -43,7 +44,7 @@ held_passed a b d held x (Err e) front bytes none (sent, whole, wrote) writes =
     subst (λ t. WrotePart a d (t ++ bytes)) (sym is) (part_behind a b d sent bytes wrote writes)
 
 -- nothing is printed
-pub nothing_printed : {T E : Type 0} {a : Option (List ℕ)} {h : List ℕ} {f : ℕ} {p : ℕ → Type 0} (r : Result T E) → IsPrinted a a h h f f p p r r []
+pub nothing_printed : {T E : Type 0} {a : Option (List ℕ)} {h : List ℕ} {f : ℕ} {p : ℕ → Type 0} (r : Result T E) → PrintsAt a a h h f f p p r r []
 nothing_printed {T = T} {E = E} {a = a} {h = h} {f = f} {p = p} r = record {
   written = λ start front held. subst (HoldsSince start a h r) (sym (append-nil front)) held;
   later = omega arith;
@@ -58,7 +59,7 @@ nothing_printed {T = T} {E = E} {a = a} {h = h} {f = f} {p = p} r = record {
 
 -- one piece and then another
 pub then_printed : {T E : Type 0} {a b d : Option (List ℕ)} {h i j : List ℕ} {f k l : ℕ} {p q o : ℕ → Type 0} {r s t : Result T E} {one two : List ℕ}
-    → IsPrinted a b h i f k p q r s one → IsPrinted b d i j k l q o s t two → IsPrinted a d h j f l p o r t (one ++ two)
+    → PrintsAt a b h i f k p q r s one → PrintsAt b d i j k l q o s t two → PrintsAt a d h j f l p o r t (one ++ two)
 then_printed {T = T} {E = E} {a = a} {b = b} {d = d} {h = h} {i = i} {j = j} {f = f} {k = k} {l = l} {p = p} {q = q} {o = o} {r = r} {s = s} {t = t} {one = one} {two = two} u v = record {
   written = λ start front held. rw (← append_assoc front one two) (v.written start (front ++ one) (u.written start front held));
   later = omega (arith, u.later, v.later);
@@ -79,7 +80,7 @@ then_printed {T = T} {E = E} {a = a} {b = b} {d = d} {h = h} {i = i} {j = j} {f 
 
 -- what is held is sent, and nothing is printed behind it
 pub sent_printed : {T E : Type 0} (x : T) {a b : Option (List ℕ)} {held : List ℕ} {f k : ℕ} {p q : ℕ → Type 0} {r : Result T E}
-    → Writes a b r held → HasCause f k r → (IsOk r → k ≡ f) → FitsIn p q r held → IsPrinted {E = E} a b held [] f k p q (Ok x) r []
+    → Writes a b r held → HasCause f k r → (IsOk r → k ≡ f) → FitsIn p q r held → PrintsAt {E = E} a b held [] f k p q (Ok x) r []
 sent_printed {E = E} x {a = a} {b = b} {held = held} {p = p} {q = q} {r = r} writes cause quiet fits = record {
   written = λ start front h. subst (HoldsSince start b [] r) (sym (append-nil front)) (held_sent start a b held x r front h writes);
   later = cause.later;
@@ -92,7 +93,7 @@ sent_printed {E = E} x {a = a} {b = b} {held = held} {p = p} {q = q} {r = r} wri
 
 -- bytes are sent at once
 pub passed_printed : {T E : Type 0} (x : T) {a b : Option (List ℕ)} {held bytes : List ℕ} {f k : ℕ} {p q : ℕ → Type 0} {r : Result T E}
-    → held ≡ [] → Writes a b r bytes → HasCause f k r → (IsOk r → k ≡ f) → FitsIn p q r bytes → IsPrinted {E = E} a b held held f k p q (Ok x) r bytes
+    → held ≡ [] → Writes a b r bytes → HasCause f k r → (IsOk r → k ≡ f) → FitsIn p q r bytes → PrintsAt {E = E} a b held held f k p q (Ok x) r bytes
 passed_printed {E = E} x {a = a} {b = b} {held = held} {bytes = bytes} {p = p} {q = q} {r = r} none writes cause quiet fits = record {
   written = λ start front h. held_passed start a b held x r front bytes none h writes;
   later = cause.later;
@@ -105,38 +106,39 @@ passed_printed {E = E} x {a = a} {b = b} {held = held} {bytes = bytes} {p = p} {
 
 -- a piece behind pieces
 pub then_line : {T E : Type 0} {a b d : Option (List ℕ)} {h i j : List ℕ} {f k l : ℕ} {p q o : ℕ → Type 0} {r s t : Result T E} {one two text : List ℕ}
-    → IsPrinted a b h i f k p q r s one → IsPrinted b d i j k l q o s t two → one ++ two ≡ text → IsPrinted a d h j f l p o r t text
-then_line {a = a} {d = d} {h = h} {j = j} {f = f} {l = l} {p = p} {o = o} {r = r} {t = t} u v same = subst (λ text. IsPrinted a d h j f l p o r t text) same (then_printed u v)
+    → PrintsAt a b h i f k p q r s one → PrintsAt b d i j k l q o s t two → one ++ two ≡ text → PrintsAt a d h j f l p o r t text
+then_line {a = a} {d = d} {h = h} {j = j} {f = f} {l = l} {p = p} {o = o} {r = r} {t = t} u v same = subst (λ text. PrintsAt a d h j f l p o r t text) same (then_printed u v)
 
 -- the whole text, from a start at which nothing was held to an end at which nothing is
-pub writes_whole : {T E : Type 0} (x : T) {a b : Option (List ℕ)} {f k : ℕ} {p q : ℕ → Type 0} {r : Result T E} {text : List ℕ} → IsPrinted {E = E} a b [] [] f k p q (Ok x) r text → Writes a b r text
+pub writes_whole : {T E : Type 0} (x : T) {a b : Option (List ℕ)} {f k : ℕ} {p q : ℕ → Type 0} {r : Result T E} {text : List ℕ} → PrintsAt {E = E} a b [] [] f k p q (Ok x) r text → Writes a b r text
 writes_whole {T = T} {E = E} x {a = a} {b = b} {r = r} {text = text} u = by r (u.written a [] ([], refl, sym (and_then_none a)))
   where
     by : (s : Result T E) → HoldsSince a b [] s ([] ++ text) → Writes a b s text
     by (Ok y) (sent, whole, wrote) = subst (λ t. Wrote a b t) (sym (append-nil sent) ∙ sym whole) wrote
     by (Err e) part = part
 
-pub cause_whole : {T E : Type 0} (x : T) {a b : Option (List ℕ)} {f k : ℕ} {p q : ℕ → Type 0} {r : Result T E} {text : List ℕ} → IsPrinted {E = E} a b [] [] f k p q (Ok x) r text → HasCause f k r
+pub cause_whole : {T E : Type 0} (x : T) {a b : Option (List ℕ)} {f k : ℕ} {p q : ℕ → Type 0} {r : Result T E} {text : List ℕ} → PrintsAt {E = E} a b [] [] f k p q (Ok x) r text → HasCause f k r
 cause_whole x u = record { later = u.later; failed = u.cause refl }
 
-pub quiet_whole : {T E : Type 0} (x : T) {a b : Option (List ℕ)} {f k : ℕ} {p q : ℕ → Type 0} {r : Result T E} {text : List ℕ} → IsPrinted {E = E} a b [] [] f k p q (Ok x) r text → IsOk r → k ≡ f
+pub quiet_whole : {T E : Type 0} (x : T) {a b : Option (List ℕ)} {f k : ℕ} {p q : ℕ → Type 0} {r : Result T E} {text : List ℕ} → PrintsAt {E = E} a b [] [] f k p q (Ok x) r text → IsOk r → k ≡ f
 quiet_whole x u ok = (u.quiet ok).1
 
-pub fits_whole : {T E : Type 0} (x : T) {a b : Option (List ℕ)} {f k : ℕ} {p q : ℕ → Type 0} {r : Result T E} {text : List ℕ} → IsPrinted {E = E} a b [] [] f k p q (Ok x) r text → FitsIn p q r text
+pub fits_whole : {T E : Type 0} (x : T) {a b : Option (List ℕ)} {f k : ℕ} {p q : ℕ → Type 0} {r : Result T E} {text : List ℕ} → PrintsAt {E = E} a b [] [] f k p q (Ok x) r text → FitsIn p q r text
 fits_whole x {p = p} {q = q} {text = text} u = λ rest has.
     let found = u.room refl rest (subst p (omega arith) has) in
     (found.0, subst q (omega arith) found.1)
 
 -- a call of its own, that began with nothing held and ended with all sent
-pub finished : {T E : Type 0} (x : T) {a b d : Option (List ℕ)} {h i : List ℕ} {f k l : ℕ} {p q o : ℕ → Type 0} {s t : Result T E} {text : List ℕ}
-    → h ≡ [] → IsPrinted {E = E} a b h i f k p q (Ok x) s text → IsPrinted b d i [] k l q o s t [] → Appends a d f l p o t text
-finished x {text = text} none u v =
-    let whole = then_line (rw none at u) v (append-nil text) in
-    record { writes = writes_whole x whole; cause = cause_whole x whole; quiet = quiet_whole x whole; fits = fits_whole x whole }
+pub finished : {a b d : Option (List ℕ)} {x y : Buffered} {f k l : ℕ} {p q o : ℕ → Type 0} {t : Result (Unit {0}) Failed} {text : List ℕ}
+    → x ≡ empty_buffer → PrintsAt a b x.held y.held f k p q x.outcome y.outcome text → PrintsAt b d y.held [] k l q o y.outcome t [] → AppendsAt a d f l p o t text
+finished {a = a} {b = b} {y = y} {f = f} {k = k} {p = p} {q = q} {text = text} fresh u v =
+    let one = subst (λ (x : Buffered). PrintsAt a b x.held y.held f k p q x.outcome y.outcome text) fresh u in
+    let whole = then_line one v (append-nil text) in
+    record { writes = writes_whole tt whole; cause = cause_whole tt whole; quiet = quiet_whole tt whole; fits = fits_whole tt whole }
 
 -- one call and then another
 pub then_call : {T E : Type 0} {x : T} {a b d : Option (List ℕ)} {f k l : ℕ} {p q o : ℕ → Type 0} {r : Result T E} {one two : List ℕ}
-    → Appends {E = E} a b f k p q (Ok x) one → Appends b d k l q o r two → Appends a d f l p o r (one ++ two)
+    → AppendsAt {E = E} a b f k p q (Ok x) one → AppendsAt b d k l q o r two → AppendsAt a d f l p o r (one ++ two)
 then_call {T = T} {E = E} {x = x} {a = a} {b = b} {d = d} {f = f} {k = k} {l = l} {p = p} {q = q} {o = o} {r = r} {one = one} {two = two} u v = record {
   writes = by r v.writes;
   cause = record { later = omega (arith, u.cause.later, v.cause.later); failed = causes r v.cause };
@@ -156,7 +158,7 @@ then_call {T = T} {E = E} {x = x} {a = a} {b = b} {d = d} {f = f} {k = k} {l = l
 
 -- a call that failed has a front of a longer text too
 pub failed_call : {T E : Type 0} {e : E} {a b : Option (List ℕ)} {f k : ℕ} {p q : ℕ → Type 0} {one : List ℕ} (two : List ℕ)
-    → Appends {T = T} a b f k p q (Err e) one → Appends {T = T} a b f k p q (Err e) (one ++ two)
+    → AppendsAt {T = T} a b f k p q (Err e) one → AppendsAt {T = T} a b f k p q (Err e) (one ++ two)
 failed_call {T = T} {E = E} {e = e} {a = a} {b = b} {p = p} {one = one} two u = record {
   writes = part_longer a b one two u.writes;
   cause = u.cause;
@@ -166,3 +168,13 @@ failed_call {T = T} {E = E} {e = e} {a = a} {b = b} {p = p} {one = one} two u = 
   where
     no : IsOk {T = T} {E = E} (Err e) → ⊥
     no ok = absurd cc
+
+-- a piece behind a failure
+pub failed_printed : {T U E F : Type 0} {e : E} {d : F} {a : Option (List ℕ)} {f : ℕ} {p : ℕ → Type 0} (held later text : List ℕ) → PrintsAt {T = T} {U = U} a a held later f f p p (Err e) (Err d) text
+failed_printed {a = a} held later text = record {
+  written = λ start front h. part_longer start a front text h;
+  later = omega arith;
+  cause = λ ok. absurd (cc ok);
+  quiet = λ ok. absurd (cc ok);
+  room = λ ok. absurd (cc ok);
+}

@@ -1,6 +1,7 @@
 pub mod Lines
 pub mod Nodes
 pub mod Counts
+pub mod Items
 pub mod Meters
 pub mod Trees
 pub mod Islands

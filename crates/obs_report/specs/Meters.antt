@@ -1,10 +1,11 @@
 -- The lines that name meters and components: bounds and critical meters.
-use Rattle.std.specs.Prelude.{ℕ, List, [], ◌∷◌, ◌++◌, codes, decimal, slice_index, slice_index_or}
+use Rattle.std.specs.Prelude.{ℕ, List, [], ◌∷◌, ◌++◌, codes, decimal, slice_index}
 use Rattle.std.specs.List.{flat_map}
-use Rattle.obs_case.specs.Tables.{Tables, meter_names}
+use Rattle.obs_case.specs.Tables.{Tables}
 use Rattle.obs_switch.specs.Buses.{members_of}
 use Rattle.obs_network.specs.Network.{case_first_buses}
 use Rattle.obs_network.specs.Switched.{case_buses}
+use Rattle.obs_report.specs.Items.{inside_line, meter_name}
 use Rattle.obs_report.specs.Lines.{line_of}
 use Rattle.obs_report.specs.Nodes.{node_name}
 
@@ -15,14 +16,6 @@ bus_name t bus = node_name t (slice_index (members_of (case_buses t) bus) 0)
 -- the name of a component: that of its first bus
 abbrev pub component_name : Tables → ℕ → List ℕ
 component_name t c = bus_name t (slice_index (case_first_buses t) c)
-
--- the name of the meter at a position
-abbrev pub meter_name : Tables → ℕ → List ℕ
-meter_name t m = slice_index_or (meter_names t) m []
-
--- a meter that is inside a list
-abbrev pub inside_line : Tables → ℕ → List ℕ
-inside_line t m = line_of (codes "inside" ∷ codes "meter" ∷ meter_name t m ∷ [])
 
 -- the line of a bound: the name of a component, and two numbers
 abbrev pub bound_line : List ℕ → ℕ → ℕ → List ℕ

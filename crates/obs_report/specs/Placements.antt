@@ -1,40 +1,12 @@
--- The lines of placements: plans with their layers, and shortfalls. Items are the meters of a case and then its candidates.
-use Rattle.std.specs.Prelude.{ℕ, ◌+◌, ◌-◌, ◌<◌, ◌≤◌, All, Bool, List, [], ◌∷◌, ◌++◌, codes, decimal, drop, if◌then◌else◌, length, nat_lt, slice_index_or, take}
+-- The lines of placements: plans with their layers, and shortfalls.
+use Rattle.std.specs.Prelude.{ℕ, ◌-◌, ◌<◌, ◌≤◌, All, List, [], ◌∷◌, ◌++◌, codes, decimal, drop, length, take}
 use Rattle.std.specs.List.{flat_map}
-use Rattle.obs_case.specs.Tables.{Tables, candidate_names}
+use Rattle.obs_case.specs.Tables.{Tables}
 use Rattle.obs_matroid.specs.Assignments.{Pair}
 use Rattle.obs_placement.specs.declared.plans.Layer.{Layer}
 use Rattle.obs_placement.specs.Placed.{Lacking, Placed, Planned, cheapest, shortfall}
+use Rattle.obs_report.specs.Items.{candidate_name, inside_line, item_count, pair_line}
 use Rattle.obs_report.specs.Lines.{line_of}
-use Rattle.obs_report.specs.Meters.{meter_name}
-use Rattle.obs_report.specs.Trees.{branch_name}
-
--- how many items a case has
-abbrev pub item_count : Tables → ℕ
-item_count t = length t.meters + length t.candidates
-
--- whether an item is a meter
-abbrev pub is_meter : Tables → ℕ → Bool
-is_meter t m = nat_lt m (length t.meters)
-
--- the name of the candidate at a position
-abbrev pub candidate_name : Tables → ℕ → List ℕ
-candidate_name t k = slice_index_or (candidate_names t) k []
-
--- what an item is, and its name
-abbrev pub item_sort : Tables → ℕ → List ℕ
-item_sort t m = if is_meter t m then codes "meter" else codes "candidate"
-
-abbrev pub item_name : Tables → ℕ → List ℕ
-item_name t m = if is_meter t m then meter_name t m else candidate_name t (m - length t.meters)
-
--- an item that is inside a list
-abbrev pub listed_line : Tables → ℕ → List ℕ
-listed_line t m = line_of (codes "inside" ∷ item_sort t m ∷ item_name t m ∷ [])
-
--- an item and the branch that it is given
-abbrev pub given_line : Tables → Pair → List ℕ
-given_line t p = line_of (codes "pair" ∷ item_sort t p.0 ∷ item_name t p.0 ∷ branch_name t p.1 ∷ [])
 
 -- what a plan costs, and a candidate that it chooses
 abbrev pub cost_line : ℕ → List ℕ
@@ -53,7 +25,7 @@ shortfall_line rank outside = line_of (codes "shortfall" ∷ decimal rank ∷ de
 
 -- the listed items from one place up to another
 abbrev pub listed_between : Tables → List ℕ → ℕ → ℕ → List ℕ
-listed_between t inside from to = flat_map (listed_line t) (take (to - from) (drop from inside))
+listed_between t inside from to = flat_map (inside_line t) (take (to - from) (drop from inside))
 
 -- each layer's line and those of the items that it adds, where u items are listed before the first
 abbrev pub layers_text : Tables → List ℕ → ℕ → List Layer → List ℕ
@@ -63,11 +35,11 @@ layers_text t inside u (l ∷ ls) = (layer_line l ++ listed_between t inside u l
 -- a plan, with the pairs of meters and candidates
 abbrev pub plan_text : Tables → Planned → List Pair → List ℕ
 plan_text t p pairs =
-    ((cost_line p.cost ++ flat_map (chosen_line t) p.chosen) ++ flat_map (given_line t) pairs) ++ layers_text t p.inside 0 p.layers
+    ((cost_line p.cost ++ flat_map (chosen_line t) p.chosen) ++ flat_map (pair_line t) pairs) ++ layers_text t p.inside 0 p.layers
 
 -- a shortfall, with the items that its bound lists
 abbrev pub shortfall_text : Tables → Lacking → List ℕ
-shortfall_text t b = shortfall_line b.rank b.outside ++ flat_map (listed_line t) b.inside
+shortfall_text t b = shortfall_line b.rank b.outside ++ flat_map (inside_line t) b.inside
 
 -- a placement; a shortfall has no pairs
 abbrev pub placement_text : Tables → Placed → List Pair → List ℕ

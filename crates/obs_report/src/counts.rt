@@ -3,10 +3,10 @@ ghost use Rattle.std.specs.Prelude.{◌≡◌, length};
 ghost use Rattle.obs_graph.specs.Positions.{present};
 ghost use Rattle.obs_meter.specs.Touches.{AreInRange, live_items};
 ghost use Rattle.obs_report.specs.Counts.{counts_text, energised_buses, verdict_line, verdict_word};
-ghost use Rattle.obs_report.specs.Printed.{Appends, IsPrinted};
+ghost use Rattle.obs_report.specs.Printed.{Appends, Prints};
 
-use crate::gathered::Gathered;
-use crate::lines::count_in;
+use crate::line_buffer::LineBuffer;
+use crate::lines::print_count_line;
 use obs_graph::Graph;
 use obs_io::{Failed, Sink};
 use obs_meter::Meters;
@@ -53,24 +53,8 @@ fn count_live(graph: &Graph, meters: &Meters) -> u32
     live
 }
 
-// Prints the verdict.
-fn print_verdict<W: Sink>(
-    gathered: &mut Gathered,
-    output: &mut W,
-    so_far: Result<(), Failed>,
-    rank: u32,
-    needed: u32,
-) -> Result<(), Failed>
-    ensures printed { IsPrinted (W.written output.old) (W.written output.new) gathered.old gathered.new
-        (W.faults output.old) (W.faults output.new) (W.has_room output.old) (W.has_room output.new) so_far result (verdict_line rank needed) }
-{
-    let begun = gathered.print(output, so_far, b"verdict");
-    let judged = gathered.tabbed(output, begun, verdict_of(rank, needed));
-    gathered.end(output, judged)
-}
-
 // The word of the verdict.
-fn verdict_of(rank: u32, needed: u32) -> &'static [u8]
+fn verdict_word(rank: u32, needed: u32) -> &'static [u8]
     ensures verdict { result.now ≡ verdict_word rank needed }
 {
     if rank == needed {
@@ -80,31 +64,33 @@ fn verdict_of(rank: u32, needed: u32) -> &'static [u8]
     }
 }
 
+// Prints the verdict.
+fn print_verdict<W: Sink>(lines: &mut LineBuffer, output: &mut W, rank: u32, needed: u32)
+    ensures printed { Prints W.written W.faults W.has_room output.old output.new lines.old lines.new
+        (verdict_line rank needed) }
+{
+    lines.line(output, &[b"verdict", verdict_word(rank, needed)]);
+}
+
 /// Appends the counts of the network's buses, energised buses, live branches, live meters and needed pairs, this rank, and
 /// the verdict on it.
 pub fn print_counts<W: Sink>(output: &mut W, network: &Network, rank: u32) -> Result<(), Failed>
-    ensures appends { Appends (W.written output.old) (W.written output.new) (W.faults output.old) (W.faults output.new)
-        (W.has_room output.old) (W.has_room output.new) result (counts_text network.now rank) }
+    ensures appends { Appends W.written W.faults W.has_room output.old output.new result
+        (counts_text network.now rank) }
 {
     let graph = network.graph();
     let buses = network.buses().count();
-    let fed = count_energised(network);
+    let energised = count_energised(network);
     let branches = count_branches(graph);
-    let live = count_live(graph, network.meters());
+    let meters = count_live(graph, network.meters());
     let needed = network.needed();
-    let mut gathered = Gathered::new();
-    let bused = count_in(&mut gathered, output, Ok(()), b"buses", buses as u64);
-    let energised = count_in(&mut gathered, output, bused, b"energised", fed as u64);
-    let branched = count_in(
-        &mut gathered,
-        output,
-        energised,
-        b"branches",
-        branches as u64,
-    );
-    let metered = count_in(&mut gathered, output, branched, b"meters", live as u64);
-    let wanted = count_in(&mut gathered, output, metered, b"needed", needed as u64);
-    let ranked = count_in(&mut gathered, output, wanted, b"rank", rank as u64);
-    let judged = print_verdict(&mut gathered, output, ranked, rank, needed);
-    gathered.finish(output, judged)
+    let mut lines = LineBuffer::new();
+    print_count_line(&mut lines, output, b"buses", buses as u64);
+    print_count_line(&mut lines, output, b"energised", energised as u64);
+    print_count_line(&mut lines, output, b"branches", branches as u64);
+    print_count_line(&mut lines, output, b"meters", meters as u64);
+    print_count_line(&mut lines, output, b"needed", needed as u64);
+    print_count_line(&mut lines, output, b"rank", rank as u64);
+    print_verdict(&mut lines, output, rank, needed);
+    lines.finish(output)
 }

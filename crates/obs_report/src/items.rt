@@ -1,21 +1,18 @@
-// What items are: meters and then candidates.
-ghost use Rattle.std.specs.Prelude.{◌≡◌, ◌+◌, ◌<◌, length};
-ghost use Rattle.obs_report.specs.Placements.{candidate_name, item_count, item_name, item_sort};
+// The lines on items: meters and then candidates.
+ghost use Rattle.std.specs.Prelude.{◌≡◌, ◌+◌, ◌<◌, All, IfSome, [], ◌∷◌, length};
+ghost use Rattle.std.specs.List.{flat_map};
+ghost use Rattle.obs_matroid.specs.Slots.{pairs_from};
+ghost use Rattle.obs_report.specs.Items.{inside_line, item_count, item_name, item_word, pair_line};
+ghost use Rattle.obs_report.specs.Printed.{Prints};
 
-use crate::names::meter_at;
-use obs_case::{Candidate, Case};
+use crate::line_buffer::LineBuffer;
+use crate::names::{branch_name, candidate_name, meter_name};
+use obs_case::Case;
+use obs_io::Sink;
 
-/// The name of the candidate at a position.
-pub(crate) fn candidate_at(case: &Case, k: u32) -> &[u8]
-    requires candidate { k < length case.now.candidates }
-    ensures name { result.now ≡ candidate_name case.now k }
-{
-    case.candidates()[k as usize].name.bytes()
-}
-
-/// What an item is.
-pub(crate) fn sort_of(case: &Case, m: u32) -> &'static [u8]
-    ensures sort { result.now ≡ item_sort case.now m }
+// The word of an item.
+fn item_word(case: &Case, m: u32) -> &[u8]
+    ensures word { result.now ≡ item_word case.now m }
 {
     if (m as usize) < case.meters().len() {
         b"meter"
@@ -24,15 +21,74 @@ pub(crate) fn sort_of(case: &Case, m: u32) -> &'static [u8]
     }
 }
 
-/// The name of an item.
-pub(crate) fn item_at(case: &Case, m: u32) -> &[u8]
+// The name of an item.
+fn item_name(case: &Case, m: u32) -> &[u8]
     requires item { m < item_count case.now }
     ensures name { result.now ≡ item_name case.now m }
 {
     let meters = case.meters().len();
     if (m as usize) < meters {
-        meter_at(case, m)
+        meter_name(case, m)
     } else {
-        candidate_at(case, m - meters as u32)
+        candidate_name(case, m - meters as u32)
+    }
+}
+
+// Prints the line of an item that is inside a list.
+fn print_inside<W: Sink>(lines: &mut LineBuffer, output: &mut W, case: &Case, m: u32)
+    requires item { m < item_count case.now }
+    ensures printed { Prints W.written W.faults W.has_room output.old output.new lines.old lines.new
+        (inside_line case.now m) }
+{
+    lines.line(output, &[b"inside", item_word(case, m), item_name(case, m)]);
+}
+
+/// Prints a line for each item that is inside a list.
+pub(crate) fn print_list<W: Sink>(
+    lines: &mut LineBuffer,
+    output: &mut W,
+    case: &Case,
+    inside: &[u32],
+)
+    requires inside { All (λ m. m < item_count case.now) inside.now }
+    ensures printed { Prints W.written W.faults W.has_room output.old output.new lines.old lines.new
+        (flat_map (inside_line case.now) inside.now) }
+{
+    for m in inside {
+        print_inside(lines, output, case, *m);
+    }
+}
+
+// Prints the line of an item and its branch.
+fn print_pair_line<W: Sink>(lines: &mut LineBuffer, output: &mut W, case: &Case, m: u32, e: u32)
+    requires item { m < item_count case.now }
+    requires branch { e < length case.now.branches }
+    ensures printed { Prints W.written W.faults W.has_room output.old output.new lines.old lines.new
+        (pair_line case.now (m, e)) }
+{
+    let words: [&[u8]; 4] = [
+        b"pair",
+        item_word(case, m),
+        item_name(case, m),
+        branch_name(case, e),
+    ];
+    lines.line(output, &words);
+}
+
+/// Prints the line of an item and its branch, where it has one.
+pub(crate) fn print_pair<W: Sink>(
+    lines: &mut LineBuffer,
+    output: &mut W,
+    case: &Case,
+    m: u32,
+    branch: Option<u32>,
+)
+    requires item { m < item_count case.now }
+    requires branch { IfSome branch (λ e. e < length case.now.branches) }
+    ensures printed { Prints W.written W.faults W.has_room output.old output.new lines.old lines.new
+        (flat_map (pair_line case.now) (pairs_from m (branch ∷ []))) }
+{
+    if let Some(e) = branch {
+        print_pair_line(lines, output, case, m, e);
     }
 }

@@ -2,9 +2,9 @@
 #![tactic(auto)]
 
 mod counts;
-mod gathered;
 mod islands;
 mod items;
+mod line_buffer;
 mod lines;
 mod meters;
 mod names;

@@ -1,15 +1,15 @@
 // The names of rows, buses and components.
-ghost use Rattle.std.specs.Prelude.{◌≡◌, ◌<◌, length, slice_index, slice_index_or};
+ghost use Rattle.std.specs.Prelude.{◌≡◌, ◌<◌, length, slice_index};
 ghost use Rattle.obs_network.specs.Network.{network_of};
-ghost use Rattle.obs_report.specs.Meters.{bus_name, component_name, meter_name};
+ghost use Rattle.obs_report.specs.Items.{branch_name, candidate_name, meter_name};
+ghost use Rattle.obs_report.specs.Meters.{bus_name, component_name};
 ghost use Rattle.obs_report.specs.Nodes.{node_name};
-ghost use Rattle.obs_report.specs.Trees.{branch_name};
 
-use obs_case::{Branch, Case, Meter, Node};
+use obs_case::{Branch, Candidate, Case, Meter, Node};
 use obs_network::Network;
 
 /// The name of the node at a position.
-pub(crate) fn name_at(case: &Case, node: u32) -> &[u8]
+pub(crate) fn node_name(case: &Case, node: u32) -> &[u8]
     requires node { node < length case.now.nodes }
     ensures name { result.now ≡ node_name case.now node }
 {
@@ -17,7 +17,7 @@ pub(crate) fn name_at(case: &Case, node: u32) -> &[u8]
 }
 
 /// The name of the branch at a position.
-pub(crate) fn branch_at(case: &Case, e: u32) -> &[u8]
+pub(crate) fn branch_name(case: &Case, e: u32) -> &[u8]
     requires branch { e < length case.now.branches }
     ensures name { result.now ≡ branch_name case.now e }
 {
@@ -25,11 +25,19 @@ pub(crate) fn branch_at(case: &Case, e: u32) -> &[u8]
 }
 
 /// The name of the meter at a position.
-pub(crate) fn meter_at(case: &Case, m: u32) -> &[u8]
+pub(crate) fn meter_name(case: &Case, m: u32) -> &[u8]
     requires meter { m < length case.now.meters }
     ensures name { result.now ≡ meter_name case.now m }
 {
     case.meters()[m as usize].name.bytes()
+}
+
+/// The name of the candidate at a position.
+pub(crate) fn candidate_name(case: &Case, k: u32) -> &[u8]
+    requires candidate { k < length case.now.candidates }
+    ensures name { result.now ≡ candidate_name case.now k }
+{
+    case.candidates()[k as usize].name.bytes()
 }
 
 /// The first of some nodes.
@@ -41,19 +49,19 @@ pub(crate) fn first_of(members: &[u32]) -> u32
 }
 
 /// The name of a bus.
-pub(crate) fn bus_at<'a>(case: &'a Case, network: &Network, bus: u32) -> &'a [u8]
+pub(crate) fn bus_name<'a>(case: &'a Case, network: &Network, bus: u32) -> &'a [u8]
     requires network { network.now ≡ network_of case.now }
     requires bus { bus < network.now.buses.count }
     ensures name { result.now ≡ bus_name case.now bus }
 {
-    name_at(case, first_of(network.buses().members(bus)))
+    node_name(case, first_of(network.buses().members(bus)))
 }
 
 /// The name of a component.
-pub(crate) fn component_at<'a>(case: &'a Case, network: &Network, c: u32) -> &'a [u8]
+pub(crate) fn component_name<'a>(case: &'a Case, network: &Network, c: u32) -> &'a [u8]
     requires network { network.now ≡ network_of case.now }
     requires component { c < length network.now.components.first_buses }
     ensures name { result.now ≡ component_name case.now c }
 {
-    bus_at(case, network, network.first_bus(c))
+    bus_name(case, network, network.first_bus(c))
 }

@@ -1,7 +1,25 @@
-use Rattle.std.proofs.Common.{◌∙◌, arith}
+use Rattle.std.proofs.Common.{◌∙◌, ap, filter, length, List, ℕ, arith}
+use Rattle.std.specs.Prelude.{is_some}
+use Rattle.obs_assign.specs.Assigned.{branch_at}
+use Rattle.obs_network.specs.Located.{live_meters_of}
+use Rattle.obs_network.specs.Network.{NetworkOf}
+use Rattle.obs_edit.proofs.Answered.{count_of_pairs, few_in_component}
 use Rattle.obs_edit.proofs.Enough.{enough_observable}
-use Rattle.obs_edit.proofs.OfNetwork.{count_of, need_from}
+use Rattle.obs_edit.proofs.OfNetwork.{count_of, few_meters, length-case_meters, need_from}
 use Rattle.obs_edit.proofs.counted.has_enough.Goals as goal
+
+pub live_meters-requires : goal.live_meters-requires
+live_meters-requires c = record {
+  component = let low = c.requires.component in let n = count_of c.args.network.now c.args.case.now c.requires.network in omega (arith, low, n);
+}
+
+pub count_paired-requires-clause-few : goal.count_paired-requires-clause-few
+count_paired-requires-clause-few c =
+    let e = ap (λ (xs : List ℕ). length xs) (c.live_meters.ensures.meters ∙ ap (λ (n : NetworkOf). live_meters_of n c.args.c) c.requires.network) in
+    let f = few_in_component c.args.case.now c.args.c in
+    let m = few_meters c.args.case.now c.nodes-nodes.ensures.valid in
+    let l = length-case_meters c.args.case.now in
+    omega (arith, e, f, m, l)
 
 pub need-requires : goal.need-requires
 need-requires c = record {
@@ -9,8 +27,13 @@ need-requires c = record {
 }
 
 pub returns : goal.returns
-returns c = record {
-  observable =
-      enough_observable c.args.case.now c.nodes-nodes.ensures.valid c.args.a.now c.requires.longest c.args.c c.count_in.result c.need.result c.requires.component c.count_in.ensures.count
-      (c.need.ensures.need ∙ need_from c.args.network.now c.args.case.now c.args.c c.requires.network);
-}
+returns c =
+    let t = c.args.case.now in
+    let same = c.live_meters.ensures.meters ∙ ap (λ (n : NetworkOf). live_meters_of n c.args.c) c.requires.network in
+    let count = count_of_pairs t c.nodes-nodes.ensures.valid c.args.a.now c.requires.longest c.args.c c.count_paired.result
+    (c.count_paired.ensures.count ∙ ap (λ (xs : List ℕ). length (filter (λ m. is_some (branch_at c.args.a.now m)) xs)) same) in
+    record {
+      observable =
+          enough_observable t c.nodes-nodes.ensures.valid c.args.a.now c.requires.longest c.args.c c.count_paired.result c.need.result c.requires.component count
+          (c.need.ensures.need ∙ need_from c.args.network.now t c.args.c c.requires.network);
+    }

@@ -1,4 +1,4 @@
-use Rattle.std.proofs.Common.{◌≡◌, ◌<◌, ◌≤◌, ◌∙◌, ◌++◌, [], ◌∷◌, ap, refl, arith}
+use Rattle.std.proofs.Common.{◌≡◌, ◌<◌, ◌≤◌, ◌∙◌, ◌++◌, [], ◌∷◌, ap, arith}
 use Rattle.std.specs.Prelude.{slice_index}
 use Rattle.obs_switch.specs.Held.{Labelled}
 use Rattle.obs_network.specs.Network.{NetworkOf}
@@ -21,7 +21,7 @@ loop-bus-preserved g c =
     let islands = c.args.islands.now in
     let low : c.loop-bus.bus < case_bus_count t = omega (arith, c.loop-bus-test.true, counted g (goal.at.loop-bus-preserved g c).After-count-bus-end) in (
       inv.0 ++ island_lines t islands (c.loop-bus.bus ∷ []),
-      then_printed inv.1 c.print_bus-printed.ensures.printed,
+      then_printed inv.1 c.print_bus.ensures.printed,
       row_more (λ bus. island_line t (slice_index islands bus) bus) (is_fed_bus t) c.loop-bus.bus (case_bus_count t) inv.0 (islands_text t islands) low inv.2,
     )
 
@@ -32,4 +32,4 @@ returns g c =
     let islands = c.args.islands.now in
     let past : case_bus_count t ≤ c.loop-bus.bus = omega (arith, c.loop-bus-test.false, counted g (goal.at.returns g c).After-count-bus-end) in
     let done = row_all (λ bus. island_line t (slice_index islands bus) bus) (is_fed_bus t) c.loop-bus.bus (case_bus_count t) inv.0 (islands_text t islands) past inv.2 in
-    record { appends = finished (tt {0}) refl (rw done at inv.1) c.finish.ensures.printed }
+    record { appends = finished c.new-lines.ensures.empty (rw done at inv.1) c.finish.ensures.printed }

@@ -1,4 +1,4 @@
-use Rattle.std.proofs.Common.{ℕ, ◌≡◌, ◌∙◌, ◌++◌, ◌-◌, ◌+◌, ◌<◌, ◌≤◌, refl, suc, List, length, sym, ap, append_assoc, append-nil, arith}
+use Rattle.std.proofs.Common.{ℕ, ◌≡◌, ◌∙◌, ◌++◌, ◌-◌, ◌+◌, ◌<◌, ◌≤◌, suc, List, length, sym, ap, append_assoc, append-nil, arith}
 use Rattle.std.specs.List.{flat_map, range_with_len}
 use Rattle.obs_report.specs.Nodes.{node_line, node_lines}
 use Rattle.obs_report.proofs.Printing.{then_printed, finished}
@@ -17,7 +17,7 @@ loop-node-preserved g c =
     let line = node_line t c.loop-node.node in
     let rest = flat_map (node_line t) (range_with_len (c.loop-node.node + 1) (length t.nodes - (c.loop-node.node + 1))) in (
       inv.0 ++ line,
-      then_printed inv.1 c.print_node-printed.ensures.printed,
+      then_printed inv.1 c.print_node.ensures.printed,
       append_assoc inv.0 line rest ∙ (ap (λ t. inv.0 ++ t) (sym (range_more c.loop-node.node (length t.nodes) (omega (arith, ap length c.nodes-node-end.ensures.rows)) (node_line t))) ∙ inv.2),
     )
 
@@ -33,4 +33,4 @@ returns g c =
     let t = c.args.case.now in
     let inv = c.loop-node.invariant in
     let done = all_lines inv.0 (node_line t) (node_lines t) c.loop-node.node (length t.nodes) (omega (arith, ap length c.nodes-node-end.ensures.rows)) inv.2 in
-    record { appends = finished (tt {0}) refl (rw done at inv.1) c.finish.ensures.printed }
+    record { appends = finished c.new-lines.ensures.empty (rw done at inv.1) c.finish.ensures.printed }

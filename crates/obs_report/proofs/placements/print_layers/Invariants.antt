@@ -1,10 +1,9 @@
 use Rattle.std.proofs.Common.{ℕ, List}
-use Rattle.obs_io.specs.declared.outside.Failed.{Failed}
-use Rattle.obs_report.specs.Printed.{IsPrinted}
+use Rattle.obs_report.specs.Printed.{Prints}
 use Rattle.obs_report.proofs.Slotted.{AreLeft}
 use Rattle.obs_report.proofs.placements.print_layers.Given as goal
 
 abbrev pub invariant-loop-k : goal.invariant-loop-k
 invariant-loop-k g l = (text : List ℕ)
-    × IsPrinted {T = Unit {0}} {U = Unit {0}} {E = Failed} {F = Failed} (g.W.Sink.written l.fn.output) (g.W.Sink.written l.output) l.fn.gathered l.gathered (g.W.Sink.faults l.fn.output) (g.W.Sink.faults l.output) (g.W.Sink.has_room l.fn.output) (g.W.Sink.has_room l.output) l.fn.so_far l.printed text
+    × Prints g.W.Sink.written g.W.Sink.faults g.W.Sink.has_room l.initial.output l.output l.initial.lines l.lines text
     × AreLeft l.case l.inside l.layers l.k l.upto text

@@ -2,31 +2,32 @@ use Rattle.std.proofs.Common.{◌<◌, ◌≤◌, ◌++◌, [], ◌∷◌, None,
 use Rattle.std.specs.List.{flat_map}
 use Rattle.obs_matroid.specs.Slots.{pairs_from, pairs_of}
 use Rattle.obs_network.specs.Network.{case_offered}
-use Rattle.obs_report.specs.Placements.{given_line}
-use Rattle.obs_report.proofs.OfPairs.{held_low, length-case_offered}
+use Rattle.obs_network.proofs.OfCase.{length-case_offered}
+use Rattle.obs_report.specs.Items.{pair_line}
+use Rattle.obs_report.proofs.OfPairs.{held_low}
 use Rattle.obs_report.proofs.Printing.{nothing_printed, then_printed}
 use Rattle.obs_report.proofs.Slotted.{slot_more, slot_none}
 use Rattle.obs_report.proofs.placements.print_pairs.Goals as goal
 
 pub loop-m-init : goal.loop-m-init
-loop-m-init g c = ([], nothing_printed c.args.so_far, refl)
+loop-m-init g c = ([], nothing_printed c.args.lines.now.outcome, refl)
 
 pub branch_of-branch-requires : goal.branch_of-branch-requires
 branch_of-branch-requires g c =
     record { m = omega (arith, c.loop-m-test.true, c.requires.pairs.meters, length-case_offered c.args.case.now, ap length c.meters.ensures.rows, ap length c.candidates.ensures.rows) }
 
-pub print_slot-printed-requires-clause-branch : goal.print_slot-printed-requires-clause-branch
-print_slot-printed-requires-clause-branch g c =
+pub print_pair-requires-clause-branch : goal.print_pair-requires-clause-branch
+print_pair-requires-clause-branch g c =
     rw c.branch_of-branch.ensures.branch (held_low c.args.case.now c.args.pairs.now (case_offered c.args.case.now) c.requires.pairs c.loop-m.m)
 
 pub loop-m-preserved : goal.loop-m-preserved
 loop-m-preserved g c =
     let inv = c.loop-m.invariant in
-    let line = given_line c.args.case.now in
+    let line = pair_line c.args.case.now in
     let slots = c.args.pairs.now.slots in
     let m = c.loop-m.m in
     let low : m < length slots = omega (arith, c.loop-m-test.true, c.requires.pairs.meters, length-case_offered c.args.case.now, ap length c.meters.ensures.rows, ap length c.candidates.ensures.rows) in
-    let here = rw c.branch_of-branch.ensures.branch at c.print_slot-printed.ensures.printed in (
+    let here = rw c.branch_of-branch.ensures.branch at c.print_pair.ensures.printed in (
       inv.0 ++ flat_map line (pairs_from m (get_or slots m None ∷ [])),
       then_printed inv.1 here,
       slot_more line slots m inv.0 (flat_map line (pairs_of slots)) low inv.2,
@@ -35,7 +36,7 @@ loop-m-preserved g c =
 pub returns : goal.returns
 returns g c =
     let inv = c.loop-m.invariant in
-    let line = given_line c.args.case.now in
+    let line = pair_line c.args.case.now in
     let slots = c.args.pairs.now.slots in
     let past : length slots ≤ c.loop-m.m = omega (arith, c.loop-m-test.false, c.requires.pairs.meters, length-case_offered c.args.case.now, ap length c.meters.ensures.rows, ap length c.candidates.ensures.rows) in
     let done = slot_none line slots c.loop-m.m inv.0 (flat_map line (pairs_of slots)) past inv.2 in

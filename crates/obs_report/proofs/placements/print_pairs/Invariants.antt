@@ -1,12 +1,11 @@
 use Rattle.std.proofs.Common.{◌≡◌, ◌++◌, ℕ, List, drop}
 use Rattle.std.specs.List.{flat_map}
-use Rattle.obs_io.specs.declared.outside.Failed.{Failed}
 use Rattle.obs_matroid.specs.Slots.{pairs_from, pairs_of}
-use Rattle.obs_report.specs.Placements.{given_line}
-use Rattle.obs_report.specs.Printed.{IsPrinted}
+use Rattle.obs_report.specs.Items.{pair_line}
+use Rattle.obs_report.specs.Printed.{Prints}
 use Rattle.obs_report.proofs.placements.print_pairs.Given as goal
 
 abbrev pub invariant-loop-m : goal.invariant-loop-m
 invariant-loop-m g l = (text : List ℕ)
-    × IsPrinted {T = Unit {0}} {U = Unit {0}} {E = Failed} {F = Failed} (g.W.Sink.written l.fn.output) (g.W.Sink.written l.output) l.fn.gathered l.gathered (g.W.Sink.faults l.fn.output) (g.W.Sink.faults l.output) (g.W.Sink.has_room l.fn.output) (g.W.Sink.has_room l.output) l.fn.so_far l.printed text
-    × (text ++ flat_map (given_line l.case) (pairs_from l.m (drop l.m l.pairs.slots)) ≡ flat_map (given_line l.case) (pairs_of l.pairs.slots))
+    × Prints g.W.Sink.written g.W.Sink.faults g.W.Sink.has_room l.initial.output l.output l.initial.lines l.lines text
+    × (text ++ flat_map (pair_line l.case) (pairs_from l.m (drop l.m l.pairs.slots)) ≡ flat_map (pair_line l.case) (pairs_of l.pairs.slots))

@@ -1,5 +1,7 @@
-use Rattle.obs_report.proofs.Printing.{then_printed}
+use Rattle.obs_report.proofs.Printing.{finished, then_printed}
 use Rattle.obs_report.proofs.placements.print_plan.Goals as goal
 
 pub returns : goal.returns
-returns g c = record { printed = then_printed (then_printed (then_printed c.print_cost-begun.ensures.printed c.print_chosen-chosen.ensures.printed) c.print_pairs-paired.ensures.printed) c.print_layers.ensures.printed }
+returns g c =
+    let lines = then_printed (then_printed (then_printed c.print_cost.ensures.printed c.print_chosen.ensures.printed) c.print_pairs.ensures.printed) c.print_layers.ensures.printed in
+    record { appends = finished c.new-lines.ensures.empty lines c.finish.ensures.printed }

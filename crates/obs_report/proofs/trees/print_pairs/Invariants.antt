@@ -1,11 +1,10 @@
 use Rattle.std.proofs.Common.{◌≡◌, ◌++◌, ℕ, List, drop}
-use Rattle.obs_io.specs.declared.outside.Failed.{Failed}
-use Rattle.obs_matroid.specs.Slots.{pairs_from, pairs_of}
-use Rattle.obs_report.specs.Printed.{IsPrinted}
-use Rattle.obs_report.specs.Trees.{pair_lines}
+use Rattle.std.specs.List.{flat_map}
+use Rattle.obs_report.specs.Printed.{Prints}
+use Rattle.obs_report.proofs.OfPairs.{slot_lines}
 use Rattle.obs_report.proofs.trees.print_pairs.Given as goal
 
 abbrev pub invariant-loop-m : goal.invariant-loop-m
 invariant-loop-m g l = (text : List ℕ)
-    × IsPrinted {T = Unit {0}} {U = Unit {0}} {E = Failed} {F = Failed} (g.W.Sink.written l.fn.output) (g.W.Sink.written l.output) l.fn.gathered l.gathered (g.W.Sink.faults l.fn.output) (g.W.Sink.faults l.output) (g.W.Sink.has_room l.fn.output) (g.W.Sink.has_room l.output) l.fn.so_far l.printed text
-    × (text ++ pair_lines l.case l.c (pairs_from l.m (drop l.m l.pairs.slots)) ≡ pair_lines l.case l.c (pairs_of l.pairs.slots))
+    × Prints g.W.Sink.written g.W.Sink.faults g.W.Sink.has_room l.initial.output l.output l.initial.lines l.lines text
+    × (text ++ flat_map (slot_lines l.case l.pairs) (drop l.m-index l.meters) ≡ flat_map (slot_lines l.case l.pairs) l.meters)

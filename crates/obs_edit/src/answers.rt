@@ -1,0 +1,46 @@
+// Room for the answers to a case, and those that are at hand.
+ghost use Rattle.std.specs.Prelude.{◌≡◌, false, None, IfOk};
+ghost use Rattle.obs_edit.specs.Sessions.{HasRoomToAnswer};
+
+use crate::asks::Measured;
+use crate::hand::AtHand;
+use crate::memory::NoMemory;
+use obs_case::Case;
+use obs_critical::CriticalWork;
+use obs_islands::IslandWork;
+use std::alloc::Global;
+
+/// What was found in the present case beside the pairs.
+#[derive(Drop)]
+pub(crate) struct Answers {
+    // a flag for each meter: whether it is live and not critical
+    pub(crate) marks: Vec<bool>,
+    pub(crate) critical: CriticalWork,
+    pub(crate) islands: IslandWork,
+    // the list of the bound that was measured last, in its front
+    pub(crate) inside: Vec<u32>,
+    pub(crate) measured: Measured,
+    pub(crate) hand: AtHand,
+}
+
+/// Room for the answers to each case with as many rows as this one, and none at hand.
+pub(crate) fn make_answers(alloc: Global, case: &Case) -> Result<Answers, NoMemory>
+    ensures room { IfOk result (λ x. HasRoomToAnswer case.now x.marks.items x.critical x.islands x.inside.items x.measured.listed) }
+    ensures nothing { IfOk result (λ x. x.hand ≡ record { first = false; critical = false; islands = false; bound = None }) }
+{
+    let meters = case.meters().len();
+    let branches = case.branches().len() as u32;
+    let nodes = case.nodes().len() as u32;
+    Ok(Answers {
+        marks: vec![in alloc; false; meters]?,
+        critical: CriticalWork::make(alloc, meters as u32)?,
+        islands: IslandWork::make(alloc, meters as u32, branches, nodes)?,
+        inside: vec![in alloc; 0; meters]?,
+        measured: Measured {
+            listed: 0,
+            rank: 0,
+            outside: 0,
+        },
+        hand: AtHand::nothing(),
+    })
+}

@@ -1,0 +1,89 @@
+//! The asks of a session: each finds its answer, where it isn't at hand, and lends it with the present case and its network.
+ghost use Rattle.std.specs.Prelude.{◌≡◌, ◌<◌, true};
+ghost use Rattle.obs_assign.specs.Assigned.{StandsOver, pairs};
+ghost use Rattle.obs_network.specs.Components.{need_of};
+ghost use Rattle.obs_network.specs.Network.{case_component_count, case_meters, case_sizes, network_of};
+ghost use Rattle.obs_network.specs.Observable.{IsObservable, is_fed};
+ghost use Rattle.obs_edit.specs.Answers.{bound_meters, bound_outside, bound_rank, case_critical_meters, case_first_pairs, case_islands};
+
+use crate::session::Session;
+use obs_assign::{Assignment, Steps};
+use obs_case::Case;
+use obs_network::Network;
+use obs_rankcut::Bound;
+use std::sync::ledger::Ledger;
+
+/// An answer of a session: the present case, its network, and what was found.
+#[derive(Clone, Copy)]
+pub struct Seen<'a, T> {
+    pub case: &'a Case,
+    pub network: &'a Network,
+    pub found: T,
+}
+
+impl Session {
+    /// The first assignment of the present case's meters.
+    pub fn first_pairs<L: Ledger>(&mut self, steps: &mut Steps<L>) -> Seen<'_, &Assignment>
+        ensures case { result.case.now ≡ self.old.tables }
+        ensures network { result.network.now ≡ network_of self.old.tables }
+        ensures found { pairs result.found.now ≡ case_first_pairs self.old.tables }
+        ensures stands { StandsOver result.found.now (network_of self.old.tables).graph (case_meters self.old.tables) }
+    {
+        self.find_first(steps);
+        Seen {
+            case: self.present(),
+            network: self.network(),
+            found: self.found_pairs(),
+        }
+    }
+
+    /// The bound of an energised component of the present case that isn't observable: its live meters that aren't critical, the
+    /// rank of what they touch, the number of its other live meters, and its need.
+    pub fn bound<L: Ledger>(&mut self, c: u32, steps: &mut Steps<L>) -> Seen<'_, Bound<'_>>
+        requires component { c < case_component_count self.old.tables }
+        requires energised { is_fed self.old.tables c ≡ true }
+        requires short { IsObservable self.old.tables c → ⊥ }
+        ensures case { result.case.now ≡ self.old.tables }
+        ensures network { result.network.now ≡ network_of self.old.tables }
+        ensures inside { result.found.inside.now ≡ bound_meters self.old.tables c }
+        ensures rank { result.found.rank ≡ bound_rank self.old.tables c }
+        ensures outside { result.found.outside ≡ bound_outside self.old.tables c }
+        ensures needed { result.found.needed ≡ need_of (case_sizes self.old.tables) c }
+    {
+        self.find_critical(steps);
+        self.find_bound(c);
+        Seen {
+            case: self.present(),
+            network: self.network(),
+            found: self.found_bound(c),
+        }
+    }
+
+    /// The critical meters of the present case, rising.
+    pub fn critical<L: Ledger>(&mut self, steps: &mut Steps<L>) -> Seen<'_, &[u32]>
+        ensures case { result.case.now ≡ self.old.tables }
+        ensures network { result.network.now ≡ network_of self.old.tables }
+        ensures found { result.found.now ≡ case_critical_meters self.old.tables }
+    {
+        self.find_critical(steps);
+        Seen {
+            case: self.present(),
+            network: self.network(),
+            found: self.found_critical(),
+        }
+    }
+
+    /// Of each bus of the present case the first bus of its island.
+    pub fn islands<L: Ledger>(&mut self, steps: &mut Steps<L>) -> Seen<'_, &[u32]>
+        ensures case { result.case.now ≡ self.old.tables }
+        ensures network { result.network.now ≡ network_of self.old.tables }
+        ensures found { result.found.now ≡ case_islands self.old.tables }
+    {
+        self.find_islands(steps);
+        Seen {
+            case: self.present(),
+            network: self.network(),
+            found: self.found_islands(),
+        }
+    }
+}

@@ -1,0 +1,83 @@
+-- The texts of asks, piece by piece.
+use Rattle.std.proofs.Common.{◌≡◌, ◌≢◌, ◌↔◌, ℕ, zero, suc, ◌+◌, ◌-◌, ◌<◌, ◌≤◌, Bool, true, false, All, List, [], ◌∷◌, ◌++◌, length, refl, sym, ap, ◌∙◌, subst, arith, append_assoc, Option, Ok, eqb}
+use Rattle.std.specs.Prelude.{◌==◌, IsTrue, if◌then◌else◌, flat_map, slice_index}
+use Rattle.std.specs.List.{range_with_len}
+use Rattle.std.proofs.lemmas.Bool.{eq-eqb, ne_eqb}
+use Rattle.std.proofs.lemmas.List.{append-nil}
+use Rattle.obs_case.specs.Tables.{IsValid, Tables}
+use Rattle.obs_io.specs.declared.outside.Failed.{Failed}
+use Rattle.obs_matroid.specs.Assignments.{Pair}
+use Rattle.obs_network.specs.Components.{need_of}
+use Rattle.obs_network.specs.Network.{NetworkOf, case_component_count, case_sizes, network_of}
+use Rattle.obs_network.specs.Observable.{IsObservable, is_fed}
+use Rattle.obs_report.specs.Meters.{bound_text, critical_text}
+use Rattle.obs_report.specs.Printed.{AppendsAt}
+use Rattle.obs_report.specs.Trees.{tree_text}
+use Rattle.obs_report.proofs.Printing.{and_then_none}
+use Rattle.obs_edit.specs.Answers.{bound_meters, bound_outside, bound_rank, case_first_pairs, component_rank}
+use Rattle.obs_edit.proofs.Tight.{observable-from, observable-to}
+use Rattle.obs_engine.specs.Asks.{bound_claim, claims_text, component_claim, text_if, tree_claim}
+
+-- nothing was printed
+pub appends_nothing : {T E : Type 0} (x : T) (a : Option (List ℕ)) (f : ℕ) (p : ℕ → Type 0) → AppendsAt {T = T} {E = E} a a f f p p (Ok x) []
+appends_nothing x a f p = record {
+  writes = sym (and_then_none a);
+  cause = record { later = omega arith; failed = tt };
+  quiet = λ ok. refl;
+  fits = λ rest has. let e : 0 + rest ≡ rest = omega arith in (refl, subst p e has);
+}
+
+-- the text of the tree, from the pairs that are at hand
+pub tree_is : (t : Tables) (c : ℕ) (pairs : List Pair) → pairs ≡ case_first_pairs t → tree_text t c pairs ≡ tree_claim t c
+unfolding tree_claim
+tree_is t c pairs e = ap (tree_text t c) e
+
+-- the text of the bound, from its parts
+pub bound_is : (t : Tables) (c rank outside : ℕ) (inside : List ℕ) → inside ≡ bound_meters t c → rank ≡ bound_rank t c → outside ≡ bound_outside t c → bound_text t c inside rank outside ≡ bound_claim t c
+unfolding bound_claim
+bound_is t c rank outside inside i r o =
+    ap (λ (x : List ℕ). bound_text t c x rank outside) i ∙ (ap (λ (x : ℕ). bound_text t c (bound_meters t c) x outside) r ∙ ap (λ (x : ℕ). bound_text t c (bound_meters t c) (bound_rank t c) x) o)
+
+-- the claim on a component that isn't energised, is observable, or isn't
+pub claim_dead : (trees bounds : Bool) (t : Tables) (c : ℕ) → is_fed t c ≡ false → component_claim trees bounds t c ≡ []
+unfolding component_claim
+claim_dead trees bounds t c dead = rw dead refl
+
+module _ (trees bounds : Bool) (t : Tables) (v : IsValid t) (c : ℕ) (low : c < case_component_count t) (fed : is_fed t c ≡ true) where
+  pub claim_observable : IsObservable t c → component_claim trees bounds t c ≡ text_if trees (tree_claim t c)
+  unfolding component_claim
+  claim_observable o = let e = eq-eqb (component_rank t c) (need_of (case_sizes t) c) (observable-to t v c low o) in rw (fed, e) refl
+
+  pub claim_short : (IsObservable t c → ⊥) → component_claim trees bounds t c ≡ text_if bounds (bound_claim t c)
+  unfolding component_claim
+  claim_short short = let e = ne_eqb (component_rank t c) (need_of (case_sizes t) c) (λ same. short (observable-from t v c same)) in rw (fed, e) refl
+
+-- the texts of the numbers below n, one after the other
+abbrev pub texts_below : (ℕ → List ℕ) → ℕ → List ℕ
+texts_below text n = flat_map text (range_with_len 0 n)
+
+texts_split : (text : ℕ → List ℕ) (a n m k b : ℕ) → k ≡ n + m → b ≡ a + n → flat_map text (range_with_len a k) ≡ flat_map text (range_with_len a n) ++ flat_map text (range_with_len b m)
+texts_split text a zero m k b e s = let x : k ≡ m = omega (arith, e) in let y : b ≡ a = omega (arith, s) in rw (x, y) refl
+texts_split text a (suc n) m k b e s =
+    let x : k ≡ suc (n + m) = omega (arith, e) in
+    ap (λ i. flat_map text (range_with_len a i)) x
+    ∙ (ap (λ r. text a ++ r) (texts_split text (a + 1) n m (n + m) b refl (omega (arith, s)))
+    ∙ sym (append_assoc (text a) (flat_map text (range_with_len (a + 1) n)) (flat_map text (range_with_len b m))))
+
+-- one more
+pub texts_more : (text : ℕ → List ℕ) (n : ℕ) → texts_below text (n + 1) ≡ texts_below text n ++ text n
+texts_more text n = texts_split text 0 n 1 (n + 1) n refl (omega arith) ∙ ap (λ r. texts_below text n ++ r) (append-nil (text n))
+
+-- all of them, of which one is in the middle
+pub texts_around : (text : ℕ → List ℕ) (n m : ℕ) → n < m → (texts_below text n ++ text n) ++ flat_map text (range_with_len (n + 1) (m - (n + 1))) ≡ texts_below text m
+texts_around text n m l =
+    ap (λ r. r ++ flat_map text (range_with_len (n + 1) (m - (n + 1)))) (sym (texts_more text n)) ∙ sym (texts_split text 0 (n + 1) (m - (n + 1)) m (n + 1) (omega arith) (omega arith))
+
+pub claims_are : (trees bounds : Bool) (t : Tables) → texts_below (component_claim trees bounds t) (case_component_count t) ≡ claims_text trees bounds t
+unfolding claims_text
+claims_are trees bounds t = refl
+
+-- the claims on the first components were printed
+abbrev pub AreClaimed : Bool → Bool → Tables → Option (List ℕ) → Option (List ℕ) → ℕ → ℕ → (ℕ → Type 0) → (ℕ → Type 0) → ℕ → Type 0
+AreClaimed trees bounds t before now faults_before faults_now room_before room_now c =
+    AppendsAt {T = Unit {0}} {E = Failed} before now faults_before faults_now room_before room_now (Ok tt) (texts_below (component_claim trees bounds t) c)

@@ -1,0 +1,10 @@
+use Rattle.std.proofs.Common.{◌≡◌, ◌++◌, ℕ, List, drop}
+use Rattle.std.specs.List.{flat_map}
+use Rattle.obs_report.specs.Items.{inside_line}
+use Rattle.obs_report.specs.Printed.{Prints}
+use Rattle.obs_report.proofs.items.print_list.Given as goal
+
+abbrev pub invariant-loop-m : goal.invariant-loop-m
+invariant-loop-m g l = (text : List ℕ)
+    × Prints g.W.Sink.written g.W.Sink.faults g.W.Sink.has_room l.initial.output l.output l.initial.lines l.lines text
+    × (text ++ flat_map (inside_line l.case) (drop l.m-index l.inside) ≡ flat_map (inside_line l.case) l.inside)
