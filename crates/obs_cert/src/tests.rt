@@ -2,7 +2,9 @@ ghost use Rattle.std.specs.Prelude.{◌≤◌, length};
 
 use crate::line::{Item, Line, read_line};
 use crate::{CertCode, CertEnd, CertFault, read_cert};
+use obs_text::InputFault;
 use std::alloc::Global;
+use std::test::Fail;
 
 const MOST_BYTES: usize = 16_777_216;
 
@@ -179,4 +181,30 @@ fn faults(rt: HostRuntime) {
         assert!(rt; code as u32 == number);
         assert!(rt; code.name() == name);
     }
+}
+
+#[test]
+fn faults_become_input_faults(rt: HostRuntime) {
+    for (line, code, number, name) in [
+        (0, CertCode::NoEnd, 3, b"NoEnd".as_slice()),
+        (7, CertCode::OutOfPlace, 2, b"OutOfPlace".as_slice()),
+    ] {
+        let fault = CertFault { line, code };
+        let given = InputFault::from(fault);
+        assert!(rt; given.part == b"certificate".as_slice() && given.name == name);
+        assert!(rt; given.place == line && given.code == number);
+        assert!(rt; CertEnd::Fault(fault).fault() == Some(given));
+    }
+    assert!(rt; CertEnd::NoMemory.fault().is_none());
+}
+
+#[test]
+fn a_certificate_of_a_megabyte(rt: HostRuntime) -> Result<(), Fail> {
+    let mut bytes = Vec::from_slice(rt.alloc(), b"bound\ta\t1\t1\n")?;
+    for _ in 0..65_536 {
+        bytes.extend_from_slice(b"inside\tmeter\tf1\n")?;
+    }
+    bytes.extend_from_slice(b"end\n")?;
+    assert!(rt; count(rt.alloc(), bytes.as_slice()) == Ok(1));
+    Ok(())
 }

@@ -1,19 +1,15 @@
 -- Names of a letter and a number.
-use Rattle.std.proofs.Common.{◌≡◌, ℕ, zero, suc, ◌+◌, ◌-◌, ◌^◌, ◌<◌, ◌≤◌, true, ◌&&◌, eqb, leb, ltb, List, [], ◌∷◌, length, map, decimal, refl, sym, ap, ◌∙◌, inl, inr, arith, rules}
+use Rattle.std.proofs.Common.{◌≡◌, ℕ, zero, suc, ◌+◌, ◌-◌, ◌^◌, ◌<◌, ◌≤◌, true, ◌&&◌, eqb, leb, ltb, List, [], ◌∷◌, length, map, decimal, refl, sym, ap, ◌∙◌, inl, inr, arith}
 use Rattle.std.proofs.lemmas.Bool.{and_from, and_parts, cases_Bool, eqb-false, eqb-true, le-leb, lt-ltb}
 use Rattle.std.proofs.lemmas.Bool.Decides.{Decides-eqb, Decides-like, nat_tests, same_from_decides}
 use Rattle.std.proofs.lemmas.Fmt.{decimal_injective, digits_decimal, length-decimal-le}
-use Rattle.std.proofs.lemmas.Str.Parse.{IsNumeralModel, numerals_by_fold, tells_all_ascii_digits}
 use Rattle.std.specs.Char.{is_ascii_digit}
 use Rattle.std.specs.Cmp.Lexicographic.{bytes_decides}
 use Rattle.std.specs.List.{list_all, range_with_len}
 use Rattle.std.specs.Str.{all_ascii_digits, bytes_eq}
 use Rattle.obs_text.specs.Names.{is_name, is_name_byte}
-use Rattle.obs_text.specs.Numbers.{value_after}
+use Rattle.obs_text.proofs.DecimalLemmas.{numerals}
 use Rattle.obs_case.specs.Tables.{place_of}
-
-numerals : IsNumeralModel (λ ds. all_ascii_digits ds ≡ true) (value_after 0)
-numerals = numerals_by_fold _ tells_all_ascii_digits value_after (search rules)
 
 -- a digit may stand in a name
 digit-name : (d : ℕ) → is_ascii_digit d ≡ true → is_name_byte d ≡ true

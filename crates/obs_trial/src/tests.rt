@@ -89,3 +89,23 @@ fn the_largest(rt: HostRuntime) -> Result<(), NoMemory> {
     check_branch(&rt, &case, 19_799, b"b19799", 9_998, 9_999);
     Ok(())
 }
+
+#[test]
+fn every_tenth_size(rt: HostRuntime) -> Result<(), NoMemory> {
+    for (n, nodes, branches) in [
+        (10u32, 100, 180),
+        (20, 400, 760),
+        (30, 900, 1_740),
+        (40, 1_600, 3_120),
+        (50, 2_500, 4_900),
+        (60, 3_600, 7_080),
+        (70, 4_900, 9_660),
+        (80, 6_400, 12_640),
+        (90, 8_100, 16_020),
+        (100, 10_000, 19_800),
+    ] {
+        let case = make(rt.alloc(), n.clamp(1, 100), 7)?;
+        check_counts(&rt, &case, nodes, branches);
+    }
+    Ok(())
+}
