@@ -1,22 +1,31 @@
 -- The texts of asks, piece by piece.
-use Rattle.std.proofs.Common.{◌≡◌, ◌≢◌, ◌↔◌, ℕ, zero, suc, ◌+◌, ◌-◌, ◌<◌, ◌≤◌, Bool, true, false, All, List, [], ◌∷◌, ◌++◌, length, refl, sym, ap, ◌∙◌, subst, arith, append_assoc, Option, Ok, eqb}
+use Rattle.std.proofs.Common.{◌≡◌, ◌≢◌, ◌↔◌, ℕ, zero, suc, ◌+◌, ◌-◌, ◌<◌, ◌≤◌, Bool, true, false, All, List, [], ◌∷◌, ◌++◌, length, refl, sym, ap, ◌∙◌, subst, arith, append_assoc, Option, Ok, Result, eqb}
 use Rattle.std.specs.Prelude.{◌==◌, IsTrue, if◌then◌else◌, flat_map, slice_index}
 use Rattle.std.specs.List.{range_with_len}
 use Rattle.std.proofs.lemmas.Bool.{eq-eqb, ne_eqb}
-use Rattle.std.proofs.lemmas.List.{append-nil}
+use Rattle.std.proofs.lemmas.List.{append-nil, length-map}
+use Rattle.std.proofs.lemmas.List.FromFn.{get_or-map-range_with_len, length-range_with_len}
 use Rattle.obs_case.specs.Tables.{IsValid, Tables}
 use Rattle.obs_io.specs.declared.outside.Failed.{Failed}
 use Rattle.obs_matroid.specs.Assignments.{Pair}
 use Rattle.obs_network.specs.Components.{need_of}
-use Rattle.obs_network.specs.Network.{NetworkOf, case_component_count, case_sizes, network_of}
+use Rattle.obs_islands.specs.Firsts.{island_first}
+use Rattle.obs_islands.specs.Islands.{every_vertex}
+use Rattle.obs_islands.proofs.Firsts.{first_in, partition}
+use Rattle.obs_network.specs.Network.{NetworkOf, case_branches, case_component_count, case_meters, case_sizes, network_of}
+use Rattle.obs_network.specs.Switched.{case_bus_count}
+use Rattle.obs_network.proofs.OfCase.{case_branches-are}
 use Rattle.obs_network.specs.Observable.{IsObservable, is_fed}
+use Rattle.obs_report.specs.Counts.{counts_text}
+use Rattle.obs_report.specs.Islands.{islands_text}
+use Rattle.obs_report.specs.Lines.{last_line}
 use Rattle.obs_report.specs.Meters.{bound_text, critical_text}
 use Rattle.obs_report.specs.Printed.{AppendsAt}
 use Rattle.obs_report.specs.Trees.{tree_text}
 use Rattle.obs_report.proofs.Printing.{and_then_none}
-use Rattle.obs_edit.specs.Answers.{bound_meters, bound_outside, bound_rank, case_first_pairs, component_rank}
+use Rattle.obs_edit.specs.Answers.{bound_meters, bound_outside, bound_rank, case_critical_meters, case_first_pairs, case_islands, case_rank, component_rank}
 use Rattle.obs_edit.proofs.Tight.{observable-from, observable-to}
-use Rattle.obs_engine.specs.Asks.{bound_claim, claims_text, component_claim, text_if, tree_claim}
+use Rattle.obs_engine.specs.Asks.{bound_claim, case_counts_text, case_critical_text, case_islands_text, claims_text, component_claim, report_text, text_if, tree_claim}
 
 -- nothing was printed
 pub appends_nothing : {T E : Type 0} (x : T) (a : Option (List ℕ)) (f : ℕ) (p : ℕ → Type 0) → AppendsAt {T = T} {E = E} a a f f p p (Ok x) []
@@ -81,3 +90,44 @@ claims_are trees bounds t = refl
 abbrev pub AreClaimed : Bool → Bool → Tables → Option (List ℕ) → Option (List ℕ) → ℕ → ℕ → (ℕ → Type 0) → (ℕ → Type 0) → ℕ → Type 0
 AreClaimed trees bounds t before now faults_before faults_now room_before room_now c =
     AppendsAt {T = Unit {0}} {E = Failed} before now faults_before faults_now room_before room_now (Ok tt) (texts_below (component_claim trees bounds t) c)
+
+-- the same bytes under another name
+pub appends_as : {T E : Type 0} {a b : Option (List ℕ)} {f k : ℕ} {p q : ℕ → Type 0} {r : Result T E} {one two : List ℕ} → one ≡ two → AppendsAt a b f k p q r one → AppendsAt a b f k p q r two
+appends_as {a = a} {b = b} {f = f} {k = k} {p = p} {q = q} {r = r} e h = subst (λ (text : List ℕ). AppendsAt a b f k p q r text) e h
+
+pub counts_are : (t : Tables) (n : NetworkOf) (rank : ℕ) → n ≡ network_of t → rank ≡ case_rank t → counts_text n rank ≡ case_counts_text t
+unfolding case_counts_text
+counts_are t n rank same r = ap (λ (x : NetworkOf). counts_text x rank) same ∙ ap (counts_text (network_of t)) r
+
+pub islands_are : (t : Tables) (islands : List ℕ) → islands ≡ case_islands t → islands_text t islands ≡ case_islands_text t
+unfolding case_islands_text
+islands_are t islands e = ap (islands_text t) e
+
+pub critical_are : (t : Tables) (list : List ℕ) → list ≡ case_critical_meters t → critical_text t list ≡ case_critical_text t
+unfolding case_critical_text
+critical_are t list e = ap (critical_text t) e
+
+pub report_is : (t : Tables) → case_counts_text t ++ (claims_text true true t ++ (case_islands_text t ++ (case_critical_text t ++ last_line))) ≡ report_text t
+unfolding report_text
+report_is t = refl
+
+-- each bus has an island, whose first bus isn't above it
+pub islands_few : (t : Tables) (islands : List ℕ) (n : NetworkOf) → n ≡ network_of t → islands ≡ case_islands t → length islands ≡ n.graph.vertices
+unfolding case_islands
+islands_few t islands n same e =
+    ap (λ (xs : List ℕ). length xs) e
+    ∙ (length-map (every_vertex (case_bus_count t)) (island_first (case_bus_count t) (case_branches t) (case_meters t))
+    ∙ (length-range_with_len 0 (case_bus_count t) ∙ ap (λ (x : NetworkOf). x.graph.vertices) (sym same)))
+
+pub islands_low : (t : Tables) → IsValid t → (islands : List ℕ) → islands ≡ case_islands t → (bus : ℕ) → bus < length islands → slice_index islands bus ≤ bus
+unfolding case_islands
+islands_low t v islands e bus low =
+    let n = case_bus_count t in
+    let ends = case_branches t in
+    let touches = case_meters t in
+    let many = ap (λ (xs : List ℕ). length xs) e ∙ (length-map (every_vertex n) (island_first n ends touches) ∙ length-range_with_len 0 n) in
+    let l : bus < n = omega (arith, low, many) in
+    let p = partition n ends touches (case_branches-are t v) bus l in
+    let first = (first_in n ends touches (case_branches-are t v) bus l p.0 p.1.island p.1.has).first bus l p.1.has in
+    let at : slice_index islands bus ≡ island_first n ends touches bus = ap (λ (xs : List ℕ). slice_index xs bus) e ∙ get_or-map-range_with_len (island_first n ends touches) 0 n bus bus 0 l (omega arith) in
+    omega (arith, first, at)

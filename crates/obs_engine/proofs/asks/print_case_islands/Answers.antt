@@ -1,0 +1,23 @@
+use Rattle.std.proofs.Common.{◌∙◌, ap, subst, sym}
+use Rattle.obs_case.specs.Tables.{Tables}
+use Rattle.obs_report.specs.Islands.{islands_text}
+use Rattle.obs_edit.specs.Answers.{case_islands}
+use Rattle.obs_engine.specs.Asks.{case_islands_text}
+use Rattle.obs_engine.proofs.Asked.{appends_as, islands_are, islands_few, islands_low}
+use Rattle.obs_engine.proofs.asks.print_case_islands.Goals as goal
+
+pub print_islands-requires-clause-one_each : goal.print_islands-requires-clause-one_each
+print_islands-requires-clause-one_each g c =
+    islands_few c.find_islands.new.self.tables c.found_islands.result.now c.network.result.now c.network.ensures.network c.found_islands.ensures.islands
+
+pub print_islands-requires-clause-low : goal.print_islands-requires-clause-low
+print_islands-requires-clause-low g c = λ bus low.
+    islands_low c.present.result.now c.nodes-nodes.ensures.valid c.found_islands.result.now
+    (c.found_islands.ensures.islands ∙ ap (λ (t : Tables). case_islands t) (sym c.present.ensures.case)) bus low
+
+pub returns-clause-appends : goal.returns-clause-appends
+returns-clause-appends g c =
+    appends_as
+    (ap (λ (t : Tables). islands_text t c.found_islands.result.now) c.present-2.ensures.case
+    ∙ (islands_are c.find_islands.new.self.tables c.found_islands.result.now c.found_islands.ensures.islands ∙ ap (λ (t : Tables). case_islands_text t) c.find_islands.ensures.tables))
+    c.print_islands.ensures.appends
