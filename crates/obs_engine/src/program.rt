@@ -5,8 +5,8 @@ ghost use Rattle.obs_engine.specs.Ending.{Answers, Ends, HasRoom};
 ghost use Rattle.obs_engine.specs.Forms.{AnyReadFailed, CanAnswer, IsFileWord, TakesInput, form_of};
 ghost use Rattle.obs_engine.specs.Stated.{Told, Tells};
 
-use crate::report::report;
 use crate::refused::refuse_words;
+use crate::report::report;
 use crate::status::Status;
 use crate::topology::topology;
 use crate::words::{Form, form_of_words};
@@ -39,7 +39,7 @@ pub fn run<F: Files, S: Source, W: Sink>(
     ensures statuses { CanAnswer (form_of (map string_bytes words.now)) result }
     ensures read { result ≡ Status.ReadFault
         → AnyReadFailed (form_of (map string_bytes words.now)) (F.content files.old) (F.faults files.old) (F.faults files.new)
-            (S.faults input.old) (S.faults input.new) }
+        (S.faults input.old) (S.faults input.new) }
     ensures write { result ≡ Status.WriteFault → Rose (W.faults output.old) (W.faults output.new) }
 
     // A call that fails ends the run, which says so: with another answer the counts are as they were.

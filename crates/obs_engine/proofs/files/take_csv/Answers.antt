@@ -100,14 +100,22 @@ returns-in_err-switches-clause-read g c = λ e.
 pub returns-in_err-branches-clause-read : goal.returns-in_err-branches-clause-read
 returns-in_err-branches-clause-read g c = λ e.
     failed_read 4 (inr (inr (inl refl))) (λ w. c.in_ok-switches.ensures.quiet (ok_not_read _) w ∙ c.in_ok-nodes.ensures.quiet (ok_not_read _) w)
-    (c.in_err-branches.ensures.read (is_read _ c.from_residual-in_err-branches.result c.from_residual-in_err-branches.ensures.1 e)) c.in_err-branches.ensures.others
-    ((λ l bytes told. (c.in_ok-nodes.ensures.stated bytes told).1), ((λ l bytes told. (c.in_ok-switches.ensures.stated bytes (c.in_ok-nodes.ensures.same 3 ∙ told)).1),
-    ((λ l. absurd (omega (arith, l))), ((λ l. absurd (omega (arith, l))), tt))))
+    (c.in_err-branches.ensures.read (is_read _ c.from_residual-in_err-branches.result c.from_residual-in_err-branches.ensures.1 e)) c.in_err-branches.ensures.others (
+      (λ l bytes told. (c.in_ok-nodes.ensures.stated bytes told).1),
+      (
+        (λ l bytes told. (c.in_ok-switches.ensures.stated bytes (c.in_ok-nodes.ensures.same 3 ∙ told)).1),
+        ((λ l. absurd (omega (arith, l))), ((λ l. absurd (omega (arith, l))), tt)),
+      ),
+    )
 
 pub returns-in_err-meters-clause-read : goal.returns-in_err-meters-clause-read
 returns-in_err-meters-clause-read g c = λ e.
     failed_read 5 (inr (inr (inr (inl refl))))
     (λ w. c.in_ok-branches.ensures.quiet (ok_not_read _) w ∙ (c.in_ok-switches.ensures.quiet (ok_not_read _) w ∙ c.in_ok-nodes.ensures.quiet (ok_not_read _) w))
-    (c.in_err-meters.ensures.read (is_read _ c.from_residual-in_err-meters.result c.from_residual-in_err-meters.ensures.1 e)) c.in_err-meters.ensures.others
-    ((λ l bytes told. (c.in_ok-nodes.ensures.stated bytes told).1), ((λ l bytes told. (c.in_ok-switches.ensures.stated bytes (c.in_ok-nodes.ensures.same 3 ∙ told)).1),
-    ((λ l bytes told. (c.in_ok-branches.ensures.stated bytes (c.in_ok-switches.ensures.same 4 ∙ (c.in_ok-nodes.ensures.same 4 ∙ told))).1), ((λ l. absurd (omega (arith, l))), tt))))
+    (c.in_err-meters.ensures.read (is_read _ c.from_residual-in_err-meters.result c.from_residual-in_err-meters.ensures.1 e)) c.in_err-meters.ensures.others (
+      (λ l bytes told. (c.in_ok-nodes.ensures.stated bytes told).1),
+      (
+        (λ l bytes told. (c.in_ok-switches.ensures.stated bytes (c.in_ok-nodes.ensures.same 3 ∙ told)).1),
+        ((λ l bytes told. (c.in_ok-branches.ensures.stated bytes (c.in_ok-switches.ensures.same 4 ∙ (c.in_ok-nodes.ensures.same 4 ∙ told))).1), ((λ l. absurd (omega (arith, l))), tt)),
+      ),
+    )
