@@ -10,6 +10,14 @@ use Rattle.obs_case.specs.declared.table.AddFault.{AddFault}
 use Rattle.obs_case.specs.declared.table.AddFault.TheVariants.{NameTwice, UnknownNode, UnknownPlace, TooMany, NoMemory}
 use Rattle.obs_case.specs.Tables.{Tables, node_names, switch_names, branch_names, meter_names, candidate_names, has_name, place_of, place_names, most_rows}
 
+-- the number of a refusal
+abbrev pub add_fault_code : AddFault → ℕ
+add_fault_code NameTwice = 1
+add_fault_code UnknownNode = 2
+add_fault_code UnknownPlace = 3
+add_fault_code TooMany = 4
+add_fault_code NoMemory = 5
+
 -- a full table takes no row, and no table a name that it has
 abbrev pub name_fault : List (List ℕ) → List ℕ → Option AddFault
 name_fault names name =

@@ -4,6 +4,7 @@ ghost use Rattle.std.specs.List.{list_all};
 ghost use Rattle.std.specs.Set.{swap_key};
 ghost use Rattle.std.specs.Str.{bytes_eq};
 ghost use Rattle.obs_text.specs.Names.{is_name};
+ghost use Rattle.obs_case.specs.Adds.{add_fault_code};
 ghost use Rattle.obs_case.specs.Tables.{has_name, most_rows, place_of, position_of};
 
 use crate::name::{LONGEST, Name};
@@ -24,6 +25,15 @@ pub enum AddFault {
     TooMany = 4,
     /// There was no memory for the row.
     NoMemory = 5,
+}
+
+impl AddFault {
+    /// The refusal's number.
+    pub fn code(self) -> u32
+        ensures code { result ≡ add_fault_code self }
+    {
+        self as u32
+    }
 }
 
 // A row that is found by its name.

@@ -99,6 +99,12 @@ fn refusals_come_in_order(rt: HostRuntime) {
             Err(want)
         );
     }
+    for (own, at) in [(b"g", b"L".as_slice()), (b"h", b"b".as_slice())] {
+        assert_eq!(rt;
+            case.add_meter(name(&rt, own), Kind::Injection, at, true),
+            Err(AddFault::UnknownPlace)
+        );
+    }
     for (own, want) in [(b"z", AddFault::NameTwice), (b"y", AddFault::UnknownPlace)] {
         assert_eq!(rt;
             case.add_candidate(name(&rt, own), Kind::Zero, b"L", 0),

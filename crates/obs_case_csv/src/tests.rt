@@ -1,6 +1,6 @@
 use super::{RowFault, Table, TableEnd, TableFault, read_table, read_tables};
 use obs_case::{Case, Kind};
-use obs_text::Digits;
+use obs_text::{Digits, InputFault};
 use std::alloc::Global;
 use std::process::Abort;
 
@@ -149,6 +149,137 @@ fn each_fault_comes_where_it_is(rt: HostRuntime) {
     }
 }
 
+// The fault of a table is met in its one row, or in its second after a good one.
+#[test]
+fn each_fault_of_a_row_comes_for_each_table(rt: HostRuntime) {
+    for (table, bytes, row, code) in [
+        (
+            Table::Switches,
+            b"switch,from,to,closed\n,a,b,1\n".as_slice(),
+            1,
+            RowFault::BadName,
+        ),
+        (
+            Table::Branches,
+            b"branch,from,to,inservice\n\x7f,a,b,1\n",
+            1,
+            RowFault::BadName,
+        ),
+        (
+            Table::Meters,
+            b"meter,kind,at,inservice\n,flow,L1,1\n",
+            1,
+            RowFault::BadName,
+        ),
+        (
+            Table::Candidates,
+            b"candidate,kind,at,price\n,flow,L1,1\n",
+            1,
+            RowFault::BadName,
+        ),
+        (
+            Table::Branches,
+            b"branch,from,to,inservice\nL1,a,b,\n",
+            1,
+            RowFault::BadFlag,
+        ),
+        (
+            Table::Meters,
+            b"meter,kind,at,inservice\nf1,flow,L1,yes\n",
+            1,
+            RowFault::BadFlag,
+        ),
+        (
+            Table::Candidates,
+            b"candidate,kind,at,price\np,,L1,1\n",
+            1,
+            RowFault::BadKind,
+        ),
+        (
+            Table::Branches,
+            b"branch,from,to,inservice\nL1,a,b,1\nL1,b,c,1\n",
+            2,
+            RowFault::NameTwice,
+        ),
+        (
+            Table::Meters,
+            b"meter,kind,at,inservice\nf1,flow,L1,1\nf1,flow,L2,1\n",
+            2,
+            RowFault::NameTwice,
+        ),
+        (
+            Table::Candidates,
+            b"candidate,kind,at,price\np,flow,L1,1\np,flow,L2,1\n",
+            2,
+            RowFault::NameTwice,
+        ),
+        (
+            Table::Switches,
+            b"switch,from,to,closed\nS1,a,b\n",
+            1,
+            RowFault::ShortRow,
+        ),
+        (
+            Table::Meters,
+            b"meter,kind,at,inservice\nf1,flow\n",
+            1,
+            RowFault::ShortRow,
+        ),
+        (
+            Table::Branches,
+            b"branch,from,to,from,inservice\nL1,a,b,c,1\n",
+            0,
+            RowFault::ColumnTwice,
+        ),
+        (
+            Table::Candidates,
+            b"candidate,kind,at\np,flow,L1\n",
+            0,
+            RowFault::ColumnMissing,
+        ),
+        (Table::Candidates, b"", 0, RowFault::NoHeader),
+        (
+            Table::Meters,
+            b"meter,kind,at,inservice\ni1,injection,z,1\n",
+            1,
+            RowFault::UnknownPlace,
+        ),
+    ] {
+        assert_eq!(rt;
+            fault_in(rt.alloc(), table, bytes),
+            Some((table, row, code))
+        );
+    }
+}
+
+#[test]
+fn faults_become_input_faults(rt: HostRuntime) {
+    for (table, row, code, part, number, name) in [
+        (
+            Table::Nodes,
+            0,
+            RowFault::NoHeader,
+            b"nodes".as_slice(),
+            1,
+            b"NoHeader".as_slice(),
+        ),
+        (
+            Table::Candidates,
+            20_001,
+            RowFault::TooMany,
+            b"candidates",
+            12,
+            b"TooMany",
+        ),
+    ] {
+        let fault = InputFault::from(TableFault { table, row, code });
+        assert!(rt; fault.part == part && fault.name == name);
+        assert!(rt; fault.place == row && fault.code == number);
+        assert!(rt; TableEnd::Fault(TableFault { table, row, code }).fault() == Some(fault));
+    }
+    assert!(rt; TableEnd::NoMemory.fault().is_none());
+}
+
 #[test]
 fn the_first_table_with_a_fault_is_named(rt: HostRuntime) {
     let nodes = b"node,source\na,1\na,1\n";
@@ -192,6 +323,7 @@ fn rows_are_what_the_reader_gives(rt: HostRuntime) {
         ),
         (b"node,source\n\"a,b\",1\n\"c\"\"d\",0", 2, b"c\"d"),
         (b"node,source,note\na,1,\"two\nlines\"\n\n\nb,0\n", 2, b"b"),
+        (b"node,source\na,1,more,and more\nb,0\n", 2, b"b"),
         (b"node,source\n", 0, b"node"),
     ] {
         let mut case = Case::new(rt.alloc());

@@ -1,5 +1,9 @@
 pub mod Longest
 pub mod OfNetwork
 pub mod Enough
+pub mod Planned
+pub mod PlanFirst
+pub mod Priced
+pub mod Offered
 pub mod Tight
 pub mod Answered

@@ -1,3 +1,4 @@
 pub mod Answers
 pub mod Longest
+pub mod Planned
 pub mod Sessions

@@ -7,7 +7,10 @@ mod components;
 mod counted;
 mod hand;
 mod kept;
+pub mod laws;
 mod memory;
+mod pairing;
+mod placing;
 mod seen;
 mod session;
 #[cfg(test)]

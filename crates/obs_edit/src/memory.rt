@@ -15,6 +15,22 @@ impl From<obs_network::NoMemory> for NoMemory {
     }
 }
 
+impl From<obs_meter::NoMemory> for NoMemory {
+    ghost from_gives = { λ _ e. e ≡ e };
+
+    fn from(_: obs_meter::NoMemory) -> Self {
+        NoMemory
+    }
+}
+
+impl From<obs_placement::NoMemory> for NoMemory {
+    ghost from_gives = { λ _ e. e ≡ e };
+
+    fn from(_: obs_placement::NoMemory) -> Self {
+        NoMemory
+    }
+}
+
 impl From<obs_assign::NoMemory> for NoMemory {
     ghost from_gives = { λ _ e. e ≡ e };
 

@@ -44,7 +44,7 @@ module _ (n : ℕ) (ends : List (Option Ends)) (touches : List Touch) (M : List 
   }
 
 -- items that have no branch in A nor in B do not matter
-IsNotAfter-filter : (p : ℕ → Bool) (M : List ℕ) (A B : List Pair) → ((x : ℕ) → p x ≡ false → (branch_at A x ≡ None) × (branch_at B x ≡ None)) → IsNotAfter M A B → IsNotAfter (filter p M) A B
+pub IsNotAfter-filter : (p : ℕ → Bool) (M : List ℕ) (A B : List Pair) → ((x : ℕ) → p x ≡ false → (branch_at A x ≡ None) × (branch_at B x ≡ None)) → IsNotAfter M A B → IsNotAfter (filter p M) A B
 IsNotAfter-filter p [] A B h n = tt
 IsNotAfter-filter p (x ∷ M) A B h (inl b) = elim (cases_Bool (p x)) [
   | inl t ↦ rw t (inl b)

@@ -31,10 +31,10 @@ bus_of-source earlier at (Some number) (Some source) bus is =
     ]
 
 -- the rows that are read stand after the earlier ones
-abbrev Reads : {R : Type 0} → (List R → ℕ → List ℕ → Result R CdfFault) → List R → List (ℕ × List ℕ) → List R → (List R → Type 0) → Type 0
+abbrev pub Reads : {R : Type 0} → (List R → ℕ → List ℕ → Result R CdfFault) → List R → List (ℕ × List ℕ) → List R → (List R → Type 0) → Type 0
 Reads {R} read earlier lines all Are = (rows : List R) × (all ≡ earlier ++ rows) × Are rows
 
-bus_lines-read : (earlier : List Bus) (lines : List (ℕ × List ℕ)) (all : List Bus) → read_rows read_bus earlier lines ≡ Ok all → Reads read_bus earlier lines all (AreBusLines lines)
+pub bus_lines-read : (earlier : List Bus) (lines : List (ℕ × List ℕ)) (all : List Bus) → read_rows read_bus earlier lines ≡ Ok all → Reads read_bus earlier lines all (AreBusLines lines)
 bus_lines-read earlier [] all is = ([], (let same : Ok earlier ≡ Ok all = is in let e : earlier ≡ all = cc in sym e ∙ sym (append-nil earlier)), tt)
 bus_lines-read earlier (line ∷ lines) all is =
     by (read_bus earlier line.0 line.1) refl is (λ bus h. bus_lines-read (earlier ++ bus ∷ []) lines all h)
@@ -70,7 +70,7 @@ fresh_number (first ∷ earlier) bus buses different =
 read_bus-line : (earlier : List Bus) (at : ℕ) (line : List ℕ) (bus : Bus) → IsBusLine line bus → has_bus earlier bus.number ≡ false → read_bus earlier at line ≡ Ok bus
 read_bus-line earlier at line bus is fresh = rw (is.number, is.source, fresh) refl
 
-read-bus_lines : (earlier : List Bus) (lines : List (ℕ × List ℕ)) (buses : List Bus) → AreBusLines lines buses → IsDistinct eqb (map (λ (b : Bus). b.number) (earlier ++ buses)) → read_rows read_bus earlier lines ≡ Ok (earlier ++ buses)
+pub read-bus_lines : (earlier : List Bus) (lines : List (ℕ × List ℕ)) (buses : List Bus) → AreBusLines lines buses → IsDistinct eqb (map (λ (b : Bus). b.number) (earlier ++ buses)) → read_rows read_bus earlier lines ≡ Ok (earlier ++ buses)
 read-bus_lines earlier [] [] are different = ap (λ r. Ok r) (sym (append-nil earlier))
 read-bus_lines earlier [] (bus ∷ buses) are different = absurd are
 read-bus_lines earlier (line ∷ lines) [] are different = absurd are
@@ -109,14 +109,14 @@ read_branch-line buses earlier at line branch is =
       | inr room ↦ (branch_of-line buses (length earlier + 1) at line (number_of (tap_field line)) (number_of (z_field line)) branch refl refl (rw room at is), leb-false most_rows (length earlier) room)
     ]
 
-abbrev BranchesRead : List Bus → List Branch → List (ℕ × List ℕ) → List Branch → Type 0
+abbrev pub BranchesRead : List Bus → List Branch → List (ℕ × List ℕ) → List Branch → Type 0
 BranchesRead buses earlier lines all =
     (rows : List Branch) × (all ≡ earlier ++ rows) × AreBranchLines buses (length earlier + 1) lines rows × (length earlier + length lines ≤ most_rows)
 
 one_longer : (earlier : List Branch) (branch : Branch) → length (earlier ++ branch ∷ []) + 1 ≡ suc (length earlier + 1)
 one_longer earlier branch = omega (arith, length-append earlier (branch ∷ []))
 
-branch_lines-read : (buses : List Bus) (earlier : List Branch) (lines : List (ℕ × List ℕ)) (all : List Branch) → length earlier ≤ most_rows → read_rows (read_branch buses) earlier lines ≡ Ok all → BranchesRead buses earlier lines all
+pub branch_lines-read : (buses : List Bus) (earlier : List Branch) (lines : List (ℕ × List ℕ)) (all : List Branch) → length earlier ≤ most_rows → read_rows (read_branch buses) earlier lines ≡ Ok all → BranchesRead buses earlier lines all
 branch_lines-read buses earlier [] all few is =
     ([], (let same : Ok earlier ≡ Ok all = is in let e : earlier ≡ all = cc in sym e ∙ sym (append-nil earlier)), tt, omega (arith, few))
 branch_lines-read buses earlier (line ∷ lines) all few is =
@@ -148,7 +148,7 @@ read_branch-is_line buses earlier at line branch few is =
     rw (lt-leb most_rows (length earlier) few, is.from.named, is.to.named, is.from.there, is.to.there)
     (ap (λ b. Ok b) (same_branch branch (branch_name (length earlier + 1)) (place_of_bus buses is.from.number) (place_of_bus buses is.to.number) true is.name is.from.place is.to.place is.inservice))
 
-read-branch_lines : (buses : List Bus) (earlier : List Branch) (lines : List (ℕ × List ℕ)) (branches : List Branch) → AreBranchLines buses (length earlier + 1) lines branches → length earlier + length lines ≤ most_rows → read_rows (read_branch buses) earlier lines ≡ Ok (earlier ++ branches)
+pub read-branch_lines : (buses : List Bus) (earlier : List Branch) (lines : List (ℕ × List ℕ)) (branches : List Branch) → AreBranchLines buses (length earlier + 1) lines branches → length earlier + length lines ≤ most_rows → read_rows (read_branch buses) earlier lines ≡ Ok (earlier ++ branches)
 read-branch_lines buses earlier [] [] are few = ap (λ r. Ok r) (sym (append-nil earlier))
 read-branch_lines buses earlier [] (branch ∷ branches) are few = absurd are
 read-branch_lines buses earlier (line ∷ lines) [] are few = absurd are

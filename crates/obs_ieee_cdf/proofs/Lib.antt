@@ -1,6 +1,7 @@
 pub mod CaseLemmas
 pub mod EndedLemmas
 pub mod FileLemmas
+pub mod FirstLemmas
 pub mod LawLemmas
 pub mod NumberLemmas
 pub mod ReadLemmas

@@ -1,5 +1,5 @@
 //! What bytes are, and what is read from them.
-ghost use Rattle.obs_ieee_cdf.specs.Laws.{CaseIsRead, CasesAreValid, FaultWhereNoCase, FileIsRead};
+ghost use Rattle.obs_ieee_cdf.specs.Laws.{CaseIsRead, CasesAreValid, FaultWhereNoCase, FileIsRead, FirstFaultOfFile};
 
 /// The nodes and branches that are read from a file are those that its bytes are: each bus line is a
 /// bus, no two of them have one number, and each branch line is a branch between two buses.
@@ -17,4 +17,11 @@ pub fn case_is_read()
 /// there are at most 20,000 rows, and positions and prices are in range.
 pub fn cases_are_valid()
     ensures valid { CasesAreValid }
+{}
+
+/// The fault of a file that is met is the first: a line has one where the lines before it have none,
+/// and of those of one line the lowest number is met. A section that isn't there or isn't ended is
+/// met where no line has a fault.
+pub fn first_fault()
+    ensures first { FirstFaultOfFile }
 {}

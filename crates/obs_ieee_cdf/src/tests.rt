@@ -3,6 +3,7 @@ ghost use Rattle.std.specs.Prelude.{◌≤◌, length};
 use crate::{CdfEnd, CdfFault, branch_fields, bus_fields, read_cdf, sections};
 use obs_case::Case;
 use obs_case_csv::{RowFault, Table, TableFault};
+use obs_text::InputFault;
 use std::alloc::Global;
 use std::test::Fail;
 
@@ -367,4 +368,30 @@ fn borrowed_parts(rt: HostRuntime) {
     assert!(rt; branch.from == b"1".as_slice() && branch.to == b"2".as_slice());
     let fault = CdfFault::BusTwice(4);
     assert!(rt; fault.code() == 7 && fault.line() == 4 && fault.name() == b"BusTwice".as_slice());
+}
+
+#[test]
+fn faults_become_input_faults(rt: HostRuntime) {
+    for (fault, line, number, name) in [
+        (
+            CdfFault::NoBranchSection,
+            0,
+            3,
+            b"NoBranchSection".as_slice(),
+        ),
+        (CdfFault::BusTwice(4), 4, 7, b"BusTwice".as_slice()),
+        (CdfFault::TooMany(20_005), 20_005, 9, b"TooMany".as_slice()),
+    ] {
+        let given = InputFault::from(fault);
+        assert!(rt; given.part == b"cdf".as_slice() && given.name == name);
+        assert!(rt; given.place == line && given.code == number);
+        assert!(rt; CdfEnd::Cdf(fault).fault() == Some(given));
+    }
+    let table = TableFault {
+        table: Table::Meters,
+        row: 1,
+        code: RowFault::UnknownPlace,
+    };
+    assert!(rt; CdfEnd::Table(table).fault() == Some(InputFault::from(table)));
+    assert!(rt; CdfEnd::NoMemory.fault().is_none());
 }

@@ -1,3 +1,4 @@
+pub mod CommandLemmas
 pub mod HeldLemmas
 pub mod LineLemmas
 pub mod WordLemmas

@@ -1,5 +1,5 @@
 //! What the definitions of this crate imply.
-ghost use Rattle.obs_script.specs.Laws.{HeldIsEnough, LinesAreGathered};
+ghost use Rattle.obs_script.specs.Laws.{CommandsAreTexts, HeldIsEnough, LinesAreGathered};
 
 /// What is kept of a line says all that is answered of it: lines of which the same bytes are kept
 /// get the same answers.
@@ -11,4 +11,9 @@ pub fn held_is_enough()
 /// a line, and the last bytes are one where they are some.
 pub fn lines_are_gathered()
     ensures lines { LinesAreGathered }
+{}
+
+/// A line is a command exactly where it is an ask's word, or an edit's word, a blank and a name.
+pub fn commands_are_texts()
+    ensures commands { CommandsAreTexts }
 {}

@@ -1,2 +1,5 @@
+mod BareLemmas
+pub mod DecimalLemmas
+mod LineLaws
 pub mod LineLemmas
 pub mod NumberLemmas

@@ -1,5 +1,6 @@
 pub mod Columns
 pub mod Faults
+pub mod Laws
 pub mod Limits
 pub mod Lines
 pub mod Names

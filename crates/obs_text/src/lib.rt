@@ -3,6 +3,7 @@
 
 mod digits;
 mod faults;
+pub mod laws;
 mod limits;
 mod line_iter;
 mod names;

@@ -1,6 +1,7 @@
 // A source over a reader.
 ghost use Rattle.std.specs.Prelude.{◌≡◌, None};
 
+use crate::real::counted::counted;
 use crate::{Failed, Source};
 use std::io::Read;
 
@@ -28,10 +29,6 @@ impl<R: Read> Source for FromRead<R> {
     ghost steady = { λ m. ⊥ };
 
     fn take(&mut self, into: &mut [u8]) -> Result<usize, Failed> {
-        if let Ok(count) = self.inner.read(into) {
-            return Ok(count);
-        }
-        self.faults = self.faults.saturating_add(1);
-        Err(Failed)
+        counted(self.inner.read(into), &mut self.faults)
     }
 }

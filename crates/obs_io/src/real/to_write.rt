@@ -1,8 +1,10 @@
 // A sink over a writer.
-ghost use Rattle.std.specs.Prelude.{◌≡◌, None};
+ghost use Rattle.std.specs.Prelude.{◌≡◌, ◌&&◌, IfOk, None, is_ok};
+ghost use Rattle.obs_io.specs.Causes.{wrote_some};
 
+use crate::real::counted::counted;
 use crate::{Failed, Sink};
-use std::io::Write;
+use std::io::{self, Write};
 
 /// A sink over any writer, which it flushes after each write.
 #[derive(Drop)]
@@ -20,6 +22,22 @@ impl<W: Write> ToWrite<W> {
     }
 }
 
+// What a write and the flush after it say together: the write's number, where it wrote some bytes
+// and they were flushed.
+fn flushed(written: io::Result<usize>, flush: io::Result<()>) -> io::Result<usize>
+    ensures well { is_ok result ≡ (wrote_some written && is_ok flush) }
+    ensures number { IfOk result (λ n. IfOk written (λ m. n ≡ m)) }
+{
+    match written {
+        Ok(0) => Err(io::Error::from(io::ErrorKind::WriteZero)),
+        Ok(count) => match flush {
+            Ok(()) => Ok(count),
+            Err(unflushed) => Err(unflushed),
+        },
+        Err(error) => Err(error),
+    }
+}
+
 impl<W: Write> Sink for ToWrite<W> {
     ghost written = { λ m. None };
 
@@ -28,13 +46,12 @@ impl<W: Write> Sink for ToWrite<W> {
     ghost has_room = { λ m room. ⊥ };
 
     fn put(&mut self, bytes: &[u8]) -> Result<usize, Failed> {
-        if let Ok(count) = self.inner.write(bytes)
-            && count > 0
-            && self.inner.flush().is_ok()
-        {
-            return Ok(count);
-        }
-        self.faults = self.faults.saturating_add(1);
-        Err(Failed)
+        let written = self.inner.write(bytes);
+        let flush = if written.is_ok() {
+            self.inner.flush()
+        } else {
+            Ok(())
+        };
+        counted(flushed(written, flush), &mut self.faults)
     }
 }

@@ -1,0 +1,5 @@
+use Rattle.obs_edit.proofs.PlanFirst.{plan_pairs_first}
+use Rattle.obs_edit.proofs.laws.plan_pairs_are_first.Goals as goal
+
+pub returns : goal.returns
+returns c = record { first = plan_pairs_first }

@@ -1,0 +1,20 @@
+use Rattle.std.proofs.Common.{length, ap, ◌∙◌}
+use Rattle.obs_edit.specs.Planned.{placed_pairs}
+use Rattle.obs_edit.proofs.Offered.{at_case, offered_count, offered_room}
+use Rattle.obs_edit.proofs.placing.place.Goals as goal
+
+pub find-requires-clause-items : goal.find-requires-clause-items
+find-requires-clause-items g c =
+    offered_count c.args.case.now c.args.network.now c.graph.result.now c.offered.result.now c.requires.network c.graph.ensures.graph c.offered.ensures.offered
+    (length c.meters.result.now) c.args.placing.now.prices (ap length c.meters.ensures.rows) c.requires.prices
+
+pub find-requires-clause-room : goal.find-requires-clause-room
+find-requires-clause-room g c =
+    offered_room c.args.case.now c.args.network.now c.graph.result.now c.offered.result.now c.requires.network c.graph.ensures.graph c.offered.ensures.offered
+    c.args.placing.now.sizes c.requires.sizes
+
+pub returns-clause-pairs : goal.returns-clause-pairs
+returns-clause-pairs g c =
+    c.find.ensures.pairs
+    ∙ at_case c.args.case.now c.args.network.now c.graph.result.now c.offered.result.now c.requires.network c.graph.ensures.graph c.offered.ensures.offered
+    placed_pairs (length c.meters.result.now) c.needed.result c.args.placing.now.prices (ap length c.meters.ensures.rows) c.needed.ensures.needed c.requires.prices

@@ -1,0 +1,85 @@
+-- The plan of a placement: its items, what these touch, and its pairs.
+use Rattle.std.specs.Prelude.{◌≡◌, ℕ, ◌+◌, cond, Option, List, [], ◌++◌, length, map, slice_index_or}
+use Rattle.std.specs.List.{range_with_len}
+use Rattle.obs_graph.specs.declared.Ends.{Ends}
+use Rattle.obs_graph.specs.Positions.{AreBranches}
+use Rattle.obs_case.specs.Tables.{Tables}
+use Rattle.obs_case.specs.declared.rows.Candidate.{Candidate}
+use Rattle.obs_matroid.specs.Assignments.{Pair}
+use Rattle.obs_meter.specs.declared.Touch.{Touch}
+use Rattle.obs_meter.specs.declared.Touch.TheVariants.{Nothing}
+use Rattle.obs_meter.specs.Sizes.{Sizes}
+use Rattle.obs_meter.specs.Touches.{every_item}
+use Rattle.obs_forest.specs.Holding.{has_position}
+use Rattle.obs_assign.specs.Assigned.{Assigned}
+use Rattle.obs_first.specs.First.{IsFirstAt, first_pairs}
+use Rattle.obs_placement.specs.Answer.{chosen_of}
+use Rattle.obs_placement.specs.Choosing.{no_pairs, nothing_placed}
+use Rattle.obs_placement.specs.Placed.{Placed, Planned, placement_of}
+use Rattle.obs_placement.specs.Placed.Placed.{cheapest, shortfall}
+use Rattle.obs_network.specs.Switched.{case_bus_count}
+use Rattle.obs_network.specs.Network.{case_branches, case_needed, case_offered}
+
+-- the items of a plan: the meters, and then the candidates at these positions
+abbrev pub planned_items : ℕ → List ℕ → List ℕ
+planned_items meters chosen = range_with_len 0 meters ++ map (λ k. meters + k) chosen
+
+-- what each item touches, where the items that aren't in the list touch nothing
+abbrev pub touches_of : List Touch → List ℕ → List Touch
+touches_of touches listed =
+    map (λ m. cond (has_position listed m) (slice_index_or touches m Nothing) Nothing) (every_item touches)
+
+-- the pairs of a placement, over what its items touch: the first assignment for a plan, and none for a shortfall
+abbrev pub pairs_in : ℕ → List (Option Ends) → List Touch → Placed → List Pair
+pairs_in n ends touches (cheapest plan) = first_pairs n ends touches
+pairs_in n ends touches (shortfall lack) = []
+
+-- the pairs of the placement of what is offered; the graph has n vertices
+abbrev pub placed_pairs : ℕ → List (Option Ends) → List Touch → ℕ → List ℕ → ℕ → List Pair
+placed_pairs n ends touches meters prices needed =
+    pairs_in n ends (touches_of touches (planned_items meters (chosen_of n ends touches meters prices)))
+    (placement_of n ends touches meters prices needed)
+
+-- they are, for a plan, the first assignment of the meters and then the chosen candidates, over what is offered
+abbrev pub PlanPairsAreFirst : Type 0
+PlanPairsAreFirst = (n : ℕ) (ends : List (Option Ends)) (touches : List Touch) (meters needed : ℕ) (prices : List ℕ) (plan : Planned)
+    → AreBranches n ends → length touches ≡ meters + length prices → placement_of n ends touches meters prices needed ≡ cheapest plan
+    → IsFirstAt ends touches (planned_items meters plan.chosen) (placed_pairs n ends touches meters prices needed)
+
+-- what candidates cost
+abbrev pub prices_of : List Candidate → List ℕ
+prices_of candidates = map (λ (row : Candidate). row.price) candidates
+
+-- the placement of a case, and its pairs
+abbrev pub case_placement : Tables → Placed
+case_placement t =
+    placement_of (case_bus_count t) (case_branches t) (case_offered t) (length t.meters) (prices_of t.candidates) (case_needed t)
+
+abbrev pub case_placed_pairs : Tables → List Pair
+case_placed_pairs t =
+    placed_pairs (case_bus_count t) (case_branches t) (case_offered t) (length t.meters) (prices_of t.candidates) (case_needed t)
+
+-- the numbers of rows of a case as sizes of a work value, where candidates count as meters
+abbrev pub offered_rows : Tables → Sizes
+offered_rows t = record { meters = length t.meters + length t.candidates; branches = length t.branches; vertices = length t.nodes }
+
+-- what the pairs of a placement are kept in: those that were found last, and the sizes that it was made for
+pub record Paired : Type 0 where
+  pub pairs : Assigned
+  pub sizes : Sizes
+
+-- as it is made
+abbrev pub new_paired : Sizes → Paired
+new_paired s = record { pairs = no_pairs s; sizes = s }
+
+-- what a placement is kept in: the one that was found last, its pairs, the prices of the candidates, and the sizes that it was
+-- made for, where candidates count as meters
+pub record Planning : Type 0 where
+  pub placed : Placed
+  pub pairs : Assigned
+  pub prices : List ℕ
+  pub sizes : Sizes
+
+-- as it is made for a case
+abbrev pub new_planning : Tables → Planning
+new_planning t = record { placed = nothing_placed; pairs = no_pairs (offered_rows t); prices = prices_of t.candidates; sizes = offered_rows t }

@@ -1,0 +1,213 @@
+// The pairs of a placement.
+ghost use Rattle.std.specs.Prelude.{◌≡◌, ◌+◌, ◌<◌, ◌≤◌, All, IfOk, length};
+ghost use Rattle.obs_meter.specs.Sizes.{HasRoomFor};
+ghost use Rattle.obs_meter.specs.Touches.{AreInRange};
+ghost use Rattle.obs_assign.specs.Assigned.{Fits, HasRoomOf, StandsOver, pairs as pairs_at};
+ghost use Rattle.obs_first.specs.First.{first_pairs};
+ghost use Rattle.obs_edit.specs.Planned.{new_paired, pairs_in, planned_items, touches_of};
+
+use crate::memory::NoMemory;
+use obs_assign::{Assignment, Steps};
+use obs_exchange::{Work, lengthen};
+use obs_first::first;
+use obs_graph::Graph;
+use obs_meter::{Meters, Touch};
+use obs_placement::{PlaceWork, Placement};
+use std::alloc::Global;
+use std::marker::Model;
+use std::sync::ledger::Ledger;
+
+/// Room for the pairs of a placement, and those that were found last.
+#[derive(Drop)]
+pub(crate) struct Pairing {
+    touches: Vec<Touch>,
+    items: Meters,
+    pairs: Assignment,
+    search: Work,
+}
+
+impl Model for Pairing {
+    ghost use Rattle.std.specs.Prelude.{◌≡◌, length};
+    ghost use Rattle.obs_edit.specs.Planned.{Paired};
+
+    ghost Value = { Paired };
+
+    ghost view = { λ p. record { pairs = p.pairs; sizes = p.search.sizes } };
+
+    ghost invariant = { λ p. record {
+      touches : length p.touches.items ≡ p.search.sizes.meters;
+      items : p.items.most ≡ p.search.sizes.meters;
+      pair_meters : p.pairs.most_meters ≡ p.search.sizes.meters;
+      pair_branches : p.pairs.forest.most_branches ≡ p.search.sizes.branches;
+      pair_vertices : p.pairs.forest.most_vertices ≡ p.search.sizes.vertices;
+    } };
+}
+
+/// Writes what the items of a plan touch, and nothing for the others.
+fn write_plan(offered: &Meters, meters: u32, chosen: &[u32], touches: &mut [Touch])
+    requires one_each { length touches.old ≡ length offered.now.touches }
+    requires chosen { All (λ k. meters + k < length offered.now.touches) chosen.now }
+    ensures planned { touches.new ≡ touches_of offered.now.touches (planned_items meters chosen.now) }
+{
+    for m in 0..offered.count() {
+        touches[m as usize] = if m < meters {
+            offered.kind(m)
+        } else {
+            Touch::Nothing
+        };
+    }
+    for k in chosen {
+        let m = meters + *k;
+        touches[m as usize] = offered.kind(m);
+    }
+}
+
+/// Makes the items those of a plan, each with its number among all that is offered.
+fn list_plan(
+    offered: &Meters,
+    meters: u32,
+    chosen: &[u32],
+    touches: &mut [Touch],
+    items: &mut Meters,
+)
+    requires room { length offered.now.touches ≤ length touches.old }
+    requires most { length offered.now.touches ≤ items.old.most }
+    requires chosen { All (λ k. meters + k < length offered.now.touches) chosen.now }
+    ensures planned { items.new.touches ≡ touches_of offered.now.touches (planned_items meters chosen.now) }
+    ensures same_most { items.new.most ≡ items.old.most }
+{
+    let touches = &mut touches[..offered.count() as usize];
+    write_plan(offered, meters, chosen, touches);
+    items.refill(touches);
+}
+
+/// Makes the pairs the first assignment of the items.
+fn pair_first<L: Ledger>(
+    g: &Graph,
+    items: &Meters,
+    pairs: &mut Assignment,
+    search: &mut Work,
+    steps: &mut Steps<L>,
+)
+    requires in_range { AreInRange g.now items.now.touches }
+    requires room { HasRoomFor search.old.sizes g.now items.now.touches }
+    requires fits { Fits pairs.old g.now items.now.touches }
+    ensures first { pairs_at pairs.new ≡ first_pairs g.now.vertices g.now.ends items.now.touches }
+    ensures stands { StandsOver pairs.new g.now items.now.touches }
+    ensures same_room { HasRoomOf pairs.old pairs.new }
+    ensures same_sizes { search.new.sizes ≡ search.old.sizes }
+{
+    let _ = g.vertices();
+    pairs.clear(g, items);
+    let _ = lengthen(g, items, pairs, u32::MAX, search, steps);
+    first(g, items, pairs, search, steps);
+}
+
+/// Makes the pairs those of the placement that was found last, over what its items touch.
+fn pair_placed<L: Ledger>(
+    g: &Graph,
+    items: &Meters,
+    work: &PlaceWork,
+    pairs: &mut Assignment,
+    search: &mut Work,
+    steps: &mut Steps<L>,
+)
+    requires in_range { AreInRange g.now items.now.touches }
+    requires room { HasRoomFor search.old.sizes g.now items.now.touches }
+    requires fits { Fits pairs.old g.now items.now.touches }
+    ensures pairs { pairs_at pairs.new ≡ pairs_in g.now.vertices g.now.ends items.now.touches work.now.placed }
+    ensures stands { StandsOver pairs.new g.now items.now.touches }
+    ensures same_room { HasRoomOf pairs.old pairs.new }
+    ensures same_sizes { search.new.sizes ≡ search.old.sizes }
+{
+    match work.found() {
+        Placement::Cheapest(_) => pair_first(g, items, pairs, search, steps),
+        Placement::Shortfall(_) => pairs.clear(g, items),
+    }
+}
+
+/// Makes the pairs those of the placement that was found last of so many meters and then the candidates.
+fn pair_plan<L: Ledger>(
+    g: &Graph,
+    offered: &Meters,
+    meters: u32,
+    work: &PlaceWork,
+    touches: &mut [Touch],
+    items: &mut Meters,
+    pairs: &mut Assignment,
+    search: &mut Work,
+    steps: &mut Steps<L>,
+)
+    requires in_range { AreInRange g.now offered.now.touches }
+    requires chosen { All (λ k. meters + k < length offered.now.touches) work.now.chosen }
+    requires touches { length touches.old ≡ search.old.sizes.meters }
+    requires items { items.old.most ≡ search.old.sizes.meters }
+    requires room { HasRoomFor search.old.sizes g.now offered.now.touches }
+    requires fits { Fits pairs.old g.now offered.now.touches }
+    ensures pairs { pairs_at pairs.new ≡ pairs_in g.now.vertices g.now.ends
+        (touches_of offered.now.touches (planned_items meters work.now.chosen)) work.now.placed }
+    ensures stands { StandsOver pairs.new g.now offered.now.touches }
+    ensures same_most { items.new.most ≡ items.old.most }
+    ensures same_room { HasRoomOf pairs.old pairs.new }
+    ensures same_sizes { search.new.sizes ≡ search.old.sizes }
+{
+    list_plan(offered, meters, work.chosen(), touches, items);
+    pair_placed(g, items, work, pairs, search, steps);
+}
+
+impl Pairing {
+    /// No pair, with room for so many meters and candidates together, and so many branches and vertices.
+    pub(crate) fn make(
+        alloc: Global,
+        most_offered: u32,
+        most_branches: u32,
+        most_vertices: u32,
+    ) -> Result<Pairing, NoMemory>
+        ensures empty { IfOk result (λ p. p ≡
+            new_paired (record { meters = most_offered; branches = most_branches; vertices = most_vertices })) }
+    {
+        Ok(Pairing {
+            touches: vec![in alloc; Touch::Nothing; most_offered as usize]?,
+            items: Meters::make(alloc, most_offered)?,
+            pairs: Assignment::make(alloc, most_offered, most_branches, most_vertices)?,
+            search: Work::make(alloc, most_offered, most_branches, most_vertices)?,
+        })
+    }
+
+    /// Finds the pairs of the placement that was found last of so many meters and then the candidates.
+    pub(crate) fn pair<L: Ledger>(
+        &mut self,
+        g: &Graph,
+        offered: &Meters,
+        meters: u32,
+        work: &PlaceWork,
+        steps: &mut Steps<L>,
+    )
+        requires in_range { AreInRange g.now offered.now.touches }
+        requires chosen { All (λ k. meters + k < length offered.now.touches) work.now.chosen }
+        requires room { HasRoomFor self.old.sizes g.now offered.now.touches }
+        ensures pairs { pairs_at self.new.pairs ≡ pairs_in g.now.vertices g.now.ends
+            (touches_of offered.now.touches (planned_items meters work.now.chosen)) work.now.placed }
+        ensures stands { StandsOver self.new.pairs g.now offered.now.touches }
+        ensures same_sizes { self.new.sizes ≡ self.old.sizes }
+    {
+        pair_plan(
+            g,
+            offered,
+            meters,
+            work,
+            &mut self.touches,
+            &mut self.items,
+            &mut self.pairs,
+            &mut self.search,
+            steps,
+        );
+    }
+
+    /// The pairs that were found last.
+    pub(crate) fn found(&self) -> &Assignment
+        ensures pairs { result.now ≡ self.now.pairs }
+    {
+        &self.pairs
+    }
+}

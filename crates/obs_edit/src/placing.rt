@@ -1,0 +1,157 @@
+// The placement that was found last.
+ghost use Rattle.std.specs.Prelude.{◌≡◌, ◌+◌, IfOk, length};
+ghost use Rattle.obs_meter.specs.Sizes.{HasRoomFor};
+ghost use Rattle.obs_meter.specs.Touches.{AreInRange};
+ghost use Rattle.obs_assign.specs.Assigned.{StandsOver, pairs as pairs_at};
+ghost use Rattle.obs_placement.specs.Placed.{placed_of, placement_of};
+ghost use Rattle.obs_network.specs.Network.{network_of};
+ghost use Rattle.obs_edit.specs.Planned.{case_placed_pairs, case_placement, new_planning, offered_rows, placed_pairs, prices_of};
+
+use crate::memory::NoMemory;
+use crate::pairing::Pairing;
+use obs_assign::{Assignment, Steps};
+use obs_case::{Candidate, Case};
+use obs_graph::Graph;
+use obs_meter::Meters;
+use obs_network::Network;
+use obs_placement::{PlaceWork, Placement, find_placement};
+use std::alloc::Global;
+use std::marker::Model;
+use std::sync::ledger::Ledger;
+
+/// Room for a placement and its pairs, the prices of the candidates, and what was found last.
+#[derive(Drop)]
+pub(crate) struct Placing {
+    prices: Vec<u64>,
+    work: PlaceWork,
+    paired: Pairing,
+}
+
+impl Model for Placing {
+    ghost use Rattle.std.specs.Prelude.{◌≡◌, ◌≤◌, All, length};
+    ghost use Rattle.obs_placement.specs.Limits.{most_candidates, most_price};
+    ghost use Rattle.obs_edit.specs.Planned.{Planning};
+
+    ghost Value = { Planning };
+
+    ghost view = { λ p. record {
+      placed = p.work.placed;
+      pairs = p.paired.pairs;
+      prices = p.prices.items;
+      sizes = p.work.sizes;
+    } };
+
+    ghost invariant = { λ p. record {
+      few : length p.prices.items ≤ most_candidates;
+      cheap : All (λ price. price ≤ most_price) p.prices.items;
+      paired : p.paired.sizes ≡ p.work.sizes;
+    } };
+}
+
+/// Writes what candidates cost.
+fn write_prices(candidates: &[Candidate], prices: &mut [u64])
+    requires one_each { length candidates.now ≡ length prices.old }
+    ensures prices { prices.new ≡ prices_of candidates.now }
+{
+    for k in 0..candidates.len() {
+        prices[k] = candidates[k].price;
+    }
+}
+
+/// What candidates cost.
+fn list_prices(alloc: Global, candidates: &[Candidate]) -> Result<Vec<u64>, NoMemory>
+    ensures prices { IfOk result (λ prices. prices.items ≡ prices_of candidates.now) }
+{
+    let mut prices = vec![in alloc; 0; candidates.len()]?;
+    write_prices(candidates, &mut prices);
+    Ok(prices)
+}
+
+impl Placing {
+    /// Room for the placement of every case with the rows of this one and the same prices.
+    pub(crate) fn make(alloc: Global, case: &Case) -> Result<Placing, NoMemory>
+        ensures empty { IfOk result (λ p. p ≡ new_planning case.now) }
+    {
+        let offered = case.meters().len() as u32 + case.candidates().len() as u32;
+        let branches = case.branches().len() as u32;
+        let nodes = case.nodes().len() as u32;
+        Ok(Placing {
+            prices: list_prices(alloc, case.candidates())?,
+            work: PlaceWork::make(alloc, offered, branches, nodes)?,
+            paired: Pairing::make(alloc, offered, branches, nodes)?,
+        })
+    }
+
+    /// Finds the placement of so many meters and then the candidates, and its pairs. No memory is taken.
+    pub(crate) fn find<L: Ledger>(
+        &mut self,
+        g: &Graph,
+        offered: &Meters,
+        meters: u32,
+        needed: u32,
+        steps: &mut Steps<L>,
+    )
+        requires in_range { AreInRange g.now offered.now.touches }
+        requires items { length offered.now.touches ≡ meters + length self.old.prices }
+        requires room { HasRoomFor self.old.sizes g.now offered.now.touches }
+        ensures placed { self.new.placed ≡
+            placement_of g.now.vertices g.now.ends offered.now.touches meters self.old.prices needed }
+        ensures pairs { pairs_at self.new.pairs ≡
+            placed_pairs g.now.vertices g.now.ends offered.now.touches meters self.old.prices needed }
+        ensures stands { StandsOver self.new.pairs g.now offered.now.touches }
+        ensures same_prices { self.new.prices ≡ self.old.prices }
+        ensures same_sizes { self.new.sizes ≡ self.old.sizes }
+    {
+        find_placement(
+            g,
+            offered,
+            meters,
+            &self.prices,
+            needed,
+            &mut self.work,
+            steps,
+        );
+        self.paired.pair(g, offered, meters, &self.work, steps);
+    }
+
+    /// The placement that was found last.
+    pub(crate) fn found(&self) -> Placement<'_>
+        ensures placed { placed_of result ≡ self.now.placed }
+    {
+        self.work.found()
+    }
+
+    /// Its pairs.
+    pub(crate) fn pairs(&self) -> &Assignment
+        ensures pairs { result.now ≡ self.now.pairs }
+    {
+        self.paired.found()
+    }
+}
+
+/// Finds the placement of a case, and its pairs. No memory is taken.
+pub(crate) fn place<L: Ledger>(
+    case: &Case,
+    network: &Network,
+    placing: &mut Placing,
+    steps: &mut Steps<L>,
+)
+    requires network { network.now ≡ network_of case.now }
+    requires prices { placing.old.prices ≡ prices_of case.now.candidates }
+    requires sizes { placing.old.sizes ≡ offered_rows case.now }
+    ensures placed { placing.new.placed ≡ case_placement case.now }
+    ensures pairs { pairs_at placing.new.pairs ≡ case_placed_pairs case.now }
+    ensures stands { StandsOver placing.new.pairs network.now.graph network.now.offered.touches }
+    ensures same_prices { placing.new.prices ≡ placing.old.prices }
+    ensures same_sizes { placing.new.sizes ≡ placing.old.sizes }
+{
+    let _nodes = case.nodes();
+    let meters = case.meters().len() as u32;
+    placing.find(
+        network.graph(),
+        network.offered(),
+        meters,
+        network.needed(),
+        steps,
+    );
+}

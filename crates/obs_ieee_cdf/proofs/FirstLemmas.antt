@@ -1,0 +1,354 @@
+-- The first fault of a file.
+use Rattle.std.proofs.Common.{◌≡◌, ℕ, suc, ◌+◌, ◌<◌, ◌≤◌, ◌⊎◌, Bool, true, false, not, cond, leb, List, [], ◌∷◌, ◌++◌, length, Option, Some, None, Result, Ok, Err, MatchResult, refl, sym, ap, ◌∙◌, subst, inl, inr, arith}
+use Rattle.std.proofs.lemmas.Bool.{cases_Bool, leb-false, leb-true, le-leb, lt-leb}
+use Rattle.std.specs.List.{list_any}
+use Rattle.obs_text.specs.Lines.{ended_lines}
+use Rattle.obs_case.specs.Tables.{Tables, most_rows}
+use Rattle.obs_case.specs.declared.rows.Branch.{Branch}
+use Rattle.obs_ieee_cdf.specs.declared.fault.CdfFault.{CdfFault}
+use Rattle.obs_ieee_cdf.specs.declared.fault.CdfFault.TheVariants.{NoBusSection, BusSectionOpen, NoBranchSection, BranchSectionOpen, BadBusNumber, BadType, BusTwice, UnknownBus, TooMany}
+use Rattle.obs_ieee_cdf.specs.Case.{AreBranchLines, AreBusLines}
+use Rattle.obs_ieee_cdf.specs.Fields.{bus_field, number_of, source_of, tap_field, type_field, z_field}
+use Rattle.obs_ieee_cdf.specs.IsFault.{AreAllBuses, BranchLineHas, BusLineHas, HasBranchFault, HasSectionFault, IsFault, IsNotAfter, SectionHas}
+use Rattle.obs_ieee_cdf.specs.Rows.{Bus, at_end, branch_of, branch_rows, bus_of, bus_rows, cdf_of, has_bus, on_ok, read_branch, read_bus, read_rows, tables_of_rows}
+use Rattle.obs_ieee_cdf.specs.Sections.{after_branch_heading, after_bus_heading, after_buses, end_fault, is_branch_heading, is_bus_heading, is_end}
+use Rattle.obs_ieee_cdf.proofs.FileLemmas.{read_rows-buses}
+use Rattle.obs_ieee_cdf.proofs.LawLemmas.{branch_lines-read, bus_lines-read, read-branch_lines, read-bus_lines}
+use Rattle.obs_ieee_cdf.proofs.NumberLemmas.{AreBuses-none}
+
+-- what is read ends with a fault that isn't after another
+abbrev pub Met : {A : Type 0} → Result A CdfFault → CdfFault → Type 0
+Met read other = (fault : CdfFault) × (read ≡ Err fault) × IsNotAfter fault other
+
+-- ---- lines that are read one after the other
+
+module _ {R : Type 0} (read : List R → ℕ → List ℕ → Result R CdfFault) where
+  pub rows_split : (earlier : List R) (xs ys : List (ℕ × List ℕ)) → read_rows read earlier (xs ++ ys) ≡ on_ok (read_rows read earlier xs) (λ rows. read_rows read rows ys)
+  rows_split earlier [] ys = refl
+  rows_split earlier (x ∷ xs) ys = by (read earlier x.0 x.1) (λ row. rows_split (earlier ++ row ∷ []) xs ys)
+    where
+      by : (r : Result R CdfFault)
+          → ((row : R) → read_rows read (earlier ++ row ∷ []) (xs ++ ys) ≡ on_ok (read_rows read (earlier ++ row ∷ []) xs) (λ rows. read_rows read rows ys))
+          → on_ok r (λ row. read_rows read (earlier ++ row ∷ []) (xs ++ ys)) ≡ on_ok (on_ok r (λ row. read_rows read (earlier ++ row ∷ []) xs)) (λ rows. read_rows read rows ys)
+      by (Ok row) next = next row
+      by (Err fault) next = refl
+
+  -- the line at which the reading stops
+  pub record Stops (earlier : List R) (lines : List (ℕ × List ℕ)) (fault : CdfFault) : Type 0 where
+    pub before : List (ℕ × List ℕ)
+    pub at : ℕ
+    pub line : List ℕ
+    pub after : List (ℕ × List ℕ)
+    pub lines_are : lines ≡ before ++ (at, line) ∷ after
+    pub rows : List R
+    pub rows_are : read_rows read earlier before ≡ Ok rows
+    pub refused : read rows at line ≡ Err fault
+
+  pub stops : (earlier : List R) (lines : List (ℕ × List ℕ)) (fault : CdfFault) → read_rows read earlier lines ≡ Err fault → Stops earlier lines fault
+  stops earlier [] fault is = cc
+  stops earlier (x ∷ xs) fault is = by (read earlier x.0 x.1) refl is (λ row h. stops (earlier ++ row ∷ []) xs fault h)
+    where
+      by : (r : Result R CdfFault) → read earlier x.0 x.1 ≡ r → on_ok r (λ row. read_rows read (earlier ++ row ∷ []) xs) ≡ Err fault
+          → ((row : R) → read_rows read (earlier ++ row ∷ []) xs ≡ Err fault → Stops (earlier ++ row ∷ []) xs fault) → Stops earlier (x ∷ xs) fault
+      by (Ok row) e h next =
+          let s = next row h in record {
+            before = x ∷ s.before;
+            at = s.at;
+            line = s.line;
+            after = s.after;
+            lines_are = ap (λ t. x ∷ t) s.lines_are;
+            rows = s.rows;
+            rows_are = ap (λ r. on_ok r (λ first. read_rows read (earlier ++ first ∷ []) s.before)) e ∙ s.rows_are;
+            refused = s.refused;
+          }
+      by (Err f) e h next =
+          let same : f ≡ fault = cc in
+          record { before = []; at = x.0; line = x.1; after = xs; lines_are = refl; rows = earlier; rows_are = refl; refused = e ∙ ap (λ g. Err g) same }
+
+  -- a line that is refused after lines that are read
+  pub refused_at : (lines before after : List (ℕ × List ℕ)) (at : ℕ) (line : List ℕ) (rows : List R) (other : CdfFault) → lines ≡ before ++ (at, line) ∷ after
+      → read_rows read [] before ≡ Ok rows → Met (read rows at line) other → Met (read_rows read [] lines) other
+  refused_at lines before after at line rows other are read_before met = (
+    met.0,
+    ap (read_rows read []) are ∙ rows_split [] before ((at, line) ∷ after)
+        ∙ ap (λ r. on_ok r (λ first. read_rows read first ((at, line) ∷ after))) read_before
+        ∙ ap (λ r. on_ok r (λ row. read_rows read (rows ++ row ∷ []) after)) met.1,
+    met.2,
+  )
+
+-- a fault ends whatever comes after
+ends : {A B : Type 0} (r : Result A CdfFault) (next : A → Result B CdfFault) (other : CdfFault) → Met r other → Met (on_ok r next) other
+ends r next other met = (met.0, ap (λ x. on_ok x next) met.1, met.2)
+
+-- ---- bus lines
+
+module _ (earlier : List Bus) (at : ℕ) (line : List ℕ) where
+  bus_has : (fault : CdfFault) → read_bus earlier at line ≡ Err fault → BusLineHas earlier at line fault
+  bus_has fault is = by (number_of (bus_field line)) (source_of (type_field line)) refl refl is
+    where
+      by : (number : Option ℕ) (kind : Option Bool) → number_of (bus_field line) ≡ number → source_of (type_field line) ≡ kind → bus_of earlier at number kind ≡ Err fault → BusLineHas earlier at line fault
+      by None kind n k h = (let same : BadBusNumber at ≡ fault = cc in subst (BusLineHas earlier at line) same (refl, n))
+      by (Some number) None n k h = (let same : BadType at ≡ fault = cc in subst (BusLineHas earlier at line) same (refl, k))
+      by (Some number) (Some source) n k h =
+          elim (cases_Bool (has_bus earlier number)) [
+            | inl there ↦ (
+                let t = rw there at h in
+                let same : BusTwice at ≡ fault = cc in
+                subst (BusLineHas earlier at line) same (refl, number, n, there))
+            | inr fresh ↦ (let t = rw fresh at h in cc)
+          ]
+
+  bus_met : (other : CdfFault) → BusLineHas earlier at line other → Met (read_bus earlier at line) other
+  bus_met NoBusSection has = absurd has
+  bus_met BusSectionOpen has = absurd has
+  bus_met NoBranchSection has = absurd has
+  bus_met BranchSectionOpen has = absurd has
+  bus_met (BadBusNumber n) has =
+      (BadBusNumber at, ap (λ number. bus_of earlier at number (source_of (type_field line))) has.1, record { same_line = sym has.0; not_higher = omega arith })
+  bus_met (BadType n) has = by (number_of (bus_field line)) refl
+    where
+      by : (number : Option ℕ) → number_of (bus_field line) ≡ number → Met (bus_of earlier at number (source_of (type_field line))) (BadType n)
+      by None e = (BadBusNumber at, refl, record { same_line = sym has.0; not_higher = omega arith })
+      by (Some number) e = (BadType at, ap (λ kind. bus_of earlier at (Some number) kind) has.1, record { same_line = sym has.0; not_higher = omega arith })
+  bus_met (BusTwice n) has =
+      subst (λ number. Met (bus_of earlier at number (source_of (type_field line))) (BusTwice n)) (sym has.2) (by (source_of (type_field line)))
+    where
+      by : (kind : Option Bool) → Met (bus_of earlier at (Some has.1) kind) (BusTwice n)
+      by None = (BadType at, refl, record { same_line = sym has.0; not_higher = omega arith })
+      by (Some source) =
+          (BusTwice at, ap (λ b. cond b (Err (BusTwice at)) (Ok (record { number = has.1; source = source }))) has.3, record { same_line = sym has.0; not_higher = omega arith })
+  bus_met (UnknownBus n) has = absurd has
+  bus_met (TooMany n) has = absurd has
+
+-- bus lines that are buses are read, and those that are read are
+pub buses_read : (lines : List (ℕ × List ℕ)) (buses : List Bus) → AreAllBuses lines buses → read_rows read_bus [] lines ≡ Ok buses
+buses_read lines buses all = read-bus_lines [] lines buses all.are all.different
+
+buses_are : (lines : List (ℕ × List ℕ)) (buses : List Bus) → read_rows read_bus [] lines ≡ Ok buses → AreAllBuses lines buses
+buses_are lines buses is =
+    let part = bus_lines-read [] lines buses is in
+    record { are = subst (AreBusLines lines) (sym part.1) part.2; different = (read_rows-buses [] lines buses AreBuses-none is).different }
+
+-- ---- branch lines
+
+module _ (buses : List Bus) (earlier : List Branch) (at : ℕ) (line : List ℕ) where
+  branch_has : (fault : CdfFault) → length earlier ≤ most_rows → read_branch buses earlier at line ≡ Err fault → BranchLineHas buses (length earlier) at line fault
+  branch_has fault few is =
+      elim (cases_Bool (leb most_rows (length earlier))) [
+        | inl full ↦ (
+            let t = rw full at is in
+            let same : TooMany at ≡ fault = cc in
+            subst (BranchLineHas buses (length earlier) at line) same (refl, omega (arith, few, leb-true most_rows (length earlier) full)))
+        | inr room ↦
+            by (number_of (tap_field line)) (number_of (z_field line)) refl refl (leb-false most_rows (length earlier) room) (rw room at is)
+      ]
+    where
+      by : (tap z : Option ℕ) → number_of (tap_field line) ≡ tap → number_of (z_field line) ≡ z → length earlier < most_rows
+          → branch_of buses (length earlier + 1) at tap z ≡ Err fault → BranchLineHas buses (length earlier) at line fault
+      by None z from to room h = (let same : BadBusNumber at ≡ fault = cc in subst (BranchLineHas buses (length earlier) at line) same (refl, room, inl from))
+      by (Some tap) None from to room h = (let same : BadBusNumber at ≡ fault = cc in subst (BranchLineHas buses (length earlier) at line) same (refl, room, inr to))
+      by (Some tap) (Some z) from to room h =
+          elim (cases_Bool (has_bus buses tap)) [
+            | inr absent ↦ (
+                let t = rw absent at h in
+                let same : UnknownBus at ≡ fault = cc in
+                subst (BranchLineHas buses (length earlier) at line) same (refl, room, tap, inl from, absent))
+            | inl there ↦
+                elim (cases_Bool (has_bus buses z)) [
+                  | inr absent ↦ (
+                      let t = rw (there, absent) at h in
+                      let same : UnknownBus at ≡ fault = cc in
+                      subst (BranchLineHas buses (length earlier) at line) same (refl, room, z, inr to, absent))
+                  | inl both ↦ (let t = rw (there, both) at h in cc)
+                ]
+          ]
+
+  -- what a line says that isn't the 20,001st
+  with_room : length earlier < most_rows → (tap z : Option ℕ) → number_of (tap_field line) ≡ tap → number_of (z_field line) ≡ z → read_branch buses earlier at line ≡ branch_of buses (length earlier + 1) at tap z
+  with_room room tap z from to = rw (lt-leb most_rows (length earlier) room, from, to) refl
+
+  bad_number : (n : ℕ) → n ≡ at → length earlier < most_rows → (number_of (tap_field line) ≡ None) ⊎ (number_of (z_field line) ≡ None) → read_branch buses earlier at line ≡ Err (BadBusNumber at)
+  bad_number n is room none = by (number_of (tap_field line)) (number_of (z_field line)) refl refl none
+    where
+      by : (tap z : Option ℕ) → number_of (tap_field line) ≡ tap → number_of (z_field line) ≡ z → (tap ≡ None) ⊎ (z ≡ None) → read_branch buses earlier at line ≡ Err (BadBusNumber at)
+      by None z from to which = with_room room None z from to
+      by (Some tap) None from to which = with_room room (Some tap) None from to
+      by (Some tap) (Some z) from to which = elim which [ inl e ↦ cc | inr e ↦ cc ]
+
+  unknown_bus : (n number : ℕ) → n ≡ at → length earlier < most_rows → (number_of (tap_field line) ≡ Some number) ⊎ (number_of (z_field line) ≡ Some number) → has_bus buses number ≡ false
+      → Met (read_branch buses earlier at line) (UnknownBus n)
+  unknown_bus n number is room which absent = by (number_of (tap_field line)) (number_of (z_field line)) refl refl which
+    where
+      by : (tap z : Option ℕ) → number_of (tap_field line) ≡ tap → number_of (z_field line) ≡ z → (tap ≡ Some number) ⊎ (z ≡ Some number) → Met (read_branch buses earlier at line) (UnknownBus n)
+      by None z from to w = (BadBusNumber at, with_room room None z from to, record { same_line = sym is; not_higher = omega arith })
+      by (Some tap) None from to w = (BadBusNumber at, with_room room (Some tap) None from to, record { same_line = sym is; not_higher = omega arith })
+      by (Some tap) (Some z) from to w = (
+        UnknownBus at,
+        with_room room (Some tap) (Some z) from to ∙ refused tap z w,
+        record { same_line = sym is; not_higher = omega arith },
+      )
+        where
+          refused : (t u : ℕ) → (Some t ≡ Some number) ⊎ (Some u ≡ Some number) → branch_of buses (length earlier + 1) at (Some t) (Some u) ≡ Err (UnknownBus at)
+          refused t u (inl e) = (let same : t ≡ number = cc in rw (same, absent) refl)
+          refused t u (inr e) =
+              let same : u ≡ number = cc in
+              elim (cases_Bool (has_bus buses t)) [
+                | inl there ↦ rw (same, there, absent) refl
+                | inr no_bus ↦ rw no_bus refl
+              ]
+
+  branch_met : (other : CdfFault) → BranchLineHas buses (length earlier) at line other → Met (read_branch buses earlier at line) other
+  branch_met NoBusSection has = absurd has
+  branch_met BusSectionOpen has = absurd has
+  branch_met NoBranchSection has = absurd has
+  branch_met BranchSectionOpen has = absurd has
+  branch_met (BadBusNumber n) has = (BadBusNumber at, bad_number n has.0 has.1 has.2, record { same_line = sym has.0; not_higher = omega arith })
+  branch_met (BadType n) has = absurd has
+  branch_met (BusTwice n) has = absurd has
+  branch_met (UnknownBus n) has = unknown_bus n has.2 has.0 has.1 has.3 has.4
+  branch_met (TooMany n) has =
+      (TooMany at, rw (le-leb most_rows (length earlier) (omega (arith, has.1))) refl, record { same_line = sym has.0; not_higher = omega arith })
+
+few_before : (buses : List Bus) (before at : ℕ) (line : List ℕ) (fault : CdfFault) → BranchLineHas buses before at line fault → before ≤ most_rows
+few_before buses before at line NoBusSection has = absurd has
+few_before buses before at line BusSectionOpen has = absurd has
+few_before buses before at line NoBranchSection has = absurd has
+few_before buses before at line BranchSectionOpen has = absurd has
+few_before buses before at line (BadBusNumber n) has = omega (arith, has.1)
+few_before buses before at line (BadType n) has = absurd has
+few_before buses before at line (BusTwice n) has = absurd has
+few_before buses before at line (UnknownBus n) has = omega (arith, has.1)
+few_before buses before at line (TooMany n) has = omega (arith, has.1)
+
+same_length : (buses : List Bus) (k : ℕ) (lines : List (ℕ × List ℕ)) (branches : List Branch) → AreBranchLines buses k lines branches → length branches ≡ length lines
+same_length buses k [] [] are = refl
+same_length buses k [] (branch ∷ branches) are = absurd are
+same_length buses k (line ∷ lines) [] are = absurd are
+same_length buses k (line ∷ lines) (branch ∷ branches) are = ap suc (same_length buses (suc k) lines branches are.1)
+
+-- ---- sections
+
+sections_have : (file : List (List ℕ)) (fault : CdfFault) → end_fault file ≡ Some fault → SectionHas file fault
+sections_have file fault is =
+    by (list_any is_bus_heading file) (list_any is_end (after_bus_heading file)) (list_any is_branch_heading (after_buses file)) (list_any is_end (after_branch_heading file))
+    refl refl refl refl is
+  where
+    by : (a b c d : Bool) → list_any is_bus_heading file ≡ a → list_any is_end (after_bus_heading file) ≡ b → list_any is_branch_heading (after_buses file) ≡ c → list_any is_end (after_branch_heading file) ≡ d
+        → cond (not a) (Some NoBusSection) (cond (not b) (Some BusSectionOpen) (cond (not c) (Some NoBranchSection) (cond (not d) (Some BranchSectionOpen) None))) ≡ Some fault → SectionHas file fault
+    by false b c d ea eb ec ed h = (let same : NoBusSection ≡ fault = cc in subst (SectionHas file) same ea)
+    by true false c d ea eb ec ed h = (let same : BusSectionOpen ≡ fault = cc in subst (SectionHas file) same (ea, eb))
+    by true true false d ea eb ec ed h = (let same : NoBranchSection ≡ fault = cc in subst (SectionHas file) same (ea, eb, ec))
+    by true true true false ea eb ec ed h = (let same : BranchSectionOpen ≡ fault = cc in subst (SectionHas file) same (ea, eb, ec, ed))
+    by true true true true ea eb ec ed h = cc
+
+sections_met : (file : List (List ℕ)) (fault : CdfFault) → SectionHas file fault → end_fault file ≡ Some fault
+sections_met file NoBusSection has = rw has refl
+sections_met file BusSectionOpen has = rw (has.0, has.1) refl
+sections_met file NoBranchSection has = rw (has.0, has.1, has.2) refl
+sections_met file BranchSectionOpen has = rw (has.0, has.1, has.2, has.3) refl
+sections_met file (BadBusNumber n) has = absurd has
+sections_met file (BadType n) has = absurd has
+sections_met file (BusTwice n) has = absurd has
+sections_met file (UnknownBus n) has = absurd has
+sections_met file (TooMany n) has = absurd has
+
+-- ---- files
+
+module _ (bytes : List ℕ) where
+  -- what comes after the buses, and after the branches
+  abbrev after_all : List Bus → List Branch → Result Tables CdfFault
+  after_all buses branches = at_end (end_fault (ended_lines bytes)) (tables_of_rows buses branches)
+
+  abbrev after_bus_rows : List Bus → Result Tables CdfFault
+  after_bus_rows buses = on_ok (read_rows (read_branch buses) [] (branch_rows (ended_lines bytes))) (after_all buses)
+
+  -- each fault of the file is met, or one that isn't after it
+  met_after : (buses : List Bus) (other : CdfFault) → HasBranchFault buses (branch_rows (ended_lines bytes)) other ⊎ HasSectionFault buses (ended_lines bytes) other → Met (after_bus_rows buses) other
+  met_after buses other (inl has) =
+      let few = few_before buses (length has.before) has.at has.line other has.has in
+      let long = same_length buses 1 has.before has.branches has.branches_are in
+      let line_has : BranchLineHas buses (length has.branches) has.at has.line other = subst (λ n. BranchLineHas buses n has.at has.line other) (sym long) has.has in
+      ends (read_rows (read_branch buses) [] (branch_rows (ended_lines bytes))) (after_all buses) other
+      (refused_at (read_branch buses) (branch_rows (ended_lines bytes)) has.before has.after has.at has.line has.branches other has.lines_are
+      (read-branch_lines buses [] has.before has.branches has.branches_are (omega (arith, few)))
+      (branch_met buses has.branches has.at has.line other line_has))
+  met_after buses other (inr has) = (
+    other,
+    ap (λ r. on_ok r (after_all buses)) (read-branch_lines buses [] (branch_rows (ended_lines bytes)) has.branches has.branches_are (omega (arith, has.few)))
+        ∙ ap (λ fault. at_end fault (tables_of_rows buses has.branches)) (sections_met (ended_lines bytes) other has.has),
+    record { same_line = refl; not_higher = omega arith },
+  )
+
+  pub fault_met : (other : CdfFault) → IsFault bytes other → Met (cdf_of bytes) other
+  fault_met other (inl has) =
+      ends (read_rows read_bus [] (bus_rows (ended_lines bytes))) after_bus_rows other
+      (refused_at read_bus (bus_rows (ended_lines bytes)) has.before has.after has.at has.line has.buses other has.lines_are
+      (buses_read has.before has.buses has.buses_are) (bus_met has.buses has.at has.line other has.has))
+  fault_met other (inr has) =
+      let met = met_after has.0 other has.2 in
+      (met.0, ap (λ r. on_ok r after_bus_rows) (buses_read (bus_rows (ended_lines bytes)) has.0 has.1) ∙ met.1, met.2)
+
+  -- a fault that is met is one of the file
+  of_branches : (buses : List Bus) (fault : CdfFault) (r : Result (List Branch) CdfFault) → read_rows (read_branch buses) [] (branch_rows (ended_lines bytes)) ≡ r → on_ok r (after_all buses) ≡ Err fault
+      → HasBranchFault buses (branch_rows (ended_lines bytes)) fault ⊎ HasSectionFault buses (ended_lines bytes) fault
+  of_branches buses fault (Err f) e is =
+      let same : f ≡ fault = cc in
+      let s = stops (read_branch buses) [] (branch_rows (ended_lines bytes)) fault (e ∙ ap (λ g. Err g) same) in
+      let part = branch_lines-read buses [] s.before s.rows (omega arith) s.rows_are in
+      let are : AreBranchLines buses 1 s.before s.rows = subst (AreBranchLines buses 1 s.before) (sym part.1) part.2 in
+      let long = same_length buses 1 s.before s.rows are in
+      inl
+      (record {
+        before = s.before;
+        at = s.at;
+        line = s.line;
+        after = s.after;
+        lines_are = s.lines_are;
+        branches = s.rows;
+        branches_are = are;
+        has = subst (λ n. BranchLineHas buses n s.at s.line fault) long (branch_has buses s.rows s.at s.line fault (omega (arith, long, part.3)) s.refused);
+      })
+  of_branches buses fault (Ok branches) e is =
+      let part = branch_lines-read buses [] (branch_rows (ended_lines bytes)) branches (omega arith) e in
+      inr
+      (record {
+        branches = branches;
+        branches_are = subst (AreBranchLines buses 1 (branch_rows (ended_lines bytes))) (sym part.1) part.2;
+        few = omega (arith, part.3);
+        has = sections_have (ended_lines bytes) fault (at_the_end (end_fault (ended_lines bytes)) is);
+      })
+    where
+      at_the_end : (o : Option CdfFault) → at_end o (tables_of_rows buses branches) ≡ Err fault → o ≡ Some fault
+      at_the_end None h = cc
+      at_the_end (Some f) h = (let same : f ≡ fault = cc in ap (λ g. Some g) same)
+
+  of_buses : (fault : CdfFault) (r : Result (List Bus) CdfFault) → read_rows read_bus [] (bus_rows (ended_lines bytes)) ≡ r → on_ok r after_bus_rows ≡ Err fault → IsFault bytes fault
+  of_buses fault (Err f) e is =
+      let same : f ≡ fault = cc in
+      let s = stops read_bus [] (bus_rows (ended_lines bytes)) fault (e ∙ ap (λ g. Err g) same) in
+      inl
+      (record {
+        before = s.before;
+        at = s.at;
+        line = s.line;
+        after = s.after;
+        lines_are = s.lines_are;
+        buses = s.rows;
+        buses_are = buses_are s.before s.rows s.rows_are;
+        has = bus_has s.rows s.at s.line fault s.refused;
+      })
+  of_buses fault (Ok buses) e is =
+      inr (buses, buses_are (bus_rows (ended_lines bytes)) buses e, of_branches buses fault (read_rows (read_branch buses) [] (branch_rows (ended_lines bytes))) refl is)
+
+  pub fault_is : (fault : CdfFault) → cdf_of bytes ≡ Err fault → IsFault bytes fault
+  fault_is fault is = of_buses fault (read_rows read_bus [] (bus_rows (ended_lines bytes))) refl is
+
+  pub first_fault : MatchResult (cdf_of bytes) (λ tables. (fault : CdfFault) → IsFault bytes fault → ⊥) (λ fault. IsFault bytes fault × ((other : CdfFault) → IsFault bytes other → IsNotAfter fault other))
+  first_fault = by (cdf_of bytes) refl
+    where
+      by : (r : Result Tables CdfFault) → cdf_of bytes ≡ r → MatchResult r (λ tables. (fault : CdfFault) → IsFault bytes fault → ⊥) (λ fault. IsFault bytes fault × ((other : CdfFault) → IsFault bytes other → IsNotAfter fault other))
+      by (Ok tables) e = λ fault is. (let met = fault_met fault is in let both : Ok tables ≡ Err met.0 = sym e ∙ met.1 in cc)
+      by (Err fault) e = (
+        fault_is fault e,
+        λ other is. (let met = fault_met other is in let both : Err fault ≡ Err met.0 = sym e ∙ met.1 in let same : met.0 ≡ fault = cc in subst (λ f. IsNotAfter f other) same met.2),
+      )
