@@ -6,18 +6,18 @@ use Rattle.obs_report.proofs.Printing.{and_then_none}
 use Rattle.obs_engine.specs.declared.status.Status.{Status}
 use Rattle.obs_engine.specs.declared.status.Status.TheVariants.{Done, Short, Usage, InputFault, ReadFault, WriteFault, NoMemory, SessionTooLong}
 use Rattle.obs_engine.specs.declared.words.Form.{Form}
-use Rattle.obs_engine.specs.Ending.{Answers, AnswersPart, Ends, EndsWith, HasRoom, IsReplied, answered_before}
+use Rattle.obs_engine.specs.Ending.{Answers, AnswersPart, Ends, EndsWith, HasRoom, RepliedAt, answered_before}
 use Rattle.obs_engine.specs.Replies.{Reply, usage_reply}
 use Rattle.obs_engine.specs.Stated.{Told, IsStated}
 
 -- a reply that was written whole
 pub replied_whole : {T E : Type 0} {x : T} {a b : Option (List ℕ)} {f k : ℕ} {p q : ℕ → Type 0} (reply : Reply) → (reply.status ≡ ReadFault → ⊥) → (reply.status ≡ WriteFault → ⊥)
-    → AppendsAt {E = E} a b f k p q (Ok x) reply.text → IsReplied a b f k p reply.status reply
+    → AppendsAt {E = E} a b f k p q (Ok x) reply.text → RepliedAt a b f k p reply.status reply
 replied_whole reply not_read not_write call =
     record { ends = inl (refl, call.writes); reads = not_read; write = λ e. absurd (not_write e); quiet = λ none. call.quiet refl; room = λ rest has. not_write }
 
 -- a write that failed
-pub replied_failed : {T E : Type 0} {e : E} {a b : Option (List ℕ)} {f k : ℕ} {p q : ℕ → Type 0} (reply : Reply) → AppendsAt {T = T} a b f k p q (Err e) reply.text → IsReplied a b f k p WriteFault reply
+pub replied_failed : {T E : Type 0} {e : E} {a b : Option (List ℕ)} {f k : ℕ} {p q : ℕ → Type 0} (reply : Reply) → AppendsAt {T = T} a b f k p q (Err e) reply.text → RepliedAt a b f k p WriteFault reply
 replied_failed {T = T} {E = E} {e = e} reply call = record {
   ends = inr (inl (refl, call.writes));
   reads = λ s. absurd cc;
@@ -30,7 +30,7 @@ replied_failed {T = T} {E = E} {e = e} reply call = record {
     clash ok = absurd cc
 
 -- no memory, and nothing was written
-pub replied_memory : {a : Option (List ℕ)} {f : ℕ} {p : ℕ → Type 0} (reply : Reply) → IsReplied a a f f p NoMemory reply
+pub replied_memory : {a : Option (List ℕ)} {f : ℕ} {p : ℕ → Type 0} (reply : Reply) → RepliedAt a a f f p NoMemory reply
 replied_memory reply = record { ends = inr (inr (inr (refl, refl))); reads = λ s. absurd cc; write = λ s. absurd cc; quiet = λ none. refl; room = λ rest has s. absurd cc }
 
 -- all statuses that say that something failed
@@ -115,7 +115,7 @@ pub usage_ends : (form : Option Form) (told : Told) (left : Option (List ℕ)) (
 usage_ends form told left status a b e ends =
     subst (λ f. Ends f told left status a b) e (ends_stated None told left usage_reply status a b refl usage_no_failure refl ends)
 
-pub usage_complete : {a b : Option (List ℕ)} {f k : ℕ} {room : ℕ → Type 0} {status : Status} (form : Option Form) (told : Told) → None ≡ form → HasRoom form told room → IsReplied a b f k room status usage_reply
+pub usage_complete : {a b : Option (List ℕ)} {f k : ℕ} {room : ℕ → Type 0} {status : Status} (form : Option Form) (told : Told) → None ≡ form → HasRoom form told room → RepliedAt a b f k room status usage_reply
     → (status ≡ NoMemory) ⊎ Answers form told status a b
 usage_complete {a = a} {b = b} {room = room} {status = status} form told e has replied =
     let here : HasRoom None told room = subst (λ f. HasRoom f told room) (sym e) has in

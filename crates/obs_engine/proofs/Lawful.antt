@@ -1,5 +1,5 @@
 -- What the lines of a report say.
-use Rattle.std.proofs.Common.{◌≡◌, ◌≢◌, ◌↔◌, ◌⊎◌, ℕ, ◌+◌, ◌<◌, ◌≤◌, true, not, List, length, filter, sym, ap, subst, inl, inr, arith}
+use Rattle.std.proofs.Common.{◌≡◌, ◌≢◌, ◌↔◌, ◌⊎◌, ℕ, ◌+◌, ◌<◌, ◌≤◌, true, not, List, length, filter, sym, ap, subst, inl, inr, arith, codes, get_or, refl, ◌∙◌}
 use Rattle.std.specs.Prelude.{◌==◌}
 use Rattle.std.specs.List.{range_with_len}
 use Rattle.std.proofs.lemmas.Bool.{and_from, and_parts, cases_Bool, eq-eqb, eqb-true, ne_eqb}
@@ -21,6 +21,7 @@ use Rattle.obs_network.proofs.Observed.{observed_by_rho}
 use Rattle.obs_network.proofs.OfCase.{case_branches-are}
 use Rattle.obs_network.proofs.Sums.{range_in}
 use Rattle.obs_engine.specs.declared.status.Status.TheVariants.{Done, Short}
+use Rattle.obs_report.specs.Counts.{verdict_word}
 use Rattle.obs_engine.specs.Laws.{ListsNonCritical}
 use Rattle.obs_edit.specs.Answers.{bound_meters, bound_outside, bound_rank, case_critical_meters, case_rank, component_meters, component_rank, is_critical_meter, is_meter_of, is_short, short_components}
 use Rattle.obs_engine.specs.Report.{report_status}
@@ -48,6 +49,31 @@ done_observed t v = (
     | inr n ↦ let short = verdict_short t n in absurd (cc (short, done))
   ]),
   (λ o. sym (verdict_done t ((rank_observed t v).0 o))),
+)
+
+-- the two words of the verdict
+differ : codes "observable" ≡ codes "short" → ⊥
+differ e = let first : 111 ≡ 115 = ap (λ (xs : List ℕ). get_or xs 0 0) e in absurd (omega (arith, first))
+
+word_short : (t : Tables) → case_rank t ≢ case_needed t → verdict_word (case_rank t) (case_needed t) ≡ codes "short"
+word_short t n = rw (ne_eqb (case_rank t) (case_needed t) n) refl
+
+pub word_observed : (t : Tables) → IsValid t → (verdict_word (case_rank t) (case_needed t) ≡ codes "observable") ↔ IsObservableCase t
+word_observed t v = (
+  (λ word. elim (cases_rank t) [
+    | inl e ↦ (rank_observed t v).1 e
+    | inr n ↦ absurd (differ (sym word ∙ word_short t n))
+  ]),
+  (λ o. rw (eq-eqb (case_rank t) (case_needed t) ((rank_observed t v).0 o)) refl),
+)
+
+pub word_unobserved : (t : Tables) → IsValid t → (verdict_word (case_rank t) (case_needed t) ≡ codes "short") ↔ (IsObservableCase t → ⊥)
+word_unobserved t v = (
+  (λ word o. differ (sym ((word_observed t v).1 o) ∙ word)),
+  (λ not_seen. elim (cases_rank t) [
+    | inl e ↦ absurd (not_seen ((rank_observed t v).1 e))
+    | inr n ↦ word_short t n
+  ]),
 )
 
 pub short_unobserved : (t : Tables) → IsValid t → (report_status t ≡ Short) ↔ (IsObservableCase t → ⊥)

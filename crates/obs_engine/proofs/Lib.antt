@@ -5,3 +5,4 @@ pub mod Taking
 pub mod Lawful
 pub mod Valid
 pub mod Asked
+pub mod Worded

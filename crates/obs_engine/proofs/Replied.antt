@@ -18,7 +18,7 @@ use Rattle.obs_engine.specs.declared.words.Form.{Form}
 use Rattle.obs_engine.specs.declared.words.Form.TheVariants.{Topology, Report}
 use Rattle.obs_engine.specs.Files.{case_in_files, case_of_tables, case_with_meters, cdf_case, csv_case, if_fits, is_too_long, switching_case}
 use Rattle.obs_engine.specs.Ending.{Answers, Ends, EndsWith, HasRoom}
-use Rattle.obs_engine.specs.Forms.{AreFiles, CanAnswer, FileRose, IsFileWord, ReadRose}
+use Rattle.obs_engine.specs.Forms.{AnyReadFailed, AreFiles, CanAnswer, IsFileWord, ReadFailed, file_words}
 use Rattle.obs_engine.specs.Stated.{Told}
 use Rattle.obs_engine.specs.Replies.{Reply, reply_to}
 use Rattle.obs_edit.specs.Answers.{case_rank}
@@ -159,8 +159,8 @@ module _ (form : Option Form) (f x : Form) (here : Some f ≡ form) (is : f ≡ 
   pub statuses_at : (status : Status) → CanAnswer (Some x) status → CanAnswer form status
   statuses_at status h = subst (λ (o : Option Form). CanAnswer o status) same_form h
 
-  pub rose_at : (old new : ℕ → ℕ) (m n : ℕ) → FileRose (Some x) old new → ReadRose form old new m n
-  rose_at old new m n h = subst (λ (o : Option Form). ReadRose o old new m n) same_form (inl h)
+  pub failed_at : (content : ℕ → Option (List ℕ)) (old new : ℕ → ℕ) (m n : ℕ) → ReadFailed (file_words (Some x)) content old new → AnyReadFailed form content old new m n
+  failed_at content old new m n h = subst (λ (o : Option Form). AnyReadFailed o content old new m n) same_form (inl h)
 
   pub ends_at : (reply : (ℕ → List ℕ) → Reply) → IsFileForm (Some x) reply → (told : Told) (left : Option (List ℕ)) (status : Status) (a b : Option (List ℕ)) → EndsWith (reply told.file) status a b → Ends form told left status a b
   ends_at reply k told left status a b ends = subst (λ (o : Option Form). Ends o told left status a b) same_form (file_form_ends (Some x) reply k told left status a b ends)

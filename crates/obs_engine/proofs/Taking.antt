@@ -1,11 +1,14 @@
 -- What is taken from several files, one after the other.
-use Rattle.std.proofs.Common.{◌≡◌, ◌∙◌, ap, ℕ, false, List, Result, Ok, Err, sym, subst, refl, inl, inr}
+use Rattle.std.proofs.Common.{◌≡◌, ◌≢◌, ◌∙◌, ◌<◌, ap, ℕ, false, List, [], ◌∷◌, Option, Some, Result, Ok, Err, sym, subst, refl, inl, inr, arith}
 use Rattle.std.proofs.lemmas.Bool.{cases_eq}
 use Rattle.std.specs.Prelude.{IsErrAnd, IsErrOf}
 use Rattle.obs_case.specs.Tables.{Tables}
 use Rattle.obs_engine.specs.declared.taken.Untaken.{Untaken}
 use Rattle.obs_engine.specs.declared.taken.Untaken.TheVariants.{Refused, Read, NoMemory}
+use Rattle.obs_io.specs.Causes.{Rose}
+use Rattle.obs_matroid.specs.Lists.{In}
 use Rattle.obs_engine.specs.Files.{if_fits, is_too_long}
+use Rattle.obs_engine.specs.Forms.{ReadFailed}
 use Rattle.obs_engine.specs.Replies.{Reply}
 use Rattle.obs_engine.specs.Taken.{IsFile, IsTaken, IsUntaken}
 
@@ -42,3 +45,33 @@ read_is why e = cc
 pub not_read : {T U : Type 0} (why : Untaken) (r : Result U Untaken) → IsErrAnd r (λ e. e ≡ why) → (r ≡ Err Read → ⊥) → IsErrOf {T = T} (Err why) Read → ⊥
 not_read {T = T} {U = U} why (Ok x) e not h = absurd e
 not_read {T = T} {U = U} why (Err x) e not h = not (ap Err (e ∙ read_is {T = T} why h))
+
+-- and did where it is one
+pub is_read : {T U : Type 0} (why : Untaken) (r : Result U Untaken) → IsErrAnd r (λ e. e ≡ why) → r ≡ Err Read → IsErrOf {T = T} (Err why) Read
+is_read {T = T} {U = U} why (Ok x) e h = absurd e
+is_read {T = T} {U = U} why (Err x) e h = ap Err (sym e ∙ read_is {T = U} x h)
+
+-- what is said of each word of a list that is below a word
+abbrev pub EachBelow : (ℕ → Type 0) → ℕ → List ℕ → Type 0
+EachBelow P word [] = Unit {0}
+EachBelow P word (w ∷ words) = (w < word → P w) × EachBelow P word words
+
+below : (P : ℕ → Type 0) (word : ℕ) (words : List ℕ) → EachBelow P word words → (w : ℕ) → In w words → w < word → P w
+below P word [] each w i l = elim i [ ]
+below P word (v ∷ words) each w (inl e) l = subst P (sym e) (each.0 (omega (arith, e, l)))
+below P word (v ∷ words) each w (inr i) l = below P word words each.1 w i l
+
+-- a told content that fits
+abbrev pub Fits : (ℕ → Option (List ℕ)) → ℕ → Type 0
+Fits content w = (bytes : List ℕ) → content w ≡ Some bytes → is_too_long bytes ≡ false
+
+-- the first failed read of some files
+pub failed_read : {words : List ℕ} {content : ℕ → Option (List ℕ)} {before middle now : ℕ → ℕ} (word : ℕ) → In word words → ((w : ℕ) → middle w ≡ before w) → Rose (middle word) (now word)
+    → ((w : ℕ) → w ≢ word → now w ≡ middle w) → EachBelow (Fits content) word words → ReadFailed words content before now
+failed_read {words = words} {content = content} {now = now} word named same rose others fits = record {
+  word = word;
+  named = named;
+  rose = subst (λ (n : ℕ). Rose n (now word)) (same word) rose;
+  others = λ w ne. others w ne ∙ same w;
+  fits = λ w i l. below (Fits content) word words fits w i l;
+}

@@ -48,9 +48,14 @@ EndsWith reply status before after =
 
 -- a command that needs no further reading ends with this reply; a write fails only where the count of faults rose, and not
 -- while there is room for the text; where none failed the count is as before
-pub record IsReplied (before after : Option (List ℕ)) (faults_before faults_after : ℕ) (has_room : ℕ → Type 0) (status : Status) (reply : Reply) : Type 0 where
+pub record RepliedAt (before after : Option (List ℕ)) (faults_before faults_after : ℕ) (has_room : ℕ → Type 0) (status : Status) (reply : Reply) : Type 0 where
   pub ends : EndsWith reply status before after
   pub reads : status ≡ ReadFault → ⊥
   pub write : status ≡ WriteFault → Rose faults_before faults_after
   pub quiet : (status ≡ WriteFault → ⊥) → faults_after ≡ faults_before
   pub room : (rest : ℕ) → has_room (length reply.text + rest) → status ≡ WriteFault → ⊥
+
+-- the same over the members of a sink
+abbrev pub IsReplied : {W : Type 0} → (W → Option (List ℕ)) → (W → ℕ) → (W → ℕ → Type 0) → W → W → Status → Reply → Type 0
+IsReplied written faults has_room before after status reply =
+    RepliedAt (written before) (written after) (faults before) (faults after) (has_room before) status reply

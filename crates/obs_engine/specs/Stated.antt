@@ -12,7 +12,8 @@ pub record Told : Type 0 where
   pub file : ℕ → List ℕ
   pub input : List ℕ
 
--- the outside tells the contents of the form's files, and the input where the form takes it, and these are they
+-- the outside tells the contents of the form's files up to the first that is too long, and the input where the form takes it, and
+-- these are they
 pub record Tells (form : Option Form) (content : ℕ → Option (List ℕ)) (left : Option (List ℕ)) (told : Told) : Type 0 where
   pub files : AreFiles form content told.file
   pub input : TakesInput form → left ≡ Some told.input

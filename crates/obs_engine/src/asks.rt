@@ -9,7 +9,9 @@ ghost use Rattle.obs_engine.specs.Asks.{bound_claim, case_counts_text, case_crit
 use obs_assign::Steps;
 use obs_edit::Session;
 use obs_io::{Failed, Sink};
-use obs_report::{print_bound, print_counts, print_critical, print_islands, print_last_line, print_tree};
+use obs_report::{
+    print_bound, print_counts, print_critical, print_islands, print_last_line, print_tree,
+};
 use std::sync::ledger::Ledger;
 
 // Prints the tree of a component.

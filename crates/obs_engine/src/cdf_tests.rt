@@ -2,7 +2,7 @@
 ghost use Rattle.std.specs.Prelude.{◌≤◌, length};
 
 use crate::Status;
-use crate::tests::answers;
+use crate::tests::{answers, failing_reads};
 use std::alloc::Global;
 use std::process::Abort;
 use std::test::Fail;
@@ -258,4 +258,26 @@ fn a_longer_file_is_too_long(rt: HostRuntime) -> Result<(), Fail> {
     let cdf = padded(rt.alloc(), 16_777_217)?;
     let text = b"fault\tcdf\t0\t14\tTooLong\n";
     reports_cdf(&rt, rt.alloc(), &cdf, Status::InputFault, text)
+}
+
+// No file of meters is held.
+#[test]
+fn a_cdf_file_is_judged_before_its_meters_are_read(rt: HostRuntime) -> Result<(), Fail> {
+    let cdf = padded(rt.alloc(), 16_777_217)?;
+    let text = b"fault\tcdf\t0\t14\tTooLong\n";
+    let status = Status::InputFault;
+    answers(&rt, rt.alloc(), &CDF, &[b"", &cdf], status, text)
+}
+
+// Each read of a short file of this form fails in turn.
+#[test]
+fn each_read_of_a_cdf_report_may_fail(rt: HostRuntime) -> Result<(), Fail> {
+    let files = [
+        b"".as_slice(),
+        b"BUS DATA\n-999\nBRANCH DATA\n-999\n",
+        b"meter,kind,at,inservice\n",
+    ];
+    let reads = failing_reads(&rt, rt.alloc(), &CDF, &files)?;
+    assert!(rt; reads > 2);
+    Ok(())
 }

@@ -3,9 +3,10 @@ ghost use Rattle.std.specs.Prelude.{◌≡◌, ◌≢◌, ◌<◌, ◌≤◌, �
 ghost use Rattle.obs_case_csv.specs.Read.{tables_in};
 ghost use Rattle.obs_ieee_cdf.specs.Rows.{cdf_of};
 ghost use Rattle.obs_io.specs.Causes.{Rose};
+ghost use Rattle.obs_matroid.specs.Lists.{In};
 ghost use Rattle.obs_engine.specs.declared.words.CaseForm.TheVariants.{Csv, Cdf};
 ghost use Rattle.obs_engine.specs.Files.{case_in_files, case_of_tables, case_with_meters, cdf_case, csv_case};
-ghost use Rattle.obs_engine.specs.Forms.{IsCaseWord};
+ghost use Rattle.obs_engine.specs.Forms.{AreTold, ReadFailed, case_words};
 ghost use Rattle.obs_engine.specs.Taken.{IsFile, IsTaken};
 
 use crate::taken::{Refusal, Untaken};
@@ -65,11 +66,12 @@ fn read_csv(
 
 // The case that the files of words 2 to 5 are.
 fn take_csv<F: Files>(alloc: Global, files: &mut F) -> Result<Case, Untaken>
-    ensures stated { (file : ℕ → List ℕ) → ((w : ℕ) → IsCaseWord Csv w → F.content files.old w ≡ Some (file w))
+    ensures stated { (file : ℕ → List ℕ) → AreTold (F.content files.old) file (case_words Csv)
         → IsTaken (csv_case (file 2) (file 3) (file 4) (file 5)) result }
-    ensures read { IsErrOf result Untaken.Read → (w : ℕ) × IsCaseWord Csv w × Rose (F.faults files.old w) (F.faults files.new w) }
+    ensures read { IsErrOf result Untaken.Read
+        → ReadFailed (case_words Csv) (F.content files.old) (F.faults files.old) (F.faults files.new) }
     ensures quiet { (IsErrOf result Untaken.Read → ⊥) → (w : ℕ) → F.faults files.new w ≡ F.faults files.old w }
-    ensures steady { ((w : ℕ) → IsCaseWord Csv w → F.steady files.old w) → IsErrOf result Untaken.Read → ⊥ }
+    ensures steady { ((w : ℕ) → In w (case_words Csv) → F.steady files.old w) → IsErrOf result Untaken.Read → ⊥ }
 {
     let nodes = take_file(alloc, files, 2, b"nodes")?;
     let switches = take_file(alloc, files, 3, b"switches")?;
@@ -94,11 +96,12 @@ fn read_cdf_tables(alloc: Global, cdf: &[u8], meters: &[u8]) -> Result<Case, Unt
 
 // The case that the files of words 2 and 3 are.
 fn take_cdf<F: Files>(alloc: Global, files: &mut F) -> Result<Case, Untaken>
-    ensures stated { (file : ℕ → List ℕ) → ((w : ℕ) → IsCaseWord Cdf w → F.content files.old w ≡ Some (file w))
+    ensures stated { (file : ℕ → List ℕ) → AreTold (F.content files.old) file (case_words Cdf)
         → IsTaken (cdf_case (file 2) (file 3)) result }
-    ensures read { IsErrOf result Untaken.Read → (w : ℕ) × IsCaseWord Cdf w × Rose (F.faults files.old w) (F.faults files.new w) }
+    ensures read { IsErrOf result Untaken.Read
+        → ReadFailed (case_words Cdf) (F.content files.old) (F.faults files.old) (F.faults files.new) }
     ensures quiet { (IsErrOf result Untaken.Read → ⊥) → (w : ℕ) → F.faults files.new w ≡ F.faults files.old w }
-    ensures steady { ((w : ℕ) → IsCaseWord Cdf w → F.steady files.old w) → IsErrOf result Untaken.Read → ⊥ }
+    ensures steady { ((w : ℕ) → In w (case_words Cdf) → F.steady files.old w) → IsErrOf result Untaken.Read → ⊥ }
 {
     let cdf = take_file(alloc, files, 2, b"cdf")?;
     let meters = take_file(alloc, files, 3, b"meters")?;
@@ -111,11 +114,12 @@ pub(crate) fn take_case<F: Files>(
     files: &mut F,
     from: CaseForm,
 ) -> Result<Case, Untaken>
-    ensures stated { (file : ℕ → List ℕ) → ((w : ℕ) → IsCaseWord from w → F.content files.old w ≡ Some (file w))
+    ensures stated { (file : ℕ → List ℕ) → AreTold (F.content files.old) file (case_words from)
         → IsTaken (case_in_files from file) result }
-    ensures read { IsErrOf result Untaken.Read → (w : ℕ) × IsCaseWord from w × Rose (F.faults files.old w) (F.faults files.new w) }
+    ensures read { IsErrOf result Untaken.Read
+        → ReadFailed (case_words from) (F.content files.old) (F.faults files.old) (F.faults files.new) }
     ensures quiet { (IsErrOf result Untaken.Read → ⊥) → (w : ℕ) → F.faults files.new w ≡ F.faults files.old w }
-    ensures steady { ((w : ℕ) → IsCaseWord from w → F.steady files.old w) → IsErrOf result Untaken.Read → ⊥ }
+    ensures steady { ((w : ℕ) → In w (case_words from) → F.steady files.old w) → IsErrOf result Untaken.Read → ⊥ }
 {
     match from {
         CaseForm::Csv => take_csv(alloc, files),

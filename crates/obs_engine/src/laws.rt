@@ -1,15 +1,18 @@
 // The laws of reports.
-ghost use Rattle.std.specs.Prelude.{◌≡◌, ◌↔◌, ◌+◌, ◌<◌, ◌≤◌, ◌==◌, ℕ, true, List, length, filter};
+ghost use Rattle.std.specs.Prelude.{◌≡◌, ◌↔◌, ◌+◌, ◌<◌, ◌≤◌, ◌==◌, ℕ, true, List, length, filter, Some, codes};
 ghost use Rattle.obs_case.specs.Tables.{IsValid, Tables};
 ghost use Rattle.obs_matroid.specs.Lists.{In};
 ghost use Rattle.obs_matroid.specs.Assignments.{Pair};
 ghost use Rattle.obs_meter.specs.Assignments.{IsAssignmentAt, IsRhoAt};
 ghost use Rattle.obs_exchange.specs.Critical.{IsCriticalAt};
 ghost use Rattle.obs_network.specs.Components.{need_of};
-ghost use Rattle.obs_network.specs.Network.{case_branches, case_component_count, case_meters, case_sizes};
+ghost use Rattle.obs_network.specs.Network.{case_branches, case_component_count, case_meters, case_needed, case_sizes};
 ghost use Rattle.obs_network.specs.Observable.{IsObservable, IsObservableCase, branch_component, case_live_meters, is_fed};
 ghost use Rattle.obs_engine.specs.declared.status.Status.TheVariants.{Done, Short};
-ghost use Rattle.obs_engine.specs.Laws.{CasesAreValid, ListsNonCritical};
+ghost use Rattle.obs_engine.specs.declared.words.Form.{Form};
+ghost use Rattle.obs_engine.specs.Forms.{form_of};
+ghost use Rattle.obs_report.specs.Counts.{verdict_word};
+ghost use Rattle.obs_engine.specs.Laws.{CasesAreValid, IsFormOf, ListsNonCritical};
 ghost use Rattle.obs_edit.specs.Answers.{bound_outside, bound_rank, case_critical_meters, case_rank, component_meters, short_components};
 ghost use Rattle.obs_engine.specs.Report.{report_status};
 
@@ -27,6 +30,14 @@ pub fn rank_is_greatest()
 pub fn status_is_observability()
     ensures done { (t : Tables) → IsValid t → (report_status t ≡ Done) ↔ IsObservableCase t }
     ensures short { (t : Tables) → IsValid t → (report_status t ≡ Short) ↔ (IsObservableCase t → ⊥) }
+{}
+
+/// The printed verdict is the word `observable` exactly where the case is observable, and else the word `short`.
+pub fn verdict_is_observability()
+    ensures observable { (t : Tables) → IsValid t →
+        (verdict_word (case_rank t) (case_needed t) ≡ codes "observable") ↔ IsObservableCase t }
+    ensures short { (t : Tables) → IsValid t →
+        (verdict_word (case_rank t) (case_needed t) ≡ codes "short") ↔ (IsObservableCase t → ⊥) }
 {}
 
 /// A report has a bound for exactly those energised components that aren't observable.
@@ -57,4 +68,9 @@ pub fn bounds_list_the_meters_that_are_not_critical()
 pub fn critical_lines_are_exact()
     ensures exactly { (t : Tables) → IsValid t → (m : ℕ) →
         In m (case_critical_meters t) ↔ IsCriticalAt (case_branches t) (case_meters t) (case_live_meters t) m }
+{}
+
+/// The words have a form exactly where they are those of a command, each in its place, with a word for each of its files.
+pub fn forms_of_words()
+    ensures exactly { (words : List (List ℕ)) (form : Form) → (form_of words ≡ Some form) ↔ IsFormOf form words }
 {}

@@ -2,11 +2,11 @@
 ghost use Rattle.std.specs.Prelude.{◌≡◌, ◌≢◌, ◌⊎◌, ℕ, List, length, map, string_bytes, IsSome};
 ghost use Rattle.obs_io.specs.Causes.{Rose};
 ghost use Rattle.obs_engine.specs.Ending.{Answers, Ends, HasRoom};
-ghost use Rattle.obs_engine.specs.Forms.{form_of, CanAnswer, IsFileWord, ReadRose, TakesInput};
+ghost use Rattle.obs_engine.specs.Forms.{AnyReadFailed, CanAnswer, IsFileWord, TakesInput, form_of};
 ghost use Rattle.obs_engine.specs.Stated.{Told, Tells};
 
-use crate::report::report;
 use crate::refused::refuse_words;
+use crate::report::report;
 use crate::status::Status;
 use crate::topology::topology;
 use crate::words::{Form, form_of_words};
@@ -34,10 +34,12 @@ pub fn run<F: Files, S: Source, W: Sink>(
         → HasRoom form told (W.has_room output.old)
         → (result ≡ Status.NoMemory) ⊎ Answers form told result (W.written output.old) (W.written output.new) }
 
-    // Which answers the words can have, and the cause of each that says that something failed.
+    // Which answers the words can have, and the cause of each that says that something failed. Files are read in the
+    // order of their words, and the first that fails or is too long ends the run.
     ensures statuses { CanAnswer (form_of (map string_bytes words.now)) result }
     ensures read { result ≡ Status.ReadFault
-        → ReadRose (form_of (map string_bytes words.now)) (F.faults files.old) (F.faults files.new) (S.faults input.old) (S.faults input.new) }
+        → AnyReadFailed (form_of (map string_bytes words.now)) (F.content files.old) (F.faults files.old) (F.faults files.new)
+        (S.faults input.old) (S.faults input.new) }
     ensures write { result ≡ Status.WriteFault → Rose (W.faults output.old) (W.faults output.new) }
 
     // A call that fails ends the run, which says so: with another answer the counts are as they were.

@@ -22,8 +22,7 @@ const TOO_LONG: u64 = 14;
 
 /// Answers words that have no form.
 pub(crate) fn refuse_words<W: Sink>(output: &mut W) -> Status
-    ensures replied { IsReplied (W.written output.old) (W.written output.new) (W.faults output.old) (W.faults output.new)
-        (W.has_room output.old) result usage_reply }
+    ensures replied { IsReplied W.written W.faults W.has_room output.old output.new result usage_reply }
     ensures statuses { (result ≡ Status.Usage) ⊎ (result ≡ Status.WriteFault) }
 {
     match write_all(output, USAGE) {
@@ -34,8 +33,7 @@ pub(crate) fn refuse_words<W: Sink>(output: &mut W) -> Status
 
 // Answers a file that is too long, by its part of the input.
 fn refuse_too_long<W: Sink>(output: &mut W, part: &[u8]) -> Status
-    ensures replied { IsReplied (W.written output.old) (W.written output.new) (W.faults output.old) (W.faults output.new)
-        (W.has_room output.old) result (too_long_reply part.now) }
+    ensures replied { IsReplied W.written W.faults W.has_room output.old output.new result (too_long_reply part.now) }
 {
     match print_fault(output, part, 0, TOO_LONG, b"TooLong") {
         Ok(()) => Status::InputFault,
@@ -45,8 +43,7 @@ fn refuse_too_long<W: Sink>(output: &mut W, part: &[u8]) -> Status
 
 // Answers tables that have a fault, which is the first one.
 fn refuse_tables<W: Sink>(output: &mut W, fault: TableFault) -> Status
-    ensures replied { IsReplied (W.written output.old) (W.written output.new) (W.faults output.old) (W.faults output.new)
-        (W.has_room output.old) result (fault_reply fault) }
+    ensures replied { IsReplied W.written W.faults W.has_room output.old output.new result (fault_reply fault) }
 {
     let part = fault.table.name();
     let code = u64::from(fault.code.code());
@@ -58,8 +55,7 @@ fn refuse_tables<W: Sink>(output: &mut W, fault: TableFault) -> Status
 
 // Answers a file in the IEEE Common Data Format that has a fault, which is the first one.
 fn refuse_cdf<W: Sink>(output: &mut W, fault: CdfFault) -> Status
-    ensures replied { IsReplied (W.written output.old) (W.written output.new) (W.faults output.old) (W.faults output.new)
-        (W.has_room output.old) result (cdf_fault_reply fault) }
+    ensures replied { IsReplied W.written W.faults W.has_room output.old output.new result (cdf_fault_reply fault) }
 {
     let line = u64::from(fault.line());
     let code = u64::from(fault.code());
@@ -71,8 +67,7 @@ fn refuse_cdf<W: Sink>(output: &mut W, fault: CdfFault) -> Status
 
 // Answers files that are refused.
 fn refuse<W: Sink>(output: &mut W, why: Refusal) -> Status
-    ensures replied { IsReplied (W.written output.old) (W.written output.new) (W.faults output.old) (W.faults output.new)
-        (W.has_room output.old) result (refusal_reply why) }
+    ensures replied { IsReplied W.written W.faults W.has_room output.old output.new result (refusal_reply why) }
 {
     match why {
         Refusal::TooLong(part) => refuse_too_long(output, part),

@@ -3,7 +3,7 @@ ghost use Rattle.std.specs.Prelude.{◌≡◌, ◌≢◌, ◌+◌, ◌<◌, ℕ,
 ghost use Rattle.obs_io.specs.Causes.{Rose};
 ghost use Rattle.obs_engine.specs.declared.words.Form.TheVariants.{Report};
 ghost use Rattle.obs_engine.specs.Ending.{EndsWith, IsReplied};
-ghost use Rattle.obs_engine.specs.Forms.{AreFiles, CanAnswer, FileRose, IsFileWord};
+ghost use Rattle.obs_engine.specs.Forms.{AreFiles, CanAnswer, IsFileWord, ReadFailed, file_words};
 ghost use Rattle.obs_engine.specs.Report.{report_of, report_reply, report_status};
 
 use crate::asks::print_report;
@@ -37,8 +37,7 @@ fn answer_session<W: Sink, L: Ledger>(
     session: &mut Session,
     steps: &mut Steps<L>,
 ) -> Status
-    ensures replied { IsReplied (W.written output.old) (W.written output.new) (W.faults output.old) (W.faults output.new)
-        (W.has_room output.old) result (report_of session.old.tables) }
+    ensures replied { IsReplied W.written W.faults W.has_room output.old output.new result (report_of session.old.tables) }
 {
     let status = verdict(session);
     match print_report(output, session, steps) {
@@ -57,8 +56,7 @@ fn answer_counted<W: Sink, L: Ledger>(
     requires name { blank.name ≡ L.name }
     requires parts { blank.parts ≡ L.parts }
     requires some { 0 < L.parts }
-    ensures replied { IsReplied (W.written output.old) (W.written output.new) (W.faults output.old) (W.faults output.new)
-        (W.has_room output.old) result (report_of case) }
+    ensures replied { IsReplied W.written W.faults W.has_room output.old output.new result (report_of case) }
 {
     let mut steps = Steps::<L>::begin(blank);
     let Ok(mut session) = Session::begin(alloc, case, false, &mut steps) else {
@@ -69,8 +67,7 @@ fn answer_counted<W: Sink, L: Ledger>(
 
 // Answers a case.
 fn answer_case<W: Sink>(alloc: Global, output: &mut W, case: Case) -> Status
-    ensures replied { IsReplied (W.written output.old) (W.written output.new) (W.faults output.old) (W.faults output.new)
-        (W.has_room output.old) result (report_of case) }
+    ensures replied { IsReplied W.written W.faults W.has_room output.old output.new result (report_of case) }
 {
     answer_counted::<W, Brand>(alloc, output, case, Blank::new(1))
 }
@@ -85,7 +82,8 @@ pub(crate) fn report<F: Files, W: Sink>(
     ensures ends { (file : ℕ → List ℕ) → AreFiles (Some (Report from)) (F.content files.old) file
         → EndsWith (report_reply from file) result (W.written output.old) (W.written output.new) }
     ensures statuses { CanAnswer (Some (Report from)) result }
-    ensures read { result ≡ Status.ReadFault → FileRose (Some (Report from)) (F.faults files.old) (F.faults files.new) }
+    ensures read { result ≡ Status.ReadFault
+        → ReadFailed (file_words (Some (Report from))) (F.content files.old) (F.faults files.old) (F.faults files.new) }
     ensures write { result ≡ Status.WriteFault → Rose (W.faults output.old) (W.faults output.new) }
     ensures quiet { result ≢ Status.WriteFault → W.faults output.new ≡ W.faults output.old }
     ensures quiet_files { result ≢ Status.ReadFault → (w : ℕ) → F.faults files.new w ≡ F.faults files.old w }

@@ -1,7 +1,8 @@
 // The printed text of worked reports.
 
 use crate::Status;
-use crate::tests::{answers, failing_reads, failing_writes, many_nodes};
+use crate::tests::{answers, failing_reads, failing_writes, many_nodes, outcome_over, too_long};
+use obs_io::Entry;
 use std::alloc::Global;
 use std::process::Abort;
 use std::test::Fail;
@@ -229,5 +230,43 @@ fn each_write_of_a_report_may_fail(rt: HostRuntime) -> Result<(), Fail> {
     ];
     let writes = failing_writes(&rt, rt.alloc(), &TABLES, &files, row.text)?;
     assert!(rt; writes >= 34);
+    Ok(())
+}
+
+// No other file is held.
+#[test]
+fn nodes_are_judged_before_the_other_tables_are_read(rt: HostRuntime) -> Result<(), Fail> {
+    let long = too_long(rt.alloc())?;
+    let files = [b"".as_slice(), &long];
+    let text = b"fault\tnodes\t0\t14\tTooLong\n";
+    let status = Status::InputFault;
+    answers(&rt, rt.alloc(), &TABLES, &files, status, text)
+}
+
+// No file of meters is held.
+#[test]
+fn branches_are_judged_before_meters_are_read(rt: HostRuntime) -> Result<(), Fail> {
+    let long = too_long(rt.alloc())?;
+    let files = [b"".as_slice(), path().nodes, SWITCHES, &long];
+    let text = b"fault\tbranches\t0\t14\tTooLong\n";
+    let status = Status::InputFault;
+    answers(&rt, rt.alloc(), &TABLES, &files, status, text)
+}
+
+// No file of switches is held, and that of branches would be too long.
+#[test]
+fn tables_are_read_in_the_order_of_their_words(rt: HostRuntime) -> Result<(), Fail> {
+    let mut entries = Vec::new(rt.alloc());
+    entries.push(Entry {
+        word: 2,
+        bytes: Vec::from_slice(rt.alloc(), path().nodes)?,
+    })?;
+    entries.push(Entry {
+        word: 4,
+        bytes: too_long(rt.alloc())?,
+    })?;
+    let found = outcome_over(rt.alloc(), &TABLES, entries, &[], &[])?;
+    assert!(rt; found.status == Status::ReadFault);
+    assert!(rt; found.text.is_empty());
     Ok(())
 }

@@ -35,7 +35,7 @@ pub(crate) struct Ended {
 }
 
 // A run over these files and outsides in memory whose calls with these numbers fail.
-fn outcome_over(
+pub(crate) fn outcome_over(
     alloc: Global,
     words: &[&str],
     entries: Vec<Entry>,
@@ -274,7 +274,7 @@ fn an_absent_file_is_a_read_fault(rt: HostRuntime) -> Result<(), Fail> {
 }
 
 // One byte more than a file may have.
-fn too_long(alloc: Global) -> Result<Vec<u8>, Fail> {
+pub(crate) fn too_long(alloc: Global) -> Result<Vec<u8>, Fail> {
     Ok(vec![in alloc; b'x'; 16_777_217]?)
 }
 

@@ -10,7 +10,7 @@ ghost use Rattle.obs_report.specs.Printed.{Appends};
 ghost use Rattle.obs_engine.specs.declared.words.Form.TheVariants.{Topology};
 ghost use Rattle.obs_engine.specs.Ending.{EndsWith, IsReplied};
 ghost use Rattle.obs_engine.specs.Files.{case_of_tables, switching_case};
-ghost use Rattle.obs_engine.specs.Forms.{AreFiles, CanAnswer, FileRose, IsFileWord};
+ghost use Rattle.obs_engine.specs.Forms.{AreFiles, CanAnswer, IsFileWord, ReadFailed, file_words};
 ghost use Rattle.obs_engine.specs.Taken.{IsTaken};
 ghost use Rattle.obs_engine.specs.Topology.{topology_of, topology_reply, topology_text};
 
@@ -48,7 +48,8 @@ fn read_switching(alloc: Global, nodes: &[u8], switches: &[u8]) -> Result<Case, 
 fn take_switching<F: Files>(alloc: Global, files: &mut F) -> Result<Case, Untaken>
     ensures stated { (file : ℕ → List ℕ) → AreFiles (Some Topology) (F.content files.old) file
         → IsTaken (switching_case (file 1) (file 2)) result }
-    ensures read { IsErrOf result Untaken.Read → FileRose (Some Topology) (F.faults files.old) (F.faults files.new) }
+    ensures read { IsErrOf result Untaken.Read
+        → ReadFailed (file_words (Some Topology)) (F.content files.old) (F.faults files.old) (F.faults files.new) }
     ensures quiet { (IsErrOf result Untaken.Read → ⊥) → (w : ℕ) → F.faults files.new w ≡ F.faults files.old w }
     ensures steady { ((w : ℕ) → IsFileWord (Some Topology) w → F.steady files.old w) → IsErrOf result Untaken.Read → ⊥ }
 {
@@ -81,8 +82,7 @@ fn print_topology<W: Sink>(output: &mut W, case: &Case, buses: &Buses) -> Result
 
 // Answers the case that the two tables are.
 fn answer_case<W: Sink>(alloc: Global, output: &mut W, case: &Case) -> Status
-    ensures replied { IsReplied (W.written output.old) (W.written output.new) (W.faults output.old) (W.faults output.new)
-        (W.has_room output.old) result (topology_of case.now) }
+    ensures replied { IsReplied W.written W.faults W.has_room output.old output.new result (topology_of case.now) }
 {
     let Ok(buses) = buses_of_case(alloc, case) else {
         return Status::NoMemory;
@@ -98,7 +98,8 @@ pub(crate) fn topology<F: Files, W: Sink>(alloc: Global, files: &mut F, output: 
     ensures ends { (file : ℕ → List ℕ) → AreFiles (Some Topology) (F.content files.old) file
         → EndsWith (topology_reply file) result (W.written output.old) (W.written output.new) }
     ensures statuses { CanAnswer (Some Topology) result }
-    ensures read { result ≡ Status.ReadFault → FileRose (Some Topology) (F.faults files.old) (F.faults files.new) }
+    ensures read { result ≡ Status.ReadFault
+        → ReadFailed (file_words (Some Topology)) (F.content files.old) (F.faults files.old) (F.faults files.new) }
     ensures write { result ≡ Status.WriteFault → Rose (W.faults output.old) (W.faults output.new) }
     ensures quiet { result ≢ Status.WriteFault → W.faults output.new ≡ W.faults output.old }
     ensures quiet_files { result ≢ Status.ReadFault → (w : ℕ) → F.faults files.new w ≡ F.faults files.old w }

@@ -22,10 +22,11 @@ print_claim-requires g c = record {
 pub loop-c-preserved : goal.loop-c-preserved
 loop-c-preserved g c =
     let t = c.args.session.now.tables in
-    let text = component_claim c.args.trees c.args.bounds t in
-    (c.in-Ok.ensures.tables ∙ c.loop-c.invariant.0,
-    appends_as (sym (texts_more text c.loop-c.c))
-        (then_call c.loop-c.invariant.1 (appends_as (ap (λ (x : Tables). component_claim c.args.trees c.args.bounds x c.loop-c.c) c.loop-c.invariant.0) c.in-Ok.ensures.appends)))
+    let text = component_claim c.args.trees c.args.bounds t in (
+      c.in-Ok.ensures.tables ∙ c.loop-c.invariant.0,
+      appends_as (sym (texts_more text c.loop-c.c))
+          (then_call c.loop-c.invariant.1 (appends_as (ap (λ (x : Tables). component_claim c.args.trees c.args.bounds x c.loop-c.c) c.loop-c.invariant.0) c.in-Ok.ensures.appends)),
+    )
 
 pub returns-in-Err-clause-appends : goal.returns-in-Err-clause-appends
 returns-in-Err-clause-appends g c =

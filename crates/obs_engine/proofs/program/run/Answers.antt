@@ -2,7 +2,7 @@ use Rattle.obs_engine.specs.declared.words.Form.TheVariants.{Topology, Report}
 use Rattle.obs_engine.specs.Report.{report_reply}
 use Rattle.obs_engine.specs.Topology.{topology_reply}
 use Rattle.obs_engine.proofs.Endings.{usage_complete, usage_ends}
-use Rattle.obs_engine.proofs.Replied.{complete_at, ends_at, files_at, report_form, rose_at, statuses_at, topology_form, words_at}
+use Rattle.obs_engine.proofs.Replied.{complete_at, ends_at, failed_at, files_at, report_form, statuses_at, topology_form, words_at}
 use Rattle.obs_engine.proofs.program.run.Goals as goal
 
 pub returns-in_default-clause-stated : goal.returns-in_default-clause-stated
@@ -25,7 +25,7 @@ pub returns-in-Topology-clause-statuses : goal.returns-in-Topology-clause-status
 returns-in-Topology-clause-statuses g c = statuses_at _ _ Topology c.in-Some.ensures.form c.in-Topology.is _ c.topology.ensures.statuses
 
 pub returns-in-Topology-clause-read : goal.returns-in-Topology-clause-read
-returns-in-Topology-clause-read g c = λ e. rose_at _ _ Topology c.in-Some.ensures.form c.in-Topology.is _ _ _ _ (c.topology.ensures.read e)
+returns-in-Topology-clause-read g c = λ e. failed_at _ _ Topology c.in-Some.ensures.form c.in-Topology.is _ _ _ _ _ (c.topology.ensures.read e)
 
 pub returns-in-Report-clause-stated : goal.returns-in-Report-clause-stated
 returns-in-Report-clause-stated g c = λ told tells.
@@ -41,4 +41,4 @@ pub returns-in-Report-clause-statuses : goal.returns-in-Report-clause-statuses
 returns-in-Report-clause-statuses g c = statuses_at _ _ (Report c.in-Report.from) c.in-Some.ensures.form c.in-Report.is _ c.report.ensures.statuses
 
 pub returns-in-Report-clause-read : goal.returns-in-Report-clause-read
-returns-in-Report-clause-read g c = λ e. rose_at _ _ (Report c.in-Report.from) c.in-Some.ensures.form c.in-Report.is _ _ _ _ (c.report.ensures.read e)
+returns-in-Report-clause-read g c = λ e. failed_at _ _ (Report c.in-Report.from) c.in-Some.ensures.form c.in-Report.is _ _ _ _ _ (c.report.ensures.read e)

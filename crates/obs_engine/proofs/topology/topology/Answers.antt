@@ -1,4 +1,4 @@
-use Rattle.std.proofs.Common.{◌+◌, inl, inr, length, refl, Result, Some, subst, sym}
+use Rattle.std.proofs.Common.{◌+◌, ap, Err, inl, inr, length, refl, Result, Some, subst, sym}
 use Rattle.obs_case.specs.Tables.{Tables}
 use Rattle.obs_engine.specs.declared.words.Form.TheVariants.{Topology}
 use Rattle.obs_engine.specs.Ending.{EndsWith}
@@ -35,3 +35,6 @@ returns-in-Ok-clause-quiet_files g c = λ none w. c.in-Ok.ensures.quiet (ok_not_
 
 pub returns-in-Err-clause-quiet_files : goal.returns-in-Err-clause-quiet_files
 returns-in-Err-clause-quiet_files g c = λ none w. c.in-Err.ensures.quiet (λ e. none (c.refuse_files.ensures.unanswered (read_is _ e))) w
+
+pub returns-in-Err-clause-read : goal.returns-in-Err-clause-read
+returns-in-Err-clause-read g c = λ e. c.in-Err.ensures.read (ap Err (c.refuse_files.ensures.read e))

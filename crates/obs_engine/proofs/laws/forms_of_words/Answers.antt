@@ -1,0 +1,5 @@
+use Rattle.obs_engine.proofs.Worded.{form_exactly}
+use Rattle.obs_engine.proofs.laws.forms_of_words.Goals as goal
+
+pub returns : goal.returns
+returns c = record { exactly = form_exactly }
