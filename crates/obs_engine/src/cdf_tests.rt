@@ -104,7 +104,7 @@ const METERS14: &[u8] =
     b"meter,kind,at,inservice\nF1,flow,L1,1\nF3,flow,L3,1\nF4,flow,L4,1\nF5,flow,L5,1\nF8,flow,L8,1\nF10,flow,L10,1\nF11,flow,L11,1\nF12,flow,L12,1\nF13,flow,L13,1\nF15,flow,L15,1\nF16,flow,L16,1\nF17,flow,L17,1\nI8,injection,8,1\n";
 
 fn report14() -> &'static [u8] {
-    b"count\tbuses\t14\ncount\tenergised\t14\ncount\tbranches\t20\ncount\tmeters\t13\ncount\tneeded\t13\ncount\trank\t13\nverdict\tobservable\ncritical\tF1\ncritical\tF3\ncritical\tF4\ncritical\tF5\ncritical\tF8\ncritical\tF10\ncritical\tF11\ncritical\tF12\ncritical\tF13\ncritical\tF15\ncritical\tF16\ncritical\tF17\ncritical\tI8\nend\n"
+    b"count\tbuses\t14\ncount\tenergised\t14\ncount\tbranches\t20\ncount\tmeters\t13\ncount\tneeded\t13\ncount\trank\t13\nverdict\tobservable\ntree\t1\npair\tmeter\tF1\tL1\npair\tmeter\tF3\tL3\npair\tmeter\tF4\tL4\npair\tmeter\tF5\tL5\npair\tmeter\tF8\tL8\npair\tmeter\tF10\tL10\npair\tmeter\tF11\tL11\npair\tmeter\tF12\tL12\npair\tmeter\tF13\tL13\npair\tmeter\tF15\tL15\npair\tmeter\tF16\tL16\npair\tmeter\tF17\tL17\npair\tmeter\tI8\tL14\nisland\t1\t1\nisland\t1\t2\nisland\t1\t3\nisland\t1\t4\nisland\t1\t5\nisland\t1\t6\nisland\t1\t7\nisland\t1\t8\nisland\t1\t9\nisland\t1\t10\nisland\t1\t11\nisland\t1\t12\nisland\t1\t13\nisland\t1\t14\ncritical\tF1\ncritical\tF3\ncritical\tF4\ncritical\tF5\ncritical\tF8\ncritical\tF10\ncritical\tF11\ncritical\tF12\ncritical\tF13\ncritical\tF15\ncritical\tF16\ncritical\tF17\ncritical\tI8\nend\n"
 }
 
 // A file in the IEEE Common Data Format and the table of meters, behind a word that names no file.
@@ -136,7 +136,7 @@ fn a_further_meter_leaves_fewer_critical(rt: HostRuntime) -> Result<(), Fail> {
     let meters =
         b"meter,kind,at,inservice\nF1,flow,L1,1\nF3,flow,L3,1\nF4,flow,L4,1\nF5,flow,L5,1\nF8,flow,L8,1\nF10,flow,L10,1\nF11,flow,L11,1\nF12,flow,L12,1\nF13,flow,L13,1\nF15,flow,L15,1\nF16,flow,L16,1\nF17,flow,L17,1\nI8,injection,8,1\nI7,injection,7,1\n".as_slice();
     let text =
-        b"count\tbuses\t14\ncount\tenergised\t14\ncount\tbranches\t20\ncount\tmeters\t14\ncount\tneeded\t13\ncount\trank\t13\nverdict\tobservable\ncritical\tF1\ncritical\tF3\ncritical\tF4\ncritical\tF5\ncritical\tF10\ncritical\tF11\ncritical\tF12\ncritical\tF13\ncritical\tF16\ncritical\tF17\nend\n";
+        b"count\tbuses\t14\ncount\tenergised\t14\ncount\tbranches\t20\ncount\tmeters\t14\ncount\tneeded\t13\ncount\trank\t13\nverdict\tobservable\ntree\t1\npair\tmeter\tF1\tL1\npair\tmeter\tF3\tL3\npair\tmeter\tF4\tL4\npair\tmeter\tF5\tL5\npair\tmeter\tF8\tL8\npair\tmeter\tF10\tL10\npair\tmeter\tF11\tL11\npair\tmeter\tF12\tL12\npair\tmeter\tF13\tL13\npair\tmeter\tF15\tL15\npair\tmeter\tF16\tL16\npair\tmeter\tF17\tL17\npair\tmeter\tI8\tL14\nisland\t1\t1\nisland\t1\t2\nisland\t1\t3\nisland\t1\t4\nisland\t1\t5\nisland\t1\t6\nisland\t1\t7\nisland\t1\t8\nisland\t1\t9\nisland\t1\t10\nisland\t1\t11\nisland\t1\t12\nisland\t1\t13\nisland\t1\t14\ncritical\tF1\ncritical\tF3\ncritical\tF4\ncritical\tF5\ncritical\tF10\ncritical\tF11\ncritical\tF12\ncritical\tF13\ncritical\tF16\ncritical\tF17\nend\n";
     let files = [b"".as_slice(), ieee14(), meters];
     answers(&rt, rt.alloc(), &CDF, &files, Status::Done, text)
 }

@@ -37,7 +37,7 @@ fn path() -> Row {
         nodes: b"node,source\na,1\nb,0\nc,0\nd,0\n",
         branches: b"branch,from,to,inservice\nL1,a,b,1\nL2,b,c,1\nL3,c,d,1\n",
         meters: b"meter,kind,at,inservice\nf1,flow,L1,1\nf2,flow,L1,1\nib,injection,b,1\n",
-        text: b"count\tbuses\t4\ncount\tenergised\t4\ncount\tbranches\t3\ncount\tmeters\t3\ncount\tneeded\t3\ncount\trank\t2\nverdict\tshort\nbound\ta\t1\t1\ninside\tmeter\tf1\ninside\tmeter\tf2\ncritical\tib\nend\n",
+        text: b"count\tbuses\t4\ncount\tenergised\t4\ncount\tbranches\t3\ncount\tmeters\t3\ncount\tneeded\t3\ncount\trank\t2\nverdict\tshort\nbound\ta\t1\t1\ninside\tmeter\tf1\ninside\tmeter\tf2\nisland\ta\ta\nisland\ta\tb\nisland\ta\tc\nisland\td\td\ncritical\tib\nend\n",
     }
 }
 
@@ -47,7 +47,7 @@ fn star() -> Row {
         nodes: b"node,source\nh,1\nx,0\ny,0\nz,0\n",
         branches: b"branch,from,to,inservice\nL1,h,x,1\nL2,h,y,1\nL3,h,z,1\n",
         meters: b"meter,kind,at,inservice\nih,injection,h,1\n",
-        text: b"count\tbuses\t4\ncount\tenergised\t4\ncount\tbranches\t3\ncount\tmeters\t1\ncount\tneeded\t3\ncount\trank\t1\nverdict\tshort\nbound\th\t0\t1\ncritical\tih\nend\n",
+        text: b"count\tbuses\t4\ncount\tenergised\t4\ncount\tbranches\t3\ncount\tmeters\t1\ncount\tneeded\t3\ncount\trank\t1\nverdict\tshort\nbound\th\t0\t1\nisland\th\th\nisland\tx\tx\nisland\ty\ty\nisland\tz\tz\ncritical\tih\nend\n",
     }
 }
 
@@ -57,7 +57,7 @@ fn neighbours() -> Row {
         nodes: b"node,source\na,1\nb,0\nc,0\nd,0\ne,0\n",
         branches: b"branch,from,to,inservice\nL1,a,b,1\nL2,b,c,1\nL3,c,d,1\nL4,d,e,1\n",
         meters: b"meter,kind,at,inservice\nib,injection,b,1\nic,injection,c,1\n",
-        text: b"count\tbuses\t5\ncount\tenergised\t5\ncount\tbranches\t4\ncount\tmeters\t2\ncount\tneeded\t4\ncount\trank\t2\nverdict\tshort\nbound\ta\t0\t2\ncritical\tib\ncritical\tic\nend\n",
+        text: b"count\tbuses\t5\ncount\tenergised\t5\ncount\tbranches\t4\ncount\tmeters\t2\ncount\tneeded\t4\ncount\trank\t2\nverdict\tshort\nbound\ta\t0\t2\nisland\ta\ta\nisland\tb\tb\nisland\tc\tc\nisland\td\td\nisland\te\te\ncritical\tib\ncritical\tic\nend\n",
     }
 }
 
@@ -85,7 +85,7 @@ fn alone() -> Row {
         nodes: b"node,source\na,1\n",
         branches: b"branch,from,to,inservice\n",
         meters: b"meter,kind,at,inservice\n",
-        text: b"count\tbuses\t1\ncount\tenergised\t1\ncount\tbranches\t0\ncount\tmeters\t0\ncount\tneeded\t0\ncount\trank\t0\nverdict\tobservable\nend\n",
+        text: b"count\tbuses\t1\ncount\tenergised\t1\ncount\tbranches\t0\ncount\tmeters\t0\ncount\tneeded\t0\ncount\trank\t0\nverdict\tobservable\ntree\ta\nisland\ta\ta\nend\n",
     }
 }
 
@@ -95,7 +95,7 @@ fn triangle() -> Row {
         nodes: b"node,source\na,1\nb,0\nc,0\n",
         branches: b"branch,from,to,inservice\nL1,a,b,1\nL2,b,c,1\nL3,c,a,1\n",
         meters: b"meter,kind,at,inservice\nia,injection,a,1\nf1,flow,L1,1\n",
-        text: b"count\tbuses\t3\ncount\tenergised\t3\ncount\tbranches\t3\ncount\tmeters\t2\ncount\tneeded\t2\ncount\trank\t2\nverdict\tobservable\ncritical\tia\ncritical\tf1\nend\n",
+        text: b"count\tbuses\t3\ncount\tenergised\t3\ncount\tbranches\t3\ncount\tmeters\t2\ncount\tneeded\t2\ncount\trank\t2\nverdict\tobservable\ntree\ta\npair\tmeter\tia\tL3\npair\tmeter\tf1\tL1\nisland\ta\ta\nisland\ta\tb\nisland\ta\tc\ncritical\tia\ncritical\tf1\nend\n",
     }
 }
 
@@ -105,7 +105,7 @@ fn parallel() -> Row {
         nodes: b"node,source\na,1\nb,0\n",
         branches: b"branch,from,to,inservice\nL1,a,b,1\nL2,a,b,1\n",
         meters: b"meter,kind,at,inservice\nf1,flow,L1,1\nf2,flow,L2,1\n",
-        text: b"count\tbuses\t2\ncount\tenergised\t2\ncount\tbranches\t2\ncount\tmeters\t2\ncount\tneeded\t1\ncount\trank\t1\nverdict\tobservable\nend\n",
+        text: b"count\tbuses\t2\ncount\tenergised\t2\ncount\tbranches\t2\ncount\tmeters\t2\ncount\tneeded\t1\ncount\trank\t1\nverdict\tobservable\ntree\ta\npair\tmeter\tf1\tL1\nisland\ta\ta\nisland\ta\tb\nend\n",
     }
 }
 
@@ -183,7 +183,7 @@ fn ring() -> Row {
         nodes: b"node,source\nAlder,1\nBirch,0\nCedar,0\nDune,0\nElm,0\nFern,0\nFern bar 2,0\n",
         branches: b"branch,from,to,inservice\nAlder-Birch,Alder,Birch,1\nBirch-Cedar,Birch,Cedar,1\nCedar-Dune,Cedar,Dune,1\nDune-Elm,Dune,Elm,1\nElm-Fern,Elm,Fern,1\nFern-Alder,Fern bar 2,Alder,1\nBirch-Elm,Birch,Elm,0\n",
         meters: b"meter,kind,at,inservice\nAlder line P,flow,Alder-Birch,1\nBirch line P,flow,Alder-Birch,1\nCedar line P,flow,Cedar-Dune,1\nElm bus P,injection,Elm,1\nBirch tie P,flow,Birch-Elm,1\nFern bus P,injection,Fern,0\n",
-        text: b"count\tbuses\t6\ncount\tenergised\t6\ncount\tbranches\t6\ncount\tmeters\t4\ncount\tneeded\t5\ncount\trank\t3\nverdict\tshort\nbound\tAlder\t1\t2\ninside\tmeter\tAlder line P\ninside\tmeter\tBirch line P\ncritical\tCedar line P\ncritical\tElm bus P\nend\n",
+        text: b"count\tbuses\t6\ncount\tenergised\t6\ncount\tbranches\t6\ncount\tmeters\t4\ncount\tneeded\t5\ncount\trank\t3\nverdict\tshort\nbound\tAlder\t1\t2\ninside\tmeter\tAlder line P\ninside\tmeter\tBirch line P\nisland\tAlder\tAlder\nisland\tAlder\tBirch\nisland\tCedar\tCedar\nisland\tCedar\tDune\nisland\tElm\tElm\nisland\tFern\tFern\ncritical\tCedar line P\ncritical\tElm bus P\nend\n",
     }
 }
 
