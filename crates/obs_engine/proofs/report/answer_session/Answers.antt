@@ -2,7 +2,7 @@ use Rattle.std.proofs.Common.{◌≡◌, subst, sym, inl, inr}
 use Rattle.obs_case.specs.Tables.{Tables}
 use Rattle.obs_engine.specs.declared.status.Status.{Status}
 use Rattle.obs_engine.specs.declared.status.Status.TheVariants.{ReadFault, WriteFault}
-use Rattle.obs_engine.specs.Ending.{IsReplied}
+use Rattle.obs_engine.specs.Ending.{RepliedAt}
 use Rattle.obs_engine.specs.Report.{report_of, report_status}
 use Rattle.obs_engine.proofs.Endings.{replied_failed, replied_whole}
 use Rattle.obs_engine.proofs.Replied.{report_status-is}
@@ -18,6 +18,6 @@ pub returns-in-Ok : goal.returns-in-Ok
 returns-in-Ok g c =
     let t = c.args.session.now.tables in
     record {
-      replied = subst (λ (s : Status). IsReplied (g.W.Sink.written c.args.output.now) (g.W.Sink.written c.print_report.new.output) (g.W.Sink.faults c.args.output.now) (g.W.Sink.faults c.print_report.new.output) (g.W.Sink.has_room c.args.output.now) s (report_of t))
+      replied = subst (λ (s : Status). RepliedAt (g.W.Sink.written c.args.output.now) (g.W.Sink.written c.print_report.new.output) (g.W.Sink.faults c.args.output.now) (g.W.Sink.faults c.print_report.new.output) (g.W.Sink.has_room c.args.output.now) s (report_of t))
           (sym c.verdict-status.ensures.status) (replied_whole (report_of t) (no_read t) (no_write t) c.in-Ok.ensures.appends);
     }
