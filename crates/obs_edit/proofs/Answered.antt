@@ -1,6 +1,6 @@
 -- What a longest assignment of a case shows of the answers.
-use Rattle.std.proofs.Common.{◌≡◌, ℕ, ◌+◌, ◌-◌, ◌<◌, ◌≤◌, Bool, true, false, not, Option, Some, None, List, length, filter, take, refl, sym, ap, ◌∙◌, subst, arith}
-use Rattle.std.specs.Prelude.{All, is_some}
+use Rattle.std.proofs.Common.{◌≡◌, ℕ, ◌+◌, ◌-◌, ◌≤◌, Bool, true, false, not, Option, Some, None, List, length, filter, take, refl, sym, ap, ◌∙◌, subst, arith}
+use Rattle.std.specs.Prelude.{is_some}
 use Rattle.std.proofs.lemmas.List.{length-take-le}
 use Rattle.std.proofs.lemmas.List.Filters.{length-filter_both}
 use Rattle.std.proofs.lemmas.List.FromFn.{length-range_with_len}
@@ -8,12 +8,11 @@ use Rattle.std.proofs.lemmas.List.Sums.{count_by-le-length, length-filter}
 use Rattle.obs_graph.specs.Shape.{Shape}
 use Rattle.obs_case.specs.Tables.{IsValid, Tables}
 use Rattle.obs_matroid.specs.Assignments.{Pair, items, part}
-use Rattle.obs_matroid.specs.Lists.{In, IsDistinct}
+use Rattle.obs_matroid.specs.Lists.{In}
 use Rattle.obs_matroid.proofs.Bounds.{length-items}
-use Rattle.obs_matroid.proofs.Comparing.{cases_Option}
 use Rattle.obs_matroid.proofs.Exchange.{items-part}
 use Rattle.obs_matroid.proofs.Lists.{In-filter, In-filter_from, IsDistinct-filter, clash, filter_same, length-within}
-use Rattle.obs_matroid.proofs.Slots.{IsDistinct-slots, slot_at}
+use Rattle.obs_matroid.proofs.Slots.{IsDistinct-slots}
 use Rattle.obs_meter.specs.Held.{Items}
 use Rattle.obs_meter.specs.Touches.{every_item, is_live}
 use Rattle.obs_meter.proofs.Assigned.{every-to_live, live-to_every, live_items-distinct}
@@ -29,13 +28,12 @@ use Rattle.obs_first.specs.First.{first_pairs}
 use Rattle.obs_first.proofs.Lawful.{first_pairs-is}
 use Rattle.obs_islands.specs.Firsts.{islands_of}
 use Rattle.obs_network.specs.Located.{live_meters_of}
-use Rattle.obs_network.specs.Network.{case_branches, case_component_count, case_meters, network_of}
+use Rattle.obs_network.specs.Network.{case_branches, case_meters, network_of}
 use Rattle.obs_network.specs.Observable.{case_live_meters}
 use Rattle.obs_network.specs.Switched.{case_bus_count}
 use Rattle.obs_network.proofs.Observed.{pairs_in}
 use Rattle.obs_network.proofs.OfCase.{case_branches-are}
 use Rattle.obs_edit.specs.Answers.{bound_meters, bound_outside, bound_rank, case_critical_meters, case_first_pairs, case_islands, case_rank, component_meters, component_rank, is_critical_meter, is_meter_of}
-use Rattle.obs_edit.specs.Longest.{IsLongest}
 use Rattle.obs_edit.specs.Sessions.{AreLongest, AreMarks}
 use Rattle.obs_edit.proofs.Enough.{in_component, least, live_pairs}
 use Rattle.obs_edit.proofs.OfNetwork.{length-case_meters}

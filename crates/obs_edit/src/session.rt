@@ -56,8 +56,8 @@ impl Model for Session {
       room : HasRoom s.case s.held.pairs s.held.work;
       answer_room : HasRoomToAnswer s.case s.answers.marks.items s.answers.critical s.answers.islands s.answers.inside.items s.answers.measured.listed;
       answers : AreAnswers s.case s.held.pairs s.answers.marks.items s.answers.critical s.answers.islands
-        (record { inside = take s.answers.measured.listed s.answers.inside.items; rank = s.answers.measured.rank; outside = s.answers.measured.outside })
-        s.answers.hand;
+          (record { inside = take s.answers.measured.listed s.answers.inside.items; rank = s.answers.measured.rank; outside = s.answers.measured.outside })
+          s.answers.hand;
     } };
 }
 
@@ -188,12 +188,7 @@ impl Session {
         if self.answers.hand.islands {
             return;
         }
-        find_islands(
-            &self.case,
-            &self.network,
-            &mut self.answers.islands,
-            steps,
-        );
+        find_islands(&self.case, &self.network, &mut self.answers.islands, steps);
         self.answers.hand.islands = true;
     }
 

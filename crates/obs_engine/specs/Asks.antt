@@ -1,5 +1,5 @@
 -- The text of each ask of a case.
-use Rattle.std.specs.Prelude.{ℕ, ◌==◌, Bool, true, false, List, [], ◌++◌, if◌then◌else◌}
+use Rattle.std.specs.Prelude.{ℕ, ◌==◌, Bool, true, List, [], ◌++◌, if◌then◌else◌}
 use Rattle.std.specs.List.{flat_map, range_with_len}
 use Rattle.obs_case.specs.Tables.{Tables}
 use Rattle.obs_network.specs.Components.{need_of}

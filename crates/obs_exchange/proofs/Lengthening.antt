@@ -18,7 +18,6 @@ use Rattle.obs_meter.specs.Sizes.{HasRoomFor, Sizes}
 use Rattle.obs_assign.specs.Assigned.{Assigned, HasRoomOf, IsWhole, StandsOver, branch_at, has_flag, is_frozen, pairs}
 use Rattle.obs_assign.specs.Moves.{turned}
 use Rattle.obs_exchange.specs.declared.Sources.TheVariants.{All}
-use Rattle.obs_exchange.specs.Closed.{IsLeastClosedAt}
 use Rattle.obs_exchange.specs.Found.{HasClosed, HasGrown}
 use Rattle.obs_exchange.specs.Laws.{HasClosedSet, IsThawed}
 use Rattle.obs_exchange.specs.Lengthened.{HasLengthened}

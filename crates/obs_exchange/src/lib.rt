@@ -25,7 +25,6 @@ pub struct Lengthened {
 mod exchange;
 mod find;
 pub mod laws;
-
 mod memory;
 #[cfg(test)]
 mod mesh_tests;
@@ -39,6 +38,6 @@ mod walk;
 mod work;
 
 pub use exchange::search;
-pub use repeated::lengthen;
 pub use memory::NoMemory;
+pub use repeated::lengthen;
 pub use work::Work;

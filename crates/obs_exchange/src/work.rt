@@ -38,8 +38,8 @@ impl Model for Work {
 
     ghost view = { λ w.
         record {
-            reached = take w.meters w.reached.items;
-            sizes = record { meters = length w.reached.items; branches = length w.walked.items; vertices = length w.stars.items };
+          reached = take w.meters w.reached.items;
+          sizes = record { meters = length w.reached.items; branches = length w.walked.items; vertices = length w.stars.items };
         } };
 
     ghost invariant = { λ w.
@@ -57,8 +57,8 @@ impl Work {
         most_vertices: u32,
     ) -> Result<Work, NoMemory>
         ensures empty { IfOk result (λ w. w ≡ record {
-            reached = [];
-            sizes = record { meters = most_meters; branches = most_branches; vertices = most_vertices };
+          reached = [];
+          sizes = record { meters = most_meters; branches = most_branches; vertices = most_vertices };
         }) }
     {
         let no_move = Move {

@@ -59,8 +59,8 @@ impl IslandWork {
         most_vertices: u32,
     ) -> Result<IslandWork, NoMemory>
         ensures empty { IfOk result (λ w. w ≡ record {
-            firsts = [];
-            sizes = record { meters = most_meters; branches = most_branches; vertices = most_vertices };
+          firsts = [];
+          sizes = record { meters = most_meters; branches = most_branches; vertices = most_vertices };
         }) }
     {
         Ok(IslandWork {

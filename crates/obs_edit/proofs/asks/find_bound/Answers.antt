@@ -1,11 +1,9 @@
-use Rattle.std.proofs.Common.{◌≡◌, ◌≤◌, ◌<◌, ◌+◌, ◌-◌, ℕ, List, length, filter, sym, ap, ◌∙◌, arith}
-use Rattle.std.specs.Prelude.{is_some}
+use Rattle.std.proofs.Common.{◌≡◌, ◌≤◌, ◌-◌, ℕ, List, length, filter, ap, ◌∙◌, arith}
 use Rattle.obs_case.specs.Tables.{Tables}
-use Rattle.obs_assign.specs.Assigned.{branch_at, has_flag}
+use Rattle.obs_assign.specs.Assigned.{has_flag}
 use Rattle.obs_network.specs.Located.{live_meters_of}
 use Rattle.obs_network.specs.Network.{NetworkOf, network_of}
-use Rattle.obs_edit.specs.Answers.{bound_meters, bound_outside, bound_rank, component_rank}
-use Rattle.obs_edit.proofs.Answered.{IsMeasured, few_in_component, marked_bound, measured}
+use Rattle.obs_edit.proofs.Answered.{few_in_component, marked_bound, measured}
 use Rattle.obs_edit.proofs.OfNetwork.{count_of, few_meters, length-case_meters}
 use Rattle.obs_edit.proofs.asks.find_bound.Goals as goal
 

@@ -1,7 +1,6 @@
 use Rattle.std.proofs.Common.{◌∙◌, ◌<◌, All, List, ℕ, length, ap, subst, sym}
 use Rattle.obs_case.specs.Tables.{Tables}
 use Rattle.obs_report.specs.Meters.{critical_text}
-use Rattle.obs_edit.specs.Answers.{case_critical_meters}
 use Rattle.obs_engine.specs.Asks.{case_critical_text}
 use Rattle.obs_engine.proofs.Asked.{appends_as, critical_are}
 use Rattle.obs_engine.proofs.OfNetwork.{critical_below}

@@ -1,4 +1,4 @@
-use Rattle.std.proofs.Common.{◌∙◌, ap, subst, sym}
+use Rattle.std.proofs.Common.{◌∙◌, ap, sym}
 use Rattle.obs_case.specs.Tables.{Tables}
 use Rattle.obs_report.specs.Islands.{islands_text}
 use Rattle.obs_edit.specs.Answers.{case_islands}

@@ -1,7 +1,7 @@
-use Rattle.std.proofs.Common.{◌≡◌, ◌∙◌, Bool, true, false, [], ap, subst, sym, arith}
+use Rattle.std.proofs.Common.{◌≡◌, ◌∙◌, Bool, true, false, ap, subst, sym, arith}
 use Rattle.obs_case.specs.Tables.{IsValid, Tables}
-use Rattle.obs_network.specs.Observable.{IsObservable, is_fed}
-use Rattle.obs_engine.specs.Asks.{bound_claim, component_claim, text_if, tree_claim}
+use Rattle.obs_network.specs.Observable.{is_fed}
+use Rattle.obs_engine.specs.Asks.{bound_claim, text_if, tree_claim}
 use Rattle.obs_engine.proofs.Asked.{appends_as, appends_nothing, claim_dead, claim_observable, claim_short}
 use Rattle.obs_engine.proofs.OfNetwork.{count_of, fed_of}
 use Rattle.obs_engine.proofs.asks.print_claim.Goals as goal

@@ -1,11 +1,11 @@
-use Rattle.std.proofs.Common.{◌≡◌, ◌<◌, ◌+◌, ◌-◌, ◌∙◌, ℕ, ap, sym, subst, arith}
+use Rattle.std.proofs.Common.{◌≡◌, ◌<◌, ◌+◌, ◌-◌, ◌∙◌, ap, sym, arith}
 use Rattle.std.specs.Prelude.{flat_map}
 use Rattle.std.specs.List.{range_with_len}
 use Rattle.obs_case.specs.Tables.{Tables}
 use Rattle.obs_network.specs.Network.{case_component_count}
 use Rattle.obs_report.proofs.Printing.{failed_call, then_call}
 use Rattle.obs_engine.specs.Asks.{component_claim}
-use Rattle.obs_engine.proofs.Asked.{appends_as, appends_nothing, claims_are, texts_around, texts_below, texts_more}
+use Rattle.obs_engine.proofs.Asked.{appends_as, claims_are, texts_around, texts_below, texts_more}
 use Rattle.obs_engine.proofs.OfNetwork.{count_of}
 use Rattle.obs_engine.proofs.asks.print_claims.Goals as goal
 

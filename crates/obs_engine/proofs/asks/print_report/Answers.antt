@@ -1,5 +1,4 @@
 use Rattle.std.proofs.Common.{◌++◌, true}
-use Rattle.obs_case.specs.Tables.{Tables}
 use Rattle.obs_report.specs.Lines.{last_line}
 use Rattle.obs_report.proofs.Printing.{failed_call, then_call}
 use Rattle.obs_engine.specs.Asks.{case_critical_text, case_islands_text, claims_text}

@@ -2,8 +2,8 @@ use Rattle.std.proofs.Common.{◌++◌, ap}
 use Rattle.obs_case.specs.Tables.{Tables}
 use Rattle.obs_report.specs.Lines.{last_line}
 use Rattle.obs_report.proofs.Printing.{failed_call, then_call}
-use Rattle.obs_engine.specs.Asks.{case_critical_text, case_islands_text, claims_text}
-use Rattle.obs_engine.proofs.Asked.{appends_as, report_is}
+use Rattle.obs_engine.specs.Asks.{case_critical_text}
+use Rattle.obs_engine.proofs.Asked.{appends_as}
 use Rattle.obs_engine.proofs.asks.print_second_half.Goals as goal
 
 pub returns-in-Ok-clause-appends : goal.returns-in-Ok-clause-appends

@@ -4,7 +4,7 @@ use Rattle.obs_engine.specs.declared.status.Status.{Status}
 use Rattle.obs_engine.specs.declared.status.Status.TheVariants.{ReadFault, WriteFault}
 use Rattle.obs_engine.specs.Ending.{RepliedAt}
 use Rattle.obs_engine.specs.Report.{report_of, report_status}
-use Rattle.obs_engine.proofs.Endings.{replied_failed, replied_whole}
+use Rattle.obs_engine.proofs.Endings.{replied_whole}
 use Rattle.obs_engine.proofs.Replied.{report_status-is}
 use Rattle.obs_engine.proofs.report.answer_session.Goals as goal
 

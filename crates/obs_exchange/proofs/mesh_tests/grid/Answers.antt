@@ -1,4 +1,4 @@
-use Rattle.std.proofs.Common.{◌≡◌, List, sym, ap, ◌∙◌, subst, refl}
+use Rattle.std.proofs.Common.{List, sym, ap, ◌∙◌, subst, refl}
 use Rattle.obs_meter.specs.declared.Touch.{Touch}
 use Rattle.obs_meter.specs.Held.{Items}
 use Rattle.obs_meter.specs.Touches.{AreInRange}

@@ -1,4 +1,4 @@
-use Rattle.std.proofs.Common.{ap, sym, arith, length}
+use Rattle.std.proofs.Common.{ap, arith}
 use Rattle.obs_network.specs.Network.{case_component_count}
 use Rattle.obs_edit.specs.Sessions.{Kept}
 use Rattle.obs_edit.proofs.OfNetwork.{count_of}
