@@ -9,7 +9,8 @@ use Rattle.obs_io.specs.Causes.{Rose}
 use Rattle.obs_matroid.specs.Lists.{In}
 use Rattle.obs_engine.specs.Files.{if_fits, is_too_long}
 use Rattle.obs_engine.specs.Forms.{ReadFailed}
-use Rattle.obs_engine.specs.Replies.{Reply}
+use Rattle.obs_text.specs.Faults.{Fault}
+use Rattle.obs_engine.specs.Replies.{Reply, fault_reply}
 use Rattle.obs_engine.specs.Taken.{IsFile, IsTaken, IsUntaken}
 
 -- after a file that isn't too long
@@ -25,7 +26,7 @@ not_taken part bytes next why (Ok t) e h = absurd e
 not_taken part bytes next why (Err x) e h = subst (λ (u : Untaken). IsUntaken (if_fits part bytes next) u) (sym e) (by why h)
   where
     by : (w : Untaken) → IsFile part bytes (Err w) → IsUntaken (if_fits part bytes next) w
-    by (Refused refusal) f = rw (f.0, f.1) refl
+    by (Refused fault) f = rw f.0 (ap (λ (x : Fault). Err (fault_reply x)) (sym f.1))
     by Read f = tt
     by NoMemory f = tt
 

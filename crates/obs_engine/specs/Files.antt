@@ -1,37 +1,37 @@
 -- What files hold: a case, or the reply that they get where they are none.
 use Rattle.std.specs.Prelude.{ℕ, Bool, nat_lt, List, length, codes, None, Result, Ok, Err, if◌then◌else◌}
+use Rattle.obs_text.specs.Faults.{too_long}
+use Rattle.obs_text.specs.Limits.{most_file_bytes}
 use Rattle.obs_case.specs.Tables.{Tables, no_rows}
 use Rattle.obs_case_csv.specs.declared.faults.TableFault.{TableFault}
 use Rattle.obs_case_csv.specs.declared.faults.Table.TheVariants.{Nodes, Switches}
+use Rattle.obs_case_csv.specs.Faults.{table_fault}
 use Rattle.obs_case_csv.specs.Read.{tables_in, then_read}
 use Rattle.obs_ieee_cdf.specs.declared.fault.CdfFault.{CdfFault}
+use Rattle.obs_ieee_cdf.specs.Faults.{cdf_fault}
 use Rattle.obs_ieee_cdf.specs.Read.{tables_after}
 use Rattle.obs_ieee_cdf.specs.Rows.{cdf_of}
 use Rattle.obs_engine.specs.declared.words.CaseForm.{CaseForm}
 use Rattle.obs_engine.specs.declared.words.CaseForm.TheVariants.{Csv, Cdf}
-use Rattle.obs_engine.specs.Replies.{Reply, cdf_fault_reply, fault_reply, too_long_reply}
-
--- the most bytes of a file
-abbrev pub most_bytes : ℕ
-most_bytes = 16777216
+use Rattle.obs_engine.specs.Replies.{Reply, fault_reply}
 
 -- whether bytes are more than a file may have
 abbrev pub is_too_long : List ℕ → Bool
-is_too_long bytes = nat_lt most_bytes (length bytes)
+is_too_long bytes = nat_lt most_file_bytes (length bytes)
 
 -- what comes after a file of this part of the input, unless it is too long
 abbrev pub if_fits : List ℕ → List ℕ → Result Tables Reply → Result Tables Reply
-if_fits part bytes next = if is_too_long bytes then Err (too_long_reply part) else next
+if_fits part bytes next = if is_too_long bytes then Err (fault_reply (too_long part)) else next
 
 -- the case that tables are, or the reply to their first fault
 abbrev pub case_of_tables : Result Tables TableFault → Result Tables Reply
 case_of_tables (Ok t) = Ok t
-case_of_tables (Err fault) = Err (fault_reply fault)
+case_of_tables (Err fault) = Err (fault_reply (table_fault fault))
 
 -- the case that nodes and branches are with a table of meters, or the reply to the first fault
 abbrev pub case_with_meters : List ℕ → Result Tables CdfFault → Result Tables Reply
 case_with_meters meters (Ok t) = case_of_tables (tables_after meters None t)
-case_with_meters meters (Err fault) = Err (cdf_fault_reply fault)
+case_with_meters meters (Err fault) = Err (fault_reply (cdf_fault fault))
 
 -- the case that the files of nodes and switches are
 unfoldable pub switching_case : List ℕ → List ℕ → Result Tables Reply

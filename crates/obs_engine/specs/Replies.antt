@@ -2,10 +2,7 @@
 use Rattle.std.specs.Prelude.{ℕ, List, codes, Result, Ok, Err}
 use Rattle.obs_report.specs.Lines.{fault_line}
 use Rattle.obs_case.specs.Tables.{Tables}
-use Rattle.obs_case_csv.specs.declared.faults.TableFault.{TableFault}
-use Rattle.obs_case_csv.specs.Faults.{fault_code, fault_name, table_name}
-use Rattle.obs_ieee_cdf.specs.declared.fault.CdfFault.{CdfFault}
-use Rattle.obs_ieee_cdf.specs.Faults.{cdf_code, cdf_line, cdf_name}
+use Rattle.obs_text.specs.Faults.{Fault}
 use Rattle.obs_engine.specs.declared.status.Status.{Status}
 use Rattle.obs_engine.specs.declared.status.Status.TheVariants.{Usage, InputFault}
 
@@ -21,23 +18,9 @@ usage_reply = record {
   text = codes "usage: obs topology N S | report FORM | place FORM CAND | session FORM | verify FORM CERT | trial N SEED\n";
 }
 
--- the reply to a file that is too long
-abbrev pub too_long_reply : List ℕ → Reply
-too_long_reply part = record { status = InputFault; text = fault_line part 0 14 (codes "TooLong") }
-
--- the reply to a table with a fault
-abbrev pub fault_reply : TableFault → Reply
-fault_reply fault = record {
-  status = InputFault;
-  text = fault_line (table_name fault.table) fault.row (fault_code fault.code) (fault_name fault.code);
-}
-
--- the reply to a file in the IEEE Common Data Format with a fault
-abbrev pub cdf_fault_reply : CdfFault → Reply
-cdf_fault_reply fault = record {
-  status = InputFault;
-  text = fault_line (codes "cdf") (cdf_line fault) (cdf_code fault) (cdf_name fault);
-}
+-- the reply to input that has this fault
+abbrev pub fault_reply : Fault → Reply
+fault_reply fault = record { status = InputFault; text = fault_line fault.part fault.place fault.code fault.name }
 
 -- the reply to a case, or the one that its files got
 abbrev pub reply_to : (Tables → Reply) → Result Tables Reply → Reply

@@ -4,21 +4,20 @@ ghost use Rattle.obs_case_csv.specs.Read.{tables_in};
 ghost use Rattle.obs_ieee_cdf.specs.Rows.{cdf_of};
 ghost use Rattle.obs_io.specs.Causes.{Rose};
 ghost use Rattle.obs_matroid.specs.Lists.{In};
+ghost use Rattle.obs_text.specs.Limits.{most_file_bytes};
 ghost use Rattle.obs_engine.specs.declared.words.CaseForm.TheVariants.{Csv, Cdf};
 ghost use Rattle.obs_engine.specs.Files.{case_in_files, case_of_tables, case_with_meters, cdf_case, csv_case};
 ghost use Rattle.obs_engine.specs.Forms.{AreTold, ReadFailed, case_words};
 ghost use Rattle.obs_engine.specs.Taken.{IsFile, IsTaken};
 
-use crate::taken::{Refusal, Untaken};
+use crate::taken::Untaken;
 use crate::words::CaseForm;
 use obs_case::Case;
 use obs_case_csv::{TableEnd, read_tables};
 use obs_ieee_cdf::{CdfEnd, read_cdf};
 use obs_io::{Files, ReadEnd, read_all};
+use obs_text::{InputFault, MOST_FILE_BYTES};
 use std::alloc::Global;
-
-/// The most bytes of a file.
-const MOST_BYTES: u64 = 16_777_216;
 
 /// The content of a word's file, which is this part of the input.
 pub(crate) fn take_file<F: Files>(
@@ -29,7 +28,7 @@ pub(crate) fn take_file<F: Files>(
 ) -> Result<Vec<u8>, Untaken>
     requires word { word < 16 }
     ensures stated { (bytes : List ℕ) → F.content files.old word ≡ Some bytes → IsFile part.now bytes result }
-    ensures short { IfOk result (λ bytes. vec_len bytes ≤ 16777216) }
+    ensures short { IfOk result (λ bytes. vec_len bytes ≤ most_file_bytes) }
     ensures same { (w : ℕ) → F.content files.new w ≡ F.content files.old w }
     ensures later { F.faults files.old word ≤ F.faults files.new word }
     ensures read { IsErrOf result Untaken.Read → Rose (F.faults files.old word) (F.faults files.new word) }
@@ -38,9 +37,9 @@ pub(crate) fn take_file<F: Files>(
     ensures steady { (w : ℕ) → F.steady files.old w → F.steady files.new w }
     ensures succeeds { F.steady files.old word → IsErrOf result Untaken.Read → ⊥ }
 {
-    match read_all(alloc, files, word, MOST_BYTES) {
+    match read_all(alloc, files, word, MOST_FILE_BYTES as u64) {
         Ok(bytes) => Ok(bytes),
-        Err(ReadEnd::TooLong) => Err(Untaken::Refused(Refusal::TooLong(part))),
+        Err(ReadEnd::TooLong) => Err(Untaken::Refused(InputFault::too_long(part))),
         Err(ReadEnd::Failed) => Err(Untaken::Read),
         Err(ReadEnd::NoMemory) => Err(Untaken::NoMemory),
     }
@@ -59,7 +58,7 @@ fn read_csv(
 {
     match read_tables(alloc, nodes, switches, branches, meters, None) {
         Ok(case) => Ok(case),
-        Err(TableEnd::Fault(fault)) => Err(Untaken::Refused(Refusal::Table(fault))),
+        Err(TableEnd::Fault(fault)) => Err(Untaken::Refused(InputFault::from(fault))),
         Err(TableEnd::NoMemory) => Err(Untaken::NoMemory),
     }
 }
@@ -82,14 +81,14 @@ fn take_csv<F: Files>(alloc: Global, files: &mut F) -> Result<Case, Untaken>
 
 // The case that the bytes of a file in the IEEE Common Data Format and of a table of meters are.
 fn read_cdf_tables(alloc: Global, cdf: &[u8], meters: &[u8]) -> Result<Case, Untaken>
-    requires few { length cdf.now ≤ 16777216 }
+    requires few { length cdf.now ≤ most_file_bytes }
     ensures read { IsTaken (case_with_meters meters.now (cdf_of cdf.now)) result }
     ensures no_read { IsErrOf result Untaken.Read → ⊥ }
 {
     match read_cdf(alloc, cdf, meters, None) {
         Ok(case) => Ok(case),
-        Err(CdfEnd::Cdf(fault)) => Err(Untaken::Refused(Refusal::Cdf(fault))),
-        Err(CdfEnd::Table(fault)) => Err(Untaken::Refused(Refusal::Table(fault))),
+        Err(CdfEnd::Cdf(fault)) => Err(Untaken::Refused(InputFault::from(fault))),
+        Err(CdfEnd::Table(fault)) => Err(Untaken::Refused(InputFault::from(fault))),
         Err(CdfEnd::NoMemory) => Err(Untaken::NoMemory),
     }
 }

@@ -2,23 +2,20 @@
 ghost use Rattle.std.specs.Prelude.{◌≡◌, ◌≢◌, ◌+◌, ◌⊎◌, ℕ, length, Result};
 ghost use Rattle.obs_case.specs.Tables.{Tables};
 ghost use Rattle.obs_io.specs.Causes.{Rose};
+ghost use Rattle.obs_text.specs.Faults.{fault_of};
 ghost use Rattle.obs_engine.specs.Ending.{EndsWith, IsReplied};
-ghost use Rattle.obs_engine.specs.Replies.{Reply, cdf_fault_reply, fault_reply, reply_to, too_long_reply, usage_reply};
-ghost use Rattle.obs_engine.specs.Taken.{IsUntaken, refusal_reply};
+ghost use Rattle.obs_engine.specs.Replies.{Reply, fault_reply, reply_to, usage_reply};
+ghost use Rattle.obs_engine.specs.Taken.{IsUntaken};
 
 use crate::status::Status;
-use crate::taken::{Refusal, Untaken};
-use obs_case_csv::TableFault;
-use obs_ieee_cdf::CdfFault;
+use crate::taken::Untaken;
 use obs_io::{Failed, Sink, write_all};
 use obs_report::print_fault;
+use obs_text::InputFault;
 
 /// The line on words that have no form.
 const USAGE: &[u8] =
     b"usage: obs topology N S | report FORM | place FORM CAND | session FORM | verify FORM CERT | trial N SEED\n";
-
-/// The code of a file that is too long.
-const TOO_LONG: u64 = 14;
 
 /// Answers words that have no form.
 pub(crate) fn refuse_words<W: Sink>(output: &mut W) -> Status
@@ -31,48 +28,14 @@ pub(crate) fn refuse_words<W: Sink>(output: &mut W) -> Status
     }
 }
 
-// Answers a file that is too long, by its part of the input.
-fn refuse_too_long<W: Sink>(output: &mut W, part: &[u8]) -> Status
-    ensures replied { IsReplied W.written W.faults W.has_room output.old output.new result (too_long_reply part.now) }
+// Answers files that have this fault, which is the first one.
+fn refuse<W: Sink>(output: &mut W, fault: InputFault) -> Status
+    ensures replied { IsReplied W.written W.faults W.has_room output.old output.new result (fault_reply (fault_of fault)) }
 {
-    match print_fault(output, part, 0, TOO_LONG, b"TooLong") {
+    let place = u64::from(fault.place);
+    match print_fault(output, fault.part, place, u64::from(fault.code), fault.name) {
         Ok(()) => Status::InputFault,
         Err(Failed) => Status::WriteFault,
-    }
-}
-
-// Answers tables that have a fault, which is the first one.
-fn refuse_tables<W: Sink>(output: &mut W, fault: TableFault) -> Status
-    ensures replied { IsReplied W.written W.faults W.has_room output.old output.new result (fault_reply fault) }
-{
-    let part = fault.table.name();
-    let code = u64::from(fault.code.code());
-    match print_fault(output, part, u64::from(fault.row), code, fault.code.name()) {
-        Ok(()) => Status::InputFault,
-        Err(Failed) => Status::WriteFault,
-    }
-}
-
-// Answers a file in the IEEE Common Data Format that has a fault, which is the first one.
-fn refuse_cdf<W: Sink>(output: &mut W, fault: CdfFault) -> Status
-    ensures replied { IsReplied W.written W.faults W.has_room output.old output.new result (cdf_fault_reply fault) }
-{
-    let line = u64::from(fault.line());
-    let code = u64::from(fault.code());
-    match print_fault(output, b"cdf", line, code, fault.name()) {
-        Ok(()) => Status::InputFault,
-        Err(Failed) => Status::WriteFault,
-    }
-}
-
-// Answers files that are refused.
-fn refuse<W: Sink>(output: &mut W, why: Refusal) -> Status
-    ensures replied { IsReplied W.written W.faults W.has_room output.old output.new result (refusal_reply why) }
-{
-    match why {
-        Refusal::TooLong(part) => refuse_too_long(output, part),
-        Refusal::Table(fault) => refuse_tables(output, fault),
-        Refusal::Cdf(fault) => refuse_cdf(output, fault),
     }
 }
 
@@ -91,7 +54,7 @@ pub(crate) fn refuse_files<W: Sink>(output: &mut W, why: Untaken) -> Status
         → W.has_room output.old (length (reply_to answered stated).text + rest) → result ≢ Status.WriteFault }
 {
     match why {
-        Untaken::Refused(refusal) => refuse(output, refusal),
+        Untaken::Refused(fault) => refuse(output, fault),
         Untaken::Read => Status::ReadFault,
         Untaken::NoMemory => Status::NoMemory,
     }

@@ -17,13 +17,14 @@ ghost use Rattle.obs_engine.specs.Topology.{topology_of, topology_reply, topolog
 use crate::files::take_file;
 use crate::refused::refuse_files;
 use crate::status::Status;
-use crate::taken::{Refusal, Untaken};
+use crate::taken::Untaken;
 use obs_case::Case;
 use obs_case_csv::{Table, TableEnd, read_table};
 use obs_io::{Failed, Files, Sink};
 use obs_network::buses_of_case;
 use obs_report::{print_count, print_last_line, print_nodes};
 use obs_switch::Buses;
+use obs_text::InputFault;
 use std::alloc::Global;
 
 // The case that the bytes of the two tables are.
@@ -34,12 +35,12 @@ fn read_switching(alloc: Global, nodes: &[u8], switches: &[u8]) -> Result<Case, 
     let mut case = Case::new(alloc);
     match read_table(alloc, &mut case, Table::Nodes, nodes) {
         Ok(()) => {}
-        Err(TableEnd::Fault(fault)) => return Err(Untaken::Refused(Refusal::Table(fault))),
+        Err(TableEnd::Fault(fault)) => return Err(Untaken::Refused(InputFault::from(fault))),
         Err(TableEnd::NoMemory) => return Err(Untaken::NoMemory),
     }
     match read_table(alloc, &mut case, Table::Switches, switches) {
         Ok(()) => Ok(case),
-        Err(TableEnd::Fault(fault)) => Err(Untaken::Refused(Refusal::Table(fault))),
+        Err(TableEnd::Fault(fault)) => Err(Untaken::Refused(InputFault::from(fault))),
         Err(TableEnd::NoMemory) => Err(Untaken::NoMemory),
     }
 }
