@@ -1,9 +1,11 @@
 -- The texts of asks, piece by piece.
-use Rattle.std.proofs.Common.{◌≡◌, ℕ, zero, suc, ◌+◌, ◌-◌, ◌<◌, ◌≤◌, Bool, true, false, List, [], ◌++◌, length, refl, sym, ap, ◌∙◌, subst, arith, append_assoc, Option, Ok, Result}
+use Rattle.std.proofs.Common.{◌≡◌, ℕ, zero, suc, ◌+◌, ◌-◌, ◌<◌, ◌≤◌, Bool, true, false, List, [], ◌++◌, length, refl, sym, ap, ◌∙◌, subst, arith, append_assoc, drop, get_or, take, Option, Ok, Result}
 use Rattle.std.specs.Prelude.{flat_map, slice_index}
 use Rattle.std.specs.List.{range_with_len}
 use Rattle.std.proofs.lemmas.Bool.{eq-eqb, ne_eqb}
-use Rattle.std.proofs.lemmas.List.{append-nil, length-map}
+use Rattle.std.proofs.Math.Seq.{drop-cons}
+use Rattle.std.proofs.lemmas.Grind.{flat_map-append}
+use Rattle.std.proofs.lemmas.List.{append-nil, length-map, take-append-drop}
 use Rattle.std.proofs.lemmas.List.FromFn.{get_or-map-range_with_len, length-range_with_len}
 use Rattle.obs_case.specs.Tables.{IsValid, Tables}
 use Rattle.obs_io.specs.declared.outside.Failed.{Failed}
@@ -18,14 +20,15 @@ use Rattle.obs_network.proofs.OfCase.{case_branches-are}
 use Rattle.obs_network.specs.Observable.{IsObservable, is_fed}
 use Rattle.obs_report.specs.Counts.{counts_text}
 use Rattle.obs_report.specs.Islands.{islands_text}
-use Rattle.obs_report.specs.Lines.{last_line}
 use Rattle.obs_report.specs.Meters.{bound_text, critical_text}
 use Rattle.obs_report.specs.Printed.{AppendsAt}
 use Rattle.obs_report.specs.Trees.{tree_text}
 use Rattle.obs_report.proofs.Printing.{and_then_none}
 use Rattle.obs_edit.specs.Answers.{bound_meters, bound_outside, bound_rank, case_critical_meters, case_first_pairs, case_islands, case_rank, component_rank}
 use Rattle.obs_edit.proofs.Tight.{observable-from, observable-to}
-use Rattle.obs_engine.specs.Asks.{bound_claim, case_counts_text, case_critical_text, case_islands_text, claims_text, component_claim, report_text, text_if, tree_claim}
+use Rattle.obs_engine.specs.Asks.{block_text, blocks_text, bound_claim, claims_text, component_claim, text_if, tree_claim}
+use Rattle.obs_engine.specs.declared.blocks.Block.{Block}
+use Rattle.obs_engine.specs.declared.blocks.Block.TheVariants.{Counts, Trees, Bounds, Claims, Islands, Critical}
 
 -- nothing was printed
 pub appends_nothing : {T E : Type 0} (x : T) (a : Option (List ℕ)) (f : ℕ) (p : ℕ → Type 0) → AppendsAt {T = T} {E = E} a a f f p p (Ok x) []
@@ -95,21 +98,36 @@ AreClaimed trees bounds t before now faults_before faults_now room_before room_n
 pub appends_as : {T E : Type 0} {a b : Option (List ℕ)} {f k : ℕ} {p q : ℕ → Type 0} {r : Result T E} {one two : List ℕ} → one ≡ two → AppendsAt a b f k p q r one → AppendsAt a b f k p q r two
 appends_as {a = a} {b = b} {f = f} {k = k} {p = p} {q = q} {r = r} e h = subst (λ (text : List ℕ). AppendsAt a b f k p q r text) e h
 
-pub counts_are : (t : Tables) (n : NetworkOf) (rank : ℕ) → n ≡ network_of t → rank ≡ case_rank t → counts_text n rank ≡ case_counts_text t
-unfolding case_counts_text
+-- the parts of answers, from what is at hand
+pub counts_are : (t : Tables) (n : NetworkOf) (rank : ℕ) → n ≡ network_of t → rank ≡ case_rank t → counts_text n rank ≡ block_text Counts t
+unfolding block_text
 counts_are t n rank same r = ap (λ (x : NetworkOf). counts_text x rank) same ∙ ap (counts_text (network_of t)) r
 
-pub islands_are : (t : Tables) (islands : List ℕ) → islands ≡ case_islands t → islands_text t islands ≡ case_islands_text t
-unfolding case_islands_text
+pub islands_are : (t : Tables) (islands : List ℕ) → islands ≡ case_islands t → islands_text t islands ≡ block_text Islands t
+unfolding block_text
 islands_are t islands e = ap (islands_text t) e
 
-pub critical_are : (t : Tables) (list : List ℕ) → list ≡ case_critical_meters t → critical_text t list ≡ case_critical_text t
-unfolding case_critical_text
+pub critical_are : (t : Tables) (list : List ℕ) → list ≡ case_critical_meters t → critical_text t list ≡ block_text Critical t
+unfolding block_text
 critical_are t list e = ap (critical_text t) e
 
-pub report_is : (t : Tables) → case_counts_text t ++ (claims_text true true t ++ (case_islands_text t ++ (case_critical_text t ++ last_line))) ≡ report_text t
-unfolding report_text
-report_is t = refl
+pub claimed_are : (t : Tables) → (claims_text true false t ≡ block_text Trees t) × (claims_text false true t ≡ block_text Bounds t) × (claims_text true true t ≡ block_text Claims t)
+unfolding block_text
+claimed_are t = (refl, refl, refl)
+
+-- some parts of an answer were printed
+abbrev pub ArePrinted : Tables → Option (List ℕ) → Option (List ℕ) → ℕ → ℕ → (ℕ → Type 0) → (ℕ → Type 0) → List Block → Type 0
+ArePrinted t before now faults_before faults_now room_before room_now blocks =
+    AppendsAt {T = Unit {0}} {E = Failed} before now faults_before faults_now room_before room_now (Ok tt) (blocks_text blocks t)
+
+-- all of them, of which one is in the middle
+pub blocks_around : (t : Tables) (blocks : List Block) (k : ℕ) (d : Block) → k < length blocks
+    → (blocks_text (take k blocks) t ++ block_text (get_or blocks k d) t) ++ blocks_text (drop (suc k) blocks) t ≡ blocks_text blocks t
+blocks_around t blocks k d low =
+    append_assoc (blocks_text (take k blocks) t) (block_text (get_or blocks k d) t) (blocks_text (drop (suc k) blocks) t)
+    ∙ (ap (λ (rest : List Block). blocks_text (take k blocks) t ++ blocks_text rest t) (sym (drop-cons blocks k d low))
+    ∙ (sym (flat_map-append (λ (block : Block). block_text block t) (take k blocks) (drop k blocks))
+    ∙ ap (λ (all : List Block). blocks_text all t) (take-append-drop k blocks)))
 
 -- each bus has an island, whose first bus isn't above it
 pub islands_few : (t : Tables) (islands : List ℕ) (n : NetworkOf) → n ≡ network_of t → islands ≡ case_islands t → length islands ≡ n.graph.vertices

@@ -6,8 +6,8 @@ use Rattle.obs_report.proofs.Printing.{and_then_none}
 use Rattle.obs_engine.specs.declared.status.Status.{Status}
 use Rattle.obs_engine.specs.declared.status.Status.TheVariants.{Done, Short, Usage, InputFault, ReadFault, WriteFault, NoMemory, SessionTooLong}
 use Rattle.obs_engine.specs.declared.words.Form.{Form}
-use Rattle.obs_engine.specs.Ending.{Answers, AnswersPart, Ends, EndsWith, HasRoom, RepliedAt, answered_before}
-use Rattle.obs_engine.specs.Replies.{Reply, usage_reply}
+use Rattle.obs_engine.specs.Ending.{Answers, AnswersPart, Ends, HasRoom, answered_before}
+use Rattle.obs_engine.specs.Replies.{EndsWith, RepliedAt, Reply, usage_reply}
 use Rattle.obs_engine.specs.Stated.{Told, IsStated}
 
 -- a reply that was written whole
@@ -146,3 +146,10 @@ replied_statuses P reply status a b own write memory read (inl (same, wrote)) = 
 replied_statuses P reply status a b own write memory read (inr (inl (e, part))) = subst P (sym e) write
 replied_statuses P reply status a b own write memory read (inr (inr (inl (e, same)))) = absurd (read e)
 replied_statuses P reply status a b own write memory read (inr (inr (inr (e, same)))) = subst P (sym e) memory
+
+-- for want of memory nothing is written
+pub unwritten : (reply : Reply) (status : Status) (a b : Option (List ℕ)) → (reply.status ≡ NoMemory → ⊥) → EndsWith reply status a b → status ≡ NoMemory → b ≡ a
+unwritten reply status a b not (inl (same, wrote)) e = absurd (not (sym same ∙ e))
+unwritten reply status a b not (inr (inl (w, part))) e = absurd cc
+unwritten reply status a b not (inr (inr (inl (r, same)))) e = same
+unwritten reply status a b not (inr (inr (inr (m, same)))) e = same

@@ -24,7 +24,7 @@ use Rattle.obs_engine.specs.declared.status.Status.TheVariants.{Done, Short}
 use Rattle.obs_report.specs.Counts.{verdict_word}
 use Rattle.obs_engine.specs.Laws.{ListsNonCritical}
 use Rattle.obs_edit.specs.Answers.{bound_meters, bound_outside, bound_rank, case_critical_meters, case_rank, component_meters, component_rank, is_critical_meter, is_meter_of, is_short, short_components}
-use Rattle.obs_engine.specs.Report.{report_status}
+use Rattle.obs_engine.specs.Asks.{report_status}
 use Rattle.obs_engine.proofs.OfNetwork.{verdict_done, verdict_short}
 use Rattle.obs_edit.proofs.Tight.{bound_is, most_is, observable-from, observable-to, rank_few}
 

@@ -6,3 +6,5 @@ pub mod Lawful
 pub mod Valid
 pub mod Asked
 pub mod Worded
+pub mod Commanded
+pub mod Contents

@@ -18,7 +18,7 @@ use Rattle.obs_network.proofs.Marked.{filtered_below}
 use Rattle.obs_network.proofs.OfCase.{length-case_first_buses}
 use Rattle.obs_engine.specs.declared.status.Status.TheVariants.{Done, Short}
 use Rattle.obs_edit.specs.Answers.{bound_meters, case_critical_meters, case_rank, component_meters, component_rank, is_critical_meter, is_meter_of, is_short}
-use Rattle.obs_engine.specs.Report.{report_status}
+use Rattle.obs_engine.specs.Asks.{report_status}
 
 -- how many components there are
 pub count_of : (n : NetworkOf) (t : Tables) → n ≡ network_of t → length n.components.first_buses ≡ case_component_count t

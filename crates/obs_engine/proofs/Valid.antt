@@ -1,7 +1,5 @@
 -- Cases that files are are valid.
-use Rattle.std.proofs.Common.{◌≡◌, ℕ, List, None, Result, Ok, Err, refl, subst, inl, inr}
-use Rattle.std.proofs.lemmas.Bool.{cases_Bool}
-use Rattle.std.specs.Prelude.{codes}
+use Rattle.std.proofs.Common.{◌≡◌, ℕ, List, None, Option, Some, Result, Ok, Err, refl, subst}
 use Rattle.std.specs.Result.{MatchResult}
 use Rattle.obs_case.specs.Tables.{IsValid, Tables, no_rows}
 use Rattle.obs_case_csv.specs.declared.faults.Table.TheVariants.{Nodes, Switches}
@@ -13,11 +11,15 @@ use Rattle.obs_ieee_cdf.specs.declared.fault.CdfFault.{CdfFault}
 use Rattle.obs_ieee_cdf.specs.Read.{as_end, tables_after, with_tables}
 use Rattle.obs_ieee_cdf.specs.Rows.{cdf_of}
 use Rattle.obs_ieee_cdf.proofs.CaseLemmas.{CasesAreValid-holds as cdf_case-valid}
+use Rattle.obs_text.specs.Faults.{Fault}
 use Rattle.obs_engine.specs.declared.words.CaseForm.{CaseForm}
 use Rattle.obs_engine.specs.declared.words.CaseForm.TheVariants.{Csv, Cdf}
-use Rattle.obs_engine.specs.Files.{case_in_files, case_of_tables, case_with_meters, cdf_case, csv_case, if_fits, is_too_long, switching_case}
+use Rattle.obs_engine.specs.declared.words.Form.{Form}
+use Rattle.obs_engine.specs.declared.words.Form.TheVariants.{Topology, Report, Place}
+use Rattle.obs_engine.specs.Files.{case_in, case_in_files, case_of_tables, case_with_tables, first_too_long, parsed, unless_fault}
 use Rattle.obs_engine.specs.Laws.{CasesAreValid}
 use Rattle.obs_engine.specs.Replies.{Reply}
+use Rattle.obs_engine.specs.Words.{first_file, parts_of, words_with}
 
 -- a case, where there is one, is valid
 abbrev HoldsValid : Result Tables Reply → Type 0
@@ -25,9 +27,6 @@ HoldsValid r = MatchResult r IsValid (λ reply. Unit {0})
 
 abbrev ReadsValid : Result Tables TableFault → Type 0
 ReadsValid r = MatchResult r IsValid (λ fault. Unit {0})
-
-fits : (part bytes : List ℕ) (next : Result Tables Reply) → HoldsValid next → HoldsValid (if_fits part bytes next)
-fits part bytes next h = elim (cases_Bool (is_too_long bytes)) [ inl e ↦ rw e tt | inr e ↦ rw e h ]
 
 of_tables : (r : Result Tables TableFault) → ReadsValid r → HoldsValid (case_of_tables r)
 of_tables (Ok t) h = h
@@ -41,32 +40,29 @@ ended : (r : Result Tables TableFault) → ((t : Tables) → as_end r ≡ Ok t �
 ended (Ok t) h = h t refl
 ended (Err fault) h = tt
 
-with_meters : (meters : List ℕ) (r : Result Tables CdfFault) → ((t : Tables) → with_tables meters None r ≡ Ok t → IsValid t) → HoldsValid (case_with_meters meters r)
-with_meters meters (Ok u) h = ended (tables_after meters None u) h
-with_meters meters (Err fault) h = tt
+with_meters : (meters : List ℕ) (candidates : Option (List ℕ)) (r : Result Tables CdfFault) → ((t : Tables) → with_tables meters candidates r ≡ Ok t → IsValid t)
+    → HoldsValid (case_with_tables meters candidates r)
+with_meters meters candidates (Ok u) h = ended (tables_after meters candidates u) h
+with_meters meters candidates (Err fault) h = tt
 
-switching : (nodes switches : List ℕ) → HoldsValid (switching_case nodes switches)
-unfolding switching_case
-switching nodes switches =
-    fits (codes "nodes") nodes _ (fits (codes "switches") switches _ (of_tables _
-    (reads _ _ (λ t h. h.0.valid) (then_read Switches switches (then_read Nodes nodes (Ok no_rows))) (SwitchingIsRead-holds nodes switches))))
+in_case : (from : CaseForm) (candidates : Option (List ℕ)) (file : ℕ → List ℕ) → HoldsValid (case_in from candidates file)
+in_case Csv candidates file =
+    of_tables _ (reads _ _ (λ t h. h.0.valid) (tables_in (file 2) (file 3) (file 4) (file 5) candidates) (ReadExactly-holds (file 2) (file 3) (file 4) (file 5) candidates))
+in_case Cdf candidates file = with_meters (file 3) candidates (cdf_of (file 2)) (cdf_case-valid (file 2) (file 3) candidates)
 
-in_csv : (nodes switches branches meters : List ℕ) → HoldsValid (csv_case nodes switches branches meters)
-unfolding csv_case
-in_csv nodes switches branches meters =
-    fits (codes "nodes") nodes _ (fits (codes "switches") switches _ (fits (codes "branches") branches _ (fits (codes "meters") meters _
-    (of_tables _ (reads _ _ (λ t h. h.0.valid) (tables_in nodes switches branches meters None) (ReadExactly-holds nodes switches branches meters None))))))
+in_form : (form : Form) (file : ℕ → List ℕ) → HoldsValid (parsed form file)
+unfolding parsed
+in_form Topology file =
+    of_tables _ (reads _ _ (λ t h. h.0.valid) (then_read Switches (file 2) (then_read Nodes (file 1) (Ok no_rows))) (SwitchingIsRead-holds (file 1) (file 2)))
+in_form (Report from) file = in_case from None file
+in_form (Place from) file = in_case from (Some (file (words_with from))) file
 
-in_cdf : (cdf meters : List ℕ) → HoldsValid (cdf_case cdf meters)
-unfolding cdf_case
-in_cdf cdf meters = fits (codes "cdf") cdf _ (fits (codes "meters") meters _ (with_meters meters (cdf_of cdf) (cdf_case-valid cdf meters None)))
+unless : (fault : Option Fault) (next : Result Tables Reply) → HoldsValid next → HoldsValid (unless_fault fault next)
+unless None next h = h
+unless (Some fault) next h = tt
 
-in_files : (from : CaseForm) (file : ℕ → List ℕ) → HoldsValid (case_in_files from file)
-in_files Csv file = in_csv (file 2) (file 3) (file 4) (file 5)
-in_files Cdf file = in_cdf (file 2) (file 3)
+in_files : (form : Form) (file : ℕ → List ℕ) → HoldsValid (case_in_files form file)
+in_files form file = unless (first_too_long (parts_of form) file (first_file form)) (parsed form file) (in_form form file)
 
 pub CasesAreValid-holds : CasesAreValid
-CasesAreValid-holds = (
-  (λ from file t e. subst HoldsValid e (in_files from file)),
-  (λ nodes switches t e. subst HoldsValid e (switching nodes switches)),
-)
+CasesAreValid-holds form file t e = subst HoldsValid e (in_files form file)

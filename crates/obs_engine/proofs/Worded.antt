@@ -1,61 +1,93 @@
 -- Which words have which form.
-use Rattle.std.proofs.Common.{◌≡◌, ◌↔◌, ◌∙◌, ℕ, Bool, true, false, ◌&&◌, Option, Some, None, List, [], ◌∷◌, length, codes, refl, sym, ap, subst, arith}
-use Rattle.std.specs.Prelude.{◌==◌, if◌then◌else◌, slice_index_or}
+use Rattle.std.proofs.Common.{◌≡◌, ◌↔◌, ◌∙◌, ◌⊎◌, inl, inr, ℕ, ◌+◌, ◌<◌, suc, Bool, true, false, ◌&&◌, Option, Some, None, List, [], ◌∷◌, ◌++◌, length, codes, refl, sym, ap, subst, arith}
+use Rattle.std.specs.Prelude.{◌==◌, if◌then◌else◌, nat_lt, slice_index_or}
+use Rattle.std.specs.Str.{bytes_eq}
 use Rattle.std.proofs.lemmas.Bool.{and_parts, eqb-true}
 use Rattle.obs_case.proofs.NameLemmas.{same_bytes}
+use Rattle.obs_engine.specs.declared.words.CaseForm.{CaseForm}
 use Rattle.obs_engine.specs.declared.words.CaseForm.TheVariants.{Csv, Cdf}
 use Rattle.obs_engine.specs.declared.words.Form.{Form}
-use Rattle.obs_engine.specs.declared.words.Form.TheVariants.{Topology, Report}
-use Rattle.obs_engine.specs.Forms.{form_of, is_word}
+use Rattle.obs_engine.specs.declared.words.Form.TheVariants.{Topology, Report, Place}
 use Rattle.obs_engine.specs.Laws.{IsFormOf}
+use Rattle.obs_engine.specs.Words.{case_form_of, case_parts, case_word, form_of, form_with, is_word, words_with}
 
 -- the first test that is met
-pick : Bool → Bool → Bool → Option Form
-pick a b c = if a then Some Topology else if b then Some (Report Csv) else if c then Some (Report Cdf) else None
+picked : (a : Bool) (x : Form) (o : Option Form) (form : Form) → (if a then Some x else o) ≡ Some form → ((a ≡ true) × (x ≡ form)) ⊎ (o ≡ Some form)
+picked true x o form e = inl (refl, cc e)
+picked false x o form e = inr e
 
-abbrev pub is_topology : List (List ℕ) → Bool
-is_topology words = (length words == 3) && is_word words 0 (codes "topology")
+named : (a : Bool) (x : CaseForm) (o : Option CaseForm) (from : CaseForm) → (if a then Some x else o) ≡ Some from → ((a ≡ true) × (x ≡ from)) ⊎ (o ≡ Some from)
+named true x o from e = inl (refl, cc e)
+named false x o from e = inr e
 
-abbrev pub is_tables : List (List ℕ) → Bool
-is_tables words = (length words == 6) && is_word words 0 (codes "report") && is_word words 1 (codes "tables")
+-- the case's form is that of its word
+names_case : (words : List (List ℕ)) (from : CaseForm) → case_form_of words ≡ Some from → is_word words 1 (case_word from) ≡ true
+names_case words from e = elim (named (is_word words 1 (case_word Csv)) Csv _ from e) [
+  | inl h ↦ subst (λ (f : CaseForm). is_word words 1 (case_word f) ≡ true) h.1 h.0
+  | inr o ↦ elim (named (is_word words 1 (case_word Cdf)) Cdf None from o) [
+    | inl h ↦ subst (λ (f : CaseForm). is_word words 1 (case_word f) ≡ true) h.1 h.0
+    | inr n ↦ absurd (cc n)
+  ]
+]
 
-abbrev pub is_cdf : List (List ℕ) → Bool
-is_cdf words = (length words == 4) && is_word words 0 (codes "report") && is_word words 1 (codes "cdf")
+-- the word at a place is the one that is tested
+word_at : (words : List (List ℕ)) (at : ℕ) (word x : List ℕ) → is_word words at word ≡ true → slice_index_or words at [] ≡ x → x ≡ word
+word_at words at word x t e =
+    sym e ∙ same_bytes (slice_index_or words at []) word (and_parts (nat_lt at (length words)) (bytes_eq (slice_index_or words at []) word) t).1
 
-picked : (words : List (List ℕ)) → form_of words ≡ pick (is_topology words) (is_tables words) (is_cdf words)
-unfolding pick
-picked words = refl
+-- two words before so many others
+two_before : (words : List (List ℕ)) (n : ℕ) → length words ≡ 2 + n
+    → (a : List ℕ) × (b : List ℕ) × (rest : List (List ℕ)) × (length rest ≡ n) × (words ≡ a ∷ b ∷ rest)
+two_before [] n l = absurd (omega (arith, l))
+two_before (a ∷ []) n l = absurd (omega (arith, l))
+two_before (a ∷ b ∷ rest) n l = (a, b, rest, omega (arith, l), refl)
 
-pick_topology : (a b c : Bool) → pick a b c ≡ Some Topology → a ≡ true
-unfolding pick
-pick_topology true b c e = refl
-pick_topology false true c e = absurd (cc e)
-pick_topology false false true e = absurd (cc e)
-pick_topology false false false e = absurd (cc e)
+-- the last of some words
+last_of : (words : List (List ℕ)) (n : ℕ) → length words ≡ n + 1
+    → (front : List (List ℕ)) × (last : List ℕ) × (length front ≡ n) × (words ≡ front ++ (last ∷ []))
+last_of [] n l = absurd (omega (arith, l))
+last_of (a ∷ []) n l = ([], a, omega (arith, l), refl)
+last_of (a ∷ b ∷ rest) n l =
+    let t = last_of (b ∷ rest) (length rest) (omega arith) in
+    (a ∷ t.0, t.1, omega (arith, l, t.2), ap (λ (ws : List (List ℕ)). a ∷ ws) t.3)
 
-pick_tables : (a b c : Bool) → pick a b c ≡ Some (Report Csv) → b ≡ true
-unfolding pick
-pick_tables true b c e = absurd (cc e)
-pick_tables false true c e = refl
-pick_tables false false true e = absurd (cc e)
-pick_tables false false false e = absurd (cc e)
+-- words that name a case: the command, the word for its form, and the others
+module _ (words : List (List ℕ)) (from : CaseForm) (command : List ℕ) (n : ℕ) (many : length words ≡ 2 + n) (first : is_word words 0 command ≡ true)
+    (second : is_word words 1 (case_word from) ≡ true) where
+  words_of : (rest : List (List ℕ)) × (length rest ≡ n) × (words ≡ command ∷ case_word from ∷ rest)
+  words_of =
+      let t = two_before words n many in
+      let a : t.0 ≡ command = word_at words 0 command t.0 first (ap (λ (ws : List (List ℕ)). slice_index_or ws 0 []) t.4) in
+      let b : t.1 ≡ case_word from = word_at words 1 (case_word from) t.1 second (ap (λ (ws : List (List ℕ)). slice_index_or ws 1 []) t.4) in
+      (t.2, t.3, t.4 ∙ (ap (λ (x : List ℕ). x ∷ t.1 ∷ t.2) a ∙ ap (λ (x : List ℕ). command ∷ x ∷ t.2) b))
 
-pick_cdf : (a b c : Bool) → pick a b c ≡ Some (Report Cdf) → c ≡ true
-unfolding pick
-pick_cdf true b c e = absurd (cc e)
-pick_cdf false true c e = absurd (cc e)
-pick_cdf false false true e = refl
-pick_cdf false false false e = absurd (cc e)
+report_words : (words : List (List ℕ)) (from : CaseForm) → is_word words 1 (case_word from) ≡ true
+    → ((length words == words_with from) && is_word words 0 (codes "report")) ≡ true → IsFormOf (Report from) words
+report_words words from second h =
+    let p = and_parts (length words == words_with from) (is_word words 0 (codes "report")) h in
+    words_of words from (codes "report") (length (case_parts from)) (eqb-true (length words) (words_with from) p.0) p.1 second
 
-all_true : (x y z : Bool) → (x && y && z) ≡ true → (x ≡ true) × (y ≡ true) × (z ≡ true)
-all_true true true true e = (refl, refl, refl)
-all_true true true false e = absurd (cc e)
-all_true true false true e = absurd (cc e)
-all_true true false false e = absurd (cc e)
-all_true false true true e = absurd (cc e)
-all_true false true false e = absurd (cc e)
-all_true false false true e = absurd (cc e)
-all_true false false false e = absurd (cc e)
+place_words : (words : List (List ℕ)) (from : CaseForm) → is_word words 1 (case_word from) ≡ true
+    → ((length words == words_with from + 1) && is_word words 0 (codes "place")) ≡ true → IsFormOf (Place from) words
+place_words words from second h =
+    let p = and_parts (length words == words_with from + 1) (is_word words 0 (codes "place")) h in
+    let l = eqb-true (length words) (words_with from + 1) p.0 in
+    let t = words_of words from (codes "place") (length (case_parts from) + 1) (omega (arith, l)) p.1 second in
+    let s = last_of t.0 (length (case_parts from)) t.1 in
+    (s.0, s.1, s.2, t.2 ∙ ap (λ (ws : List (List ℕ)). codes "place" ∷ case_word from ∷ ws) s.3)
+
+with_case : (words : List (List ℕ)) (from : CaseForm) (form : Form) → is_word words 1 (case_word from) ≡ true → form_with words (Some from) ≡ Some form → IsFormOf form words
+with_case words from form second e = elim (picked ((length words == words_with from) && is_word words 0 (codes "report")) (Report from) _ form e) [
+  | inl h ↦ subst (λ (f : Form). IsFormOf f words) h.1 (report_words words from second h.0)
+  | inr o ↦ elim (picked ((length words == words_with from + 1) && is_word words 0 (codes "place")) (Place from) None form o) [
+    | inl h ↦ subst (λ (f : Form). IsFormOf f words) h.1 (place_words words from second h.0)
+    | inr n ↦ absurd (cc n)
+  ]
+]
+
+with_any : (words : List (List ℕ)) (form : Form) (o : Option CaseForm) → case_form_of words ≡ o → form_with words o ≡ Some form → IsFormOf form words
+with_any words form None is e = absurd (cc e)
+with_any words form (Some from) is e = with_case words from form (names_case words from is) e
 
 three : (words : List (List ℕ)) → length words ≡ 3 → (a : List ℕ) × (b : List ℕ) × (d : List ℕ) × (words ≡ a ∷ b ∷ d ∷ [])
 three [] l = absurd (omega (arith, l))
@@ -64,43 +96,45 @@ three (a ∷ b ∷ []) l = absurd (omega (arith, l))
 three (a ∷ b ∷ d ∷ []) l = (a, b, d, refl)
 three (a ∷ b ∷ d ∷ e ∷ words) l = absurd (omega (arith, l))
 
+topology_words : (words : List (List ℕ)) → ((length words == 3) && is_word words 0 (codes "topology")) ≡ true → IsFormOf Topology words
+topology_words words h =
+    let p = and_parts (length words == 3) (is_word words 0 (codes "topology")) h in
+    let t = three words (eqb-true (length words) 3 p.0) in
+    let a : t.0 ≡ codes "topology" = word_at words 0 (codes "topology") t.0 p.1 (ap (λ (ws : List (List ℕ)). slice_index_or ws 0 []) t.3) in
+    (t.1, t.2, t.3 ∙ ap (λ (x : List ℕ). x ∷ t.1 ∷ t.2 ∷ []) a)
+
+to_form : (words : List (List ℕ)) (form : Form) → form_of words ≡ Some form → IsFormOf form words
+to_form words form h = elim (picked ((length words == 3) && is_word words 0 (codes "topology")) Topology (form_with words (case_form_of words)) form h) [
+  | inl t ↦ subst (λ (f : Form). IsFormOf f words) t.1 (topology_words words t.0)
+  | inr o ↦ with_any words form (case_form_of words) refl o
+]
+
+two : (words : List (List ℕ)) → length words ≡ 2 → (a : List ℕ) × (b : List ℕ) × (words ≡ a ∷ b ∷ [])
+two [] l = absurd (omega (arith, l))
+two (a ∷ []) l = absurd (omega (arith, l))
+two (a ∷ b ∷ []) l = (a, b, refl)
+two (a ∷ b ∷ d ∷ words) l = absurd (omega (arith, l))
+
 four : (words : List (List ℕ)) → length words ≡ 4 → (a : List ℕ) × (b : List ℕ) × (d : List ℕ) × (e : List ℕ) × (words ≡ a ∷ b ∷ d ∷ e ∷ [])
 four [] l = absurd (omega (arith, l))
 four (a ∷ words) l = let t = three words (omega (arith, l)) in (a, t.0, t.1, t.2, ap (λ (ws : List (List ℕ)). a ∷ ws) t.3)
 
-six : (words : List (List ℕ)) → length words ≡ 6
-    → (a : List ℕ) × (b : List ℕ) × (n : List ℕ) × (s : List ℕ) × (d : List ℕ) × (m : List ℕ) × (words ≡ a ∷ b ∷ n ∷ s ∷ d ∷ m ∷ [])
-six [] l = absurd (omega (arith, l))
-six (a ∷ []) l = absurd (omega (arith, l))
-six (a ∷ b ∷ words) l = let t = four words (omega (arith, l)) in (a, b, t.0, t.1, t.2, t.3, ap (λ (ws : List (List ℕ)). a ∷ b ∷ ws) t.4)
-
--- the word at a place is the one that is tested
-word_at : (words : List (List ℕ)) (at : ℕ) (word x : List ℕ) → is_word words at word ≡ true → slice_index_or words at [] ≡ x → x ≡ word
-word_at words at word x t e = sym e ∙ same_bytes (slice_index_or words at []) word t
-
-to_form : (words : List (List ℕ)) (form : Form) → form_of words ≡ Some form → IsFormOf form words
-to_form words Topology h =
-    let p = and_parts (length words == 3) (is_word words 0 (codes "topology")) (pick_topology (is_topology words) (is_tables words) (is_cdf words) (sym (picked words) ∙ h)) in
-    let t = three words (eqb-true (length words) 3 p.0) in
-    let a : t.0 ≡ codes "topology" = word_at words 0 (codes "topology") t.0 p.1 (ap (λ (ws : List (List ℕ)). slice_index_or ws 0 []) t.3) in
-    (t.1, t.2, t.3 ∙ ap (λ (x : List ℕ). x ∷ t.1 ∷ t.2 ∷ []) a)
-to_form words (Report Csv) h =
-    let p = all_true (length words == 6) (is_word words 0 (codes "report")) (is_word words 1 (codes "tables")) (pick_tables (is_topology words) (is_tables words) (is_cdf words) (sym (picked words) ∙ h)) in
-    let t = six words (eqb-true (length words) 6 p.0) in
-    let a : t.0 ≡ codes "report" = word_at words 0 (codes "report") t.0 p.1 (ap (λ (ws : List (List ℕ)). slice_index_or ws 0 []) t.6) in
-    let b : t.1 ≡ codes "tables" = word_at words 1 (codes "tables") t.1 p.2 (ap (λ (ws : List (List ℕ)). slice_index_or ws 1 []) t.6) in
-    (t.2, t.3, t.4, t.5, t.6 ∙ (ap (λ (x : List ℕ). x ∷ t.1 ∷ t.2 ∷ t.3 ∷ t.4 ∷ t.5 ∷ []) a ∙ ap (λ (x : List ℕ). codes "report" ∷ x ∷ t.2 ∷ t.3 ∷ t.4 ∷ t.5 ∷ []) b))
-to_form words (Report Cdf) h =
-    let p = all_true (length words == 4) (is_word words 0 (codes "report")) (is_word words 1 (codes "cdf")) (pick_cdf (is_topology words) (is_tables words) (is_cdf words) (sym (picked words) ∙ h)) in
-    let t = four words (eqb-true (length words) 4 p.0) in
-    let a : t.0 ≡ codes "report" = word_at words 0 (codes "report") t.0 p.1 (ap (λ (ws : List (List ℕ)). slice_index_or ws 0 []) t.4) in
-    let b : t.1 ≡ codes "cdf" = word_at words 1 (codes "cdf") t.1 p.2 (ap (λ (ws : List (List ℕ)). slice_index_or ws 1 []) t.4) in
-    (t.2, t.3, t.4 ∙ (ap (λ (x : List ℕ). x ∷ t.1 ∷ t.2 ∷ t.3 ∷ []) a ∙ ap (λ (x : List ℕ). codes "report" ∷ x ∷ t.2 ∷ t.3 ∷ []) b))
-
 from_form : (words : List (List ℕ)) (form : Form) → IsFormOf form words → form_of words ≡ Some form
 from_form words Topology h = subst (λ (ws : List (List ℕ)). form_of ws ≡ Some Topology) (sym h.2) refl
-from_form words (Report Csv) h = subst (λ (ws : List (List ℕ)). form_of ws ≡ Some (Report Csv)) (sym h.4) refl
-from_form words (Report Cdf) h = subst (λ (ws : List (List ℕ)). form_of ws ≡ Some (Report Cdf)) (sym h.2) refl
+from_form words (Report Csv) (files, many, is) =
+    let t = four files many in
+    subst (λ (ws : List (List ℕ)). form_of ws ≡ Some (Report Csv)) (sym (is ∙ ap (λ (fs : List (List ℕ)). codes "report" ∷ codes "tables" ∷ fs) t.4)) refl
+from_form words (Report Cdf) (files, many, is) =
+    let t = two files many in
+    subst (λ (ws : List (List ℕ)). form_of ws ≡ Some (Report Cdf)) (sym (is ∙ ap (λ (fs : List (List ℕ)). codes "report" ∷ codes "cdf" ∷ fs) t.2)) refl
+from_form words (Place Csv) (files, candidates, many, is) =
+    let t = four files many in
+    subst (λ (ws : List (List ℕ)). form_of ws ≡ Some (Place Csv))
+    (sym (is ∙ ap (λ (fs : List (List ℕ)). codes "place" ∷ codes "tables" ∷ (fs ++ (candidates ∷ []))) t.4)) refl
+from_form words (Place Cdf) (files, candidates, many, is) =
+    let t = two files many in
+    subst (λ (ws : List (List ℕ)). form_of ws ≡ Some (Place Cdf))
+    (sym (is ∙ ap (λ (fs : List (List ℕ)). codes "place" ∷ codes "cdf" ∷ (fs ++ (candidates ∷ []))) t.2)) refl
 
 pub form_exactly : (words : List (List ℕ)) (form : Form) → (form_of words ≡ Some form) ↔ IsFormOf form words
 form_exactly words form = (to_form words form, from_form words form)

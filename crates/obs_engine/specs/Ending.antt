@@ -1,11 +1,10 @@
 -- How a run may end, where the outside tells its bytes.
-use Rattle.std.specs.Prelude.{ℕ, ◌≡◌, ◌+◌, ◌⊎◌, List, [], length, Option, None, Some}
+use Rattle.std.specs.Prelude.{ℕ, ◌≡◌, ◌+◌, List, [], length, Option, None, Some}
 use Rattle.obs_io.specs.Bytes.{Wrote, WrotePart}
-use Rattle.obs_io.specs.Causes.{Rose}
 use Rattle.obs_engine.specs.declared.status.Status.{Status}
 use Rattle.obs_engine.specs.declared.status.Status.TheVariants.{Done, Short, Usage, InputFault, ReadFault, WriteFault, NoMemory, SessionTooLong}
 use Rattle.obs_engine.specs.declared.words.Form.{Form}
-use Rattle.obs_engine.specs.declared.words.Form.TheVariants.{Topology, Report}
+use Rattle.obs_engine.specs.declared.words.Form.TheVariants.{Topology, Report, Place}
 use Rattle.obs_engine.specs.Replies.{Reply}
 use Rattle.obs_engine.specs.Stated.{Told, IsStated}
 
@@ -14,6 +13,7 @@ abbrev pub answered_before : Option Form → Told → Option (List ℕ) → List
 answered_before None told left = []
 answered_before (Some Topology) told left = []
 answered_before (Some (Report from)) told left = []
+answered_before (Some (Place from)) told left = []
 
 -- the run wrote the whole stated text and answered the stated status
 abbrev pub Answers : Option Form → Told → Status → Option (List ℕ) → Option (List ℕ) → Type 0
@@ -38,24 +38,3 @@ Ends form told left SessionTooLong before after = Answers form told SessionTooLo
 -- the sink has room for the whole stated text
 abbrev pub HasRoom : Option Form → Told → (ℕ → Type 0) → Type 0
 HasRoom form told room = (reply : Reply) → IsStated form told reply → (rest : ℕ) × room (length reply.text + rest)
-
--- how a command ends that has this reply: with all of it, or behind a front of its text, or with nothing written
-abbrev pub EndsWith : Reply → Status → Option (List ℕ) → Option (List ℕ) → Type 0
-EndsWith reply status before after =
-    ((status ≡ reply.status) × Wrote before after reply.text)
-    ⊎ (((status ≡ WriteFault) × WrotePart before after reply.text)
-    ⊎ (((status ≡ ReadFault) × (after ≡ before)) ⊎ ((status ≡ NoMemory) × (after ≡ before))))
-
--- a command that needs no further reading ends with this reply; a write fails only where the count of faults rose, and not
--- while there is room for the text; where none failed the count is as before
-pub record RepliedAt (before after : Option (List ℕ)) (faults_before faults_after : ℕ) (has_room : ℕ → Type 0) (status : Status) (reply : Reply) : Type 0 where
-  pub ends : EndsWith reply status before after
-  pub reads : status ≡ ReadFault → ⊥
-  pub write : status ≡ WriteFault → Rose faults_before faults_after
-  pub quiet : (status ≡ WriteFault → ⊥) → faults_after ≡ faults_before
-  pub room : (rest : ℕ) → has_room (length reply.text + rest) → status ≡ WriteFault → ⊥
-
--- the same over the members of a sink
-abbrev pub IsReplied : {W : Type 0} → (W → Option (List ℕ)) → (W → ℕ) → (W → ℕ → Type 0) → W → W → Status → Reply → Type 0
-IsReplied written faults has_room before after status reply =
-    RepliedAt (written before) (written after) (faults before) (faults after) (has_room before) status reply

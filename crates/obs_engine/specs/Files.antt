@@ -1,6 +1,6 @@
 -- What files hold: a case, or the reply that they get where they are none.
-use Rattle.std.specs.Prelude.{ℕ, Bool, nat_lt, List, length, codes, None, Result, Ok, Err, if◌then◌else◌}
-use Rattle.obs_text.specs.Faults.{too_long}
+use Rattle.std.specs.Prelude.{ℕ, ◌+◌, Bool, nat_lt, List, [], ◌∷◌, length, Option, None, Some, Result, Ok, Err, if◌then◌else◌}
+use Rattle.obs_text.specs.Faults.{Fault, too_long}
 use Rattle.obs_text.specs.Limits.{most_file_bytes}
 use Rattle.obs_case.specs.Tables.{Tables, no_rows}
 use Rattle.obs_case_csv.specs.declared.faults.TableFault.{TableFault}
@@ -13,50 +13,51 @@ use Rattle.obs_ieee_cdf.specs.Read.{tables_after}
 use Rattle.obs_ieee_cdf.specs.Rows.{cdf_of}
 use Rattle.obs_engine.specs.declared.words.CaseForm.{CaseForm}
 use Rattle.obs_engine.specs.declared.words.CaseForm.TheVariants.{Csv, Cdf}
+use Rattle.obs_engine.specs.declared.words.Form.{Form}
+use Rattle.obs_engine.specs.declared.words.Form.TheVariants.{Topology, Report, Place}
 use Rattle.obs_engine.specs.Replies.{Reply, fault_reply}
+use Rattle.obs_engine.specs.Words.{first_file, parts_of, words_with}
 
 -- whether bytes are more than a file may have
 abbrev pub is_too_long : List ℕ → Bool
 is_too_long bytes = nat_lt most_file_bytes (length bytes)
 
--- what comes after a file of this part of the input, unless it is too long
-abbrev pub if_fits : List ℕ → List ℕ → Result Tables Reply → Result Tables Reply
-if_fits part bytes next = if is_too_long bytes then Err (fault_reply (too_long part)) else next
+-- the fault of the first file that is too long, of those from a word on, which are these parts of the input
+abbrev pub first_too_long : List (List ℕ) → (ℕ → List ℕ) → ℕ → Option Fault
+first_too_long [] file word = None
+first_too_long (part ∷ parts) file word = if is_too_long (file word) then Some (too_long part) else first_too_long parts file (word + 1)
 
 -- the case that tables are, or the reply to their first fault
 abbrev pub case_of_tables : Result Tables TableFault → Result Tables Reply
 case_of_tables (Ok t) = Ok t
 case_of_tables (Err fault) = Err (fault_reply (table_fault fault))
 
--- the case that nodes and branches are with a table of meters, or the reply to the first fault
-abbrev pub case_with_meters : List ℕ → Result Tables CdfFault → Result Tables Reply
-case_with_meters meters (Ok t) = case_of_tables (tables_after meters None t)
-case_with_meters meters (Err fault) = Err (fault_reply (cdf_fault fault))
+-- the case that nodes and branches are with a table of meters and, where it is given, one of candidates, or the reply to the first
+-- fault
+abbrev pub case_with_tables : List ℕ → Option (List ℕ) → Result Tables CdfFault → Result Tables Reply
+case_with_tables meters candidates (Ok t) = case_of_tables (tables_after meters candidates t)
+case_with_tables meters candidates (Err fault) = Err (fault_reply (cdf_fault fault))
 
--- the case that the files of nodes and switches are
-unfoldable pub switching_case : List ℕ → List ℕ → Result Tables Reply
-switching_case nodes switches =
-    if_fits (codes "nodes") nodes
-    (if_fits (codes "switches") switches
-    (case_of_tables (then_read Switches switches (then_read Nodes nodes (Ok no_rows)))))
+-- the case that nodes and switches alone are
+abbrev pub switching_case : List ℕ → List ℕ → Result Tables Reply
+switching_case nodes switches = case_of_tables (then_read Switches switches (then_read Nodes nodes (Ok no_rows)))
 
--- the case that the files of nodes, switches, branches and meters are
-unfoldable pub csv_case : List ℕ → List ℕ → List ℕ → List ℕ → Result Tables Reply
-csv_case nodes switches branches meters =
-    if_fits (codes "nodes") nodes
-    (if_fits (codes "switches") switches
-    (if_fits (codes "branches") branches
-    (if_fits (codes "meters") meters
-    (case_of_tables (tables_in nodes switches branches meters None)))))
+-- the case that the files of a case's form are, which stand behind two words, with candidates where they are given
+abbrev pub case_in : CaseForm → Option (List ℕ) → (ℕ → List ℕ) → Result Tables Reply
+case_in Csv candidates file = case_of_tables (tables_in (file 2) (file 3) (file 4) (file 5) candidates)
+case_in Cdf candidates file = case_with_tables (file 3) candidates (cdf_of (file 2))
 
--- the case that a file in the IEEE Common Data Format and a file of meters are
-unfoldable pub cdf_case : List ℕ → List ℕ → Result Tables Reply
-cdf_case cdf meters =
-    if_fits (codes "cdf") cdf
-    (if_fits (codes "meters") meters
-    (case_with_meters meters (cdf_of cdf)))
+-- the case that files of this form are, none of which is too long
+unfoldable pub parsed : Form → (ℕ → List ℕ) → Result Tables Reply
+parsed Topology file = switching_case (file 1) (file 2)
+parsed (Report from) file = case_in from None file
+parsed (Place from) file = case_in from (Some (file (words_with from))) file
 
--- the case that the files of a form are, which stand behind two words
-abbrev pub case_in_files : CaseForm → (ℕ → List ℕ) → Result Tables Reply
-case_in_files Csv file = csv_case (file 2) (file 3) (file 4) (file 5)
-case_in_files Cdf file = cdf_case (file 2) (file 3)
+-- what comes next, unless there is a fault
+abbrev pub unless_fault : Option Fault → Result Tables Reply → Result Tables Reply
+unless_fault None next = next
+unless_fault (Some fault) next = Err (fault_reply fault)
+
+-- the case that the files of a form are
+abbrev pub case_in_files : Form → (ℕ → List ℕ) → Result Tables Reply
+case_in_files form file = unless_fault (first_too_long (parts_of form) file (first_file form)) (parsed form file)

@@ -1,11 +1,12 @@
+pub mod Asks
 pub mod Codes
+pub mod Commands
 pub mod Ending
 pub mod Files
-pub mod Asks
 pub mod Forms
 pub mod Laws
 pub mod Replies
-pub mod Report
 pub mod Stated
 pub mod Taken
 pub mod Topology
+pub mod Words

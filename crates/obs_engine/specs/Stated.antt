@@ -1,11 +1,9 @@
 -- What the program is to answer, stated over the words and what the outside tells: the contents of the files, and the input.
 use Rattle.std.specs.Prelude.{ℕ, ◌≡◌, List, Option, None, Some}
 use Rattle.obs_engine.specs.declared.words.Form.{Form}
-use Rattle.obs_engine.specs.declared.words.Form.TheVariants.{Topology, Report}
+use Rattle.obs_engine.specs.Commands.{files_reply}
 use Rattle.obs_engine.specs.Forms.{AreFiles, TakesInput}
 use Rattle.obs_engine.specs.Replies.{Reply, usage_reply}
-use Rattle.obs_engine.specs.Report.{report_reply}
-use Rattle.obs_engine.specs.Topology.{topology_reply}
 
 -- the content of the file of each word, by the word's position, and the bytes of the input
 pub record Told : Type 0 where
@@ -21,5 +19,4 @@ pub record Tells (form : Option Form) (content : ℕ → Option (List ℕ)) (lef
 -- the reply that is stated for a form and what is told
 abbrev pub IsStated : Option Form → Told → Reply → Type 0
 IsStated None told reply = reply ≡ usage_reply
-IsStated (Some Topology) told reply = reply ≡ topology_reply told.file
-IsStated (Some (Report from)) told reply = reply ≡ report_reply from told.file
+IsStated (Some form) told reply = reply ≡ files_reply form told.file

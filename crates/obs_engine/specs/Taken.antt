@@ -1,15 +1,16 @@
 -- What was taken from files, beside what these hold.
-use Rattle.std.specs.Prelude.{ℕ, ◌≡◌, true, false, List, Result, Ok, Err, Vec}
+use Rattle.std.specs.Prelude.{ℕ, ◌≡◌, true, false, List, [], ◌∷◌, ◌++◌, length, map, None, Some, Result, Ok, Err, Vec}
+use Rattle.std.specs.List.{range_with_len}
 use Rattle.std.specs.declared.alloc.Global.{Global}
 use Rattle.obs_text.specs.Faults.{fault_of, too_long}
 use Rattle.obs_case.specs.Tables.{Tables}
 use Rattle.obs_engine.specs.declared.taken.Untaken.{Untaken}
 use Rattle.obs_engine.specs.declared.taken.Untaken.TheVariants.{Refused, Read, NoMemory}
-use Rattle.obs_engine.specs.Files.{is_too_long}
+use Rattle.obs_engine.specs.Files.{first_too_long, is_too_long}
 use Rattle.obs_engine.specs.Replies.{Reply, fault_reply}
 
--- why nothing was taken from files that hold this: they are refused for a fault whose reply is the one that is stated, or reading them failed, or there
--- was no memory
+-- why nothing was taken from files that hold this: they are refused for a fault whose reply is the one that is stated, or reading
+-- them failed, or there was no memory
 abbrev pub IsUntaken : Result Tables Reply → Untaken → Type 0
 IsUntaken stated (Refused why) = stated ≡ Err (fault_reply (fault_of why))
 IsUntaken stated Read = Unit {0}
@@ -26,3 +27,23 @@ IsFile part content (Ok bytes) = (bytes.items ≡ content) × (is_too_long conte
 IsFile part content (Err (Refused why)) = (is_too_long content ≡ true) × (fault_of why ≡ too_long part)
 IsFile part content (Err Read) = Unit {0}
 IsFile part content (Err NoMemory) = Unit {0}
+
+-- a file with this content, which is this part of the input, was taken behind others, or why it wasn't
+abbrev pub IsNext : List ℕ → List ℕ → List (List ℕ) → List (List ℕ) → Result (Unit {0}) Untaken → Type 0
+IsNext part content before now (Ok done) = (now ≡ before ++ (content ∷ [])) × (is_too_long content ≡ false)
+IsNext part content before now (Err (Refused why)) = (is_too_long content ≡ true) × (fault_of why ≡ too_long part)
+IsNext part content before now (Err Read) = Unit {0}
+IsNext part content before now (Err NoMemory) = Unit {0}
+
+-- the bytes of each
+abbrev pub bytes_of : List (Vec ℕ Global) → List (List ℕ)
+bytes_of contents = map (λ (content : Vec ℕ Global). content.items) contents
+
+-- what was taken from the files of the words from one on, which are these parts of the input: their contents, of which none is too
+-- long, or the fault of the first that is
+abbrev pub AreContents : List (List ℕ) → (ℕ → List ℕ) → ℕ → Result (Vec (Vec ℕ Global) Global) Untaken → Type 0
+AreContents parts file word (Ok contents) =
+    (first_too_long parts file word ≡ None) × (bytes_of contents.items ≡ map file (range_with_len word (length parts)))
+AreContents parts file word (Err (Refused why)) = first_too_long parts file word ≡ Some (fault_of why)
+AreContents parts file word (Err Read) = Unit {0}
+AreContents parts file word (Err NoMemory) = Unit {0}

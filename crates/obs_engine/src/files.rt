@@ -1,20 +1,13 @@
-// Cases from files.
-ghost use Rattle.std.specs.Prelude.{◌≡◌, ◌≢◌, ◌<◌, ◌≤◌, ℕ, List, Some, None, IfOk, IsErrOf, length, vec_len};
-ghost use Rattle.obs_case_csv.specs.Read.{tables_in};
-ghost use Rattle.obs_ieee_cdf.specs.Rows.{cdf_of};
+// Files, read whole one after the other.
+ghost use Rattle.std.specs.Prelude.{◌≡◌, ◌≢◌, ◌+◌, ◌≤◌, ◌<◌, ℕ, List, Some, All, IfOk, IsOk, IsErrOf, length, map, vec_len};
+ghost use Rattle.std.specs.List.{range_with_len};
 ghost use Rattle.obs_io.specs.Causes.{Rose};
 ghost use Rattle.obs_matroid.specs.Lists.{In};
 ghost use Rattle.obs_text.specs.Limits.{most_file_bytes};
-ghost use Rattle.obs_engine.specs.declared.words.CaseForm.TheVariants.{Csv, Cdf};
-ghost use Rattle.obs_engine.specs.Files.{case_in_files, case_of_tables, case_with_meters, cdf_case, csv_case};
-ghost use Rattle.obs_engine.specs.Forms.{AreTold, ReadFailed, case_words};
-ghost use Rattle.obs_engine.specs.Taken.{IsFile, IsTaken};
+ghost use Rattle.obs_engine.specs.Forms.{AreTold, ReadFailed};
+ghost use Rattle.obs_engine.specs.Taken.{AreContents, IsFile, IsNext, bytes_of};
 
 use crate::taken::Untaken;
-use crate::words::CaseForm;
-use obs_case::Case;
-use obs_case_csv::{TableEnd, read_tables};
-use obs_ieee_cdf::{CdfEnd, read_cdf};
 use obs_io::{Files, ReadEnd, read_all};
 use obs_text::{InputFault, MOST_FILE_BYTES};
 use std::alloc::Global;
@@ -45,83 +38,55 @@ pub(crate) fn take_file<F: Files>(
     }
 }
 
-// The case that the bytes of four tables are.
-fn read_csv(
-    alloc: Global,
-    nodes: &[u8],
-    switches: &[u8],
-    branches: &[u8],
-    meters: &[u8],
-) -> Result<Case, Untaken>
-    ensures read { IsTaken (case_of_tables (tables_in nodes.now switches.now branches.now meters.now None)) result }
-    ensures no_read { IsErrOf result Untaken.Read → ⊥ }
-{
-    match read_tables(alloc, nodes, switches, branches, meters, None) {
-        Ok(case) => Ok(case),
-        Err(TableEnd::Fault(fault)) => Err(Untaken::Refused(InputFault::from(fault))),
-        Err(TableEnd::NoMemory) => Err(Untaken::NoMemory),
-    }
-}
-
-// The case that the files of words 2 to 5 are.
-fn take_csv<F: Files>(alloc: Global, files: &mut F) -> Result<Case, Untaken>
-    ensures stated { (file : ℕ → List ℕ) → AreTold (F.content files.old) file (case_words Csv)
-        → IsTaken (csv_case (file 2) (file 3) (file 4) (file 5)) result }
-    ensures read { IsErrOf result Untaken.Read
-        → ReadFailed (case_words Csv) (F.content files.old) (F.faults files.old) (F.faults files.new) }
-    ensures quiet { (IsErrOf result Untaken.Read → ⊥) → (w : ℕ) → F.faults files.new w ≡ F.faults files.old w }
-    ensures steady { ((w : ℕ) → In w (case_words Csv) → F.steady files.old w) → IsErrOf result Untaken.Read → ⊥ }
-{
-    let nodes = take_file(alloc, files, 2, b"nodes")?;
-    let switches = take_file(alloc, files, 3, b"switches")?;
-    let branches = take_file(alloc, files, 4, b"branches")?;
-    let meters = take_file(alloc, files, 5, b"meters")?;
-    read_csv(alloc, &nodes, &switches, &branches, &meters)
-}
-
-// The case that the bytes of a file in the IEEE Common Data Format and of a table of meters are.
-fn read_cdf_tables(alloc: Global, cdf: &[u8], meters: &[u8]) -> Result<Case, Untaken>
-    requires few { length cdf.now ≤ most_file_bytes }
-    ensures read { IsTaken (case_with_meters meters.now (cdf_of cdf.now)) result }
-    ensures no_read { IsErrOf result Untaken.Read → ⊥ }
-{
-    match read_cdf(alloc, cdf, meters, None) {
-        Ok(case) => Ok(case),
-        Err(CdfEnd::Cdf(fault)) => Err(Untaken::Refused(InputFault::from(fault))),
-        Err(CdfEnd::Table(fault)) => Err(Untaken::Refused(InputFault::from(fault))),
-        Err(CdfEnd::NoMemory) => Err(Untaken::NoMemory),
-    }
-}
-
-// The case that the files of words 2 and 3 are.
-fn take_cdf<F: Files>(alloc: Global, files: &mut F) -> Result<Case, Untaken>
-    ensures stated { (file : ℕ → List ℕ) → AreTold (F.content files.old) file (case_words Cdf)
-        → IsTaken (cdf_case (file 2) (file 3)) result }
-    ensures read { IsErrOf result Untaken.Read
-        → ReadFailed (case_words Cdf) (F.content files.old) (F.faults files.old) (F.faults files.new) }
-    ensures quiet { (IsErrOf result Untaken.Read → ⊥) → (w : ℕ) → F.faults files.new w ≡ F.faults files.old w }
-    ensures steady { ((w : ℕ) → In w (case_words Cdf) → F.steady files.old w) → IsErrOf result Untaken.Read → ⊥ }
-{
-    let cdf = take_file(alloc, files, 2, b"cdf")?;
-    let meters = take_file(alloc, files, 3, b"meters")?;
-    read_cdf_tables(alloc, &cdf, &meters)
-}
-
-/// The case that the files of this form are.
-pub(crate) fn take_case<F: Files>(
+// Takes the file of a word behind those that are taken.
+fn take_next<F: Files>(
     alloc: Global,
     files: &mut F,
-    from: CaseForm,
-) -> Result<Case, Untaken>
-    ensures stated { (file : ℕ → List ℕ) → AreTold (F.content files.old) file (case_words from)
-        → IsTaken (case_in_files from file) result }
-    ensures read { IsErrOf result Untaken.Read
-        → ReadFailed (case_words from) (F.content files.old) (F.faults files.old) (F.faults files.new) }
+    word: usize,
+    part: &'static [u8],
+    contents: &mut Vec<Vec<u8>>,
+) -> Result<(), Untaken>
+    requires word { word < 16 }
+    requires short { All (λ bytes. vec_len bytes ≤ most_file_bytes) contents.old.items }
+    ensures stated { (content : List ℕ) → F.content files.old word ≡ Some content
+        → IsNext part.now content (bytes_of contents.old.items) (bytes_of contents.new.items) result }
+    ensures short { All (λ bytes. vec_len bytes ≤ most_file_bytes) contents.new.items }
+    ensures count { IsOk result → length contents.new.items ≡ length contents.old.items + 1 }
+    ensures same { (w : ℕ) → F.content files.new w ≡ F.content files.old w }
+    ensures read { IsErrOf result Untaken.Read → Rose (F.faults files.old word) (F.faults files.new word) }
     ensures quiet { (IsErrOf result Untaken.Read → ⊥) → (w : ℕ) → F.faults files.new w ≡ F.faults files.old w }
-    ensures steady { ((w : ℕ) → In w (case_words from) → F.steady files.old w) → IsErrOf result Untaken.Read → ⊥ }
+    ensures others { (w : ℕ) → w ≢ word → F.faults files.new w ≡ F.faults files.old w }
+    ensures steady { (w : ℕ) → F.steady files.old w → F.steady files.new w }
+    ensures succeeds { F.steady files.old word → IsErrOf result Untaken.Read → ⊥ }
 {
-    match from {
-        CaseForm::Csv => take_csv(alloc, files),
-        CaseForm::Cdf => take_cdf(alloc, files),
+    let bytes = take_file(alloc, files, word, part)?;
+    match contents.push(bytes) {
+        Ok(()) => Ok(()),
+        Err(_) => Err(Untaken::NoMemory),
     }
+}
+
+/// The contents of the files of the words from one on, which are these parts of the input. Files are read in the order of their
+/// words, and the first that fails or is too long ends the reading.
+pub(crate) fn take_files<F: Files>(
+    alloc: Global,
+    files: &mut F,
+    first: usize,
+    parts: &[&'static [u8]],
+) -> Result<Vec<Vec<u8>>, Untaken>
+    requires words { first + length parts.now ≤ 16 }
+    ensures stated { (file : ℕ → List ℕ) → AreTold (F.content files.old) file (range_with_len first (length parts.now))
+        → AreContents (map (λ part. part.now) parts.now) file first result }
+    ensures short { IfOk result (λ contents. All (λ bytes. vec_len bytes ≤ most_file_bytes) contents.items) }
+    ensures count { IfOk result (λ contents. vec_len contents ≡ length parts.now) }
+    ensures read { IsErrOf result Untaken.Read
+        → ReadFailed (range_with_len first (length parts.now)) (F.content files.old) (F.faults files.old) (F.faults files.new) }
+    ensures quiet { (IsErrOf result Untaken.Read → ⊥) → (w : ℕ) → F.faults files.new w ≡ F.faults files.old w }
+    ensures steady { ((w : ℕ) → In w (range_with_len first (length parts.now)) → F.steady files.old w) → IsErrOf result Untaken.Read → ⊥ }
+{
+    let mut contents = Vec::new(alloc);
+    for k in 0..parts.len() {
+        take_next(alloc, files, first + k, parts[k], &mut contents)?;
+    }
+    Ok(contents)
 }

@@ -10,11 +10,11 @@ ghost use Rattle.obs_network.specs.Network.{case_branches, case_component_count,
 ghost use Rattle.obs_network.specs.Observable.{IsObservable, IsObservableCase, branch_component, case_live_meters, is_fed};
 ghost use Rattle.obs_engine.specs.declared.status.Status.TheVariants.{Done, Short};
 ghost use Rattle.obs_engine.specs.declared.words.Form.{Form};
-ghost use Rattle.obs_engine.specs.Forms.{form_of};
+ghost use Rattle.obs_engine.specs.Words.{form_of};
 ghost use Rattle.obs_report.specs.Counts.{verdict_word};
+ghost use Rattle.obs_engine.specs.Asks.{report_status};
 ghost use Rattle.obs_engine.specs.Laws.{CasesAreValid, IsFormOf, ListsNonCritical};
 ghost use Rattle.obs_edit.specs.Answers.{bound_outside, bound_rank, case_critical_meters, case_rank, component_meters, short_components};
-ghost use Rattle.obs_engine.specs.Report.{report_status};
 
 /// Every case that files are is valid. The other laws ask this of a case.
 pub fn cases_are_valid()

@@ -1,15 +1,20 @@
 //! All that the program does, over any files, input and output.
 #![tactic(auto)]
 
+mod answers;
 mod asks;
+mod blocks;
+mod cases;
 #[cfg(test)]
 mod cdf_tests;
+mod claims;
+mod command;
 mod files;
 pub mod laws;
-mod memory;
+#[cfg(test)]
+mod place_tests;
 mod program;
 mod refused;
-mod report;
 #[cfg(test)]
 mod report_tests;
 mod status;

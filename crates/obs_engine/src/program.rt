@@ -2,14 +2,14 @@
 ghost use Rattle.std.specs.Prelude.{◌≡◌, ◌≢◌, ◌⊎◌, ℕ, List, length, map, string_bytes, IsSome};
 ghost use Rattle.obs_io.specs.Causes.{Rose};
 ghost use Rattle.obs_engine.specs.Ending.{Answers, Ends, HasRoom};
-ghost use Rattle.obs_engine.specs.Forms.{AnyReadFailed, CanAnswer, IsFileWord, TakesInput, form_of};
+ghost use Rattle.obs_engine.specs.Forms.{AnyReadFailed, CanAnswer, IsFileWord, TakesInput};
 ghost use Rattle.obs_engine.specs.Stated.{Told, Tells};
+ghost use Rattle.obs_engine.specs.Words.{form_of};
 
+use crate::command::command;
 use crate::refused::refuse_words;
-use crate::report::report;
 use crate::status::Status;
-use crate::topology::topology;
-use crate::words::{Form, form_of_words};
+use crate::words::form_of_words;
 use obs_io::{Files, Sink, Source};
 use std::alloc::Global;
 
@@ -56,8 +56,5 @@ pub fn run<F: Files, S: Source, W: Sink>(
     let Some(form) = form_of_words(words) else {
         return refuse_words(output);
     };
-    match form {
-        Form::Topology => topology(alloc, files, output),
-        Form::Report(from) => report(alloc, files, output, from),
-    }
+    command(alloc, form, files, output)
 }

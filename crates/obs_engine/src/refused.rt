@@ -3,8 +3,7 @@ ghost use Rattle.std.specs.Prelude.{◌≡◌, ◌≢◌, ◌+◌, ◌⊎◌, �
 ghost use Rattle.obs_case.specs.Tables.{Tables};
 ghost use Rattle.obs_io.specs.Causes.{Rose};
 ghost use Rattle.obs_text.specs.Faults.{fault_of};
-ghost use Rattle.obs_engine.specs.Ending.{EndsWith, IsReplied};
-ghost use Rattle.obs_engine.specs.Replies.{Reply, fault_reply, reply_to, usage_reply};
+ghost use Rattle.obs_engine.specs.Replies.{EndsWith, IsReplied, Reply, fault_reply, reply_to, usage_reply};
 ghost use Rattle.obs_engine.specs.Taken.{IsUntaken};
 
 use crate::status::Status;

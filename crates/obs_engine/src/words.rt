@@ -1,6 +1,6 @@
 // The words of the command line.
-ghost use Rattle.std.specs.Prelude.{◌≡◌, map, string_bytes};
-ghost use Rattle.obs_engine.specs.Forms.{form_of};
+ghost use Rattle.std.specs.Prelude.{◌≡◌, ◌<◌, map, string_bytes, Some};
+ghost use Rattle.obs_engine.specs.Words.{case_form_of, form_of, first_file, form_with, is_word, parts_of, words_with};
 
 /// In which form a case is given: four tables, or a file in the IEEE Common Data Format and a table of meters.
 #[derive(Clone, Copy, Debug, PartialEq, Eq)]
@@ -14,19 +14,90 @@ pub(crate) enum CaseForm {
 pub(crate) enum Form {
     Topology,
     Report(CaseForm),
+    Place(CaseForm),
+}
+
+impl CaseForm {
+    // How many words name a case: the command, the word for its form, and its files.
+    fn words(self) -> usize
+        ensures words { result ≡ words_with self }
+    {
+        match self {
+            CaseForm::Csv => 6,
+            CaseForm::Cdf => 4,
+        }
+    }
+}
+
+// Whether the word at a position is this one.
+fn is_word(words: &[String], at: usize, word: &str) -> bool
+    ensures is { result ≡ is_word (map string_bytes words.now) at word.now }
+{
+    at < words.len() && words[at].as_str() == word
+}
+
+// The form of the case that is named behind the command.
+fn case_form_of_words(words: &[String]) -> Option<CaseForm>
+    ensures form { result ≡ case_form_of (map string_bytes words.now) }
+{
+    if is_word(words, 1, "tables") {
+        Some(CaseForm::Csv)
+    } else if is_word(words, 1, "cdf") {
+        Some(CaseForm::Cdf)
+    } else {
+        None
+    }
+}
+
+// The form of words that name a case of this form.
+fn form_with_case(words: &[String], from: CaseForm) -> Option<Form>
+    ensures form { result ≡ form_with (map string_bytes words.now) (Some from) }
+{
+    let count = from.words();
+    if words.len() == count && is_word(words, 0, "report") {
+        Some(Form::Report(from))
+    } else if words.len() == count + 1 && is_word(words, 0, "place") {
+        Some(Form::Place(from))
+    } else {
+        None
+    }
 }
 
 /// The form of the words, where they have one.
 pub(crate) fn form_of_words(words: &[String]) -> Option<Form>
     ensures form { result ≡ form_of (map string_bytes words.now) }
 {
-    if words.len() == 3 && words[0].as_str() == "topology" {
-        Some(Form::Topology)
-    } else if words.len() == 6 && words[0].as_str() == "report" && words[1].as_str() == "tables" {
-        Some(Form::Report(CaseForm::Csv))
-    } else if words.len() == 4 && words[0].as_str() == "report" && words[1].as_str() == "cdf" {
-        Some(Form::Report(CaseForm::Cdf))
-    } else {
-        None
+    if words.len() == 3 && is_word(words, 0, "topology") {
+        return Some(Form::Topology);
+    }
+    match case_form_of_words(words) {
+        Some(from) => form_with_case(words, from),
+        None => None,
+    }
+}
+
+/// Which part of the input each file of a form is, in the order of the words.
+pub(crate) fn parts(form: Form) -> &'static [&'static [u8]]
+    ensures parts { map (λ part. part.now) result.now ≡ parts_of form }
+{
+    match form {
+        Form::Topology => &[b"nodes", b"switches"],
+        Form::Report(CaseForm::Csv) => &[b"nodes", b"switches", b"branches", b"meters"],
+        Form::Report(CaseForm::Cdf) => &[b"cdf", b"meters"],
+        Form::Place(CaseForm::Csv) => {
+            &[b"nodes", b"switches", b"branches", b"meters", b"candidates"]
+        }
+        Form::Place(CaseForm::Cdf) => &[b"cdf", b"meters", b"candidates"],
+    }
+}
+
+/// The position of the first word that names a file of a form.
+pub(crate) fn first_file(form: Form) -> usize
+    ensures first { result ≡ first_file form }
+{
+    match form {
+        Form::Topology => 1,
+        Form::Report(_) => 2,
+        Form::Place(_) => 2,
     }
 }

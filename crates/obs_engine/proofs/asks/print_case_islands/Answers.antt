@@ -2,7 +2,8 @@ use Rattle.std.proofs.Common.{◌∙◌, ap, sym}
 use Rattle.obs_case.specs.Tables.{Tables}
 use Rattle.obs_report.specs.Islands.{islands_text}
 use Rattle.obs_edit.specs.Answers.{case_islands}
-use Rattle.obs_engine.specs.Asks.{case_islands_text}
+use Rattle.obs_engine.specs.Asks.{block_text}
+use Rattle.obs_engine.specs.declared.blocks.Block.TheVariants.{Islands}
 use Rattle.obs_engine.proofs.Asked.{appends_as, islands_are, islands_few, islands_low}
 use Rattle.obs_engine.proofs.asks.print_case_islands.Goals as goal
 
@@ -19,5 +20,5 @@ pub returns-clause-appends : goal.returns-clause-appends
 returns-clause-appends g c =
     appends_as
     (ap (λ (t : Tables). islands_text t c.found_islands.result.now) c.present-2.ensures.case
-    ∙ (islands_are c.find_islands.new.self.tables c.found_islands.result.now c.found_islands.ensures.islands ∙ ap (λ (t : Tables). case_islands_text t) c.find_islands.ensures.tables))
+    ∙ (islands_are c.find_islands.new.self.tables c.found_islands.result.now c.found_islands.ensures.islands ∙ ap (λ (t : Tables). block_text Islands t) c.find_islands.ensures.tables))
     c.print_islands.ensures.appends

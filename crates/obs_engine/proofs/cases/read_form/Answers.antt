@@ -1,0 +1,16 @@
+use Rattle.obs_engine.proofs.Contents.{place_taken, report_taken, topology_taken}
+use Rattle.obs_engine.proofs.cases.read_form.Goals as goal
+
+pub returns-in-Topology-clause-read : goal.returns-in-Topology-clause-read
+returns-in-Topology-clause-read c = λ file told.
+    topology_taken c.args.form c.args.contents.now file _ _ _ _ c.read_switching.result c.in-Topology.is c.index-contents-0.is c.index-contents-1.is
+    c.deref.ensures.value c.deref-in-Topology.ensures.value c.read_switching.ensures.read c.requires.count told
+
+pub returns-in-Report-clause-read : goal.returns-in-Report-clause-read
+returns-in-Report-clause-read c = λ file told.
+    report_taken c.args.contents.now file c.read_case.result c.in-Report.from c.args.form c.in-Report.is (c.read_case.ensures.read file) told
+
+pub returns-in-Place-clause-read : goal.returns-in-Place-clause-read
+returns-in-Place-clause-read c = λ file told.
+    place_taken c.args.contents.now file c.read_case-in-Place.result c.in-Place.from c.args.form _ _ c.in-Place.is c.index-contents-contents.is c.deref-in-Place.ensures.value
+    (c.read_case-in-Place.ensures.read file) c.requires.count told

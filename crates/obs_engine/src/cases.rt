@@ -1,0 +1,140 @@
+// The case that the contents of files are.
+ghost use Rattle.std.specs.Prelude.{◌≡◌, ◌≤◌, ℕ, List, Ok, Some, All, IsErrOf, length, map, option_map, take, vec_len};
+ghost use Rattle.std.specs.List.{range_with_len};
+ghost use Rattle.obs_text.specs.Limits.{most_file_bytes};
+ghost use Rattle.obs_case_csv.specs.Read.{tables_in};
+ghost use Rattle.obs_ieee_cdf.specs.Rows.{cdf_of};
+ghost use Rattle.obs_engine.specs.Files.{case_in, case_in_files, case_of_tables, case_with_tables, parsed, switching_case};
+ghost use Rattle.obs_engine.specs.Forms.{AreFiles, IsFileWord, ReadFailed};
+ghost use Rattle.obs_engine.specs.Taken.{IsTaken, bytes_of};
+ghost use Rattle.obs_engine.specs.Words.{case_parts, file_words, first_file, parts_of};
+
+use crate::files::take_files;
+use crate::taken::Untaken;
+use crate::words::{CaseForm, Form, first_file, parts};
+use obs_case::Case;
+use obs_case_csv::{Table, TableEnd, read_table, read_tables};
+use obs_ieee_cdf::{CdfEnd, read_cdf};
+use obs_io::Files;
+use obs_text::InputFault;
+use std::alloc::Global;
+
+// The case that the bytes of the two tables are.
+fn read_switching(alloc: Global, nodes: &[u8], switches: &[u8]) -> Result<Case, Untaken>
+    ensures read { IsTaken (switching_case nodes.now switches.now) result }
+    ensures no_read { IsErrOf result Untaken.Read → ⊥ }
+{
+    let mut case = Case::new(alloc);
+    match read_table(alloc, &mut case, Table::Nodes, nodes) {
+        Ok(()) => {}
+        Err(TableEnd::Fault(fault)) => return Err(Untaken::Refused(InputFault::from(fault))),
+        Err(TableEnd::NoMemory) => return Err(Untaken::NoMemory),
+    }
+    match read_table(alloc, &mut case, Table::Switches, switches) {
+        Ok(()) => Ok(case),
+        Err(TableEnd::Fault(fault)) => Err(Untaken::Refused(InputFault::from(fault))),
+        Err(TableEnd::NoMemory) => Err(Untaken::NoMemory),
+    }
+}
+
+// The case that the bytes of four tables are, with candidates where they are given.
+fn read_csv(
+    alloc: Global,
+    nodes: &[u8],
+    switches: &[u8],
+    branches: &[u8],
+    meters: &[u8],
+    candidates: Option<&[u8]>,
+) -> Result<Case, Untaken>
+    ensures read { IsTaken (case_of_tables (tables_in nodes.now switches.now branches.now meters.now
+        (option_map (λ bytes. bytes.now) candidates.entry))) result }
+    ensures no_read { IsErrOf result Untaken.Read → ⊥ }
+{
+    match read_tables(alloc, nodes, switches, branches, meters, candidates) {
+        Ok(case) => Ok(case),
+        Err(TableEnd::Fault(fault)) => Err(Untaken::Refused(InputFault::from(fault))),
+        Err(TableEnd::NoMemory) => Err(Untaken::NoMemory),
+    }
+}
+
+// The case that the bytes of a file in the IEEE Common Data Format and of a table of meters are, with candidates where they are
+// given.
+fn read_cdf_tables(
+    alloc: Global,
+    cdf: &[u8],
+    meters: &[u8],
+    candidates: Option<&[u8]>,
+) -> Result<Case, Untaken>
+    requires few { length cdf.now ≤ most_file_bytes }
+    ensures read { IsTaken (case_with_tables meters.now (option_map (λ bytes. bytes.now) candidates.entry) (cdf_of cdf.now)) result }
+    ensures no_read { IsErrOf result Untaken.Read → ⊥ }
+{
+    match read_cdf(alloc, cdf, meters, candidates) {
+        Ok(case) => Ok(case),
+        Err(CdfEnd::Cdf(fault)) => Err(Untaken::Refused(InputFault::from(fault))),
+        Err(CdfEnd::Table(fault)) => Err(Untaken::Refused(InputFault::from(fault))),
+        Err(CdfEnd::NoMemory) => Err(Untaken::NoMemory),
+    }
+}
+
+// The case that the contents of the files of a case's form are, with candidates where they are given.
+fn read_case(
+    alloc: Global,
+    from: CaseForm,
+    contents: &[Vec<u8>],
+    candidates: Option<&[u8]>,
+) -> Result<Case, Untaken>
+    requires count { length (case_parts from) ≤ length contents.now }
+    requires short { All (λ bytes. vec_len bytes ≤ most_file_bytes) contents.now }
+    ensures read { (file : ℕ → List ℕ)
+        → take (length (case_parts from)) (bytes_of contents.now) ≡ map file (range_with_len 2 (length (case_parts from)))
+        → IsTaken (case_in from (option_map (λ bytes. bytes.now) candidates.entry) file) result }
+    ensures no_read { IsErrOf result Untaken.Read → ⊥ }
+{
+    match from {
+        CaseForm::Csv => read_csv(
+            alloc,
+            &contents[0],
+            &contents[1],
+            &contents[2],
+            &contents[3],
+            candidates,
+        ),
+        CaseForm::Cdf => read_cdf_tables(alloc, &contents[0], &contents[1], candidates),
+    }
+}
+
+// The case that the contents of a form's files are.
+fn read_form(alloc: Global, form: Form, contents: &[Vec<u8>]) -> Result<Case, Untaken>
+    requires count { length contents.now ≡ length (parts_of form) }
+    requires short { All (λ bytes. vec_len bytes ≤ most_file_bytes) contents.now }
+    ensures read { (file : ℕ → List ℕ)
+        → bytes_of contents.now ≡ map file (range_with_len (first_file form) (length (parts_of form)))
+        → IsTaken (parsed form file) result }
+    ensures no_read { IsErrOf result Untaken.Read → ⊥ }
+{
+    match form {
+        Form::Topology => read_switching(alloc, &contents[0], &contents[1]),
+        Form::Report(from) => read_case(alloc, from, contents, None),
+        Form::Place(from) => {
+            let candidates = &contents[contents.len() - 1];
+            read_case(alloc, from, contents, Some(candidates))
+        }
+    }
+}
+
+/// The case that the files of a form are. All are read before the first is parsed.
+pub(crate) fn take_case<F: Files>(
+    alloc: Global,
+    files: &mut F,
+    form: Form,
+) -> Result<Case, Untaken>
+    ensures stated { (file : ℕ → List ℕ) → AreFiles (Some form) (F.content files.old) file → IsTaken (case_in_files form file) result }
+    ensures read { IsErrOf result Untaken.Read
+        → ReadFailed (file_words (Some form)) (F.content files.old) (F.faults files.old) (F.faults files.new) }
+    ensures quiet { (IsErrOf result Untaken.Read → ⊥) → (w : ℕ) → F.faults files.new w ≡ F.faults files.old w }
+    ensures steady { ((w : ℕ) → IsFileWord (Some form) w → F.steady files.old w) → IsErrOf result Untaken.Read → ⊥ }
+{
+    let contents = take_files(alloc, files, first_file(form), parts(form))?;
+    read_form(alloc, form, &contents)
+}

@@ -1,0 +1,105 @@
+// The claims on the components of a session's case, printed. Each call finds what is not at hand, and leaves the case as it is.
+ghost use Rattle.std.specs.Prelude.{◌≡◌, ◌<◌, true};
+ghost use Rattle.obs_network.specs.Network.{case_component_count};
+ghost use Rattle.obs_network.specs.Observable.{is_fed};
+ghost use Rattle.obs_report.specs.Printed.{Appends};
+ghost use Rattle.obs_engine.specs.Asks.{bound_claim, claims_text, component_claim, tree_claim};
+
+use obs_assign::Steps;
+use obs_edit::Session;
+use obs_io::{Failed, Sink};
+use obs_report::{print_bound, print_tree};
+use std::sync::ledger::Ledger;
+
+// Prints the tree of a component.
+fn print_component_tree<W: Sink, L: Ledger>(
+    output: &mut W,
+    session: &mut Session,
+    c: u32,
+    steps: &mut Steps<L>,
+) -> Result<(), Failed>
+    requires component { c < case_component_count session.old.tables }
+    ensures tables { session.new.tables ≡ session.old.tables }
+    ensures offered { session.new.offered ≡ session.old.offered }
+    ensures appends { Appends W.written W.faults W.has_room output.old output.new result (tree_claim session.old.tables c) }
+{
+    session.find_first(steps);
+    let _nodes = session.present().nodes();
+    print_tree(
+        output,
+        session.present(),
+        session.network(),
+        c,
+        session.found_pairs(),
+    )
+}
+
+// Prints the bound of a component.
+fn print_component_bound<W: Sink, L: Ledger>(
+    output: &mut W,
+    session: &mut Session,
+    c: u32,
+    steps: &mut Steps<L>,
+) -> Result<(), Failed>
+    requires component { c < case_component_count session.old.tables }
+    ensures tables { session.new.tables ≡ session.old.tables }
+    ensures offered { session.new.offered ≡ session.old.offered }
+    ensures appends { Appends W.written W.faults W.has_room output.old output.new result (bound_claim session.old.tables c) }
+{
+    session.find_critical(steps);
+    session.find_bound(c);
+    let bound = session.found_bound(c);
+    print_bound(output, session.present(), session.network(), c, &bound)
+}
+
+// Prints the claim on an energised component, where claims of its kind are asked for.
+fn print_claim<W: Sink, L: Ledger>(
+    output: &mut W,
+    session: &mut Session,
+    trees: bool,
+    bounds: bool,
+    c: u32,
+    steps: &mut Steps<L>,
+) -> Result<(), Failed>
+    requires component { c < case_component_count session.old.tables }
+    ensures tables { session.new.tables ≡ session.old.tables }
+    ensures offered { session.new.offered ≡ session.old.offered }
+    ensures appends { Appends W.written W.faults W.has_room output.old output.new result
+        (component_claim trees bounds session.old.tables c) }
+{
+    let _nodes = session.present().nodes();
+    if !session.network().energised(c) {
+        return Ok(());
+    }
+    if session.observable(c) {
+        if trees {
+            return print_component_tree(output, session, c, steps);
+        }
+    } else if bounds {
+        return print_component_bound(output, session, c, steps);
+    }
+    Ok(())
+}
+
+/// Prints the claims on the components, in their order: trees of observable ones, bounds of the others, as far as they are asked
+/// for.
+pub(crate) fn print_claims<W: Sink, L: Ledger>(
+    output: &mut W,
+    session: &mut Session,
+    trees: bool,
+    bounds: bool,
+    steps: &mut Steps<L>,
+) -> Result<(), Failed>
+    ensures tables { session.new.tables ≡ session.old.tables }
+    ensures offered { session.new.offered ≡ session.old.offered }
+    ensures appends { Appends W.written W.faults W.has_room output.old output.new result
+        (claims_text trees bounds session.old.tables) }
+{
+    for c in 0..session.network().components() {
+        match print_claim(output, session, trees, bounds, c, steps) {
+            Ok(()) => {}
+            Err(Failed) => return Err(Failed),
+        }
+    }
+    Ok(())
+}
