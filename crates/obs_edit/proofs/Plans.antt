@@ -4,7 +4,7 @@ use Rattle.obs_case.specs.Tables.{Tables}
 use Rattle.obs_matroid.proofs.Lists.{clash}
 use Rattle.obs_assign.specs.Assigned.{StandsOver, pairs}
 use Rattle.obs_network.specs.Network.{NetworkOf, network_of}
-use Rattle.obs_edit.specs.Planned.{Planning, case_placed_pairs, case_placement, new_planning, offered_rows, prices_of}
+use Rattle.obs_edit.specs.Planned.{Planning, case_placed_pairs, case_placement, new_planning}
 use Rattle.obs_edit.specs.Sessions.{IsPlacing, Kept}
 
 -- as it is made, where none is at hand
