@@ -5,5 +5,6 @@ pub mod Planned
 pub mod PlanFirst
 pub mod Priced
 pub mod Offered
+pub mod Plans
 pub mod Tight
 pub mod Answered

@@ -2,16 +2,17 @@
 use Rattle.std.specs.Prelude.{◌≡◌, ℕ, ◌≤◌, Bool, true, false, not, Some, List, length, slice_index_or}
 use Rattle.obs_case.specs.Tables.{Tables}
 use Rattle.obs_matroid.specs.Lists.{In}
-use Rattle.obs_assign.specs.Assigned.{Assigned, pairs}
+use Rattle.obs_assign.specs.Assigned.{Assigned, StandsOver, pairs}
 use Rattle.obs_exchange.specs.Found.{Working}
 use Rattle.obs_critical.specs.Listed.{Listing}
 use Rattle.obs_islands.specs.Islanding.{Islanding}
 use Rattle.obs_meter.specs.Assignments.{IsRhoAt}
 use Rattle.obs_meter.specs.Sizes.{Sizes}
-use Rattle.obs_network.specs.Network.{case_branches, case_meters, network_of}
+use Rattle.obs_network.specs.Network.{case_branches, case_meters, case_offered, network_of}
 use Rattle.obs_network.specs.Observable.{case_live_meters}
 use Rattle.obs_edit.specs.Answers.{bound_meters, bound_outside, bound_rank, case_critical_meters, case_first_pairs, case_islands, is_critical_meter}
 use Rattle.obs_edit.specs.Longest.{IsLongest}
+use Rattle.obs_edit.specs.Planned.{Planning, case_placed_pairs, case_placement, offered_rows, prices_of}
 use Rattle.obs_edit.specs.declared.hand.AtHand.{AtHand}
 
 -- a session: the present case, whether it was begun with candidates, the kept pairs, and what is at hand
@@ -70,3 +71,11 @@ pub record AreAnswers (t : Tables) (a : Assigned) (flags : List Bool) (listing :
   pub critical : hand.critical ≡ true → listing.list ≡ case_critical_meters t
   pub islands : hand.islands ≡ true → found.firsts ≡ case_islands t
   pub bound : (c : ℕ) → hand.bound ≡ Some c → measured ≡ case_bound t c
+
+-- a placement is of these prices and sizes, and where it is said to be at hand it is the one of the case, with its pairs
+pub record IsPlacing (t : Tables) (at_hand : Bool) (p : Planning) : Type 0 where
+  pub prices : p.prices ≡ prices_of t.candidates
+  pub sizes : p.sizes ≡ offered_rows t
+  pub placed : at_hand ≡ true → p.placed ≡ case_placement t
+  pub pairs : at_hand ≡ true → pairs p.pairs ≡ case_placed_pairs t
+  pub stands : at_hand ≡ true → StandsOver p.pairs (network_of t).graph (case_offered t)

@@ -1,6 +1,7 @@
 //! Sessions: a case whose flags are set one at a time, its network, pairs that are carried along, and the answers to it.
 #![tactic(auto)]
 
+mod analysis;
 mod answers;
 mod asks;
 mod components;
@@ -10,12 +11,15 @@ mod kept;
 pub mod laws;
 mod memory;
 mod pairing;
+#[cfg(test)]
+mod place_tests;
 mod placing;
 mod seen;
 mod session;
 #[cfg(test)]
 mod tests;
 
+pub use analysis::State;
 pub use memory::NoMemory;
-pub use seen::Seen;
-pub use session::{Session, State};
+pub use seen::{Placed, Seen};
+pub use session::Session;

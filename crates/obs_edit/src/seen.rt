@@ -1,15 +1,18 @@
 //! The asks of a session: each finds its answer, where it isn't at hand, and lends it with the present case and its network.
 ghost use Rattle.std.specs.Prelude.{◌≡◌, ◌<◌, true};
 ghost use Rattle.obs_assign.specs.Assigned.{StandsOver, pairs};
+ghost use Rattle.obs_placement.specs.Placed.{placed_of};
 ghost use Rattle.obs_network.specs.Components.{need_of};
-ghost use Rattle.obs_network.specs.Network.{case_component_count, case_meters, case_sizes, network_of};
+ghost use Rattle.obs_network.specs.Network.{case_component_count, case_meters, case_offered, case_sizes, network_of};
 ghost use Rattle.obs_network.specs.Observable.{IsObservable, is_fed};
 ghost use Rattle.obs_edit.specs.Answers.{bound_meters, bound_outside, bound_rank, case_critical_meters, case_first_pairs, case_islands};
+ghost use Rattle.obs_edit.specs.Planned.{case_placed_pairs, case_placement};
 
 use crate::session::Session;
 use obs_assign::{Assignment, Steps};
 use obs_case::Case;
 use obs_network::Network;
+use obs_placement::Placement;
 use obs_rankcut::Bound;
 use std::sync::ledger::Ledger;
 
@@ -19,6 +22,14 @@ pub struct Seen<'a, T> {
     pub case: &'a Case,
     pub network: &'a Network,
     pub found: T,
+}
+
+/// A placement and its pairs: of a plan the first assignment of the meters and then the chosen candidates, numbered as in what
+/// is offered, and of a shortfall none.
+#[derive(Clone, Copy)]
+pub struct Placed<'a> {
+    pub placement: Placement<'a>,
+    pub pairs: &'a Assignment,
 }
 
 impl Session {
@@ -84,6 +95,27 @@ impl Session {
             case: self.present(),
             network: self.network(),
             found: self.found_islands(),
+        }
+    }
+
+    /// The cheapest candidates that complete the meters of the present case, with the pairs of the plan, or the bound that shows
+    /// that none do. The session was begun with candidates.
+    pub fn place<L: Ledger>(&mut self, steps: &mut Steps<L>) -> Seen<'_, Placed<'_>>
+        requires candidates { self.old.offered ≡ true }
+        ensures case { result.case.now ≡ self.old.tables }
+        ensures network { result.network.now ≡ network_of self.old.tables }
+        ensures placement { placed_of result.found.placement ≡ case_placement self.old.tables }
+        ensures pairs { pairs result.found.pairs.now ≡ case_placed_pairs self.old.tables }
+        ensures stands { StandsOver result.found.pairs.now (network_of self.old.tables).graph (case_offered self.old.tables) }
+    {
+        self.find_placement(steps);
+        Seen {
+            case: self.present(),
+            network: self.network(),
+            found: Placed {
+                placement: self.found_placement(),
+                pairs: self.found_plan_pairs(),
+            },
         }
     }
 }

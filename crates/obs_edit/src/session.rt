@@ -1,31 +1,25 @@
 //! A session.
 ghost use Rattle.std.specs.Prelude.{◌≡◌, ◌<◌, ◌↔◌, true, Some, IfOk, IsTrue};
 ghost use Rattle.obs_assign.specs.Assigned.{StandsOver, pairs};
+ghost use Rattle.obs_placement.specs.Placed.{placed_of};
 ghost use Rattle.obs_network.specs.Components.{need_of};
-ghost use Rattle.obs_network.specs.Network.{case_component_count, case_meters, case_needed, case_sizes, network_of};
+ghost use Rattle.obs_network.specs.Network.{case_component_count, case_meters, case_needed, case_offered, case_sizes, network_of};
 ghost use Rattle.obs_network.specs.Observable.{IsObservable, is_fed};
 ghost use Rattle.obs_edit.specs.Answers.{bound_meters, bound_outside, bound_rank, case_critical_meters, case_first_pairs, case_islands, case_rank};
+ghost use Rattle.obs_edit.specs.Planned.{case_placed_pairs, case_placement};
 ghost use Rattle.obs_edit.specs.Sessions.{AreLongest, IsRankOf};
 
-use crate::answers::{Answers, make_answers};
-use crate::asks::{find_bound, find_critical, find_first, find_islands};
-use crate::counted::has_enough;
-use crate::kept::{Held, fill, make_held};
+use crate::analysis::{Analysis, State};
 use crate::memory::NoMemory;
+use crate::placing::{Placing, place};
 use obs_assign::{Assignment, Steps};
 use obs_case::Case;
 use obs_network::Network;
+use obs_placement::Placement;
 use obs_rankcut::Bound;
 use std::alloc::Global;
 use std::marker::Model;
 use std::sync::ledger::Ledger;
-
-/// The rank of a case and its needed number: it is observable where the two are equal.
-#[derive(Clone, Copy, Debug, PartialEq, Eq)]
-pub struct State {
-    pub rank: u32,
-    pub needed: u32,
-}
 
 /// A case whose flags are set one at a time, its network, a longest assignment of its live meters, and the answers that are at
 /// hand. All memory is taken when it begins.
@@ -34,31 +28,18 @@ pub struct State {
 /// until an edit changes the case.
 #[derive(Drop)]
 pub struct Session {
-    case: Case,
-    network: Network,
-    held: Held,
-    answers: Answers,
-    offered: bool,
+    analysis: Analysis,
+    placing: Placing,
 }
 
 impl Model for Session {
-    ghost use Rattle.std.specs.Prelude.{◌≡◌, take};
-    ghost use Rattle.obs_network.specs.Network.{network_of};
-    ghost use Rattle.obs_edit.specs.Sessions.{AreAnswers, AreLongest, HasRoom, HasRoomToAnswer, Kept};
+    ghost use Rattle.obs_edit.specs.Sessions.{IsPlacing, Kept};
 
     ghost Value = { Kept };
 
-    ghost view = { λ s. record { tables = s.case; offered = s.offered; pairs = s.held.pairs; at_hand = s.answers.hand } };
+    ghost view = { λ s. s.analysis };
 
-    ghost invariant = { λ s. record {
-      network : s.network ≡ network_of s.case;
-      longest : AreLongest s.case s.held.pairs;
-      room : HasRoom s.case s.held.pairs s.held.work;
-      answer_room : HasRoomToAnswer s.case s.answers.marks.items s.answers.critical s.answers.islands s.answers.inside.items s.answers.measured.listed;
-      answers : AreAnswers s.case s.held.pairs s.answers.marks.items s.answers.critical s.answers.islands
-          (record { inside = take s.answers.measured.listed s.answers.inside.items; rank = s.answers.measured.rank; outside = s.answers.measured.outside })
-          s.answers.hand;
-    } };
+    ghost invariant = { λ s. IsPlacing s.analysis.tables s.analysis.at_hand.placed s.placing };
 }
 
 impl Session {
@@ -73,31 +54,23 @@ impl Session {
         ensures offered { IfOk result (λ s. s.offered ≡ offered) }
         ensures longest { IfOk result (λ s. AreLongest case s.pairs) }
     {
-        let network = Network::make(alloc, &case)?;
-        let mut held = make_held(alloc, &case)?;
-        let answers = make_answers(alloc, &case)?;
-        fill(&case, &network, &mut held.pairs, &mut held.work, steps);
-        Ok(Session {
-            case,
-            network,
-            held,
-            answers,
-            offered,
-        })
+        let placing = Placing::make(alloc, &case)?;
+        let analysis = Analysis::begin(alloc, case, offered, steps)?;
+        Ok(Session { analysis, placing })
     }
 
     /// The present case.
     pub fn present(&self) -> &Case
         ensures case { result.now ≡ self.now.tables }
     {
-        &self.case
+        self.analysis.present()
     }
 
     /// The network of the present case.
     pub fn network(&self) -> &Network
         ensures network { result.now ≡ network_of self.now.tables }
     {
-        &self.network
+        self.analysis.network()
     }
 
     /// The kept pairs: a longest assignment over the network's graph and meters, with nothing frozen.
@@ -105,14 +78,14 @@ impl Session {
         ensures pairs { result.now ≡ self.now.pairs }
         ensures longest { AreLongest self.now.tables self.now.pairs }
     {
-        &self.held.pairs
+        self.analysis.pairs()
     }
 
     /// Whether candidates were given when the session began.
     pub fn offered(&self) -> bool
         ensures offered { result ≡ self.now.offered }
     {
-        self.offered
+        self.analysis.offered()
     }
 
     /// The rank and the needed number of the present case.
@@ -121,11 +94,7 @@ impl Session {
         ensures computed { result.rank ≡ case_rank self.now.tables }
         ensures needed { result.needed ≡ case_needed self.now.tables }
     {
-        let _nodes = self.case.nodes();
-        State {
-            rank: self.held.pairs.length(),
-            needed: self.network.needed(),
-        }
+        self.analysis.state()
     }
 
     /// Whether an energised component of the present case is observable.
@@ -134,7 +103,7 @@ impl Session {
         requires energised { is_fed self.now.tables c ≡ true }
         ensures observable { IsTrue result ↔ IsObservable self.now.tables c }
     {
-        has_enough(&self.case, &self.network, &self.held.pairs, c)
+        self.analysis.observable(c)
     }
 
     /// Makes the kept pairs the first assignment. `found_pairs` then lends it.
@@ -143,17 +112,7 @@ impl Session {
         ensures offered { self.new.offered ≡ self.old.offered }
         ensures at_hand { self.new.at_hand ≡ record self.old.at_hand { first = true } }
     {
-        if self.answers.hand.first {
-            return;
-        }
-        find_first(
-            &self.case,
-            &self.network,
-            &mut self.held.pairs,
-            &mut self.held.work,
-            steps,
-        );
-        self.answers.hand.first = true;
+        self.analysis.find_first(steps)
     }
 
     /// Finds the critical meters, and marks the other live ones. `found_critical` then lends them.
@@ -163,19 +122,7 @@ impl Session {
         ensures pairs { self.new.pairs ≡ self.old.pairs }
         ensures at_hand { self.new.at_hand ≡ record self.old.at_hand { critical = true } }
     {
-        if self.answers.hand.critical {
-            return;
-        }
-        find_critical(
-            &self.case,
-            &self.network,
-            &mut self.held.pairs,
-            &mut self.held.work,
-            &mut self.answers.marks,
-            &mut self.answers.critical,
-            steps,
-        );
-        self.answers.hand.critical = true;
+        self.analysis.find_critical(steps)
     }
 
     /// Finds the islands. `found_islands` then lends them.
@@ -185,11 +132,7 @@ impl Session {
         ensures pairs { self.new.pairs ≡ self.old.pairs }
         ensures at_hand { self.new.at_hand ≡ record self.old.at_hand { islands = true } }
     {
-        if self.answers.hand.islands {
-            return;
-        }
-        find_islands(&self.case, &self.network, &mut self.answers.islands, steps);
-        self.answers.hand.islands = true;
+        self.analysis.find_islands(steps)
     }
 
     /// Measures the bound of a component, where the critical meters are at hand. `found_bound` then lends it. This goes through
@@ -202,15 +145,7 @@ impl Session {
         ensures pairs { self.new.pairs ≡ self.old.pairs }
         ensures at_hand { self.new.at_hand ≡ record self.old.at_hand { bound = Some c } }
     {
-        self.answers.measured = find_bound(
-            &self.case,
-            &self.network,
-            &self.held.pairs,
-            &self.answers.marks,
-            &mut self.answers.inside,
-            c,
-        );
-        self.answers.hand.bound = Some(c);
+        self.analysis.find_bound(c)
     }
 
     /// The first assignment of the present case's meters, where it is at hand.
@@ -220,7 +155,7 @@ impl Session {
         ensures first { pairs result.now ≡ case_first_pairs self.now.tables }
         ensures stands { StandsOver result.now (network_of self.now.tables).graph (case_meters self.now.tables) }
     {
-        &self.held.pairs
+        self.analysis.found_pairs()
     }
 
     /// The critical meters of the present case, rising, where they are at hand.
@@ -228,7 +163,7 @@ impl Session {
         requires critical { self.now.at_hand.critical ≡ true }
         ensures critical { result.now ≡ case_critical_meters self.now.tables }
     {
-        self.answers.critical.list()
+        self.analysis.found_critical()
     }
 
     /// Of each bus of the present case the first bus of its island, where the islands are at hand.
@@ -236,7 +171,7 @@ impl Session {
         requires islands { self.now.at_hand.islands ≡ true }
         ensures islands { result.now ≡ case_islands self.now.tables }
     {
-        self.answers.islands.firsts()
+        self.analysis.found_islands()
     }
 
     /// The bound of a component of the present case, where it is at hand: its live meters that aren't critical, the rank of what
@@ -249,11 +184,45 @@ impl Session {
         ensures outside { result.outside ≡ bound_outside self.now.tables c }
         ensures needed { result.needed ≡ need_of (case_sizes self.now.tables) c }
     {
-        Bound {
-            inside: &self.answers.inside[..self.answers.measured.listed],
-            rank: self.answers.measured.rank,
-            outside: self.answers.measured.outside,
-            needed: self.network.need(c),
+        self.analysis.found_bound(c)
+    }
+
+    /// Finds the placement of the present case, and its pairs. `found_placement` and `found_plan_pairs` then lend them.
+    pub fn find_placement<L: Ledger>(&mut self, steps: &mut Steps<L>)
+        requires candidates { self.old.offered ≡ true }
+        ensures tables { self.new.tables ≡ self.old.tables }
+        ensures offered { self.new.offered ≡ self.old.offered }
+        ensures pairs { self.new.pairs ≡ self.old.pairs }
+        ensures at_hand { self.new.at_hand ≡ record self.old.at_hand { placed = true } }
+    {
+        if self.analysis.at_hand().placed {
+            return;
         }
+        place(
+            self.analysis.present(),
+            self.analysis.network(),
+            &mut self.placing,
+            steps,
+        );
+        self.analysis.note_placement();
+    }
+
+    /// The cheapest candidates that complete the meters of the present case, or the bound that shows that none do, where they
+    /// are at hand.
+    pub fn found_placement(&self) -> Placement<'_>
+        requires placed { self.now.at_hand.placed ≡ true }
+        ensures placed { placed_of result ≡ case_placement self.now.tables }
+    {
+        self.placing.found()
+    }
+
+    /// The pairs of the placement of the present case, where it is at hand: of a plan the first assignment of the meters and then
+    /// the chosen candidates, numbered as in what is offered, and of a shortfall none.
+    pub fn found_plan_pairs(&self) -> &Assignment
+        requires placed { self.now.at_hand.placed ≡ true }
+        ensures pairs { pairs result.now ≡ case_placed_pairs self.now.tables }
+        ensures stands { StandsOver result.now (network_of self.now.tables).graph (case_offered self.now.tables) }
+    {
+        self.placing.pairs()
     }
 }

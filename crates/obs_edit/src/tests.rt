@@ -13,7 +13,7 @@ use std::sync::ledger::{Blank, Ledger};
 use std::test::Fail;
 
 // Bytes that are a name.
-fn name<'a>(rt: &impl Abort, bytes: &'a [u8]) -> &'a [u8]
+pub(crate) fn name<'a>(rt: &impl Abort, bytes: &'a [u8]) -> &'a [u8]
     ensures name { IsTrue (is_name result.now) }
 {
     name_of(bytes).expect(rt, "the bytes are a name")
@@ -86,7 +86,7 @@ fn branch_of(session: &Session, m: u32) -> Option<u32> {
 }
 
 // A path of four buses with two flow meters on its first branch and an injection meter at its second bus.
-fn path(rt: &impl Abort, alloc: Global) -> Case {
+pub(crate) fn path(rt: &impl Abort, alloc: Global) -> Case {
     let mut case = Case::new(alloc);
     add_nodes(
         rt,
@@ -126,25 +126,30 @@ fn path_falls_short(rt: HostRuntime) -> Result<(), Fail> {
     Ok(())
 }
 
-// A triangle with an injection meter and a flow meter is observable.
-#[test]
-fn triangle_is_observable(rt: HostRuntime) -> Result<(), Fail> {
-    let mut case = Case::new(rt.alloc());
+// A triangle with an injection meter and a flow meter.
+pub(crate) fn triangle(rt: &impl Abort, alloc: Global) -> Case {
+    let mut case = Case::new(alloc);
     add_nodes(
-        &rt,
+        rt,
         &mut case,
         &[(b'a', true), (b'b', false), (b'c', false)],
     );
     add_branches(
-        &rt,
+        rt,
         &mut case,
         &[(b'1', b'a', b'b'), (b'2', b'b', b'c'), (b'3', b'c', b'a')],
     );
     add_meters(
-        &rt,
+        rt,
         &mut case,
         &[(b'i', Kind::Injection, b'a'), (b'f', Kind::Flow, b'1')],
     );
+    case
+}
+
+#[test]
+fn triangle_is_observable(rt: HostRuntime) -> Result<(), Fail> {
+    let case = triangle(&rt, rt.alloc());
     let session = begin::<Brand>(rt.alloc(), Blank::new(1), case, false)?;
     assert!(rt; session.state() == State { rank: 2, needed: 2 });
     assert!(rt; !session.offered());

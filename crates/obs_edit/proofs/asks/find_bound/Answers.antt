@@ -1,4 +1,4 @@
-use Rattle.std.proofs.Common.{◌≡◌, ◌≤◌, ◌-◌, ℕ, List, length, filter, ap, ◌∙◌, arith}
+use Rattle.std.proofs.Common.{◌≡◌, ◌≤◌, ℕ, List, length, filter, ap, ◌∙◌, arith}
 use Rattle.obs_case.specs.Tables.{Tables}
 use Rattle.obs_assign.specs.Assigned.{has_flag}
 use Rattle.obs_network.specs.Located.{live_meters_of}
