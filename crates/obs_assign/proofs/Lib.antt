@@ -13,3 +13,4 @@ pub mod Changes
 pub mod Retained
 pub mod Pinned
 pub mod Free
+pub mod Afterwards

@@ -131,22 +131,36 @@ module _ (n : ℕ) (ends : List (Option Ends)) (touches : List Touch) where
                 eu ∙ (same-from_true es u v (sym is ∙ r.3) ∙ sym ev)),
           )
 
-      settled_lone : (v : ℕ) → v < n → branches_at ends v ≡ [] → island_first n ends touches v ≡ v
-      settled_lone v l none =
+      -- a vertex without branches is joined with itself alone
+      lone_piece : (v u : ℕ) → branches_at ends v ≡ [] → joined_at ends (branches A) v u ≡ true → u ≡ v
+      lone_piece v u none t =
           let at : ℕ → Bool = λ z. z == v in
           let stays : (e : ℕ) → In e (branches A) → at (ends_at ends e).0 ≡ at (ends_at ends e).1 = λ e i.
           let p = In-branches_from A e i in
           let o = no_end ends v none (slice_index_or ends p.0.1 None) p.0.1 refl (touched-present ends (slice_index_or touches p.0.0 Nothing) p.0.1 (st.assigns.touched p.0 p.1)) in
           rw p.2 (o.0 ∙ sym o.1) in
+          let s = (stays_in (ends_at ends) (joined_at ends) (IsJoining-graph ends) at (branches A) stays v u (eq-eqb v v refl) t).1 in
+          eqb-true u v s
+
+      settled_lone : (v : ℕ) → v < n → branches_at ends v ≡ [] → island_first n ends touches v ≡ v
+      settled_lone v l none =
           island_first-is v v l l (true-from_same (ends_of ends (branches A)) v v refl)
-          (λ u k t. let s = (stays_in (ends_at ends) (joined_at ends) (IsJoining-graph ends) at (branches A) stays v u (eq-eqb v v refl) t).1 in
-          let e = eqb-true u v s in omega (arith, e))
+          (λ u k t. let e = lone_piece v u none t in omega (arith, e))
+
+      settled_alone : (v : ℕ) → v < n → branches_at ends v ≡ [] → (S : ℕ → Bool) → IsIslandAt n ends touches S → S v ≡ true → (u : ℕ) → u < n → S u ≡ true → u ≡ v
+      settled_alone v l none S h t u k s =
+          let is = island_piece (ends_at ends) (joined_at ends) (rank_at n ends) (IsJoining-graph ends) (IsMatroid-graph n ends ok) (touch_at ends touches) (every_vertex n) (live_items ends touches)
+          (vertices-distinct n) (live_items-distinct ends touches) (λ m e i j. ends_low n ends touches ok m e j) U A st v (In-vertices n v l) S h t u (In-vertices n u k) in
+          lone_piece v u none (sym is ∙ s)
 
     pub first_in : (v : ℕ) → v < n → (S : ℕ → Bool) → IsIslandAt n ends touches S → S v ≡ true → IsFirstIn n S (island_first n ends touches v)
     first_in = let s = some_settled in settled_first s.0 s.1 s.2
 
     pub first_lone : (v : ℕ) → v < n → branches_at ends v ≡ [] → island_first n ends touches v ≡ v
     first_lone = let s = some_settled in settled_lone s.0 s.1 s.2
+
+    pub lone_island : (v : ℕ) → v < n → branches_at ends v ≡ [] → (S : ℕ → Bool) → IsIslandAt n ends touches S → S v ≡ true → (u : ℕ) → u < n → S u ≡ true → u ≡ v
+    lone_island = let s = some_settled in settled_alone s.0 s.1 s.2
 
     pub first_same : (u v : ℕ) → u < n → v < n
         → (island_first n ends touches u ≡ island_first n ends touches v) ↔ ((S : ℕ → Bool) × IsIslandAt n ends touches S × (S u ≡ true) × (S v ≡ true))

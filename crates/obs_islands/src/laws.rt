@@ -22,8 +22,10 @@ pub fn first_of_island()
         ↔ ((S : ℕ → Bool) × IsIslandAt n ends touches S × (S u ≡ true) × (S v ≡ true)) }
 {}
 
-/// A vertex without a branch is an island of its own.
+/// A vertex without a branch is an island of its own: it names its island, in which there is no other vertex.
 pub fn lone_vertex()
     ensures lone { (n : ℕ) (ends : List (Option Ends)) (touches : List Touch) (v : ℕ) → AreBranches n ends → v < n →
         branches_at ends v ≡ [] → island_first n ends touches v ≡ v }
+    ensures alone { (n : ℕ) (ends : List (Option Ends)) (touches : List Touch) (v u : ℕ) (S : ℕ → Bool) → AreBranches n ends →
+        v < n → branches_at ends v ≡ [] → IsIslandAt n ends touches S → S v ≡ true → u < n → S u ≡ true → u ≡ v }
 {}

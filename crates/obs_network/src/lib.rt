@@ -2,6 +2,8 @@
 #![tactic(auto)]
 
 mod components;
+#[cfg(test)]
+mod full_tests;
 pub mod laws;
 mod live;
 mod live_meters;
