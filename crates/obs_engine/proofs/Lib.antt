@@ -8,3 +8,4 @@ pub mod Asked
 pub mod Worded
 pub mod Commanded
 pub mod Contents
+pub mod Placed

@@ -10,6 +10,7 @@ use obs_assign::Steps;
 use obs_case::Case;
 use obs_edit::Session;
 use obs_io::{Failed, Sink};
+use obs_placement::Placement;
 use obs_script::Ask;
 use std::alloc::Global;
 use std::marker::Brand;
@@ -34,8 +35,11 @@ fn place_status<L: Ledger>(session: &mut Session, steps: &mut Steps<L>) -> Statu
     ensures offered { session.new.offered ≡ session.old.offered }
     ensures status { result ≡ ask_status Place session.old.tables }
 {
-    session.find_critical(steps);
-    Status::Done
+    session.find_placement(steps);
+    match session.found_placement() {
+        Placement::Cheapest(_) => Status::Done,
+        Placement::Shortfall(_) => Status::Short,
+    }
 }
 
 // The status of the answer to an ask.

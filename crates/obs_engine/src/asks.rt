@@ -11,7 +11,7 @@ use crate::claims::print_claims;
 use obs_assign::Steps;
 use obs_edit::Session;
 use obs_io::{Failed, Sink};
-use obs_report::{print_counts, print_critical, print_islands, print_last_line};
+use obs_report::{print_counts, print_critical, print_islands, print_last_line, print_placement};
 use obs_script::Ask;
 use std::sync::ledger::Ledger;
 
@@ -67,8 +67,14 @@ fn print_case_placement<W: Sink, L: Ledger>(
     ensures offered { session.new.offered ≡ session.old.offered }
     ensures appends { Appends W.written W.faults W.has_room output.old output.new result (block_text Block.Placement session.old.tables) }
 {
-    session.find_critical(steps);
-    print_last_line(output)
+    session.find_placement(steps);
+    let _nodes = session.present().nodes();
+    print_placement(
+        output,
+        session.present(),
+        &session.found_placement(),
+        session.found_plan_pairs(),
+    )
 }
 
 // Prints a part of an answer.
