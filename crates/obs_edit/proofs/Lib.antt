@@ -7,3 +7,6 @@ pub mod Priced
 pub mod Offered
 pub mod Tight
 pub mod Answered
+pub mod FirstParts
+pub mod FirstTrees
+pub mod NamedIslands

@@ -1,0 +1,11 @@
+use Rattle.obs_edit.proofs.FirstTrees.{trees_are_first, trees_are_whole, trees_span}
+use Rattle.obs_edit.proofs.laws.trees_are_first.Goals as goal
+
+pub returns-clause-first : goal.returns-clause-first
+returns-clause-first c = trees_are_first
+
+pub returns-clause-whole : goal.returns-clause-whole
+returns-clause-whole c = trees_are_whole
+
+pub returns-clause-spanning : goal.returns-clause-spanning
+returns-clause-spanning c = trees_span
