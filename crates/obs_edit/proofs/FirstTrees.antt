@@ -30,7 +30,7 @@ use Rattle.obs_network.proofs.OfCase.{case_branches-are}
 use Rattle.obs_network.proofs.OfLaws.{case_component-at}
 use Rattle.obs_network.proofs.Sums.{range_distinct, range_in}
 use Rattle.obs_edit.specs.Answers.{case_first_pairs, component_meters, component_rank, is_meter_of}
-use Rattle.obs_edit.specs.Laws.{TreesAreFirst, TreesAreWhole, TreesSpan, tree_pairs}
+use Rattle.obs_edit.specs.Laws.{TreesAreFirst, TreesAreWhole, TreesSpan, is_bus_of, tree_pairs}
 use Rattle.obs_edit.proofs.FirstParts.{first_in_component}
 use Rattle.obs_edit.proofs.Tight.{case_matroid, case_touch, observable-to}
 
@@ -74,8 +74,12 @@ count_by-map : (f : ℕ → ℕ) (c : ℕ) (xs : List ℕ) → length (filter (�
 count_by-map f c [] = refl
 count_by-map f c (x ∷ xs) = elim (cases_Bool (f x == c)) [ inl e ↦ rw e (ap suc (count_by-map f c xs)) | inr e ↦ rw e (count_by-map f c xs) ]
 
+pub some_in : (x : ℕ) (xs : List ℕ) → In x xs → 0 < length xs
+some_in x [] i = absurd i
+some_in x (y ∷ ys) i = omega arith
+
 -- the buses of a component are as many as its size
-size_is : (t : Tables) (c : ℕ) → c < case_component_count t → slice_index (case_sizes t) c ≡ length (buses_of_component t c)
+pub size_is : (t : Tables) (c : ℕ) → c < case_component_count t → slice_index (case_sizes t) c ≡ length (buses_of_component t c)
 unfolding case_sizes case_components
 size_is t c l =
     let f : ℕ → ℕ = component_of (present (case_live t)) in
@@ -98,21 +102,17 @@ module _ (t : Tables) (v : IsValid t) (c : ℕ) where
       subst (λ (x : ℕ). In (ends_at (case_branches t) x).0 (buses_of_component t c) × In (ends_at (case_branches t) x).1 (buses_of_component t c)) (sym w.2)
       (bus_in (ends_at (case_branches t) w.0.1).0 low.0 lies, bus_in (ends_at (case_branches t) w.0.1).1 low.1 (sym (ends_component t v w.0.1) ∙ lies))
 
-  some_in : (x : ℕ) (xs : List ℕ) → In x xs → 0 < length xs
-  some_in x [] i = absurd i
-  some_in x (y ∷ ys) i = omega arith
-
   pub tree_spans : (u w : ℕ) → c < case_component_count t → IsObservable t c → u < case_bus_count t → w < case_bus_count t
-      → slice_index (case_components t) u ≡ c → slice_index (case_components t) w ≡ c → joined_at (case_branches t) (branches (tree_pairs t c)) u w ≡ true
+      → is_bus_of t c u ≡ true → is_bus_of t c w ≡ true → joined_at (case_branches t) (branches (tree_pairs t c)) u w ≡ true
   tree_spans u w l o lu lw su sw =
       let n = case_bus_count t in
       let ends = case_branches t in
       let W = buses_of_component t c in
-      let iu = bus_in u lu su in
+      let iu = bus_in u lu (eqb-true (get_or (case_components t) u 0) c su) in
       forest_joins (ends_at ends) (joined_at ends) (rank_at n ends) (IsJoining-graph ends) W (IsDistinct-filter (is_of t c) (range_with_len 0 n) (range_distinct 0 n)) (branches (tree_pairs t c))
       (to_matroid n ends (case_meters t) (component_meters t c) (tree_pairs t c) (tree_first t v c).assigns).independent ends_in
       (let many = tree_whole t v c l o in let same = size_is t c l in let some = some_in u W iu in omega (arith, many, same, some, length-branches (tree_pairs t c)))
-      u w iu (bus_in w lw sw)
+      u w iu (bus_in w lw (eqb-true (get_or (case_components t) w 0) c sw))
 
 pub trees_are_first : TreesAreFirst
 trees_are_first t c v = tree_first t v c

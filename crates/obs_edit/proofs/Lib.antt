@@ -10,3 +10,4 @@ pub mod Answered
 pub mod FirstParts
 pub mod FirstTrees
 pub mod NamedIslands
+pub mod OneIsland

@@ -16,8 +16,8 @@ use Rattle.obs_edit.specs.Answers.{case_first_pairs, case_islands, component_met
 abbrev pub tree_pairs : Tables → ℕ → List Pair
 tree_pairs t c = filter (λ p. branch_component t p.1 == c) (case_first_pairs t)
 
--- they are the first assignment of the component's live meters alone: these have no longer one, and of those that are as long
--- none comes before it
+-- they are the first assignment of the component's live meters alone: these have no longer one, and of those that are as
+-- long none comes before it
 abbrev pub TreesAreFirst : Type 0
 TreesAreFirst = (t : Tables) (c : ℕ) → IsValid t →
     IsFirstAt (case_branches t) (case_meters t) (component_meters t c) (tree_pairs t c)
@@ -27,10 +27,14 @@ abbrev pub TreesAreWhole : Type 0
 TreesAreWhole = (t : Tables) (c : ℕ) → IsValid t → c < case_component_count t → IsObservable t c →
     length (tree_pairs t c) ≡ need_of (case_sizes t) c
 
+-- whether a bus is one of a component
+abbrev pub is_bus_of : Tables → ℕ → ℕ → Bool
+is_bus_of t c u = slice_index (case_components t) u == c
+
 -- and their branches, a forest, join all its buses
 abbrev pub TreesSpan : Type 0
 TreesSpan = (t : Tables) (c u w : ℕ) → IsValid t → c < case_component_count t → IsObservable t c →
-    u < case_bus_count t → w < case_bus_count t → slice_index (case_components t) u ≡ c → slice_index (case_components t) w ≡ c →
+    u < case_bus_count t → w < case_bus_count t → is_bus_of t c u ≡ true → is_bus_of t c w ≡ true →
     joined_at (case_branches t) (branches (tree_pairs t c)) u w ≡ true
 
 -- S is an island of the network of a case
@@ -48,3 +52,14 @@ abbrev pub IslandsTellApart : Type 0
 IslandsTellApart = (t : Tables) (u w : ℕ) → IsValid t → u < case_bus_count t → w < case_bus_count t →
     (slice_index (case_islands t) u ≡ slice_index (case_islands t) w)
     ↔ ((S : ℕ → Bool) × IsIslandOf t S × (S u ≡ true) × (S w ≡ true))
+
+-- the buses of an island are of one component
+abbrev pub IslandsLieInComponents : Type 0
+IslandsLieInComponents = (t : Tables) (S : ℕ → Bool) (u w : ℕ) → IsValid t → IsIslandOf t S →
+    u < case_bus_count t → w < case_bus_count t → S u ≡ true → S w ≡ true →
+    slice_index (case_components t) u ≡ slice_index (case_components t) w
+
+-- a component is observable exactly where its buses are an island
+abbrev pub ObservableIsIsland : Type 0
+ObservableIsIsland = (t : Tables) (c : ℕ) → IsValid t → c < case_component_count t →
+    IsObservable t c ↔ IsIslandOf t (is_bus_of t c)
