@@ -1,23 +1,29 @@
 -- The pairs of the first assignment in a component: the first assignment of its meters, and where it is observable a tree of it.
-use Rattle.std.proofs.Common.{◌≡◌, ℕ, suc, ◌<◌, true, List, [], ◌∷◌, length, map, filter, get_or, refl, sym, ap, ◌∙◌, subst, inl, inr, arith}
+use Rattle.std.proofs.Common.{Bool, ◌≡◌, ℕ, suc, ◌<◌, true, List, [], ◌∷◌, length, map, filter, get_or, refl, sym, ap, ◌∙◌, subst, inl, inr, arith}
 use Rattle.std.specs.Prelude.{slice_index, ◌==◌}
 use Rattle.std.specs.List.{range_with_len}
 use Rattle.std.proofs.lemmas.Bool.{cases_Bool, eq-eqb, eqb-true}
 use Rattle.std.proofs.lemmas.List.Sums.{length-filter}
 use Rattle.obs_graph.specs.Positions.{present}
 use Rattle.obs_case.specs.Tables.{IsValid, Tables}
-use Rattle.obs_matroid.specs.Lists.{In, IsDistinct}
-use Rattle.obs_matroid.specs.Assignments.{Pair, branches, part}
+use Rattle.obs_matroid.specs.Lists.{In, IsDistinct, IsRising}
+use Rattle.obs_matroid.specs.Values.{first_of}
+use Rattle.obs_matroid.proofs.Comparing.{first_unique}
+use Rattle.obs_matroid.proofs.Computed.{first_of_is}
+use Rattle.obs_matroid.specs.Assignments.{Pair, branches, items, part}
 use Rattle.obs_matroid.proofs.Bounds.{length-branches}
 use Rattle.obs_matroid.proofs.Lists.{In-filter, IsDistinct-filter, In-filter_from, filter_same}
-use Rattle.obs_matroid.proofs.Pairs.{In-branches_from}
+use Rattle.obs_matroid.proofs.Pairs.{In-branches_from, items_within}
 use Rattle.obs_matroid.proofs.Pieces.{forest_joins}
 use Rattle.obs_meter.specs.declared.Touch.TheVariants.{Nothing}
 use Rattle.obs_meter.specs.Spanned.{ends_at, joined_at, rank_at}
 use Rattle.obs_meter.proofs.Assigned.{live_items-distinct, rho_at-is, rho_at-unique, to_matroid}
 use Rattle.obs_meter.proofs.Instance.{IsJoining-graph, IsMatroid-graph}
-use Rattle.obs_meter.proofs.Touched.{touched-present}
+use Rattle.obs_meter.proofs.Touched.{touch-rising, touched-present}
 use Rattle.obs_first.specs.First.{IsFirstAt, first_pairs}
+use Rattle.obs_meter.specs.Touches.{every_item, is_live}
+use Rattle.obs_first.proofs.Listed.{IsRising-first_of, pairs_same}
+use Rattle.obs_first.proofs.Ranges.{range_rising}
 use Rattle.obs_first.proofs.Lawful.{first-from_matroid, first-live, first-to_matroid, first_pairs-is}
 use Rattle.obs_network.specs.Switched.{case_bus_count}
 use Rattle.obs_network.specs.Components.{component_of, need_of}
@@ -30,9 +36,18 @@ use Rattle.obs_network.proofs.OfCase.{case_branches-are}
 use Rattle.obs_network.proofs.OfLaws.{case_component-at}
 use Rattle.obs_network.proofs.Sums.{range_distinct, range_in}
 use Rattle.obs_edit.specs.Answers.{case_first_pairs, component_meters, component_rank, is_meter_of}
-use Rattle.obs_edit.specs.Laws.{TreesAreFirst, TreesAreWhole, TreesSpan, is_bus_of, tree_pairs}
+use Rattle.obs_edit.specs.Laws.{TreesAreFirst, TreesAreWhole, TreesSpan, TreesStandAlone, is_bus_of, tree_pairs}
 use Rattle.obs_edit.proofs.FirstParts.{first_in_component}
+use Rattle.obs_edit.proofs.PlanFirst.{IsRising-filter}
 use Rattle.obs_edit.proofs.Tight.{case_matroid, case_touch, observable-to}
+
+-- some of the pairs rise, where all do
+IsRising-filter_items : (f : Pair → Bool) (A : List Pair) → IsRising (items A) → IsRising (items (filter f A))
+IsRising-filter_items f [] r = tt
+IsRising-filter_items f (p ∷ A) r = elim (cases_Bool (f p)) [
+  | inl e ↦ rw e ((λ y i. r.0 y (items_within (filter f A) A (λ q j. (In-filter_from f q A j).0) y i)), IsRising-filter_items f A r.1)
+  | inr e ↦ rw e (IsRising-filter_items f A r.1)
+]
 
 module _ (t : Tables) (v : IsValid t) (c : ℕ) where
   all_first : IsFirstAt (case_branches t) (case_meters t) (case_live_meters t) (case_first_pairs t)
@@ -60,6 +75,29 @@ module _ (t : Tables) (v : IsValid t) (c : ℕ) where
   meters_differ : IsDistinct (component_meters t c)
   unfolding component_meters
   meters_differ = IsDistinct-filter (is_meter_of t c) (case_live_meters t) (live_items-distinct (case_branches t) (case_meters t))
+
+  meters_rise : IsRising (component_meters t c)
+  unfolding component_meters
+  meters_rise =
+      IsRising-filter (is_meter_of t c) (case_live_meters t)
+      (IsRising-filter (is_live (case_branches t) (case_meters t)) (every_item (case_meters t)) (range_rising 0 (length (case_meters t))))
+
+  tree_rises : IsRising (items (tree_pairs t c))
+  unfolding case_first_pairs
+  tree_rises =
+      IsRising-filter_items (λ (p : Pair). branch_component t p.1 == c) (first_pairs (case_bus_count t) (case_branches t) (case_meters t))
+      (IsRising-first_of (case_matroid t) (case_touch t) (every_item (case_meters t)) (range_rising 0 (length (case_meters t))))
+
+  pub tree_alone : tree_pairs t c ≡ first_of (case_matroid t) (case_touch t) (component_meters t c)
+  tree_alone =
+      let n = case_bus_count t in
+      let ends = case_branches t in
+      let touches = case_meters t in
+      let M = component_meters t c in
+      let B = first_of (case_matroid t) (case_touch t) M in
+      pairs_same (tree_pairs t c) B tree_rises (IsRising-first_of (case_matroid t) (case_touch t) M meters_rise)
+      (first_unique (case_matroid t) (case_touch t) M (tree_pairs t c) B (first-to_matroid n ends touches M (tree_pairs t c) tree_first)
+      (first_of_is (case_matroid t) (IsMatroid-graph n ends (case_branches-are t v)) (case_touch t) (λ m. touch-rising ends touches m) M meters_differ))
 
   tree_rank : length (tree_pairs t c) ≡ component_rank t c
   unfolding component_rank
@@ -116,6 +154,9 @@ module _ (t : Tables) (v : IsValid t) (c : ℕ) where
 
 pub trees_are_first : TreesAreFirst
 trees_are_first t c v = tree_first t v c
+
+pub trees_stand_alone : TreesStandAlone
+trees_stand_alone t c v = tree_alone t v c
 
 pub trees_are_whole : TreesAreWhole
 trees_are_whole t c v l o = tree_whole t v c l o

@@ -2,7 +2,9 @@
 use Rattle.std.specs.Prelude.{◌≡◌, ◌↔◌, ℕ, ◌<◌, ◌==◌, Bool, true, List, length, filter, slice_index}
 use Rattle.obs_case.specs.Tables.{IsValid, Tables}
 use Rattle.obs_matroid.specs.Assignments.{Pair, branches}
-use Rattle.obs_meter.specs.Spanned.{joined_at}
+use Rattle.obs_matroid.specs.Values.{first_of}
+use Rattle.obs_meter.specs.Spanned.{graph_matroid, joined_at}
+use Rattle.obs_meter.specs.Touches.{touch_at}
 use Rattle.obs_first.specs.First.{IsFirstAt}
 use Rattle.obs_islands.specs.Islands.{IsFirstIn, IsIslandAt, IsOnlyIslandOf}
 use Rattle.obs_network.specs.Switched.{case_bus_count}
@@ -21,6 +23,12 @@ tree_pairs t c = filter (λ p. branch_component t p.1 == c) (case_first_pairs t)
 abbrev pub TreesAreFirst : Type 0
 TreesAreFirst = (t : Tables) (c : ℕ) → IsValid t →
     IsFirstAt (case_branches t) (case_meters t) (component_meters t c) (tree_pairs t c)
+
+-- and so computed from these meters alone: the meters of other components make no difference
+abbrev pub TreesStandAlone : Type 0
+TreesStandAlone = (t : Tables) (c : ℕ) → IsValid t →
+    tree_pairs t c ≡ first_of (graph_matroid (case_bus_count t) (case_branches t)) (touch_at (case_branches t) (case_meters t))
+    (component_meters t c)
 
 -- an observable component has as many of them as it needs
 abbrev pub TreesAreWhole : Type 0

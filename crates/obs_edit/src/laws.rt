@@ -1,5 +1,5 @@
 // The laws of what a session finds.
-ghost use Rattle.obs_edit.specs.Laws.{IslandsAreNamed, IslandsLieInComponents, IslandsTellApart, ObservableIsIsland, TreesAreFirst, TreesAreWhole, TreesSpan};
+ghost use Rattle.obs_edit.specs.Laws.{IslandsAreNamed, IslandsLieInComponents, IslandsTellApart, ObservableIsIsland, TreesAreFirst, TreesAreWhole, TreesSpan, TreesStandAlone};
 ghost use Rattle.obs_edit.specs.Planned.{PlanPairsAreFirst};
 
 /// The pairs of a plan are the first assignment of its items, the meters and then the chosen candidates: no assignment of
@@ -9,10 +9,11 @@ pub fn plan_pairs_are_first()
 {}
 
 /// The pairs of a tree are the first assignment of the live meters of its component alone: no assignment of these is
-/// longer, and of those that are as long none comes before it. In an observable component they are as many as it needs,
-/// and their branches join all its buses.
+/// longer, and of those that are as long none comes before it. So the meters of other components make no difference to
+/// them. In an observable component they are as many as it needs, and their branches join all its buses.
 pub fn trees_are_first()
     ensures first { TreesAreFirst }
+    ensures alone { TreesStandAlone }
     ensures whole { TreesAreWhole }
     ensures spanning { TreesSpan }
 {}
