@@ -27,8 +27,8 @@ TreesAreFirst = (t : Tables) (c : ℕ) → IsValid t →
 -- and so computed from these meters alone: the meters of other components make no difference
 abbrev pub TreesStandAlone : Type 0
 TreesStandAlone = (t : Tables) (c : ℕ) → IsValid t →
-    tree_pairs t c ≡ first_of (graph_matroid (case_bus_count t) (case_branches t)) (touch_at (case_branches t) (case_meters t))
-    (component_meters t c)
+    tree_pairs t c ≡ first_of (graph_matroid (case_bus_count t) (case_branches t))
+    (touch_at (case_branches t) (case_meters t)) (component_meters t c)
 
 -- an observable component has as many of them as it needs
 abbrev pub TreesAreWhole : Type 0
