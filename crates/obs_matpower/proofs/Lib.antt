@@ -1,0 +1,4 @@
+pub mod FoundLemmas
+pub mod RowSteps
+pub mod SplitLemmas
+pub mod TextLemmas
