@@ -54,25 +54,25 @@ module _ (p : List ℕ → Bool) where
 
 -- ---- bytes of a list that pass a test
 
-any_take : (p : ℕ → Bool) (n : ℕ) (xs : List ℕ) → list_any p (take n xs) ≡ true → list_any p xs ≡ true
-any_take p n xs some =
+pub any_in_front : (p : ℕ → Bool) (n : ℕ) (xs : List ℕ) → list_any p (take n xs) ≡ true → list_any p xs ≡ true
+any_in_front p n xs some =
     ap (list_any p) (sym (take-append-drop n xs)) ∙ list_any-append p (take n xs) (drop n xs) ∙ ap (λ b. b || list_any p (drop n xs)) some
 
 any_strip : (p : ℕ → Bool) (xs : List ℕ) → list_any p (strip_carriage_return xs) ≡ true → list_any p xs ≡ true
 any_strip p xs some = by _ some
   where
     by : (b : Bool) → list_any p (cond b (take (length xs - 1) xs) xs) ≡ true → list_any p xs ≡ true
-    by true is = any_take p (length xs - 1) xs is
+    by true is = any_in_front p (length xs - 1) xs is
     by false is = is
 
 -- a line that ends a table has a `]`
 has_closing : (line : List ℕ) → closes line ≡ true → list_any is_closing line ≡ true
 has_closing line is =
-    any_take is_closing (position_or_len is_feed line) line
+    any_in_front is_closing (position_or_len is_feed line) line
     (any_strip is_closing (before_first is_feed line)
-    (any_take is_closing (position_or_len is_percent (content line)) (content line) is))
+    (any_in_front is_closing (position_or_len is_percent (content line)) (content line) is))
 
-before-longer : (p : ℕ → Bool) (xs ys : List ℕ) → list_any p xs ≡ true → before_first p (xs ++ ys) ≡ before_first p xs
+pub before-longer : (p : ℕ → Bool) (xs ys : List ℕ) → list_any p xs ≡ true → before_first p (xs ++ ys) ≡ before_first p xs
 before-longer p [] ys some = absurd (false≢true some)
 before-longer p (x ∷ xs) ys some =
     elim (cases_Bool (p x)) [

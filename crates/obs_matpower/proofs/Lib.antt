@@ -1,4 +1,10 @@
+pub mod AddLemmas
+pub mod FileLemmas
 pub mod FoundLemmas
+pub mod NumberLemmas
+pub mod ReadLemmas
+pub mod RowReads
 pub mod RowSteps
 pub mod SplitLemmas
 pub mod TextLemmas
+pub mod WholeLemmas

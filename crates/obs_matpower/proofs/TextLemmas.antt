@@ -12,7 +12,7 @@ use Rattle.obs_matpower.specs.Rows.{code_of, first_code, line_rows, rows_from, r
 use Rattle.obs_matpower.proofs.SplitLemmas.{line_rows-nil}
 
 -- the first line has a line feed exactly where the bytes have one
-feed_in_first : (bytes : List ℕ) → list_any is_feed (take (suc (feed_at bytes)) bytes) ≡ list_any is_feed bytes
+pub feed_in_first : (bytes : List ℕ) → list_any is_feed (take (suc (feed_at bytes)) bytes) ≡ list_any is_feed bytes
 feed_in_first [] = refl
 feed_in_first (b ∷ bs) =
     elim (cases_Bool (is_feed b)) [
@@ -105,7 +105,8 @@ first_code_le ended text =
           omega (arith, ap length (first_code-whole ended text e), take_le (position_or_len is_percent text) text, ap length (after_line-none text none))
       | inr e ↦
           omega (
-            arith, ap length (first_code-content ended text e),
+            arith,
+            ap length (first_code-content ended text e),
             take_le (position_or_len is_percent (strip_carriage_return (before_first is_feed text))) (strip_carriage_return (before_first is_feed text)),
             stripped_le (before_first is_feed text),
             take_le (feed_at text) text,

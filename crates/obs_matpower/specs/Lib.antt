@@ -1,5 +1,10 @@
+pub mod Ends
 pub mod Faults
+pub mod Fields
 pub mod Left
 pub mod Lines
+pub mod Read
+pub mod Reading
 pub mod Rows
 pub mod Table
+pub mod Whole

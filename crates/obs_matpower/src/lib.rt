@@ -2,18 +2,23 @@
 //! of branches are read.
 #![tactic(auto)]
 
+mod add;
 mod cut;
 mod fault;
+mod fields;
 mod find;
 mod part;
+mod read;
 mod row_iter;
 mod row_start;
 mod search;
+mod stop;
 mod value_iter;
 mod value_start;
 
 pub use fault::{MatEnd, MatFault};
 pub use part::{MatPart, MatTable};
+pub use read::read_matpower;
 pub use row_iter::{MatRow, Rows};
 pub use row_start::rows;
 pub use search::table;
