@@ -24,3 +24,6 @@ pub use row_start::rows;
 pub use search::table;
 pub use value_iter::Values;
 pub use value_start::values;
+
+#[cfg(test)]
+mod tests;
