@@ -18,7 +18,7 @@ use Rattle.obs_matpower.proofs.NumberLemmas.{AreBuses-push, number_in-lt}
 -- ---- bus rows
 
 -- what a row is that is read as a bus
-pub record IsBusRow (earlier : List BusRow) (row : List ℕ) (bus : BusRow) : Type 0 where
+pub record BusRead (earlier : List BusRow) (row : List ℕ) (bus : BusRow) : Type 0 where
   pub few : length earlier < most_rows
   pub long : is_short 2 row ≡ false
   pub number : number_in 1 row ≡ Some bus.number
@@ -26,7 +26,7 @@ pub record IsBusRow (earlier : List BusRow) (row : List ℕ) (bus : BusRow) : Ty
   pub fresh : has_bus (buses_of earlier) bus.number ≡ false
 
 bus_of-is : (earlier : List BusRow) (at : ℕ) (row : List ℕ) (number : Option ℕ) (kind : Option BusType) (bus : BusRow) → length earlier < most_rows → is_short 2 row ≡ false
-    → number_in 1 row ≡ number → type_in 2 row ≡ kind → bus_of earlier at number kind ≡ Ok bus → IsBusRow earlier row bus
+    → number_in 1 row ≡ number → type_in 2 row ≡ kind → bus_of earlier at number kind ≡ Ok bus → BusRead earlier row bus
 bus_of-is earlier at row None kind bus few long n k is = cc
 bus_of-is earlier at row (Some number) None bus few long n k is = cc
 bus_of-is earlier at row (Some number) (Some kind) bus few long n k is =
@@ -36,10 +36,10 @@ bus_of-is earlier at row (Some number) (Some kind) bus few long n k is =
           let ok = rw fresh at is in
           let made : BusRow = record { number = number; kind = kind } in
           let same : made ≡ bus = cc in
-          subst (IsBusRow earlier row) same (record { few = few; long = long; number = n; typed = k; fresh = fresh })
+          subst (BusRead earlier row) same (record { few = few; long = long; number = n; typed = k; fresh = fresh })
     ]
 
-pub read_bus-is : (earlier : List BusRow) (at : ℕ) (row : List ℕ) (bus : BusRow) → read_bus earlier at row ≡ Ok bus → IsBusRow earlier row bus
+pub read_bus-is : (earlier : List BusRow) (at : ℕ) (row : List ℕ) (bus : BusRow) → read_bus earlier at row ≡ Ok bus → BusRead earlier row bus
 read_bus-is earlier at row bus is =
     elim (cases_Bool (leb most_rows (length earlier))) [
       | inl full ↦ (let t = rw full at is in cc)
@@ -63,7 +63,7 @@ read_bus-good earlier at row are bus is =
 -- ---- branch rows
 
 -- what a row is that is read as a branch
-pub record IsBranchRow (buses : List BusRow) (earlier : List Branch) (row : List ℕ) (branch : Branch) : Type 0 where
+pub record BranchRead (buses : List BusRow) (earlier : List Branch) (row : List ℕ) (branch : Branch) : Type 0 where
   pub few : length earlier < most_rows
   pub long : is_short 11 row ≡ false
   pub from : ℕ
@@ -77,7 +77,7 @@ pub record IsBranchRow (buses : List BusRow) (earlier : List Branch) (row : List
   pub branch_is : branch ≡ branch_between buses (length earlier + 1) from to status
 
 branch_of-is : (buses : List BusRow) (earlier : List Branch) (at : ℕ) (row : List ℕ) (from to : Option ℕ) (status : Option Bool) (branch : Branch) → length earlier < most_rows → is_short 11 row ≡ false
-    → number_in 1 row ≡ from → number_in 2 row ≡ to → status_in 11 row ≡ status → branch_of buses (length earlier + 1) at from to status ≡ Ok branch → IsBranchRow buses earlier row branch
+    → number_in 1 row ≡ from → number_in 2 row ≡ to → status_in 11 row ≡ status → branch_of buses (length earlier + 1) at from to status ≡ Ok branch → BranchRead buses earlier row branch
 branch_of-is buses earlier at row None to status branch few long f t s is = cc
 branch_of-is buses earlier at row (Some from) None status branch few long f t s is = cc
 branch_of-is buses earlier at row (Some from) (Some to) None branch few long f t s is =
@@ -108,7 +108,7 @@ branch_of-is buses earlier at row (Some from) (Some to) (Some status) branch few
       | inr none ↦ (let u = rw none at is in cc)
     ]
 
-pub read_branch-is : (buses : List BusRow) (earlier : List Branch) (at : ℕ) (row : List ℕ) (branch : Branch) → read_branch buses earlier at row ≡ Ok branch → IsBranchRow buses earlier row branch
+pub read_branch-is : (buses : List BusRow) (earlier : List Branch) (at : ℕ) (row : List ℕ) (branch : Branch) → read_branch buses earlier at row ≡ Ok branch → BranchRead buses earlier row branch
 read_branch-is buses earlier at row branch is =
     elim (cases_Bool (leb most_rows (length earlier))) [
       | inl full ↦ (let t = rw full at is in cc)

@@ -7,6 +7,7 @@ mod cut;
 mod fault;
 mod fields;
 mod find;
+pub mod laws;
 mod part;
 mod read;
 mod row_iter;
