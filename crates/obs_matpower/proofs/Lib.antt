@@ -1,6 +1,7 @@
 pub mod AddLemmas
 pub mod CaseLemmas
 pub mod FileLemmas
+pub mod FirstLemmas
 pub mod FoundLemmas
 pub mod LawLemmas
 pub mod NumberLemmas
