@@ -1,5 +1,6 @@
 pub mod Answers
 pub mod Longest
 pub mod Planned
+pub mod Placements
 pub mod Sessions
 pub mod Laws

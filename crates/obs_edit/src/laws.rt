@@ -1,5 +1,6 @@
 // The laws of what a session finds.
 ghost use Rattle.obs_edit.specs.Laws.{IslandsAreNamed, IslandsLieInComponents, IslandsTellApart, ObservableIsIsland, TreesAreFirst, TreesAreWhole, TreesSpan, TreesStandAlone};
+ghost use Rattle.obs_edit.specs.Placements.{LayersAddUp, PlansAreCheapest, PlansComplete, ShortfallsRefute};
 ghost use Rattle.obs_edit.specs.Planned.{PlanPairsAreFirst};
 
 /// The pairs of a plan are the first assignment of its items, the meters and then the chosen candidates: no assignment of
@@ -29,4 +30,17 @@ pub fn islands_are_named()
 pub fn observable_is_island()
     ensures in_component { IslandsLieInComponents }
     ensures island { ObservableIsIsland }
+{}
+
+/// The chosen candidates of a plan complete the meters of the case at the plan's cost, and none complete them for less. The layers
+/// of the plan show the whole cost.
+pub fn plans_are_cheapest()
+    ensures complete { PlansComplete }
+    ensures cheapest { PlansAreCheapest }
+    ensures layers { LayersAddUp }
+{}
+
+/// The bound of a shortfall is below what the case needs, and no candidates complete its meters.
+pub fn shortfalls_refute()
+    ensures refuted { ShortfallsRefute }
 {}

@@ -1,11 +1,9 @@
 -- What is said of a command, from what was taken from its files and what was answered.
 use Rattle.std.proofs.Common.{ℕ, ◌≡◌, ◌+◌, inl, inr, refl, sym, subst, List, length, Option, Some, Result, Ok}
 use Rattle.obs_case.specs.Tables.{Tables}
-use Rattle.obs_io.specs.Causes.{Rose}
 use Rattle.obs_engine.specs.declared.status.Status.{Status}
-use Rattle.obs_engine.specs.declared.status.Status.TheVariants.{ReadFault, WriteFault, NoMemory}
 use Rattle.obs_engine.specs.declared.words.Form.{Form}
-use Rattle.obs_engine.specs.Commands.{CommandAt, case_reply, files_reply}
+use Rattle.obs_engine.specs.Commands.{CommandAt, case_reply}
 use Rattle.obs_engine.specs.Files.{case_in_files}
 use Rattle.obs_engine.specs.Forms.{AreFiles, CanAnswer}
 use Rattle.obs_engine.specs.Replies.{EndsWith, RepliedAt, Reply, reply_to}

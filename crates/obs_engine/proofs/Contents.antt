@@ -17,8 +17,15 @@ use Rattle.obs_text.specs.declared.faults.InputFault.{InputFault}
 use Rattle.obs_case.specs.Tables.{Tables}
 use Rattle.obs_ieee_cdf.specs.Faults.{cdf_fault}
 use Rattle.obs_ieee_cdf.specs.Rows.{cdf_of}
+use Rattle.obs_case_csv.specs.declared.faults.TableFault.{TableFault}
+use Rattle.obs_ieee_cdf.specs.Read.{tables_after}
+use Rattle.obs_matpower.specs.declared.fault.MatEnd.{MatEnd}
+use Rattle.obs_matpower.specs.declared.fault.MatEnd.TheVariants.{Mat}
+use Rattle.obs_matpower.specs.declared.fault.MatFault.{MatFault}
 use Rattle.obs_matpower.specs.Faults.{mat_fault}
-use Rattle.obs_matpower.specs.Read.{mat_of}
+use Rattle.obs_matpower.specs.Read.{EndsCase, mat_of}
+use Rattle.obs_matpower.specs.Read as mat
+use Rattle.obs_engine.specs.Replies.{fault_reply}
 use Rattle.obs_engine.specs.declared.words.CaseForm.{CaseForm}
 use Rattle.obs_engine.specs.declared.words.CaseForm.TheVariants.{Cdf, Matpower}
 use Rattle.obs_engine.specs.declared.words.Form.{Form}
@@ -263,3 +270,20 @@ module _ (contents : List (Vec ℕ Global)) (file : ℕ → List ℕ) (r : Resul
   place_taken form x a e xi ax read =
       subst (λ (f : Form). length contents ≡ length (parts_of f) → bytes_of contents ≡ map file (range_with_len (first_file f) (length (parts_of f))) → IsTaken (parsed f file) r) (sym e)
       (place_at x a xi ax read)
+
+-- the first fault of a MATPOWER file
+mat_ended : (r : Result Tables TableFault) (fault : MatFault) → mat.as_end r ≡ Err (Mat fault) → ⊥
+mat_ended (Ok t) fault e = absurd (cc e)
+mat_ended (Err f) fault e = absurd (cc e)
+
+refused_for : (meters : List ℕ) (candidates : Option (List ℕ)) (r : Result Tables MatFault) (fault : MatFault) (said : Fault)
+    → mat.with_tables meters candidates r ≡ Err (Mat fault) → said ≡ mat_fault fault → case_with_tables mat_fault meters candidates r ≡ Err (fault_reply said)
+refused_for meters candidates (Ok t) fault said e s = absurd (mat_ended (tables_after meters candidates t) fault e)
+refused_for meters candidates (Err f) fault said e s =
+    let same : f ≡ fault = cc e in
+    ap (λ (x : Fault). Err (fault_reply x)) (ap mat_fault same ∙ sym s)
+
+pub mat_refused : (meters : List ℕ) (candidates : Option (List ℕ)) (r : Result Tables MatFault) (end : MatEnd) (fault : MatFault) (said : Fault) → end ≡ Mat fault
+    → EndsCase (mat.with_tables meters candidates r) end → said ≡ mat_fault fault → case_with_tables mat_fault meters candidates r ≡ Err (fault_reply said)
+mat_refused meters candidates r end fault said is ends s =
+    refused_for meters candidates r fault said (subst (λ (e : MatEnd). EndsCase (mat.with_tables meters candidates r) e) is ends) s

@@ -1,7 +1,6 @@
 -- The placement of a case lies within its tables.
-use Rattle.std.proofs.Common.{◌≡◌, ◌∙◌, ℕ, ◌+◌, ◌<◌, ◌≤◌, ap, sym, subst, All, List, [], ◌∷◌, ◌++◌, length, map, filter, Option, inl, inr, arith}
-use Rattle.std.specs.Prelude.{cond, nat_lt}
-use Rattle.std.specs.List.{range_with_len}
+use Rattle.std.proofs.Common.{◌≡◌, ◌∙◌, ℕ, ◌+◌, ◌<◌, ◌≤◌, ap, List, [], ◌∷◌, length, Option, inl, inr, arith}
+use Rattle.std.specs.Prelude.{nat_lt}
 use Rattle.std.proofs.lemmas.Bool.{cases_Bool}
 use Rattle.std.proofs.lemmas.List.{length-append, length-map}
 use Rattle.obs_graph.specs.declared.Ends.{Ends}
@@ -16,11 +15,10 @@ use Rattle.obs_meter.specs.Touches.{is_live, live_items}
 use Rattle.obs_meter.specs.Assignments.{rho_at}
 use Rattle.obs_exchange.specs.Laws.{noncritical_in}
 use Rattle.obs_placement.specs.Answer.{is_chosen}
-use Rattle.obs_placement.specs.Layers.{added_items, inside_of, is_price_of, layers_of, prices_above}
+use Rattle.obs_placement.specs.Layers.{added_items, inside_of, layers_of, prices_above}
 use Rattle.obs_placement.specs.Order.{price_of}
 use Rattle.obs_placement.specs.Placed.{Placed, loose_items, lack_of, plan_of}
 use Rattle.obs_placement.specs.Placed.Placed.{cheapest, shortfall}
-use Rattle.obs_placement.specs.Taking.{is_own}
 use Rattle.obs_network.specs.Switched.{case_bus_count}
 use Rattle.obs_network.specs.Network.{case_branches, case_needed, case_offered}
 use Rattle.obs_network.proofs.Marked.{filtered_below}

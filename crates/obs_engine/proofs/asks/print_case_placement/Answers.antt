@@ -1,4 +1,4 @@
-use Rattle.std.proofs.Common.{◌≡◌, ◌∙◌, ap, subst, sym}
+use Rattle.std.proofs.Common.{◌∙◌, ap, subst, sym}
 use Rattle.obs_case.specs.Tables.{Tables}
 use Rattle.obs_placement.specs.Placed.{Placed, placed_of}
 use Rattle.obs_matroid.specs.Slots.{pairs_of}

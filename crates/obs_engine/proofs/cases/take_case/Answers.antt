@@ -1,9 +1,9 @@
-use Rattle.std.proofs.Common.{◌≡◌, ◌∙◌, ap, Bor, Err, length, List, map, subst, sym, ℕ}
+use Rattle.std.proofs.Common.{◌≡◌, ◌∙◌, ap, Bor, Err, length, List, subst, sym, ℕ}
 use Rattle.std.specs.List.{range_with_len}
 use Rattle.std.proofs.lemmas.List.{length-map}
 use Rattle.obs_engine.specs.Forms.{AreTold}
 use Rattle.obs_engine.specs.Taken.{AreContents}
-use Rattle.obs_engine.specs.Words.{first_file, parts_of}
+use Rattle.obs_engine.specs.Words.{parts_of}
 use Rattle.obs_engine.proofs.Contents.{case_not_taken}
 use Rattle.obs_engine.proofs.cases.take_case.Goals as goal
 

@@ -1,4 +1,4 @@
-use Rattle.std.proofs.Common.{◌+◌, ap, Err, inr}
+use Rattle.std.proofs.Common.{ap, Err, inr}
 use Rattle.obs_engine.specs.Commands.{case_reply}
 use Rattle.obs_engine.proofs.Commanded.{answered_command}
 use Rattle.obs_engine.proofs.Taking.{ok_not_read, read_is}

@@ -1,4 +1,4 @@
-use Rattle.std.proofs.Common.{◌≡◌, ◌+◌, ◌<◌, [], arith, Bor, Err, get_or, length, List, map, Ok, refl, subst, sym, ℕ}
+use Rattle.std.proofs.Common.{◌+◌, ◌<◌, [], arith, Bor, Err, get_or, length, List, map, refl, subst, sym, ℕ}
 use Rattle.std.specs.List.{range_with_len}
 use Rattle.std.proofs.lemmas.List.{get_or-map, length-map}
 use Rattle.obs_text.specs.Faults.{fault_of}
@@ -50,5 +50,5 @@ loop-k-preserved g c =
     let low : k < length (map now parts) = omega (arith, size, c.loop-k-test.true) in
     let next = c.in_ok-take_next.ensures in
     reading_goes_on (map now parts) c.args.first _ _ _ c.loop-k.invariant low (c.args.first + k) refl
-    (λ bytes is. subst (λ (p : List ℕ). IsNext p bytes (bytes_of c.loop-k.contents.items) (bytes_of c.take_next.new.contents.items) (Ok tt)) (sym (get_or-map now parts k _ [] c.loop-k-test.true)) (next.stated bytes is))
+    next.stated
     next.same (next.quiet (ok_not_read _)) next.steady (next.count refl) next.short
