@@ -8,3 +8,7 @@ pub mod Offered
 pub mod Plans
 pub mod Tight
 pub mod Answered
+pub mod FirstParts
+pub mod FirstTrees
+pub mod NamedIslands
+pub mod OneIsland

@@ -87,7 +87,7 @@ module _ (ends : List (Option Ends)) (touches : List Touch) (listed : List ℕ) 
               (IsNotAfter-filter (has_position listed) (every_item (touches_of touches listed)) A B (λ x f. (others_have_none A whole x f, others_have_none B b x f)) (a.least B (of_listed B b) l));
         }
 
-IsRising-filter : (p : ℕ → Bool) (xs : List ℕ) → IsRising xs → IsRising (filter p xs)
+pub IsRising-filter : (p : ℕ → Bool) (xs : List ℕ) → IsRising xs → IsRising (filter p xs)
 IsRising-filter p [] r = tt
 IsRising-filter p (x ∷ xs) r = elim (cases_Bool (p x)) [
   | inl t ↦ rw t ((λ y i. r.0 y (In-filter_from p y xs i).0), IsRising-filter p xs r.1)

@@ -2,3 +2,4 @@ pub mod Answers
 pub mod Longest
 pub mod Planned
 pub mod Sessions
+pub mod Laws

@@ -1,8 +1,32 @@
 // The laws of what a session finds.
+ghost use Rattle.obs_edit.specs.Laws.{IslandsAreNamed, IslandsLieInComponents, IslandsTellApart, ObservableIsIsland, TreesAreFirst, TreesAreWhole, TreesSpan, TreesStandAlone};
 ghost use Rattle.obs_edit.specs.Planned.{PlanPairsAreFirst};
 
 /// The pairs of a plan are the first assignment of its items, the meters and then the chosen candidates: no assignment of
 /// them is longer, and of those that are as long none comes before it.
 pub fn plan_pairs_are_first()
     ensures first { PlanPairsAreFirst }
+{}
+
+/// The pairs of a tree are the first assignment of the live meters of its component alone: no assignment of these is
+/// longer, and of those that are as long none comes before it. So the meters of other components make no difference to
+/// them. In an observable component they are as many as it needs, and their branches join all its buses.
+pub fn trees_are_first()
+    ensures first { TreesAreFirst }
+    ensures alone { TreesStandAlone }
+    ensures whole { TreesAreWhole }
+    ensures spanning { TreesSpan }
+{}
+
+/// Each bus lies in exactly one island, and is named by the first bus of that island. Two buses are named alike exactly
+/// where some island has both.
+pub fn islands_are_named()
+    ensures named { IslandsAreNamed }
+    ensures alike { IslandsTellApart }
+{}
+
+/// An island lies in one component. A component is observable exactly where its buses are an island.
+pub fn observable_is_island()
+    ensures in_component { IslandsLieInComponents }
+    ensures island { ObservableIsIsland }
 {}

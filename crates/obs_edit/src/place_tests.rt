@@ -1,5 +1,5 @@
 // Placements of sessions, and the other answers after them.
-ghost use Rattle.std.specs.Prelude.{◌≡◌, ◌<◌, true};
+ghost use Rattle.std.specs.Prelude.{◌≡◌, ◌<◌, true, length};
 
 use crate::tests::{name, path, triangle};
 use crate::{NoMemory, Session};
@@ -16,17 +16,17 @@ use std::test::Fail;
 // What is expected of a case: its placement with its pairs, its critical meters and the list of its
 // bound, its islands, and its first pairs.
 #[derive(Clone, Copy)]
-struct Row<'a> {
-    placement: Placement<'a>,
-    pairs: &'a [(u32, u32)],
-    critical: &'a [u32],
-    bound: &'a [u32],
-    islands: &'a [u32],
-    first: &'a [(u32, u32)],
+struct Row {
+    placement: Placement<'static>,
+    pairs: &'static [(u32, u32)],
+    critical: &'static [u32],
+    bound: &'static [u32],
+    islands: &'static [u32],
+    first: &'static [(u32, u32)],
 }
 
 // The path's first three buses are an island, and its injection meter is critical.
-fn on_the_path<'a>(placement: Placement<'a>, pairs: &'a [(u32, u32)]) -> Row<'a> {
+fn on_the_path(placement: Placement<'static>, pairs: &'static [(u32, u32)]) -> Row {
     Row {
         placement,
         pairs,
@@ -70,6 +70,10 @@ fn is_placement(found: Placement<'_>, expected: Placement<'_>) -> bool {
     }
 }
 
+fn are_same(found: &[u32], expected: &[u32]) -> bool {
+    found == expected
+}
+
 // Whether the pairs of so many items are these.
 fn are_pairs(found: &Assignment, items: u32, expected: &[(u32, u32)]) -> bool
     requires items { items ≡ length found.now.slots }
@@ -82,7 +86,7 @@ fn are_pairs(found: &Assignment, items: u32, expected: &[(u32, u32)]) -> bool
     found.length() as usize == expected.len()
 }
 
-fn is_placed(session: &Session, row: &Row<'_>) -> bool
+fn is_placed(session: &Session, row: &Row) -> bool
     requires placed { session.now.at_hand.placed ≡ true }
 {
     let items = session.network().offered().count();
@@ -90,47 +94,82 @@ fn is_placed(session: &Session, row: &Row<'_>) -> bool
         && are_pairs(session.found_plan_pairs(), items, row.pairs)
 }
 
-// Asks for the placement, again, then for each other answer, and once more for the placement.
-fn ask<L: Ledger>(
-    rt: &impl Abort,
-    alloc: Global,
-    blank: Blank,
-    case: Case,
-    row: &Row<'_>,
-) -> Result<(), NoMemory>
+// Whether the placement is the expected one, asked for twice.
+fn has_placement<L: Ledger>(session: &mut Session, row: &Row, steps: &mut Steps<L>) -> bool
+    requires candidates { session.old.offered ≡ true }
+    ensures offered { session.new.offered ≡ session.old.offered }
+{
+    session.find_placement(steps);
+    session.find_placement(steps);
+    is_placed(session, row)
+}
+
+fn has_critical<L: Ledger>(session: &mut Session, row: &Row, steps: &mut Steps<L>) -> bool
+    ensures offered { session.new.offered ≡ session.old.offered }
+{
+    session.find_critical(steps);
+    are_same(session.found_critical(), row.critical)
+}
+
+fn has_islands<L: Ledger>(session: &mut Session, row: &Row, steps: &mut Steps<L>) -> bool
+    ensures offered { session.new.offered ≡ session.old.offered }
+{
+    session.find_islands(steps);
+    are_same(session.found_islands(), row.islands)
+}
+
+fn has_bound<L: Ledger>(session: &mut Session, row: &Row, steps: &mut Steps<L>) -> bool
+    ensures offered { session.new.offered ≡ session.old.offered }
+{
+    if session.network().components() == 0 {
+        return false;
+    }
+    session.find_critical(steps);
+    session.find_bound(0);
+    are_same(session.found_bound(0).inside, row.bound)
+}
+
+fn has_first<L: Ledger>(session: &mut Session, row: &Row, steps: &mut Steps<L>) -> bool
+    ensures offered { session.new.offered ≡ session.old.offered }
+{
+    session.find_first(steps);
+    let meters = session.network().meters().count();
+    are_pairs(session.found_pairs(), meters, row.first)
+}
+
+// Whether a lent placement is the expected one.
+fn lends_placement<L: Ledger>(session: &mut Session, row: &Row, steps: &mut Steps<L>) -> bool
+    requires candidates { session.old.offered ≡ true }
+{
+    let found = session.place(steps).found;
+    is_placement(found.placement, row.placement) && found.pairs.length() as usize == row.pairs.len()
+}
+
+// Whether a session with the case answers as expected: the placement, each other answer, and once more the placement.
+fn answers<L: Ledger>(alloc: Global, blank: Blank, case: Case, row: &Row) -> Result<bool, NoMemory>
     requires name { blank.name ≡ L.name }
     requires parts { blank.parts ≡ L.parts }
     requires some { 0 < L.parts }
 {
     let mut steps = Steps::<L>::begin(blank);
     let mut session = Session::begin(alloc, case, true, &mut steps)?;
-    session.find_placement(&mut steps);
-    session.find_placement(&mut steps);
-    assert!(rt; is_placed(&session, row));
-    session.find_critical(&mut steps);
-    assert!(rt; session.found_critical() == row.critical);
-    session.find_islands(&mut steps);
-    assert!(rt; session.found_islands() == row.islands);
-    if session.network().components() > 0 {
-        session.find_bound(0);
-        assert!(rt; session.found_bound(0).inside == row.bound);
-    }
-    session.find_first(&mut steps);
-    let meters = session.network().meters().count();
-    assert!(rt; are_pairs(session.found_pairs(), meters, row.first));
-    assert!(rt; is_placed(&session, row));
-    let seen = session.place(&mut steps);
-    assert!(rt; is_placement(seen.found.placement, row.placement));
-    assert!(rt; seen.found.pairs.length() as usize == row.pairs.len());
-    Ok(())
+    Ok(
+        has_placement(&mut session, row, &mut steps)
+            && has_bound(&mut session, row, &mut steps)
+            && has_critical(&mut session, row, &mut steps)
+            && has_islands(&mut session, row, &mut steps)
+            && has_first(&mut session, row, &mut steps)
+            && has_placement(&mut session, row, &mut steps)
+            && lends_placement(&mut session, row, &mut steps),
+    )
 }
 
-fn plan<'a>(
-    chosen: &'a [u32],
+fn plan(
+    chosen: &'static [u32],
     cost: u64,
-    layers: &'a [Layer],
-    inside: &'a [u32],
-) -> Placement<'a> {
+    layers: &'static [Layer],
+    inside: &'static [u32],
+) -> Placement<'static> {
     Placement::Cheapest(Plan {
         chosen,
         cost,
@@ -139,61 +178,75 @@ fn plan<'a>(
     })
 }
 
-#[test]
-fn placements_of_sessions(rt: HostRuntime) -> Result<(), Fail> {
-    // the second of three candidates, where the first does nothing and the third is dearer
-    let mut case = path(&rt, rt.alloc());
-    add_candidates(
-        &rt,
-        &mut case,
-        &[
-            (b'p', Kind::Flow, b'2', 0),
-            (b'q', Kind::Injection, b'c', 3),
-            (b'r', Kind::Flow, b'3', 5),
-        ],
-    );
-    let layers = [Layer {
+// Of three candidates the first does nothing, and the third is dearer than the second.
+fn dear_row() -> Row {
+    let layers = &[Layer {
         from: 0,
         to: 3,
         rank: 2,
         outside: 0,
         upto: 4,
     }];
-    let pairs = [(0, 0), (2, 1), (4, 2)];
-    let row = on_the_path(plan(&[1], 3, &layers, &[0, 1, 2, 3]), &pairs);
-    ask::<Brand>(&rt, rt.alloc(), Blank::new(1), case, &row)?;
+    on_the_path(
+        plan(&[1], 3, layers, &[0, 1, 2, 3]),
+        &[(0, 0), (2, 1), (4, 2)],
+    )
+}
 
-    // none that reaches the last bus
-    let mut case = path(&rt, rt.alloc());
-    add_candidates(&rt, &mut case, &[(b'p', Kind::Flow, b'2', 0)]);
+// None reaches the last bus.
+fn short_row() -> Row {
     let shortfall = Placement::Shortfall(Bound {
         inside: &[0, 1, 2, 3],
         rank: 2,
         outside: 0,
         needed: 3,
     });
-    let row = on_the_path(shortfall, &[]);
-    ask::<Brand>(&rt, rt.alloc(), Blank::new(1), case, &row)?;
+    on_the_path(shortfall, &[])
+}
 
-    // a free one
-    let mut case = path(&rt, rt.alloc());
-    add_candidates(&rt, &mut case, &[(b'p', Kind::Flow, b'3', 0)]);
-    let pairs = [(0, 0), (2, 1), (3, 2)];
-    let row = on_the_path(plan(&[0], 0, &[], &[]), &pairs);
-    ask::<Brand>(&rt, rt.alloc(), Blank::new(1), case, &row)?;
+// One that costs nothing reaches it.
+fn free_row() -> Row {
+    on_the_path(plan(&[0], 0, &[], &[]), &[(0, 0), (2, 1), (3, 2)])
+}
 
-    // one that isn't needed
-    let mut case = triangle(&rt, rt.alloc());
-    add_candidates(&rt, &mut case, &[(b'p', Kind::Flow, b'2', 9)]);
-    let pairs = [(0, 2), (1, 0)];
-    let row = Row {
+// The triangle needs none.
+fn idle_row() -> Row {
+    Row {
         placement: plan(&[], 0, &[], &[]),
-        pairs: &pairs,
+        pairs: &[(0, 2), (1, 0)],
         critical: &[0, 1],
         bound: &[],
         islands: &[0, 0, 0],
-        first: &pairs,
-    };
-    ask::<Brand>(&rt, rt.alloc(), Blank::new(1), case, &row)?;
+        first: &[(0, 2), (1, 0)],
+    }
+}
+
+// The path with these candidates.
+fn path_with(rt: &impl Abort, alloc: Global, candidates: &[(u8, Kind, u8, u64)]) -> Case {
+    let mut case = path(rt, alloc);
+    add_candidates(rt, &mut case, candidates);
+    case
+}
+
+#[test]
+fn placements_of_sessions(rt: HostRuntime) -> Result<(), Fail> {
+    let alloc = rt.alloc();
+    let dear = path_with(
+        &rt,
+        alloc,
+        &[
+            (b'p', Kind::Flow, b'2', 0),
+            (b'q', Kind::Injection, b'c', 3),
+            (b'r', Kind::Flow, b'3', 5),
+        ],
+    );
+    assert!(rt; answers::<Brand>(alloc, Blank::new(1), dear, &dear_row()) == Ok(true));
+    let short = path_with(&rt, alloc, &[(b'p', Kind::Flow, b'2', 0)]);
+    assert!(rt; answers::<Brand>(alloc, Blank::new(1), short, &short_row()) == Ok(true));
+    let free = path_with(&rt, alloc, &[(b'p', Kind::Flow, b'3', 0)]);
+    assert!(rt; answers::<Brand>(alloc, Blank::new(1), free, &free_row()) == Ok(true));
+    let mut idle = triangle(&rt, alloc);
+    add_candidates(&rt, &mut idle, &[(b'p', Kind::Flow, b'2', 9)]);
+    assert!(rt; answers::<Brand>(alloc, Blank::new(1), idle, &idle_row()) == Ok(true));
     Ok(())
 }

@@ -129,11 +129,7 @@ fn path_falls_short(rt: HostRuntime) -> Result<(), Fail> {
 // A triangle with an injection meter and a flow meter.
 pub(crate) fn triangle(rt: &impl Abort, alloc: Global) -> Case {
     let mut case = Case::new(alloc);
-    add_nodes(
-        rt,
-        &mut case,
-        &[(b'a', true), (b'b', false), (b'c', false)],
-    );
+    add_nodes(rt, &mut case, &[(b'a', true), (b'b', false), (b'c', false)]);
     add_branches(
         rt,
         &mut case,

@@ -15,9 +15,12 @@ use Rattle.obs_engine.specs.declared.taken.Untaken.{Untaken}
 use Rattle.obs_engine.specs.declared.taken.Untaken.TheVariants.{Refused, Read, NoMemory}
 use Rattle.obs_text.specs.declared.faults.InputFault.{InputFault}
 use Rattle.obs_case.specs.Tables.{Tables}
+use Rattle.obs_ieee_cdf.specs.Faults.{cdf_fault}
 use Rattle.obs_ieee_cdf.specs.Rows.{cdf_of}
+use Rattle.obs_matpower.specs.Faults.{mat_fault}
+use Rattle.obs_matpower.specs.Read.{mat_of}
 use Rattle.obs_engine.specs.declared.words.CaseForm.{CaseForm}
-use Rattle.obs_engine.specs.declared.words.CaseForm.TheVariants.{Cdf}
+use Rattle.obs_engine.specs.declared.words.CaseForm.TheVariants.{Cdf, Matpower}
 use Rattle.obs_engine.specs.declared.words.Form.{Form}
 use Rattle.obs_engine.specs.declared.words.Form.TheVariants.{Topology, Report, Place}
 use Rattle.obs_engine.specs.Files.{case_in, case_in_files, case_with_tables, first_too_long, is_too_long, parsed, switching_case, unless_fault}
@@ -205,21 +208,26 @@ topology_taken form contents file x y a b r e xi yi ax by taken =
     subst (λ (f : Form). length contents ≡ length (parts_of f) → bytes_of contents ≡ map file (range_with_len (first_file f) (length (parts_of f))) → IsTaken (parsed f file) r) (sym e)
     (topology_at contents file x y a b r xi yi ax by taken)
 
--- the two files of a case in the IEEE Common Data Format
-cdf_at : (contents : List (Vec ℕ Global)) (candidates : Option (List ℕ)) (file : ℕ → List ℕ) (x y : Vec ℕ Global) (a b : List ℕ) (r : Result Tables Untaken)
-    → x ≡ get_or contents 0 x → y ≡ get_or contents 1 y → a ≡ x.items → b ≡ y.items → IsTaken (case_with_tables b candidates (cdf_of a)) r
-    → 2 ≤ length contents → take 2 (bytes_of contents) ≡ map file (range_with_len 2 2) → IsTaken (case_in Cdf candidates file) r
-cdf_at contents candidates file x y a b r xi yi ax by taken some front =
-    let one : a ≡ file 2 = handed contents file 2 2 front some 0 x a xi ax (omega arith) in
-    let two : b ≡ file 3 = handed contents file 2 2 front some 1 y b yi by (omega arith) in
-    subst (λ (u : List ℕ). IsTaken (case_with_tables (file 3) candidates (cdf_of u)) r) one (subst (λ (u : List ℕ). IsTaken (case_with_tables u candidates (cdf_of a)) r) two taken)
+-- the two files of a case that is no table
+module _ (contents : List (Vec ℕ Global)) (file : ℕ → List ℕ) (x y : Vec ℕ Global) (a b : List ℕ)
+    (xi : x ≡ get_or contents 0 x) (yi : y ≡ get_or contents 1 y) (ax : a ≡ x.items) (by : b ≡ y.items) where
+  two_at : (P : List ℕ → List ℕ → Type 0) → P a b → 2 ≤ length contents → take 2 (bytes_of contents) ≡ map file (range_with_len 2 2) → P (file 2) (file 3)
+  two_at P taken some front =
+      let one : a ≡ file 2 = handed contents file 2 2 front some 0 x a xi ax (omega arith) in
+      let two : b ≡ file 3 = handed contents file 2 2 front some 1 y b yi by (omega arith) in
+      subst (λ (u : List ℕ). P u (file 3)) one (subst (λ (u : List ℕ). P a u) two taken)
 
-pub cdf_taken : (from : CaseForm) (contents : List (Vec ℕ Global)) (candidates : Option (List ℕ)) (file : ℕ → List ℕ) (x y : Vec ℕ Global) (a b : List ℕ) (r : Result Tables Untaken) → from ≡ Cdf
-    → x ≡ get_or contents 0 x → y ≡ get_or contents 1 y → a ≡ x.items → b ≡ y.items → IsTaken (case_with_tables b candidates (cdf_of a)) r
-    → length (case_parts from) ≤ length contents → take (length (case_parts from)) (bytes_of contents) ≡ map file (range_with_len 2 (length (case_parts from))) → IsTaken (case_in from candidates file) r
-cdf_taken from contents candidates file x y a b r e xi yi ax by taken =
-    subst (λ (f : CaseForm). length (case_parts f) ≤ length contents → take (length (case_parts f)) (bytes_of contents) ≡ map file (range_with_len 2 (length (case_parts f))) → IsTaken (case_in f candidates file) r) (sym e)
-    (cdf_at contents candidates file x y a b r xi yi ax by taken)
+  pub cdf_taken : (from : CaseForm) (candidates : Option (List ℕ)) (r : Result Tables Untaken) → from ≡ Cdf → IsTaken (case_with_tables cdf_fault b candidates (cdf_of a)) r
+      → length (case_parts from) ≤ length contents → take (length (case_parts from)) (bytes_of contents) ≡ map file (range_with_len 2 (length (case_parts from))) → IsTaken (case_in from candidates file) r
+  cdf_taken from candidates r e taken =
+      subst (λ (f : CaseForm). length (case_parts f) ≤ length contents → take (length (case_parts f)) (bytes_of contents) ≡ map file (range_with_len 2 (length (case_parts f))) → IsTaken (case_in f candidates file) r) (sym e)
+      (two_at (λ u v. IsTaken (case_with_tables cdf_fault v candidates (cdf_of u)) r) taken)
+
+  pub mat_taken : (from : CaseForm) (candidates : Option (List ℕ)) (r : Result Tables Untaken) → from ≡ Matpower → IsTaken (case_with_tables mat_fault b candidates (mat_of a)) r
+      → length (case_parts from) ≤ length contents → take (length (case_parts from)) (bytes_of contents) ≡ map file (range_with_len 2 (length (case_parts from))) → IsTaken (case_in from candidates file) r
+  mat_taken from candidates r e taken =
+      subst (λ (f : CaseForm). length (case_parts f) ≤ length contents → take (length (case_parts f)) (bytes_of contents) ≡ map file (range_with_len 2 (length (case_parts f))) → IsTaken (case_in f candidates file) r) (sym e)
+      (two_at (λ u v. IsTaken (case_with_tables mat_fault v candidates (mat_of u)) r) taken)
 
 -- the files of a case, and behind them that of candidates
 module _ (contents : List (Vec ℕ Global)) (file : ℕ → List ℕ) (r : Result Tables Untaken) (from : CaseForm) where

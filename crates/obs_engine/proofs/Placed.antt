@@ -68,9 +68,9 @@ lack_within t n ends needed =
     let touches = case_offered t in
     All-from_In (λ m. m < item_count t) (loose_items n ends touches)
     (λ m i.
-      let live = (In-filter_from (noncritical_in n ends touches (live_items ends touches)) m (live_items ends touches) i).0 in
-      let low = filtered_below (is_live ends touches) 0 (length touches) m live in
-      omega (arith, low, length-case_offered t))
+    let live = (In-filter_from (noncritical_in n ends touches (live_items ends touches)) m (live_items ends touches) i).0 in
+    let low = filtered_below (is_live ends touches) 0 (length touches) m live in
+    omega (arith, low, length-case_offered t))
 
 pub placement_within : (t : Tables) → IsWithin t (case_placement t)
 placement_within t =

@@ -4,10 +4,12 @@ use Rattle.std.specs.Prelude.{if◌then◌else◌, ◌==◌}
 use Rattle.obs_network.specs.Network.{case_needed}
 use Rattle.obs_case.specs.Tables.{Tables}
 use Rattle.obs_case_csv.specs.declared.faults.TableFault.{TableFault}
-use Rattle.obs_ieee_cdf.specs.declared.fault.CdfFault.{CdfFault}
+use Rattle.obs_ieee_cdf.specs.Faults.{cdf_fault}
 use Rattle.obs_case_csv.specs.Read.{tables_in}
 use Rattle.obs_ieee_cdf.specs.Read.{tables_after}
 use Rattle.obs_ieee_cdf.specs.Rows.{cdf_of}
+use Rattle.obs_matpower.specs.Faults.{mat_fault}
+use Rattle.obs_matpower.specs.Read.{mat_of}
 use Rattle.obs_placement.specs.Placed.{Placed}
 use Rattle.obs_placement.specs.Placed.Placed.{cheapest, shortfall}
 use Rattle.obs_script.specs.declared.command.Ask.{Ask}
@@ -18,7 +20,7 @@ use Rattle.obs_edit.specs.Planned.{case_placement}
 use Rattle.obs_engine.specs.declared.status.Status.{Status}
 use Rattle.obs_engine.specs.declared.status.Status.TheVariants.{Done, Short, InputFault, ReadFault, WriteFault, NoMemory}
 use Rattle.obs_engine.specs.declared.words.CaseForm.{CaseForm}
-use Rattle.obs_engine.specs.declared.words.CaseForm.TheVariants.{Csv, Cdf}
+use Rattle.obs_engine.specs.declared.words.CaseForm.TheVariants.{Csv, Cdf, Matpower}
 use Rattle.obs_engine.specs.declared.words.Form.{Form}
 use Rattle.obs_engine.specs.declared.words.Form.TheVariants.{Topology, Report, Place}
 use Rattle.obs_engine.specs.Asks.{ask_status, placed_status, report_status}
@@ -40,13 +42,14 @@ tables-refuse : (r : Result Tables TableFault) → RefusesInput (case_of_tables 
 tables-refuse (Ok t) = tt
 tables-refuse (Err fault) = refl
 
-cdf-refuses : (meters : List ℕ) (candidates : Option (List ℕ)) (r : Result Tables CdfFault) → RefusesInput (case_with_tables meters candidates r)
-cdf-refuses meters candidates (Ok t) = tables-refuse (tables_after meters candidates t)
-cdf-refuses meters candidates (Err fault) = refl
+with_tables-refuses : {E : Type 0} (said : E → Fault) (meters : List ℕ) (candidates : Option (List ℕ)) (r : Result Tables E) → RefusesInput (case_with_tables said meters candidates r)
+with_tables-refuses said meters candidates (Ok t) = tables-refuse (tables_after meters candidates t)
+with_tables-refuses said meters candidates (Err fault) = refl
 
 case-refuses : (from : CaseForm) (candidates : Option (List ℕ)) (file : ℕ → List ℕ) → RefusesInput (case_in from candidates file)
 case-refuses Csv candidates file = tables-refuse (tables_in (file 2) (file 3) (file 4) (file 5) candidates)
-case-refuses Cdf candidates file = cdf-refuses (file 3) candidates (cdf_of (file 2))
+case-refuses Cdf candidates file = with_tables-refuses cdf_fault (file 3) candidates (cdf_of (file 2))
+case-refuses Matpower candidates file = with_tables-refuses mat_fault (file 3) candidates (mat_of (file 2))
 
 parsed-refuses : (form : Form) (file : ℕ → List ℕ) → RefusesInput (parsed form file)
 unfolding parsed

@@ -5,7 +5,7 @@ use Rattle.std.specs.Str.{bytes_eq}
 use Rattle.std.proofs.lemmas.Bool.{and_parts, eqb-true}
 use Rattle.obs_case.proofs.NameLemmas.{same_bytes}
 use Rattle.obs_engine.specs.declared.words.CaseForm.{CaseForm}
-use Rattle.obs_engine.specs.declared.words.CaseForm.TheVariants.{Csv, Cdf}
+use Rattle.obs_engine.specs.declared.words.CaseForm.TheVariants.{Csv, Cdf, Matpower}
 use Rattle.obs_engine.specs.declared.words.Form.{Form}
 use Rattle.obs_engine.specs.declared.words.Form.TheVariants.{Topology, Report, Place}
 use Rattle.obs_engine.specs.Laws.{IsFormOf}
@@ -24,9 +24,12 @@ named false x o from e = inr e
 names_case : (words : List (List ℕ)) (from : CaseForm) → case_form_of words ≡ Some from → is_word words 1 (case_word from) ≡ true
 names_case words from e = elim (named (is_word words 1 (case_word Csv)) Csv _ from e) [
   | inl h ↦ subst (λ (f : CaseForm). is_word words 1 (case_word f) ≡ true) h.1 h.0
-  | inr o ↦ elim (named (is_word words 1 (case_word Cdf)) Cdf None from o) [
+  | inr o ↦ elim (named (is_word words 1 (case_word Cdf)) Cdf _ from o) [
     | inl h ↦ subst (λ (f : CaseForm). is_word words 1 (case_word f) ≡ true) h.1 h.0
-    | inr n ↦ absurd (cc n)
+    | inr p ↦ elim (named (is_word words 1 (case_word Matpower)) Matpower None from p) [
+      | inl h ↦ subst (λ (f : CaseForm). is_word words 1 (case_word f) ≡ true) h.1 h.0
+      | inr n ↦ absurd (cc n)
+    ]
   ]
 ]
 
@@ -127,6 +130,9 @@ from_form words (Report Csv) (files, many, is) =
 from_form words (Report Cdf) (files, many, is) =
     let t = two files many in
     subst (λ (ws : List (List ℕ)). form_of ws ≡ Some (Report Cdf)) (sym (is ∙ ap (λ (fs : List (List ℕ)). codes "report" ∷ codes "cdf" ∷ fs) t.2)) refl
+from_form words (Report Matpower) (files, many, is) =
+    let t = two files many in
+    subst (λ (ws : List (List ℕ)). form_of ws ≡ Some (Report Matpower)) (sym (is ∙ ap (λ (fs : List (List ℕ)). codes "report" ∷ codes "matpower" ∷ fs) t.2)) refl
 from_form words (Place Csv) (files, candidates, many, is) =
     let t = four files many in
     subst (λ (ws : List (List ℕ)). form_of ws ≡ Some (Place Csv))
@@ -135,6 +141,10 @@ from_form words (Place Cdf) (files, candidates, many, is) =
     let t = two files many in
     subst (λ (ws : List (List ℕ)). form_of ws ≡ Some (Place Cdf))
     (sym (is ∙ ap (λ (fs : List (List ℕ)). codes "place" ∷ codes "cdf" ∷ (fs ++ (candidates ∷ []))) t.2)) refl
+from_form words (Place Matpower) (files, candidates, many, is) =
+    let t = two files many in
+    subst (λ (ws : List (List ℕ)). form_of ws ≡ Some (Place Matpower))
+    (sym (is ∙ ap (λ (fs : List (List ℕ)). codes "place" ∷ codes "matpower" ∷ (fs ++ (candidates ∷ []))) t.2)) refl
 
 pub form_exactly : (words : List (List ℕ)) (form : Form) → (form_of words ≡ Some form) ↔ IsFormOf form words
 form_exactly words form = (to_form words form, from_form words form)

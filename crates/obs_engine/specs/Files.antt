@@ -7,12 +7,13 @@ use Rattle.obs_case_csv.specs.declared.faults.TableFault.{TableFault}
 use Rattle.obs_case_csv.specs.declared.faults.Table.TheVariants.{Nodes, Switches}
 use Rattle.obs_case_csv.specs.Faults.{table_fault}
 use Rattle.obs_case_csv.specs.Read.{tables_in, then_read}
-use Rattle.obs_ieee_cdf.specs.declared.fault.CdfFault.{CdfFault}
 use Rattle.obs_ieee_cdf.specs.Faults.{cdf_fault}
 use Rattle.obs_ieee_cdf.specs.Read.{tables_after}
 use Rattle.obs_ieee_cdf.specs.Rows.{cdf_of}
+use Rattle.obs_matpower.specs.Faults.{mat_fault}
+use Rattle.obs_matpower.specs.Read.{mat_of}
 use Rattle.obs_engine.specs.declared.words.CaseForm.{CaseForm}
-use Rattle.obs_engine.specs.declared.words.CaseForm.TheVariants.{Csv, Cdf}
+use Rattle.obs_engine.specs.declared.words.CaseForm.TheVariants.{Csv, Cdf, Matpower}
 use Rattle.obs_engine.specs.declared.words.Form.{Form}
 use Rattle.obs_engine.specs.declared.words.Form.TheVariants.{Topology, Report, Place}
 use Rattle.obs_engine.specs.Replies.{Reply, fault_reply}
@@ -33,10 +34,10 @@ case_of_tables (Ok t) = Ok t
 case_of_tables (Err fault) = Err (fault_reply (table_fault fault))
 
 -- the case that nodes and branches are with a table of meters and, where it is given, one of candidates, or the reply to the first
--- fault
-abbrev pub case_with_tables : List ℕ → Option (List ℕ) → Result Tables CdfFault → Result Tables Reply
-case_with_tables meters candidates (Ok t) = case_of_tables (tables_after meters candidates t)
-case_with_tables meters candidates (Err fault) = Err (fault_reply (cdf_fault fault))
+-- fault, which says this
+abbrev pub case_with_tables : {E : Type 0} → (E → Fault) → List ℕ → Option (List ℕ) → Result Tables E → Result Tables Reply
+case_with_tables said meters candidates (Ok t) = case_of_tables (tables_after meters candidates t)
+case_with_tables said meters candidates (Err fault) = Err (fault_reply (said fault))
 
 -- the case that nodes and switches alone are
 abbrev pub switching_case : List ℕ → List ℕ → Result Tables Reply
@@ -45,7 +46,8 @@ switching_case nodes switches = case_of_tables (then_read Switches switches (the
 -- the case that the files of a case's form are, which stand behind two words, with candidates where they are given
 abbrev pub case_in : CaseForm → Option (List ℕ) → (ℕ → List ℕ) → Result Tables Reply
 case_in Csv candidates file = case_of_tables (tables_in (file 2) (file 3) (file 4) (file 5) candidates)
-case_in Cdf candidates file = case_with_tables (file 3) candidates (cdf_of (file 2))
+case_in Cdf candidates file = case_with_tables cdf_fault (file 3) candidates (cdf_of (file 2))
+case_in Matpower candidates file = case_with_tables mat_fault (file 3) candidates (mat_of (file 2))
 
 -- the case that files of this form are, none of which is too long
 unfoldable pub parsed : Form → (ℕ → List ℕ) → Result Tables Reply

@@ -3,7 +3,7 @@ use Rattle.std.specs.Prelude.{ℕ, ◌+◌, ◌==◌, ◌&&◌, Bool, nat_lt, Li
 use Rattle.std.specs.List.{range_with_len}
 use Rattle.std.specs.Str.{bytes_eq}
 use Rattle.obs_engine.specs.declared.words.CaseForm.{CaseForm}
-use Rattle.obs_engine.specs.declared.words.CaseForm.TheVariants.{Csv, Cdf}
+use Rattle.obs_engine.specs.declared.words.CaseForm.TheVariants.{Csv, Cdf, Matpower}
 use Rattle.obs_engine.specs.declared.words.Form.{Form}
 use Rattle.obs_engine.specs.declared.words.Form.TheVariants.{Topology, Report, Place}
 
@@ -11,11 +11,13 @@ use Rattle.obs_engine.specs.declared.words.Form.TheVariants.{Topology, Report, P
 abbrev pub case_word : CaseForm → List ℕ
 case_word Csv = codes "tables"
 case_word Cdf = codes "cdf"
+case_word Matpower = codes "matpower"
 
 -- which part of the input each file of a case is, in the order of the words
 abbrev pub case_parts : CaseForm → List (List ℕ)
 case_parts Csv = codes "nodes" ∷ codes "switches" ∷ codes "branches" ∷ codes "meters" ∷ []
 case_parts Cdf = codes "cdf" ∷ codes "meters" ∷ []
+case_parts Matpower = codes "matpower" ∷ codes "meters" ∷ []
 
 -- the same for all files of a form of words
 abbrev pub parts_of : Form → List (List ℕ)
@@ -47,6 +49,7 @@ abbrev pub case_form_of : List (List ℕ) → Option CaseForm
 case_form_of words =
     if is_word words 1 (case_word Csv) then Some Csv
     else if is_word words 1 (case_word Cdf) then Some Cdf
+    else if is_word words 1 (case_word Matpower) then Some Matpower
     else None
 
 -- the form of words that name a case of this form, or none

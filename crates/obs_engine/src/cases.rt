@@ -3,7 +3,10 @@ ghost use Rattle.std.specs.Prelude.{◌≡◌, ◌≤◌, ℕ, List, Ok, Some, A
 ghost use Rattle.std.specs.List.{range_with_len};
 ghost use Rattle.obs_text.specs.Limits.{most_file_bytes};
 ghost use Rattle.obs_case_csv.specs.Read.{tables_in};
+ghost use Rattle.obs_ieee_cdf.specs.Faults.{cdf_fault};
 ghost use Rattle.obs_ieee_cdf.specs.Rows.{cdf_of};
+ghost use Rattle.obs_matpower.specs.Faults.{mat_fault};
+ghost use Rattle.obs_matpower.specs.Read.{mat_of};
 ghost use Rattle.obs_engine.specs.Files.{case_in, case_in_files, case_of_tables, case_with_tables, parsed, switching_case};
 ghost use Rattle.obs_engine.specs.Forms.{AreFiles, IsFileWord, ReadFailed};
 ghost use Rattle.obs_engine.specs.Taken.{IsTaken, bytes_of};
@@ -16,6 +19,7 @@ use obs_case::Case;
 use obs_case_csv::{Table, TableEnd, read_table, read_tables};
 use obs_ieee_cdf::{CdfEnd, read_cdf};
 use obs_io::Files;
+use obs_matpower::{MatEnd, read_matpower};
 use obs_text::InputFault;
 use std::alloc::Global;
 
@@ -66,7 +70,7 @@ fn read_cdf_tables(
     candidates: Option<&[u8]>,
 ) -> Result<Case, Untaken>
     requires few { length cdf.now ≤ most_file_bytes }
-    ensures read { IsTaken (case_with_tables meters.now (option_map (λ bytes. bytes.now) candidates.entry) (cdf_of cdf.now)) result }
+    ensures read { IsTaken (case_with_tables cdf_fault meters.now (option_map (λ bytes. bytes.now) candidates.entry) (cdf_of cdf.now)) result }
     ensures no_read { IsErrOf result Untaken.Read → ⊥ }
 {
     match read_cdf(alloc, cdf, meters, candidates) {
@@ -74,6 +78,25 @@ fn read_cdf_tables(
         Err(CdfEnd::Cdf(fault)) => Err(Untaken::Refused(InputFault::from(fault))),
         Err(CdfEnd::Table(fault)) => Err(Untaken::Refused(InputFault::from(fault))),
         Err(CdfEnd::NoMemory) => Err(Untaken::NoMemory),
+    }
+}
+
+// The case that the bytes of a MATPOWER file and of a table of meters are, with candidates where they are given.
+fn read_matpower_tables(
+    alloc: Global,
+    matpower: &[u8],
+    meters: &[u8],
+    candidates: Option<&[u8]>,
+) -> Result<Case, Untaken>
+    requires few { length matpower.now ≤ most_file_bytes }
+    ensures read { IsTaken (case_with_tables mat_fault meters.now (option_map (λ bytes. bytes.now) candidates.entry) (mat_of matpower.now)) result }
+    ensures no_read { IsErrOf result Untaken.Read → ⊥ }
+{
+    match read_matpower(alloc, matpower, meters, candidates) {
+        Ok(case) => Ok(case),
+        Err(MatEnd::Mat(fault)) => Err(Untaken::Refused(InputFault::from(fault))),
+        Err(MatEnd::Table(fault)) => Err(Untaken::Refused(InputFault::from(fault))),
+        Err(MatEnd::NoMemory) => Err(Untaken::NoMemory),
     }
 }
 
@@ -101,6 +124,9 @@ fn read_case(
             candidates,
         ),
         CaseForm::Cdf => read_cdf_tables(alloc, &contents[0], &contents[1], candidates),
+        CaseForm::Matpower => {
+            read_matpower_tables(alloc, &contents[0], &contents[1], candidates)
+        }
     }
 }
 
@@ -124,11 +150,7 @@ fn read_form(alloc: Global, form: Form, contents: &[Vec<u8>]) -> Result<Case, Un
 }
 
 /// The case that the files of a form are. All are read before the first is parsed.
-pub(crate) fn take_case<F: Files>(
-    alloc: Global,
-    files: &mut F,
-    form: Form,
-) -> Result<Case, Untaken>
+pub(crate) fn take_case<F: Files>(alloc: Global, files: &mut F, form: Form) -> Result<Case, Untaken>
     ensures stated { (file : ℕ → List ℕ) → AreFiles (Some form) (F.content files.old) file → IsTaken (case_in_files form file) result }
     ensures read { IsErrOf result Untaken.Read
         → ReadFailed (file_words (Some form)) (F.content files.old) (F.faults files.old) (F.faults files.new) }

@@ -12,6 +12,8 @@ mod command;
 mod files;
 pub mod laws;
 #[cfg(test)]
+mod matpower_tests;
+#[cfg(test)]
 mod place_tests;
 mod program;
 mod refused;

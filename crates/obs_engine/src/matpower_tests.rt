@@ -107,7 +107,8 @@ fn reports(
 
 #[test]
 fn a_matpower_case_is_reported(rt: HostRuntime) -> Result<(), Fail> {
-    let text = b"count\tbuses\t4\ncount\tenergised\t3\ncount\tbranches\t2\ncount\tmeters\t2\ncount\tneeded\t2\ncount\trank\t2\nverdict\tobservable\ntree\t1\npair\tmeter\tf1\tL1\npair\tmeter\tf2\tL2\nisland\t1\t1\nisland\t1\t2\nisland\t1\t3\ncritical\tf1\ncritical\tf2\nend\n";
+    let text =
+        b"count\tbuses\t4\ncount\tenergised\t3\ncount\tbranches\t2\ncount\tmeters\t2\ncount\tneeded\t2\ncount\trank\t2\nverdict\tobservable\ntree\t1\npair\tmeter\tf1\tL1\npair\tmeter\tf2\tL2\nisland\t1\t1\nisland\t1\t2\nisland\t1\t3\ncritical\tf1\ncritical\tf2\nend\n";
     for case in [three(), with_tabs()] {
         reports(&rt, rt.alloc(), case, Status::Done, text)?;
     }
@@ -136,6 +137,7 @@ fn a_matpower_case_has_candidates_too(rt: HostRuntime) -> Result<(), Fail> {
         b"candidate,kind,at,price\nk1,flow,L3,1\nk2,injection,2,7\nk3,flow,L2,9\n".as_slice();
     let meters = b"meter,kind,at,inservice\nf1,flow,L1,1\n".as_slice();
     let files = [b"".as_slice(), three(), meters, candidates];
-    let text = b"cost\t7\nchosen\tk2\npair\tmeter\tf1\tL1\npair\tcandidate\tk2\tL2\nlayer\t0\t7\t0\t1\nend\n";
+    let text =
+        b"cost\t7\nchosen\tk2\npair\tmeter\tf1\tL1\npair\tcandidate\tk2\tL2\nlayer\t0\t7\t0\t1\nend\n";
     answers(&rt, rt.alloc(), &words, &files, Status::Done, text)
 }

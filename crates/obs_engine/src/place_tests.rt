@@ -101,8 +101,7 @@ fn a_cdf_file_has_candidates_too(rt: HostRuntime) -> Result<(), Fail> {
     let meters = b"meter,kind,at,inservice\n".as_slice();
     let candidates = b"candidate,kind,at,price\nk1,flow,L1,20\nk2,injection,2,10\n".as_slice();
     let files = [b"".as_slice(), pair_of_buses(), meters, candidates];
-    let text =
-        b"cost\t10\nchosen\tk2\npair\tcandidate\tk2\tL1\nlayer\t0\t10\t0\t0\nend\n";
+    let text = b"cost\t10\nchosen\tk2\npair\tcandidate\tk2\tL1\nlayer\t0\t10\t0\t0\nend\n";
     answers(&rt, rt.alloc(), &CDF, &files, Status::Done, text)
 }
 

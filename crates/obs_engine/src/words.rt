@@ -2,11 +2,12 @@
 ghost use Rattle.std.specs.Prelude.{◌≡◌, ◌<◌, map, string_bytes, Some};
 ghost use Rattle.obs_engine.specs.Words.{case_form_of, form_of, first_file, form_with, is_word, parts_of, words_with};
 
-/// In which form a case is given: four tables, or a file in the IEEE Common Data Format and a table of meters.
+/// In which form a case is given: four tables, or a file in the IEEE Common Data Format or of MATPOWER and a table of meters.
 #[derive(Clone, Copy, Debug, PartialEq, Eq)]
 pub(crate) enum CaseForm {
     Csv,
     Cdf,
+    Matpower,
 }
 
 /// What the words ask for.
@@ -25,6 +26,7 @@ impl CaseForm {
         match self {
             CaseForm::Csv => 6,
             CaseForm::Cdf => 4,
+            CaseForm::Matpower => 4,
         }
     }
 }
@@ -44,6 +46,8 @@ fn case_form_of_words(words: &[String]) -> Option<CaseForm>
         Some(CaseForm::Csv)
     } else if is_word(words, 1, "cdf") {
         Some(CaseForm::Cdf)
+    } else if is_word(words, 1, "matpower") {
+        Some(CaseForm::Matpower)
     } else {
         None
     }
@@ -84,10 +88,12 @@ pub(crate) fn parts(form: Form) -> &'static [&'static [u8]]
         Form::Topology => &[b"nodes", b"switches"],
         Form::Report(CaseForm::Csv) => &[b"nodes", b"switches", b"branches", b"meters"],
         Form::Report(CaseForm::Cdf) => &[b"cdf", b"meters"],
+        Form::Report(CaseForm::Matpower) => &[b"matpower", b"meters"],
         Form::Place(CaseForm::Csv) => {
             &[b"nodes", b"switches", b"branches", b"meters", b"candidates"]
         }
         Form::Place(CaseForm::Cdf) => &[b"cdf", b"meters", b"candidates"],
+        Form::Place(CaseForm::Matpower) => &[b"matpower", b"meters", b"candidates"],
     }
 }
 

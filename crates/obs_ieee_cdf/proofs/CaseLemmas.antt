@@ -59,7 +59,7 @@ module _ (meters : List ℕ) (file tables : Tables) (valid : IsValid file) (no_m
   none_given None fault e = cc
   none_given (Some bytes) fault e = cc
 
-  tables_are : (candidates : Option (List ℕ)) (r : Result Tables TableFault) → then_read Meters meters (Ok file) ≡ r → then_read_given Candidates candidates r ≡ Ok tables
+  pub tables_are : (candidates : Option (List ℕ)) (r : Result Tables TableFault) → then_read Meters meters (Ok file) ≡ r → then_read_given Candidates candidates r ≡ Ok tables
       → (metered : Tables) × IsTableOf Meters meters file metered × HasCandidates candidates metered tables
   tables_are candidates (Ok u) read e = let is = table_is Meters meters file u valid no_meters read in (u, is, given_is candidates u is e)
   tables_are candidates (Err fault) read e = absurd (none_given candidates fault e)
@@ -68,7 +68,7 @@ module _ (meters : List ℕ) (file tables : Tables) (valid : IsValid file) (no_m
   given_read None u is has = ap (λ t. Ok t) (sym has)
   given_read (Some bytes) u is has = table_read Candidates bytes u tables is.valid (still_none meters file u is no_candidates) has
 
-  tables_read : (candidates : Option (List ℕ)) (u : Tables) → IsTableOf Meters meters file u → HasCandidates candidates u tables → tables_after meters candidates file ≡ Ok tables
+  pub tables_read : (candidates : Option (List ℕ)) (u : Tables) → IsTableOf Meters meters file u → HasCandidates candidates u tables → tables_after meters candidates file ≡ Ok tables
   tables_read candidates u is has = ap (then_read_given Candidates candidates) (table_read Meters meters file u valid no_meters is) ∙ given_read candidates u is has
 
 -- ---- cases
@@ -103,7 +103,7 @@ FaultWhereNoCase-holds cdf meters candidates = (
   found_fault cdf meters candidates (case_in cdf meters candidates) refl,
 )
 
-given_valid : (candidates : Option (List ℕ)) (before tables : Tables) → IsValid before → HasCandidates candidates before tables → IsValid tables
+pub given_valid : (candidates : Option (List ℕ)) (before tables : Tables) → IsValid before → HasCandidates candidates before tables → IsValid tables
 given_valid None before tables valid has = subst IsValid (sym has) valid
 given_valid (Some bytes) before tables valid has = has.valid
 

@@ -136,7 +136,7 @@ branch_lines-read buses earlier (line ∷ lines) all few is =
     by (Err fault) e h next = cc
 
 -- a branch is its four fields
-same_branch : (branch : Branch) (name : List ℕ) (from to : ℕ) (inservice : Bool) → branch.name ≡ name → branch.from ≡ from → branch.to ≡ to → branch.inservice ≡ inservice → record { name = name; from = from; to = to; inservice = inservice } ≡ branch
+pub same_branch : (branch : Branch) (name : List ℕ) (from to : ℕ) (inservice : Bool) → branch.name ≡ name → branch.from ≡ from → branch.to ≡ to → branch.inservice ≡ inservice → record { name = name; from = from; to = to; inservice = inservice } ≡ branch
 same_branch branch name from to inservice n f t s =
     ap (λ (x : List ℕ). record branch { name = x; from = from; to = to; inservice = inservice }) (sym n)
     ∙ ap (λ (x : ℕ). record branch { from = x; to = to; inservice = inservice }) (sym f)

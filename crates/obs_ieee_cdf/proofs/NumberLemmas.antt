@@ -77,11 +77,11 @@ same_name m n small below =
 
 -- tests that agree on each element of a list give one answer
 module _ {A B : Type 0} (p : A → Bool) (q : B → Bool) (f : B → A) where
-  list_any-same : (xs : List B) → AllByRecursion (λ x. p (f x) ≡ q x) xs → list_any p (map f xs) ≡ list_any q xs
+  pub list_any-same : (xs : List B) → AllByRecursion (λ x. p (f x) ≡ q x) xs → list_any p (map f xs) ≡ list_any q xs
   list_any-same [] same = refl
   list_any-same (x ∷ xs) (here, others) = rw (here, list_any-same xs others) refl
 
-  position_or_len-same : (xs : List B) → AllByRecursion (λ x. p (f x) ≡ q x) xs → position_or_len p (map f xs) ≡ position_or_len q xs
+  pub position_or_len-same : (xs : List B) → AllByRecursion (λ x. p (f x) ≡ q x) xs → position_or_len p (map f xs) ≡ position_or_len q xs
   position_or_len-same [] same = refl
   position_or_len-same (x ∷ xs) (here, others) = rw here (ap (λ n. cond (not (q x)) (1 + n) 0) (position_or_len-same xs others))
 
@@ -123,11 +123,11 @@ pub AreBuses-none : AreBuses []
 unfolding IsDistinct
 AreBuses-none = record { small = tt; different = tt }
 
-all_push : {A : Type 0} (P : A → Type 0) (xs : List A) (x : A) → AllByRecursion P xs → P x → AllByRecursion P (xs ++ x ∷ [])
+pub all_push : {A : Type 0} (P : A → Type 0) (xs : List A) (x : A) → AllByRecursion P xs → P x → AllByRecursion P (xs ++ x ∷ [])
 all_push P [] x all more = (more, tt)
 all_push P (y ∷ xs) x (here, others) more = (here, all_push P xs x others more)
 
-symmetric : (n : ℕ) (buses : List Bus) → AllByRecursion (λ (b : Bus). eqb n b.number ≡ eqb b.number n) buses
+pub symmetric : (n : ℕ) (buses : List Bus) → AllByRecursion (λ (b : Bus). eqb n b.number ≡ eqb b.number n) buses
 symmetric n [] = tt
 symmetric n (bus ∷ buses) = (nat_eq_equiv.symm n bus.number, symmetric n buses)
 

@@ -17,16 +17,16 @@ use Rattle.obs_ieee_cdf.specs.Rows.{Bus, branch_name, has_bus, node_of_bus, plac
 use Rattle.obs_ieee_cdf.proofs.NumberLemmas.{has_name-branch, has_name-bus, length-buses, number_of-lt, place_of-bus}
 
 -- a table that isn't full refuses just a name that it has
-name_fault-open : (names : List (List ℕ)) (name : List ℕ) (there : Bool) → length names < most_rows → has_name names name ≡ there → name_fault names name ≡ cond there (Some NameTwice) None
+pub name_fault-open : (names : List (List ℕ)) (name : List ℕ) (there : Bool) → length names < most_rows → has_name names name ≡ there → name_fault names name ≡ cond there (Some NameTwice) None
 name_fault-open names name there few is = rw (ne_eqb (length names) most_rows (omega arith), is) refl
 
 -- a row that is accepted has a new name
-new_name : (there : Bool) → cond there (Some NameTwice) None ≡ None → there ≡ false
+pub new_name : (there : Bool) → cond there (Some NameTwice) None ≡ None → there ≡ false
 new_name true is = cc
 new_name false is = refl
 
 -- one that is refused has an old one, or memory is wanting
-old_name : (there : Bool) (fault : AddFault) → Refuses (cond there (Some NameTwice) None) fault → (fault ≡ NoMemory) ⊎ (there ≡ true)
+pub old_name : (there : Bool) (fault : AddFault) → Refuses (cond there (Some NameTwice) None) fault → (fault ≡ NoMemory) ⊎ (there ≡ true)
 old_name true fault is = inr refl
 old_name false NoMemory is = inl refl
 old_name false NameTwice is = cc

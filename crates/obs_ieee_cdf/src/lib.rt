@@ -16,7 +16,8 @@ mod values;
 pub use fault::{CdfEnd, CdfFault};
 pub use fields::{BranchFields, BusFields, branch_fields, bus_fields};
 pub use parts::Sections;
-pub use read::read_cdf;
+pub use read::{add_tables, read_cdf};
+pub use rows::{NAME_ROOM, branch_name};
 pub use section::sections;
 
 #[cfg(test)]

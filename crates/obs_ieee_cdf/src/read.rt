@@ -30,8 +30,8 @@ fn add_file(case: &mut Case, cdf: &[u8]) -> Result<(), Stop>
     }
 }
 
-// Adds the rows of the tables that are given to a case that has none of them.
-fn add_tables(
+/// Adds the rows of the tables that are given to a case that has none of them.
+pub fn add_tables(
     alloc: Global,
     case: &mut Case,
     meters: &[u8],

@@ -17,7 +17,7 @@ use obs_text::{Digits, lines};
 const MOST_BRANCHES: usize = MOST_ROWS;
 
 /// Room for the name of a branch: a letter and the digits of a number.
-const NAME_ROOM: usize = 21;
+pub const NAME_ROOM: usize = 21;
 
 // Why reading stops at a row that the case refuses for this cause.
 fn stop(fault: AddFault, cause: CdfFault) -> Stop
@@ -65,8 +65,8 @@ pub(crate) fn add_buses(case: &mut Case, section: &[u8], first: u32) -> Result<(
     Ok(())
 }
 
-// `L` and the number in decimal digits, written into the room.
-fn branch_name(room: &mut [u8; NAME_ROOM], number: u64) -> &[u8]
+/// `L` and the number in decimal digits, written into the room.
+pub fn branch_name(room: &mut [u8; NAME_ROOM], number: u64) -> &[u8]
     ensures name { result.now ≡ branch_name number }
 {
     let mut digits = Digits::new();

@@ -1,7 +1,8 @@
 // The network of a case whose five tables are full.
-use crate::{Network, buses_of_case};
+use crate::{Network, NoMemory, buses_of_case};
 use obs_case::{Case, Kind};
 use obs_text::{Digits, name_of};
+use std::alloc::Global;
 use std::process::Abort;
 use std::test::Fail;
 
@@ -32,18 +33,42 @@ fn add_others(rt: &impl Abort, case: &mut Case) {
     }
 }
 
-// The buses are the 10,000 pairs of nodes, in a ring with two branches between each bus and the next.
-#[test]
-fn full_tables(rt: HostRuntime) -> Result<(), Fail> {
-    let mut case = Case::new(rt.alloc());
-    add_nodes(&rt, &mut case);
-    add_others(&rt, &mut case);
-    assert!(rt; buses_of_case(rt.alloc(), &case)?.count() == 10_000);
-    let network = Network::make(rt.alloc(), &case)?;
+fn full_case(rt: &impl Abort, alloc: Global) -> Case {
+    let mut case = Case::new(alloc);
+    add_nodes(rt, &mut case);
+    add_others(rt, &mut case);
+    case
+}
+
+fn has_buses(rt: &impl Abort, alloc: Global, case: &Case) -> Result<(), NoMemory> {
+    let buses = buses_of_case(alloc, case)?;
+    assert!(rt; buses.count() == 10_000);
+    Ok(())
+}
+
+fn has_network(rt: &impl Abort, alloc: Global, case: &Case) -> Result<(), NoMemory> {
+    let network = Network::make(alloc, case)?;
+    look(rt, &network);
+    Ok(())
+}
+
+fn look(rt: &impl Abort, network: &Network) {
     assert!(rt; network.buses().count() == 10_000);
     assert!(rt; network.components() == 1);
     assert!(rt; network.needed() == 9_999);
     assert!(rt; network.graph().positions() == 20_000);
     assert!(rt; network.offered().count() == 40_000);
+}
+
+// The buses are the 10,000 pairs of nodes, in a ring with two branches between each bus and the next.
+fn full(rt: &impl Abort, alloc: Global) -> Result<(), NoMemory> {
+    let case = full_case(rt, alloc);
+    has_buses(rt, alloc, &case)?;
+    has_network(rt, alloc, &case)
+}
+
+#[test]
+fn full_tables(rt: HostRuntime) -> Result<(), Fail> {
+    full(&rt, rt.alloc())?;
     Ok(())
 }

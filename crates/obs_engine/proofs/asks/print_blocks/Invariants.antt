@@ -7,4 +7,4 @@ invariant-loop-k g l =
     (l.session.tables ≡ l.fn.session.tables)
     × (l.session.offered ≡ l.fn.session.offered)
     × ArePrinted l.fn.session.tables (g.W.Sink.written l.fn.output) (g.W.Sink.written l.output) (g.W.Sink.faults l.fn.output) (g.W.Sink.faults l.output) (g.W.Sink.has_room l.fn.output) (g.W.Sink.has_room l.output)
-      (take l.k l.blocks)
+    (take l.k l.blocks)

@@ -11,7 +11,7 @@ pub returns-in_err-contents-clause-stated : goal.returns-in_err-contents-clause-
 returns-in_err-contents-clause-stated g c = λ file told.
     let why = c.in_err-contents.field-0.0 in
     let size : length c.parts.result.now ≡ length (parts_of c.args.form) =
-        sym (length-map c.parts.result.now (λ (part : Bor (List ℕ)). part.now)) ∙ ap (λ (xs : List (List ℕ)). length xs) c.parts.ensures.parts in
+    sym (length-map c.parts.result.now (λ (part : Bor (List ℕ)). part.now)) ∙ ap (λ (xs : List (List ℕ)). length xs) c.parts.ensures.parts in
     let from = subst (λ (n : ℕ). AreTold (g.F.Files.content c.args.files.now) file (range_with_len n (length (parts_of c.args.form)))) (sym c.first_file.ensures.first) told in
     let here = subst (λ (n : ℕ). AreTold (g.F.Files.content c.args.files.now) file (range_with_len c.first_file.result n)) (sym size) from in
     case_not_taken c.args.form file why c.from_residual.result c.from_residual.ensures.1

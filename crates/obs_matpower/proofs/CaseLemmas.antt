@@ -1,0 +1,65 @@
+-- What is read from a file with its tables, and what cases are.
+use Rattle.std.proofs.Common.{◌≡◌, ℕ, List, [], Option, Some, None, Result, Ok, Err, refl, sym, ap, ◌∙◌, subst}
+use Rattle.obs_case.specs.Tables.{IsValid, Tables}
+use Rattle.obs_case_csv.specs.declared.faults.Table.TheVariants.{Meters, Candidates}
+use Rattle.obs_case_csv.specs.declared.faults.TableFault.{TableFault}
+use Rattle.obs_case_csv.specs.Read.{then_read}
+use Rattle.obs_case_csv.specs.Rows.{names_in}
+use Rattle.obs_ieee_cdf.specs.Read.{tables_after}
+use Rattle.obs_ieee_cdf.proofs.CaseLemmas.{given_valid, tables_are, tables_read}
+use Rattle.obs_matpower.specs.declared.fault.MatEnd.{MatEnd}
+use Rattle.obs_matpower.specs.declared.fault.MatFault.{MatFault}
+use Rattle.obs_matpower.specs.declared.part.MatTable.TheVariants as table
+use Rattle.obs_matpower.specs.Case.{IsCase, IsFile}
+use Rattle.obs_matpower.specs.Laws.{CaseIsRead, CasesAreValid, FaultWhereNoCase}
+use Rattle.obs_matpower.specs.Read.{as_end, case_in, mat_of, with_tables}
+use Rattle.obs_matpower.specs.Whole.{table_rows}
+use Rattle.obs_matpower.proofs.LawLemmas.{branches_read, buses_read, file_is, file_read}
+use Rattle.obs_matpower.proofs.ValidLemmas.{branches-valid, buses-valid}
+
+-- a file's nodes and branches are valid, and there are no other rows
+valid-file : (bytes : List ℕ) (file : Tables) → IsFile bytes file → IsValid file × (names_in Meters file ≡ []) × (names_in Candidates file ≡ [])
+valid-file bytes file (buses, branches, are, is) = (
+  subst IsValid (sym is)
+      (branches-valid buses (table_rows table.Branch bytes) branches
+      (buses-valid (table_rows table.Bus bytes) buses (buses_read (table_rows table.Bus bytes) buses are.buses_are)).valid
+      (branches_read buses (table_rows table.Branch bytes) branches are.branches_are)),
+  ap (names_in Meters) is,
+  ap (names_in Candidates) is,
+)
+
+as_end-ok : (r : Result Tables TableFault) (tables : Tables) → as_end r ≡ Ok tables → r ≡ Ok tables
+as_end-ok (Ok t) tables is = (let same : Ok t ≡ Ok tables = is in let e : t ≡ tables = cc in ap (λ u. Ok u) e)
+as_end-ok (Err fault) tables is = cc
+
+case_is : (matpower meters : List ℕ) (candidates : Option (List ℕ)) (tables : Tables) (r : Result Tables MatFault) → mat_of matpower ≡ r → with_tables meters candidates r ≡ Ok tables → IsCase matpower meters candidates tables
+case_is matpower meters candidates tables (Err fault) read is = cc
+case_is matpower meters candidates tables (Ok file) read is =
+    let of_file = file_is matpower file read in
+    let v = valid-file matpower file of_file in
+    let t = tables_are meters file tables v.0 v.1 v.2 candidates (then_read Meters meters (Ok file)) refl (as_end-ok (tables_after meters candidates file) tables is) in
+    (file, t.0, of_file, t.1, t.2)
+
+case_read : (matpower meters : List ℕ) (candidates : Option (List ℕ)) (tables : Tables) → IsCase matpower meters candidates tables → case_in matpower meters candidates ≡ Ok tables
+case_read matpower meters candidates tables (file, metered, of_file, is, has) =
+    let v = valid-file matpower file of_file in
+    ap (with_tables meters candidates) (file_read matpower file of_file) ∙ ap as_end (tables_read meters file tables v.0 v.1 v.2 candidates metered is has)
+
+pub CaseIsRead-holds : CaseIsRead
+CaseIsRead-holds matpower meters candidates tables = (case_is matpower meters candidates tables (mat_of matpower) refl, case_read matpower meters candidates tables)
+
+found_fault : (matpower meters : List ℕ) (candidates : Option (List ℕ)) (r : Result Tables MatEnd) → case_in matpower meters candidates ≡ r → ((tables : Tables) → ¬ IsCase matpower meters candidates tables)
+    → (fault : MatEnd) × (case_in matpower meters candidates ≡ Err fault)
+found_fault matpower meters candidates (Err fault) read none = (fault, read)
+found_fault matpower meters candidates (Ok tables) read none = absurd (none tables (case_is matpower meters candidates tables (mat_of matpower) refl read))
+
+pub FaultWhereNoCase-holds : FaultWhereNoCase
+FaultWhereNoCase-holds matpower meters candidates = (
+  λ fault is tables case. (let read = case_read matpower meters candidates tables case in cc),
+  found_fault matpower meters candidates (case_in matpower meters candidates) refl,
+)
+
+pub CasesAreValid-holds : CasesAreValid
+CasesAreValid-holds matpower meters candidates tables is =
+    let case = case_is matpower meters candidates tables (mat_of matpower) refl is in
+    given_valid candidates case.1 tables case.3.valid case.4

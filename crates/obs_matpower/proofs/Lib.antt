@@ -1,0 +1,14 @@
+pub mod AddLemmas
+pub mod CaseLemmas
+pub mod FileLemmas
+pub mod FirstLemmas
+pub mod FoundLemmas
+pub mod LawLemmas
+pub mod NumberLemmas
+pub mod ReadLemmas
+pub mod RowReads
+pub mod RowSteps
+pub mod SplitLemmas
+pub mod TextLemmas
+pub mod ValidLemmas
+pub mod WholeLemmas

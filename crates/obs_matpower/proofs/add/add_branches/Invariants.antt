@@ -1,0 +1,13 @@
+use Rattle.std.proofs.Common.{◌≡◌, List, [], is_none}
+use Rattle.obs_ieee_cdf.specs.Reading.{AreNamed}
+use Rattle.obs_matpower.specs.Left.{rows_left}
+use Rattle.obs_matpower.specs.Read.{BusRow, buses_of, isolated_of, read_branch}
+use Rattle.obs_matpower.specs.Reading.{AreBuses, held_branches}
+use Rattle.obs_matpower.specs.Rows.{rows_of}
+use Rattle.obs_matpower.proofs.ReadLemmas.{ReadSoFar}
+use Rattle.obs_matpower.proofs.add.add_branches.Given as goal
+
+abbrev pub invariant-loop-row : goal.invariant-loop-row
+invariant-loop-row l =
+    (buses : List BusRow) → AreBuses (buses_of buses) → l.initial.case ≡ held_branches buses [] → l.isolated ≡ isolated_of buses →
+    ReadSoFar (read_branch buses) (held_branches buses) (AreNamed 1) (rows_of (is_none l.part.end) l.part.line l.part.text.now) l.case (rows_left l.row-iterator)

@@ -1,0 +1,11 @@
+use Rattle.std.proofs.Common.{is_none}
+use Rattle.obs_matpower.specs.Left.{rows_left}
+use Rattle.obs_matpower.specs.Read.{buses_of, read_bus}
+use Rattle.obs_matpower.specs.Reading.{AreBuses, held_buses}
+use Rattle.obs_matpower.specs.Rows.{rows_of}
+use Rattle.obs_matpower.proofs.ReadLemmas.{ReadSoFar}
+use Rattle.obs_matpower.proofs.add.add_buses.Given as goal
+
+abbrev pub invariant-loop-row : goal.invariant-loop-row
+invariant-loop-row l =
+    ReadSoFar read_bus held_buses (λ rows. AreBuses (buses_of rows)) (rows_of (is_none l.part.end) l.part.line l.part.text.now) (l.case, l.isolated.items) (rows_left l.row-iterator)

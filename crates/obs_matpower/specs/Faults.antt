@@ -1,0 +1,66 @@
+-- The numbers, names and lines of faults, and what is said of each.
+use Rattle.std.specs.Prelude.{◌≡◌, ℕ, List, codes, Option, None, Some}
+use Rattle.obs_text.specs.Faults.{Fault, fault_of}
+use Rattle.obs_text.specs.declared.faults.InputFault.{InputFault}
+use Rattle.obs_case_csv.specs.Faults.{table_fault}
+use Rattle.obs_matpower.specs.declared.fault.MatEnd.{MatEnd}
+use Rattle.obs_matpower.specs.declared.fault.MatEnd.TheVariants as end
+use Rattle.obs_matpower.specs.declared.fault.MatFault.{MatFault}
+use Rattle.obs_matpower.specs.declared.fault.MatFault.TheVariants.{NoBusTable, BusTableOpen, NoBranchTable, BranchTableOpen, BadBusNumber, BadType, BusTwice, UnknownBus, TooMany, ShortRow, BadStatus}
+
+-- a fault's number
+abbrev pub mat_code : MatFault → ℕ
+mat_code NoBusTable = 1
+mat_code BusTableOpen = 2
+mat_code NoBranchTable = 3
+mat_code BranchTableOpen = 4
+mat_code (BadBusNumber line) = 5
+mat_code (BadType line) = 6
+mat_code (BusTwice line) = 7
+mat_code (UnknownBus line) = 8
+mat_code (TooMany line) = 9
+mat_code (ShortRow line) = 10
+mat_code (BadStatus line) = 11
+
+-- a fault's name in bytes
+abbrev pub mat_name : MatFault → List ℕ
+mat_name NoBusTable = codes "NoBusTable"
+mat_name BusTableOpen = codes "BusTableOpen"
+mat_name NoBranchTable = codes "NoBranchTable"
+mat_name BranchTableOpen = codes "BranchTableOpen"
+mat_name (BadBusNumber line) = codes "BadBusNumber"
+mat_name (BadType line) = codes "BadType"
+mat_name (BusTwice line) = codes "BusTwice"
+mat_name (UnknownBus line) = codes "UnknownBus"
+mat_name (TooMany line) = codes "TooMany"
+mat_name (ShortRow line) = codes "ShortRow"
+mat_name (BadStatus line) = codes "BadStatus"
+
+-- the line of a fault, which is 0 where there is none
+abbrev pub mat_line : MatFault → ℕ
+mat_line NoBusTable = 0
+mat_line BusTableOpen = 0
+mat_line NoBranchTable = 0
+mat_line BranchTableOpen = 0
+mat_line (BadBusNumber line) = line
+mat_line (BadType line) = line
+mat_line (BusTwice line) = line
+mat_line (UnknownBus line) = line
+mat_line (TooMany line) = line
+mat_line (ShortRow line) = line
+mat_line (BadStatus line) = line
+
+-- what is said of a file's fault: the file, the line, and the fault's number and name
+abbrev pub mat_fault : MatFault → Fault
+mat_fault fault =
+    record { part = codes "matpower"; place = mat_line fault; code = mat_code fault; name = mat_name fault }
+
+-- an input fault that says what a file's fault is
+abbrev pub IsOfFile : MatFault → InputFault → Type 0
+IsOfFile fault given = fault_of given ≡ mat_fault fault
+
+-- what is said of a file with its tables that is no case: the file's fault or a table's, or nothing where memory was wanting
+abbrev pub mat_end_fault : MatEnd → Option Fault
+mat_end_fault (end.Mat fault) = Some (mat_fault fault)
+mat_end_fault (end.Table fault) = Some (table_fault fault)
+mat_end_fault end.NoMemory = None

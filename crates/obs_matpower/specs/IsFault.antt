@@ -1,0 +1,120 @@
+-- Which rows of a file have which faults, given that the rows before them have none; a table has its own where no row has one.
+use Rattle.std.specs.Prelude.{◌≡◌, ◌<◌, ◌≤◌, ◌⊎◌, ℕ, true, false, List, ◌∷◌, ◌++◌, length, None, Some}
+use Rattle.obs_case.specs.Tables.{most_rows}
+use Rattle.obs_case.specs.declared.rows.Branch.{Branch}
+use Rattle.obs_ieee_cdf.specs.Rows.{has_bus}
+use Rattle.obs_matpower.specs.declared.fault.MatFault.{MatFault}
+use Rattle.obs_matpower.specs.declared.fault.MatFault.TheVariants.{NoBusTable, BusTableOpen, NoBranchTable, BranchTableOpen, BadBusNumber, BadType, BusTwice, UnknownBus, TooMany, ShortRow, BadStatus}
+use Rattle.obs_matpower.specs.declared.part.MatTable.TheVariants as table
+use Rattle.obs_matpower.specs.Case.{AreAllBranches, AreAllBuses}
+use Rattle.obs_matpower.specs.Faults.{mat_code, mat_line}
+use Rattle.obs_matpower.specs.Fields.{is_short, number_in, status_in, type_in}
+use Rattle.obs_matpower.specs.Read.{BusRow, buses_of}
+use Rattle.obs_matpower.specs.Table.{end_of, is_ended, is_there}
+use Rattle.obs_matpower.specs.Whole.{table_rows}
+
+-- a row that may stand in its table and has values enough
+pub record IsWhole (before columns : ℕ) (row : List ℕ) : Type 0 where
+  pub room : before < most_rows
+  pub long : is_short columns row ≡ false
+
+-- a bus row on this line, after these others, has the fault. The 20,001st has one fault alone, and so has one that is short
+abbrev pub BusRowHas : List BusRow → ℕ → List ℕ → MatFault → Type 0
+BusRowHas earlier at row NoBusTable = ⊥
+BusRowHas earlier at row BusTableOpen = ⊥
+BusRowHas earlier at row NoBranchTable = ⊥
+BusRowHas earlier at row BranchTableOpen = ⊥
+BusRowHas earlier at row (BadBusNumber n) = (n ≡ at) × IsWhole (length earlier) 2 row × (number_in 1 row ≡ None)
+BusRowHas earlier at row (BadType n) = (n ≡ at) × IsWhole (length earlier) 2 row × (type_in 2 row ≡ None)
+BusRowHas earlier at row (BusTwice n) =
+    (n ≡ at) × IsWhole (length earlier) 2 row × (number : ℕ) × (number_in 1 row ≡ Some number) × (has_bus (buses_of earlier) number ≡ true)
+BusRowHas earlier at row (UnknownBus n) = ⊥
+BusRowHas earlier at row (TooMany n) = (n ≡ at) × (length earlier ≡ most_rows)
+BusRowHas earlier at row (ShortRow n) = (n ≡ at) × (length earlier < most_rows) × (is_short 2 row ≡ true)
+BusRowHas earlier at row (BadStatus n) = ⊥
+
+-- a branch row on this line, after so many others, has the fault
+abbrev pub BranchRowHas : List BusRow → ℕ → ℕ → List ℕ → MatFault → Type 0
+BranchRowHas buses before at row NoBusTable = ⊥
+BranchRowHas buses before at row BusTableOpen = ⊥
+BranchRowHas buses before at row NoBranchTable = ⊥
+BranchRowHas buses before at row BranchTableOpen = ⊥
+BranchRowHas buses before at row (BadBusNumber n) =
+    (n ≡ at) × IsWhole before 11 row × ((number_in 1 row ≡ None) ⊎ (number_in 2 row ≡ None))
+BranchRowHas buses before at row (BadType n) = ⊥
+BranchRowHas buses before at row (BusTwice n) = ⊥
+BranchRowHas buses before at row (UnknownBus n) =
+    (n ≡ at) × IsWhole before 11 row × (number : ℕ)
+    × ((number_in 1 row ≡ Some number) ⊎ (number_in 2 row ≡ Some number)) × (has_bus (buses_of buses) number ≡ false)
+BranchRowHas buses before at row (TooMany n) = (n ≡ at) × (before ≡ most_rows)
+BranchRowHas buses before at row (ShortRow n) = (n ≡ at) × (before < most_rows) × (is_short 11 row ≡ true)
+BranchRowHas buses before at row (BadStatus n) = (n ≡ at) × IsWhole before 11 row × (status_in 11 row ≡ None)
+
+-- the bus table isn't there or isn't ended
+abbrev pub BusTableHas : List ℕ → MatFault → Type 0
+BusTableHas bytes NoBusTable = is_there table.Bus bytes ≡ false
+BusTableHas bytes BusTableOpen = (is_there table.Bus bytes ≡ true) × (is_ended table.Bus bytes ≡ false)
+BusTableHas bytes NoBranchTable = ⊥
+BusTableHas bytes BranchTableOpen = ⊥
+BusTableHas bytes (BadBusNumber n) = ⊥
+BusTableHas bytes (BadType n) = ⊥
+BusTableHas bytes (BusTwice n) = ⊥
+BusTableHas bytes (UnknownBus n) = ⊥
+BusTableHas bytes (TooMany n) = ⊥
+BusTableHas bytes (ShortRow n) = ⊥
+BusTableHas bytes (BadStatus n) = ⊥
+
+-- the branch table isn't there or isn't ended
+abbrev pub BranchTableHas : List ℕ → MatFault → Type 0
+BranchTableHas bytes NoBusTable = ⊥
+BranchTableHas bytes BusTableOpen = ⊥
+BranchTableHas bytes NoBranchTable = is_there table.Branch bytes ≡ false
+BranchTableHas bytes BranchTableOpen = (is_there table.Branch bytes ≡ true) × (is_ended table.Branch bytes ≡ false)
+BranchTableHas bytes (BadBusNumber n) = ⊥
+BranchTableHas bytes (BadType n) = ⊥
+BranchTableHas bytes (BusTwice n) = ⊥
+BranchTableHas bytes (UnknownBus n) = ⊥
+BranchTableHas bytes (TooMany n) = ⊥
+BranchTableHas bytes (ShortRow n) = ⊥
+BranchTableHas bytes (BadStatus n) = ⊥
+
+-- a row of these has the fault, and the rows before it are buses
+pub record HasBusFault (rows : List (ℕ × List ℕ)) (fault : MatFault) : Type 0 where
+  pub before : List (ℕ × List ℕ)
+  pub at : ℕ
+  pub row : List ℕ
+  pub after : List (ℕ × List ℕ)
+  pub rows_are : rows ≡ before ++ (at, row) ∷ after
+  pub buses : List BusRow
+  pub buses_are : AreAllBuses before buses
+  pub has : BusRowHas buses at row fault
+
+-- a row of these has the fault, and the rows before it are branches between the buses
+pub record HasBranchFault (buses : List BusRow) (rows : List (ℕ × List ℕ)) (fault : MatFault) : Type 0 where
+  pub before : List (ℕ × List ℕ)
+  pub at : ℕ
+  pub row : List ℕ
+  pub after : List (ℕ × List ℕ)
+  pub rows_are : rows ≡ before ++ (at, row) ∷ after
+  pub branches : List Branch
+  pub branches_are : AreAllBranches buses before branches
+  pub has : BranchRowHas buses (length before) at row fault
+
+-- a fault of the branch table, after these buses: of one of its rows, or, where all of them are branches, of the table
+abbrev pub IsBranchFault : List BusRow → List ℕ → MatFault → Type 0
+IsBranchFault buses bytes fault =
+    HasBranchFault buses (table_rows table.Branch bytes) fault
+    ⊎ ((branches : List Branch) × AreAllBranches buses (table_rows table.Branch bytes) branches × BranchTableHas bytes fault)
+
+-- a fault of a file's bytes: of a row of the bus table, or, where all of them are buses, of that table, or, where it is there and
+-- ended, of the branch table
+abbrev pub IsFault : List ℕ → MatFault → Type 0
+IsFault bytes fault =
+    HasBusFault (table_rows table.Bus bytes) fault
+    ⊎ ((buses : List BusRow) × AreAllBuses (table_rows table.Bus bytes) buses
+    × (BusTableHas bytes fault ⊎ ((end_of table.Bus bytes ≡ None) × IsBranchFault buses bytes fault)))
+
+-- a fault stands on the same line as another, and has no higher number
+pub record IsNotAfter (fault other : MatFault) : Type 0 where
+  pub same_line : mat_line fault ≡ mat_line other
+  pub not_higher : mat_code fault ≤ mat_code other

@@ -1,0 +1,122 @@
+-- The buses and branches that a file's bytes are, or its first fault; and the case that it is with its tables.
+use Rattle.std.specs.Prelude.{◌≡◌, ℕ, ◌+◌, ◌&&◌, Bool, false, not, nat_le, List, [], ◌∷◌, ◌++◌, length, map, get_or, Option, None, Some, Result, Ok, Err, if◌then◌else◌}
+use Rattle.obs_case.specs.Tables.{Tables, most_rows}
+use Rattle.obs_case.specs.declared.rows.Branch.{Branch}
+use Rattle.obs_case_csv.specs.declared.faults.TableFault.{TableFault}
+use Rattle.obs_ieee_cdf.specs.Read.{tables_after}
+use Rattle.obs_ieee_cdf.specs.Rows.{Bus, branch_name, has_bus, place_of_bus, tables_of_rows}
+use Rattle.obs_matpower.specs.declared.fault.MatEnd.{MatEnd}
+use Rattle.obs_matpower.specs.declared.fault.MatEnd.TheVariants.{Mat, Table, NoMemory}
+use Rattle.obs_matpower.specs.declared.fault.MatFault.{MatFault}
+use Rattle.obs_matpower.specs.declared.fault.MatFault.TheVariants.{BadBusNumber, BadType, BusTwice, UnknownBus, TooMany, ShortRow, BadStatus}
+use Rattle.obs_matpower.specs.declared.fields.BusType.{BusType}
+use Rattle.obs_matpower.specs.declared.part.MatTable.{MatTable}
+use Rattle.obs_matpower.specs.declared.part.MatTable.TheVariants as table
+use Rattle.obs_matpower.specs.Fields.{is_isolated, is_short, is_source, number_in, status_in, type_in}
+use Rattle.obs_matpower.specs.Table.{end_of}
+use Rattle.obs_matpower.specs.Whole.{table_rows}
+
+-- what comes after an answer, where that is no fault
+abbrev pub on_ok : {A B : Type 0} → Result A MatFault → (A → Result B MatFault) → Result B MatFault
+on_ok (Ok x) next = next x
+on_ok (Err fault) next = Err fault
+
+-- the answer, unless there is a fault at its end
+abbrev pub at_end : {A : Type 0} → Option MatFault → A → Result A MatFault
+at_end None x = Ok x
+at_end (Some fault) x = Err fault
+
+-- what rows with the numbers of their lines are, each read after those before it, or the first fault
+abbrev pub read_rows : {R : Type 0} → (List R → ℕ → List ℕ → Result R MatFault) → List R → List (ℕ × List ℕ) → Result (List R) MatFault
+read_rows read earlier [] = Ok earlier
+read_rows read earlier (row ∷ rows) = on_ok (read earlier row.0 row.1) (λ r. read_rows read (earlier ++ r ∷ []) rows)
+
+-- what the rows of a table are, or its first fault
+abbrev pub read_table : {R : Type 0} → (List R → ℕ → List ℕ → Result R MatFault) → MatTable → List ℕ → Result (List R) MatFault
+read_table read table bytes = on_ok (read_rows read [] (table_rows table bytes)) (at_end (end_of table bytes))
+
+-- a bus row: the number of the bus and its type
+pub record BusRow : Type 0 where
+  pub number : ℕ
+  pub kind : BusType
+
+-- the buses of such rows, as other formats have them too, and which of them are isolated
+abbrev pub buses_of : List BusRow → List Bus
+buses_of rows = map (λ (row : BusRow). record { number = row.number; source = is_source row.kind }) rows
+
+abbrev pub isolated_of : List BusRow → List Bool
+isolated_of rows = map (λ (row : BusRow). is_isolated row.kind) rows
+
+-- the bus of a number and a type, after those before it
+abbrev pub bus_of : List BusRow → ℕ → Option ℕ → Option BusType → Result BusRow MatFault
+bus_of earlier at None kind = Err (BadBusNumber at)
+bus_of earlier at (Some number) None = Err (BadType at)
+bus_of earlier at (Some number) (Some kind) =
+    if has_bus (buses_of earlier) number then Err (BusTwice at) else Ok (record { number = number; kind = kind })
+
+-- the bus that a row is, after those before it
+abbrev pub read_bus : List BusRow → ℕ → List ℕ → Result BusRow MatFault
+read_bus earlier at row =
+    if nat_le most_rows (length earlier) then Err (TooMany at)
+    else if is_short 2 row then Err (ShortRow at)
+    else bus_of earlier at (number_in 1 row) (type_in 2 row)
+
+-- whether the bus of this number is isolated
+abbrev pub is_cut_off : List BusRow → ℕ → Bool
+is_cut_off rows number = get_or (isolated_of rows) (place_of_bus (buses_of rows) number) false
+
+-- the branch of this name between two numbers of buses. It is in service where its status says so and neither end is isolated
+abbrev pub branch_between : List BusRow → ℕ → ℕ → ℕ → Bool → Branch
+branch_between rows k from to status =
+    record {
+      name = branch_name k;
+      from = place_of_bus (buses_of rows) from;
+      to = place_of_bus (buses_of rows) to;
+      inservice = status && not (is_cut_off rows from) && not (is_cut_off rows to);
+    }
+
+-- the k-th branch, where its status is one
+abbrev pub with_status : List BusRow → ℕ → ℕ → ℕ → ℕ → Option Bool → Result Branch MatFault
+with_status rows k at from to None = Err (BadStatus at)
+with_status rows k at from to (Some status) = Ok (branch_between rows k from to status)
+
+-- the k-th branch, between two numbers and with a status
+abbrev pub branch_of : List BusRow → ℕ → ℕ → Option ℕ → Option ℕ → Option Bool → Result Branch MatFault
+branch_of rows k at None to status = Err (BadBusNumber at)
+branch_of rows k at (Some from) None status = Err (BadBusNumber at)
+branch_of rows k at (Some from) (Some to) status =
+    if has_bus (buses_of rows) from && has_bus (buses_of rows) to then with_status rows k at from to status else Err (UnknownBus at)
+
+-- the branch that a row is, after those before it
+abbrev pub read_branch : List BusRow → List Branch → ℕ → List ℕ → Result Branch MatFault
+read_branch rows earlier at row =
+    if nat_le most_rows (length earlier) then Err (TooMany at)
+    else if is_short 11 row then Err (ShortRow at)
+    else branch_of rows (length earlier + 1) at (number_in 1 row) (number_in 2 row) (status_in 11 row)
+
+-- the nodes and branches that a file's bytes are, or its first fault: those of the bus table come before those of the branch table
+abbrev pub mat_of : List ℕ → Result Tables MatFault
+mat_of bytes =
+    on_ok (read_table read_bus table.Bus bytes) (λ rows.
+    on_ok (read_table (read_branch rows) table.Branch bytes) (λ branches.
+    Ok (tables_of_rows (buses_of rows) branches)))
+
+-- the same answer, with a table's fault as an end
+abbrev pub as_end : Result Tables TableFault → Result Tables MatEnd
+as_end (Ok tables) = Ok tables
+as_end (Err fault) = Err (Table fault)
+
+-- the tables read after the nodes and branches of a file
+abbrev pub with_tables : List ℕ → Option (List ℕ) → Result Tables MatFault → Result Tables MatEnd
+with_tables meters candidates (Err fault) = Err (Mat fault)
+with_tables meters candidates (Ok tables) = as_end (tables_after meters candidates tables)
+
+-- the case that the bytes are, or the first fault: those of the file come before those of the tables
+abbrev pub case_in : List ℕ → List ℕ → Option (List ℕ) → Result Tables MatEnd
+case_in matpower meters candidates = with_tables meters candidates (mat_of matpower)
+
+-- an answer that ends the reading: want of memory, or this fault
+abbrev pub EndsCase : Result Tables MatEnd → MatEnd → Type 0
+EndsCase stated (Mat fault) = stated ≡ Err (Mat fault)
+EndsCase stated (Table fault) = stated ≡ Err (Table fault)
+EndsCase stated NoMemory = Unit {0}

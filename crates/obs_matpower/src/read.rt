@@ -1,0 +1,48 @@
+// Cases from bytes.
+ghost use Rattle.std.specs.Prelude.{◌≡◌, ◌≤◌, Ok, length, option_map, IfErr, IfOk};
+ghost use Rattle.obs_case.specs.Tables.{no_rows};
+ghost use Rattle.obs_matpower.specs.Read.{EndsCase, case_in, mat_of};
+ghost use Rattle.obs_matpower.specs.Reading.{Answers};
+ghost use Rattle.obs_text.specs.Limits.{most_file_bytes};
+
+use crate::add::{add_branches, add_buses};
+use crate::fault::MatEnd;
+use crate::part::MatTable;
+use crate::search::table;
+use crate::stop::Stop;
+use obs_case::Case;
+use obs_ieee_cdf::add_tables;
+use std::alloc::Global;
+
+// Adds the nodes and branches of a file to an empty case.
+fn add_file(alloc: Global, case: &mut Case, matpower: &[u8]) -> Result<(), Stop>
+    requires empty { case.old ≡ no_rows }
+    requires few { length matpower.now ≤ most_file_bytes }
+    ensures read { Answers (mat_of matpower.now) (λ tables. tables) case.new result }
+{
+    let mut isolated = Vec::new(alloc);
+    let buses = table(matpower, MatTable::Bus);
+    add_buses(case, &mut isolated, &buses)?;
+    let branches = table(matpower, MatTable::Branch);
+    add_branches(case, &isolated, &branches)
+}
+
+/// The case that a MATPOWER case file of version 2 is, with a table of meters and, where it is
+/// given, a table of candidates. Nodes are named by their numbers, branches `L1`, `L2`, and so on.
+/// There are no switches. Refuses with the first fault of the bus table, then with that of the
+/// branch table, then with those of the tables.
+pub fn read_matpower(
+    alloc: Global,
+    matpower: &[u8],
+    meters: &[u8],
+    candidates: Option<&[u8]>,
+) -> Result<Case, MatEnd>
+    requires few { length matpower.now ≤ most_file_bytes }
+    ensures read { IfOk result (λ case. case_in matpower.now meters.now (option_map (λ bytes. bytes.now) candidates.entry) ≡ Ok case) }
+    ensures refused { IfErr result (EndsCase (case_in matpower.now meters.now (option_map (λ bytes. bytes.now) candidates.entry))) }
+{
+    let mut case = Case::new(alloc);
+    add_file(alloc, &mut case, matpower)?;
+    add_tables(alloc, &mut case, meters, candidates)?;
+    Ok(case)
+}
