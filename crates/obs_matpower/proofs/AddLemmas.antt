@@ -1,6 +1,6 @@
 -- What a case answers to the rows of a file.
-use Rattle.std.proofs.Common.{◌≡◌, ℕ, ◌+◌, ◌<◌, Bool, true, false, not, ◌&&◌, ◌⊎◌, cond, List, [], ◌∷◌, ◌++◌, length, map, get_or, decimal, Option, Some, None, Result, Ok, Err, refl, sym, ap, ◌∙◌, subst, inl, inr, arith}
-use Rattle.std.proofs.lemmas.Bool.{cases_Bool, lt-leb}
+use Rattle.std.proofs.Common.{◌≡◌, ℕ, ◌+◌, ◌<◌, Bool, true, false, not, ◌&&◌, cond, List, [], ◌∷◌, ◌++◌, length, map, get_or, decimal, Option, Some, None, Result, Ok, Err, refl, sym, ap, ◌∙◌, subst, inl, inr, arith}
+use Rattle.std.proofs.lemmas.Bool.{lt-leb}
 use Rattle.std.proofs.lemmas.List.{length-map, map-append}
 use Rattle.std.specs.Str.{bytes_eq}
 use Rattle.obs_case.specs.Adds.{Refuses, node_fault, node_of, with_branch, with_node}
@@ -11,7 +11,7 @@ use Rattle.obs_case.specs.declared.rows.Node.{Node}
 use Rattle.obs_case.specs.declared.table.AddFault.{AddFault}
 use Rattle.obs_case.specs.declared.table.AddFault.TheVariants.{NameTwice, UnknownNode, UnknownPlace, TooMany, NoMemory}
 use Rattle.obs_case.proofs.NameLemmas.{missed, position-some}
-use Rattle.obs_ieee_cdf.specs.Rows.{Bus, branch_name, has_bus, node_of_bus, place_of_bus, tables_of_rows}
+use Rattle.obs_ieee_cdf.specs.Rows.{branch_name, has_bus, node_of_bus, place_of_bus, tables_of_rows}
 use Rattle.obs_ieee_cdf.proofs.RowLemmas.{name_fault-open, new_name, old_name}
 use Rattle.obs_matpower.specs.declared.fault.MatFault.{MatFault}
 use Rattle.obs_matpower.specs.declared.fault.MatFault.TheVariants as mat

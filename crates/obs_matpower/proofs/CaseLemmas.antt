@@ -1,5 +1,5 @@
 -- What is read from a file with its tables, and what cases are.
-use Rattle.std.proofs.Common.{◌≡◌, ℕ, List, [], Option, Some, None, Result, Ok, Err, refl, sym, ap, ◌∙◌, subst}
+use Rattle.std.proofs.Common.{◌≡◌, ℕ, List, [], Option, Result, Ok, Err, refl, sym, ap, ◌∙◌, subst}
 use Rattle.obs_case.specs.Tables.{IsValid, Tables}
 use Rattle.obs_case_csv.specs.declared.faults.Table.TheVariants.{Meters, Candidates}
 use Rattle.obs_case_csv.specs.declared.faults.TableFault.{TableFault}

@@ -1,5 +1,5 @@
 -- Reading a whole file.
-use Rattle.std.proofs.Common.{◌≡◌, ℕ, ◌+◌, ◌≤◌, Bool, true, false, not, cond, List, [], ◌∷◌, ◌++◌, length, take, is_none, Option, Some, None, Result, Ok, Err, refl, sym, ap, ◌∙◌, length-append, inl, inr, arith}
+use Rattle.std.proofs.Common.{◌≡◌, ℕ, ◌+◌, ◌≤◌, Bool, List, [], ◌∷◌, length, take, is_none, Option, Some, None, Result, Ok, Err, refl, sym, ap, ◌∙◌, length-append, inl, inr, arith}
 use Rattle.std.proofs.lemmas.Bool.{cases_Bool}
 use Rattle.std.proofs.lemmas.List.{length-drop, length-take, take-append-drop}
 use Rattle.std.proofs.lemmas.List.Folds.{concat-append}
@@ -7,7 +7,6 @@ use Rattle.std.specs.List.{before_first, concat, position_or_len}
 use Rattle.obs_text.specs.Limits.{most_file_bytes}
 use Rattle.obs_text.specs.Lines.{ended_lines}
 use Rattle.obs_case.specs.Tables.{Tables}
-use Rattle.obs_case.specs.declared.rows.Branch.{Branch}
 use Rattle.obs_case.proofs.NameLemmas.{place-there}
 use Rattle.obs_ieee_cdf.proofs.EndedLemmas.{concat-ended_lines, length-ended_lines}
 use Rattle.obs_ieee_cdf.specs.Rows.{tables_of_rows}
@@ -18,7 +17,7 @@ use Rattle.obs_matpower.specs.declared.stop.Stop.{Stop}
 use Rattle.obs_matpower.specs.declared.stop.Stop.TheVariants.{Fault, NoMemory}
 use Rattle.obs_matpower.specs.Lines.{closes, is_closing, is_opening, opens}
 use Rattle.obs_matpower.specs.Read.{BusRow, at_end, buses_of, mat_of, on_ok, read_branch, read_bus, read_rows, read_table}
-use Rattle.obs_matpower.specs.Reading.{Answers, AreBuses, held_branches, held_buses, read_text}
+use Rattle.obs_matpower.specs.Reading.{Answers, AreBuses, held_branches, read_text}
 use Rattle.obs_matpower.specs.Table.{after_opening, end_of, from_first, is_there, line_of, text_of, until_closing}
 use Rattle.obs_matpower.specs.Whole.{table_rows}
 use Rattle.obs_matpower.proofs.NumberLemmas.{AreBuses-none}

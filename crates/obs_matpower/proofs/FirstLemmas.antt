@@ -1,5 +1,5 @@
 -- The first fault of a file.
-use Rattle.std.proofs.Common.{◌≡◌, ℕ, suc, ◌+◌, ◌<◌, ◌≤◌, ◌⊎◌, Bool, true, false, not, cond, leb, List, [], ◌∷◌, ◌++◌, length, Option, Some, None, Result, Ok, Err, MatchResult, refl, sym, ap, ◌∙◌, subst, inl, inr, arith}
+use Rattle.std.proofs.Common.{◌≡◌, ℕ, suc, ◌+◌, ◌≤◌, ◌⊎◌, Bool, true, false, not, cond, leb, List, [], ◌∷◌, ◌++◌, length, Option, Some, None, Result, Ok, Err, MatchResult, refl, sym, ap, ◌∙◌, subst, inl, inr, arith}
 use Rattle.std.proofs.lemmas.Bool.{cases_Bool, leb-false, leb-true, le-leb, lt-leb}
 use Rattle.obs_case.specs.Tables.{Tables, most_rows}
 use Rattle.obs_case.specs.declared.rows.Branch.{Branch}
@@ -9,9 +9,9 @@ use Rattle.obs_matpower.specs.declared.fault.MatFault.TheVariants.{NoBusTable, B
 use Rattle.obs_matpower.specs.declared.fields.BusType.{BusType}
 use Rattle.obs_matpower.specs.declared.part.MatTable.{MatTable}
 use Rattle.obs_matpower.specs.declared.part.MatTable.TheVariants as table
-use Rattle.obs_matpower.specs.Case.{AreAllBranches, AreAllBuses, AreBranchRows, AreBusRows}
+use Rattle.obs_matpower.specs.Case.{AreBranchRows, AreBusRows}
 use Rattle.obs_matpower.specs.Fields.{is_short, number_in, status_in, type_in}
-use Rattle.obs_matpower.specs.IsFault.{BranchRowHas, BranchTableHas, BusRowHas, BusTableHas, HasBranchFault, HasBusFault, IsBranchFault, IsFault, IsNotAfter, IsWhole}
+use Rattle.obs_matpower.specs.IsFault.{BranchRowHas, BranchTableHas, BusRowHas, BusTableHas, IsBranchFault, IsFault, IsNotAfter, IsWhole}
 use Rattle.obs_matpower.specs.Laws.{FirstFaultOfFile}
 use Rattle.obs_matpower.specs.Read.{BusRow, at_end, branch_of, bus_of, buses_of, mat_of, on_ok, read_branch, read_bus, read_rows, read_table, with_status}
 use Rattle.obs_matpower.specs.Table.{end_of, is_ended, is_there}

@@ -1,5 +1,5 @@
 -- Lines that were looked for, and the text between two of them.
-use Rattle.std.proofs.Common.{◌≡◌, ℕ, suc, ◌+◌, ◌-◌, ◌<◌, ◌≤◌, Bool, true, false, not, ◌||◌, cond, List, [], ◌∷◌, ◌++◌, length, take, drop, refl, sym, ap, ◌∙◌, append_assoc, append-nil, length-append, inl, inr, arith}
+use Rattle.std.proofs.Common.{◌≡◌, ℕ, ◌+◌, ◌-◌, ◌≤◌, Bool, true, false, ◌||◌, cond, List, [], ◌∷◌, ◌++◌, length, take, drop, refl, sym, ap, ◌∙◌, append_assoc, append-nil, length-append, inl, inr, arith}
 use Rattle.std.proofs.Math.Numerals.{one-add}
 use Rattle.std.proofs.Math.Seq.{take-append_seam}
 use Rattle.std.proofs.lemmas.Bool.{cases_Bool, false≢true}
@@ -8,13 +8,12 @@ use Rattle.std.proofs.lemmas.List.Folds.{concat-append, list_any-append}
 use Rattle.std.specs.List.{after_first, before_first, concat, list_any, position_or_len}
 use Rattle.std.specs.Str.Lines.{strip_carriage_return}
 use Rattle.obs_text.specs.Lines.{after_line, content, ended_lines, is_feed, lines_of}
-use Rattle.obs_text.specs.Limits.{most_file_bytes}
 use Rattle.obs_case.proofs.NameLemmas.{place-absent, place-there}
 use Rattle.obs_ieee_cdf.proofs.EndedLemmas.{IsNextLine, concat-ended_lines, next_line}
 use Rattle.obs_ieee_cdf.proofs.SearchLemmas.{Searched, found, passed_more}
 use Rattle.obs_matpower.specs.declared.part.MatTable.{MatTable}
-use Rattle.obs_matpower.specs.Lines.{closes, is_closing, is_opening, is_percent, opens, without_comment}
-use Rattle.obs_matpower.specs.Table.{IsFound, after_opening, from_first, is_there, text_of, until_closing}
+use Rattle.obs_matpower.specs.Lines.{closes, is_closing, is_opening, is_percent, opens}
+use Rattle.obs_matpower.specs.Table.{IsFound, from_first, is_there, text_of, until_closing}
 
 module _ (p : List ℕ → Bool) where
   -- what stands before the line and from it on are the bytes

@@ -1,6 +1,6 @@
 -- What is read from rows, and what rows are.
-use Rattle.std.proofs.Common.{◌≡◌, ℕ, suc, ◌+◌, ◌<◌, ◌≤◌, Bool, true, false, not, ◌&&◌, eqb, leb, List, [], ◌∷◌, ◌++◌, length, map, get_or, Option, Some, None, Result, Ok, Err, refl, sym, ap, ◌∙◌, subst, inl, inr, append_assoc, append-nil, length-append, arith}
-use Rattle.std.proofs.lemmas.Bool.{cases_Bool, lt-leb}
+use Rattle.std.proofs.Common.{◌≡◌, ℕ, suc, ◌+◌, ◌<◌, ◌≤◌, false, not, ◌&&◌, eqb, List, [], ◌∷◌, ◌++◌, length, map, None, Result, Ok, Err, refl, sym, ap, ◌∙◌, subst, append_assoc, append-nil, length-append, arith}
+use Rattle.std.proofs.lemmas.Bool.{lt-leb}
 use Rattle.std.specs.List.{AllByRecursion, IsDistinct}
 use Rattle.obs_case.specs.Tables.{Tables, most_rows}
 use Rattle.obs_case.specs.declared.rows.Branch.{Branch}
@@ -10,15 +10,14 @@ use Rattle.obs_matpower.specs.declared.fault.MatFault.{MatFault}
 use Rattle.obs_matpower.specs.declared.part.MatTable.{MatTable}
 use Rattle.obs_matpower.specs.declared.part.MatTable.TheVariants as table
 use Rattle.obs_matpower.specs.Case.{AreAllBranches, AreAllBuses, AreBranchRows, AreBusRows, IsBranchRow, IsBusRow, IsFile, isolated_at}
-use Rattle.obs_matpower.specs.Fields.{is_short, number_in, status_in, type_in}
 use Rattle.obs_matpower.specs.Laws.{FileIsRead}
-use Rattle.obs_matpower.specs.Read.{BusRow, at_end, branch_between, buses_of, is_cut_off, isolated_of, mat_of, on_ok, read_branch, read_bus, read_rows, read_table}
+use Rattle.obs_matpower.specs.Read.{BusRow, at_end, buses_of, is_cut_off, mat_of, on_ok, read_branch, read_bus, read_rows, read_table}
 use Rattle.obs_matpower.specs.Reading.{AreBuses}
 use Rattle.obs_matpower.specs.Table.{end_of}
 use Rattle.obs_matpower.specs.Whole.{table_rows}
 use Rattle.obs_matpower.proofs.FileLemmas.{after_buses, table_read}
 use Rattle.obs_matpower.proofs.NumberLemmas.{AreBuses-none}
-use Rattle.obs_matpower.proofs.RowReads.{BranchRead, BusRead, read_branch-is, read_bus-good, read_bus-is, read_rows-good}
+use Rattle.obs_matpower.proofs.RowReads.{BranchRead, read_branch-is, read_bus-good, read_bus-is, read_rows-good}
 
 -- the rows that are read stand after the earlier ones, and there is room for all
 abbrev pub Reads : {R : Type 0} → List R → List (ℕ × List ℕ) → List R → (List R → Type 0) → Type 0

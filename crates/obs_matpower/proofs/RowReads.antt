@@ -1,17 +1,16 @@
 -- What rows that are read are.
-use Rattle.std.proofs.Common.{◌≡◌, ℕ, suc, ◌+◌, ◌<◌, ◌≤◌, Bool, true, false, ◌&&◌, cond, leb, List, [], ◌∷◌, ◌++◌, length, map, Option, Some, None, Result, Ok, Err, refl, sym, ap, ◌∙◌, subst, inl, inr, arith}
+use Rattle.std.proofs.Common.{◌≡◌, ℕ, ◌+◌, ◌<◌, Bool, true, false, ◌&&◌, leb, List, [], ◌∷◌, ◌++◌, length, Option, Some, None, Result, Ok, Err, refl, sym, ap, ◌∙◌, subst, inl, inr, arith}
 use Rattle.std.proofs.lemmas.Bool.{and_parts, cases_Bool, leb-false}
 use Rattle.std.proofs.lemmas.List.{map-append}
 use Rattle.obs_case.specs.Tables.{most_rows}
 use Rattle.obs_case.specs.declared.rows.Branch.{Branch}
 use Rattle.obs_ieee_cdf.specs.Reading.{AreNamed}
-use Rattle.obs_ieee_cdf.specs.Rows.{Bus, branch_name, has_bus}
+use Rattle.obs_ieee_cdf.specs.Rows.{branch_name, has_bus}
 use Rattle.obs_ieee_cdf.proofs.NumberLemmas.{AreNamed-push}
 use Rattle.obs_matpower.specs.declared.fault.MatFault.{MatFault}
-use Rattle.obs_matpower.specs.declared.fault.MatFault.TheVariants.{BusTwice, UnknownBus}
 use Rattle.obs_matpower.specs.declared.fields.BusType.{BusType}
 use Rattle.obs_matpower.specs.Fields.{is_short, is_source, number_in, status_in, type_in}
-use Rattle.obs_matpower.specs.Read.{BusRow, branch_between, branch_of, bus_of, buses_of, on_ok, read_branch, read_bus, read_rows, with_status}
+use Rattle.obs_matpower.specs.Read.{BusRow, branch_between, branch_of, bus_of, buses_of, on_ok, read_branch, read_bus, read_rows}
 use Rattle.obs_matpower.specs.Reading.{AreBuses}
 use Rattle.obs_matpower.proofs.NumberLemmas.{AreBuses-push, number_in-lt}
 

@@ -1,5 +1,5 @@
 -- One step over the rows of a text.
-use Rattle.std.proofs.Common.{◌≡◌, ℕ, ◌+◌, Bool, true, false, List, [], ◌∷◌, ◌++◌, refl, sym, ap, ◌∙◌}
+use Rattle.std.proofs.Common.{◌≡◌, ℕ, ◌+◌, Bool, true, false, List, [], ◌∷◌, ◌++◌, sym, ap, ◌∙◌}
 use Rattle.std.specs.List.{after_first, before_first}
 use Rattle.obs_text.specs.Lines.{after_line}
 use Rattle.obs_matpower.specs.Lines.{is_semicolon}

@@ -1,14 +1,13 @@
 -- A case that is read is valid.
-use Rattle.std.proofs.Common.{◌≡◌, ◌==◌, ℕ, suc, ◌+◌, ◌<◌, ◌≤◌, true, false, List, [], ◌∷◌, ◌++◌, length, map, decimal, Result, Ok, refl, sym, ap, ◌∙◌, subst, arith}
+use Rattle.std.proofs.Common.{◌≡◌, ◌==◌, ℕ, ◌+◌, ◌<◌, true, List, [], ◌∷◌, ◌++◌, length, map, Ok, refl, sym, ap, ◌∙◌, subst, arith}
 use Rattle.std.proofs.lemmas.List.{length-map, map-append}
-use Rattle.obs_case.specs.Tables.{IsValid, Tables, most_rows, node_names, no_rows}
+use Rattle.obs_case.specs.Tables.{IsValid}
 use Rattle.obs_case.specs.declared.rows.Branch.{Branch}
 use Rattle.obs_case.specs.declared.rows.Node.{Node}
-use Rattle.obs_text.specs.Names.{is_name}
 use Rattle.obs_case.proofs.NameLemmas.{place-there}
 use Rattle.obs_case.proofs.ValidLemmas.{valid-branches, valid-no_rows, valid-nodes}
 use Rattle.obs_ieee_cdf.specs.Reading.{AreNamed}
-use Rattle.obs_ieee_cdf.specs.Rows.{Bus, branch_name, has_bus, node_of_bus, place_of_bus, tables_of_rows}
+use Rattle.obs_ieee_cdf.specs.Rows.{Bus, has_bus, node_of_bus, place_of_bus, tables_of_rows}
 use Rattle.obs_ieee_cdf.proofs.NumberLemmas.{has_name-branch, is_name-branch, is_name-decimal}
 use Rattle.obs_matpower.specs.Fields.{is_source}
 use Rattle.obs_matpower.specs.Read.{BusRow, branch_between, buses_of, read_branch, read_bus, read_rows}

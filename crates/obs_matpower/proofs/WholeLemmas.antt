@@ -1,5 +1,5 @@
 -- The rows of a table's text are those of the whole lines of the file.
-use Rattle.std.proofs.Common.{◌≡◌, ℕ, suc, ◌+◌, ◌-◌, Bool, true, false, not, ◌&&◌, ◌||◌, cond, ◌≤◌, zero, Some, None, subst, List, [], ◌∷◌, ◌++◌, length, take, drop, is_none, refl, sym, ap, ◌∙◌, append-nil, append_assoc, take_all, inl, inr, arith}
+use Rattle.std.proofs.Common.{◌≡◌, ℕ, suc, ◌+◌, ◌-◌, Bool, true, false, not, ◌&&◌, ◌||◌, cond, ◌≤◌, zero, Some, None, subst, List, [], ◌∷◌, ◌++◌, length, take, drop, is_none, refl, sym, ap, ◌∙◌, append-nil, take_all, inl, inr, arith}
 use Rattle.std.proofs.Math.Numerals.{one-add}
 use Rattle.std.proofs.lemmas.Bool.{cases_Bool, false≢true}
 use Rattle.std.proofs.Math.Seq.{drop-append_seam}
@@ -17,7 +17,6 @@ use Rattle.obs_matpower.specs.Rows.{first_code, line_rows, rows_from, rows_of}
 use Rattle.obs_matpower.specs.Table.{after_opening, end_of, from_first, is_ended, is_there, line_of, missing, left_open, text_of, until_closing}
 use Rattle.obs_matpower.specs.Whole.{numbered_rows, table_lines, table_rows}
 use Rattle.obs_matpower.proofs.FoundLemmas.{any_in_front, before-longer}
-use Rattle.obs_matpower.proofs.SplitLemmas.{line_rows-nil}
 use Rattle.obs_matpower.proofs.TextLemmas.{after_line-none, feed_in_first, no_feed, first_code-content, first_code-whole, rows_of-first}
 
 -- ---- where a `]` ends a line

@@ -1,5 +1,5 @@
 -- The reading of bytes and what bytes are.
-use Rattle.std.specs.Prelude.{◌≡◌, ◌++◌, ◌∷◌, [], ℕ, List, true, is_none, Option, MatchResult, Ok, Err}
+use Rattle.std.specs.Prelude.{◌≡◌, ℕ, List, is_none, Option, MatchResult, Ok, Err}
 use Rattle.obs_case.specs.Tables.{IsValid, Tables}
 use Rattle.obs_matpower.specs.declared.fault.MatEnd.{MatEnd}
 use Rattle.obs_matpower.specs.declared.fault.MatFault.{MatFault}

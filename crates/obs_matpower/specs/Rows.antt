@@ -1,5 +1,5 @@
 -- The rows of a table's text, and their values.
-use Rattle.std.specs.Prelude.{◌≡◌, ◌<◌, ◌^◌, ℕ, ◌+◌, ◌==◌, ◌&&◌, ◌||◌, Bool, not, nat_lt, List, [], ◌∷◌, ◌++◌, length, map, filter, if◌then◌else◌}
+use Rattle.std.specs.Prelude.{ℕ, ◌+◌, ◌==◌, ◌&&◌, ◌||◌, Bool, not, nat_lt, List, [], ◌∷◌, ◌++◌, length, map, filter, if◌then◌else◌}
 use Rattle.std.specs.List.{before_first, list_any, slice_split}
 use Rattle.std.specs.Str.Lines.{strip_carriage_return}
 use Rattle.obs_text.specs.Lines.{content, ended_lines, is_feed}

@@ -34,8 +34,10 @@ fn stop(fault: AddFault, cause: MatFault) -> Stop
 
 // Adds the bus that a row is.
 fn add_bus(case: &mut Case, isolated: &mut Vec<bool>, row: &[u8], at: u32) -> Result<(), Stop>
-    ensures read { (earlier : List BusRow) → AreBuses (buses_of earlier) → case.old ≡ (held_buses earlier).0 → isolated.old.items ≡ (held_buses earlier).1 →
-        Answers (read_bus earlier at row.now) (λ bus. held_buses (earlier ++ bus ∷ [])) (case.new, isolated.new.items) result }
+    ensures read { (earlier : List BusRow) → AreBuses (buses_of earlier) → case.old ≡ (held_buses earlier).0 →
+        isolated.old.items ≡ (held_buses earlier).1 →
+        Answers (read_bus earlier at row.now) (λ bus. held_buses (earlier ++ bus ∷ []))
+        (case.new, isolated.new.items) result }
 {
     if case.nodes().len() >= MOST_ROWS {
         return Err(Stop::Fault(MatFault::TooMany(at)));
@@ -69,7 +71,9 @@ pub(crate) fn add_buses(
     requires low { part.now.line ≤ most_file_bytes }
     requires empty { case.old ≡ no_rows }
     requires none { isolated.old.items ≡ [] }
-    ensures read { Answers (read_text read_bus (is_none part.now.end) part.now.line part.now.text.now part.now.end) held_buses (case.new, isolated.new.items) result }
+    ensures read { Answers (read_text read_bus
+        (is_none part.now.end) part.now.line part.now.text.now part.now.end) held_buses
+        (case.new, isolated.new.items) result }
 {
     for row in rows(part) {
         add_bus(case, isolated, row.bytes, row.line)?;
@@ -92,7 +96,8 @@ fn is_isolated_at(isolated: &[bool], at: u32) -> bool
 
 // Whether a branch is in service that has this status and stands between the buses at two positions.
 fn is_in_service(status: bool, isolated: &[bool], first: u32, second: u32) -> bool
-    ensures inservice { result ≡ (status && not (get_or isolated.now first false) && not (get_or isolated.now second false)) }
+    ensures inservice { result ≡ (status && not (get_or isolated.now first false) && not
+        (get_or isolated.now second false)) }
 {
     status && !is_isolated_at(isolated, first) && !is_isolated_at(isolated, second)
 }
@@ -108,9 +113,11 @@ fn add_between(
 ) -> Result<(), Stop>
     requires from { from < 1000000000 }
     requires to { to < 1000000000 }
-    ensures read { (buses : List BusRow) (earlier : List Branch) → AreBuses (buses_of buses) → AreNamed 1 earlier → length earlier < most_rows →
+    ensures read { (buses : List BusRow) (earlier : List Branch) → AreBuses (buses_of buses) → AreNamed 1 earlier →
+        length earlier < most_rows →
         case.old ≡ held_branches buses earlier → isolated.now ≡ isolated_of buses →
-        Answers (branch_of buses (length earlier + 1) at (Some from) (Some to) status) (λ branch. held_branches buses (earlier ++ branch ∷ [])) case.new result }
+        Answers (branch_of buses (length earlier + 1) at (Some from) (Some to) status) (λ branch. held_branches buses
+        (earlier ++ branch ∷ [])) case.new result }
 {
     let (mut from_digits, mut to_digits) = (Digits::new(), Digits::new());
     let from = from_digits.text(from);
@@ -137,8 +144,10 @@ fn add_between(
 
 // Adds the branch that a row is.
 fn add_branch(case: &mut Case, isolated: &[bool], row: &[u8], at: u32) -> Result<(), Stop>
-    ensures read { (buses : List BusRow) (earlier : List Branch) → AreBuses (buses_of buses) → AreNamed 1 earlier → case.old ≡ held_branches buses earlier → isolated.now ≡ isolated_of buses →
-        Answers (read_branch buses earlier at row.now) (λ branch. held_branches buses (earlier ++ branch ∷ [])) case.new result }
+    ensures read { (buses : List BusRow) (earlier : List Branch) → AreBuses (buses_of buses) → AreNamed 1 earlier →
+        case.old ≡ held_branches buses earlier → isolated.now ≡ isolated_of buses →
+        Answers (read_branch buses earlier at row.now) (λ branch. held_branches buses
+        (earlier ++ branch ∷ [])) case.new result }
 {
     if case.branches().len() >= MOST_ROWS {
         return Err(Stop::Fault(MatFault::TooMany(at)));
@@ -160,8 +169,10 @@ fn add_branch(case: &mut Case, isolated: &[bool], row: &[u8], at: u32) -> Result
 pub(crate) fn add_branches(case: &mut Case, isolated: &[bool], part: &MatPart) -> Result<(), Stop>
     requires few { length part.now.text.now ≤ most_file_bytes }
     requires low { part.now.line ≤ most_file_bytes }
-    ensures read { (buses : List BusRow) → AreBuses (buses_of buses) → case.old ≡ held_branches buses [] → isolated.now ≡ isolated_of buses →
-        Answers (read_text (read_branch buses) (is_none part.now.end) part.now.line part.now.text.now part.now.end) (held_branches buses) case.new result }
+    ensures read { (buses : List BusRow) → AreBuses (buses_of buses) → case.old ≡ held_branches buses [] →
+        isolated.now ≡ isolated_of buses →
+        Answers (read_text (read_branch buses) (is_none part.now.end) part.now.line part.now.text.now part.now.end)
+        (held_branches buses) case.new result }
 {
     for row in rows(part) {
         add_branch(case, isolated, row.bytes, row.line)?;

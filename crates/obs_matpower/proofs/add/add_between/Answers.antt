@@ -1,4 +1,4 @@
-use Rattle.std.proofs.Common.{◌≡◌, ◌+◌, ◌<◌, Some, None, Ok, ◌∷◌, ◌++◌, [], List, length, decimal, sym, ap, ◌∙◌, subst, arith}
+use Rattle.std.proofs.Common.{◌≡◌, ◌+◌, Some, Ok, ◌∷◌, ◌++◌, [], length, decimal, sym, ap, ◌∙◌, subst, arith}
 use Rattle.obs_text.specs.Names.{is_name}
 use Rattle.obs_case.specs.Adds.{with_branch}
 use Rattle.obs_case.specs.Adds as case
@@ -6,7 +6,7 @@ use Rattle.obs_case.specs.Tables.{node_names, position_of}
 use Rattle.obs_case.specs.declared.rows.Branch.{Branch}
 use Rattle.obs_ieee_cdf.specs.Rows.{branch_name}
 use Rattle.obs_ieee_cdf.proofs.NumberLemmas.{is_name-branch}
-use Rattle.obs_matpower.specs.Read.{BusRow, branch_of, with_status}
+use Rattle.obs_matpower.specs.Read.{branch_of, with_status}
 use Rattle.obs_matpower.specs.Reading.{Answers, held_branches}
 use Rattle.obs_matpower.proofs.AddLemmas.{both_known, branch_added, first_unknown, second_unknown}
 use Rattle.obs_matpower.proofs.add.add_between.Goals as goal

@@ -1,12 +1,10 @@
-use Rattle.std.proofs.Common.{◌≡◌, ◌<◌, None, Some, Err, List, [], ◌∷◌, ◌++◌, length, map, decimal, false, sym, ap, ◌∙◌, subst, arith, rules}
-use Rattle.std.proofs.lemmas.List.{length-map}
+use Rattle.std.proofs.Common.{◌≡◌, ◌<◌, None, Some, Err, [], ◌∷◌, ◌++◌, length, decimal, false, sym, ap, ◌∙◌, subst, arith}
 use Rattle.obs_text.specs.Names.{is_name}
 use Rattle.obs_case.specs.Adds.{Refuses, node_fault, node_of, with_node}
 use Rattle.obs_case.specs.Tables.{most_rows}
-use Rattle.obs_ieee_cdf.specs.Rows.{node_of_bus}
 use Rattle.obs_ieee_cdf.proofs.NumberLemmas.{is_name-decimal}
-use Rattle.obs_matpower.specs.Fields.{is_short, is_source, number_in, type_in}
-use Rattle.obs_matpower.specs.Read.{BusRow, buses_of, read_bus}
+use Rattle.obs_matpower.specs.Fields.{is_short, number_in, type_in}
+use Rattle.obs_matpower.specs.Read.{BusRow, read_bus}
 use Rattle.obs_matpower.specs.Reading.{Answers, held_buses}
 use Rattle.obs_matpower.proofs.AddLemmas.{any_after, bus_accepted, bus_refused, nodes-length}
 use Rattle.obs_matpower.proofs.NumberLemmas.{number_in-lt}

@@ -1,4 +1,4 @@
-use Rattle.std.proofs.Common.{◌≡◌, [], is_none, sym, ap, ◌∙◌}
+use Rattle.std.proofs.Common.{is_none, ap, ◌∙◌}
 use Rattle.obs_case.specs.Tables.{no_rows}
 use Rattle.obs_matpower.specs.Left.{rows_left}
 use Rattle.obs_matpower.specs.Read.{buses_of, read_bus}

@@ -2,7 +2,7 @@ use Rattle.std.proofs.Common.{◌≡◌, Bool, true, false, not, ◌&&◌, refl,
 use Rattle.std.specs.List.{list_any}
 use Rattle.obs_text.specs.Lines.{is_feed, lines_of}
 use Rattle.obs_matpower.specs.Lines.{without_comment}
-use Rattle.obs_matpower.proofs.TextLemmas.{after_line-none, first_code-content, first_code-whole, first_content}
+use Rattle.obs_matpower.proofs.TextLemmas.{after_line-none, first_code-content, first_content}
 use Rattle.obs_matpower.proofs.row_iter.next_line.Goals as goal
 use Rattle.obs_matpower.proofs.row_iter.next_line.Goals.{else-ended-via-then-ended+else-not-contains, else-ended-via-else-ended}
 

@@ -1,10 +1,5 @@
-use Rattle.std.proofs.Common.{◌≡◌, ◌<◌, ◌+◌, ◌*◌, List, [], ◌∷◌, ◌++◌, length, sym, ap, ◌∙◌, true, false, arith, rules}
+use Rattle.std.proofs.Common.{◌≡◌, ◌<◌, [], length, sym, ap, ◌∙◌, arith, rules}
 use Rattle.std.proofs.lemmas.List.{nil_from_length}
-use Rattle.std.specs.List.{after_first, before_first}
-use Rattle.obs_text.specs.Lines.{after_line}
-use Rattle.obs_matpower.specs.Left.{rows_left}
-use Rattle.obs_matpower.specs.Lines.{is_semicolon}
-use Rattle.obs_matpower.specs.Rows.{first_code, has_value, line_rows, rows_of}
 use Rattle.obs_matpower.proofs.RowSteps.{next_line_left, no_rows_left, row_left, row_passed}
 use Rattle.obs_matpower.proofs.TextLemmas.{line_less}
 use Rattle.obs_matpower.proofs.row_iter.RowsIterator.next.Goals as goal

@@ -1,7 +1,6 @@
-use Rattle.std.proofs.Common.{◌≡◌, ◌<◌, ◌∷◌, length, sym, ap, ◌∙◌, arith, rules}
+use Rattle.std.proofs.Common.{◌≡◌, ◌<◌, ◌∷◌, length, sym, ap, ◌∙◌, rules}
 use Rattle.std.proofs.lemmas.List.{nil_from_length}
-use Rattle.std.specs.List.{after_first, before_first}
-use Rattle.obs_matpower.specs.Rows.{is_separator, values_of}
+use Rattle.obs_matpower.specs.Rows.{values_of}
 use Rattle.obs_matpower.proofs.SplitLemmas.{values-nil, values_first, values_skip}
 use Rattle.obs_matpower.proofs.value_iter.ValuesIterator.next.Goals as goal
 
