@@ -1,8 +1,8 @@
 // Placements of sessions, and the other answers after them.
 ghost use Rattle.std.specs.Prelude.{◌≡◌, ◌<◌, true, length};
 
-use crate::tests::{name, path, triangle};
-use crate::{NoMemory, Session};
+use crate::Session;
+use crate::tests::{begin, name, path, triangle};
 use obs_assign::{Assignment, Steps};
 use obs_case::{Case, Kind, MOST_PRICE};
 use obs_placement::{Layer, Placement, Plan};
@@ -145,23 +145,43 @@ fn lends_placement<L: Ledger>(session: &mut Session, row: &Row, steps: &mut Step
     is_placement(found.placement, row.placement) && found.pairs.length() as usize == row.pairs.len()
 }
 
-// Whether a session with the case answers as expected: the placement, each other answer, and once more the placement.
-fn answers<L: Ledger>(alloc: Global, blank: Blank, case: Case, row: &Row) -> Result<bool, NoMemory>
+fn has_others<L: Ledger>(session: &mut Session, row: &Row, steps: &mut Steps<L>) -> bool
+    ensures offered { session.new.offered ≡ session.old.offered }
+{
+    let bound = has_bound(session, row, steps);
+    let critical = has_critical(session, row, steps);
+    let islands = has_islands(session, row, steps);
+    let first = has_first(session, row, steps);
+    bound && critical && islands && first
+}
+
+// Whether a session answers as expected: the placement, each other answer, and once more the placement.
+fn has_all<L: Ledger>(session: &mut Session, row: &Row, steps: &mut Steps<L>) -> bool
+    requires candidates { session.old.offered ≡ true }
+{
+    let placed = has_placement(session, row, steps);
+    let others = has_others(session, row, steps);
+    let again = has_placement(session, row, steps);
+    let lent = lends_placement(session, row, steps);
+    placed && others && again && lent
+}
+
+// The same, with steps of its own.
+fn answers<L: Ledger>(blank: Blank, session: &mut Session, row: &Row) -> bool
     requires name { blank.name ≡ L.name }
     requires parts { blank.parts ≡ L.parts }
     requires some { 0 < L.parts }
+    requires candidates { session.old.offered ≡ true }
 {
     let mut steps = Steps::<L>::begin(blank);
-    let mut session = Session::begin(alloc, case, true, &mut steps)?;
-    Ok(
-        has_placement(&mut session, row, &mut steps)
-            && has_bound(&mut session, row, &mut steps)
-            && has_critical(&mut session, row, &mut steps)
-            && has_islands(&mut session, row, &mut steps)
-            && has_first(&mut session, row, &mut steps)
-            && has_placement(&mut session, row, &mut steps)
-            && lends_placement(&mut session, row, &mut steps),
-    )
+    has_all(session, row, &mut steps)
+}
+
+// Begins a session with the case, and says whether it answers as expected.
+fn begins(rt: &impl Abort, alloc: Global, case: Case, row: &Row) {
+    let begun = begin::<Brand>(alloc, Blank::new(1), case, true);
+    let mut session = begun.expect(rt, "there is memory");
+    assert!(rt; answers::<Brand>(Blank::new(1), &mut session, row));
 }
 
 fn plan(
@@ -240,13 +260,13 @@ fn placements_of_sessions(rt: HostRuntime) -> Result<(), Fail> {
             (b'r', Kind::Flow, b'3', 5),
         ],
     );
-    assert!(rt; answers::<Brand>(alloc, Blank::new(1), dear, &dear_row()) == Ok(true));
+    begins(&rt, alloc, dear, &dear_row());
     let short = path_with(&rt, alloc, &[(b'p', Kind::Flow, b'2', 0)]);
-    assert!(rt; answers::<Brand>(alloc, Blank::new(1), short, &short_row()) == Ok(true));
+    begins(&rt, alloc, short, &short_row());
     let free = path_with(&rt, alloc, &[(b'p', Kind::Flow, b'3', 0)]);
-    assert!(rt; answers::<Brand>(alloc, Blank::new(1), free, &free_row()) == Ok(true));
+    begins(&rt, alloc, free, &free_row());
     let mut idle = triangle(&rt, alloc);
     add_candidates(&rt, &mut idle, &[(b'p', Kind::Flow, b'2', 9)]);
-    assert!(rt; answers::<Brand>(alloc, Blank::new(1), idle, &idle_row()) == Ok(true));
+    begins(&rt, alloc, idle, &idle_row());
     Ok(())
 }

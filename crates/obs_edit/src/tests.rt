@@ -1,5 +1,5 @@
 // Sessions as they begin. Names are short and lie in the ranges of names.
-ghost use Rattle.std.specs.Prelude.{◌≡◌, ◌<◌, IsTrue};
+ghost use Rattle.std.specs.Prelude.{◌≡◌, ◌<◌, IfOk, IsTrue};
 ghost use Rattle.obs_text.specs.Names.{is_name};
 
 use crate::{NoMemory, Session, State};
@@ -52,7 +52,7 @@ fn add_meters(rt: &impl Abort, case: &mut Case, meters: &[(u8, Kind, u8)]) {
     }
 }
 
-fn begin<L: Ledger>(
+pub(crate) fn begin<L: Ledger>(
     alloc: Global,
     blank: Blank,
     case: Case,
@@ -61,6 +61,7 @@ fn begin<L: Ledger>(
     requires name { blank.name ≡ L.name }
     requires parts { blank.parts ≡ L.parts }
     requires some { 0 < L.parts }
+    ensures offered { IfOk result (λ s. s.offered ≡ offered) }
 {
     let mut steps = Steps::<L>::begin(blank);
     Session::begin(alloc, case, offered, &mut steps)
