@@ -45,7 +45,7 @@ pub(crate) fn outcome_over(
     let words = texts(alloc, words)?;
     let mut files = MemFiles::new(entries, 7, Vec::from_slice(alloc, read_fails)?);
     let mut input = MemSource::new(Vec::new(alloc), 1, Vec::new(alloc));
-    let room = 65536;
+    let room = 1_000_000;
     let mut output = MemSink::with_room(alloc, room, MOVED, Vec::from_slice(alloc, write_fails)?)
         .ok()
         .ok_or("no room")?;
@@ -230,6 +230,34 @@ fn a_table_has_many_rows(rt: HostRuntime) -> Result<(), Fail> {
     assert!(rt;
         some.text
             .ends_with(b"node\tn299\tn299\ncount\tbuses\t300\nend\n")
+    );
+    Ok(())
+}
+
+// A switch table of so many rows, each between the first node and another one or itself.
+fn many_switches(alloc: Global, rows: u32) -> Result<Vec<u8>, Fail> {
+    let mut digits = Digits::new();
+    let mut bytes = Vec::from_slice(alloc, b"switch,from,to,closed\n")?;
+    for row in 0..rows {
+        bytes.extend_from_slice(b"s")?;
+        bytes.extend_from_slice(digits.text(u64::from(row)))?;
+        bytes.extend_from_slice(b",n0,n")?;
+        bytes.extend_from_slice(digits.text(u64::from(row)))?;
+        bytes.extend_from_slice(b",1\n")?;
+    }
+    Ok(bytes)
+}
+
+#[test]
+fn full_tables_have_buses(rt: HostRuntime) -> Result<(), Fail> {
+    let nodes = many_nodes(rt.alloc(), 20000)?;
+    let switches = many_switches(rt.alloc(), 20000)?;
+    let files = [nodes.as_slice(), switches.as_slice()];
+    let full = outcome(rt.alloc(), &TOPOLOGY, &files, &[], &[])?;
+    assert!(rt; full.status == Status::Done);
+    assert!(rt;
+        full.text
+            .ends_with(b"node\tn19999\tn0\ncount\tbuses\t1\nend\n")
     );
     Ok(())
 }
