@@ -17,7 +17,7 @@ use Rattle.obs_matpower.specs.Table.{IsFound, from_first, is_there, text_of, unt
 
 module _ (p : List ℕ → Bool) where
   -- what stands before the line and from it on are the bytes
-  parts_are : (bytes : List ℕ) → concat (before_first p (ended_lines bytes)) ++ concat (from_first p (ended_lines bytes)) ≡ bytes
+  pub parts_are : (bytes : List ℕ) → concat (before_first p (ended_lines bytes)) ++ concat (from_first p (ended_lines bytes)) ≡ bytes
   parts_are bytes =
       let lines = ended_lines bytes in
       let at = position_or_len p lines in
@@ -57,7 +57,7 @@ pub any_in_front : (p : ℕ → Bool) (n : ℕ) (xs : List ℕ) → list_any p (
 any_in_front p n xs some =
     ap (list_any p) (sym (take-append-drop n xs)) ∙ list_any-append p (take n xs) (drop n xs) ∙ ap (λ b. b || list_any p (drop n xs)) some
 
-any_strip : (p : ℕ → Bool) (xs : List ℕ) → list_any p (strip_carriage_return xs) ≡ true → list_any p xs ≡ true
+pub any_strip : (p : ℕ → Bool) (xs : List ℕ) → list_any p (strip_carriage_return xs) ≡ true → list_any p xs ≡ true
 any_strip p xs some = by _ some
   where
     by : (b : Bool) → list_any p (cond b (take (length xs - 1) xs) xs) ≡ true → list_any p xs ≡ true
@@ -65,7 +65,7 @@ any_strip p xs some = by _ some
     by false is = is
 
 -- a line that ends a table has a `]`
-has_closing : (line : List ℕ) → closes line ≡ true → list_any is_closing line ≡ true
+pub has_closing : (line : List ℕ) → closes line ≡ true → list_any is_closing line ≡ true
 has_closing line is =
     any_in_front is_closing (position_or_len is_feed line) line
     (any_strip is_closing (before_first is_feed line)
@@ -89,7 +89,7 @@ text_missing table bytes none =
     let gone : from_first (opens table) lines ≡ [] = drop_all (position_or_len (opens table) lines) lines (omega (arith, place-absent (opens table) lines none)) in
     ap (λ ls. concat (until_closing (ended_lines (after_first is_opening (concat ls))))) gone
 
-until_none : (lines : List (List ℕ)) → list_any closes lines ≡ false → until_closing lines ≡ lines
+pub until_none : (lines : List (List ℕ)) → list_any closes lines ≡ false → until_closing lines ≡ lines
 until_none [] none = refl
 until_none (line ∷ lines) none =
     elim (cases_Bool (closes line)) [

@@ -9,6 +9,7 @@ pub mod ReadLemmas
 pub mod RowReads
 pub mod RowSteps
 pub mod SplitLemmas
+pub mod TextLaws
 pub mod TextLemmas
 pub mod ValidLemmas
 pub mod WholeLemmas

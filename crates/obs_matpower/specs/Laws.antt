@@ -1,5 +1,5 @@
 -- The reading of bytes and what bytes are.
-use Rattle.std.specs.Prelude.{◌≡◌, ℕ, List, is_none, Option, MatchResult, Ok, Err}
+use Rattle.std.specs.Prelude.{◌≡◌, ◌++◌, ◌∷◌, [], ℕ, Bool, true, false, List, is_none, Option, MatchResult, Ok, Err}
 use Rattle.obs_case.specs.Tables.{IsValid, Tables}
 use Rattle.obs_matpower.specs.declared.fault.MatEnd.{MatEnd}
 use Rattle.obs_matpower.specs.declared.fault.MatFault.{MatFault}
@@ -8,8 +8,19 @@ use Rattle.obs_matpower.specs.Case.{IsCase, IsFile}
 use Rattle.obs_matpower.specs.IsFault.{IsFault, IsNotAfter}
 use Rattle.obs_matpower.specs.Read.{case_in, mat_of}
 use Rattle.obs_matpower.specs.Rows.{rows_of}
-use Rattle.obs_matpower.specs.Table.{end_of, line_of, text_of}
+use Rattle.obs_matpower.specs.Table.{end_of, is_ended, is_there, line_of, text_of}
 use Rattle.obs_matpower.specs.Whole.{table_rows}
+
+-- what follows a text: the `]` that ends it, or nothing
+abbrev pub EndsAt : Bool → List ℕ → Type 0
+EndsAt true back = (rest : List ℕ) × (back ≡ 0x5D ∷ rest)
+EndsAt false back = back ≡ []
+
+-- the text of a table that is there stands in the bytes between a `[` and a `]`, or goes to their end where the table isn't ended
+abbrev pub TextStandsBetween : Type 0
+TextStandsBetween =
+    (table : MatTable) (bytes : List ℕ) → is_there table bytes ≡ true →
+    (front back : List ℕ) × (bytes ≡ front ++ 0x5B ∷ (text_of table bytes ++ back)) × EndsAt (is_ended table bytes) back
 
 -- the rows of a table's text are those of the whole lines of the file
 abbrev pub RowsAreOfLines : Type 0

@@ -1,5 +1,11 @@
 //! What bytes are, and what is read from them.
-ghost use Rattle.obs_matpower.specs.Laws.{CaseIsRead, CasesAreValid, FaultWhereNoCase, FileIsRead, FirstFaultOfFile, RowsAreOfLines};
+ghost use Rattle.obs_matpower.specs.Laws.{CaseIsRead, CasesAreValid, FaultWhereNoCase, FileIsRead, FirstFaultOfFile, RowsAreOfLines, TextStandsBetween};
+
+/// The text of a `table` that is there stands in the file between a `[` and a `]`, or goes to the
+/// end of the file where the table isn't ended.
+pub fn text_stands_between()
+    ensures text { TextStandsBetween }
+{}
 
 /// The rows that `rows` gives of a `table` are those of the whole lines of the file, from what
 /// follows the `[` on, up to the next `]` that is in no comment.

@@ -1,6 +1,6 @@
 ghost use Rattle.std.specs.Prelude.{◌≤◌, length};
 
-use crate::{MatEnd, MatFault, MatPart, MatTable, read_matpower, rows, table, values};
+use crate::{MatEnd, MatFault, MatPart, MatRow, MatTable, read_matpower, rows, table, values};
 use obs_case::Case;
 use obs_case_csv::{RowFault, Table, TableFault};
 use obs_text::{Digits, InputFault};
@@ -80,38 +80,73 @@ fn has_branch(case: &Case, at: usize, name: &[u8], ends: (u32, u32), inservice: 
     }
 }
 
-fn is_three(case: &Case) -> bool {
+fn has_sizes(case: &Case) -> bool {
     case.nodes().len() == 4
         && case.switches().is_empty()
         && case.branches().len() == 4
         && case.meters().len() == 2
         && case.candidates().len() == 1
-        && has_node(case, 0, b"1", true)
+}
+
+fn has_nodes(case: &Case) -> bool {
+    has_node(case, 0, b"1", true)
         && has_node(case, 1, b"2", false)
         && has_node(case, 2, b"3", false)
         && has_node(case, 3, b"4", false)
-        && has_branch(case, 0, b"L1", (0, 1), true)
+}
+
+fn has_branches(case: &Case) -> bool {
+    has_branch(case, 0, b"L1", (0, 1), true)
         && has_branch(case, 1, b"L2", (1, 2), true)
         && has_branch(case, 2, b"L3", (2, 0), false)
         && has_branch(case, 3, b"L4", (2, 3), false)
 }
 
 #[test]
-fn worked_cases(rt: HostRuntime) -> Result<(), Fail> {
+fn worked_case(rt: HostRuntime) -> Result<(), Fail> {
     let file = three(rt.alloc(), FIFTH, NINTH, b"];\n")?;
     let case = read(rt.alloc(), file.as_slice()).ok().ok_or("no case")?;
-    assert!(rt; is_three(&case));
+    assert!(rt; has_sizes(&case));
+    assert!(rt; has_nodes(&case));
+    assert!(rt; has_branches(&case));
+    Ok(())
+}
+
+#[test]
+fn with_tabs_and_comments(rt: HostRuntime) -> Result<(), Fail> {
     let case = read(rt.alloc(), with_tabs()).ok().ok_or("no case")?;
-    assert!(rt; is_three(&case));
-    let open = three(rt.alloc(), FIFTH, NINTH, b"")?;
-    let end = end_of(rt.alloc(), open.as_slice());
-    assert!(rt; end == Some(MatEnd::Mat(MatFault::BranchTableOpen)));
-    let short = three(rt.alloc(), FIFTH, b" 1 2 0 0 0 0 0 0 0 0;\n", b"];\n")?;
-    let end = end_of(rt.alloc(), short.as_slice());
-    assert!(rt; end == Some(MatEnd::Mat(MatFault::ShortRow(9))));
-    let twice = three(rt.alloc(), b" 2 1 0 0; 1,1,0,0\n", NINTH, b"];\n")?;
-    let end = end_of(rt.alloc(), twice.as_slice());
-    assert!(rt; end == Some(MatEnd::Mat(MatFault::BusTwice(5))));
+    assert!(rt; has_sizes(&case));
+    assert!(rt; has_nodes(&case));
+    assert!(rt; has_branches(&case));
+    Ok(())
+}
+
+// Lines 5, 9 and 14 of the worked file, and its fault.
+fn three_case(i: u8) -> (&'static [u8], &'static [u8], &'static [u8], MatFault) {
+    match i {
+        0 => (FIFTH, NINTH, b"", MatFault::BranchTableOpen),
+        1 => (
+            FIFTH,
+            b" 1 2 0 0 0 0 0 0 0 0;\n",
+            b"];\n",
+            MatFault::ShortRow(9),
+        ),
+        _ => (
+            b" 2 1 0 0; 1,1,0,0\n",
+            NINTH,
+            b"];\n",
+            MatFault::BusTwice(5),
+        ),
+    }
+}
+
+#[test]
+fn faults_of_the_worked_case(rt: HostRuntime) -> Result<(), Fail> {
+    for i in 0..3u8 {
+        let (fifth, ninth, last, fault) = three_case(i);
+        let file = three(rt.alloc(), fifth, ninth, last)?;
+        assert!(rt; end_of(rt.alloc(), file.as_slice()) == Some(MatEnd::Mat(fault)));
+    }
     Ok(())
 }
 
@@ -130,86 +165,81 @@ fn fronts_of_a_file(rt: HostRuntime) -> Result<(), Fail> {
     Ok(())
 }
 
-// Where tables start and end.
-#[test]
-fn places_of_tables(rt: HostRuntime) {
-    for (file, fault) in [
-        (b"".as_slice(), Some(MatFault::NoBusTable)),
-        (b"% mpc.bus = [\n".as_slice(), Some(MatFault::NoBusTable)),
-        (b"mpc.bus = % [\n".as_slice(), Some(MatFault::NoBusTable)),
-        (
-            b"mpc.bus_name = [\n1 3\n]".as_slice(),
-            Some(MatFault::NoBusTable),
-        ),
-        (b"mpc.bus(1) = [1 3]".as_slice(), Some(MatFault::NoBusTable)),
-        (
-            b"a = 1; mpc.bus = [1 3]".as_slice(),
-            Some(MatFault::NoBusTable),
-        ),
-        (b"mpc.bus = {[1 3]}".as_slice(), Some(MatFault::NoBusTable)),
-        (b"mpc.bus\n= [1 3]".as_slice(), Some(MatFault::NoBusTable)),
-        (b"mpc.bus=[".as_slice(), Some(MatFault::BusTableOpen)),
-        (
-            b"mpc.bus=[1 3 % ]\n".as_slice(),
-            Some(MatFault::BusTableOpen),
-        ),
-        (b"mpc.bus=[1 3\r".as_slice(), Some(MatFault::BusTableOpen)),
-        (b"mpc.bus=[1 3;1 3".as_slice(), Some(MatFault::BusTwice(1))),
-        (b"mpc.bus=[]".as_slice(), Some(MatFault::NoBranchTable)),
-        (
-            b"mpc.bus=[]; mpc.branch=[];".as_slice(),
-            Some(MatFault::NoBranchTable),
-        ),
-        (
-            b"mpc.bus = [\n1 3\nmpc.branch = [\n1 1 0 0 0 0 0 0 0 0 1\n];".as_slice(),
+// Where tables start and end: a file, and its fault.
+fn place_case(i: u8) -> (&'static [u8], Option<MatFault>) {
+    match i {
+        0 => (b"", Some(MatFault::NoBusTable)),
+        1 => (b"% mpc.bus = [\n", Some(MatFault::NoBusTable)),
+        2 => (b"mpc.bus = % [\n", Some(MatFault::NoBusTable)),
+        3 => (b"mpc.bus_name = [\n1 3\n]", Some(MatFault::NoBusTable)),
+        4 => (b"mpc.bus(1) = [1 3]", Some(MatFault::NoBusTable)),
+        5 => (b"a = 1; mpc.bus = [1 3]", Some(MatFault::NoBusTable)),
+        6 => (b"mpc.bus = {[1 3]}", Some(MatFault::NoBusTable)),
+        7 => (b"mpc.bus\n= [1 3]", Some(MatFault::NoBusTable)),
+        8 => (b"mpc.bus=[", Some(MatFault::BusTableOpen)),
+        9 => (b"mpc.bus=[1 3 % ]\n", Some(MatFault::BusTableOpen)),
+        10 => (b"mpc.bus=[1 3\r", Some(MatFault::BusTableOpen)),
+        11 => (b"mpc.bus=[1 3;1 3", Some(MatFault::BusTwice(1))),
+        12 => (b"mpc.bus=[]", Some(MatFault::NoBranchTable)),
+        13 => (b"mpc.bus=[]; mpc.branch=[];", Some(MatFault::NoBranchTable)),
+        14 => (
+            b"mpc.bus = [\n1 3\nmpc.branch = [\n1 1 0 0 0 0 0 0 0 0 1\n];",
             Some(MatFault::BadBusNumber(3)),
         ),
-        (
-            b"mpc.bus=[1 3]\nmpc.branch=[1 1 0 0 0 0 0 0 0 0 1\n".as_slice(),
+        15 => (
+            b"mpc.bus=[1 3]\nmpc.branch=[1 1 0 0 0 0 0 0 0 0 1\n",
             Some(MatFault::BranchTableOpen),
         ),
-        (b"mpc.bus=[]\nmpc.branch=[]".as_slice(), None),
-        (
-            b"mpc.branch=[1 1 0 0 0 0 0 0 0 0 1]\n \t mpc.bus\t= \t[1 3]x".as_slice(),
+        16 => (b"mpc.bus=[]\nmpc.branch=[]", None),
+        17 => (
+            b"mpc.branch=[1 1 0 0 0 0 0 0 0 0 1]\n \t mpc.bus\t= \t[1 3]x",
             None,
         ),
-        (
-            b"mpc.bus_name=[9 9];\nmpc.bus=[% ]\n1 3% ]\n];\nmpc.bus=[x\nmpc.branch=[]".as_slice(),
+        _ => (
+            b"mpc.bus_name=[9 9];\nmpc.bus=[% ]\n1 3% ]\n];\nmpc.bus=[x\nmpc.branch=[]",
             None,
         ),
-    ] {
+    }
+}
+
+#[test]
+fn places_of_tables(rt: HostRuntime) {
+    for i in 0..19u8 {
+        let (file, fault) = place_case(i);
         assert!(rt; end_of(rt.alloc(), file) == fault.map(MatEnd::Mat));
     }
 }
 
-// Bus rows of a file whose branch table has no rows.
+// Bus rows of a file whose branch table has no rows, and their fault.
+fn bus_case(i: u8) -> (&'static [u8], Option<MatFault>) {
+    match i {
+        0 => (b"1 3", None),
+        1 => (b"\n1. 3.0;2.000 01, ,,; ;\t\n 123456789 4 x ...", None),
+        2 => (b"1e3 3", Some(MatFault::BadBusNumber(1))),
+        3 => (b"-1 3", Some(MatFault::BadBusNumber(1))),
+        4 => (b"1.50 3", Some(MatFault::BadBusNumber(1))),
+        5 => (b"1.0.0 3", Some(MatFault::BadBusNumber(1))),
+        6 => (b".0 3", Some(MatFault::BadBusNumber(1))),
+        7 => (b"1234567890 3", Some(MatFault::BadBusNumber(1))),
+        8 => (b"x x", Some(MatFault::BadBusNumber(1))),
+        9 => (b"1 0", Some(MatFault::BadType(1))),
+        10 => (b"1 5", Some(MatFault::BadType(1))),
+        11 => (b"1 3.5", Some(MatFault::BadType(1))),
+        12 => (b"1 3\r", Some(MatFault::BadType(1))),
+        13 => (b"1 3\r\n\r\n", None),
+        14 => (b"\n\n1 2\n\n1 9", Some(MatFault::BadType(5))),
+        15 => (b"1 2;007 2;7.0 2", Some(MatFault::BusTwice(1))),
+        16 => (b"1 2\n2 1\n2 1;x", Some(MatFault::BusTwice(3))),
+        17 => (b"1", Some(MatFault::ShortRow(1))),
+        18 => (b"x % 3", Some(MatFault::ShortRow(1))),
+        _ => (b"1 3\n2...\n1", Some(MatFault::ShortRow(2))),
+    }
+}
+
 #[test]
 fn bus_rows(rt: HostRuntime) -> Result<(), Fail> {
-    for (buses, fault) in [
-        (b"1 3".as_slice(), None),
-        (
-            b"\n1. 3.0;2.000 01, ,,; ;\t\n 123456789 4 x ...".as_slice(),
-            None,
-        ),
-        (b"1e3 3".as_slice(), Some(MatFault::BadBusNumber(1))),
-        (b"-1 3".as_slice(), Some(MatFault::BadBusNumber(1))),
-        (b"1.50 3".as_slice(), Some(MatFault::BadBusNumber(1))),
-        (b"1.0.0 3".as_slice(), Some(MatFault::BadBusNumber(1))),
-        (b".0 3".as_slice(), Some(MatFault::BadBusNumber(1))),
-        (b"1234567890 3".as_slice(), Some(MatFault::BadBusNumber(1))),
-        (b"x x".as_slice(), Some(MatFault::BadBusNumber(1))),
-        (b"1 0".as_slice(), Some(MatFault::BadType(1))),
-        (b"1 5".as_slice(), Some(MatFault::BadType(1))),
-        (b"1 3.5".as_slice(), Some(MatFault::BadType(1))),
-        (b"1 3\r".as_slice(), Some(MatFault::BadType(1))),
-        (b"1 3\r\n\r\n".as_slice(), None),
-        (b"\n\n1 2\n\n1 9".as_slice(), Some(MatFault::BadType(5))),
-        (b"1 2;007 2;7.0 2".as_slice(), Some(MatFault::BusTwice(1))),
-        (b"1 2\n2 1\n2 1;x".as_slice(), Some(MatFault::BusTwice(3))),
-        (b"1".as_slice(), Some(MatFault::ShortRow(1))),
-        (b"x % 3".as_slice(), Some(MatFault::ShortRow(1))),
-        (b"1 3\n2...\n1".as_slice(), Some(MatFault::ShortRow(2))),
-    ] {
+    for i in 0..20u8 {
+        let (buses, fault) = bus_case(i);
         let mut file = Vec::from_slice(rt.alloc(), b"mpc.bus=[")?;
         file.extend_from_slice(buses)?;
         file.extend_from_slice(if buses.contains(&b'%') { b"\n]" } else { b"]" })?;
@@ -219,46 +249,30 @@ fn bus_rows(rt: HostRuntime) -> Result<(), Fail> {
     Ok(())
 }
 
-// Branch rows between two buses; the table starts on line 2.
-#[test]
-fn branch_rows(rt: HostRuntime) -> Result<(), Fail> {
-    for (branches, fault) in [
-        (b"1 7 0 0 0 0 0 0 0 0 1".as_slice(), None),
-        (b"07 1. x x x x x x x 5 0.0 9 x".as_slice(), None),
-        (
-            b"1 7 0 0 0 0 0 0 0 0".as_slice(),
-            Some(MatFault::ShortRow(2)),
-        ),
-        (b"x 9".as_slice(), Some(MatFault::ShortRow(2))),
-        (
-            b"1 x 0 0 0 0 0 0 0 0 2".as_slice(),
-            Some(MatFault::BadBusNumber(2)),
-        ),
-        (
-            b"x 9 0 0 0 0 0 0 0 0 1".as_slice(),
-            Some(MatFault::BadBusNumber(2)),
-        ),
-        (
-            b"9 x 0 0 0 0 0 0 0 0 1".as_slice(),
-            Some(MatFault::BadBusNumber(2)),
-        ),
-        (
-            b"1 9 0 0 0 0 0 0 0 0 2".as_slice(),
-            Some(MatFault::UnknownBus(2)),
-        ),
-        (
-            b"9 1 0 0 0 0 0 0 0 0 1".as_slice(),
-            Some(MatFault::UnknownBus(2)),
-        ),
-        (
-            b"\n1 7 0 0 0 0 0 0 0 0 2\n9 9".as_slice(),
+// Branch rows between two buses, and their fault; the table starts on line 2.
+fn branch_case(i: u8) -> (&'static [u8], Option<MatFault>) {
+    match i {
+        0 => (b"1 7 0 0 0 0 0 0 0 0 1", None),
+        1 => (b"07 1. x x x x x x x 5 0.0 9 x", None),
+        2 => (b"1 7 0 0 0 0 0 0 0 0", Some(MatFault::ShortRow(2))),
+        3 => (b"x 9", Some(MatFault::ShortRow(2))),
+        4 => (b"1 x 0 0 0 0 0 0 0 0 2", Some(MatFault::BadBusNumber(2))),
+        5 => (b"x 9 0 0 0 0 0 0 0 0 1", Some(MatFault::BadBusNumber(2))),
+        6 => (b"9 x 0 0 0 0 0 0 0 0 1", Some(MatFault::BadBusNumber(2))),
+        7 => (b"1 9 0 0 0 0 0 0 0 0 2", Some(MatFault::UnknownBus(2))),
+        8 => (b"9 1 0 0 0 0 0 0 0 0 1", Some(MatFault::UnknownBus(2))),
+        9 => (
+            b"\n1 7 0 0 0 0 0 0 0 0 2\n9 9",
             Some(MatFault::BadStatus(3)),
         ),
-        (
-            b"1 7 0 0 0 0 0 0 0 1 x".as_slice(),
-            Some(MatFault::BadStatus(2)),
-        ),
-    ] {
+        _ => (b"1 7 0 0 0 0 0 0 0 1 x", Some(MatFault::BadStatus(2))),
+    }
+}
+
+#[test]
+fn branch_rows(rt: HostRuntime) -> Result<(), Fail> {
+    for i in 0..11u8 {
+        let (branches, fault) = branch_case(i);
         let mut file = Vec::from_slice(rt.alloc(), b"mpc.bus=[1 3;7 1]\nmpc.branch=[")?;
         file.extend_from_slice(branches)?;
         file.extend_from_slice(b"]")?;
@@ -285,101 +299,115 @@ fn large(alloc: Global, buses: u64, branches: u64) -> Result<Vec<u8>, Fail> {
 
 #[test]
 fn full_tables(rt: HostRuntime) -> Result<(), Fail> {
-    let file = large(rt.alloc(), 20_000, 1)?;
-    let end = end_of(rt.alloc(), file.as_slice());
-    assert!(rt; end == Some(MatEnd::Mat(MatFault::ShortRow(20_005))));
-    let file = large(rt.alloc(), 20_001, 1)?;
-    let end = end_of(rt.alloc(), file.as_slice());
-    assert!(rt; end == Some(MatEnd::Mat(MatFault::TooMany(20_002))));
-    let file = large(rt.alloc(), 2, 20_000)?;
-    let end = end_of(rt.alloc(), file.as_slice());
-    assert!(rt; end == Some(MatEnd::Mat(MatFault::TooMany(20_006))));
+    for i in 0..3u8 {
+        let (buses, branches, fault) = match i {
+            0 => (20_000, 1, MatFault::ShortRow(20_005)),
+            1 => (20_001, 1, MatFault::TooMany(20_002)),
+            _ => (2, 20_000, MatFault::TooMany(20_006)),
+        };
+        let file = large(rt.alloc(), buses, branches)?;
+        assert!(rt; end_of(rt.alloc(), file.as_slice()) == Some(MatEnd::Mat(fault)));
+    }
     Ok(())
 }
 
 // The faults of the file come before those of the tables.
-#[test]
-fn faults_of_tables(rt: HostRuntime) -> Result<(), Fail> {
-    let meters = b"meter,kind,at,inservice\nF1,flow,L5,1\n".as_slice();
-    let candidates = b"candidate,kind,at,price\nC1,zero,5,5\n".as_slice();
-    let file = three(rt.alloc(), FIFTH, NINTH, b"];\n")?;
-    let matpower = front(file.as_slice(), MOST_BYTES);
-    let end = read_matpower(rt.alloc(), matpower, meters, Some(candidates)).err();
-    let row = TableFault {
-        table: Table::Meters,
+fn table_end(table: Table) -> Option<MatEnd> {
+    let code = RowFault::UnknownPlace;
+    Some(MatEnd::Table(TableFault {
+        table,
         row: 1,
-        code: RowFault::UnknownPlace,
-    };
-    assert!(rt; end == Some(MatEnd::Table(row)));
-    let end = read_matpower(rt.alloc(), matpower, METERS, Some(candidates)).err();
-    let row = TableFault {
-        table: Table::Candidates,
-        row: 1,
-        code: RowFault::UnknownPlace,
-    };
-    assert!(rt; end == Some(MatEnd::Table(row)));
-    let end = read_matpower(rt.alloc(), front(matpower, 9), meters, None).err();
-    assert!(rt; end == Some(MatEnd::Mat(MatFault::NoBusTable)));
-    assert!(rt; MatEnd::Table(row).fault() == Some(InputFault::from(row)));
-    assert!(rt; MatEnd::NoMemory.fault().is_none());
-    Ok(())
+        code,
+    }))
 }
 
 #[test]
-fn borrowed_parts(rt: HostRuntime) {
+fn faults_of_tables(rt: HostRuntime) {
+    let file = front(with_tabs(), MOST_BYTES);
+    let meters = b"meter,kind,at,inservice\nF1,flow,L5,1\n".as_slice();
+    let candidates = b"candidate,kind,at,price\nC1,zero,5,5\n".as_slice();
+    let end = read_matpower(rt.alloc(), file, meters, Some(candidates)).err();
+    assert!(rt; end == table_end(Table::Meters));
+    let end = read_matpower(rt.alloc(), file, METERS, Some(candidates)).err();
+    assert!(rt; end == table_end(Table::Candidates));
+    let end = read_matpower(rt.alloc(), front(file, 9), meters, None).err();
+    assert!(rt; end == Some(MatEnd::Mat(MatFault::NoBusTable)));
+}
+
+#[test]
+fn borrowed_tables(rt: HostRuntime) {
     let part = table(front(with_tabs(), MOST_BYTES), MatTable::Bus);
     assert!(rt; part.line == 5 && part.end.is_none());
     assert!(rt; part.text.starts_with(b"\r\n\t1") && part.text.ends_with(b"0;\r\n"));
-    let part = table(b"a\nmpc.branch=[ 1,2 % ]\n\n3\t;;4\r]\n", MatTable::Branch);
+    let bytes = b"a\nmpc.branch=[ 1,2 % ]\n\n3\t;;4\r]\n".as_slice();
+    let part = table(front(bytes, MOST_BYTES), MatTable::Branch);
     assert!(rt; part.text == b" 1,2 % ]\n\n3\t;;4\r".as_slice() && part.line == 2);
-    let missing = table(b"a\nmpc.branch=[ 1,2 % ]\n\n3\t;;4\r]\n", MatTable::Bus);
+    let missing = table(front(bytes, MOST_BYTES), MatTable::Bus);
     assert!(rt; missing.text.is_empty() && missing.line == 0);
     assert!(rt; missing.end == Some(MatFault::NoBusTable));
+}
+
+fn is_row(row: Option<MatRow>, line: u32, bytes: &[u8]) -> bool {
+    match row {
+        Some(row) => row.line == line && row.bytes == bytes,
+        None => false,
+    }
+}
+
+#[test]
+fn borrowed_rows(rt: HostRuntime) {
     let part = MatPart {
         text: b" 1,2 % ]\n\n3\t;;4\r",
         line: 2,
         end: None,
     };
     let mut all = rows(&part);
-    let row = all.next();
-    assert!(rt; row.map(|row| row.line) == Some(2));
-    assert!(rt; row.map(|row| row.bytes) == Some(b" 1,2 ".as_slice()));
-    let row = all.next();
-    assert!(rt; row.map(|row| row.line) == Some(4));
-    assert!(rt; row.map(|row| row.bytes) == Some(b"3\t".as_slice()));
-    let row = all.next();
-    assert!(rt; row.map(|row| row.bytes) == Some(b"4\r".as_slice()));
-    assert!(rt; all.next().is_none() && all.next().is_none());
+    assert!(rt; is_row(all.next(), 2, b" 1,2 "));
+    assert!(rt; is_row(all.next(), 4, b"3\t"));
+    assert!(rt; is_row(all.next(), 4, b"4\r"));
+    assert!(rt; all.next().is_none());
     let mut some = values(b", 1,2 \t3");
     assert!(rt; some.next() == Some(b"1".as_slice()));
     assert!(rt; some.next() == Some(b"2".as_slice()));
     assert!(rt; some.next() == Some(b"3".as_slice()));
-    assert!(rt; some.next().is_none() && values(b" \t,").next().is_none());
+    assert!(rt; some.next().is_none());
+}
+
+// A fault, and its line, number and name.
+fn fault_case(i: u8) -> (MatFault, u32, u32, &'static [u8]) {
+    match i {
+        0 => (MatFault::NoBusTable, 0, 1, b"NoBusTable"),
+        1 => (MatFault::BusTableOpen, 0, 2, b"BusTableOpen"),
+        2 => (MatFault::NoBranchTable, 0, 3, b"NoBranchTable"),
+        3 => (MatFault::BranchTableOpen, 0, 4, b"BranchTableOpen"),
+        4 => (MatFault::BadBusNumber(4), 4, 5, b"BadBusNumber"),
+        5 => (MatFault::BadType(4), 4, 6, b"BadType"),
+        6 => (MatFault::BusTwice(5), 5, 7, b"BusTwice"),
+        7 => (MatFault::UnknownBus(4), 4, 8, b"UnknownBus"),
+        8 => (MatFault::TooMany(20_005), 20_005, 9, b"TooMany"),
+        9 => (MatFault::ShortRow(9), 9, 10, b"ShortRow"),
+        _ => (MatFault::BadStatus(9), 9, 11, b"BadStatus"),
+    }
 }
 
 #[test]
 fn faults_become_input_faults(rt: HostRuntime) {
-    for (fault, line, number, name) in [
-        (MatFault::NoBusTable, 0, 1, b"NoBusTable".as_slice()),
-        (MatFault::BusTableOpen, 0, 2, b"BusTableOpen".as_slice()),
-        (MatFault::NoBranchTable, 0, 3, b"NoBranchTable".as_slice()),
-        (
-            MatFault::BranchTableOpen,
-            0,
-            4,
-            b"BranchTableOpen".as_slice(),
-        ),
-        (MatFault::BadBusNumber(4), 4, 5, b"BadBusNumber".as_slice()),
-        (MatFault::BadType(4), 4, 6, b"BadType".as_slice()),
-        (MatFault::BusTwice(5), 5, 7, b"BusTwice".as_slice()),
-        (MatFault::UnknownBus(4), 4, 8, b"UnknownBus".as_slice()),
-        (MatFault::TooMany(20_005), 20_005, 9, b"TooMany".as_slice()),
-        (MatFault::ShortRow(9), 9, 10, b"ShortRow".as_slice()),
-        (MatFault::BadStatus(9), 9, 11, b"BadStatus".as_slice()),
-    ] {
+    for i in 0..11u8 {
+        let (fault, line, number, name) = fault_case(i);
         let given = InputFault::from(fault);
         assert!(rt; given.part == b"matpower".as_slice() && given.name == name);
         assert!(rt; given.place == line && given.code == number);
         assert!(rt; MatEnd::Mat(fault).fault() == Some(given));
     }
+}
+
+#[test]
+fn ends_have_faults(rt: HostRuntime) {
+    let fault = TableFault {
+        table: Table::Meters,
+        row: 1,
+        code: RowFault::UnknownPlace,
+    };
+    assert!(rt; MatEnd::Table(fault).fault() == Some(InputFault::from(fault)));
+    assert!(rt; MatEnd::NoMemory.fault().is_none());
 }
