@@ -6,7 +6,8 @@ use Rattle.std.proofs.lemmas.List.{length-map}
 use Rattle.obs_graph.specs.Positions.{AreBranches}
 use Rattle.obs_case.specs.declared.rows.Candidate.{Candidate}
 use Rattle.obs_case.specs.Tables.{IsValid, Tables}
-use Rattle.obs_matroid.specs.Placement.{layers_sum}
+use Rattle.obs_matroid.specs.Lists.{In}
+use Rattle.obs_matroid.specs.Placement.{Layer, RunOn, layers_sum}
 use Rattle.obs_matroid.proofs.Lists.{In-filter_from, filter_all}
 use Rattle.obs_meter.specs.Assignments.{IsRhoAt, rho_at}
 use Rattle.obs_meter.specs.Touches.{is_live, live_items}
@@ -15,15 +16,16 @@ use Rattle.obs_placement.specs.Laws.{DoAsMuch, answer_at, live_meters}
 use Rattle.obs_placement.specs.Placed.{Lacking, Planned, lack_of, plan_of}
 use Rattle.obs_placement.specs.Placed.Placed.{cheapest, shortfall}
 use Rattle.obs_placement.specs.Shown.{bare_layer}
-use Rattle.obs_placement.proofs.Costed.{layers_show_the_cost}
+use Rattle.obs_placement.proofs.Costed.{layers_are_shown, layers_show_the_cost}
 use Rattle.obs_placement.proofs.Lawful.{chosen_enough}
 use Rattle.obs_placement.proofs.Positions.{cost_is, positions_are}
-use Rattle.obs_placement.proofs.Refuting.{bound_reached, bound_refutes, none_for_less}
+use Rattle.obs_placement.proofs.Refuting.{bound_reached, bound_refutes, layers_bound_completing, none_for_less}
 use Rattle.obs_network.specs.Switched.{case_bus_count}
 use Rattle.obs_network.specs.Network.{case_branches, case_needed, case_offered}
 use Rattle.obs_network.proofs.Observed.{most_pairs}
 use Rattle.obs_network.proofs.OfCase.{case_branches-are, length-case_offered}
-use Rattle.obs_edit.specs.Placements.{CompletesCase, LayersAddUp, PlansAreCheapest, PlansComplete, ShortfallsRefute, chosen_items, price_together}
+use Rattle.obs_edit.proofs.PlanFirst.{plan_pairs_first}
+use Rattle.obs_edit.specs.Placements.{CompletesCase, IsBoundOf, LayersAddUp, LayersAreBounds, LayersBoundCosts, PlansAreCheapest, PlansComplete, PlansHaveFirstPairs, ShortfallsRefute, chosen_items, price_together}
 use Rattle.obs_edit.specs.Planned.{case_placement, prices_of}
 
 module _ (t : Tables) (v : IsValid t) where
@@ -119,6 +121,21 @@ layers_add_up t p v e =
     let is = planned t v p e in
     subst (λ (q : Planned). layers_sum (case_needed t) (map bare_layer q.layers) ≡ q.cost) is.1
     (layers_show_the_cost (case_bus_count t) (case_branches t) (case_offered t) (length t.meters) (case_needed t) (prices_of t.candidates) (ok t v) (size t v) (reaches t v is.0))
+
+pub layers_are_bounds : LayersAreBounds
+unfolding plan
+layers_are_bounds t p v e =
+    let is = planned t v p e in
+    subst (λ (q : Planned). RunOn 0 (map bare_layer q.layers) × ((l : Layer) → In l (map bare_layer q.layers) → IsBoundOf t l × (l.rank + l.outside < case_needed t))) is.1
+    (layers_are_shown (case_bus_count t) (case_branches t) (case_offered t) (length t.meters) (case_needed t) (prices_of t.candidates) (ok t v) (size t v) (reaches t v is.0))
+
+pub layers_bound_costs : LayersBoundCosts
+layers_bound_costs t layers X v run shown c =
+    layers_bound_completing (case_bus_count t) (case_branches t) (case_offered t) (length t.meters) (case_needed t) (prices_of t.candidates) X layers (ok t v) run shown c
+
+pub plans_have_first_pairs : PlansHaveFirstPairs
+plans_have_first_pairs t p v e =
+    plan_pairs_first (case_bus_count t) (case_branches t) (case_offered t) (length t.meters) (case_needed t) (prices_of t.candidates) p (ok t v) (size t v) e
 
 pub shortfalls_refute : ShortfallsRefute
 unfolding lack most

@@ -1,12 +1,13 @@
 // The laws of what a session finds.
 ghost use Rattle.obs_edit.specs.Laws.{IslandsAreNamed, IslandsLieInComponents, IslandsTellApart, ObservableIsIsland, TreesAreFirst, TreesAreWhole, TreesSpan, TreesStandAlone};
-ghost use Rattle.obs_edit.specs.Placements.{LayersAddUp, PlansAreCheapest, PlansComplete, ShortfallsRefute};
+ghost use Rattle.obs_edit.specs.Placements.{LayersAddUp, LayersAreBounds, LayersBoundCosts, PlansAreCheapest, PlansComplete, PlansHaveFirstPairs, ShortfallsRefute};
 ghost use Rattle.obs_edit.specs.Planned.{PlanPairsAreFirst};
 
 /// The pairs of a plan are the first assignment of its items, the meters and then the chosen candidates: no assignment of
 /// them is longer, and of those that are as long none comes before it.
 pub fn plan_pairs_are_first()
     ensures first { PlanPairsAreFirst }
+    ensures in_cases { PlansHaveFirstPairs }
 {}
 
 /// The pairs of a tree are the first assignment of the live meters of its component alone: no assignment of these is
@@ -32,12 +33,18 @@ pub fn observable_is_island()
     ensures island { ObservableIsIsland }
 {}
 
-/// The chosen candidates of a plan complete the meters of the case at the plan's cost, and none complete them for less. The layers
-/// of the plan show the whole cost.
+/// The chosen candidates of a plan complete the meters of the case at the plan's cost, and none complete them for less.
 pub fn plans_are_cheapest()
     ensures complete { PlansComplete }
     ensures cheapest { PlansAreCheapest }
-    ensures layers { LayersAddUp }
+{}
+
+/// The layers of a plan run on from 0, and each has the numbers of the bound of a list of its items. Candidates that complete the
+/// meters cost at least what such layers show, and those of the plan show its whole cost.
+pub fn layers_show_the_cost()
+    ensures bounds { LayersAreBounds }
+    ensures least { LayersBoundCosts }
+    ensures cost { LayersAddUp }
 {}
 
 /// The bound of a shortfall is below what the case needs, and no candidates complete its meters.

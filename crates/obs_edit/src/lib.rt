@@ -1,4 +1,4 @@
-//! Sessions: a case whose flags are set one at a time, its network, pairs that are carried along, and the answers to it.
+//! Sessions: a case, its network, a longest assignment of its live meters, and the answers to it.
 #![tactic(auto)]
 
 mod analysis;

@@ -21,11 +21,10 @@ use std::alloc::Global;
 use std::marker::Model;
 use std::sync::ledger::Ledger;
 
-/// A case whose flags are set one at a time, its network, a longest assignment of its live meters, and the answers that are at
-/// hand. All memory is taken when it begins.
+/// A case, its network, a longest assignment of its live meters, and the answers that are at hand. All memory is taken when it
+/// begins.
 ///
-/// Each answer is found by a call `find_..`, which lends nothing, and seen by a call on `&self`. What was found stays at hand
-/// until an edit changes the case.
+/// Each answer is found by a call `find_..`, which lends nothing, and seen by a call on `&self`. What was found stays at hand.
 #[derive(Drop)]
 pub struct Session {
     analysis: Analysis,

@@ -1,4 +1,4 @@
--- The laws of reports that need a name.
+-- The laws that need a name.
 use Rattle.std.specs.Prelude.{◌≡◌, ◌↔◌, ℕ, List, Ok, [], ◌∷◌, ◌++◌, codes, length}
 use Rattle.obs_case.specs.Tables.{IsValid, Tables}
 use Rattle.obs_matroid.specs.Lists.{In}

@@ -109,6 +109,7 @@ fn print_blocks<W: Sink, L: Ledger>(
 ) -> Result<(), Failed>
     requires offered { In Placement blocks.now → session.old.offered ≡ true }
     ensures tables { session.new.tables ≡ session.old.tables }
+    ensures offered { session.new.offered ≡ session.old.offered }
     ensures appends { Appends W.written W.faults W.has_room output.old output.new result (blocks_text blocks.now session.old.tables) }
 {
     for k in 0..blocks.len() {
@@ -129,6 +130,7 @@ pub(crate) fn print_ask<W: Sink, L: Ledger>(
 ) -> Result<(), Failed>
     requires offered { ask ≡ Place → session.old.offered ≡ true }
     ensures tables { session.new.tables ≡ session.old.tables }
+    ensures offered { session.new.offered ≡ session.old.offered }
     ensures appends { Appends W.written W.faults W.has_room output.old output.new result (ask_text ask session.old.tables) }
 {
     match print_blocks(output, session, blocks_of(ask), steps) {

@@ -1,4 +1,4 @@
-// The laws of reports.
+// The laws of what is stated: of cases, words, and the lines of a report.
 ghost use Rattle.std.specs.Prelude.{◌≡◌, ◌↔◌, ◌+◌, ◌<◌, ◌≤◌, ◌==◌, ℕ, true, List, length, filter, Some, codes};
 ghost use Rattle.obs_case.specs.Tables.{IsValid, Tables};
 ghost use Rattle.obs_matroid.specs.Lists.{In};

@@ -35,14 +35,14 @@ pub fn run<F: Files, S: Source, W: Sink>(
         → (result ≡ Status.NoMemory) ⊎ Answers form told result (W.written output.old) (W.written output.new) }
 
     // Which answers the words can have, and the cause of each that says that something failed. Files are read in the
-    // order of their words, and the first that fails or is too long ends the run.
+    // order of their words, and no word is asked behind the first whose file fails or is too long.
     ensures statuses { CanAnswer (form_of (map string_bytes words.now)) result }
     ensures read { result ≡ Status.ReadFault
         → AnyReadFailed (form_of (map string_bytes words.now)) (F.content files.old) (F.faults files.old) (F.faults files.new)
         (S.faults input.old) (S.faults input.new) }
     ensures write { result ≡ Status.WriteFault → Rose (W.faults output.old) (W.faults output.new) }
 
-    // A call that fails ends the run, which says so: with another answer the counts are as they were.
+    // A call that fails isn't passed over: with another answer the counts are as they were.
     ensures quiet_files { result ≢ Status.ReadFault → (w : ℕ) → F.faults files.new w ≡ F.faults files.old w }
     ensures quiet_input { result ≢ Status.ReadFault → S.faults input.new ≡ S.faults input.old }
     ensures quiet_output { result ≢ Status.WriteFault → W.faults output.new ≡ W.faults output.old }

@@ -1,5 +1,5 @@
-use Rattle.obs_edit.proofs.CheapestPlans.{layers_add_up, plans_are_cheapest, plans_complete}
+use Rattle.obs_edit.proofs.CheapestPlans.{plans_are_cheapest, plans_complete}
 use Rattle.obs_edit.proofs.laws.plans_are_cheapest.Goals as goal
 
 pub returns : goal.returns
-returns c = record { complete = plans_complete; cheapest = plans_are_cheapest; layers = layers_add_up }
+returns c = record { complete = plans_complete; cheapest = plans_are_cheapest }
