@@ -3,8 +3,10 @@
 
 Usage: tools/tables.py SHAPE FOLDER [SIZE]
 
-Writes nodes.csv, switches.csv, branches.csv and meters.csv into FOLDER. SHAPE is one of the names below. The tables are the same
-at each run. The greatest size is the one that fills the tables, and it is taken where none is given.
+Writes nodes.csv, switches.csv, branches.csv and meters.csv into FOLDER; few.csv, which has each tenth of the meters; candidates.csv,
+with a candidate for each branch, a flow on it or an injection at an end, at prices from 1 to 1000; and the same network as a MATPOWER
+case, case.m, with its meters in case-meters.csv. SHAPE is one of the names below. The tables are the same at each run. The greatest
+size is the one that fills the tables, and it is taken where none is given.
 """
 import os
 import random
@@ -80,6 +82,22 @@ def hub(size):
 SHAPES = {"grid": (grid, 100), "chain": (chain, 20000), "mesh": (mesh, 10000), "wide": (wide, 15000), "small": (small, 6600), "hub": (hub, 20000)}
 
 
+def write_meters(path, meters):
+    with open(path, "w") as out:
+        out.write("meter,kind,at,inservice\n")
+        out.writelines(f"m{m},{kind},{at},1\n" for m, (kind, at) in meters)
+
+
+def write_matpower(folder, nodes, sources, branches):
+    """Buses are numbered from 1, and have thirteen columns as published cases do."""
+    with open(os.path.join(folder, "case.m"), "w") as out:
+        out.write("function mpc = case\nmpc.version = '2';\nmpc.bus = [\n")
+        out.writelines(f"\t{v + 1}\t{3 if v in sources else 1}" + "\t0" * 11 + ";\n" for v in range(nodes))
+        out.write("];\nmpc.branch = [\n")
+        out.writelines(f"\t{a + 1}\t{b + 1}" + "\t0" * 8 + "\t1\t-360\t360;\n" for a, b in branches)
+        out.write("];\n")
+
+
 def main():
     shape, folder = sys.argv[1], sys.argv[2]
     make, full = SHAPES[shape]
@@ -95,9 +113,17 @@ def main():
     with open(os.path.join(folder, "branches.csv"), "w") as out:
         out.write("branch,from,to,inservice\n")
         out.writelines(f"b{e},n{a},n{b},1\n" for e, (a, b) in enumerate(branches))
-    with open(os.path.join(folder, "meters.csv"), "w") as out:
-        out.write("meter,kind,at,inservice\n")
-        out.writelines(f"m{m},{kind},{at},1\n" for m, (kind, at) in enumerate(meters))
+    offered = []
+    for e, (a, b) in enumerate(branches):
+        offered.append(random.choice([("flow", f"b{e}"), ("injection", f"n{a}"), ("injection", f"n{b}")]) + (random.randint(1, 1000),))
+    write_meters(os.path.join(folder, "meters.csv"), enumerate(meters))
+    write_meters(os.path.join(folder, "few.csv"), list(enumerate(meters))[::10])
+    with open(os.path.join(folder, "candidates.csv"), "w") as out:
+        out.write("candidate,kind,at,price\n")
+        out.writelines(f"c{k},{kind},{at},{price}\n" for k, (kind, at, price) in enumerate(offered))
+    write_matpower(folder, nodes, sources, branches)
+    renamed = [(kind, ("L" if kind == "flow" else "") + str(int(at[1:]) + 1)) for kind, at in meters]
+    write_meters(os.path.join(folder, "case-meters.csv"), enumerate(renamed))
 
 
 main()
