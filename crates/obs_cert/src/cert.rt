@@ -1,10 +1,11 @@
 // Certificates from bytes.
-ghost use Rattle.std.specs.Prelude.{◌≡◌, ◌≤◌, Ok, Err, length, IfErr, IfOk};
+ghost use Rattle.std.specs.Prelude.{◌≡◌, ◌<◌, ◌≤◌, ◌^◌, Ok, Err, length, IfErr, IfOk};
 ghost use Rattle.obs_text.specs.Limits.{most_file_bytes};
 ghost use Rattle.obs_cert.specs.Read.{EndsCert, HasClaims, claims_of};
 
 use crate::fault::{CertCode, CertEnd, CertFault};
 use crate::place::{Place, is_over, starts, step};
+use crate::walk::{Claims, walk_claims};
 use obs_text::lines;
 use std::alloc::Global;
 use std::marker::Model;
@@ -35,6 +36,14 @@ impl Cert {
         ensures count { result ≡ length self.now }
     {
         self.claims
+    }
+
+    /// The claims one after the other.
+    pub(crate) fn walk(&self) -> Claims<'_>
+        ensures claims { result ≡ self.now }
+        ensures few { length self.now < 2 ^ 32 }
+    {
+        walk_claims(&self.bytes)
     }
 }
 
