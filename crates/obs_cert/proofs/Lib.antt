@@ -3,3 +3,7 @@ pub mod FaultLemmas
 pub mod LawLemmas
 pub mod OrderLemmas
 pub mod WordLemmas
+pub mod JoinLemmas
+pub mod NumberLemmas
+pub mod ScopeLemmas
+pub mod MarkLemmas

@@ -1,8 +1,6 @@
 -- What the program's scopes mean.
-use Rattle.std.specs.Prelude.{ℕ, ◌==◌, ◌&&◌, Bool, false, slice_index, slice_index_or}
+use Rattle.std.specs.Prelude.{ℕ, Bool}
 use Rattle.obs_case.specs.Tables.{Tables}
-use Rattle.obs_network.specs.Network.{NetworkOf}
-use Rattle.obs_switch.specs.Buses.{members_of}
 use Rattle.obs_cert.specs.declared.scopes.Scope as program
 use Rattle.obs_cert.specs.declared.scopes.Scope.TheVariants.{Component, Plan, Live}
 use Rattle.obs_cert.specs.Marks.{is_marked}
@@ -13,11 +11,3 @@ abbrev pub in_scope : Tables → program.Scope → ℕ → Bool
 in_scope t (Component c) m = is_meter_in t c m
 in_scope t (Plan marks stamp) m = is_of_plan t (is_marked marks.now stamp) m
 in_scope t Live m = is_live_item t m
-
--- whether a node names an energised component, read off the network
-abbrev pub names_at : NetworkOf → ℕ → Bool
-names_at n u =
-    let b = slice_index n.buses.buses u in
-    let c = slice_index n.components.of_buses b in
-    (slice_index (members_of n.buses.buses b) 0 == u)
-    && ((slice_index n.components.first_buses c == b) && slice_index_or n.components.energised c false)

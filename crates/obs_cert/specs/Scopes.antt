@@ -54,22 +54,22 @@ is_of_plan t chosen m = is_live_item t m && (is_meter t m || chosen m)
 abbrev pub scope_of : Tables → (ℕ → Bool) → List ℕ
 scope_of t test = filter test (every_item (case_offered t))
 
--- the node that names a component, if the name is one; its bus, and its component
-abbrev pub named_node : Tables → List ℕ → ℕ
-named_node t name = place_of (node_names t) name
+-- the component of a node
+abbrev pub node_component : Tables → ℕ → ℕ
+node_component t u = slice_index (case_components t) (slice_index (case_buses t) u)
 
-abbrev pub named_bus : Tables → List ℕ → ℕ
-named_bus t name = slice_index (case_buses t) (named_node t name)
+-- whether a node names an energised component: it is the first node of the first bus of one
+abbrev pub names_at : Tables → ℕ → Bool
+names_at t u =
+    (case_first_node t u == u)
+    && ((slice_index (case_first_buses t) (node_component t u) == slice_index (case_buses t) u) && is_fed t (node_component t u))
+
+-- whether a name is that of an energised component; the component that it stands for, and what that needs
+abbrev pub names_component : Tables → List ℕ → Bool
+names_component t name = names_at t (place_of (node_names t) name)
 
 abbrev pub named_component : Tables → List ℕ → ℕ
-named_component t name = slice_index (case_components t) (named_bus t name)
+named_component t name = node_component t (place_of (node_names t) name)
 
--- whether a name is that of an energised component: of the first node of the first bus of one
-abbrev pub names_component : Tables → List ℕ → Bool
-names_component t name =
-    (case_first_node t (named_node t name) == named_node t name)
-    && ((slice_index (case_first_buses t) (named_component t name) == named_bus t name) && is_fed t (named_component t name))
-
--- what the component of a name needs
 abbrev pub named_need : Tables → List ℕ → ℕ
 named_need t name = need_of (case_sizes t) (named_component t name)

@@ -1,5 +1,5 @@
 // The rank of branches that come one after the other: each vertex has a way up to the first one that they join with it.
-ghost use Rattle.std.specs.Prelude.{◌≡◌, ◌↔◌, ◌<◌, ◌≤◌, ◌^◌, ◌∷◌, [], ℕ, suc, List, All, length, slice_index, take};
+ghost use Rattle.std.specs.Prelude.{◌≡◌, ◌↔◌, ◌<◌, ◌≤◌, ◌^◌, ◌∷◌, [], ℕ, suc, List, None, IfSome, length, slice_index, slice_index_or, slice_set, take};
 ghost use Rattle.obs_graph.specs.declared.Ends.{Ends};
 ghost use Rattle.obs_graph.specs.Joined.{first_joined};
 ghost use Rattle.obs_cert.specs.Joins.{AreFirsts, AreJoined, AreLow, onto};
@@ -26,14 +26,13 @@ fn first(ups: &mut [u32], v: u32) -> u32
     v
 }
 
-// Leads the way of the higher one of two first vertices to the lower one, and notes it.
-fn lead(ups: &mut [u32], moved: &mut [u32], count: usize, x: u32, y: u32)
+// Leads the way of the higher vertex to the lower one, and notes it.
+fn lead(ups: &mut [u32], moved: &mut [u32], count: usize, low: u32, high: u32)
     requires room { count < length moved.old }
-    requires x { x < length ups.old }
-    requires y { y < length ups.old }
-    ensures lead { (es : List Ends) (e : Ends) → AreJoined es ups.old (take count moved.old) → x ≡ first_joined es e.a → y ≡ first_joined es e.b → (x ≡ y → ⊥) → e.a < length ups.old → e.b < length ups.old → AreJoined (e ∷ es) ups.new (take (suc count) moved.new) }
+    requires high { high < length ups.old }
+    ensures led { ups.new ≡ slice_set ups.old high low }
+    ensures noted { moved.new ≡ slice_set moved.old count high }
 {
-    let (low, high) = if x < y { (x, y) } else { (y, x) };
     ups[high as usize] = low;
     moved[count] = high;
 }
@@ -55,8 +54,16 @@ pub(crate) fn join(ups: &mut [u32], moved: &mut [u32], count: usize, ends: Ends)
     if x == y {
         return count;
     }
-    lead(ups, moved, count, x, y);
+    lead(ups, moved, count, x.min(y), x.max(y));
     count + 1
+}
+
+/// The two ends of the branch at a position, if it is present.
+pub(crate) fn ends_of(g: &Graph, e: u32) -> Option<Ends>
+    ensures ends { result ≡ slice_index_or g.now.ends e None }
+    ensures in_range { IfSome result (λ x. (x.a < g.now.vertices) × (x.b < g.now.vertices)) }
+{
+    if e < g.positions() { g.ends(e) } else { None }
 }
 
 /// Joins the ends of the branches at these positions, where they are present.
@@ -67,7 +74,6 @@ pub(crate) fn join_all(
     moved: &mut [u32],
     count: usize,
 ) -> usize
-    requires positions { All (λ e. e < length g.now.ends) positions.now }
     requires joined { (es : List Ends) × AreJoined es ups.old (take count moved.old) }
     requires vertices { g.now.vertices ≤ length ups.old }
     requires room { length ups.old ≤ length moved.old }
@@ -78,7 +84,7 @@ pub(crate) fn join_all(
 {
     let mut count = count;
     for e in positions {
-        if let Some(ends) = g.ends(*e) {
+        if let Some(ends) = ends_of(g, *e) {
             count = join(ups, moved, count, ends);
         }
     }

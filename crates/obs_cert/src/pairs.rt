@@ -1,5 +1,5 @@
 // Passes over the pairs of a claim, one clause each.
-ghost use Rattle.std.specs.Prelude.{◌≡◌, ◌≤◌, ◌<◌, ◌^◌, ◌==◌, ℕ, suc, List, [], None, IfSome, length, not, slice_index_or, take};
+ghost use Rattle.std.specs.Prelude.{◌≡◌, ◌≤◌, ◌<◌, ◌^◌, ◌==◌, ℕ, suc, List, [], length, not, take};
 ghost use Rattle.obs_matroid.specs.Assignments.{branches};
 ghost use Rattle.obs_network.specs.Network.{network_of};
 ghost use Rattle.obs_cert.specs.Flaws.{cycle, not_touched, rank_of_branches, twice, unknown_branch};
@@ -7,13 +7,13 @@ ghost use Rattle.obs_cert.specs.Joins.{AreJoined, onto};
 ghost use Rattle.obs_cert.specs.Marks.{AreBelow};
 ghost use Rattle.obs_cert.specs.Numbered.{pairs_of};
 
-use crate::joins::{clear, join};
+use crate::joins::{clear, ends_of, join};
 use crate::marks::mark;
 use crate::numbers::{branch_of, is_known_branch, item_of};
 use crate::scopes::touches;
 use crate::walk::Pairs;
 use obs_case::Case;
-use obs_graph::{Ends, Graph};
+use obs_graph::Graph;
 use obs_network::Network;
 
 /// Whether a branch isn't in its table.
@@ -60,14 +60,6 @@ pub(crate) fn has_branch_twice(case: &Case, pairs: Pairs<'_>, marks: &mut [u32],
         }
     }
     twice
-}
-
-// The two ends of the branch at a position, if it is present.
-fn ends_of(g: &Graph, e: u32) -> Option<Ends>
-    ensures ends { result ≡ slice_index_or g.now.ends e None }
-    ensures in_range { IfSome result (λ x. (x.a < g.now.vertices) × (x.b < g.now.vertices)) }
-{
-    if e < g.positions() { g.ends(e) } else { None }
 }
 
 /// The rank of the pairs' branches, and whether it isn't their number.

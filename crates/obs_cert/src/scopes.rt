@@ -1,13 +1,14 @@
 // What a case says of an item by its number, and of a component by its name.
-ghost use Rattle.std.specs.Prelude.{◌≡◌, ◌<◌, ◌≤◌, length, IfSome, is_some, None, slice_index_or};
+ghost use Rattle.std.specs.Prelude.{◌≡◌, ◌<◌, ◌≤◌, ◌==◌, length, IfSome, is_some, None, slice_index_or};
 ghost use Rattle.obs_graph.specs.Positions.{has_end};
 ghost use Rattle.obs_meter.specs.Touches.{IsInRange, touched};
 ghost use Rattle.obs_network.specs.Located.{component_of_item};
 ghost use Rattle.obs_network.specs.Network.{network_of};
+ghost use Rattle.obs_network.specs.Switched.{case_first_node};
 ghost use Rattle.obs_cert.specs.Marks.{is_marked};
-ghost use Rattle.obs_cert.specs.Scopes.{has, is_live_item, is_meter, is_this, named_component, named_need, names_component, price_at, touches_of};
+ghost use Rattle.obs_cert.specs.Scopes.{has, is_live_item, is_meter, is_this, named_component, named_need, names_at, names_component, price_at, touches_of};
 ghost use Rattle.obs_case.specs.Tables.{has_name, node_names};
-ghost use Rattle.obs_cert.specs.InScope.{in_scope, names_at};
+ghost use Rattle.obs_cert.specs.InScope.{in_scope};
 
 use obs_case::Case;
 use obs_graph::Graph;
@@ -133,14 +134,28 @@ pub(crate) fn in_scope(case: &Case, network: &Network, scope: Scope<'_>, m: u32)
     }
 }
 
-/// Whether the node is the first one of its bus, and this the first bus of an energised component.
-fn names(network: &Network, node: u32) -> bool
-    requires node { node < length network.now.buses.buses }
-    ensures names { result ≡ names_at network.now node }
+// Whether a node is the first one of its bus.
+fn is_first_node(case: &Case, network: &Network, node: u32) -> bool
+    requires of_case { network.now ≡ network_of case.now }
+    requires node { node < length case.now.nodes }
+    ensures first { result ≡ (case_first_node case.now node == node) }
+{
+    let buses = network.buses();
+    buses.members(buses.bus(node))[0] == node
+}
+
+// Whether a node is the first one of its bus, and this the first bus of an energised component.
+fn names(case: &Case, network: &Network, node: u32) -> bool
+    requires of_case { network.now ≡ network_of case.now }
+    requires node { node < length case.now.nodes }
+    ensures names { result ≡ names_at case.now node }
 {
     let bus = network.buses().bus(node);
     let c = network.component(bus);
-    network.buses().members(bus)[0] == node && network.first_bus(c) == bus && network.energised(c)
+    let first_node = is_first_node(case, network, node);
+    let first_bus = network.first_bus(c) == bus;
+    let energised = network.energised(c);
+    first_node && (first_bus && energised)
 }
 
 /// A component by its name: its number, what it needs, and whether the name is that of an energised one.
@@ -161,11 +176,13 @@ pub(crate) fn component_named(case: &Case, network: &Network, name: &[u8]) -> Op
     ensures below { IfSome result (λ n. n.component < length network.now.components.first_buses) }
 {
     let _nodes = case.nodes();
-    let node = case.find_node(name)?;
+    let Some(node) = case.find_node(name) else {
+        return None;
+    };
     let component = network.component(network.buses().bus(node));
     Some(Named {
         component,
         need: network.need(component),
-        energised: names(network, node),
+        energised: names(case, network, node),
     })
 }

@@ -242,9 +242,9 @@ fn layer_on<'a>(line: &Line<'_>, rest: &'a [u8]) -> Option<LayerLines<'a>>
     }
 }
 
-// The next layer, which has the bytes after its line.
-fn next_layer(bytes: &[u8]) -> Option<LayerLines<'_>>
-    ensures layer { IfSome result (λ layer. (parts_in bytes.now).layers ≡ layer_said layer ∷ (parts_in layer.rest.now).layers) }
+// The next layer, and the bytes after its line.
+fn next_layer(bytes: &[u8]) -> Option<(LayerLines<'_>, &[u8])>
+    ensures layer { IfSome result (λ found. (parts_in bytes.now).layers ≡ layer_said found.0 ∷ (parts_in found.1.now).layers) }
     ensures none { IfNone result ((parts_in bytes.now).layers ≡ []) }
 {
     let mut rest = bytes;
@@ -254,7 +254,7 @@ fn next_layer(bytes: &[u8]) -> Option<LayerLines<'_>>
             return None;
         }
         if let Some(layer) = layer_on(&line, rest) {
-            return Some(layer);
+            return Some((layer, rest));
         }
     }
     None
@@ -284,8 +284,8 @@ impl<'a> Iterator for Layers<'a> {
     ghost remaining = { item_count (λ layers. layers) };
 
     fn next(&mut self) -> Option<LayerLines<'a>> {
-        let layer = next_layer(self.rest)?;
-        self.rest = layer.rest;
+        let (layer, rest) = next_layer(self.rest)?;
+        self.rest = rest;
         Some(layer)
     }
 }
