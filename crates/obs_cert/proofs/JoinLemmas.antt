@@ -344,3 +344,16 @@ drop_next i xs l = drop_here i xs l ∙ ap (λ k. get_or xs i 0 ∷ drop k xs) (
 
 pub drop_none : (i : ℕ) (xs : List ℕ) → length xs ≤ i → drop i xs ≡ []
 drop_none i xs l = drop_end i xs l
+
+-- one position more, with or without a branch
+pub joining_at : (ends : List (Option Ends)) (p : ℕ) (left all ups0 moved0 : List ℕ) (count0 : ℕ) (ups moved : List ℕ) (count : ℕ) (ups2 moved2 : List ℕ) (count2 : ℕ)
+    → IsJoining ends (p ∷ left) all ups0 moved0 count0 ups moved count
+    → count2 ≤ length moved2 → length ups2 ≡ length ups → length moved2 ≡ length moved
+    → ((es : List Ends) → AreJoined es ups (take count moved) → AreJoined (cons_option (get_or ends p None) es) ups2 (take count2 moved2))
+    → IsJoining ends left all ups0 moved0 count0 ups2 moved2 count2
+joining_at ends p left all ups0 moved0 count0 ups moved count ups2 moved2 count2 i fits len1 len2 step = record {
+  fits = fits;
+  ups_len = len1 ∙ i.ups_len;
+  moved_len = len2 ∙ i.moved_len;
+  joined = λ es j. let q = i.joined es j in (cons_option (get_or ends p None) q.0, step q.0 q.1, q.2);
+}

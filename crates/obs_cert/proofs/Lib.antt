@@ -7,3 +7,6 @@ pub mod JoinLemmas
 pub mod NumberLemmas
 pub mod ScopeLemmas
 pub mod MarkLemmas
+pub mod RankLemmas
+pub mod PairLemmas
+pub mod CaseLemmas

@@ -1,5 +1,5 @@
 // The rank of branches that come one after the other: each vertex has a way up to the first one that they join with it.
-ghost use Rattle.std.specs.Prelude.{◌≡◌, ◌↔◌, ◌<◌, ◌≤◌, ◌^◌, ◌∷◌, [], ℕ, suc, List, None, IfSome, length, slice_index, slice_index_or, slice_set, take};
+ghost use Rattle.std.specs.Prelude.{◌≡◌, ◌↔◌, ◌<◌, ◌≤◌, ◌^◌, ◌+◌, ◌⊎◌, ◌∷◌, [], ℕ, suc, List, None, IfSome, length, slice_index, slice_index_or, slice_set, take};
 ghost use Rattle.obs_graph.specs.declared.Ends.{Ends};
 ghost use Rattle.obs_graph.specs.Joined.{first_joined};
 ghost use Rattle.obs_cert.specs.Joins.{AreFirsts, AreJoined, AreLow, onto};
@@ -47,7 +47,7 @@ pub(crate) fn join(ups: &mut [u32], moved: &mut [u32], count: usize, ends: Ends)
     ensures joined { (es : List Ends) → AreJoined es ups.old (take count moved.old) →
         AreJoined (ends ∷ es) ups.new (take result moved.new) }
     ensures count { result ≤ length moved.new }
-    ensures grows { count ≤ result }
+    ensures one { (result ≡ count) ⊎ (result ≡ count + 1) }
 {
     let x = first(ups, ends.a);
     let y = first(ups, ends.b);

@@ -1,5 +1,7 @@
 // Passes over the pairs of a claim, one clause each.
-ghost use Rattle.std.specs.Prelude.{◌≡◌, ◌≤◌, ◌<◌, ◌^◌, ◌==◌, ℕ, suc, List, [], length, not, take};
+ghost use Rattle.std.specs.Prelude.{◌≡◌, ◌≤◌, ◌<◌, ◌^◌, ◌==◌, ◌+◌, ◌⊎◌, ℕ, suc, None, List, [], length, not, slice_index_or, take};
+ghost use Rattle.std.specs.List.{cons_option};
+ghost use Rattle.obs_graph.specs.declared.Ends.{Ends};
 ghost use Rattle.obs_matroid.specs.Assignments.{branches};
 ghost use Rattle.obs_network.specs.Network.{network_of};
 ghost use Rattle.obs_cert.specs.Flaws.{cycle, not_touched, rank_of_branches, twice, unknown_branch};
@@ -69,6 +71,23 @@ pub(crate) struct Forest {
     pub cycle: bool,
 }
 
+// Joins the ends of the branch at a position, if it is present.
+fn join_one(g: &Graph, e: u32, ups: &mut [u32], moved: &mut [u32], count: usize) -> usize
+    requires joined { (es : List Ends) × AreJoined es ups.old (take count moved.old) }
+    requires vertices { g.now.vertices ≤ length ups.old }
+    requires room { length ups.old ≤ length moved.old }
+    requires count { count ≤ length moved.old }
+    ensures joined { (es : List Ends) → AreJoined es ups.old (take count moved.old) →
+        AreJoined (cons_option (slice_index_or g.now.ends e None) es) ups.new (take result moved.new) }
+    ensures count { result ≤ length moved.new }
+    ensures one { (result ≡ count) ⊎ (result ≡ count + 1) }
+{
+    match ends_of(g, e) {
+        Some(ends) => join(ups, moved, count, ends),
+        None => count,
+    }
+}
+
 // Joins the ends of the pairs' branches; says how many vertices are noted, and whether a branch joined nothing.
 fn join_pairs(
     case: &Case,
@@ -87,13 +106,11 @@ fn join_pairs(
     let mut count = 0;
     let mut cycle = false;
     for pair in pairs {
-        let before = count;
-        if let Some(ends) = ends_of(g, branch_of(case, pair.branch)) {
-            count = join(ups, moved, count, ends);
-        }
-        if count == before {
+        let joined = join_one(g, branch_of(case, pair.branch), ups, moved, count);
+        if joined == count {
             cycle = true;
         }
+        count = joined;
     }
     (count, cycle)
 }
