@@ -10,3 +10,5 @@ pub mod MarkLemmas
 pub mod RankLemmas
 pub mod PairLemmas
 pub mod CaseLemmas
+pub mod LayerLemmas
+pub mod CountingLemmas

@@ -7,7 +7,7 @@ ghost use Rattle.obs_cert.specs.Flaws.{all_inside, listed_layers, not_below, not
 ghost use Rattle.obs_cert.specs.Joins.{AreJoined};
 ghost use Rattle.obs_cert.specs.Numbered.{items_of};
 ghost use Rattle.obs_cert.specs.Scopes.{is_below, is_live_item, scope_of};
-ghost use Rattle.obs_cert.specs.Seen.{Tells};
+ghost use Rattle.obs_cert.specs.Seen.{Tells, too_dear};
 
 use crate::joins::clear;
 use crate::lists::{count, join_items};
@@ -17,13 +17,21 @@ use crate::walk::{Items, Layers, Sort, walk_items};
 use obs_case::Case;
 use obs_network::Network;
 
-/// What is known of the items that were listed so far: whether one is idle, whether one is a candidate, and the dearest
-/// of these.
+/// What is known of the items that were listed so far: whether one is idle, and what the dearest of the candidates costs.
 #[derive(Clone, Copy, Debug)]
 pub(crate) struct Seen {
     pub idle: bool,
-    pub priced: bool,
-    pub dearest: u64,
+    pub dearest: Option<u64>,
+}
+
+// The dearest price, with one more.
+fn dearer(dearest: Option<u64>, price: u64) -> Option<u64>
+    ensures dearer { (to : ℕ) → too_dear result to ≡ (too_dear dearest to || not (nat_lt price to)) }
+{
+    match dearest {
+        Some(other) => Some(other.max(price)),
+        None => Some(price),
+    }
 }
 
 // The same with one item more.
@@ -34,18 +42,15 @@ fn see(case: &Case, network: &Network, m: u32, seen: Seen) -> Seen
     if !is_live(case, network, m) {
         return Seen {
             idle: true,
-            priced: seen.priced,
             dearest: seen.dearest,
         };
     }
     if is_meter(case, m) {
         return seen;
     }
-    let price = price_at(case, m);
     Seen {
         idle: seen.idle,
-        priced: true,
-        dearest: seen.dearest.max(price),
+        dearest: dearer(seen.dearest, price_at(case, m)),
     }
 }
 
@@ -63,9 +68,13 @@ fn see_items(case: &Case, network: &Network, items: Items<'_>, seen: Seen) -> Se
 
 // Whether a listed item isn't one that a layer which ends at this price may speak of.
 fn is_outside(seen: Seen, to: u64) -> bool
-    ensures outside { result ≡ (seen.idle || (seen.priced && not (nat_lt seen.dearest to))) }
+    ensures outside { result ≡ (seen.idle || too_dear seen.dearest to) }
 {
-    seen.idle || (seen.priced && seen.dearest >= to)
+    let dear = match seen.dearest {
+        Some(dearest) => dearest >= to,
+        None => false,
+    };
+    seen.idle || dear
 }
 
 /// Whether an item of a layer's list isn't one that the layer may speak of.
@@ -76,8 +85,7 @@ pub(crate) fn has_outside_layer(case: &Case, network: &Network, layers: Layers<'
 {
     let mut seen = Seen {
         idle: false,
-        priced: false,
-        dearest: 0,
+        dearest: None,
     };
     for layer in layers {
         seen = see_items(case, network, walk_items(Sort::Inside, layer.rest), seen);
@@ -153,6 +161,14 @@ pub(crate) fn count_live(case: &Case, network: &Network) -> u32
     count
 }
 
+// Whether an item is a live meter, or a live candidate whose price is below a number.
+fn is_below(case: &Case, network: &Network, m: u32, to: u64) -> bool
+    requires of_case { network.now ≡ network_of case.now }
+    ensures below { result ≡ is_below case.now to m }
+{
+    is_live(case, network, m) && (is_meter(case, m) || price_at(case, m) < to)
+}
+
 // How many live items are meters or have a price below a number.
 fn count_below(case: &Case, network: &Network, to: u64) -> u32
     requires of_case { network.now ≡ network_of case.now }
@@ -160,7 +176,7 @@ fn count_below(case: &Case, network: &Network, to: u64) -> u32
 {
     let mut count = 0;
     for m in 0..network.offered().count() {
-        if is_live(case, network, m) && (is_meter(case, m) || price_at(case, m) < to) {
+        if is_below(case, network, m, to) {
             count += 1;
         }
     }
