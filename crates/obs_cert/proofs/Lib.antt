@@ -12,3 +12,4 @@ pub mod PairLemmas
 pub mod CaseLemmas
 pub mod LayerLemmas
 pub mod CountingLemmas
+pub mod OutsideLemmas
