@@ -140,17 +140,17 @@ module _ (es : List Ends) (e : Ends) (ups moved : List ℕ) (count x y low high 
     count = counted;
   })
     where
-    counted : length (take count moved ++ high ∷ []) ≡ rank (length (set ups high low)) (e ∷ es)
-    counted =
-        let apart_firsts : first_joined es e.a ≡ first_joined es e.b → ⊥ = λ s. apart (is_x ∙ s ∙ sym is_y) in
-        let one = rank-add_new (length ups) e es in_a in_b apart_firsts in
-        let long = length-more (take count moved) high in
-        let same : rank (length (set ups high low)) (e ∷ es) ≡ rank (length ups) (e ∷ es) = ap (λ n. rank n (e ∷ es)) (length_set ups high low) in
-        omega (arith, long, one, same, j.count)
-      where
-      length-more : (xs : List ℕ) (x : ℕ) → length (xs ++ x ∷ []) ≡ suc (length xs)
-      length-more [] x = refl
-      length-more (y ∷ ys) x = ap suc (length-more ys x)
+      counted : length (take count moved ++ high ∷ []) ≡ rank (length (set ups high low)) (e ∷ es)
+      counted =
+          let apart_firsts : first_joined es e.a ≡ first_joined es e.b → ⊥ = λ s. apart (is_x ∙ s ∙ sym is_y) in
+          let one = rank-add_new (length ups) e es in_a in_b apart_firsts in
+          let long = length-more (take count moved) high in
+          let same : rank (length (set ups high low)) (e ∷ es) ≡ rank (length ups) (e ∷ es) = ap (λ n. rank n (e ∷ es)) (length_set ups high low) in
+          omega (arith, long, one, same, j.count)
+        where
+          length-more : (xs : List ℕ) (x : ℕ) → length (xs ++ x ∷ []) ≡ suc (length xs)
+          length-more [] x = refl
+          length-more (y ∷ ys) x = ap suc (length-more ys x)
 
 -- the ways while one is followed, from v to w
 pub record IsShorter (before now : List ℕ) (v w : ℕ) : Type 0 where

@@ -175,6 +175,6 @@ module _ (t : Tables) (ends : List (Option Ends)) (layer : Layer) (left all : Li
     going = so_far.going ∙ ap (λ (b : Bool). wrong || (not b || rest)) (ne_eqb (rank_of_items t now_listed) layer.rank (λ e. differs (is ∙ e))) ∙ all_true wrong;
   }
     where
-    all_true : (b : Bool) → (b || true) ≡ true
-    all_true true = refl
-    all_true false = refl
+      all_true : (b : Bool) → (b || true) ≡ true
+      all_true true = refl
+      all_true false = refl

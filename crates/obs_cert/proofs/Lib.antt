@@ -13,3 +13,4 @@ pub mod CaseLemmas
 pub mod LayerLemmas
 pub mod CountingLemmas
 pub mod OutsideLemmas
+pub mod ClaimLemmas

@@ -106,17 +106,18 @@ module _ (all : List ℕ) (x : ℕ) (left : List ℕ) (flag : Bool) (stamp : ℕ
   has_now y = so_far.marked y ∙ three (is_marked marks stamp y) (eqb x y) (has left y) ∙ ap (λ (b : Bool). (b || is_marked marks stamp y) || has left y) (turn x y)
       ∙ ap (λ (b : Bool). b || has left y) (sym (now y))
     where
-    three : (a b c : Bool) → (a || (b || c)) ≡ ((b || a) || c)
-    three true true true = refl
-    three true true false = refl
-    three true false true = refl
-    three true false false = refl
-    three false true true = refl
-    three false true false = refl
-    three false false true = refl
-    three false false false = refl
-    turn : (a b : ℕ) → eqb a b ≡ eqb b a
-    turn a b = elim (cases_eq a b) [ inl e ↦ eq-eqb a b e ∙ sym (eq-eqb b a (sym e)) | inr n ↦ ne_eqb a b n ∙ sym (ne_eqb b a (λ e. n (sym e))) ]
+      three : (a b c : Bool) → (a || (b || c)) ≡ ((b || a) || c)
+      three true true true = refl
+      three true true false = refl
+      three true false true = refl
+      three true false false = refl
+      three false true true = refl
+      three false true false = refl
+      three false false true = refl
+      three false false false = refl
+
+      turn : (a b : ℕ) → eqb a b ≡ eqb b a
+      turn a b = elim (cases_eq a b) [ inl e ↦ eq-eqb a b e ∙ sym (eq-eqb b a (sym e)) | inr n ↦ ne_eqb a b n ∙ sym (ne_eqb b a (λ e. n (sym e))) ]
 
   below_now : AreBelow (suc stamp) (set marks x stamp)
   below_now y = elim (cases_eq y x) [

@@ -15,7 +15,7 @@ use Rattle.obs_case.specs.Tables.{Tables}
 use Rattle.obs_cert.specs.Claims.{Item, Layer}
 use Rattle.obs_cert.specs.Flaws.{Listed, all_inside, listed_from, not_inside, outside_of, twice, wrong_outside}
 use Rattle.obs_cert.specs.Numbered.{item_of, items_of}
-use Rattle.obs_cert.specs.Scopes.{has, is_below, is_live_item, is_meter, is_meter_in, is_this, price_at, scope_of}
+use Rattle.obs_cert.specs.Scopes.{OfItems, has, is_below, is_live_item, is_meter, is_meter_in, is_this, price_at, scope_of}
 use Rattle.obs_cert.proofs.ScopeLemmas.{has_at, has_from}
 use Rattle.obs_cert.proofs.CountingLemmas.{distinct, inside_each, others}
 
@@ -30,17 +30,13 @@ filtered p (x ∷ xs) d = elim (cases_Bool (p x)) [
 pub scope_distinct : (t : Tables) (test : ℕ → Bool) → IsDistinct (scope_of t test)
 scope_distinct t test = filtered test (range_with_len 0 (length (case_offered t))) (range_distinct 0 (length (case_offered t)))
 
--- a test that only items pass
-abbrev pub OfItems : Tables → (ℕ → Bool) → Type 0
-OfItems t test = (m : ℕ) → test m ≡ true → m < length (case_offered t)
-
 -- where a list without doubles has items of the scope alone, the others are as many as the scope has more
 pub outside_is : (t : Tables) (test : ℕ → Bool) (list : List ℕ) → OfItems t test → not_inside test list ≡ false → twice list ≡ false
     → (outside_of t test list ≡ length (scope_of t test) - length list) × (length list ≤ length (scope_of t test))
 outside_is t test list of inside once =
     let within : (x : ℕ) → In x list → In x (scope_of t test) = λ x i.
-        let p = inside_each test list inside x i in
-        In-filter test x (range_with_len 0 (length (case_offered t))) (range_in 0 (length (case_offered t)) x (omega arith) (let l = of x p in omega (arith, l))) p in
+    let p = inside_each test list inside x i in
+    In-filter test x (range_with_len 0 (length (case_offered t))) (range_in 0 (length (case_offered t)) x (omega arith) (let l = of x p in omega (arith, l))) p in
     (others (scope_of t test) [] list (scope_distinct t test) (distinct list once) within, length-within list (scope_of t test) (distinct list once) within)
 
 -- live items are items

@@ -103,24 +103,37 @@ abbrev pub first_true : List (Bool × FlawCode) → Option FlawCode
 first_true [] = None
 first_true (clause ∷ clauses) = if clause.0 then Some clause.1 else first_true clauses
 
--- the clauses on a list, the numbers that are stated for it and a need
-abbrev pub list_clauses : Tables → (ℕ → Bool) → List ℕ → ℕ → ℕ → ℕ → List (Bool × FlawCode)
-list_clauses t scope list rank outside need =
-    (twice list, Twice)
-    ∷ (wrong_rank t list rank, WrongRank)
+-- the clauses on the numbers that are stated for a list and a need
+abbrev pub bound_clauses : Tables → (ℕ → Bool) → List ℕ → ℕ → ℕ → ℕ → List (Bool × FlawCode)
+bound_clauses t scope list rank outside need =
+    (wrong_rank t list rank, WrongRank)
     ∷ (wrong_outside t scope list outside, WrongOutside)
     ∷ (not_below rank outside need, NotBelow)
     ∷ []
 
--- the clauses on layers and the cost
+-- the clauses on a list and these numbers
+abbrev pub list_clauses : Tables → (ℕ → Bool) → List ℕ → ℕ → ℕ → ℕ → List (Bool × FlawCode)
+list_clauses t scope list rank outside need =
+    (twice list, Twice) ∷ bound_clauses t scope list rank outside need
+
+-- the clauses on the pairs' branches and their number, before others
+abbrev pub forest_clauses : Tables → List NumberPair → ℕ → List (Bool × FlawCode) → List (Bool × FlawCode)
+forest_clauses t pairs need clauses = (cycle t pairs, Cycle) ∷ (wrong_length pairs need, WrongLength) ∷ clauses
+
+-- the clauses on the cost and on what layers state beside these
+abbrev pub costs_clauses : Tables → CostClaim → List (Bool × FlawCode)
+costs_clauses t c =
+    (list_any (λ (l : Layer). not_below l.rank l.outside (case_needed t)) c.layers, NotBelow)
+    ∷ (not (runs_on 0 c.layers), WrongLayers)
+    ∷ (wrong_cost t (items_of t (chosen_items c.chosen)) c.layers c.number, WrongCost)
+    ∷ []
+
+-- the clauses on the ranks of layers and the numbers outside, and these
 abbrev pub layers_clauses : Tables → CostClaim → List (Bool × FlawCode)
 layers_clauses t c =
     (list_any (λ (l : Listed). wrong_rank t l.list l.layer.rank) (listed_layers t c.layers), WrongRank)
     ∷ (list_any (λ (l : Listed). wrong_outside t (is_below t l.layer.to) l.list l.layer.outside) (listed_layers t c.layers), WrongOutside)
-    ∷ (list_any (λ (l : Layer). not_below l.rank l.outside (case_needed t)) c.layers, NotBelow)
-    ∷ (not (runs_on 0 c.layers), WrongLayers)
-    ∷ (wrong_cost t (items_of t (chosen_items c.chosen)) c.layers c.number, WrongCost)
-    ∷ []
+    ∷ costs_clauses t c
 
 -- the flaw of a tree claim
 abbrev pub tree_flaw : Tables → TreeClaim → Option FlawCode

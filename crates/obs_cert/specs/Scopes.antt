@@ -1,5 +1,5 @@
 -- Which items a claim may speak of, as tests on their numbers, and what the case says of them.
-use Rattle.std.specs.Prelude.{ℕ, ◌-◌, ◌==◌, ◌||◌, ◌&&◌, Bool, false, nat_lt, Option, None, Some, List, length, filter, map, slice_index, slice_index_or}
+use Rattle.std.specs.Prelude.{◌≡◌, ℕ, ◌<◌, ◌-◌, ◌==◌, ◌||◌, ◌&&◌, Bool, true, false, nat_lt, Option, None, Some, List, length, filter, map, slice_index, slice_index_or}
 use Rattle.std.specs.List.{list_any}
 use Rattle.obs_case.specs.Tables.{Tables, node_names, place_of}
 use Rattle.obs_case.specs.declared.rows.Candidate.{Candidate}
@@ -53,6 +53,10 @@ is_of_plan t chosen m = is_live_item t m && (is_meter t m || chosen m)
 -- the items that pass a test
 abbrev pub scope_of : Tables → (ℕ → Bool) → List ℕ
 scope_of t test = filter test (every_item (case_offered t))
+
+-- only items pass the test
+abbrev pub OfItems : Tables → (ℕ → Bool) → Type 0
+OfItems t test = (m : ℕ) → test m ≡ true → m < length (case_offered t)
 
 -- the component of a node
 abbrev pub node_component : Tables → ℕ → ℕ

@@ -1,13 +1,14 @@
 // The flaw of a claim.
-ghost use Rattle.std.specs.Prelude.{◌≡◌, ◌<◌, ◌+◌, [], ℕ, Bool, false, suc, length};
+ghost use Rattle.std.specs.Prelude.{◌≡◌, ◌<◌, ◌+◌, [], ℕ, Bool, false, List, Some, IfNone, IfSome, suc, length};
 ghost use Rattle.std.specs.List.{list_any};
-ghost use Rattle.obs_network.specs.Network.{network_of, rows_of};
-ghost use Rattle.obs_cert.specs.Flaws.{all_inside, bound_flaw, cost_flaw, first_true, flaw_of, layers_clauses, list_clauses, listed_layers, not_inside, paired_twice, shortfall_flaw, tree_flaw, twice, unknown_pair};
+ghost use Rattle.obs_network.specs.Network.{case_needed, network_of, rows_of};
+ghost use Rattle.obs_cert.specs.Flaws.{all_inside, bound_clauses, bound_flaw, costs_clauses, forest_clauses, cost_flaw, first_true, flaw_of, layers_clauses, list_clauses, listed_layers, not_inside, paired_twice, shortfall_flaw, tree_flaw, twice, unknown_pair};
 ghost use Rattle.obs_cert.specs.Joins.{AreJoined};
 ghost use Rattle.obs_cert.specs.Marks.{AreBelow};
-ghost use Rattle.obs_cert.specs.Numbered.{items_of};
+ghost use Rattle.obs_cert.specs.Numbered.{items_of, pairs_of};
+ghost use Rattle.obs_cert.specs.declared.flaw.FlawCode.{FlawCode};
 ghost use Rattle.obs_cert.specs.Ready.{HasRoom, IsReady};
-ghost use Rattle.obs_cert.specs.Scopes.{is_below, is_live_item, scope_of};
+ghost use Rattle.obs_cert.specs.Scopes.{OfItems, is_below, is_live_item, scope_of};
 ghost use Rattle.obs_cert.specs.Walked.{claim_said, cost_of, parts_in};
 
 use crate::flaw::FlawCode;
@@ -50,6 +51,41 @@ fn has_pair_twice(
     items || branches
 }
 
+// The flaw of the pairs' branches and their number.
+fn forest(
+    case: &Case,
+    network: &Network,
+    rest: &[u8],
+    need: u32,
+    work: &mut Work,
+) -> Option<FlawCode>
+    requires of_case { network.now ≡ network_of case.now }
+    requires room { HasRoom (rows_of case.now) work.old }
+    requires clear { AreJoined [] work.old.ups.items [] }
+    ensures none { IfNone result ((clauses : List (Bool × FlawCode)) →
+        first_true (forest_clauses case.now (pairs_of case.now (parts_in rest.now).pairs) need clauses) ≡ first_true clauses) }
+    ensures flaw { IfSome result (λ code. (clauses : List (Bool × FlawCode)) →
+        first_true (forest_clauses case.now (pairs_of case.now (parts_in rest.now).pairs) need clauses) ≡ Some code) }
+    ensures ready { (stamp : ℕ) → IsReady case.now stamp work.old → IsReady case.now stamp work.new }
+    ensures room { HasRoom (rows_of case.now) work.new }
+    ensures clear { AreJoined [] work.new.ups.items [] }
+{
+    let forest = measure_pairs(
+        case,
+        network,
+        walk_pairs(rest),
+        &mut work.ups,
+        &mut work.moved,
+    );
+    if forest.cycle {
+        return Some(FlawCode::Cycle);
+    }
+    if forest.rank != need {
+        return Some(FlawCode::WrongLength);
+    }
+    None
+}
+
 // The flaw of a tree claim.
 fn tree(
     case: &Case,
@@ -83,20 +119,7 @@ fn tree(
     if has_pair_twice(case, rest, &mut work.paired, &mut work.taken, stamp) {
         return Some(FlawCode::Twice);
     }
-    let forest = measure_pairs(
-        case,
-        network,
-        walk_pairs(rest),
-        &mut work.ups,
-        &mut work.moved,
-    );
-    if forest.cycle {
-        return Some(FlawCode::Cycle);
-    }
-    if forest.rank != named.need {
-        return Some(FlawCode::WrongLength);
-    }
-    None
+    forest(case, network, rest, named.need, work)
 }
 
 // The numbers that a bound states: a rank, and a number outside, both of them together below a need.
@@ -107,39 +130,28 @@ struct Stated {
     need: u32,
 }
 
-// The flaw of a list, from the clause Twice on, in a scope of so many items that has all that are listed.
-fn list(
+// The flaw of the numbers that are stated for a list without doubles, in a scope of so many items that has all that are
+// listed.
+fn numbers(
     case: &Case,
     network: &Network,
     rest: &[u8],
     scope: u32,
     stated: Stated,
     work: &mut Work,
-    stamp: u32,
 ) -> Option<FlawCode>
     requires of_case { network.now ≡ network_of case.now }
-    requires ready { IsReady case.now stamp work.old }
-    ensures flaw { (test : ℕ → Bool) → scope ≡ length (scope_of case.now test)
+    requires room { HasRoom (rows_of case.now) work.old }
+    requires clear { AreJoined [] work.old.ups.items [] }
+    requires once { twice (items_of case.now (parts_in rest.now).inside) ≡ false }
+    ensures flaw { (test : ℕ → Bool) → scope ≡ length (scope_of case.now test) → OfItems case.now test
         → not_inside test (items_of case.now (parts_in rest.now).inside) ≡ false
-        → result ≡ first_true (list_clauses case.now test (items_of case.now (parts_in rest.now).inside)
+        → result ≡ first_true (bound_clauses case.now test (items_of case.now (parts_in rest.now).inside)
         stated.rank stated.outside stated.need) }
-    ensures ready { IsReady case.now (suc stamp) work.new }
+    ensures ready { (stamp : ℕ) → IsReady case.now stamp work.old → IsReady case.now stamp work.new }
 {
-    if has_twice(
-        case,
-        walk_items(Sort::Inside, rest),
-        &mut work.listed,
-        stamp,
-    ) {
-        return Some(FlawCode::Twice);
-    }
-    let rank = measure_items(
-        case,
-        network,
-        walk_items(Sort::Inside, rest),
-        &mut work.ups,
-        &mut work.moved,
-    );
+    let items = walk_items(Sort::Inside, rest);
+    let rank = measure_items(case, network, items, &mut work.ups, &mut work.moved);
     if u64::from(rank) != stated.rank {
         return Some(FlawCode::WrongRank);
     }
@@ -151,6 +163,31 @@ fn list(
         return Some(FlawCode::NotBelow);
     }
     None
+}
+
+// The flaw of a list and these numbers.
+fn list(
+    case: &Case,
+    network: &Network,
+    rest: &[u8],
+    scope: u32,
+    stated: Stated,
+    work: &mut Work,
+    stamp: u32,
+) -> Option<FlawCode>
+    requires of_case { network.now ≡ network_of case.now }
+    requires ready { IsReady case.now stamp work.old }
+    ensures flaw { (test : ℕ → Bool) → scope ≡ length (scope_of case.now test) → OfItems case.now test
+        → not_inside test (items_of case.now (parts_in rest.now).inside) ≡ false
+        → result ≡ first_true (list_clauses case.now test (items_of case.now (parts_in rest.now).inside)
+        stated.rank stated.outside stated.need) }
+    ensures ready { IsReady case.now (suc stamp) work.new }
+{
+    let items = walk_items(Sort::Inside, rest);
+    if has_twice(case, items, &mut work.listed, stamp) {
+        return Some(FlawCode::Twice);
+    }
+    numbers(case, network, rest, scope, stated, work)
 }
 
 // The flaw of a bound claim.
@@ -229,6 +266,25 @@ fn shortfall(
     list(case, network, rest, live, stated, work, stamp)
 }
 
+// The flaw of the cost, and of what the layers state beside their ranks and numbers outside.
+fn costs(case: &Case, number: u64, needed: u32, rest: &[u8]) -> Option<FlawCode>
+    requires needed { needed ≡ case_needed case.now }
+    ensures flaw { result ≡ first_true (costs_clauses case.now (cost_of number (parts_in rest.now))) }
+{
+    if has_high(walk_layers(rest), needed) {
+        return Some(FlawCode::NotBelow);
+    }
+    if !run_on(walk_layers(rest)) {
+        return Some(FlawCode::WrongLayers);
+    }
+    let chosen = cost(case, walk_items(Sort::Chosen, rest));
+    let shown = shown_cost(walk_layers(rest), needed);
+    if chosen != number || shown != u128::from(number) {
+        return Some(FlawCode::WrongCost);
+    }
+    None
+}
+
 // The flaw of the layers and the cost of a cost claim, where each item is inside and none stands twice.
 fn layers(
     case: &Case,
@@ -259,18 +315,7 @@ fn layers(
     if has_wrong_outside(case, network, walk_layers(rest)) {
         return Some(FlawCode::WrongOutside);
     }
-    if has_high(walk_layers(rest), needed) {
-        return Some(FlawCode::NotBelow);
-    }
-    if !run_on(walk_layers(rest)) {
-        return Some(FlawCode::WrongLayers);
-    }
-    if cost(case, walk_items(Sort::Chosen, rest)) != number
-        || shown_cost(walk_layers(rest), needed) != u128::from(number)
-    {
-        return Some(FlawCode::WrongCost);
-    }
-    None
+    costs(case, number, needed, rest)
 }
 
 // The flaw of a cost claim.
@@ -318,18 +363,8 @@ fn plan(
     if chosen_twice || (pair_twice || listed_twice) {
         return Some(FlawCode::Twice);
     }
-    let forest = measure_pairs(
-        case,
-        network,
-        walk_pairs(rest),
-        &mut work.ups,
-        &mut work.moved,
-    );
-    if forest.cycle {
-        return Some(FlawCode::Cycle);
-    }
-    if forest.rank != network.needed() {
-        return Some(FlawCode::WrongLength);
+    if let Some(code) = forest(case, network, rest, network.needed(), work) {
+        return Some(code);
     }
     layers(case, network, number, rest, work)
 }

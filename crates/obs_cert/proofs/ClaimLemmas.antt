@@ -1,0 +1,88 @@
+-- The flaw of a claim, where the clauses before are true.
+use Rattle.std.proofs.Common.{◌≡◌, ℕ, suc, ◌+◌, ◌-◌, ◌<◌, ◌≤◌, ◌||◌, min, Bool, true, false, not, eqb, nat_lt, Option, Some, None, List, [], ◌∷◌, length, refl, sym, ap, ◌∙◌, subst, arith}
+use Rattle.std.specs.Option.{IfNone, IfSome}
+use Rattle.std.specs.List.{list_any, sum_by}
+use Rattle.std.proofs.lemmas.Bool.{cases_Bool, eq-eqb, ne_eqb, lt-ltb, le-ltb}
+use Rattle.obs_case.specs.Tables.{Tables, has_name, node_names}
+use Rattle.obs_matroid.specs.Assignments.{Pair as NumberPair}
+use Rattle.obs_cert.specs.declared.flaw.FlawCode.{FlawCode}
+use Rattle.obs_cert.specs.declared.flaw.FlawCode.TheVariants.{WrongRank, WrongOutside, NotBelow, WrongCost, NotInside, NotTouched, Twice, Cycle, WrongLength, WrongLayers}
+use Rattle.obs_cert.specs.declared.work.Work.{Work}
+use Rattle.obs_cert.specs.Claims.{BoundClaim, CostClaim, Layer, Pair, TreeClaim}
+use Rattle.obs_cert.specs.Flaws.{Listed, all_inside, bound_clauses, bound_flaw, cost_flaw, costs_clauses, first_true, forest_clauses, layers_clauses, list_clauses, listed_layers, not_below, not_inside, not_touched, outside_of, paired_twice, rank_of_items, runs_on, shows, tree_flaw, twice, unknown_item, unknown_pair, wrong_rank, wrong_outside, wrong_cost}
+use Rattle.obs_cert.specs.Marks.{AreBelow}
+use Rattle.obs_cert.specs.Numbered.{chosen_items, items_of, paired_items, pairs_of}
+use Rattle.obs_cert.specs.Ready.{HasRoom, IsReady}
+use Rattle.std.proofs.lemmas.List.{length-map}
+use Rattle.obs_cert.specs.Claims.{Item}
+use Rattle.obs_cert.specs.Numbered.{item_of}
+use Rattle.obs_cert.proofs.OutsideLemmas.{outside_is}
+use Rattle.obs_cert.specs.Scopes.{OfItems, scope_of, has, is_below, is_meter_in, is_of_plan, named_component, named_need, names_component, price_at}
+use Rattle.obs_network.specs.Network.{case_needed}
+
+pub more_below : (stamp : ℕ) (marks : List ℕ) → AreBelow stamp marks → AreBelow (suc stamp) marks
+more_below stamp marks b x = let l = b x in omega (arith, l)
+
+-- after marks of the stamp were made
+pub ready_more : (t : Tables) (stamp : ℕ) (w w2 : Work) → IsReady t stamp w
+    → length w2.chosen.items ≡ length w.chosen.items → length w2.paired.items ≡ length w.paired.items → length w2.listed.items ≡ length w.listed.items → length w2.taken.items ≡ length w.taken.items
+    → w2.ups.items ≡ w.ups.items → w2.moved.items ≡ w.moved.items
+    → AreBelow (suc stamp) w2.chosen.items → AreBelow (suc stamp) w2.paired.items → AreBelow (suc stamp) w2.listed.items → AreBelow (suc stamp) w2.taken.items → IsReady t (suc stamp) w2
+ready_more t stamp w w2 r e1 e2 e3 e4 e5 e6 b1 b2 b3 b4 =
+    let m = r.room in
+    record {
+      room = record {
+        chosen = omega (arith, m.chosen, e1);
+        paired = omega (arith, m.paired, e2);
+        listed = omega (arith, m.listed, e3);
+        taken = omega (arith, m.taken, e4);
+        ups = omega (arith, m.ups, ap length e5);
+        few = omega (arith, m.few, ap length e5);
+        moved = omega (arith, m.moved, ap length e5, ap length e6);
+      };
+      chosen = b1;
+      paired = b2;
+      listed = b3;
+      taken = b4;
+      clear = rw e5 r.clear;
+    }
+
+-- what the clauses on the branches say is the whole
+pub forest_end : (t : Tables) (pairs : List NumberPair) (need : ℕ) (r : Option FlawCode)
+    → IfNone r ((clauses : List (Bool × FlawCode)) → first_true (forest_clauses t pairs need clauses) ≡ first_true clauses)
+    → IfSome r (λ code. (clauses : List (Bool × FlawCode)) → first_true (forest_clauses t pairs need clauses) ≡ Some code)
+    → r ≡ first_true (forest_clauses t pairs need [])
+forest_end t pairs need None none some = sym (none [])
+forest_end t pairs need (Some code) none some = sym (some [])
+
+pub tree_rest : (t : Tables) (c : TreeClaim) → has_name (node_names t) c.component ≡ true → unknown_pair t c.pairs ≡ false → names_component t c.component ≡ true
+    → not_inside (is_meter_in t (named_component t c.component)) (items_of t (paired_items c.pairs)) ≡ false → not_touched t (pairs_of t c.pairs) ≡ false → paired_twice t c.pairs ≡ false
+    → tree_flaw t c ≡ first_true (forest_clauses t (pairs_of t c.pairs) (named_need t c.component) [])
+tree_rest t c k u n i d w = rw (k, u, n, i, d, w) refl
+
+pub not_false : (b : Bool) → not b ≡ false → b ≡ true
+not_false true e = refl
+not_false false e = cc
+
+-- the clauses on stated numbers, one after the other
+pub bound_wrong : (t : Tables) (test : ℕ → Bool) (list : List ℕ) (rank outside need : ℕ) → rank_of_items t list ≡ rank → (outside_of t test list ≡ outside → ⊥)
+    → Some WrongOutside ≡ first_true (bound_clauses t test list rank outside need)
+bound_wrong t test list rank outside need r o = rw (eq-eqb (rank_of_items t list) rank r, ne_eqb (outside_of t test list) outside o) refl
+
+pub bound_high : (t : Tables) (test : ℕ → Bool) (list : List ℕ) (rank outside need : ℕ) → rank_of_items t list ≡ rank → outside_of t test list ≡ outside → need ≤ rank + outside
+    → Some NotBelow ≡ first_true (bound_clauses t test list rank outside need)
+bound_high t test list rank outside need r o h = rw (eq-eqb (rank_of_items t list) rank r, eq-eqb (outside_of t test list) outside o, le-ltb (rank + outside) need h) refl
+
+pub bound_right : (t : Tables) (test : ℕ → Bool) (list : List ℕ) (rank outside need : ℕ) → rank_of_items t list ≡ rank → outside_of t test list ≡ outside → rank + outside < need
+    → None ≡ first_true (bound_clauses t test list rank outside need)
+bound_right t test list rank outside need r o h = rw (eq-eqb (rank_of_items t list) rank r, eq-eqb (outside_of t test list) outside o, lt-ltb (rank + outside) need h) refl
+
+-- what is counted is the number outside
+pub outside_counted : (t : Tables) (test : ℕ → Bool) (items : List Item) (scope count : ℕ) → scope ≤ 4294967295 → scope ≡ length (scope_of t test) → OfItems t test → not_inside test (items_of t items) ≡ false → twice (items_of t items) ≡ false
+    → count ≡ min (0 + length items) 4294967295 → outside_of t test (items_of t items) ≡ scope - count
+outside_counted t test items scope count few is of inside once counted =
+    let o = outside_is t test (items_of t items) of inside once in
+    let e = o.0 in
+    let l = o.1 in
+    let m = length-map items (item_of t) in
+    grind (arith, e, l, m, counted, is, few)
