@@ -1,5 +1,5 @@
 -- The flaw of a claim, where the clauses before are true.
-use Rattle.std.proofs.Common.{◌≡◌, ℕ, suc, ◌+◌, ◌-◌, ◌<◌, ◌≤◌, ◌||◌, min, Bool, true, false, not, eqb, nat_lt, Option, Some, None, List, [], ◌∷◌, length, refl, sym, ap, ◌∙◌, subst, arith}
+use Rattle.std.proofs.Common.{◌≡◌, ℕ, suc, ◌+◌, ◌-◌, ◌^◌, ◌<◌, ◌≤◌, ◌||◌, min, Bool, true, false, not, eqb, nat_lt, Option, Some, None, Vec, List, [], ◌∷◌, length, refl, sym, ap, ◌∙◌, subst, arith}
 use Rattle.std.specs.Option.{IfNone, IfSome}
 use Rattle.std.specs.List.{list_any, sum_by}
 use Rattle.std.proofs.lemmas.Bool.{cases_Bool, eq-eqb, ne_eqb, lt-ltb, le-ltb}
@@ -13,7 +13,8 @@ use Rattle.obs_cert.specs.Flaws.{Listed, all_inside, bound_clauses, bound_flaw, 
 use Rattle.obs_cert.specs.Marks.{AreBelow}
 use Rattle.obs_cert.specs.Numbered.{chosen_items, items_of, paired_items, pairs_of}
 use Rattle.obs_cert.specs.Ready.{HasRoom, IsReady}
-use Rattle.std.proofs.lemmas.List.{length-map}
+use Rattle.std.proofs.lemmas.List.{length-map, with_items_is}
+use Rattle.std.specs.Vec.{with_items}
 use Rattle.obs_cert.specs.Claims.{Item}
 use Rattle.obs_cert.specs.Numbered.{item_of}
 use Rattle.obs_cert.proofs.OutsideLemmas.{outside_is}
@@ -86,3 +87,45 @@ outside_counted t test items scope count few is of inside once counted =
     let l = o.1 in
     let m = length-map items (item_of t) in
     grind (arith, e, l, m, counted, is, few)
+
+back : {Z : Type 0} (v : Vec ℕ Z) (ws : List ℕ) → length ws ≡ length v.items → (with_items v ws).items ≡ ws
+back v ws e = with_items_is v ws (omega (arith, e, v.ok.0))
+
+-- after marks were made in some of the arrays
+pub ready_pairs : (t : Tables) (stamp : ℕ) (w : Work) (paired taken : List ℕ) → IsReady t stamp w → length paired ≡ length w.paired.items → length taken ≡ length w.taken.items
+    → AreBelow (suc stamp) paired → AreBelow (suc stamp) taken → IsReady t (suc stamp) (record w { paired = with_items w.paired paired; taken = with_items w.taken taken })
+ready_pairs t stamp w paired taken r e f a b =
+    let p = back w.paired paired e in
+    let k = back w.taken taken f in
+    ready_more t stamp w (record w { paired = with_items w.paired paired; taken = with_items w.taken taken }) r refl (ap length p ∙ e) refl (ap length k ∙ f) refl refl
+    (more_below stamp w.chosen.items r.chosen) (subst (AreBelow (suc stamp)) (sym p) a) (more_below stamp w.listed.items r.listed) (subst (AreBelow (suc stamp)) (sym k) b)
+
+pub ready_listed : (t : Tables) (stamp : ℕ) (w : Work) (listed : List ℕ) → IsReady t stamp w → length listed ≡ length w.listed.items
+    → AreBelow (suc stamp) listed → IsReady t (suc stamp) (record w { listed = with_items w.listed listed })
+ready_listed t stamp w listed r e a =
+    let p = back w.listed listed e in
+    ready_more t stamp w (record w { listed = with_items w.listed listed }) r refl refl (ap length p ∙ e) refl refl refl
+    (more_below stamp w.chosen.items r.chosen) (more_below stamp w.paired.items r.paired) (subst (AreBelow (suc stamp)) (sym p) a) (more_below stamp w.taken.items r.taken)
+
+pub ready_plan : (t : Tables) (stamp : ℕ) (w : Work) (chosen paired listed taken : List ℕ) → IsReady t stamp w → length chosen ≡ length w.chosen.items → length paired ≡ length w.paired.items → length listed ≡ length w.listed.items → length taken ≡ length w.taken.items
+    → AreBelow (suc stamp) chosen → AreBelow (suc stamp) paired → AreBelow (suc stamp) listed → AreBelow (suc stamp) taken
+    → IsReady t (suc stamp) (record w { chosen = with_items w.chosen chosen; paired = with_items w.paired paired; listed = with_items w.listed listed; taken = with_items w.taken taken })
+ready_plan t stamp w chosen paired listed taken r e f g h a b c d =
+    let p = back w.chosen chosen e in
+    let q = back w.paired paired f in
+    let s = back w.listed listed g in
+    let k = back w.taken taken h in
+    ready_more t stamp w (record w { chosen = with_items w.chosen chosen; paired = with_items w.paired paired; listed = with_items w.listed listed; taken = with_items w.taken taken }) r
+    (ap length p ∙ e) (ap length q ∙ f) (ap length s ∙ g) (ap length k ∙ h) refl refl
+    (subst (AreBelow (suc stamp)) (sym p) a) (subst (AreBelow (suc stamp)) (sym q) b) (subst (AreBelow (suc stamp)) (sym s) c) (subst (AreBelow (suc stamp)) (sym k) d)
+
+-- no clause on the cost is false
+pub costs_right : (t : Tables) (c : CostClaim) (chosen shown : ℕ) → list_any (λ (l : Layer). not_below l.rank l.outside (case_needed t)) c.layers ≡ false → runs_on 0 c.layers ≡ true
+    → sum_by (price_at t) (items_of t (chosen_items c.chosen)) ≡ c.number → sum_by (shows (case_needed t)) c.layers ≡ c.number
+    → None ≡ first_true (costs_clauses t c)
+costs_right t c chosen shown n r a b =
+    rw (n, r, eq-eqb (sum_by (price_at t) (items_of t (chosen_items c.chosen))) c.number a, eq-eqb (sum_by (shows (case_needed t)) c.layers) c.number b) refl
+
+-- a number that isn't too great to be counted
+pub counted_right : (sum number : ℕ) → min sum (2 ^ 128 - 1) ≡ number → number < 2 ^ 64 → sum ≡ number
+counted_right sum number e l = grind (arith, e, l)

@@ -279,7 +279,7 @@ fn costs(case: &Case, number: u64, needed: u32, rest: &[u8]) -> Option<FlawCode>
     }
     let chosen = cost(case, walk_items(Sort::Chosen, rest));
     let shown = shown_cost(walk_layers(rest), needed);
-    if chosen != number || shown != u128::from(number) {
+    if chosen != u128::from(number) || shown != u128::from(number) {
         return Some(FlawCode::WrongCost);
     }
     None

@@ -76,12 +76,12 @@ pub(crate) fn count(items: Items<'_>, before: u32) -> u32
 }
 
 /// What the items cost as candidates together, at most as much as can be counted.
-pub(crate) fn cost(case: &Case, items: Items<'_>) -> u64
-    ensures cost { result ≡ min (sum_by (price_at case.now) (items_of case.now items.entry)) (2 ^ 64 - 1) }
+pub(crate) fn cost(case: &Case, items: Items<'_>) -> u128
+    ensures cost { result ≡ min (sum_by (price_at case.now) (items_of case.now items.entry)) (2 ^ 128 - 1) }
 {
-    let mut cost = 0u64;
+    let mut cost = 0u128;
     for item in items {
-        cost = cost.saturating_add(price_at(case, item_of(case, item)));
+        cost = cost.saturating_add(u128::from(price_at(case, item_of(case, item))));
     }
     cost
 }

@@ -2,8 +2,9 @@ use Rattle.std.proofs.Common.{◌≡◌, [], length, suc, refl, sym, ap, ◌∙�
 use Rattle.obs_cert.specs.Flaws.{first_true, forest_clauses, not_inside}
 use Rattle.obs_cert.specs.Numbered.{items_of, paired_items, pairs_of}
 use Rattle.obs_cert.specs.Scopes.{is_meter_in, named_need}
+use Rattle.std.specs.Vec.{with_items}
 use Rattle.obs_cert.specs.Walked.{parts_in}
-use Rattle.obs_cert.proofs.ClaimLemmas.{forest_end, not_false, more_below, ready_more, tree_rest}
+use Rattle.obs_cert.proofs.ClaimLemmas.{forest_end, not_false, ready_pairs, tree_rest}
 use Rattle.obs_cert.proofs.claims.tree.Goals as goal
 
 pub returns-clause-flaw : goal.returns-clause-flaw
@@ -19,9 +20,7 @@ returns-clause-flaw c =
 
 pub returns-clause-ready : goal.returns-clause-ready
 returns-clause-ready c =
-    let t = c.args.case.now in
-    let r = c.requires.ready in
     let p = c.has_pair_twice in
     c.forest.ensures.ready (suc c.args.stamp)
-    (ready_more t c.args.stamp c.args.work.now _ r refl (p.auto.paired ∙ ap length c.deref_mut.ensures.value) refl (p.auto.taken ∙ ap length c.deref_mut-2.ensures.value) refl refl
-    (more_below c.args.stamp c.args.work.now.chosen.items r.chosen) p.ensures.below_items (more_below c.args.stamp c.args.work.now.listed.items r.listed) p.ensures.below_branches)
+    (ready_pairs c.args.case.now c.args.stamp c.args.work.now p.new.paired p.new.taken c.requires.ready
+    (p.auto.paired ∙ ap length c.deref_mut.ensures.value) (p.auto.taken ∙ ap length c.deref_mut-2.ensures.value) p.ensures.below_items p.ensures.below_branches)

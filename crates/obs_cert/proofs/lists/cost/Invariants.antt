@@ -1,4 +1,4 @@
-use Rattle.std.proofs.Common.{◌≡◌, ◌≤◌, ◌+◌, min}
+use Rattle.std.proofs.Common.{◌≡◌, ◌≤◌, ◌+◌, ◌-◌, ◌^◌, min}
 use Rattle.std.specs.List.{sum_by}
 use Rattle.obs_cert.specs.Numbered.{items_of}
 use Rattle.obs_cert.specs.Scopes.{price_at}
@@ -6,5 +6,5 @@ use Rattle.obs_cert.proofs.lists.cost.Given as goal
 
 abbrev pub invariant-loop-item : goal.invariant-loop-item
 invariant-loop-item l =
-    (l.cost ≤ 18446744073709551615)
-    × (min (l.cost + sum_by (price_at l.case) (items_of l.case l.item-iterator)) 18446744073709551615 ≡ min (sum_by (price_at l.case) (items_of l.case l.fn.items)) 18446744073709551615)
+    (l.cost ≤ 2 ^ 128 - 1)
+    × (min (l.cost + sum_by (price_at l.case) (items_of l.case l.item-iterator)) (2 ^ 128 - 1) ≡ min (sum_by (price_at l.case) (items_of l.case l.fn.items)) (2 ^ 128 - 1))
