@@ -129,3 +129,12 @@ costs_right t c chosen shown n r a b =
 -- a number that isn't too great to be counted
 pub counted_right : (sum number : ℕ) → min sum (2 ^ 128 - 1) ≡ number → number < 2 ^ 64 → sum ≡ number
 counted_right sum number e l = grind (arith, e, l)
+
+pub bound_rest : (t : Tables) (c : BoundClaim) (k need : ℕ) → k ≡ named_component t c.component → need ≡ named_need t c.component
+    → has_name (node_names t) c.component ≡ true → unknown_item t c.inside ≡ false → names_component t c.component ≡ true
+    → not_inside (is_meter_in t k) (items_of t c.inside) ≡ false
+    → first_true (list_clauses t (is_meter_in t k) (items_of t c.inside) c.rank c.outside need) ≡ bound_flaw t c
+bound_rest t c k need is same known unknown names inside =
+    ap (λ (x : ℕ). first_true (list_clauses t (is_meter_in t x) (items_of t c.inside) c.rank c.outside need)) is
+    ∙ ap (λ (x : ℕ). first_true (list_clauses t (is_meter_in t (named_component t c.component)) (items_of t c.inside) c.rank c.outside x)) same
+    ∙ sym (let i = ap (λ (x : ℕ). not_inside (is_meter_in t x) (items_of t c.inside)) (sym is) ∙ inside in rw (known, unknown, names, i) refl)

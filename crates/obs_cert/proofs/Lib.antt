@@ -14,3 +14,4 @@ pub mod LayerLemmas
 pub mod CountingLemmas
 pub mod OutsideLemmas
 pub mod ClaimLemmas
+pub mod ComponentLemmas

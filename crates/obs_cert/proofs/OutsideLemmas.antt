@@ -20,7 +20,7 @@ use Rattle.obs_cert.proofs.ScopeLemmas.{has_at, has_from}
 use Rattle.obs_cert.proofs.CountingLemmas.{distinct, inside_each, others}
 
 -- what passes among the items is different
-filtered : (p : ℕ → Bool) (xs : List ℕ) → IsDistinct xs → IsDistinct (filter p xs)
+pub filtered : (p : ℕ → Bool) (xs : List ℕ) → IsDistinct xs → IsDistinct (filter p xs)
 filtered p [] d = tt
 filtered p (x ∷ xs) d = elim (cases_Bool (p x)) [
   | inl t ↦ rw t ((λ i. d.0 (In-filter_from p x xs i).0), filtered p xs d.1)

@@ -210,6 +210,7 @@ fn bound(
     }) }
     ensures ready { IsReady case.now (suc stamp) work.new }
 {
+    let _nodes = case.nodes();
     let Some(named) = component_named(case, network, name) else {
         return Some(FlawCode::UnknownName);
     };
