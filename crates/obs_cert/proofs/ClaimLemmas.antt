@@ -1,5 +1,5 @@
 -- The flaw of a claim, where the clauses before are true.
-use Rattle.std.proofs.Common.{◌≡◌, ℕ, suc, ◌+◌, ◌-◌, ◌^◌, ◌<◌, ◌≤◌, ◌||◌, min, Bool, true, false, not, eqb, nat_lt, Option, Some, None, Vec, List, [], ◌∷◌, length, refl, sym, ap, ◌∙◌, subst, arith}
+use Rattle.std.proofs.Common.{◌≡◌, ℕ, suc, ◌+◌, ◌-◌, ◌^◌, ◌<◌, ◌≤◌, ◌||◌, ◌&&◌, min, Bool, true, false, not, eqb, nat_lt, Option, Some, None, Vec, List, [], ◌∷◌, length, refl, sym, ap, ◌∙◌, subst, arith}
 use Rattle.std.specs.Option.{IfNone, IfSome}
 use Rattle.std.specs.List.{list_any, sum_by}
 use Rattle.std.proofs.lemmas.Bool.{cases_Bool, eq-eqb, ne_eqb, lt-ltb, le-ltb}
@@ -16,8 +16,11 @@ use Rattle.obs_cert.specs.Ready.{HasRoom, IsReady}
 use Rattle.std.proofs.lemmas.List.{length-map, with_items_is}
 use Rattle.std.specs.Vec.{with_items}
 use Rattle.obs_cert.specs.Claims.{Item}
+use Rattle.obs_cert.specs.Scopes.{is_live_item, is_meter}
+use Rattle.obs_cert.proofs.MarkLemmas.{any_agree}
+use Rattle.obs_cert.specs.Flaws.{outside_of_plan, twice_in_plan, unknown_in_plan}
 use Rattle.obs_cert.specs.Numbered.{item_of}
-use Rattle.obs_cert.proofs.OutsideLemmas.{outside_is}
+use Rattle.obs_cert.proofs.OutsideLemmas.{outside_is, right_false}
 use Rattle.obs_cert.specs.Scopes.{OfItems, scope_of, has, is_below, is_meter_in, is_of_plan, named_component, named_need, names_component, price_at}
 use Rattle.obs_network.specs.Network.{case_needed}
 
@@ -138,3 +141,42 @@ bound_rest t c k need is same known unknown names inside =
     ap (λ (x : ℕ). first_true (list_clauses t (is_meter_in t x) (items_of t c.inside) c.rank c.outside need)) is
     ∙ ap (λ (x : ℕ). first_true (list_clauses t (is_meter_in t (named_component t c.component)) (items_of t c.inside) c.rank c.outside x)) same
     ∙ sym (let i = ap (λ (x : ℕ). not_inside (is_meter_in t x) (items_of t c.inside)) (sym is) ∙ inside in rw (known, unknown, names, i) refl)
+
+pub layers_outside : (t : Tables) (c : CostClaim) → list_any (λ (l : Listed). wrong_rank t l.list l.layer.rank) (listed_layers t c.layers) ≡ false
+    → list_any (λ (l : Listed). wrong_outside t (is_below t l.layer.to) l.list l.layer.outside) (listed_layers t c.layers) ≡ true → Some WrongOutside ≡ first_true (layers_clauses t c)
+layers_outside t c r o = rw (r, o) refl
+
+pub layers_rest : (t : Tables) (c : CostClaim) → list_any (λ (l : Listed). wrong_rank t l.list l.layer.rank) (listed_layers t c.layers) ≡ false
+    → list_any (λ (l : Listed). wrong_outside t (is_below t l.layer.to) l.list l.layer.outside) (listed_layers t c.layers) ≡ false → first_true (costs_clauses t c) ≡ first_true (layers_clauses t c)
+layers_rest t c r o = rw (r, o) refl
+
+-- a test that says the same lets the same through
+pub same_outside : (t : Tables) (p q : ℕ → Bool) (list : List ℕ) → ((x : ℕ) → p x ≡ q x) → not_inside (is_of_plan t p) list ≡ not_inside (is_of_plan t q) list
+same_outside t p q list same =
+    any_agree (λ m. not (is_of_plan t p m)) (λ m. not (is_of_plan t q m)) list (λ m. ap (λ (b : Bool). not (is_live_item t m && (is_meter t m || b))) (same m))
+
+pub plan_outside : (t : Tables) (c : CostClaim) → unknown_in_plan t c ≡ false → outside_of_plan t c ≡ true → Some NotInside ≡ cost_flaw t c
+plan_outside t c u o = rw (u, o) refl
+
+pub plan_touched : (t : Tables) (c : CostClaim) → unknown_in_plan t c ≡ false → outside_of_plan t c ≡ false → not_touched t (pairs_of t c.pairs) ≡ true → Some NotTouched ≡ cost_flaw t c
+plan_touched t c u o d = rw (u, o, d) refl
+
+pub plan_twice : (t : Tables) (c : CostClaim) → unknown_in_plan t c ≡ false → outside_of_plan t c ≡ false → not_touched t (pairs_of t c.pairs) ≡ false → twice_in_plan t c ≡ true → Some Twice ≡ cost_flaw t c
+plan_twice t c u o d w = rw (u, o, d, w) refl
+
+pub plan_rest : (t : Tables) (c : CostClaim) → unknown_in_plan t c ≡ false → outside_of_plan t c ≡ false → not_touched t (pairs_of t c.pairs) ≡ false → twice_in_plan t c ≡ false
+    → first_true (forest_clauses t (pairs_of t c.pairs) (case_needed t) (layers_clauses t c)) ≡ cost_flaw t c
+plan_rest t c u o d w = rw (u, o, d, w) refl
+
+pub three_same : (a x b y c z : Bool) → a ≡ x → b ≡ y → c ≡ z → (a || (b || c)) ≡ (x || (y || z))
+three_same a x b y c z e f g = ap (λ (k : Bool). k || (b || c)) e ∙ ap (λ (k : Bool). x || (k || c)) f ∙ ap (λ (k : Bool). x || (y || k)) g
+
+pub plan_layers : (t : Tables) (c : CostClaim) → outside_of_plan t c ≡ false → list_any (λ (l : Listed). not_inside (is_below t l.layer.to) l.list) (listed_layers t c.layers) ≡ false
+plan_layers t c e =
+    right_false (not_inside (is_of_plan t (has (items_of t (chosen_items c.chosen)))) (items_of t (paired_items c.pairs)))
+    (list_any (λ (l : Listed). not_inside (is_below t l.layer.to) l.list) (listed_layers t c.layers)) e
+
+pub plan_once : (t : Tables) (c : CostClaim) → twice_in_plan t c ≡ false → twice (items_of t (all_inside c.layers)) ≡ false
+plan_once t c e =
+    right_false (paired_twice t c.pairs) (twice (items_of t (all_inside c.layers)))
+    (right_false (twice (items_of t (chosen_items c.chosen))) (paired_twice t c.pairs || twice (items_of t (all_inside c.layers))) e)

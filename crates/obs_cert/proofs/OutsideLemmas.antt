@@ -71,7 +71,7 @@ pub measuring_start : (t : Tables) (all : List Layer) → list_any (λ (l : List
     → IsMeasuring t all all 0
 measuring_start t all inside once = record { before = []; count = refl; going = refl; inside = inside; once = once }
 
-right_false : (a b : Bool) → (a || b) ≡ false → b ≡ false
+pub right_false : (a b : Bool) → (a || b) ≡ false → b ≡ false
 right_false true b e = cc
 right_false false b e = e
 

@@ -162,19 +162,32 @@ bound_flaw t c =
     ∷ list_clauses t scope list c.rank c.outside (named_need t c.component)
     )
 
+-- a name of a cost claim isn't in its table
+abbrev pub unknown_in_plan : Tables → CostClaim → Bool
+unknown_in_plan t c =
+    unknown_item t (chosen_items c.chosen) || (unknown_pair t c.pairs || unknown_item t (all_inside c.layers))
+
+-- a paired item is idle or a candidate that isn't chosen, or a listed item is none that its layer may speak of
+abbrev pub outside_of_plan : Tables → CostClaim → Bool
+outside_of_plan t c =
+    not_inside (is_of_plan t (has (items_of t (chosen_items c.chosen)))) (items_of t (paired_items c.pairs))
+    || list_any (λ (l : Listed). not_inside (is_below t l.layer.to) l.list) (listed_layers t c.layers)
+
+-- a candidate is chosen twice, or an item or a branch stands in two pairs, or an item stands twice in the lists
+abbrev pub twice_in_plan : Tables → CostClaim → Bool
+twice_in_plan t c =
+    twice (items_of t (chosen_items c.chosen)) || (paired_twice t c.pairs || twice (items_of t (all_inside c.layers)))
+
 -- the flaw of a cost claim
 abbrev pub cost_flaw : Tables → CostClaim → Option FlawCode
 cost_flaw t c =
-    let chosen = items_of t (chosen_items c.chosen) in
     let pairs = pairs_of t c.pairs in
     first_true (
-    (unknown_item t (chosen_items c.chosen) || (unknown_pair t c.pairs || unknown_item t (all_inside c.layers)), UnknownName)
-    ∷ (not_inside (is_of_plan t (has chosen)) (items_of t (paired_items c.pairs)) || list_any (λ (l : Listed). not_inside (is_below t l.layer.to) l.list) (listed_layers t c.layers), NotInside)
-    ∷ (not_touched t pairs, NotTouched)
-    ∷ (twice chosen || (paired_twice t c.pairs || twice (items_of t (all_inside c.layers))), Twice)
-    ∷ (cycle t pairs, Cycle)
-    ∷ (wrong_length pairs (case_needed t), WrongLength)
-    ∷ layers_clauses t c
+      (unknown_in_plan t c, UnknownName)
+      ∷ (outside_of_plan t c, NotInside)
+      ∷ (not_touched t pairs, NotTouched)
+      ∷ (twice_in_plan t c, Twice)
+      ∷ forest_clauses t pairs (case_needed t) (layers_clauses t c)
     )
 
 -- the flaw of a shortfall claim

@@ -1,14 +1,14 @@
 // The flaw of a claim.
-ghost use Rattle.std.specs.Prelude.{◌≡◌, ◌<◌, ◌+◌, [], ℕ, Bool, false, List, Some, IfNone, IfSome, suc, length};
+ghost use Rattle.std.specs.Prelude.{◌≡◌, ◌<◌, ◌+◌, ◌||◌, [], ℕ, Bool, false, List, Some, IfNone, IfSome, suc, length};
 ghost use Rattle.std.specs.List.{list_any};
 ghost use Rattle.obs_network.specs.Network.{case_needed, network_of, rows_of};
-ghost use Rattle.obs_cert.specs.Flaws.{all_inside, bound_clauses, bound_flaw, costs_clauses, forest_clauses, cost_flaw, first_true, flaw_of, layers_clauses, list_clauses, listed_layers, not_inside, paired_twice, shortfall_flaw, tree_flaw, twice, unknown_pair};
+ghost use Rattle.obs_cert.specs.Flaws.{all_inside, bound_clauses, bound_flaw, costs_clauses, forest_clauses, cost_flaw, first_true, flaw_of, layers_clauses, list_clauses, listed_layers, not_inside, outside_of_plan, paired_twice, shortfall_flaw, tree_flaw, twice, unknown_in_plan, unknown_pair};
 ghost use Rattle.obs_cert.specs.Joins.{AreJoined};
-ghost use Rattle.obs_cert.specs.Marks.{AreBelow};
-ghost use Rattle.obs_cert.specs.Numbered.{items_of, pairs_of};
+ghost use Rattle.obs_cert.specs.Marks.{AreBelow, is_marked};
+ghost use Rattle.obs_cert.specs.Numbered.{chosen_items, items_of, pairs_of};
 ghost use Rattle.obs_cert.specs.declared.flaw.FlawCode.{FlawCode};
 ghost use Rattle.obs_cert.specs.Ready.{HasRoom, IsReady};
-ghost use Rattle.obs_cert.specs.Scopes.{OfItems, is_below, is_live_item, scope_of};
+ghost use Rattle.obs_cert.specs.Scopes.{OfItems, has, is_below, is_live_item, scope_of};
 ghost use Rattle.obs_cert.specs.Walked.{claim_said, cost_of, parts_in};
 
 use crate::flaw::FlawCode;
@@ -319,6 +319,38 @@ fn layers(
     costs(case, number, needed, rest)
 }
 
+// Whether a name of a cost claim isn't in its table.
+fn has_unknown_name(case: &Case, rest: &[u8]) -> bool
+    ensures unknown { (number : ℕ) → result ≡ unknown_in_plan case.now (cost_of number (parts_in rest.now)) }
+{
+    has_unknown(case, walk_items(Sort::Chosen, rest))
+        || (has_unknown_pair(case, rest) || has_unknown(case, walk_items(Sort::EachInside, rest)))
+}
+
+// Whether an item of a cost claim, whose chosen candidates are marked, isn't one that it may speak of.
+fn has_outside_item(
+    case: &Case,
+    network: &Network,
+    rest: &[u8],
+    chosen: &[u32],
+    stamp: u32,
+) -> bool
+    requires of_case { network.now ≡ network_of case.now }
+    requires marked { (x : ℕ) → is_marked chosen.now stamp x ≡ has (items_of case.now (chosen_items (parts_in rest.now).chosen)) x }
+    ensures outside { (number : ℕ) → result ≡ outside_of_plan case.now (cost_of number (parts_in rest.now)) }
+{
+    let paired = walk_items(Sort::Paired, rest);
+    has_outside(case, network, Scope::Plan(chosen, stamp), paired)
+        || has_outside_layer(case, network, walk_layers(rest))
+}
+
+// Whether one of three holds.
+fn either(a: bool, b: bool, c: bool) -> bool
+    ensures either { result ≡ (a || (b || c)) }
+{
+    a || (b || c)
+}
+
 // The flaw of a cost claim.
 fn plan(
     case: &Case,
@@ -333,35 +365,21 @@ fn plan(
     ensures flaw { result ≡ cost_flaw case.now (cost_of number (parts_in rest.now)) }
     ensures ready { IsReady case.now (suc stamp) work.new }
 {
-    if has_unknown(case, walk_items(Sort::Chosen, rest))
-        || has_unknown_pair(case, rest)
-        || has_unknown(case, walk_items(Sort::EachInside, rest))
-    {
+    if has_unknown_name(case, rest) {
         return Some(FlawCode::UnknownName);
     }
-    let chosen_twice = has_twice(
-        case,
-        walk_items(Sort::Chosen, rest),
-        &mut work.chosen,
-        stamp,
-    );
-    let scope = Scope::Plan(&work.chosen, stamp);
-    if has_outside(case, network, scope, walk_items(Sort::Paired, rest))
-        || has_outside_layer(case, network, walk_layers(rest))
-    {
+    let chosen = walk_items(Sort::Chosen, rest);
+    let chosen_twice = has_twice(case, chosen, &mut work.chosen, stamp);
+    if has_outside_item(case, network, rest, &work.chosen, stamp) {
         return Some(FlawCode::NotInside);
     }
     if has_untouched(case, network, walk_pairs(rest)) {
         return Some(FlawCode::NotTouched);
     }
     let pair_twice = has_pair_twice(case, rest, &mut work.paired, &mut work.taken, stamp);
-    let listed_twice = has_twice(
-        case,
-        walk_items(Sort::EachInside, rest),
-        &mut work.listed,
-        stamp,
-    );
-    if chosen_twice || (pair_twice || listed_twice) {
+    let listed = walk_items(Sort::EachInside, rest);
+    let listed_twice = has_twice(case, listed, &mut work.listed, stamp);
+    if either(chosen_twice, pair_twice, listed_twice) {
         return Some(FlawCode::Twice);
     }
     if let Some(code) = forest(case, network, rest, network.needed(), work) {
