@@ -15,3 +15,4 @@ pub mod CountingLemmas
 pub mod OutsideLemmas
 pub mod ClaimLemmas
 pub mod ComponentLemmas
+pub mod SaidLemmas

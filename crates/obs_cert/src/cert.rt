@@ -1,5 +1,5 @@
 // Certificates from bytes.
-ghost use Rattle.std.specs.Prelude.{◌≡◌, ◌<◌, ◌≤◌, ◌^◌, Ok, Err, length, IfErr, IfOk};
+ghost use Rattle.std.specs.Prelude.{◌≡◌, ◌≤◌, Ok, Err, length, IfErr, IfOk};
 ghost use Rattle.obs_text.specs.Limits.{most_file_bytes};
 ghost use Rattle.obs_cert.specs.Read.{EndsCert, HasClaims, claims_of};
 
@@ -41,7 +41,6 @@ impl Cert {
     /// The claims one after the other.
     pub(crate) fn walk(&self) -> Claims<'_>
         ensures claims { result ≡ self.now }
-        ensures few { length self.now < 2 ^ 32 }
     {
         walk_claims(&self.bytes)
     }

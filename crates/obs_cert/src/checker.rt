@@ -66,6 +66,7 @@ fn first_flaw(case: &Case, network: &Network, cert: &Cert, work: &mut Work) -> O
     ensures flaw { result ≡ first_flaw case.now 1 cert.now }
     ensures room { HasRoom (rows_of case.now) work.new }
 {
+    let _claims = cert.claims();
     work.begin();
     let live = count_live(case, network);
     let mut at = 0;
