@@ -29,3 +29,5 @@ pub use memory::NoMemory;
 
 #[cfg(test)]
 mod tests;
+#[cfg(test)]
+mod verdicts;
