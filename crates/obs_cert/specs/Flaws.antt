@@ -183,11 +183,11 @@ abbrev pub cost_flaw : Tables → CostClaim → Option FlawCode
 cost_flaw t c =
     let pairs = pairs_of t c.pairs in
     first_true (
-      (unknown_in_plan t c, UnknownName)
-      ∷ (outside_of_plan t c, NotInside)
-      ∷ (not_touched t pairs, NotTouched)
-      ∷ (twice_in_plan t c, Twice)
-      ∷ forest_clauses t pairs (case_needed t) (layers_clauses t c)
+    (unknown_in_plan t c, UnknownName)
+    ∷ (outside_of_plan t c, NotInside)
+    ∷ (not_touched t pairs, NotTouched)
+    ∷ (twice_in_plan t c, Twice)
+    ∷ forest_clauses t pairs (case_needed t) (layers_clauses t c)
     )
 
 -- the flaw of a shortfall claim

@@ -29,8 +29,11 @@ again c =
     (rw (sym c.walk_items-chosen.ensures.items) c.has_twice-chosen_twice.ensures.twice) c.has_pair_twice-pair_twice.ensures.twice (rw (sym c.walk_items-listed.ensures.items) c.has_twice-listed_twice.ensures.twice)
 
 ready : (c : After-either) → IsReady c.args.case.now (suc c.args.stamp) (record c.args.work.now {
-  chosen = with_items c.args.work.now.chosen c.has_twice-chosen_twice.new.marks; paired = with_items c.args.work.now.paired c.has_pair_twice-pair_twice.new.paired;
-  listed = with_items c.args.work.now.listed c.has_twice-listed_twice.new.marks; taken = with_items c.args.work.now.taken c.has_pair_twice-pair_twice.new.taken })
+  chosen = with_items c.args.work.now.chosen c.has_twice-chosen_twice.new.marks;
+  paired = with_items c.args.work.now.paired c.has_pair_twice-pair_twice.new.paired;
+  listed = with_items c.args.work.now.listed c.has_twice-listed_twice.new.marks;
+  taken = with_items c.args.work.now.taken c.has_pair_twice-pair_twice.new.taken;
+})
 ready c =
     let a = c.has_twice-chosen_twice in
     let b = c.has_pair_twice-pair_twice in
@@ -41,7 +44,6 @@ ready c =
 
 need_is : (t : Tables) (n : NetworkOf) (k : ℕ) → n ≡ network_of t → k ≡ n.needed → case_needed t ≡ k
 need_is t n k is same = sym (same ∙ ap (λ (m : NetworkOf). m.needed) is)
-
 
 pub returns-then-has_outside_item-clause-flaw : goal.returns-then-has_outside_item-clause-flaw
 returns-then-has_outside_item-clause-flaw c =

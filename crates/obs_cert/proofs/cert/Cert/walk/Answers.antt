@@ -7,4 +7,3 @@ pub returns : goal.returns
 returns c =
     let w = walked c.self.inside.bytes.items c.self.inside.claims c.self.invariant in
     record { claims = c.walk_claims.ensures.claims ∙ ap (λ bytes. (parts_in bytes).claims) c.deref.ensures.value ∙ w.0 ∙ c.self.view_is }
-
