@@ -408,7 +408,7 @@ fn costs(rt: HostRuntime) {
     let first = b"layer\t0\t3\t2\t0\n".as_slice();
     let list = b"inside\tmeter\tf1\ninside\tmeter\tf2\ninside\tmeter\tib\n".as_slice();
     let cheap = b"inside\tcandidate\tp1\nend\n".as_slice();
-    for (parts, want) in [
+    for ([a, b, c, d, e], want) in [
         ([three, pairs, first, list, cheap], Verdict::Valid(1)),
         (
             [
@@ -597,7 +597,7 @@ fn costs(rt: HostRuntime) {
             flaw(FlawCode::WrongLayers),
         ),
     ] {
-        assert!(rt; joined(rt.alloc(), &case, &parts) == want);
+        assert!(rt; joined(rt.alloc(), &case, &[a, b, c, d, e]) == want);
     }
 }
 
