@@ -1,5 +1,5 @@
 -- Ranks over the network of a case.
-use Rattle.std.proofs.Common.{◌≡◌, ℕ, ◌<◌, ◌≤◌, not, eqb, List, [], length, take, refl, sym, ap, ◌∙◌, subst, arith}
+use Rattle.std.proofs.Common.{◌≡◌, ℕ, ◌≤◌, List, [], length, take, ap, ◌∙◌, subst, arith}
 use Rattle.obs_graph.specs.Shape.{Shape}
 use Rattle.obs_graph.proofs.Ranks.{rank-le-n}
 use Rattle.obs_case.specs.Tables.{IsValid, Tables}

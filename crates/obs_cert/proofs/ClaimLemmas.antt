@@ -1,18 +1,18 @@
 -- The flaw of a claim, where the clauses before are true.
-use Rattle.std.proofs.Common.{◌≡◌, ℕ, suc, ◌+◌, ◌-◌, ◌^◌, ◌<◌, ◌≤◌, ◌||◌, ◌&&◌, min, Bool, true, false, not, eqb, nat_lt, Option, Some, None, Vec, List, [], ◌∷◌, length, refl, sym, ap, ◌∙◌, subst, arith}
+use Rattle.std.proofs.Common.{◌≡◌, ℕ, suc, ◌+◌, ◌-◌, ◌^◌, ◌<◌, ◌≤◌, ◌||◌, ◌&&◌, min, Bool, true, false, not, Option, Some, None, Vec, List, [], length, refl, sym, ap, ◌∙◌, subst, arith}
 use Rattle.std.specs.Option.{IfNone, IfSome}
 use Rattle.std.specs.List.{list_any, sum_by}
-use Rattle.std.proofs.lemmas.Bool.{cases_Bool, eq-eqb, ne_eqb, lt-ltb, le-ltb}
+use Rattle.std.proofs.lemmas.Bool.{eq-eqb, ne_eqb, lt-ltb, le-ltb}
 use Rattle.obs_case.specs.Tables.{Tables, has_name, node_names}
 use Rattle.obs_matroid.specs.Assignments.{Pair as NumberPair}
 use Rattle.obs_cert.specs.declared.flaw.FlawCode.{FlawCode}
-use Rattle.obs_cert.specs.declared.flaw.FlawCode.TheVariants.{WrongRank, WrongOutside, NotBelow, WrongCost, NotInside, NotTouched, Twice, Cycle, WrongLength, WrongLayers}
+use Rattle.obs_cert.specs.declared.flaw.FlawCode.TheVariants.{WrongOutside, NotBelow, NotInside, NotTouched, Twice}
 use Rattle.obs_cert.specs.declared.work.Work.{Work}
-use Rattle.obs_cert.specs.Claims.{BoundClaim, CostClaim, Layer, Pair, TreeClaim}
-use Rattle.obs_cert.specs.Flaws.{Listed, all_inside, bound_clauses, bound_flaw, cost_flaw, costs_clauses, first_true, forest_clauses, layers_clauses, list_clauses, listed_layers, not_below, not_inside, not_touched, outside_of, paired_twice, rank_of_items, runs_on, shows, tree_flaw, twice, unknown_item, unknown_pair, wrong_rank, wrong_outside, wrong_cost}
+use Rattle.obs_cert.specs.Claims.{BoundClaim, CostClaim, Layer, TreeClaim}
+use Rattle.obs_cert.specs.Flaws.{Listed, all_inside, bound_clauses, bound_flaw, cost_flaw, costs_clauses, first_true, forest_clauses, layers_clauses, list_clauses, listed_layers, not_below, not_inside, not_touched, outside_of, paired_twice, rank_of_items, runs_on, shows, tree_flaw, twice, unknown_item, unknown_pair, wrong_rank, wrong_outside}
 use Rattle.obs_cert.specs.Marks.{AreBelow}
 use Rattle.obs_cert.specs.Numbered.{chosen_items, items_of, paired_items, pairs_of}
-use Rattle.obs_cert.specs.Ready.{HasRoom, IsReady}
+use Rattle.obs_cert.specs.Ready.{IsReady}
 use Rattle.std.proofs.lemmas.List.{length-map, with_items_is}
 use Rattle.std.specs.Vec.{with_items}
 use Rattle.obs_cert.specs.Claims.{Item}

@@ -1,12 +1,11 @@
 -- The live meters of a component are the scope of its claims.
-use Rattle.std.proofs.Common.{◌≡◌, ℕ, ◌+◌, ◌<◌, ◌≤◌, ◌&&◌, Bool, true, false, cond, eqb, nat_lt, Option, Some, None, List, length, filter, get_or, refl, sym, ap, ◌∙◌, arith}
+use Rattle.std.proofs.Common.{◌≡◌, ℕ, ◌+◌, ◌<◌, ◌≤◌, ◌&&◌, Bool, true, false, cond, eqb, nat_lt, Some, None, length, get_or, refl, sym, ap, ◌∙◌, arith}
 use Rattle.std.specs.List.{range_with_len}
-use Rattle.std.proofs.lemmas.Bool.{and_parts, cases_Bool, lt-ltb, ltb-true}
+use Rattle.std.proofs.lemmas.Bool.{and_parts, lt-ltb, ltb-true}
 use Rattle.std.proofs.lemmas.List.{length-map}
 use Rattle.obs_network.proofs.Listed.{meter_is_item}
 use Rattle.std.proofs.lemmas.List.FromFn.{length-range_with_len}
-use Rattle.obs_matroid.specs.Lists.{In, IsDistinct}
-use Rattle.obs_matroid.proofs.Lists.{In-filter, In-filter_from, clash, length-within}
+use Rattle.obs_matroid.proofs.Lists.{In-filter, In-filter_from, length-within}
 use Rattle.obs_meter.specs.declared.Touch.{Touch}
 use Rattle.obs_meter.specs.declared.Touch.TheVariants.{Nothing}
 use Rattle.obs_meter.specs.Spanned.{hub_of}
@@ -17,9 +16,9 @@ use Rattle.obs_network.specs.Located.{component_of_item, is_meter_in as is_in, l
 use Rattle.obs_network.specs.Network.{case_branches, case_components, case_meters, case_offered, network_of}
 use Rattle.obs_network.proofs.Marked.{filtered_below}
 use Rattle.obs_network.proofs.OfCase.{length-case_meters, length-case_offered}
-use Rattle.obs_network.proofs.Sums.{range_in, range_distinct}
+use Rattle.obs_network.proofs.Sums.{range_in}
 use Rattle.obs_cert.specs.Scopes.{is_meter, is_meter_in, is_this, scope_of}
-use Rattle.obs_cert.proofs.OutsideLemmas.{filtered, meters_of_items, scope_distinct}
+use Rattle.obs_cert.proofs.OutsideLemmas.{filtered, scope_distinct}
 
 module _ (t : Tables) (c m : ℕ) where
   abbrev touch : Touch

@@ -1,11 +1,9 @@
 -- The ways up while branches are joined one after the other.
 use Rattle.std.proofs.Common.{◌≡◌, ℕ, zero, suc, ◌+◌, ◌<◌, ◌≤◌, min, max, Option, Some, None, ◌⊎◌, inl, inr, List, [], ◌∷◌, ◌++◌, length, take, drop, get_or, set, refl, sym, ap, ◌∙◌, subst, add-one, arith}
-use Rattle.std.specs.List.{Contains, cons_option, flat_map}
+use Rattle.std.specs.List.{cons_option}
 use Rattle.std.proofs.lemmas.Bool.{cases_eq, cases_lt}
-use Rattle.std.proofs.lemmas.Bool.Decides.{nat_tests}
 use Rattle.obs_graph.specs.declared.Ends.{Ends}
-use Rattle.obs_graph.specs.Joined.{InRange, first_joined, merged, rank}
-use Rattle.obs_graph.specs.Positions.{ends_of}
+use Rattle.obs_graph.specs.Joined.{first_joined, merged, rank}
 use Rattle.obs_graph.proofs.First.{first_joined-le, merged-min, merged-other, merged-top}
 use Rattle.obs_graph.proofs.Forests.{rank-nil}
 use Rattle.obs_graph.proofs.Ranks.{first_joined-add_joined, rank-add_joined, rank-add_new, rank-le-n}

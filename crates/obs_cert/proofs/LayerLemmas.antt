@@ -1,13 +1,13 @@
 -- Layers and their lists, one after the other.
-use Rattle.std.proofs.Common.{◌≡◌, ℕ, zero, suc, ◌+◌, ◌-◌, ◌<◌, ◌≤◌, ◌||◌, ◌&&◌, min, max, Bool, true, false, not, eqb, nat_lt, cond, Option, Some, None, ◌⊎◌, inl, inr, List, [], ◌∷◌, ◌++◌, length, filter, map, take, get_or, refl, sym, ap, ◌∙◌, subst, arith}
-use Rattle.std.specs.List.{flat_map, list_any, range_with_len}
-use Rattle.std.proofs.lemmas.Bool.{cases_Bool, eq-eqb, ne_eqb}
+use Rattle.std.proofs.Common.{◌≡◌, ℕ, ◌≤◌, ◌||◌, ◌&&◌, max, Bool, true, false, not, nat_lt, Option, List, [], ◌∷◌, ◌++◌, length, take, refl, sym, ap, ◌∙◌, subst, arith}
+use Rattle.std.specs.List.{flat_map, list_any}
+use Rattle.std.proofs.lemmas.Bool.{eq-eqb, ne_eqb}
 use Rattle.std.proofs.lemmas.Bool.Decides.{nat_tests}
 use Rattle.obs_case.specs.Tables.{Tables}
 use Rattle.obs_graph.specs.declared.Ends.{Ends}
 use Rattle.obs_cert.specs.declared.layers.Seen.{Seen}
 use Rattle.obs_cert.specs.Claims.{Item, Layer}
-use Rattle.obs_cert.specs.Flaws.{Listed, all_inside, listed_from, not_inside, rank_of_items, twice, wrong_rank}
+use Rattle.obs_cert.specs.Flaws.{Listed, listed_from, not_inside, rank_of_items, wrong_rank}
 use Rattle.obs_cert.specs.Joins.{AreJoined, onto}
 use Rattle.obs_cert.specs.Numbered.{item_of, items_of}
 use Rattle.obs_cert.specs.Scopes.{is_below, is_live_item, is_meter, price_at, touches_of}

@@ -1,5 +1,5 @@
 -- Names that aren't in their table.
-use Rattle.std.proofs.Common.{◌≡◌, ℕ, List, Option, None, length, map, sym, ◌∙◌}
+use Rattle.std.proofs.Common.{◌≡◌, ℕ, List, None, length, map, sym, ◌∙◌}
 use Rattle.std.proofs.lemmas.List.{length-map}
 use Rattle.std.specs.Str.{bytes_eq}
 use Rattle.obs_case.specs.Tables.{place_of, position_of}

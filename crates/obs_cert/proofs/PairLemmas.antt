@@ -1,11 +1,9 @@
 -- The branches of pairs while they are joined.
-use Rattle.std.proofs.Common.{◌≡◌, ℕ, zero, suc, ◌+◌, ◌<◌, ◌≤◌, Bool, true, false, not, eqb, Option, Some, None, ◌⊎◌, inl, inr, List, [], ◌∷◌, ◌++◌, length, take, get_or, refl, sym, ap, ◌∙◌, subst, arith}
-use Rattle.std.specs.List.{cons_option}
-use Rattle.std.proofs.lemmas.Bool.{cases_Bool, cases_eq, eq-eqb, ne_eqb}
+use Rattle.std.proofs.Common.{◌≡◌, ℕ, ◌+◌, ◌<◌, ◌≤◌, Bool, true, false, not, eqb, Option, inl, inr, List, [], ◌∷◌, length, refl, sym, ap, ◌∙◌, arith}
+use Rattle.std.proofs.lemmas.Bool.{cases_Bool, eq-eqb, ne_eqb}
 use Rattle.obs_graph.specs.declared.Ends.{Ends}
 use Rattle.obs_matroid.proofs.Lists.{clash}
-use Rattle.obs_cert.specs.Joins.{AreJoined, onto}
-use Rattle.obs_cert.proofs.JoinLemmas.{IsJoining, joining_end, joining_none, joining_one, joining_pass}
+use Rattle.obs_cert.proofs.JoinLemmas.{IsJoining, joining_none}
 
 -- as many were seen as joined something, or more
 pub record IsPairing (ends : List (Option Ends)) (left all ups0 moved0 ups moved : List ℕ) (count : ℕ) (cycle : Bool) : Type 0 where

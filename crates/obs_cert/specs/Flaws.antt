@@ -1,5 +1,5 @@
 -- The clauses of claims: each is a test that is true where the clause is false, under the name of its flaw.
-use Rattle.std.specs.Prelude.{◌≡◌, ℕ, ◌+◌, ◌-◌, ◌*◌, ◌==◌, ◌||◌, ◌&&◌, Bool, true, false, not, nat_lt, Option, None, Some, List, [], ◌∷◌, ◌++◌, length, filter, flat_map, map, if◌then◌else◌}
+use Rattle.std.specs.Prelude.{◌≡◌, ℕ, ◌+◌, ◌-◌, ◌*◌, ◌==◌, ◌||◌, ◌&&◌, Bool, true, false, not, nat_lt, Option, None, Some, List, [], ◌∷◌, ◌++◌, length, filter, flat_map, if◌then◌else◌}
 use Rattle.std.specs.List.{list_any, sum_by}
 use Rattle.obs_case.specs.Tables.{Tables, has_name, node_names}
 use Rattle.obs_matroid.specs.Assignments.{Pair as NumberPair, branches}

@@ -1,5 +1,5 @@
 -- What a call of `next` gives.
-use Rattle.std.specs.Prelude.{◌≡◌, ℕ, List, [], ◌∷◌, Option, None, Some, MatchOption}
+use Rattle.std.specs.Prelude.{◌≡◌, List, [], ◌∷◌, Option, MatchOption}
 use Rattle.obs_cert.specs.declared.line.Item as program
 use Rattle.obs_cert.specs.declared.walk.ClaimLines.{ClaimLines}
 use Rattle.obs_cert.specs.declared.walk.LayerLines.{LayerLines}

@@ -1,5 +1,5 @@
 -- Marks that need no clearing: what is marked with a stamp is marked, and each use has a stamp of its own.
-use Rattle.std.specs.Prelude.{ℕ, suc, ◌<◌, ◌==◌, Bool, List, slice_index}
+use Rattle.std.specs.Prelude.{ℕ, ◌<◌, ◌==◌, Bool, List, slice_index}
 
 -- whether a number is marked with the stamp
 abbrev pub is_marked : List ℕ → ℕ → ℕ → Bool

@@ -1,6 +1,6 @@
 -- What the names of a claim stand for: meters and candidates by one number, the meters first, and branches by position. A name that isn't in
 -- its table stands for the number of rows.
-use Rattle.std.specs.Prelude.{ℕ, ◌+◌, ◌&&◌, Bool, List, length, map}
+use Rattle.std.specs.Prelude.{ℕ, ◌+◌, Bool, List, length, map}
 use Rattle.obs_case.specs.Tables.{Tables, branch_names, candidate_names, has_name, meter_names, place_of}
 use Rattle.obs_matroid.specs.Assignments.{Pair as NumberPair}
 use Rattle.obs_cert.specs.Claims.{Item, meter, candidate, Pair}

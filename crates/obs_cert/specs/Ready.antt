@@ -1,5 +1,5 @@
 -- What claims are checked in.
-use Rattle.std.specs.Prelude.{◌≡◌, ℕ, ◌+◌, ◌<◌, ◌≤◌, ◌^◌, [], length}
+use Rattle.std.specs.Prelude.{ℕ, ◌+◌, ◌<◌, ◌≤◌, ◌^◌, [], length}
 use Rattle.obs_case.specs.Tables.{Tables}
 use Rattle.obs_network.specs.Network.{Rows, rows_of}
 use Rattle.obs_cert.specs.declared.work.Work.{Work}

@@ -1,4 +1,4 @@
-use Rattle.std.proofs.Common.{◌≡◌, ◌<◌, ℕ, Bool, false, length, suc, refl, sym, ap, ◌∙◌, arith}
+use Rattle.std.proofs.Common.{◌≡◌, false, length, sym, ap, ◌∙◌, arith}
 use Rattle.obs_cert.specs.Flaws.{not_inside}
 use Rattle.obs_cert.specs.Numbered.{items_of}
 use Rattle.obs_cert.specs.Scopes.{is_meter_in, scope_of}

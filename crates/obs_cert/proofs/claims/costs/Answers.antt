@@ -1,7 +1,6 @@
-use Rattle.std.proofs.Common.{◌≡◌, ◌<◌, ◌^◌, ℕ, length, false, true, not, suc, refl, sym, ap, ◌∙◌, arith}
-use Rattle.std.specs.List.{list_any, sum_by}
-use Rattle.obs_cert.specs.Claims.{Layer}
-use Rattle.obs_cert.specs.Flaws.{not_below, runs_on, shows}
+use Rattle.std.proofs.Common.{◌<◌, ◌^◌, sym, ◌∙◌, arith}
+use Rattle.std.specs.List.{sum_by}
+use Rattle.obs_cert.specs.Flaws.{shows}
 use Rattle.obs_cert.specs.Numbered.{items_of}
 use Rattle.obs_cert.specs.Scopes.{price_at}
 use Rattle.obs_cert.specs.Walked.{cost_of, parts_in}

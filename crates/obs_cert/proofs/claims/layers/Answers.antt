@@ -1,4 +1,4 @@
-use Rattle.std.proofs.Common.{◌≡◌, ℕ, Bool, false, length, suc, refl, sym, ap, ◌∙◌}
+use Rattle.std.proofs.Common.{sym, ◌∙◌}
 use Rattle.obs_cert.specs.Walked.{cost_of, parts_in}
 use Rattle.obs_cert.proofs.ClaimLemmas.{layers_outside, layers_rest}
 use Rattle.obs_cert.proofs.claims.layers.Goals as goal

@@ -1,4 +1,4 @@
-use Rattle.std.proofs.Common.{◌≡◌, length, suc, refl, sym, ap, ◌∙◌}
+use Rattle.std.proofs.Common.{length, suc, ap, ◌∙◌}
 use Rattle.obs_cert.proofs.ClaimLemmas.{ready_listed}
 use Rattle.obs_cert.proofs.claims.list.Goals as goal
 

@@ -1,4 +1,4 @@
-use Rattle.std.proofs.Common.{◌≡◌, ◌||◌, ℕ, Bool, false, true, length, suc, refl, sym, ap, ◌∙◌}
+use Rattle.std.proofs.Common.{◌≡◌, ℕ, length, suc, refl, sym, ap, ◌∙◌}
 use Rattle.std.specs.Vec.{with_items}
 use Rattle.obs_case.specs.Tables.{Tables}
 use Rattle.obs_cert.specs.Ready.{IsReady}
@@ -7,7 +7,7 @@ use Rattle.obs_cert.specs.Numbered.{chosen_items, items_of, pairs_of}
 use Rattle.obs_cert.specs.Walked.{cost_of, parts_in}
 use Rattle.obs_network.specs.Network.{NetworkOf, case_needed, network_of}
 use Rattle.obs_cert.specs.Flaws.{first_true, forest_clauses}
-use Rattle.obs_cert.proofs.ClaimLemmas.{plan_layers, plan_once, plan_outside, plan_rest, plan_touched, plan_twice, ready_plan, three_same}
+use Rattle.obs_cert.proofs.ClaimLemmas.{plan_layers, plan_outside, plan_rest, plan_touched, plan_twice, ready_plan, three_same}
 use Rattle.obs_cert.proofs.claims.plan.Goals as goal
 use Rattle.obs_cert.proofs.claims.plan.Goals.{After-has_unknown_name, After-has_outside_item, After-has_untouched, After-either}
 

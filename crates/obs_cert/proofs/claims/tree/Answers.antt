@@ -1,8 +1,7 @@
-use Rattle.std.proofs.Common.{◌≡◌, [], length, suc, refl, sym, ap, ◌∙◌, subst}
+use Rattle.std.proofs.Common.{[], length, suc, sym, ap, ◌∙◌}
 use Rattle.obs_cert.specs.Flaws.{first_true, forest_clauses, not_inside}
 use Rattle.obs_cert.specs.Numbered.{items_of, paired_items, pairs_of}
-use Rattle.obs_cert.specs.Scopes.{is_meter_in, named_need}
-use Rattle.std.specs.Vec.{with_items}
+use Rattle.obs_cert.specs.Scopes.{is_meter_in}
 use Rattle.obs_cert.specs.Walked.{parts_in}
 use Rattle.obs_cert.proofs.ClaimLemmas.{forest_end, not_false, ready_pairs, tree_rest}
 use Rattle.obs_cert.proofs.claims.tree.Goals as goal

@@ -1,4 +1,4 @@
-use Rattle.std.proofs.Common.{◌≡◌, ◌<◌, ℕ, List, refl, sym, ap, ◌∙◌, arith}
+use Rattle.std.proofs.Common.{arith}
 use Rattle.obs_cert.proofs.JoinLemmas.{begun, own_joined}
 use Rattle.obs_cert.proofs.joins.begin.Goals as goal
 

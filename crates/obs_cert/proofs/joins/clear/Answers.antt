@@ -1,4 +1,4 @@
-use Rattle.std.proofs.Common.{arith, get_or, set, subst, suc, add-one, sym, ℕ}
+use Rattle.std.proofs.Common.{get_or, set, subst, add-one, sym, ℕ}
 use Rattle.obs_cert.proofs.JoinLemmas.{IsClearing, cleared, clearing_next, clearing_none, clearing_within}
 use Rattle.obs_cert.proofs.joins.clear.Goals as goal
 

@@ -1,5 +1,5 @@
-use Rattle.std.proofs.Common.{◌≡◌, ℕ, ◌<◌, List, length, get_or, refl, sym, ap, ◌∙◌, arith}
-use Rattle.obs_cert.proofs.JoinLemmas.{IsShorter, low_once, low_twice, shorter_none, shorter_next}
+use Rattle.std.proofs.Common.{◌<◌, length, arith}
+use Rattle.obs_cert.proofs.JoinLemmas.{low_once, low_twice, shorter_none, shorter_next}
 use Rattle.obs_cert.proofs.joins.first.Goals as goal
 
 pub loop-ups-init : goal.loop-ups-init

@@ -1,4 +1,3 @@
-use Rattle.std.proofs.Common.{ℕ}
 use Rattle.obs_cert.proofs.JoinLemmas.{IsShorter}
 use Rattle.obs_cert.proofs.joins.first.Given as goal
 

@@ -1,7 +1,7 @@
-use Rattle.std.proofs.Common.{◌≡◌, ◌<◌, ℕ, suc, List, length, take, max, min, get_or, set, refl, sym, ap, ◌∙◌, arith, subst, add-one}
+use Rattle.std.proofs.Common.{List, take, sym, ◌∙◌, arith, add-one}
 use Rattle.obs_graph.specs.declared.Ends.{Ends}
-use Rattle.obs_cert.specs.Joins.{AreFirsts, AreJoined}
-use Rattle.obs_cert.proofs.JoinLemmas.{AreFound, IsShorter, found, joined_already, joined_new, room_left}
+use Rattle.obs_cert.specs.Joins.{AreJoined}
+use Rattle.obs_cert.proofs.JoinLemmas.{AreFound, found, joined_already, joined_new, room_left}
 use Rattle.obs_cert.proofs.joins.join.Goals as goal
 use Rattle.obs_cert.proofs.joins.join.Goals.{After-first-y}
 

@@ -1,6 +1,4 @@
-use Rattle.std.proofs.Common.{◌≡◌, ◌<◌, ◌≤◌, ◌∷◌, ◌+◌, [], ℕ, suc, List, length, take, drop, get_or, refl, sym, ap, ◌∙◌, arith, subst, add-one}
-use Rattle.obs_graph.specs.declared.Ends.{Ends}
-use Rattle.obs_cert.specs.Joins.{AreFirsts, AreJoined}
+use Rattle.std.proofs.Common.{◌∷◌, ◌+◌, [], drop, get_or, sym, ◌∙◌, arith}
 use Rattle.obs_cert.proofs.JoinLemmas.{IsJoining, drop_next, drop_none, joining_end, joining_none, joining_one, joining_pass}
 use Rattle.obs_cert.proofs.joins.join_all.Goals as goal
 use Rattle.obs_cert.proofs.joins.join_all.Goals.{in-Some, in_default, In-loop-e}

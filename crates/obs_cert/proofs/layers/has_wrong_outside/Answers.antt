@@ -1,4 +1,4 @@
-use Rattle.std.proofs.Common.{◌≡◌, ◌∷◌, ◌≤◌, ◌<◌, ◌-◌, ℕ, List, length, sym, ap, ◌∙◌, subst, arith}
+use Rattle.std.proofs.Common.{◌∷◌, List, sym, ◌∙◌, subst, arith}
 use Rattle.obs_cert.specs.Claims.{Layer}
 use Rattle.obs_cert.specs.Given.{layer_said}
 use Rattle.obs_cert.proofs.OutsideLemmas.{IsMeasuring, measuring_on, measuring_start, measuring_wrong}

@@ -1,6 +1,5 @@
-use Rattle.std.proofs.Common.{◌≡◌, ◌∷◌, ◌++◌, [], ℕ, List, sym, ap, ◌∙◌, subst}
+use Rattle.std.proofs.Common.{List, sym, subst}
 use Rattle.obs_cert.specs.Claims.{Item}
-use Rattle.obs_cert.specs.Numbered.{item_of, items_of}
 use Rattle.obs_cert.specs.Said.{item_said}
 use Rattle.obs_cert.proofs.LayerLemmas.{IsSeeing, seeing_more, seeing_start}
 use Rattle.obs_cert.proofs.layers.see_items.Goals as goal

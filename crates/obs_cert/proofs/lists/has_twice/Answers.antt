@@ -1,8 +1,7 @@
-use Rattle.std.proofs.Common.{◌≡◌, ◌∷◌, ◌<◌, ℕ, List, length, map, false, arith, sym, ap, ◌∙◌, subst}
+use Rattle.std.proofs.Common.{◌∷◌, List, arith, sym, ◌∙◌, subst}
 use Rattle.obs_cert.specs.Claims.{Item}
-use Rattle.obs_cert.specs.Numbered.{item_of, items_of}
-use Rattle.obs_cert.specs.Said.{item_said}
-use Rattle.obs_cert.proofs.MarkLemmas.{Seeing, seeing_again, seeing_new, seeing_none, seen_marked, seen_twice}
+use Rattle.obs_cert.specs.Numbered.{items_of}
+use Rattle.obs_cert.proofs.MarkLemmas.{Seeing, seeing_new, seeing_none}
 use Rattle.obs_cert.proofs.lists.has_twice.Goals as goal
 use Rattle.obs_cert.proofs.lists.has_twice.Goals.{After-mark}
 

@@ -1,4 +1,4 @@
-use Rattle.std.proofs.Common.{◌≡◌, ◌∷◌, [], ◌<◌, ◌++◌, ℕ, List, length, map, false, arith, sym, ap, ◌∙◌, subst}
+use Rattle.std.proofs.Common.{[], ◌++◌, List, arith, sym, subst}
 use Rattle.std.specs.List.{flat_map}
 use Rattle.obs_cert.specs.Claims.{Item}
 use Rattle.obs_cert.specs.Numbered.{item_of, items_of}

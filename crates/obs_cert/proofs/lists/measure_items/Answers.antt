@@ -1,4 +1,4 @@
-use Rattle.std.proofs.Common.{◌≡◌, ◌<◌, ℕ, List, length, [], arith, refl, sym, ap, ◌∙◌}
+use Rattle.std.proofs.Common.{length, [], arith, refl}
 use Rattle.std.specs.List.{flat_map}
 use Rattle.obs_cert.specs.Numbered.{items_of}
 use Rattle.obs_cert.specs.Scopes.{touches_of}

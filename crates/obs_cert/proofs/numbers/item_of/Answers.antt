@@ -1,8 +1,6 @@
-use Rattle.std.proofs.Common.{◌≡◌, ◌+◌, ℕ, List, length, ap, sym, ◌∙◌}
+use Rattle.std.proofs.Common.{◌+◌, ℕ, length, ap}
 use Rattle.obs_case.specs.declared.rows.Candidate.{Candidate}
 use Rattle.obs_case.specs.declared.rows.Meter.{Meter}
-use Rattle.obs_cert.specs.Numbered.{item_of}
-use Rattle.obs_cert.specs.Said.{item_said}
 use Rattle.obs_cert.proofs.NumberLemmas.{absent}
 use Rattle.obs_cert.proofs.numbers.item_of.Goals as goal
 

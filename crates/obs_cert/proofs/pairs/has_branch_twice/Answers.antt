@@ -1,8 +1,8 @@
-use Rattle.std.proofs.Common.{◌≡◌, ◌∷◌, ◌<◌, ℕ, List, length, map, false, arith, sym, ap, ◌∙◌, subst}
+use Rattle.std.proofs.Common.{◌∷◌, List, arith, sym, ◌∙◌, subst}
 use Rattle.obs_matroid.specs.Assignments.{branches}
 use Rattle.obs_cert.specs.Claims.{Pair}
-use Rattle.obs_cert.specs.Numbered.{branch_of, pairs_of}
-use Rattle.obs_cert.proofs.MarkLemmas.{Seeing, seeing_again, seeing_new, seeing_none, seen_twice}
+use Rattle.obs_cert.specs.Numbered.{pairs_of}
+use Rattle.obs_cert.proofs.MarkLemmas.{Seeing, seeing_new, seeing_none}
 use Rattle.obs_cert.proofs.pairs.has_branch_twice.Goals as goal
 use Rattle.obs_cert.proofs.pairs.has_branch_twice.Goals.{After-mark}
 

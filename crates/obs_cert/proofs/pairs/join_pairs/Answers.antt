@@ -1,8 +1,7 @@
-use Rattle.std.proofs.Common.{◌≡◌, ◌∷◌, [], ◌<◌, ◌+◌, ◌++◌, ℕ, Bool, List, length, map, true, false, arith, sym, ap, ◌∙◌, subst, inl, inr}
-use Rattle.std.proofs.lemmas.Bool.{or_cases}
+use Rattle.std.proofs.Common.{◌≡◌, ◌∷◌, ◌+◌, List, sym, subst, inl, inr}
 use Rattle.obs_matroid.specs.Assignments.{branches}
 use Rattle.obs_cert.specs.Claims.{Pair}
-use Rattle.obs_cert.specs.Numbered.{branch_of, pairs_of}
+use Rattle.obs_cert.specs.Numbered.{pairs_of}
 use Rattle.obs_cert.proofs.JoinLemmas.{IsJoining, joining_at}
 use Rattle.obs_cert.proofs.PairLemmas.{IsPairing, pairing_grows, pairing_stays}
 use Rattle.obs_cert.proofs.pairs.join_pairs.Goals as goal

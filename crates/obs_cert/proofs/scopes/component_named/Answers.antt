@@ -1,4 +1,4 @@
-use Rattle.std.proofs.Common.{◌≡◌, ap, sym, ◌∙◌, arith}
+use Rattle.std.proofs.Common.{sym, arith}
 use Rattle.obs_case.specs.Tables.{node_names}
 use Rattle.obs_case.specs.declared.rows.Node.{Node}
 use Rattle.obs_case.proofs.NameLemmas.{missed}

@@ -1,4 +1,4 @@
-use Rattle.std.proofs.Common.{◌≡◌, ◌<◌, ℕ, length, get_or, eqb, sym, ap, ◌∙◌, arith}
+use Rattle.std.proofs.Common.{◌≡◌, ◌<◌, ℕ, length, get_or, eqb, ap, arith}
 use Rattle.obs_network.specs.Switched.{case_first_node}
 use Rattle.obs_cert.proofs.ScopeLemmas.{buses_are, buses_long, read_member}
 use Rattle.obs_cert.proofs.scopes.is_first_node.Goals as goal

@@ -1,4 +1,4 @@
-use Rattle.std.proofs.Common.{◌≡◌, sym, ap, ◌∙◌, arith}
+use Rattle.std.proofs.Common.{◌∙◌, arith}
 use Rattle.obs_cert.proofs.ScopeLemmas.{ends_touch, not_past}
 use Rattle.obs_cert.proofs.scopes.is_touched.Goals as goal
 

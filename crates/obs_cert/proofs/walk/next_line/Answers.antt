@@ -1,8 +1,7 @@
-use Rattle.std.proofs.Common.{◌≡◌, ℕ, List, Option, None, Some, refl, sym, ap, ◌∙◌}
+use Rattle.std.proofs.Common.{Option, sym, ap, ◌∙◌}
 use Rattle.obs_text.specs.Lines.{lines_of}
-use Rattle.obs_cert.specs.Said.{line_said}
-use Rattle.obs_cert.specs.Walked.{lines_in, said_line, said_lines}
-use Rattle.obs_cert.specs.Words.{Line, line_of}
+use Rattle.obs_cert.specs.Walked.{said_line, said_lines}
+use Rattle.obs_cert.specs.Words.{Line}
 use Rattle.obs_cert.proofs.walk.next_line.Goals as goal
 
 pub returns-in_err-line-clause-end : goal.returns-in_err-line-clause-end

@@ -1,4 +1,4 @@
-use Rattle.std.proofs.Common.{◌≡◌, List, length, ap, sym, ◌∙◌, arith}
+use Rattle.std.proofs.Common.{ap, ◌∙◌}
 use Rattle.obs_cert.specs.Walked.{parts_in}
 use Rattle.obs_cert.proofs.SaidLemmas.{walked}
 use Rattle.obs_cert.proofs.cert.Cert.walk.Goals as goal
