@@ -42,14 +42,14 @@ step-ok place bytes line next is =
     ]
 
 -- lines that are read have their forms and stand in their places
-abbrev AreRead : Place → List (List ℕ) → List Line → Type 0
+abbrev pub AreRead : Place → List (List ℕ) → List Line → Type 0
 AreRead place all lines = (map line_of all ≡ map Some lines) × InOrder place lines
 
 onto_lines-ok : (line : Line) (r : Result (List Line) CertFault) (lines : List Line) → onto_lines line r ≡ Ok lines → (rest : List Line) × (r ≡ Ok rest) × (lines ≡ line ∷ rest)
 onto_lines-ok line (Ok rest) lines is = (rest, refl, (let same : Ok (line ∷ rest) ≡ Ok lines = is in let e : line ∷ rest ≡ lines = cc in sym e))
 onto_lines-ok line (Err fault) lines is = cc
 
-are_read : (all : List (List ℕ)) (place : Place) (at : ℕ) (lines : List Line) → read_from place at all ≡ Ok lines → AreRead place all lines
+pub are_read : (all : List (List ℕ)) (place : Place) (at : ℕ) (lines : List Line) → read_from place at all ≡ Ok lines → AreRead place all lines
 are_read [] place at lines is =
     elim (cases_Bool (is_over place)) [
       | inl over ↦

@@ -3,3 +3,16 @@ pub mod FaultLemmas
 pub mod LawLemmas
 pub mod OrderLemmas
 pub mod WordLemmas
+pub mod JoinLemmas
+pub mod NumberLemmas
+pub mod ScopeLemmas
+pub mod MarkLemmas
+pub mod RankLemmas
+pub mod PairLemmas
+pub mod CaseLemmas
+pub mod LayerLemmas
+pub mod CountingLemmas
+pub mod OutsideLemmas
+pub mod ClaimLemmas
+pub mod ComponentLemmas
+pub mod SaidLemmas

@@ -5,6 +5,7 @@ ghost use Rattle.obs_cert.specs.Read.{EndsCert, HasClaims, claims_of};
 
 use crate::fault::{CertCode, CertEnd, CertFault};
 use crate::place::{Place, is_over, starts, step};
+use crate::walk::{Claims, walk_claims};
 use obs_text::lines;
 use std::alloc::Global;
 use std::marker::Model;
@@ -35,6 +36,13 @@ impl Cert {
         ensures count { result ≡ length self.now }
     {
         self.claims
+    }
+
+    /// The claims one after the other.
+    pub(crate) fn walk(&self) -> Claims<'_>
+        ensures claims { result ≡ self.now }
+    {
+        walk_claims(&self.bytes)
     }
 }
 

@@ -2,14 +2,32 @@
 #![tactic(auto)]
 
 mod cert;
+mod checker;
+mod claims;
 mod fault;
+mod flaw;
+mod joins;
 pub mod laws;
+mod layers;
 mod line;
+mod lists;
+mod marks;
+mod memory;
+mod numbers;
+mod pairs;
 mod place;
+mod scopes;
+mod walk;
 mod words;
+mod work;
 
 pub use cert::{Cert, read_cert};
+pub use checker::Checker;
 pub use fault::{CertCode, CertEnd, CertFault};
+pub use flaw::{Flaw, FlawCode};
+pub use memory::NoMemory;
 
 #[cfg(test)]
 mod tests;
+#[cfg(test)]
+mod verdicts;

@@ -1,0 +1,78 @@
+-- What the program reads off a network, as definitions on the case say it.
+use Rattle.std.proofs.Common.{◌≡◌, ℕ, ◌<◌, ◌≤◌, Bool, true, false, eqb, Option, Some, None, List, [], ◌∷◌, length, map, get_or, refl, sym, ap, ◌∙◌, inl, inr, arith}
+use Rattle.std.proofs.lemmas.Bool.{cases_Bool, eq-eqb, eqb-true, or_cases, or_left, or_right}
+use Rattle.obs_graph.specs.declared.Ends.{Ends}
+use Rattle.obs_graph.specs.Positions.{branches_at, has_end}
+use Rattle.obs_graph.proofs.AtVertex.{at_vertex, has_end-at_vertex}
+use Rattle.obs_matroid.specs.Lists.{In}
+use Rattle.obs_matroid.proofs.Contained.{Contains-from_In, In-from_Contains}
+use Rattle.obs_matroid.proofs.Lists.{clash}
+use Rattle.obs_switch.specs.Buses.{members_of}
+use Rattle.obs_switch.proofs.FirstNodes.{buses_of-at, first_member}
+use Rattle.obs_case.specs.Tables.{Tables}
+use Rattle.obs_meter.specs.declared.Touch.{Touch}
+use Rattle.obs_meter.specs.Touches.{touched}
+use Rattle.obs_meter.proofs.Touched.{touched-present, below_from_some}
+use Rattle.obs_network.specs.Switched.{case_buses, case_first_node, closed_links}
+use Rattle.std.proofs.lemmas.List.{length-map}
+use Rattle.std.specs.Str.{bytes_eq}
+use Rattle.obs_case.specs.Tables.{has_name, place_of, position_of}
+use Rattle.obs_case.proofs.NameLemmas.{place-there, position-some}
+use Rattle.obs_switch.specs.Held.{Labelled}
+use Rattle.obs_network.specs.Network.{NetworkOf, network_of}
+use Rattle.obs_network.proofs.OfCase.{length-case_buses}
+use Rattle.obs_cert.specs.Scopes.{has}
+
+pub has_from : (xs : List ℕ) (x : ℕ) → has xs x ≡ true → In x xs
+has_from [] x t = clash t refl
+has_from (y ∷ ys) x t = elim (or_cases (eqb y x) (has ys x) t) [ inl e ↦ inl (sym (eqb-true y x e)) | inr i ↦ inr (has_from ys x i) ]
+
+pub has_at : (xs : List ℕ) (x : ℕ) → In x xs → has xs x ≡ true
+has_at [] x h = absurd h
+has_at (y ∷ ys) x (inl e) = or_left (eqb y x) (has ys x) (eq-eqb y x (sym e))
+has_at (y ∷ ys) x (inr i) = or_right (eqb y x) (has ys x) (has_at ys x i)
+
+pub has_not : (xs : List ℕ) (x : ℕ) → (In x xs → ⊥) → has xs x ≡ false
+has_not xs x n = elim (cases_Bool (has xs x)) [ inl t ↦ absurd (n (has_from xs x t)) | inr f ↦ f ]
+
+-- two truths that say the same are one
+pub same_truth : (a b : Bool) → (a ≡ true → b ≡ true) → (b ≡ true → a ≡ true) → a ≡ b
+same_truth true true f g = refl
+same_truth true false f g = sym (f refl)
+same_truth false true f g = g refl
+same_truth false false f g = refl
+
+-- what is touched is one of the graph's positions
+pub not_past : (ends : List (Option Ends)) (t : Touch) (e : ℕ) → length ends ≤ e → false ≡ has (touched ends t) e
+not_past ends t e past = sym (has_not (touched ends t) e (λ i. let l = below_from_some ends e (touched-present ends t e i) in omega (arith, l, past)))
+
+pub ends_touch : (ends : List (Option Ends)) (v e : ℕ) → has_end v (get_or ends e None) ≡ has (branches_at ends v) e
+ends_touch ends v e =
+    same_truth (has_end v (get_or ends e None)) (has (branches_at ends v) e)
+    (λ t. has_at (branches_at ends v) e (In-from_Contains e (branches_at ends v) (at_vertex ends v e t)))
+    (λ t. has_end-at_vertex ends v e (Contains-from_In e (branches_at ends v) (has_from (branches_at ends v) e t)))
+
+-- the first member of a node's bus
+pub member : (t : Tables) (u : ℕ) → u < length t.nodes
+    → (0 < length (members_of (case_buses t) (get_or (case_buses t) u 0))) × (get_or (members_of (case_buses t) (get_or (case_buses t) u 0)) 0 0 ≡ case_first_node t u)
+member t u l = rw (buses_of-at (length t.nodes) (closed_links t.switches) u l) (first_member (length t.nodes) (closed_links t.switches) u l)
+
+pub buses_long : (t : Tables) (n : NetworkOf) (b : Labelled) → n ≡ network_of t → b ≡ n.buses → length b.buses ≡ length t.nodes
+buses_long t n b is same = ap (λ (l : Labelled). length l.buses) (same ∙ ap (λ (m : NetworkOf). m.buses) is) ∙ length-case_buses t
+
+pub buses_are : (t : Tables) (n : NetworkOf) (b : Labelled) → n ≡ network_of t → b ≡ n.buses → b.buses ≡ case_buses t
+buses_are t n b is same = ap (λ (l : Labelled). l.buses) (same ∙ ap (λ (m : NetworkOf). m.buses) is)
+
+-- the first member is read off the bus of a node
+pub read_member : (t : Tables) (u : ℕ) (buses members : List ℕ) (bus : ℕ) → u < length t.nodes → buses ≡ case_buses t → bus ≡ get_or buses u 0 → members ≡ members_of buses bus
+    → (0 < length members) × (get_or members 0 0 ≡ case_first_node t u)
+read_member t u buses members bus l is at read =
+    let e : members ≡ members_of (case_buses t) (get_or (case_buses t) u 0) = read ∙ ap (members_of buses) (at ∙ ap (λ bs. get_or bs u 0) is) ∙ ap (λ bs. members_of bs (get_or (case_buses t) u 0)) is in
+    rw e (member t u l)
+
+-- a row that is found
+pub found_row : {R : Type 0} (name_of : R → List ℕ) (rows : List R) (name : List ℕ) (i : ℕ) → Some i ≡ position_of (map name_of rows) name
+    → (has_name (map name_of rows) name ≡ true) × (i < length rows) × (i ≡ place_of (map name_of rows) name)
+found_row name_of rows name i e =
+    let p = position-some (bytes_eq name) (map name_of rows) i (sym e) in
+    (p.0, omega (arith, place-there (bytes_eq name) (map name_of rows) p.0, p.1, length-map rows name_of), p.1)

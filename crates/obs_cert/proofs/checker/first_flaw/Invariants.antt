@@ -1,0 +1,9 @@
+use Rattle.std.proofs.Common.{◌≡◌, ◌+◌, suc, length}
+use Rattle.obs_cert.specs.Flaws.{first_flaw}
+use Rattle.obs_cert.specs.Ready.{IsReady}
+use Rattle.obs_cert.proofs.checker.first_flaw.Given as goal
+
+abbrev pub invariant-loop-claim : goal.invariant-loop-claim
+invariant-loop-claim l =
+    (first_flaw l.case 1 l.cert ≡ first_flaw l.case (l.at + 1) l.claim-iterator)
+    × (l.at + length l.claim-iterator ≡ length l.cert) × IsReady l.case (suc l.at) l.work

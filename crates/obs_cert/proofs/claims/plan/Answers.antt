@@ -1,0 +1,110 @@
+use Rattle.std.proofs.Common.{◌≡◌, ℕ, length, suc, refl, sym, ap, ◌∙◌}
+use Rattle.std.specs.Vec.{with_items}
+use Rattle.obs_case.specs.Tables.{Tables}
+use Rattle.obs_cert.specs.Ready.{IsReady}
+use Rattle.obs_cert.specs.Flaws.{all_inside, layers_clauses, not_touched, paired_twice, twice, outside_of_plan, twice_in_plan, unknown_in_plan}
+use Rattle.obs_cert.specs.Numbered.{chosen_items, items_of, pairs_of}
+use Rattle.obs_cert.specs.Walked.{cost_of, parts_in}
+use Rattle.obs_network.specs.Network.{NetworkOf, case_needed, network_of}
+use Rattle.obs_cert.specs.Flaws.{first_true, forest_clauses}
+use Rattle.obs_cert.proofs.ClaimLemmas.{plan_layers, plan_outside, plan_rest, plan_touched, plan_twice, ready_plan, three_same}
+use Rattle.obs_cert.proofs.claims.plan.Goals as goal
+use Rattle.obs_cert.proofs.claims.plan.Goals.{After-has_unknown_name, After-has_outside_item, After-has_untouched, After-either}
+
+known : (c : After-has_unknown_name) → c.has_unknown_name.result ≡ unknown_in_plan c.args.case.now (cost_of c.args.number (parts_in c.args.rest.now))
+known c = c.has_unknown_name.ensures.unknown c.args.number
+
+outside : (c : After-has_outside_item) → c.has_outside_item.result ≡ outside_of_plan c.args.case.now (cost_of c.args.number (parts_in c.args.rest.now))
+outside c = c.has_outside_item.ensures.outside c.args.number
+
+touched : (c : After-has_untouched) → c.has_untouched.result ≡ not_touched c.args.case.now (pairs_of c.args.case.now (parts_in c.args.rest.now).pairs)
+touched c = rw (sym c.walk_pairs.ensures.pairs) c.has_untouched.ensures.untouched
+
+again : (c : After-either) → c.either.result ≡ twice_in_plan c.args.case.now (cost_of c.args.number (parts_in c.args.rest.now))
+again c =
+    let t = c.args.case.now in
+    let parts = parts_in c.args.rest.now in
+    c.either.ensures.either
+    ∙ three_same c.has_twice-chosen_twice.result (twice (items_of t (chosen_items parts.chosen))) c.has_pair_twice-pair_twice.result (paired_twice t parts.pairs) c.has_twice-listed_twice.result (twice (items_of t (all_inside parts.layers)))
+    (rw (sym c.walk_items-chosen.ensures.items) c.has_twice-chosen_twice.ensures.twice) c.has_pair_twice-pair_twice.ensures.twice (rw (sym c.walk_items-listed.ensures.items) c.has_twice-listed_twice.ensures.twice)
+
+ready : (c : After-either) → IsReady c.args.case.now (suc c.args.stamp) (record c.args.work.now {
+  chosen = with_items c.args.work.now.chosen c.has_twice-chosen_twice.new.marks;
+  paired = with_items c.args.work.now.paired c.has_pair_twice-pair_twice.new.paired;
+  listed = with_items c.args.work.now.listed c.has_twice-listed_twice.new.marks;
+  taken = with_items c.args.work.now.taken c.has_pair_twice-pair_twice.new.taken;
+})
+ready c =
+    let a = c.has_twice-chosen_twice in
+    let b = c.has_pair_twice-pair_twice in
+    let d = c.has_twice-listed_twice in
+    ready_plan c.args.case.now c.args.stamp c.args.work.now a.new.marks b.new.paired d.new.marks b.new.taken c.requires.ready
+    (a.auto.marks ∙ ap length c.deref_mut.ensures.value) (b.auto.paired ∙ ap length c.deref_mut-2.ensures.value) (d.auto.marks ∙ ap length c.deref_mut-4.ensures.value) (b.auto.taken ∙ ap length c.deref_mut-3.ensures.value)
+    a.ensures.below b.ensures.below_items d.ensures.below b.ensures.below_branches
+
+need_is : (t : Tables) (n : NetworkOf) (k : ℕ) → n ≡ network_of t → k ≡ n.needed → case_needed t ≡ k
+need_is t n k is same = sym (same ∙ ap (λ (m : NetworkOf). m.needed) is)
+
+pub returns-then-has_outside_item-clause-flaw : goal.returns-then-has_outside_item-clause-flaw
+returns-then-has_outside_item-clause-flaw c =
+    plan_outside c.args.case.now (cost_of c.args.number (parts_in c.args.rest.now))
+    (sym (known (goal.at.returns-then-has_outside_item-clause-flaw c).After-has_unknown_name) ∙ c.if-has_unknown_name.false)
+    (sym (outside (goal.at.returns-then-has_outside_item-clause-flaw c).After-has_outside_item) ∙ c.if-has_outside_item.true)
+
+pub returns-then-has_untouched-clause-flaw : goal.returns-then-has_untouched-clause-flaw
+returns-then-has_untouched-clause-flaw c =
+    plan_touched c.args.case.now (cost_of c.args.number (parts_in c.args.rest.now))
+    (sym (known (goal.at.returns-then-has_untouched-clause-flaw c).After-has_unknown_name) ∙ c.if-has_unknown_name.false)
+    (sym (outside (goal.at.returns-then-has_untouched-clause-flaw c).After-has_outside_item) ∙ c.if-has_outside_item.false)
+    (sym (touched (goal.at.returns-then-has_untouched-clause-flaw c).After-has_untouched) ∙ c.if-has_untouched.true)
+
+pub returns-then-has_unknown_name-clause-flaw : goal.returns-then-has_unknown_name-clause-flaw
+returns-then-has_unknown_name-clause-flaw c = rw (sym (known (goal.at.returns-then-has_unknown_name-clause-flaw c).After-has_unknown_name) ∙ c.if-has_unknown_name.true) refl
+
+pub returns-then-either-clause-flaw : goal.returns-then-either-clause-flaw
+returns-then-either-clause-flaw c =
+    plan_twice c.args.case.now (cost_of c.args.number (parts_in c.args.rest.now))
+    (sym (known (goal.at.returns-then-either-clause-flaw c).After-has_unknown_name) ∙ c.if-has_unknown_name.false)
+    (sym (outside (goal.at.returns-then-either-clause-flaw c).After-has_outside_item) ∙ c.if-has_outside_item.false)
+    (sym (touched (goal.at.returns-then-either-clause-flaw c).After-has_untouched) ∙ c.if-has_untouched.false)
+    (sym (again (goal.at.returns-then-either-clause-flaw c).After-either) ∙ c.if-either.true)
+
+pub returns-in-Some-clause-flaw : goal.returns-in-Some-clause-flaw
+returns-in-Some-clause-flaw c =
+    let t = c.args.case.now in
+    let parts = parts_in c.args.rest.now in
+    let plan = cost_of c.args.number parts in
+    let need = need_is t c.args.network.now c.needed.result c.requires.of_case c.needed.ensures.needed in
+    sym (c.in-Some.ensures.flaw (layers_clauses t plan))
+    ∙ ap (λ (k : ℕ). first_true (forest_clauses t (pairs_of t parts.pairs) k (layers_clauses t plan))) (sym need)
+    ∙ plan_rest t plan
+    (sym (known (goal.at.returns-in-Some-clause-flaw c).After-has_unknown_name) ∙ c.if-has_unknown_name.false)
+    (sym (outside (goal.at.returns-in-Some-clause-flaw c).After-has_outside_item) ∙ c.if-has_outside_item.false)
+    (sym (touched (goal.at.returns-in-Some-clause-flaw c).After-has_untouched) ∙ c.if-has_untouched.false)
+    (sym (again (goal.at.returns-in-Some-clause-flaw c).After-either) ∙ c.if-either.false)
+
+pub returns-in-Some-clause-ready : goal.returns-in-Some-clause-ready
+returns-in-Some-clause-ready c = c.forest.ensures.ready (suc c.args.stamp) (ready (goal.at.returns-in-Some-clause-ready c).After-either)
+
+pub layers-requires-clause-inside : goal.layers-requires-clause-inside
+layers-requires-clause-inside c =
+    plan_layers c.args.case.now (cost_of c.args.number (parts_in c.args.rest.now))
+    (sym (outside (goal.at.layers-requires-clause-inside c).After-has_outside_item) ∙ c.if-has_outside_item.false)
+
+pub returns-clause-flaw : goal.returns-clause-flaw
+returns-clause-flaw c =
+    let t = c.args.case.now in
+    let parts = parts_in c.args.rest.now in
+    let plan = cost_of c.args.number parts in
+    let need = need_is t c.args.network.now c.needed.result c.requires.of_case c.needed.ensures.needed in
+    c.layers.ensures.flaw
+    ∙ sym (c.in_default.ensures.none (layers_clauses t plan))
+    ∙ ap (λ (k : ℕ). first_true (forest_clauses t (pairs_of t parts.pairs) k (layers_clauses t plan))) (sym need)
+    ∙ plan_rest t plan
+    (sym (known (goal.at.returns-clause-flaw c).After-has_unknown_name) ∙ c.if-has_unknown_name.false)
+    (sym (outside (goal.at.returns-clause-flaw c).After-has_outside_item) ∙ c.if-has_outside_item.false)
+    (sym (touched (goal.at.returns-clause-flaw c).After-has_untouched) ∙ c.if-has_untouched.false)
+    (sym (again (goal.at.returns-clause-flaw c).After-either) ∙ c.if-either.false)
+
+pub returns-clause-ready : goal.returns-clause-ready
+returns-clause-ready c = c.layers.ensures.ready (suc c.args.stamp) (c.forest.ensures.ready (suc c.args.stamp) (ready (goal.at.returns-clause-ready c).After-either))

@@ -1,0 +1,43 @@
+use Rattle.std.proofs.Common.{◌≡◌, ◌∷◌, ◌+◌, List, sym, subst, inl, inr}
+use Rattle.obs_matroid.specs.Assignments.{branches}
+use Rattle.obs_cert.specs.Claims.{Pair}
+use Rattle.obs_cert.specs.Numbered.{pairs_of}
+use Rattle.obs_cert.proofs.JoinLemmas.{IsJoining, joining_at}
+use Rattle.obs_cert.proofs.PairLemmas.{IsPairing, pairing_grows, pairing_stays}
+use Rattle.obs_cert.proofs.pairs.join_pairs.Goals as goal
+use Rattle.obs_cert.proofs.pairs.join_pairs.Goals.{After-join_one-joined}
+
+before : (c : After-join_one-joined) → IsPairing c.args.g.now.ends (c.branch_of.result ∷ branches (pairs_of c.args.case.now c.next.new.self)) (branches (pairs_of c.args.case.now c.args.pairs))
+    c.args.ups.now c.args.moved.now c.loop-pair.ups c.loop-pair.moved c.loop-pair.count c.loop-pair.cycle
+before c =
+    let l = c.loop-pair in
+    rw c.branch_of.ensures.position
+    (subst (λ (is : List Pair). IsPairing c.args.g.now.ends (branches (pairs_of c.args.case.now is)) (branches (pairs_of c.args.case.now c.args.pairs))
+    c.args.ups.now c.args.moved.now l.ups l.moved l.count l.cycle) c.in-Some.ensures.steps l.invariant)
+
+after : (c : After-join_one-joined) → IsJoining c.args.g.now.ends (branches (pairs_of c.args.case.now c.next.new.self)) (branches (pairs_of c.args.case.now c.args.pairs))
+    c.args.ups.now c.args.moved.now 0 c.join_one-joined.new.ups c.join_one-joined.new.moved c.join_one-joined.result
+after c =
+    let l = c.loop-pair in
+    let j = c.join_one-joined in
+    joining_at c.args.g.now.ends c.branch_of.result (branches (pairs_of c.args.case.now c.next.new.self)) (branches (pairs_of c.args.case.now c.args.pairs))
+    c.args.ups.now c.args.moved.now 0 l.ups l.moved l.count j.new.ups j.new.moved j.result (before c).joining j.ensures.count j.auto.ups j.auto.moved j.ensures.joined
+
+pub loop-pair-preserved-then-joined-count : goal.loop-pair-preserved-then-joined-count
+loop-pair-preserved-then-joined-count c =
+    let here = (goal.at.loop-pair-preserved-then-joined-count c).After-join_one-joined in
+    let l = c.loop-pair in
+    let j = c.join_one-joined in
+    rw c.if-joined-count.true
+    (pairing_stays c.args.g.now.ends c.branch_of.result (branches (pairs_of c.args.case.now c.next.new.self)) (branches (pairs_of c.args.case.now c.args.pairs))
+    c.args.ups.now c.args.moved.now l.ups l.moved l.count l.cycle (before here) j.new.ups j.new.moved (rw (sym c.if-joined-count.true) (after here)))
+
+pub loop-pair-preserved : goal.loop-pair-preserved
+loop-pair-preserved c =
+    let here = (goal.at.loop-pair-preserved c).After-join_one-joined in
+    let l = c.loop-pair in
+    let j = c.join_one-joined in
+    let one : j.result ≡ l.count + 1 = elim j.ensures.one [ inl e ↦ absurd (c.if-joined-count.false e) | inr e ↦ e ] in
+    rw one
+    (pairing_grows c.args.g.now.ends c.branch_of.result (branches (pairs_of c.args.case.now c.next.new.self)) (branches (pairs_of c.args.case.now c.args.pairs))
+    c.args.ups.now c.args.moved.now l.ups l.moved l.count l.cycle (before here) j.new.ups j.new.moved (rw (sym one) (after here)))

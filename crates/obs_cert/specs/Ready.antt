@@ -1,0 +1,26 @@
+-- What claims are checked in.
+use Rattle.std.specs.Prelude.{ℕ, ◌+◌, ◌<◌, ◌≤◌, ◌^◌, [], length}
+use Rattle.obs_case.specs.Tables.{Tables}
+use Rattle.obs_network.specs.Network.{Rows, rows_of}
+use Rattle.obs_cert.specs.declared.work.Work.{Work}
+use Rattle.obs_cert.specs.Joins.{AreJoined}
+use Rattle.obs_cert.specs.Marks.{AreBelow}
+
+-- the arrays have room for a case with so many rows
+pub record HasRoom (rows : Rows) (w : Work) : Type 0 where
+  pub chosen : rows.meters + rows.candidates < length w.chosen.items
+  pub paired : rows.meters + rows.candidates < length w.paired.items
+  pub listed : rows.meters + rows.candidates < length w.listed.items
+  pub taken : rows.branches < length w.taken.items
+  pub ups : rows.nodes ≤ length w.ups.items
+  pub few : length w.ups.items < 2 ^ 32
+  pub moved : length w.ups.items ≤ length w.moved.items
+
+-- they have room, each mark is below the stamp, and nothing is joined
+pub record IsReady (t : Tables) (stamp : ℕ) (w : Work) : Type 0 where
+  pub room : HasRoom (rows_of t) w
+  pub chosen : AreBelow stamp w.chosen.items
+  pub paired : AreBelow stamp w.paired.items
+  pub listed : AreBelow stamp w.listed.items
+  pub taken : AreBelow stamp w.taken.items
+  pub clear : AreJoined [] w.ups.items []

@@ -1,0 +1,80 @@
+// Whether the claims of a certificate hold.
+ghost use Rattle.std.specs.Prelude.{◌≡◌, ◌+◌, ◌<◌, ◌^◌, None, Some, IfErr, IfOk, OnOk, length};
+ghost use Rattle.obs_network.specs.Network.{network_of, rows_of};
+ghost use Rattle.obs_cert.specs.Flaws.{first_flaw};
+ghost use Rattle.obs_cert.specs.Ready.{HasRoom};
+
+use crate::cert::Cert;
+use crate::claims::flaw_of;
+use crate::flaw::Flaw;
+use crate::layers::count_live;
+use crate::memory::NoMemory;
+use crate::work::Work;
+use obs_case::Case;
+use obs_network::Network;
+use std::alloc::Global;
+use std::marker::Model;
+
+/// The network of a case, and what its claims are checked in. A contract sees the network.
+#[derive(Drop)]
+pub struct Checker {
+    network: Network,
+    work: Work,
+}
+
+impl Model for Checker {
+    ghost use Rattle.obs_network.specs.Network.{NetworkOf};
+    ghost use Rattle.obs_cert.specs.Ready.{HasRoom};
+
+    ghost Value = { NetworkOf };
+
+    ghost view = { λ c. c.network };
+
+    ghost invariant = { λ c. HasRoom c.network.rows c.work };
+}
+
+impl Checker {
+    /// Room for checking the claims on a case.
+    pub fn make(alloc: Global, case: &Case) -> Result<Checker, NoMemory>
+        ensures network { IfOk result (λ c. c ≡ network_of case.now) }
+    {
+        Ok(Checker {
+            network: Network::make(alloc, case)?,
+            work: Work::make(alloc, case)?,
+        })
+    }
+
+    /// Whether every claim holds of the case, else the first one that fails, counted from 1, and its false clause of the
+    /// lowest number.
+    pub fn check(&mut self, case: &Case, cert: &Cert) -> Result<(), Flaw>
+        requires of_case { self.old ≡ network_of case.now }
+        ensures holds { OnOk result (first_flaw case.now 1 cert.now ≡ None) }
+        ensures fails { IfErr result (λ flaw. first_flaw case.now 1 cert.now ≡ Some flaw) }
+        ensures unchanged { self.new ≡ self.old }
+    {
+        match first_flaw(case, &self.network, cert, &mut self.work) {
+            None => Ok(()),
+            Some(flaw) => Err(flaw),
+        }
+    }
+}
+
+// The flaw of the first claim that fails.
+fn first_flaw(case: &Case, network: &Network, cert: &Cert, work: &mut Work) -> Option<Flaw>
+    requires of_case { network.now ≡ network_of case.now }
+    requires room { HasRoom (rows_of case.now) work.old }
+    ensures flaw { result ≡ first_flaw case.now 1 cert.now }
+    ensures room { HasRoom (rows_of case.now) work.new }
+{
+    let _claims = cert.claims();
+    work.begin();
+    let live = count_live(case, network);
+    let mut at = 0;
+    for claim in cert.walk() {
+        at += 1;
+        if let Some(code) = flaw_of(case, network, live, claim, work, at) {
+            return Some(Flaw { claim: at, code });
+        }
+    }
+    None
+}

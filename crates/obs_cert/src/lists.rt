@@ -1,0 +1,161 @@
+// Passes over the items of a claim, one clause each.
+ghost use Rattle.std.specs.Prelude.{◌≡◌, ◌≤◌, ◌<◌, ◌^◌, ◌-◌, ◌+◌, [], ℕ, suc, List, flat_map, length, min, sum_by, take};
+ghost use Rattle.obs_graph.specs.declared.Ends.{Ends};
+ghost use Rattle.obs_network.specs.Network.{network_of};
+ghost use Rattle.obs_cert.specs.Flaws.{not_inside, rank_of_items, twice, unknown_item};
+ghost use Rattle.obs_cert.specs.InScope.{in_scope};
+ghost use Rattle.obs_cert.specs.Joins.{AreJoined, onto};
+ghost use Rattle.obs_cert.specs.Marks.{AreBelow, is_marked};
+ghost use Rattle.obs_cert.specs.Numbered.{items_of};
+ghost use Rattle.obs_cert.specs.Scopes.{has, price_at, touches_of};
+
+use crate::joins::{clear, join_all};
+use crate::marks::mark;
+use crate::numbers::{is_known, item_of};
+use crate::scopes::{Scope, in_scope, price_at};
+use crate::walk::Items;
+use obs_case::Case;
+use obs_network::Network;
+
+/// Whether an item isn't in its table.
+pub(crate) fn has_unknown(case: &Case, items: Items<'_>) -> bool
+    ensures unknown { result ≡ unknown_item case.now items.entry }
+{
+    for item in items {
+        if !is_known(case, item) {
+            return true;
+        }
+    }
+    false
+}
+
+/// Whether an item isn't one that the claim may speak of.
+pub(crate) fn has_outside(
+    case: &Case,
+    network: &Network,
+    scope: Scope<'_>,
+    items: Items<'_>,
+) -> bool
+    requires of_case { network.now ≡ network_of case.now }
+    ensures outside { result ≡ not_inside (in_scope case.now scope.entry) (items_of case.now items.entry) }
+{
+    for item in items {
+        if !in_scope(case, network, scope, item_of(case, item)) {
+            return true;
+        }
+    }
+    false
+}
+
+/// Whether an item stands twice. Marks them with the stamp.
+pub(crate) fn has_twice(case: &Case, items: Items<'_>, marks: &mut [u32], stamp: u32) -> bool
+    requires room { length case.now.meters + length case.now.candidates < length marks.old }
+    requires fresh { AreBelow stamp marks.old }
+    ensures twice { result ≡ twice (items_of case.now items.entry) }
+    ensures marked { (x : ℕ) → is_marked marks.new stamp x ≡ has (items_of case.now items.entry) x }
+    ensures below { AreBelow (suc stamp) marks.new }
+{
+    let mut twice = false;
+    for item in items {
+        if mark(marks, stamp, item_of(case, item)) {
+            twice = true;
+        }
+    }
+    twice
+}
+
+/// How many items there are, counted on from a number, at most as many as can be counted.
+pub(crate) fn count(items: Items<'_>, before: u32) -> u32
+    ensures count { result ≡ min (before + length items.entry) (2 ^ 32 - 1) }
+{
+    let mut count = before;
+    for _item in items {
+        count = count.saturating_add(1);
+    }
+    count
+}
+
+/// What the items cost as candidates together, at most as much as can be counted.
+pub(crate) fn cost(case: &Case, items: Items<'_>) -> u128
+    ensures cost { result ≡ min (sum_by (price_at case.now) (items_of case.now items.entry)) (2 ^ 128 - 1) }
+{
+    let mut cost = 0u128;
+    for item in items {
+        cost = cost.saturating_add(u128::from(price_at(case, item_of(case, item))));
+    }
+    cost
+}
+
+// Joins the ends of all branches that an item touches.
+fn join_touched(
+    case: &Case,
+    network: &Network,
+    m: u32,
+    ups: &mut [u32],
+    moved: &mut [u32],
+    count: usize,
+) -> usize
+    requires of_case { network.now ≡ network_of case.now }
+    requires joined { (es : List Ends) × AreJoined es ups.old (take count moved.old) }
+    requires vertices { network.now.graph.vertices ≤ length ups.old }
+    requires room { length ups.old ≤ length moved.old }
+    requires count { count ≤ length moved.old }
+    ensures joined { (es : List Ends) → AreJoined es ups.old (take count moved.old) →
+        AreJoined (onto network.now.graph.ends (touches_of case.now m) es) ups.new (take result moved.new) }
+    ensures count { result ≤ length moved.new }
+{
+    if m < network.offered().count() {
+        let touched = network.offered().touch(network.graph(), m);
+        join_all(network.graph(), touched, ups, moved, count)
+    } else {
+        count
+    }
+}
+
+/// Joins the ends of all branches that the items touch.
+pub(crate) fn join_items(
+    case: &Case,
+    network: &Network,
+    items: Items<'_>,
+    ups: &mut [u32],
+    moved: &mut [u32],
+    count: usize,
+) -> usize
+    requires of_case { network.now ≡ network_of case.now }
+    requires joined { (es : List Ends) × AreJoined es ups.old (take count moved.old) }
+    requires vertices { network.now.graph.vertices ≤ length ups.old }
+    requires room { length ups.old ≤ length moved.old }
+    requires count { count ≤ length moved.old }
+    ensures joined { (es : List Ends) → AreJoined es ups.old (take count moved.old) →
+        AreJoined (onto network.now.graph.ends (flat_map (touches_of case.now) (items_of case.now items.entry)) es)
+        ups.new (take result moved.new) }
+    ensures count { result ≤ length moved.new }
+{
+    let mut count = count;
+    for item in items {
+        count = join_touched(case, network, item_of(case, item), ups, moved, count);
+    }
+    count
+}
+
+/// The rank of the branches that the items touch.
+pub(crate) fn measure_items(
+    case: &Case,
+    network: &Network,
+    items: Items<'_>,
+    ups: &mut [u32],
+    moved: &mut [u32],
+) -> u32
+    requires of_case { network.now ≡ network_of case.now }
+    requires clear { AreJoined [] ups.old [] }
+    requires vertices { length case.now.nodes ≤ length ups.old }
+    requires few { length ups.old < 2 ^ 32 }
+    requires room { length ups.old ≤ length moved.old }
+    ensures rank { result ≡ rank_of_items case.now (items_of case.now items.entry) }
+    ensures clear { AreJoined [] ups.new [] }
+{
+    let _nodes = case.nodes();
+    let count = join_items(case, network, items, ups, moved, 0);
+    clear(ups, &moved[..count]);
+    count as u32
+}

@@ -1,0 +1,188 @@
+// What a case says of an item by its number, and of a component by its name.
+ghost use Rattle.std.specs.Prelude.{◌≡◌, ◌<◌, ◌≤◌, ◌==◌, length, IfSome, is_some, None, slice_index_or};
+ghost use Rattle.obs_graph.specs.Positions.{has_end};
+ghost use Rattle.obs_meter.specs.Touches.{IsInRange, touched};
+ghost use Rattle.obs_network.specs.Located.{component_of_item};
+ghost use Rattle.obs_network.specs.Network.{network_of};
+ghost use Rattle.obs_network.specs.Switched.{case_first_node};
+ghost use Rattle.obs_cert.specs.Marks.{is_marked};
+ghost use Rattle.obs_cert.specs.Scopes.{has, is_live_item, is_meter, is_this, named_component, named_need, names_at, names_component, price_at, touches_of};
+ghost use Rattle.obs_case.specs.Tables.{has_name, node_names};
+ghost use Rattle.obs_cert.specs.InScope.{in_scope};
+
+use obs_case::Case;
+use obs_graph::Graph;
+use obs_meter::Touch;
+use obs_network::Network;
+
+/// Which items a claim may speak of.
+#[derive(Clone, Copy, Debug)]
+pub(crate) enum Scope<'a> {
+    /// The live meters of a component.
+    Component(u32),
+    /// The live meters and the live candidates that are marked with the stamp.
+    Plan(&'a [u32], u32),
+    /// The live meters and candidates.
+    Live,
+}
+
+/// Whether an item is live.
+pub(crate) fn is_live(case: &Case, network: &Network, m: u32) -> bool
+    requires of_case { network.now ≡ network_of case.now }
+    ensures live { result ≡ is_live_item case.now m }
+{
+    if m < network.offered().count() {
+        network.offered().live(network.graph(), m)
+    } else {
+        false
+    }
+}
+
+/// What a candidate costs, by its number as an item.
+pub(crate) fn price_at(case: &Case, m: u32) -> u64
+    ensures price { result ≡ price_at case.now m }
+{
+    let at = m.saturating_sub(case.meters().len() as u32) as usize;
+    match case.candidates().get(at) {
+        Some(row) => row.price,
+        None => 0,
+    }
+}
+
+/// Whether an item is a meter.
+pub(crate) fn is_meter(case: &Case, m: u32) -> bool
+    ensures meter { result ≡ is_meter case.now m }
+{
+    (m as usize) < case.meters().len()
+}
+
+/// Whether a number is marked with the stamp.
+pub(crate) fn is_marked(marks: &[u32], stamp: u32, x: u32) -> bool
+    ensures marked { result ≡ is_marked marks.now stamp x }
+{
+    let mark = match marks.get(x as usize) {
+        Some(mark) => *mark,
+        None => 0,
+    };
+    mark == stamp
+}
+
+// Whether an item lies in a component.
+fn lies_in(case: &Case, network: &Network, m: u32, c: u32) -> bool
+    requires of_case { network.now ≡ network_of case.now }
+    ensures inside { result ≡ is_this (component_of_item network.now m) c }
+{
+    if m < network.offered().count() {
+        match network.component_of_item(m) {
+            Some(d) => d == c,
+            None => false,
+        }
+    } else {
+        false
+    }
+}
+
+// Whether the branch at a position is present and has an end at a vertex.
+fn ends_at(g: &Graph, e: u32, v: u32) -> bool
+    requires e { e < length g.now.ends }
+    ensures end { result ≡ has_end v (slice_index_or g.now.ends e None) }
+{
+    match g.ends(e) {
+        Some(ends) => ends.a == v || ends.b == v,
+        None => false,
+    }
+}
+
+// Whether a branch is touched.
+fn is_touched(g: &Graph, touch: Touch, e: u32) -> bool
+    requires in_range { IsInRange g.now touch }
+    ensures touched { result ≡ has (touched g.now.ends touch) e }
+{
+    if e >= g.positions() {
+        return false;
+    }
+    match touch {
+        Touch::Nothing => false,
+        Touch::Edge(at) => at == e && g.ends(e).is_some(),
+        Touch::Star(v) => ends_at(g, e, v),
+    }
+}
+
+/// Whether an item touches a branch.
+pub(crate) fn touches(case: &Case, network: &Network, m: u32, e: u32) -> bool
+    requires of_case { network.now ≡ network_of case.now }
+    ensures touched { result ≡ has (touches_of case.now m) e }
+{
+    if m < network.offered().count() {
+        is_touched(network.graph(), network.offered().kind(m), e)
+    } else {
+        false
+    }
+}
+
+/// Whether a claim may speak of an item.
+pub(crate) fn in_scope(case: &Case, network: &Network, scope: Scope<'_>, m: u32) -> bool
+    requires of_case { network.now ≡ network_of case.now }
+    ensures inside { result ≡ in_scope case.now scope.entry m }
+{
+    match scope {
+        Scope::Component(c) => is_meter(case, m) && lies_in(case, network, m, c),
+        Scope::Plan(marks, stamp) => {
+            is_live(case, network, m) && (is_meter(case, m) || is_marked(marks, stamp, m))
+        }
+        Scope::Live => is_live(case, network, m),
+    }
+}
+
+// Whether a node is the first one of its bus.
+fn is_first_node(case: &Case, network: &Network, node: u32) -> bool
+    requires of_case { network.now ≡ network_of case.now }
+    requires node { node < length case.now.nodes }
+    ensures first { result ≡ (case_first_node case.now node == node) }
+{
+    let buses = network.buses();
+    buses.members(buses.bus(node))[0] == node
+}
+
+// Whether a node is the first one of its bus, and this the first bus of an energised component.
+fn names(case: &Case, network: &Network, node: u32) -> bool
+    requires of_case { network.now ≡ network_of case.now }
+    requires node { node < length case.now.nodes }
+    ensures names { result ≡ names_at case.now node }
+{
+    let bus = network.buses().bus(node);
+    let c = network.component(bus);
+    let first_node = is_first_node(case, network, node);
+    let first_bus = network.first_bus(c) == bus;
+    let energised = network.energised(c);
+    first_node && (first_bus && energised)
+}
+
+/// A component by its name: its number, what it needs, and whether the name is that of an energised one.
+#[derive(Clone, Copy, Debug)]
+pub(crate) struct Named {
+    pub component: u32,
+    pub need: u32,
+    pub energised: bool,
+}
+
+/// The component that a name stands for, and None where no node has the name.
+pub(crate) fn component_named(case: &Case, network: &Network, name: &[u8]) -> Option<Named>
+    requires of_case { network.now ≡ network_of case.now }
+    ensures known { is_some result ≡ has_name (node_names case.now) name.now }
+    ensures component { IfSome result (λ n. n.component ≡ named_component case.now name.now) }
+    ensures need { IfSome result (λ n. n.need ≡ named_need case.now name.now) }
+    ensures names { IfSome result (λ n. n.energised ≡ names_component case.now name.now) }
+    ensures below { IfSome result (λ n. n.component < length network.now.components.first_buses) }
+{
+    let _nodes = case.nodes();
+    let Some(node) = case.find_node(name) else {
+        return None;
+    };
+    let component = network.component(network.buses().bus(node));
+    Some(Named {
+        component,
+        need: network.need(component),
+        energised: names(case, network, node),
+    })
+}

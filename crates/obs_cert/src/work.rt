@@ -1,0 +1,53 @@
+// What claims are checked in.
+ghost use Rattle.std.specs.Prelude.{◌≡◌, ◌<◌, ◌≤◌, ◌^◌, length, suc, ℕ, IfOk};
+ghost use Rattle.obs_case.specs.Tables.{Tables};
+ghost use Rattle.obs_network.specs.Network.{Rows, rows_of};
+ghost use Rattle.obs_cert.specs.Ready.{HasRoom, IsReady};
+
+use crate::joins::begin;
+use crate::memory::NoMemory;
+use obs_case::Case;
+use std::alloc::Global;
+
+/// Marks of items and branches, and the ways up of vertices.
+#[derive(Drop)]
+pub(crate) struct Work {
+    pub(crate) chosen: Vec<u32>,
+    pub(crate) paired: Vec<u32>,
+    pub(crate) listed: Vec<u32>,
+    pub(crate) taken: Vec<u32>,
+    pub(crate) ups: Vec<u32>,
+    pub(crate) moved: Vec<u32>,
+}
+
+impl Work {
+    /// Room for the claims on a case.
+    pub(crate) fn make(alloc: Global, case: &Case) -> Result<Work, NoMemory>
+        ensures room { IfOk result (HasRoom (rows_of case.now)) }
+    {
+        let nodes = case.nodes().len();
+        let items = case.meters().len() + case.candidates().len() + 1;
+        let branches = case.branches().len() + 1;
+        Ok(Work {
+            chosen: vec![in alloc; 0; items]?,
+            paired: vec![in alloc; 0; items]?,
+            listed: vec![in alloc; 0; items]?,
+            taken: vec![in alloc; 0; branches]?,
+            ups: vec![in alloc; 0; nodes]?,
+            moved: vec![in alloc; 0; nodes]?,
+        })
+    }
+
+    /// Nothing is marked or joined.
+    pub(crate) fn begin(&mut self)
+        requires few { length self.old.ups.items < 2 ^ 32 }
+        ensures ready { (t : Tables) → HasRoom (rows_of t) self.old → IsReady t 1 self.new }
+        ensures room { (rows : Rows) → HasRoom rows self.old → HasRoom rows self.new }
+    {
+        self.chosen.fill(0);
+        self.paired.fill(0);
+        self.listed.fill(0);
+        self.taken.fill(0);
+        begin(&mut self.ups);
+    }
+}
