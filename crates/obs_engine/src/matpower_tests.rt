@@ -105,14 +105,25 @@ fn reports(
     answers(rt, alloc, &MATPOWER, &files, status, text)
 }
 
+// The report of that case.
+fn report() -> &'static [u8] {
+    b"count\tbuses\t4\ncount\tenergised\t3\ncount\tbranches\t2\ncount\tmeters\t2\ncount\tneeded\t2\ncount\trank\t2\nverdict\tobservable\ntree\t1\npair\tmeter\tf1\tL1\npair\tmeter\tf2\tL2\nisland\t1\t1\nisland\t1\t2\nisland\t1\t3\ncritical\tf1\ncritical\tf2\nend\n"
+}
+
 #[test]
 fn a_matpower_case_is_reported(rt: HostRuntime) -> Result<(), Fail> {
-    let text =
-        b"count\tbuses\t4\ncount\tenergised\t3\ncount\tbranches\t2\ncount\tmeters\t2\ncount\tneeded\t2\ncount\trank\t2\nverdict\tobservable\ntree\t1\npair\tmeter\tf1\tL1\npair\tmeter\tf2\tL2\nisland\t1\t1\nisland\t1\t2\nisland\t1\t3\ncritical\tf1\ncritical\tf2\nend\n";
     for case in [three(), with_tabs()] {
-        reports(&rt, rt.alloc(), case, Status::Done, text)?;
+        reports(&rt, rt.alloc(), case, Status::Done, report())?;
     }
     Ok(())
+}
+
+// With blanks behind it up to the greatest length.
+#[test]
+fn a_matpower_file_has_at_most_16777216_bytes(rt: HostRuntime) -> Result<(), Fail> {
+    let mut case = Vec::from_slice(rt.alloc(), three())?;
+    case.resize(16_777_216, b' ')?;
+    reports(&rt, rt.alloc(), &case, Status::Done, report())
 }
 
 #[test]
