@@ -119,7 +119,7 @@ fn faults_behind(
     rt: &impl Abort,
     alloc: Global,
     words: &[&str],
-    case: &[u8],
+    case: &'static [u8],
     tables: Tables,
 ) -> Result<(), Fail> {
     let files = [b"".as_slice(), case, tables.meters, tables.candidates];
