@@ -8,3 +8,6 @@ pub mod InComponents
 pub mod Sums
 pub mod Observed
 pub mod Listed
+pub mod Edited
+pub mod KeptForests
+pub mod RefreshedMeter

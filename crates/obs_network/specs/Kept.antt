@@ -1,5 +1,5 @@
 -- What the arrays of a network hold.
-use Rattle.std.specs.Prelude.{ℕ, suc, ◌≡◌, ◌<◌, ◌≤◌, ◌^◌, All, Bool, Option, Some, None, List, length, map, take}
+use Rattle.std.specs.Prelude.{ℕ, suc, ◌≡◌, ◌<◌, ◌≤◌, ◌^◌, All, Bool, Option, Some, None, List, length, map, slice_index, take}
 use Rattle.obs_graph.specs.declared.Ends.{Ends}
 use Rattle.obs_graph.specs.Search.{State, room_of}
 use Rattle.obs_graph.specs.Shape.{Shape}
@@ -50,6 +50,7 @@ pub record AreListed (meters components most_components : ℕ) (lists members st
   pub few : components ≤ most_components
   pub members_len : length members ≡ length lists
   pub starts_len : length starts ≡ suc most_components
+  pub below : (m : ℕ) → m < meters → slice_index lists m ≤ components
   pub groups : AreGroups (take meters lists) members starts (suc components)
 
 -- the parts of a network agree, and each has the room that it needs

@@ -6,3 +6,4 @@ pub mod Network
 pub mod Located
 pub mod Kept
 pub mod Observable
+pub mod Edited

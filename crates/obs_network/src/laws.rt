@@ -1,9 +1,9 @@
 // The laws of networks.
-ghost use Rattle.std.specs.Prelude.{◌≡◌, ◌↔◌, ◌<◌, ◌≤◌, ℕ, Bool, true, false, List, Option, Some, None, [], IsTrue, Contains, length, filter, sum_by, slice_index, slice_index_or};
+ghost use Rattle.std.specs.Prelude.{◌≡◌, ◌↔◌, ◌⊎◌, ◌<◌, ◌≤◌, ◌+◌, ℕ, Bool, true, false, List, Option, Some, None, [], IsTrue, Contains, length, filter, sum_by, slice_index, slice_index_or, slice_set};
 ghost use Rattle.std.specs.List.{range_with_len};
 ghost use Rattle.obs_graph.specs.declared.Ends.{Ends};
 ghost use Rattle.obs_graph.specs.Joined.{is_joined};
-ghost use Rattle.obs_graph.specs.Positions.{AreBranches, present};
+ghost use Rattle.obs_graph.specs.Positions.{AreBranches, IsForestAt, present};
 ghost use Rattle.obs_switch.specs.declared.link.Link.{Link};
 ghost use Rattle.obs_switch.specs.Buses.{bus_of, ends_of_links};
 ghost use Rattle.obs_case.specs.declared.rows.Node.{Node};
@@ -15,12 +15,13 @@ ghost use Rattle.obs_matroid.specs.Components.{IsSumOfKinds};
 ghost use Rattle.obs_meter.specs.declared.Touch.{Touch};
 ghost use Rattle.obs_meter.specs.declared.Touch.TheVariants.{Nothing};
 ghost use Rattle.obs_meter.specs.Assignments.{IsAssignmentAt, IsRhoAt, rho_at};
-ghost use Rattle.obs_meter.specs.Spanned.{graph_matroid};
+ghost use Rattle.obs_meter.specs.Spanned.{graph_matroid, rank_at};
 ghost use Rattle.obs_meter.specs.Touches.{AreInRange, touch_at};
 ghost use Rattle.obs_network.specs.Switched.{case_bus_count};
 ghost use Rattle.obs_network.specs.Components.{AreOneComponent, component_count, component_of, components_of, first_bus, first_buses_of, is_energised, need_of, needed_of, sizes_of, source_nodes};
 ghost use Rattle.obs_network.specs.Located.{component_of_branch, component_of_item, live_meters_of};
 ghost use Rattle.obs_network.specs.Network.{NetworkOf, case_branches, case_component_count, case_components, case_live, case_meters, case_needed, case_offered, case_sizes, network_of, rows_of};
+ghost use Rattle.obs_network.specs.Edited.{AreKept, AreMerged, ArePresent};
 ghost use Rattle.obs_network.specs.Observable.{IsObservableCase, branch_component, case_live_meters, is_fed, item_component};
 
 /// Two nodes have one bus exactly where the closed switches, as branches between nodes, join them.
@@ -112,6 +113,59 @@ pub fn flags_keep_rows()
         rows_of (with_branch_inservice t at inservice) ≡ rows_of t }
     ensures meter { (t : Tables) (at : ℕ) (inservice : Bool) →
         rows_of (with_meter_inservice t at inservice) ≡ rows_of t }
+{}
+
+/// A branch put in service or taken out leaves the buses, the ends of the branches that stay present, and what items
+/// touch.
+pub fn a_branch_keeps_buses()
+    ensures kept { (t : Tables) → IsValid t → (at : ℕ) (inservice : Bool) →
+        AreKept t (with_branch_inservice t at inservice) }
+    ensures meters { (t : Tables) (at : ℕ) (inservice : Bool) →
+        case_meters (with_branch_inservice t at inservice) ≡ case_meters t }
+    ensures offered { (t : Tables) (at : ℕ) (inservice : Bool) →
+        case_offered (with_branch_inservice t at inservice) ≡ case_offered t }
+{}
+
+/// A meter put in service or taken out leaves the buses and all branches, and changes what it touches itself alone.
+pub fn a_meter_changes_its_touch()
+    ensures kept { (t : Tables) → IsValid t → (at : ℕ) (inservice : Bool) →
+        AreKept t (with_meter_inservice t at inservice) }
+    ensures branches { (t : Tables) (at : ℕ) (inservice : Bool) →
+        case_branches (with_meter_inservice t at inservice) ≡ case_branches t }
+    ensures meters { (t : Tables) (at : ℕ) (inservice : Bool) →
+        case_meters (with_meter_inservice t at inservice)
+        ≡ slice_set (case_meters t) at (slice_index_or (case_meters (with_meter_inservice t at inservice)) at Nothing) }
+    ensures offered { (t : Tables) (at : ℕ) (inservice : Bool) → at < length t.meters →
+        case_offered (with_meter_inservice t at inservice)
+        ≡ slice_set (case_offered t) at (slice_index_or (case_meters (with_meter_inservice t at inservice)) at Nothing) }
+{}
+
+/// Between a switch open and the same switch closed, the buses and the ends of branches are the same, or two buses
+/// become one and all others keep apart. A switch is open or closed.
+pub fn a_switch_merges_two_buses()
+    ensures closing { (t : Tables) → IsValid t → (at : ℕ) →
+        AreKept (with_closed t at false) (with_closed t at true)
+        ⊎ AreMerged (with_closed t at false) (with_closed t at true) }
+    ensures as_it_is { (t : Tables) (at : ℕ) → (t ≡ with_closed t at false) ⊎ (t ≡ with_closed t at true) }
+{}
+
+/// Positions of a forest that stay present are a forest after an edit. Where a switch is closed, all but one of them
+/// still count in their rank.
+pub fn forests_after_edits()
+    ensures branch { (t : Tables) → IsValid t → (at : ℕ) (inservice : Bool) (L : List ℕ) →
+        IsForestAt (case_branches t) L → ArePresent (case_branches (with_branch_inservice t at inservice)) L →
+        IsForestAt (case_branches (with_branch_inservice t at inservice)) L }
+    ensures meter { (t : Tables) → IsValid t → (at : ℕ) (inservice : Bool) (L : List ℕ) →
+        IsForestAt (case_branches t) L → ArePresent (case_branches (with_meter_inservice t at inservice)) L →
+        IsForestAt (case_branches (with_meter_inservice t at inservice)) L }
+    ensures opened { (t : Tables) → IsValid t → (at : ℕ) (L : List ℕ) →
+        IsForestAt (case_branches t) L → ArePresent (case_branches (with_closed t at false)) L →
+        IsForestAt (case_branches (with_closed t at false)) L }
+    ensures closed { (t : Tables) → IsValid t → (at : ℕ) (L : List ℕ) →
+        IsForestAt (case_branches t) L → ArePresent (case_branches (with_closed t at true)) L →
+        length L ≤ rank_at (case_bus_count (with_closed t at true)) (case_branches (with_closed t at true)) L + 1 }
+    ensures rank { (t : Tables) → IsValid t → (L : List ℕ) → IsForestAt (case_branches t) L →
+        rank_at (case_bus_count t) (case_branches t) L ≡ length L }
 {}
 
 /// Both ends of a branch lie in its component, which is energised. An absent branch has none.

@@ -3,6 +3,8 @@
 
 mod components;
 #[cfg(test)]
+mod flag_tests;
+#[cfg(test)]
 mod full_tests;
 pub mod laws;
 mod live;

@@ -1,5 +1,5 @@
 // The live meters of each component.
-ghost use Rattle.std.specs.Prelude.{◌≡◌, ◌<◌, ◌≤◌, ◌^◌, [], ℕ, IfOk, suc, length, slice_index, take};
+ghost use Rattle.std.specs.Prelude.{◌≡◌, ◌<◌, ◌≤◌, ◌^◌, [], ℕ, IfOk, suc, length, slice_index, slice_set, take};
 ghost use Rattle.obs_meter.specs.Touches.{AreInRange, IsInRange};
 ghost use Rattle.obs_switch.specs.Groups.{AreGroups, items_with};
 ghost use Rattle.obs_network.specs.Located.{touch_component};
@@ -11,6 +11,7 @@ use crate::memory::NoMemory;
 use obs_graph::Graph;
 use obs_meter::{Meters, Touch};
 use obs_switch::group::{group, group_of};
+use obs_switch::regroup::regroup;
 use std::alloc::Global;
 use std::marker::Model;
 
@@ -86,6 +87,8 @@ fn write_members(
     requires members { length members.old ≡ length lists.old }
     requires components { length components.now.first_buses < length starts.old }
     ensures lists { take (length meters.now.touches) lists.new ≡ lists_of components.now graph.now meters.now }
+    ensures below { (m : ℕ) → m < length meters.now.touches →
+        slice_index lists.new m ≤ length components.now.first_buses }
     ensures groups { AreGroups (take (length meters.now.touches) lists.new) members.new starts.new
         (suc (length components.now.first_buses)) }
 {
@@ -96,6 +99,32 @@ fn write_members(
         members,
         &mut starts[..components.count() as usize + 1],
     );
+}
+
+// Puts one meter into another list, where there are so many meters, and lists up to this one.
+fn change_list(
+    lists: &mut [u32],
+    members: &mut [u32],
+    starts: &mut [usize],
+    meters: usize,
+    last: u32,
+    m: u32,
+    list: u32,
+)
+    requires few { length lists.old < 2 ^ 32 }
+    requires fits { meters ≤ length lists.old }
+    requires members { length members.old ≡ length lists.old }
+    requires lists { last < length starts.old }
+    requires meter { m < meters }
+    requires list { list ≤ last }
+    requires below { (k : ℕ) → k < meters → slice_index lists.old k ≤ last }
+    requires groups { AreGroups (take meters lists.old) members.old starts.old (suc last) }
+    ensures lists { take meters lists.new ≡ slice_set (take meters lists.old) m list }
+    ensures below { (k : ℕ) → k < meters → slice_index lists.new k ≤ last }
+    ensures groups { AreGroups (take meters lists.new) members.new starts.new (suc last) }
+{
+    let starts = &mut starts[..last as usize + 1];
+    regroup(&mut lists[..meters], members, starts, m, list);
 }
 
 impl LiveMeters {
@@ -143,6 +172,30 @@ impl LiveMeters {
         );
         self.meters = meters.count() as usize;
         self.components = components.count();
+    }
+
+    /// Puts one meter into the list of what it touches now.
+    pub(crate) fn set(&mut self, components: &Components, graph: &Graph, m: u32, touch: Touch)
+        requires vertices { graph.now.vertices ≡ length components.now.of_buses }
+        requires in_range { IsInRange graph.now touch }
+        requires components { self.old.components ≡ length components.now.first_buses }
+        requires meter { m < length self.old.lists }
+        ensures lists { self.new.lists ≡ slice_set self.old.lists m
+            (list_of (length components.now.first_buses) (touch_component components.now.of_buses graph.now.ends touch)) }
+        ensures components { self.new.components ≡ self.old.components }
+        ensures most_meters { self.new.most_meters ≡ self.old.most_meters }
+        ensures most_components { self.new.most_components ≡ self.old.most_components }
+    {
+        let list = list_of(components, graph, touch);
+        change_list(
+            &mut self.lists,
+            &mut self.members,
+            &mut self.starts,
+            self.meters,
+            self.components,
+            m,
+            list,
+        );
     }
 
     /// The meters of a list, rising.

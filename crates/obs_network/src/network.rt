@@ -1,10 +1,11 @@
 // The network of a case.
-ghost use Rattle.std.specs.Prelude.{◌≡◌, ◌-◌, ◌<◌, ◌≤◌, ◌^◌, ◌+◌, [], ℕ, All, IfOk, IfSome, length, slice_index, slice_index_or, take, false};
+ghost use Rattle.std.specs.Prelude.{◌≡◌, ◌-◌, ◌<◌, ◌≤◌, ◌^◌, ◌+◌, [], ℕ, All, IfOk, IfSome, IsTrue, length, slice_index, slice_index_or, take, false};
 ghost use Rattle.obs_graph.specs.Positions.{AreBranches};
 ghost use Rattle.obs_switch.specs.Buses.{LinksBelow};
 ghost use Rattle.obs_meter.specs.Touches.{AreInRange};
 ghost use Rattle.obs_network.specs.Switched.{case_bus_count, case_buses, closed_links};
 ghost use Rattle.obs_network.specs.Components.{need_of};
+ghost use Rattle.obs_network.specs.Edited.{IsBeforeMeter};
 ghost use Rattle.obs_network.specs.Located.{component_of_branch, component_of_item, live_meters_of};
 ghost use Rattle.obs_network.specs.Network.{network_of, rows_of};
 
@@ -12,7 +13,9 @@ use crate::components::Components;
 use crate::live_meters::LiveMeters;
 use crate::located::{component_of_branch, component_of_touch};
 use crate::memory::NoMemory;
-use crate::rebuild::{find_components, find_live, refill_graph, refill_items, relabel};
+use crate::rebuild::{
+    change_item, find_components, find_live, refill_graph, refill_items, relabel_unless,
+};
 use obs_case::Case;
 use obs_graph::search::Search;
 use obs_graph::{Ends, Graph};
@@ -101,13 +104,14 @@ impl Network {
         Ok(network)
     }
 
-    /// Makes the network that of a case with as many rows in each table. Takes no memory.
-    pub fn refresh(&mut self, case: &Case)
+    // Makes the network that of the case. Where the buses stay, they are those of the case already.
+    fn remake(&mut self, case: &Case, buses_stay: bool)
         requires rows { self.old.rows ≡ rows_of case.now }
+        requires buses { IsTrue buses_stay → self.old.buses ≡ (network_of case.now).buses }
         ensures whole { self.new ≡ network_of case.now }
     {
         let _nodes = case.nodes();
-        relabel(case, &mut self.links, &mut self.buses);
+        relabel_unless(case, buses_stay, &mut self.links, &mut self.buses);
         find_live(case, &self.buses, &mut self.live);
         find_components(
             case,
@@ -134,6 +138,44 @@ impl Network {
         self.live_meters
             .refill(&self.components, &self.graph, &self.meters);
         self.needed = self.components.needed();
+    }
+
+    /// Makes the network that of a case with as many rows in each table. Takes no memory.
+    pub fn refresh(&mut self, case: &Case)
+        requires rows { self.old.rows ≡ rows_of case.now }
+        ensures whole { self.new ≡ network_of case.now }
+    {
+        self.remake(case, false);
+    }
+
+    /// The same, where the buses are those of the case already, as after the flag of a branch was set. Takes no memory.
+    pub fn refresh_branches(&mut self, case: &Case)
+        requires rows { self.old.rows ≡ rows_of case.now }
+        requires buses { self.old.buses ≡ (network_of case.now).buses }
+        ensures whole { self.new ≡ network_of case.now }
+    {
+        self.remake(case, true);
+    }
+
+    /// Makes the network that of the case after the flag of one meter was set, where it was that of the case before.
+    /// That meter moves from one list of live meters to another, and nothing else is made anew. Takes no memory.
+    pub fn refresh_meter(&mut self, case: &Case, m: u32)
+        requires meter { m < length case.now.meters }
+        requires before { IsBeforeMeter self.old m case.now }
+        ensures whole { self.new ≡ network_of case.now }
+    {
+        let _nodes = case.nodes();
+        change_item(
+            case,
+            &self.buses,
+            m,
+            &mut self.touches,
+            &mut self.meters,
+            &mut self.offered,
+        );
+        let touch = self.meters.kind(m);
+        self.live_meters
+            .set(&self.components, &self.graph, m, touch);
     }
 
     /// The buses of the case.

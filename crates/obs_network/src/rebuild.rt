@@ -1,5 +1,5 @@
 // The parts of the network of a case, made anew one after another.
-ghost use Rattle.std.specs.Prelude.{◌≡◌, ◌-◌, ◌<◌, ◌≤◌, ◌^◌, ◌+◌, ℕ, All, length, take};
+ghost use Rattle.std.specs.Prelude.{◌≡◌, ◌-◌, ◌<◌, ◌≤◌, ◌^◌, ◌+◌, ℕ, All, IsTrue, length, slice_index_or, slice_set, take};
 ghost use Rattle.obs_graph.specs.Search.{room_of};
 ghost use Rattle.obs_switch.specs.Buses.{LinksBelow};
 ghost use Rattle.obs_network.specs.Switched.{case_bus_count, case_buses, closed_links};
@@ -8,7 +8,7 @@ ghost use Rattle.obs_network.specs.Network.{case_branches, case_components, case
 use crate::components::Components;
 use crate::live::write_live;
 use crate::marks::write_energised;
-use crate::touching::{write_candidates, write_meters};
+use crate::touching::{touch_of_meter, write_candidates, write_meters};
 use obs_case::{Case, Switch};
 use obs_graph::search::{Search, reach_all};
 use obs_graph::{Ends, Graph};
@@ -44,6 +44,21 @@ pub(crate) fn relabel(case: &Case, links: &mut [Link], buses: &mut Buses)
 {
     let count = write_links(case.switches(), links);
     buses.relabel(case.nodes().len() as u32, &links[..count]);
+}
+
+/// The same, where the buses aren't known to be those of the case already.
+pub(crate) fn relabel_unless(case: &Case, buses_stay: bool, links: &mut [Link], buses: &mut Buses)
+    requires links { length case.now.switches ≤ length links.old }
+    requires room { length case.now.nodes ≤ buses.old.most_nodes }
+    requires kept { IsTrue buses_stay →
+        (buses.old.buses ≡ case_buses case.now) × (buses.old.count ≡ case_bus_count case.now) }
+    ensures buses { buses.new.buses ≡ case_buses case.now }
+    ensures count { buses.new.count ≡ case_bus_count case.now }
+    ensures room { buses.new.most_nodes ≡ buses.old.most_nodes }
+{
+    if !buses_stay {
+        relabel(case, links, buses);
+    }
 }
 
 /// Writes the live branches of the case.
@@ -135,4 +150,58 @@ pub(crate) fn refill_items(
     meters.refill(of_meters);
     write_candidates(case.candidates(), buses, of_candidates);
     offered.refill(touches);
+}
+
+// Copies what the items touch.
+fn copy_touches(items: &Meters, touches: &mut [Touch])
+    requires one_each { length touches.old ≡ length items.now.touches }
+    ensures copied { touches.new ≡ items.now.touches }
+{
+    for m in 0..items.count() {
+        touches[m as usize] = items.kind(m);
+    }
+}
+
+// Gives one item another touch. The others are copied out and in again.
+fn give_touch(items: &mut Meters, touches: &mut [Touch], m: u32, touch: Touch)
+    requires item { m < length items.old.touches }
+    requires room { length items.old.touches ≤ length touches.old }
+    requires most { length items.old.touches ≤ items.old.most }
+    ensures whole { items.new ≡ record items.old { touches = slice_set items.old.touches m touch } }
+    ensures same_room { length touches.new ≡ length touches.old }
+{
+    let touches = &mut touches[..items.count() as usize];
+    copy_touches(items, touches);
+    touches[m as usize] = touch;
+    items.refill(touches);
+}
+
+/// Makes one meter that of the case, among the meters and among these with the candidates behind them.
+pub(crate) fn change_item(
+    case: &Case,
+    buses: &Buses,
+    m: u32,
+    touches: &mut [Touch],
+    meters: &mut Meters,
+    offered: &mut Meters,
+)
+    requires buses { buses.now.buses ≡ case_buses case.now }
+    requires meter { m < length case.now.meters }
+    requires meters { m < length meters.old.touches }
+    requires offered { m < length offered.old.touches }
+    requires few { length meters.old.touches ≤ meters.old.most }
+    requires few_offered { length offered.old.touches ≤ offered.old.most }
+    requires room { length meters.old.touches ≤ length touches.old }
+    requires room_offered { length offered.old.touches ≤ length touches.old }
+    ensures meters { meters.new ≡ record meters.old {
+      touches = slice_set meters.old.touches m (slice_index_or (case_meters case.now) m Touch.Nothing);
+    } }
+    ensures offered { offered.new ≡ record offered.old {
+      touches = slice_set offered.old.touches m (slice_index_or (case_meters case.now) m Touch.Nothing);
+    } }
+    ensures same_room { length touches.new ≡ length touches.old }
+{
+    let touch = touch_of_meter(&case.meters()[m as usize], buses);
+    give_touch(meters, touches, m, touch);
+    give_touch(offered, touches, m, touch);
 }

@@ -1,7 +1,7 @@
-// Networks of small cases, before and after a switching. Names are single letters or digits.
+// Networks of small cases, before and after flags are set. Names are single letters or digits.
 ghost use Rattle.std.specs.Prelude.{◌≡◌, IsTrue};
 ghost use Rattle.obs_text.specs.Names.{is_name};
-ghost use Rattle.obs_network.specs.Network.{rows_of};
+ghost use Rattle.obs_network.specs.Network.{network_of};
 
 use crate::{Network, NoMemory};
 use obs_case::{Case, Kind};
@@ -61,25 +61,25 @@ fn add_candidates(rt: &impl Abort, case: &mut Case, candidates: &[(u8, Kind, u8)
 
 // The rows of a case.
 #[derive(Clone, Copy)]
-struct Rows<'a> {
-    nodes: &'a [(u8, bool)],
-    switches: &'a [(u8, u8, u8, bool)],
-    branches: &'a [(u8, u8, u8, bool)],
-    meters: &'a [(u8, Kind, u8)],
-    candidates: &'a [(u8, Kind, u8)],
+pub(crate) struct Rows<'a> {
+    pub(crate) nodes: &'a [(u8, bool)],
+    pub(crate) switches: &'a [(u8, u8, u8, bool)],
+    pub(crate) branches: &'a [(u8, u8, u8, bool)],
+    pub(crate) meters: &'a [(u8, Kind, u8)],
+    pub(crate) candidates: &'a [(u8, Kind, u8)],
 }
 
 // The number of buses, the component of each branch that is present, the first bus, the size, the flag and the need of
 // each component, its live meters, the branches that each offered item touches and its component, and the needed number.
 #[derive(Clone, Copy)]
-struct Seen<'a> {
-    buses: u32,
-    branches: &'a [Option<u32>],
-    components: &'a [(u32, u32, bool, u32)],
-    live: &'a [&'a [u32]],
-    touches: &'a [&'a [u32]],
-    items: &'a [Option<u32>],
-    needed: u32,
+pub(crate) struct Seen<'a> {
+    pub(crate) buses: u32,
+    pub(crate) branches: &'a [Option<u32>],
+    pub(crate) components: &'a [(u32, u32, bool, u32)],
+    pub(crate) live: &'a [&'a [u32]],
+    pub(crate) touches: &'a [&'a [u32]],
+    pub(crate) items: &'a [Option<u32>],
+    pub(crate) needed: u32,
 }
 
 fn case_of(rt: &impl Abort, alloc: Global, rows: &Rows) -> Case {
@@ -92,12 +92,20 @@ fn case_of(rt: &impl Abort, alloc: Global, rows: &Rows) -> Case {
     case
 }
 
-// Opens or closes the switch of that name.
-fn set(case: &mut Case, switch: u8, closed: bool)
-    ensures rows { rows_of case.new ≡ rows_of case.old }
+// Sets the flag of the switch, the meter or the branch of that name, and the network follows.
+fn set(case: &mut Case, network: &mut Network, name: u8, on: bool)
+    requires network { network.old ≡ network_of case.old }
+    ensures network { network.new ≡ network_of case.new }
 {
-    if let Some(at) = case.find_switch(&[switch]) {
-        case.set_switch(at, closed);
+    if let Some(at) = case.find_switch(&[name]) {
+        case.set_switch(at, on);
+        network.refresh(case);
+    } else if let Some(at) = case.find_meter(&[name]) {
+        case.set_meter(at, on);
+        network.refresh_meter(case, at);
+    } else if let Some(at) = case.find_branch(&[name]) {
+        case.set_branch(at, on);
+        network.refresh_branches(case);
     }
 }
 
@@ -147,29 +155,28 @@ fn look(rt: &impl Abort, network: &Network, seen: &Seen) {
     assert!(rt; network.needed() == seen.needed);
 }
 
-// A switch, whether it is closed, and what is seen then.
+// The name of a switch, a meter or a branch, its flag, and what is seen then.
 #[derive(Clone, Copy)]
-struct Switching<'a> {
-    switch: u8,
-    closed: bool,
-    seen: Seen<'a>,
+pub(crate) struct Setting<'a> {
+    pub(crate) name: u8,
+    pub(crate) on: bool,
+    pub(crate) seen: Seen<'a>,
 }
 
-// The network of these rows, and then after each switching.
-fn switched(
+// The network of these rows, and then after each setting.
+pub(crate) fn followed(
     rt: &impl Abort,
     alloc: Global,
     rows: &Rows,
     made: &Seen,
-    switchings: &[Switching],
+    settings: &[Setting],
 ) -> Result<(), NoMemory> {
     let mut case = case_of(rt, alloc, rows);
     let mut network = Network::make(alloc, &case)?;
     look(rt, &network, made);
-    for switching in switchings {
-        set(&mut case, switching.switch, switching.closed);
-        network.refresh(&case);
-        look(rt, &network, &switching.seen);
+    for setting in settings {
+        set(&mut case, &mut network, setting.name, setting.on);
+        look(rt, &network, &setting.seen);
     }
     Ok(())
 }
@@ -209,12 +216,12 @@ fn a_component_without_a_source_has_no_branches(rt: HostRuntime) -> Result<(), F
         items: &[Some(0), None, Some(0)],
         needed: 1,
     };
-    let closing = Switching {
-        switch: b's',
-        closed: true,
+    let closing = Setting {
+        name: b's',
+        on: true,
         seen: remade,
     };
-    switched(&rt, rt.alloc(), &rows, &made, &[closing])?;
+    followed(&rt, rt.alloc(), &rows, &made, &[closing])?;
     Ok(())
 }
 
@@ -244,7 +251,7 @@ fn touches_of_a_path(rt: HostRuntime) -> Result<(), Fail> {
         items: &[Some(0), Some(0), Some(0), Some(0)],
         needed: 3,
     };
-    switched(&rt, rt.alloc(), &rows, &seen, &[])?;
+    followed(&rt, rt.alloc(), &rows, &seen, &[])?;
     Ok(())
 }
 
@@ -281,17 +288,17 @@ fn an_opened_switch_parts_a_bus(rt: HostRuntime) -> Result<(), Fail> {
         items: &[],
         needed: 0,
     };
-    let open_third = Switching {
-        switch: b'3',
-        closed: false,
+    let open_third = Setting {
+        name: b'3',
+        on: false,
         seen: made,
     };
-    let open_first = Switching {
-        switch: b'1',
-        closed: false,
+    let open_first = Setting {
+        name: b'1',
+        on: false,
         seen: remade,
     };
-    switched(&rt, rt.alloc(), &rows, &made, &[open_third, open_first])?;
+    followed(&rt, rt.alloc(), &rows, &made, &[open_third, open_first])?;
     Ok(())
 }
 
@@ -322,12 +329,12 @@ fn a_closed_switch_across_a_branch_takes_it_out(rt: HostRuntime) -> Result<(), F
         items: &[None],
         needed: 0,
     };
-    let closing = Switching {
-        switch: b's',
-        closed: true,
+    let closing = Setting {
+        name: b's',
+        on: true,
         seen: remade,
     };
-    switched(&rt, rt.alloc(), &rows, &made, &[closing])?;
+    followed(&rt, rt.alloc(), &rows, &made, &[closing])?;
     Ok(())
 }
 
@@ -379,12 +386,12 @@ fn a_closed_switch_joins_two_components(rt: HostRuntime) -> Result<(), Fail> {
         items: &[Some(0), Some(0), Some(0), Some(0), Some(0)],
         needed: 5,
     };
-    let closing = Switching {
-        switch: b's',
-        closed: true,
+    let closing = Setting {
+        name: b's',
+        on: true,
         seen: remade,
     };
-    switched(&rt, rt.alloc(), &rows, &made, &[closing])?;
+    followed(&rt, rt.alloc(), &rows, &made, &[closing])?;
     Ok(())
 }
 
@@ -419,6 +426,6 @@ fn meters_are_listed_by_component(rt: HostRuntime) -> Result<(), Fail> {
         items: &[Some(1), Some(0), Some(1), None, Some(0), Some(1), None],
         needed: 2,
     };
-    switched(&rt, rt.alloc(), &rows, &seen, &[])?;
+    followed(&rt, rt.alloc(), &rows, &seen, &[])?;
     Ok(())
 }

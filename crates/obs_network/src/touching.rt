@@ -17,6 +17,18 @@ fn touch_of(kind: Kind, at: u32, buses: &Buses) -> Touch
     }
 }
 
+/// What a meter touches: nothing, where it is out of service.
+pub(crate) fn touch_of_meter(row: &Meter, buses: &Buses) -> Touch
+    requires node { row.now.kind ≢ Kind.Flow → row.now.at < length buses.now.buses }
+    ensures touch { result ≡ meter_touch buses.now.buses row.now }
+{
+    if row.inservice {
+        touch_of(row.kind, row.at, buses)
+    } else {
+        Touch::Nothing
+    }
+}
+
 /// Writes what each meter touches.
 pub(crate) fn write_meters(meters: &[Meter], buses: &Buses, touches: &mut [Touch])
     requires room { length meters.now ≡ length touches.old }
@@ -24,12 +36,7 @@ pub(crate) fn write_meters(meters: &[Meter], buses: &Buses, touches: &mut [Touch
     ensures touches { touches.new ≡ meter_touches buses.now.buses meters.now }
 {
     for i in 0..meters.len() {
-        let row = &meters[i];
-        touches[i] = if row.inservice {
-            touch_of(row.kind, row.at, buses)
-        } else {
-            Touch::Nothing
-        };
+        touches[i] = touch_of_meter(&meters[i], buses);
     }
 }
 

@@ -1,7 +1,8 @@
 // The laws of buses.
-ghost use Rattle.std.specs.Prelude.{◌≡◌, ◌↔◌, ◌<◌, ◌≤◌, ℕ, List, slice_index, length};
+ghost use Rattle.std.specs.Prelude.{◌≡◌, ◌≢◌, ◌↔◌, ◌<◌, ◌≤◌, ◌++◌, ◌∷◌, ℕ, List, slice_index, length};
+ghost use Rattle.obs_graph.specs.Joined.{IsMerging};
 ghost use Rattle.obs_switch.specs.declared.link.Link.{Link};
-ghost use Rattle.obs_switch.specs.Buses.{AreOneBus, bus_of, bus_count, buses_of, first_node, members_of};
+ghost use Rattle.obs_switch.specs.Buses.{AreOneBus, bus_of, bus_count, bus_under, buses_of, first_node, members_of};
 
 /// Two nodes have one bus exactly where a chain of closed switches leads from the one to the other.
 pub fn one_bus_by_chain()
@@ -25,4 +26,19 @@ pub fn buses_by_first_nodes()
 pub fn first_member_names_the_bus()
     ensures some { (nodes : ℕ) (links : List Link) (u : ℕ) → u < nodes → 0 < length (members_of (buses_of nodes links) (bus_of links u)) }
     ensures named { (nodes : ℕ) (links : List Link) (u : ℕ) → u < nodes → slice_index (members_of (buses_of nodes links) (bus_of links u)) 0 ≡ first_node links u }
+{}
+
+/// One closed switch more, between two nodes of one bus, leaves the buses. Between nodes of two buses it makes these
+/// one: each bus has a new name, that of the bus after in which its first node lies, and all its nodes with it.
+pub fn one_link_more()
+    ensures same { (nodes : ℕ) (xs : List Link) (l : Link) (ys : List Link) → l.from < nodes → l.to < nodes →
+        bus_of (xs ++ ys) l.from ≡ bus_of (xs ++ ys) l.to →
+        buses_of nodes (xs ++ l ∷ ys) ≡ buses_of nodes (xs ++ ys) }
+    ensures merged { (nodes : ℕ) (xs : List Link) (l : Link) (ys : List Link) → l.from < nodes → l.to < nodes →
+        bus_of (xs ++ ys) l.from ≢ bus_of (xs ++ ys) l.to →
+        IsMerging (bus_count nodes (xs ++ ys)) (bus_count nodes (xs ++ l ∷ ys)) (bus_of (xs ++ ys) l.from)
+        (bus_of (xs ++ ys) l.to) (bus_under nodes (xs ++ ys) (xs ++ l ∷ ys)) }
+    ensures named { (nodes : ℕ) (xs : List Link) (l : Link) (ys : List Link) (u : ℕ) →
+        l.from < nodes → l.to < nodes → u < nodes →
+        bus_of (xs ++ l ∷ ys) u ≡ bus_under nodes (xs ++ ys) (xs ++ l ∷ ys) (bus_of (xs ++ ys) u) }
 {}

@@ -7,6 +7,7 @@ pub mod laws;
 mod link;
 mod number;
 mod rebuild;
+pub mod regroup;
 mod sweep;
 #[cfg(test)]
 mod tests;

@@ -1,9 +1,15 @@
 use Rattle.std.proofs.Common.{◌∙◌, sym, refl, ap, length, arith}
+use Rattle.obs_switch.specs.Held.{Labelled}
 use Rattle.obs_network.specs.Network.{NetworkOf, Rows, case_needed}
 use Rattle.obs_network.proofs.Grouping.{written_back}
 use Rattle.obs_network.proofs.OfCase.{case_bus_count-le, case_component_count-le, few_nodes, length-case_components, length-case_first_buses, length-case_meters, meters-in_range, offered-in_range}
 use Rattle.obs_network.proofs.Whole.{labelled_is, grouped_is, shape_is, items_are, rows_are, network_is}
-use Rattle.obs_network.proofs.network.Network.refresh.Goals as goal
+use Rattle.obs_network.proofs.network.Network.remake.Goals as goal
+
+pub relabel_unless-requires-clause-kept : goal.relabel_unless-requires-clause-kept
+relabel_unless-requires-clause-kept c = λ stay.
+    let same = ap (λ (n : NetworkOf). n.buses) c.self.view_is ∙ c.requires.buses stay in
+    (ap (λ (b : Labelled). b.buses) same, ap (λ (b : Labelled). b.count) same)
 
 pub find_components-requires-clause-vertices : goal.find_components-requires-clause-vertices
 find_components-requires-clause-vertices c =
@@ -70,27 +76,27 @@ invariant_of-self c =
     let found = c.find_components.ensures in
     let kept = c.refill_graph.ensures in
     let items = c.refill_items.ensures in
-    let links = c.relabel.auto.links in
+    let links = c.relabel_unless.auto.links in
     let live = c.find_live.auto.live in
     let keeps = c.refill_graph.auto.kept in
     let touches = c.refill_items.auto.touches in
     let listed = c.refill.ensures in
     rw (
-      written_back s.links.len c.relabel.new.links s.links.items (omega arith) (omega arith),
+      written_back s.links.len c.relabel_unless.new.links s.links.items (omega arith) (omega arith),
       written_back s.live.len c.find_live.new.live s.live.items (omega arith) (omega arith),
       written_back s.kept.len c.refill_graph.new.kept s.kept.items (omega arith) (omega arith),
       written_back s.touches.len c.refill_items.new.touches s.touches.items (omega arith) (omega arith),
     )
     record {
-      buses_room = omega (arith, v.buses_room, c.relabel.ensures.room, found.room);
+      buses_room = omega (arith, v.buses_room, c.relabel_unless.ensures.room, found.room);
       vertices_room = omega (arith, v.vertices_room, found.most_vertices, found.room, kept.most_vertices);
       branches_room = omega (arith, v.branches_room, found.most_branches, kept.most_branches, live);
       kept_len = omega (arith, v.kept_len, live, keeps);
       touches_len = omega (arith, v.touches_len, touches, items.most_offered);
       fewer = omega (arith, v.fewer, items.most_meters, items.most_offered);
       search_room = omega (arith, v.search_room, found.search_room, found.room);
-      vertices = kept.vertices ∙ sym c.relabel.ensures.count;
-      of_buses = ap length found.of_buses ∙ (length-case_components t ∙ sym c.relabel.ensures.count);
+      vertices = kept.vertices ∙ sym c.relabel_unless.ensures.count;
+      of_buses = ap length found.of_buses ∙ (length-case_components t ∙ sym c.relabel_unless.ensures.count);
       meters_in_range = rw items.meters (meters-in_range t valid c.refill_graph.new.graph kept.vertices kept.ends);
       offered_in_range = rw items.offered (offered-in_range t valid c.refill_graph.new.graph kept.vertices kept.ends);
       listed_meters = omega (arith, v.listed_meters, listed.most_meters, items.most_meters);
@@ -114,16 +120,16 @@ returns c =
     let meters = ap (λ (r : Rows). r.meters) rows in
     let candidates = ap (λ (r : Rows). r.candidates) rows in
     let switches = ap (λ (r : Rows). r.switches) rows in
-    let links = c.relabel.auto.links in
+    let links = c.relabel_unless.auto.links in
     let live = c.find_live.auto.live in
-    let wrote_links = ap length (written_back s.links.len c.relabel.new.links s.links.items (omega arith) (omega arith)) in
+    let wrote_links = ap length (written_back s.links.len c.relabel_unless.new.links s.links.items (omega arith) (omega arith)) in
     let wrote_live = ap length (written_back s.live.len c.find_live.new.live s.live.items (omega arith) (omega arith)) in
     let count = length-case_first_buses t in
     record {
       whole = network_is _ _
           (rows_are _ _ (found.room ∙ nodes) (omega (arith, wrote_links, links, switches)) (omega (arith, wrote_live, live, branches)) (items.most_meters ∙ meters)
           (omega (arith, items.most_meters, items.most_offered, candidates)))
-          (labelled_is _ _ c.relabel.ensures.buses c.relabel.ensures.count (c.relabel.ensures.room ∙ (v.buses_room ∙ nodes)))
+          (labelled_is _ _ c.relabel_unless.ensures.buses c.relabel_unless.ensures.count (c.relabel_unless.ensures.room ∙ (v.buses_room ∙ nodes)))
           (grouped_is _ _ found.of_buses found.first_buses found.sizes found.energised (found.room ∙ nodes))
           (shape_is _ _ kept.vertices kept.ends (kept.most_vertices ∙ (found.most_vertices ∙ (v.vertices_room ∙ nodes))) (kept.most_branches ∙ (found.most_branches ∙ (v.branches_room ∙ branches))))
           (items_are _ _ items.meters (items.most_meters ∙ meters))

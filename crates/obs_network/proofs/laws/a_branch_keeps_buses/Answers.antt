@@ -1,0 +1,11 @@
+use Rattle.obs_network.proofs.Edited.{kept_with_branch, touches-with_branch}
+use Rattle.obs_network.proofs.laws.a_branch_keeps_buses.Goals as goal
+
+pub returns-clause-kept : goal.returns-clause-kept
+returns-clause-kept c = kept_with_branch
+
+pub returns-clause-meters : goal.returns-clause-meters
+returns-clause-meters c = λ t at inservice. (touches-with_branch t at inservice).0
+
+pub returns-clause-offered : goal.returns-clause-offered
+returns-clause-offered c = λ t at inservice. (touches-with_branch t at inservice).1

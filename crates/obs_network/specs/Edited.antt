@@ -1,0 +1,39 @@
+-- What an edit of a flag does to the network of a case: `t` are the tables before it, and `after` those after it.
+use Rattle.std.specs.Prelude.{ℕ, ◌≡◌, ◌<◌, All, IsSome, Bool, Option, Some, None, List, length, slice_index, slice_index_or}
+use Rattle.obs_graph.specs.declared.Ends.{Ends}
+use Rattle.obs_graph.specs.Joined.{IsMerging, renamed_one}
+use Rattle.obs_case.specs.Flags.{with_meter_inservice}
+use Rattle.obs_case.specs.Tables.{Tables}
+use Rattle.obs_network.specs.Switched.{case_bus_count, case_buses}
+use Rattle.obs_network.specs.Network.{NetworkOf, case_branches, network_of}
+
+-- all these positions have present branches
+abbrev pub ArePresent : List (Option Ends) → List ℕ → Type 0
+ArePresent branches positions = All (λ p. IsSome (slice_index_or branches p None)) positions
+
+-- a branch that is present before and after has as its ends after those before by their new names
+abbrev pub AreRenamed : (ℕ → ℕ) → List (Option Ends) → List (Option Ends) → Type 0
+AreRenamed name before after =
+    (e : ℕ) (x y : Ends) → slice_index_or before e None ≡ Some x → slice_index_or after e None ≡ Some y → y ≡ renamed_one name x
+
+-- the buses stay, and a branch that is present before and after keeps its ends
+pub record AreKept (t after : Tables) : Type 0 where
+  pub buses : case_buses after ≡ case_buses t
+  pub count : case_bus_count after ≡ case_bus_count t
+  pub ends : AreRenamed (λ b. b) (case_branches t) (case_branches after)
+
+-- two buses become one: each node's bus has its new name after, and so have the ends of branches
+pub record AreMerged (t after : Tables) : Type 0 where
+  pub name : ℕ → ℕ
+  pub one : ℕ
+  pub other : ℕ
+  pub merging : IsMerging (case_bus_count t) (case_bus_count after) one other name
+  pub nodes : (u : ℕ) → u < length t.nodes → slice_index (case_buses after) u ≡ name (slice_index (case_buses t) u)
+  pub ends : AreRenamed name (case_branches t) (case_branches after)
+
+-- a network is that of the tables before the flag of this meter was set
+pub record IsBeforeMeter (n : NetworkOf) (m : ℕ) (after : Tables) : Type 0 where
+  pub tables : Tables
+  pub inservice : Bool
+  pub network : n ≡ network_of tables
+  pub edited : after ≡ with_meter_inservice tables m inservice
