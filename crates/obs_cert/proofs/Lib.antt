@@ -16,3 +16,7 @@ pub mod OutsideLemmas
 pub mod ClaimLemmas
 pub mod ComponentLemmas
 pub mod SaidLemmas
+pub mod TruthLemmas
+pub mod ObservedLemmas
+pub mod CompletingLemmas
+pub mod KeyLemmas

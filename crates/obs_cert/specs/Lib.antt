@@ -1,11 +1,13 @@
 pub mod Certificate
 pub mod Claims
+pub mod Completing
 pub mod Faults
 pub mod FlawNames
 pub mod Flaws
 pub mod Given
 pub mod InScope
 pub mod Joins
+pub mod Keys
 pub mod Laws
 pub mod Marks
 pub mod Numbered
@@ -15,5 +17,6 @@ pub mod Ready
 pub mod Said
 pub mod Scopes
 pub mod Seen
+pub mod Truths
 pub mod Walked
 pub mod Words

@@ -1,5 +1,5 @@
 // Whether the claims of a certificate hold.
-ghost use Rattle.std.specs.Prelude.{◌≡◌, ◌+◌, ◌<◌, ◌^◌, None, Some, IfErr, IfOk, OnOk, length};
+ghost use Rattle.std.specs.Prelude.{◌≡◌, ◌+◌, ◌<◌, None, Some, IfErr, IfOk, OnOk, length};
 ghost use Rattle.obs_network.specs.Network.{network_of, rows_of};
 ghost use Rattle.obs_cert.specs.Flaws.{first_flaw};
 ghost use Rattle.obs_cert.specs.Ready.{HasRoom};
@@ -7,6 +7,7 @@ ghost use Rattle.obs_cert.specs.Ready.{HasRoom};
 use crate::cert::Cert;
 use crate::claims::flaw_of;
 use crate::flaw::Flaw;
+use crate::keys::sort_keys;
 use crate::layers::count_live;
 use crate::memory::NoMemory;
 use crate::work::Work;
@@ -15,14 +16,16 @@ use obs_network::Network;
 use std::alloc::Global;
 use std::marker::Model;
 
-/// The network of a case, and what its claims are checked in. A contract sees the network.
+/// The network of a case, what its claims are checked in, and the keys of its items. A contract sees the network.
 #[derive(Drop)]
 pub struct Checker {
     network: Network,
     work: Work,
+    keys: Vec<u128>,
 }
 
 impl Model for Checker {
+    ghost use Rattle.std.specs.Prelude.{◌≡◌, ◌+◌, length};
     ghost use Rattle.obs_network.specs.Network.{NetworkOf};
     ghost use Rattle.obs_cert.specs.Ready.{HasRoom};
 
@@ -30,7 +33,7 @@ impl Model for Checker {
 
     ghost view = { λ c. c.network };
 
-    ghost invariant = { λ c. HasRoom c.network.rows c.work };
+    ghost invariant = { λ c. HasRoom c.network.rows c.work × (length c.keys.items ≡ c.network.rows.meters + c.network.rows.candidates) };
 }
 
 impl Checker {
@@ -38,9 +41,11 @@ impl Checker {
     pub fn make(alloc: Global, case: &Case) -> Result<Checker, NoMemory>
         ensures network { IfOk result (λ c. c ≡ network_of case.now) }
     {
+        let items = case.meters().len() + case.candidates().len();
         Ok(Checker {
             network: Network::make(alloc, case)?,
             work: Work::make(alloc, case)?,
+            keys: vec![in alloc; 0; items]?,
         })
     }
 
@@ -52,7 +57,7 @@ impl Checker {
         ensures fails { IfErr result (λ flaw. first_flaw case.now 1 cert.now ≡ Some flaw) }
         ensures unchanged { self.new ≡ self.old }
     {
-        match first_flaw(case, &self.network, cert, &mut self.work) {
+        match first_flaw(case, &self.network, cert, &mut self.work, &mut self.keys) {
             None => Ok(()),
             Some(flaw) => Err(flaw),
         }
@@ -60,19 +65,28 @@ impl Checker {
 }
 
 // The flaw of the first claim that fails.
-fn first_flaw(case: &Case, network: &Network, cert: &Cert, work: &mut Work) -> Option<Flaw>
+fn first_flaw(
+    case: &Case,
+    network: &Network,
+    cert: &Cert,
+    work: &mut Work,
+    keys: &mut [u128],
+) -> Option<Flaw>
     requires of_case { network.now ≡ network_of case.now }
     requires room { HasRoom (rows_of case.now) work.old }
+    requires keys { length keys.old ≡ length case.now.meters + length case.now.candidates }
     ensures flaw { result ≡ first_flaw case.now 1 cert.now }
     ensures room { HasRoom (rows_of case.now) work.new }
+    ensures keys { length keys.new ≡ length keys.old }
 {
     let _claims = cert.claims();
     work.begin();
     let live = count_live(case, network);
+    sort_keys(case, network, keys);
     let mut at = 0;
     for claim in cert.walk() {
         at += 1;
-        if let Some(code) = flaw_of(case, network, live, claim, work, at) {
+        if let Some(code) = flaw_of(case, network, live, keys, claim, work, at) {
             return Some(Flaw { claim: at, code });
         }
     }

@@ -1,5 +1,7 @@
-//! What bytes are, and what is read from them.
+//! What bytes are, what is read from them, and what claims that hold say of the case.
+ghost use Rattle.obs_cert.specs.Completing.{ChosenAreCheapest, ShortfallsRefute};
 ghost use Rattle.obs_cert.specs.Laws.{CertificateIsRead, FaultWhereNoCertificate, FirstFaultIsMet};
+ghost use Rattle.obs_cert.specs.Truths.{BoundsAreNotObservable, NoFlawWhereAllHold, TreesAreObservable};
 
 /// The claims that are read are those whose lines, one claim after the other and then the line
 /// `end`, the bytes are; and a fault is met exactly where there are no such claims.
@@ -13,4 +15,30 @@ pub fn certificate_is_read()
 /// Where no line is faulty, the line `end` is missing.
 pub fn first_fault_is_met()
     ensures first { FirstFaultIsMet }
+{}
+
+/// No flaw is found exactly where each claim holds.
+pub fn no_flaw_where_all_hold()
+    ensures holds { NoFlawWhereAllHold }
+{}
+
+/// A tree claim that holds names an energised component of the case, and this is observable.
+pub fn trees_are_observable()
+    ensures observable { TreesAreObservable }
+{}
+
+/// A bound claim that holds names an energised component of the case, and this isn't observable.
+pub fn bounds_are_not_observable()
+    ensures short { BoundsAreNotObservable }
+{}
+
+/// The candidates that a cost claim that holds chooses are a cheapest set that completes the meters of the case, and they
+/// cost what the claim says.
+pub fn chosen_are_cheapest()
+    ensures cheapest { ChosenAreCheapest }
+{}
+
+/// Where a shortfall claim holds, no candidates complete the meters of the case.
+pub fn shortfalls_refute()
+    ensures refuted { ShortfallsRefute }
 {}

@@ -1,15 +1,17 @@
 // Passes over the layers of a cost claim, one clause each.
-ghost use Rattle.std.specs.Prelude.{◌≡◌, ◌≤◌, ◌<◌, ◌^◌, ◌-◌, ◌*◌, ◌||◌, ◌&&◌, ◌++◌, ◌∷◌, [], false, ℕ, List, length, min, nat_lt, not, take};
+ghost use Rattle.std.specs.Prelude.{◌≡◌, ◌≤◌, ◌<◌, ◌^◌, ◌-◌, ◌*◌, ◌||◌, ◌++◌, ◌∷◌, [], false, ℕ, List, length, min, nat_lt, not, take};
 ghost use Rattle.std.specs.List.{list_any, sum_by};
 ghost use Rattle.obs_graph.specs.declared.Ends.{Ends};
 ghost use Rattle.obs_network.specs.Network.{network_of};
 ghost use Rattle.obs_cert.specs.Flaws.{all_inside, listed_layers, not_below, not_inside, runs_on, shows, twice, wrong_outside, wrong_rank};
 ghost use Rattle.obs_cert.specs.Joins.{AreJoined};
+ghost use Rattle.obs_cert.specs.Keys.{AreKeys};
 ghost use Rattle.obs_cert.specs.Numbered.{items_of};
 ghost use Rattle.obs_cert.specs.Scopes.{is_below, is_live_item, scope_of};
 ghost use Rattle.obs_cert.specs.Seen.{Tells, too_dear};
 
 use crate::joins::clear;
+use crate::keys::count_below;
 use crate::lists::{count, join_items};
 use crate::numbers::item_of;
 use crate::scopes::{is_live, is_meter, price_at};
@@ -161,31 +163,9 @@ pub(crate) fn count_live(case: &Case, network: &Network) -> u32
     count
 }
 
-// Whether an item is a live meter, or a live candidate whose price is below a number.
-fn is_below(case: &Case, network: &Network, m: u32, to: u64) -> bool
-    requires of_case { network.now ≡ network_of case.now }
-    ensures below { result ≡ is_below case.now to m }
-{
-    is_live(case, network, m) && (is_meter(case, m) || price_at(case, m) < to)
-}
-
-// How many live items are meters or have a price below a number.
-fn count_below(case: &Case, network: &Network, to: u64) -> u32
-    requires of_case { network.now ≡ network_of case.now }
-    ensures count { result ≡ length (scope_of case.now (is_below case.now to)) }
-{
-    let mut count = 0;
-    for m in 0..network.offered().count() {
-        if is_below(case, network, m, to) {
-            count += 1;
-        }
-    }
-    count
-}
-
 /// Whether a layer has a wrong number outside, where each item is inside and none stands twice.
-pub(crate) fn has_wrong_outside(case: &Case, network: &Network, layers: Layers<'_>) -> bool
-    requires of_case { network.now ≡ network_of case.now }
+pub(crate) fn has_wrong_outside(case: &Case, keys: &[u128], layers: Layers<'_>) -> bool
+    requires keys { AreKeys case.now keys.now }
     requires inside { list_any (λ l. not_inside (is_below case.now l.layer.to) l.list) (listed_layers case.now layers) ≡ false }
     requires once { twice (items_of case.now (all_inside layers)) ≡ false }
     ensures outside { result ≡ list_any (λ l. wrong_outside case.now (is_below case.now l.layer.to) l.list l.layer.outside)
@@ -194,7 +174,7 @@ pub(crate) fn has_wrong_outside(case: &Case, network: &Network, layers: Layers<'
     let mut listed = 0;
     for layer in layers {
         listed = count(walk_items(Sort::Inside, layer.rest), listed);
-        let outside = count_below(case, network, layer.to).saturating_sub(listed);
+        let outside = count_below(case, keys, layer.to).saturating_sub(listed);
         if u64::from(outside) != layer.outside {
             return true;
         }

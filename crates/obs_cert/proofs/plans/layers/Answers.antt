@@ -1,7 +1,7 @@
 use Rattle.std.proofs.Common.{sym, ◌∙◌}
 use Rattle.obs_cert.specs.Walked.{cost_of, parts_in}
 use Rattle.obs_cert.proofs.ClaimLemmas.{layers_outside, layers_rest}
-use Rattle.obs_cert.proofs.claims.layers.Goals as goal
+use Rattle.obs_cert.proofs.plans.layers.Goals as goal
 
 pub returns-then-has_wrong_outside-clause-flaw : goal.returns-then-has_wrong_outside-clause-flaw
 returns-then-has_wrong_outside-clause-flaw c =

@@ -5,7 +5,7 @@ use Rattle.obs_cert.specs.Numbered.{items_of}
 use Rattle.obs_cert.specs.Scopes.{price_at}
 use Rattle.obs_cert.specs.Walked.{cost_of, parts_in}
 use Rattle.obs_cert.proofs.ClaimLemmas.{costs_right, counted_right}
-use Rattle.obs_cert.proofs.claims.costs.Goals as goal
+use Rattle.obs_cert.proofs.plans.costs.Goals as goal
 
 pub returns : goal.returns
 returns c =

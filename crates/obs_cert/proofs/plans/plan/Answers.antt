@@ -8,8 +8,8 @@ use Rattle.obs_cert.specs.Walked.{cost_of, parts_in}
 use Rattle.obs_network.specs.Network.{NetworkOf, case_needed, network_of}
 use Rattle.obs_cert.specs.Flaws.{first_true, forest_clauses}
 use Rattle.obs_cert.proofs.ClaimLemmas.{plan_layers, plan_outside, plan_rest, plan_touched, plan_twice, ready_plan, three_same}
-use Rattle.obs_cert.proofs.claims.plan.Goals as goal
-use Rattle.obs_cert.proofs.claims.plan.Goals.{After-has_unknown_name, After-has_outside_item, After-has_untouched, After-either}
+use Rattle.obs_cert.proofs.plans.plan.Goals as goal
+use Rattle.obs_cert.proofs.plans.plan.Goals.{After-has_unknown_name, After-has_outside_item, After-has_untouched, After-either}
 
 known : (c : After-has_unknown_name) → c.has_unknown_name.result ≡ unknown_in_plan c.args.case.now (cost_of c.args.number (parts_in c.args.rest.now))
 known c = c.has_unknown_name.ensures.unknown c.args.number

@@ -1,0 +1,56 @@
+// How many live items are below a price, by keys that are sorted once for all claims.
+ghost use Rattle.std.specs.Prelude.{◌≡◌, ◌+◌, length};
+ghost use Rattle.obs_network.specs.Network.{network_of};
+ghost use Rattle.obs_cert.specs.Keys.{AreKeys, key_of, keys_of};
+ghost use Rattle.obs_cert.specs.Scopes.{is_below, scope_of};
+
+use crate::scopes::{is_live, is_meter, price_at};
+use obs_case::Case;
+use obs_network::Network;
+
+// The key of an item.
+fn key_of(case: &Case, network: &Network, m: u32) -> u128
+    requires of_case { network.now ≡ network_of case.now }
+    ensures key { result ≡ key_of case.now m }
+{
+    if !is_live(case, network, m) {
+        return u128::MAX;
+    }
+    if is_meter(case, m) {
+        return 0;
+    }
+    u128::from(price_at(case, m)) + 1
+}
+
+// Writes the key of each item.
+fn write_keys(case: &Case, network: &Network, keys: &mut [u128])
+    requires of_case { network.now ≡ network_of case.now }
+    requires room { length keys.old ≡ length case.now.meters + length case.now.candidates }
+    ensures keys { keys.new ≡ keys_of case.now }
+{
+    let _meters = case.meters();
+    for m in 0..keys.len() {
+        keys[m] = key_of(case, network, m as u32);
+    }
+}
+
+/// Writes the keys of all items, and sorts them.
+pub(crate) fn sort_keys(case: &Case, network: &Network, keys: &mut [u128])
+    requires of_case { network.now ≡ network_of case.now }
+    requires room { length keys.old ≡ length case.now.meters + length case.now.candidates }
+    ensures keys { AreKeys case.now keys.new }
+    ensures len { length keys.new ≡ length keys.old }
+{
+    let _meters = case.meters();
+    write_keys(case, network, keys);
+    keys.sort_unstable();
+}
+
+/// How many live items are meters or have a price below a number.
+pub(crate) fn count_below(case: &Case, keys: &[u128], to: u64) -> u32
+    requires keys { AreKeys case.now keys.now }
+    ensures count { result ≡ length (scope_of case.now (is_below case.now to)) }
+{
+    let to = u128::from(to);
+    keys.partition_point(|key| *key <= to) as u32
+}
