@@ -13,3 +13,8 @@ pub mod FirstParts
 pub mod FirstTrees
 pub mod NamedIslands
 pub mod OneIsland
+pub mod Retained
+pub mod Metered
+pub mod Flagged
+pub mod Repaired
+pub mod Sets

@@ -1,6 +1,9 @@
 pub mod Answers
+pub mod Edits
+pub mod Lines
 pub mod Longest
 pub mod Planned
 pub mod Placements
+pub mod Repairing
 pub mod Sessions
 pub mod Laws

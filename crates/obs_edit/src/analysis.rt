@@ -1,18 +1,21 @@
 // A case with the answers to it that are at hand.
-ghost use Rattle.std.specs.Prelude.{◌≡◌, ◌<◌, ◌↔◌, true, false, Some, None, IfOk, IsTrue};
+ghost use Rattle.std.specs.Prelude.{◌≡◌, ◌+◌, ◌<◌, ◌↔◌, true, false, Some, None, IfOk, IsTrue, length};
 ghost use Rattle.obs_assign.specs.Assigned.{StandsOver, pairs};
 ghost use Rattle.obs_network.specs.Components.{need_of};
 ghost use Rattle.obs_network.specs.Network.{case_component_count, case_meters, case_needed, case_sizes, network_of};
 ghost use Rattle.obs_network.specs.Observable.{IsObservable, is_fed};
 ghost use Rattle.obs_edit.specs.Answers.{bound_meters, bound_outside, bound_rank, case_critical_meters, case_first_pairs, case_islands, case_rank};
+ghost use Rattle.obs_edit.specs.Edits.{HasRow, IsEdited};
 ghost use Rattle.obs_edit.specs.Sessions.{AreLongest, IsRankOf};
 
 use crate::answers::{Answers, make_answers};
 use crate::asks::{find_bound, find_critical, find_first, find_islands};
 use crate::counted::has_enough;
+use crate::edit::{Applied, Edit};
 use crate::hand::AtHand;
 use crate::kept::{Held, fill, make_held};
 use crate::memory::NoMemory;
+use crate::repair::{follow, is_set, repair, set_flag};
 use obs_assign::{Assignment, Steps};
 use obs_case::Case;
 use obs_network::Network;
@@ -131,6 +134,7 @@ impl Analysis {
 
     /// The rank and the needed number of the present case.
     pub(crate) fn state(&self) -> State
+        ensures length { result.rank ≡ length (pairs self.now.pairs) }
         ensures rank { IsRankOf self.now.tables result.rank }
         ensures computed { result.rank ≡ case_rank self.now.tables }
         ensures needed { result.needed ≡ case_needed self.now.tables }
@@ -140,6 +144,46 @@ impl Analysis {
             rank: self.held.pairs.length(),
             needed: self.network.needed(),
         }
+    }
+
+    // What is said of an edit that took so many searches.
+    fn applied(&self, searches: u32) -> Applied
+        ensures rank { IsRankOf self.now.tables result.rank }
+        ensures computed { result.rank ≡ case_rank self.now.tables }
+        ensures length { result.rank ≡ length (pairs self.now.pairs) }
+        ensures needed { result.needed ≡ case_needed self.now.tables }
+        ensures searches { result.searches ≡ searches }
+    {
+        let state = self.state();
+        Applied {
+            rank: state.rank,
+            needed: state.needed,
+            searches,
+        }
+    }
+
+    /// Sets one flag and repairs the pairs. Where a flag changes, nothing is at hand afterwards.
+    pub(crate) fn set<L: Ledger>(&mut self, edit: Edit, steps: &mut Steps<L>) -> Applied
+        requires row { HasRow self.old.tables edit }
+        ensures edited { IsEdited self.old edit self.new result }
+        ensures ticks { steps.new ≡ steps.old + result.searches }
+    {
+        if is_set(&self.case, edit) {
+            return self.applied(0);
+        }
+        let _nodes = self.case.nodes();
+        set_flag(&mut self.case, edit);
+        follow(&self.case, edit, &mut self.network);
+        self.answers.hand = AtHand::nothing();
+        let searches = repair(
+            &self.case,
+            &self.network,
+            edit,
+            &mut self.held.pairs,
+            &mut self.held.work,
+            steps,
+        );
+        self.applied(searches)
     }
 
     /// Whether an energised component of the present case is observable.

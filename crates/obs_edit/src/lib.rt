@@ -6,20 +6,26 @@ mod answers;
 mod asks;
 mod components;
 mod counted;
+mod edit;
+#[cfg(test)]
+mod edit_tests;
 mod hand;
 mod kept;
 pub mod laws;
+mod lines;
 mod memory;
 mod pairing;
 #[cfg(test)]
 mod place_tests;
 mod placing;
+mod repair;
 mod seen;
 mod session;
 #[cfg(test)]
 mod tests;
 
 pub use analysis::State;
+pub use edit::{Applied, Done, Edit, Meant, Refusal};
 pub use memory::NoMemory;
 pub use seen::{Placed, Seen};
 pub use session::Session;

@@ -1,15 +1,19 @@
 //! A session.
-ghost use Rattle.std.specs.Prelude.{◌≡◌, ◌<◌, ◌↔◌, true, Some, IfOk, IsTrue};
+ghost use Rattle.std.specs.Prelude.{◌≡◌, ◌+◌, ◌<◌, ◌↔◌, true, Some, Err, IfErr, IfOk, OnErr, IsTrue};
 ghost use Rattle.obs_assign.specs.Assigned.{StandsOver, pairs};
 ghost use Rattle.obs_placement.specs.Placed.{placed_of};
 ghost use Rattle.obs_network.specs.Components.{need_of};
 ghost use Rattle.obs_network.specs.Network.{case_component_count, case_meters, case_needed, case_offered, case_sizes, network_of};
 ghost use Rattle.obs_network.specs.Observable.{IsObservable, is_fed};
 ghost use Rattle.obs_edit.specs.Answers.{bound_meters, bound_outside, bound_rank, case_critical_meters, case_first_pairs, case_islands, case_rank};
+ghost use Rattle.obs_edit.specs.Edits.{HasRow, IsEdited};
+ghost use Rattle.obs_edit.specs.Lines.{IsDone, meant_of, searches_of};
 ghost use Rattle.obs_edit.specs.Planned.{case_placed_pairs, case_placement};
 ghost use Rattle.obs_edit.specs.Sessions.{AreLongest, IsRankOf};
 
 use crate::analysis::{Analysis, State};
+use crate::edit::{Applied, Done, Edit, Meant, Refusal};
+use crate::lines::meant;
 use crate::memory::NoMemory;
 use crate::placing::{Placing, place};
 use obs_assign::{Assignment, Steps};
@@ -103,6 +107,34 @@ impl Session {
         ensures observable { IsTrue result ↔ IsObservable self.now.tables c }
     {
         self.analysis.observable(c)
+    }
+
+    /// Sets the one flag, which can't be refused, and repairs the pairs. An edit that sets a flag to what it is leaves the session
+    /// as it was, with all that is at hand; any other takes away what is at hand, and nothing is found before it is asked for. No
+    /// memory is taken.
+    pub fn set<L: Ledger>(&mut self, edit: Edit, steps: &mut Steps<L>) -> Applied
+        requires row { HasRow self.old.tables edit }
+        // The one flag is set, the pairs are repaired within their bounds, and the rank and the needed number are those of the
+        // case afterwards.
+        ensures edited { IsEdited self.old edit self.new result }
+        ensures ticks { steps.new ≡ steps.old + result.searches }
+    {
+        self.analysis.set(edit, steps)
+    }
+
+    /// Does what a line says. An edit is done as by `set`; an ask changes nothing, and is answered by the calls below. A line that
+    /// is refused leaves the session as it was. The line has no line end.
+    pub fn apply<L: Ledger>(&mut self, line: &[u8], steps: &mut Steps<L>) -> Result<Done, Refusal>
+        ensures refused { IfErr result (λ why. meant_of self.old.tables self.old.offered line.now ≡ Err why) }
+        ensures unchanged { OnErr result (self.new ≡ self.old) }
+        ensures done { IfOk result (λ done. IsDone self.old line.now self.new done) }
+        ensures ticks { steps.new ≡ steps.old + searches_of result }
+    {
+        match meant(self.present(), self.offered(), line) {
+            Ok(Meant::Edits(edit)) => Ok(Done::Edited(self.set(edit, steps))),
+            Ok(Meant::Asks(ask)) => Ok(Done::Asked(ask)),
+            Err(why) => Err(why),
+        }
     }
 
     /// Makes the kept pairs the first assignment. `found_pairs` then lends it.

@@ -2,6 +2,7 @@
 ghost use Rattle.std.specs.Prelude.{◌≡◌, ◌<◌, IfOk, IsTrue};
 ghost use Rattle.obs_text.specs.Names.{is_name};
 
+use crate::edit_tests::{Expected, edited, say};
 use crate::{NoMemory, Session, State};
 use obs_assign::Steps;
 use obs_case::{Case, Kind};
@@ -19,13 +20,13 @@ pub(crate) fn name<'a>(rt: &impl Abort, bytes: &'a [u8]) -> &'a [u8]
     name_of(bytes).expect(rt, "the bytes are a name")
 }
 
-fn add_nodes(rt: &impl Abort, case: &mut Case, nodes: &[(u8, bool)]) {
+pub(crate) fn add_nodes(rt: &impl Abort, case: &mut Case, nodes: &[(u8, bool)]) {
     for (node, source) in nodes {
         assert!(rt; case.add_node(name(rt, &[*node]), *source).is_ok());
     }
 }
 
-fn add_switches(rt: &impl Abort, case: &mut Case, switches: &[(u8, u8, u8, bool)]) {
+pub(crate) fn add_switches(rt: &impl Abort, case: &mut Case, switches: &[(u8, u8, u8, bool)]) {
     for (switch, from, to, closed) in switches {
         assert!(rt;
             case.add_switch(name(rt, &[*switch]), &[*from], &[*to], *closed)
@@ -34,7 +35,7 @@ fn add_switches(rt: &impl Abort, case: &mut Case, switches: &[(u8, u8, u8, bool)
     }
 }
 
-fn add_branches(rt: &impl Abort, case: &mut Case, branches: &[(u8, u8, u8)]) {
+pub(crate) fn add_branches(rt: &impl Abort, case: &mut Case, branches: &[(u8, u8, u8)]) {
     for (branch, from, to) in branches {
         assert!(rt;
             case.add_branch(name(rt, &[*branch]), &[*from], &[*to], true)
@@ -43,7 +44,7 @@ fn add_branches(rt: &impl Abort, case: &mut Case, branches: &[(u8, u8, u8)]) {
     }
 }
 
-fn add_meters(rt: &impl Abort, case: &mut Case, meters: &[(u8, Kind, u8)]) {
+pub(crate) fn add_meters(rt: &impl Abort, case: &mut Case, meters: &[(u8, Kind, u8)]) {
     for (meter, kind, at) in meters {
         assert!(rt;
             case.add_meter(name(rt, &[*meter]), *kind, &[*at], true)
@@ -77,7 +78,7 @@ fn is_first_observable(session: &Session) -> Option<bool> {
 }
 
 // The branch of a meter, or None where it has no pair or isn't one.
-fn branch_of(session: &Session, m: u32) -> Option<u32> {
+pub(crate) fn branch_of(session: &Session, m: u32) -> Option<u32> {
     let pairs = session.pairs();
     if m < session.network().meters().count() {
         pairs.branch_of(m)
@@ -113,10 +114,10 @@ pub(crate) fn path(rt: &impl Abort, alloc: Global) -> Case {
 
 // What a session begins with.
 #[derive(Clone, Copy)]
-struct Beginning {
-    state: State,
-    offered: bool,
-    observable: Option<bool>,
+pub(crate) struct Beginning {
+    pub(crate) state: State,
+    pub(crate) offered: bool,
+    pub(crate) observable: Option<bool>,
 }
 
 // Whether a session begins so. As many pairs are kept as the rank says.
@@ -129,7 +130,7 @@ fn begins_so(session: &Session, wanted: Beginning) -> bool {
 }
 
 // Whether the pairs are those of the path: the injection has the second branch, and one of the two flows the first.
-fn has_pairs_of_path(session: &Session) -> bool {
+pub(crate) fn has_pairs_of_path(session: &Session) -> bool {
     let first = branch_of(session, 0);
     let second = branch_of(session, 1);
     let one = first.is_some() != second.is_some();
@@ -138,13 +139,21 @@ fn has_pairs_of_path(session: &Session) -> bool {
     one && on && last
 }
 
-// Begins a session with a case. No other function here owns one: each that does takes minutes to prove.
-fn begin_so(rt: &impl Abort, alloc: Global, case: Case, wanted: Beginning, is_path: bool) {
+// Begins a session with a case, and says the lines to it. No other function here owns one: each that does takes minutes to prove.
+pub(crate) fn begin_so(
+    rt: &impl Abort,
+    alloc: Global,
+    case: Case,
+    wanted: Beginning,
+    is_path: bool,
+    lines: &[Expected],
+) {
     let begun = begin::<Brand>(alloc, Blank::new(1), case, wanted.offered);
-    let session = begun.expect(rt, "there is memory");
+    let mut session = begun.expect(rt, "there is memory");
     let begins = begins_so(&session, wanted);
     let pairs = !is_path || has_pairs_of_path(&session);
     assert!(rt; begins && pairs);
+    say::<Brand>(rt, Blank::new(1), &mut session, lines);
 }
 
 #[test]
@@ -154,7 +163,7 @@ fn path_falls_short(rt: HostRuntime) -> Result<(), Fail> {
         offered: true,
         observable: Some(false),
     };
-    begin_so(&rt, rt.alloc(), path(&rt, rt.alloc()), wanted, true);
+    begin_so(&rt, rt.alloc(), path(&rt, rt.alloc()), wanted, true, &[]);
     Ok(())
 }
 
@@ -182,7 +191,14 @@ fn triangle_is_observable(rt: HostRuntime) -> Result<(), Fail> {
         offered: false,
         observable: Some(true),
     };
-    begin_so(&rt, rt.alloc(), triangle(&rt, rt.alloc()), wanted, false);
+    begin_so(
+        &rt,
+        rt.alloc(),
+        triangle(&rt, rt.alloc()),
+        wanted,
+        false,
+        &[],
+    );
     Ok(())
 }
 
@@ -231,7 +247,14 @@ fn star_behind_an_open_switch(rt: HostRuntime) -> Result<(), Fail> {
         offered: false,
         observable: Some(true),
     };
-    begin_so(&rt, rt.alloc(), case, wanted, false);
+    begin_so(
+        &rt,
+        rt.alloc(),
+        case,
+        wanted,
+        false,
+        &[edited(b"close S", 5, 5, 6)],
+    );
     Ok(())
 }
 
@@ -258,6 +281,6 @@ fn one_bus_needs_nothing(rt: HostRuntime) -> Result<(), Fail> {
         offered: false,
         observable: Some(true),
     };
-    begin_so(&rt, rt.alloc(), case, wanted, false);
+    begin_so(&rt, rt.alloc(), case, wanted, false, &[]);
     Ok(())
 }

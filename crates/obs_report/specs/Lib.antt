@@ -7,3 +7,4 @@ pub mod Trees
 pub mod Islands
 pub mod Printed
 pub mod Placements
+pub mod Totals

@@ -38,6 +38,14 @@ count_line what n = line_of (codes "count" ∷ what ∷ decimal n ∷ [])
 abbrev pub fault_line : List ℕ → ℕ → ℕ → List ℕ → List ℕ
 fault_line part place code name = line_of (codes "fault" ∷ part ∷ decimal place ∷ decimal code ∷ name ∷ [])
 
+-- the line on an edit that is done: the rank and the needed number of the case after it
+abbrev pub ok_line : ℕ → ℕ → List ℕ
+ok_line rank needed = line_of (codes "ok" ∷ decimal rank ∷ decimal needed ∷ [])
+
+-- the line on a line that is refused: the refusal's code and its name
+abbrev pub refused_line : ℕ → List ℕ → List ℕ
+refused_line code name = line_of (codes "refused" ∷ decimal code ∷ name ∷ [])
+
 -- the line that ends an answer
 abbrev pub last_line : List ℕ
 last_line = line_of (codes "end" ∷ [])

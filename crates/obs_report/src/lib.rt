@@ -14,6 +14,7 @@ mod placement_tests;
 mod placements;
 #[cfg(test)]
 mod tests;
+mod totals;
 #[cfg(test)]
 mod tree_tests;
 mod trees;
@@ -21,9 +22,10 @@ mod words;
 
 pub use counts::print_counts;
 pub use islands::print_islands;
-pub use lines::{print_count, print_fault, print_last_line};
+pub use lines::{print_count, print_fault, print_last_line, print_ok, print_refused};
 pub use meters::{print_bound, print_critical};
 pub use nodes::print_nodes;
 pub use placements::print_placement;
+pub use totals::{print_flaw, print_totals, print_trial, print_valid};
 pub use trees::print_tree;
 pub use words::{print_end, print_number, print_word};

@@ -1,6 +1,6 @@
 // Whole lines that stand in several answers.
 ghost use Rattle.std.specs.Prelude.{◌≡◌};
-ghost use Rattle.obs_report.specs.Lines.{count_line, fault_line, last_line};
+ghost use Rattle.obs_report.specs.Lines.{count_line, fault_line, last_line, ok_line, refused_line};
 ghost use Rattle.obs_report.specs.Printed.{Appends, Prints};
 
 use crate::line_buffer::LineBuffer;
@@ -48,6 +48,29 @@ pub fn print_fault<W: Sink>(
         name,
     ];
     lines.line(output, &words);
+    lines.finish(output)
+}
+
+/// Appends the line on an edit that is done: the rank and the needed number of the case after it.
+pub fn print_ok<W: Sink>(output: &mut W, rank: u64, needed: u64) -> Result<(), Failed>
+    ensures appends { Appends W.written W.faults W.has_room output.old output.new result (ok_line rank needed) }
+{
+    let mut rank_digits = Digits::new();
+    let mut needed_digits = Digits::new();
+    let mut lines = LineBuffer::new();
+    let words: [&[u8]; 3] = [b"ok", rank_digits.text(rank), needed_digits.text(needed)];
+    lines.line(output, &words);
+    lines.finish(output)
+}
+
+/// Appends the line on a line that is refused: the refusal's code and its name.
+pub fn print_refused<W: Sink>(output: &mut W, code: u64, name: &[u8]) -> Result<(), Failed>
+    ensures appends { Appends W.written W.faults W.has_room output.old output.new result
+        (refused_line code name.now) }
+{
+    let mut digits = Digits::new();
+    let mut lines = LineBuffer::new();
+    lines.line(output, &[b"refused", digits.text(code), name]);
     lines.finish(output)
 }
 

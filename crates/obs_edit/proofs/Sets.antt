@@ -1,0 +1,179 @@
+-- What a session keeps after an edit.
+use Rattle.std.proofs.Common.{inl, inr, [], ◌≡◌, ℕ, ◌+◌, ◌<◌, Bool, true, false, Option, Some, None, List, length, refl, sym, ap, ◌∙◌, subst, arith}
+use Rattle.std.specs.Prelude.{◌&&◌, Result, Ok, Err, if◌then◌else◌, not}
+use Rattle.std.specs.Str.{bytes_eq}
+use Rattle.std.proofs.lemmas.Bool.{cases_Bool, false≢true}
+use Rattle.std.proofs.lemmas.List.{length-map}
+use Rattle.std.proofs.lemmas.List.Quantifiers.{position-Some}
+use Rattle.obs_case.specs.declared.rows.Branch.{Branch}
+use Rattle.obs_case.specs.declared.rows.Meter.{Meter}
+use Rattle.obs_case.specs.declared.rows.Switch.{Switch}
+use Rattle.obs_case.specs.Tables.{Tables, branch_names, meter_names, position_of, switch_names}
+use Rattle.obs_matroid.proofs.Slots.{slot_from}
+use Rattle.obs_assign.specs.Assigned.{Assigned, StandsOver, pairs}
+use Rattle.obs_assign.proofs.Standing.{still_at}
+use Rattle.obs_critical.specs.Listed.{Listing}
+use Rattle.obs_exchange.specs.Found.{Working}
+use Rattle.obs_exchange.specs.Lengthened.{HasLengthened}
+use Rattle.obs_islands.specs.Islanding.{Islanding}
+use Rattle.obs_network.specs.Network.{Rows, case_branches, case_meters, network_of, rows_of}
+use Rattle.obs_meter.specs.Sizes.{Sizes}
+use Rattle.obs_edit.proofs.Metered.{no_branch}
+use Rattle.obs_script.specs.declared.command.Ask.{Ask}
+use Rattle.obs_script.specs.declared.fault.LineFault.{LineFault}
+use Rattle.obs_script.specs.Commands.{Said, asks, closes, command_of, loses, opens, regains, restores, trips}
+use Rattle.obs_edit.specs.declared.edit.Edit.{Edit}
+use Rattle.obs_edit.specs.declared.edit.Edit.TheVariants as edit
+use Rattle.obs_edit.specs.declared.edit.Meant.{Meant}
+use Rattle.obs_edit.specs.declared.edit.Meant.TheVariants.{Edits, Asks}
+use Rattle.obs_edit.specs.declared.edit.Refusal.{Refusal}
+use Rattle.obs_edit.specs.declared.edit.Refusal.TheVariants.{NoCandidates, UnknownBranch, UnknownMeter, UnknownSwitch}
+use Rattle.obs_edit.specs.declared.hand.AtHand.{AtHand}
+use Rattle.obs_edit.specs.declared.edit.Applied.{Applied}
+use Rattle.obs_edit.specs.Edits.{HasRow, IsEdited, IsRepaired, TakesOne, edited, nothing_at_hand}
+use Rattle.obs_edit.specs.Lines.{edit_at, is_place, meaning_of, meant_by, meant_of, refusal_of}
+use Rattle.obs_edit.specs.Planned.{Planning, offered_rows, prices_of}
+use Rattle.obs_edit.specs.Repairing.{CostsOwnPair}
+use Rattle.obs_edit.specs.Sessions.{AreAnswers, BoundOf, HasRoom, HasRoomToAnswer, IsPlacing, Kept, case_rows}
+use Rattle.obs_edit.proofs.Flagged.{rows-edited, same_candidates}
+use Rattle.obs_edit.proofs.Repaired.{AreKept-by, IsRepaired-by, few_standing}
+
+-- nothing is given up where nothing changes
+costs_nothing : (e : Edit) (a : Assigned) → CostsOwnPair e a a
+costs_nothing (edit.Switch at closed) a = tt
+costs_nothing (edit.Branch at inservice) a = tt
+costs_nothing (edit.Meter at false) a = (omega arith, λ n. refl)
+costs_nothing (edit.Meter at true) a = refl
+
+pub takes_none : (e : Edit) (a : Assigned) (searches : ℕ) → searches ≡ 0 → TakesOne e a a searches
+takes_none (edit.Switch at closed) a searches none = tt
+takes_none (edit.Branch at inservice) a searches none = tt
+takes_none (edit.Meter at inservice) a searches none = (omega (arith, none), omega arith)
+
+no_search : (a : Assigned) → HasLengthened a a 0
+no_search a = record {
+  keeps = λ m n. n;
+  frozen = refl;
+  frozen_pairs = λ m n. refl;
+  grown = omega arith;
+  all_but_one = omega arith;
+  turns_rise = omega arith;
+  turns_found = omega arith;
+  none = λ n. refl;
+}
+
+-- pairs that stand are repaired without a search
+pub repaired-same : (t : Tables) (e : Edit) (a : Assigned) (rank searches : ℕ) → StandsOver a (network_of t).graph (case_meters t) → rank ≡ length (pairs a) → searches ≡ 0 → IsRepaired t a a rank searches
+repaired-same t e a rank searches stands is none =
+    let kept = AreKept-by t e a a refl (λ p i. still_at (case_branches t) (case_meters t) (pairs a) p i (stands.touched p.0 p.1 (slot_from a.slots p i))) (few_standing t a) (costs_nothing e a) in
+    subst (λ r. IsRepaired t a a r searches) (sym is) (subst (λ s. IsRepaired t a a (length (pairs a)) s) (sym none) (IsRepaired-by t e a a a 0 kept (no_search a)))
+
+sizes_of : Rows → Sizes
+sizes_of r = record { meters = r.meters; branches = r.branches; vertices = r.nodes }
+
+sizes : (t u : Tables) → rows_of t ≡ rows_of u → case_rows t ≡ case_rows u
+unfolding sizes_of
+sizes t u rows = ap sizes_of rows
+
+offered_sizes_of : Rows → Sizes
+offered_sizes_of r = record { meters = r.meters + r.candidates; branches = r.branches; vertices = r.nodes }
+
+offered_sizes : (t u : Tables) → rows_of t ≡ rows_of u → offered_rows t ≡ offered_rows u
+unfolding offered_sizes_of
+offered_sizes t u rows = ap offered_sizes_of rows
+
+-- the room is that for as many rows
+pub room-edited : (t : Tables) (e : Edit) (a : Assigned) (w : Working) → HasRoom t a w → HasRoom (edited t e) a w
+room-edited t e a w r =
+    let rows = sym (rows-edited t e) in
+    record {
+      pair_meters = r.pair_meters ∙ ap (λ (x : Rows). x.meters) rows;
+      pair_branches = r.pair_branches ∙ ap (λ (x : Rows). x.branches) rows;
+      pair_vertices = r.pair_vertices ∙ ap (λ (x : Rows). x.nodes) rows;
+      work = r.work ∙ sizes t (edited t e) rows;
+    }
+
+pub answer_room-edited : (t : Tables) (e : Edit) (flags : List Bool) (listing : Listing) (found : Islanding) (list : List ℕ) (listed : ℕ)
+    → HasRoomToAnswer t flags listing found list listed → HasRoomToAnswer (edited t e) flags listing found list listed
+answer_room-edited t e flags listing found list listed r =
+    let meters = ap (λ (x : Rows). x.meters) (sym (rows-edited t e)) in
+    record {
+      flags_len = r.flags_len ∙ meters;
+      listing_room = r.listing_room ∙ meters;
+      islands_room = r.islands_room ∙ sizes t (edited t e) (sym (rows-edited t e));
+      list_len = r.list_len ∙ meters;
+      within = r.within;
+    }
+
+-- where nothing is said to be at hand there is nothing to say
+pub no_answers : (t : Tables) (a : Assigned) (flags : List Bool) (listing : Listing) (found : Islanding) (measured : BoundOf) (hand : AtHand) → hand ≡ nothing_at_hand
+    → AreAnswers t a flags listing found measured hand
+no_answers t a flags listing found measured hand none = record {
+  first = λ h. absurd (false≢true (sym (ap (λ (x : AtHand). x.first) none) ∙ h));
+  marks = λ h. absurd (false≢true (sym (ap (λ (x : AtHand). x.critical) none) ∙ h));
+  critical = λ h. absurd (false≢true (sym (ap (λ (x : AtHand). x.critical) none) ∙ h));
+  islands = λ h. absurd (false≢true (sym (ap (λ (x : AtHand). x.islands) none) ∙ h));
+  bound = λ c h. absurd (no_branch c (sym (ap (λ (x : AtHand). x.bound) none) ∙ h));
+}
+
+-- the placing of a session after an edit
+pub placing-edited : (k : Kept) (e : Edit) (after : Kept) (said : Applied) (p : Planning) → IsEdited k e after said → IsPlacing k.tables k.at_hand.placed p → IsPlacing after.tables after.at_hand.placed p
+placing-edited k e after said p h was =
+    elim h.flag [
+      | inl same ↦ subst (λ (x : Kept). IsPlacing x.tables x.at_hand.placed p) (sym same.0) was
+      | inr new ↦
+          let none = ap (λ (x : AtHand). x.placed) new.1 in
+          record {
+            prices = was.prices ∙ sym (ap (λ (x : Tables). prices_of x.candidates) h.tables ∙ ap prices_of (same_candidates k.tables e));
+            sizes = was.sizes ∙ (offered_sizes k.tables (edited k.tables e) (sym (rows-edited k.tables e)) ∙ ap offered_rows (sym h.tables));
+            placed = λ y. absurd (false≢true (sym none ∙ y));
+            pairs = λ y. absurd (false≢true (sym none ∙ y));
+            stands = λ y. absurd (false≢true (sym none ∙ y));
+          }
+    ]
+
+abbrev same_meaning : Result Meant Refusal → Result Meant Refusal → Type 0
+same_meaning x y = x ≡ y
+
+-- the row that a line means is there
+module _ (t : Tables) (offered : Bool) where
+  row_at : (names : List (List ℕ)) (name : List ℕ) (n : ℕ) (edit : ℕ → Edit) (unknown : Refusal) (e : Edit) → length names ≡ n → ((at : ℕ) → at < n → HasRow t (edit at))
+      → (found : Option ℕ) → position_of names name ≡ found → edit_at found edit unknown ≡ Ok (Edits e) → HasRow t e
+  row_at names name n edit unknown e count there None is h = cc
+  row_at names name n edit unknown e count there (Some at) is h =
+      let low = (position-Some (bytes_eq name) names at [] is).0 in
+      subst (λ (x : Edit). HasRow t x) (meant_edit (edit at) e h) (there at (omega (arith, low, count)))
+    where
+      meant_edit : (x y : Edit) → same_meaning (Ok (Edits x)) (Ok (Edits y)) → x ≡ y
+      meant_edit x y same = cc
+
+  no_edit : (place : Bool) (ask : Ask) (e : Edit) → (if place && not offered then Err NoCandidates else Ok (Asks ask)) ≡ Ok (Edits e) → ⊥
+  no_edit place ask e h = elim (cases_Bool (place && not offered)) [
+    | inl y ↦ refused (sym (ap (λ (b : Bool). if b then Err NoCandidates else Ok (Asks ask)) y) ∙ h)
+    | inr y ↦ asked (sym (ap (λ (b : Bool). if b then Err NoCandidates else Ok (Asks ask)) y) ∙ h)
+  ]
+    where
+      refused : same_meaning (Err NoCandidates) (Ok (Edits e)) → ⊥
+      refused s = cc
+
+      asked : same_meaning (Ok (Asks ask)) (Ok (Edits e)) → ⊥
+      asked s = cc
+
+  row-said : (said : Said) (e : Edit) → meaning_of t offered said ≡ Ok (Edits e) → HasRow t e
+  row-said (opens name) e h = row_at (switch_names t) name (length t.switches) (λ at. edit.Switch at false) UnknownSwitch e (length-map t.switches (λ (r : Switch). r.name)) (λ at l. l) (position_of (switch_names t) name) refl h
+  row-said (closes name) e h = row_at (switch_names t) name (length t.switches) (λ at. edit.Switch at true) UnknownSwitch e (length-map t.switches (λ (r : Switch). r.name)) (λ at l. l) (position_of (switch_names t) name) refl h
+  row-said (trips name) e h = row_at (branch_names t) name (length t.branches) (λ at. edit.Branch at false) UnknownBranch e (length-map t.branches (λ (r : Branch). r.name)) (λ at l. l) (position_of (branch_names t) name) refl h
+  row-said (restores name) e h = row_at (branch_names t) name (length t.branches) (λ at. edit.Branch at true) UnknownBranch e (length-map t.branches (λ (r : Branch). r.name)) (λ at l. l) (position_of (branch_names t) name) refl h
+  row-said (loses name) e h = row_at (meter_names t) name (length t.meters) (λ at. edit.Meter at false) UnknownMeter e (length-map t.meters (λ (r : Meter). r.name)) (λ at l. l) (position_of (meter_names t) name) refl h
+  row-said (regains name) e h = row_at (meter_names t) name (length t.meters) (λ at. edit.Meter at true) UnknownMeter e (length-map t.meters (λ (r : Meter). r.name)) (λ at l. l) (position_of (meter_names t) name) refl h
+  row-said (asks ask) e h = absurd (no_edit (is_place ask) ask e h)
+
+  row-by : (said : Result Said LineFault) (e : Edit) → meant_by t offered said ≡ Ok (Edits e) → HasRow t e
+  row-by (Err fault) e h = absurd (refused (refusal_of fault) h)
+    where
+      refused : (why : Refusal) → same_meaning (Err why) (Ok (Edits e)) → ⊥
+      refused why s = cc
+  row-by (Ok said) e h = row-said said e h
+
+  pub row-meant : (line : List ℕ) (e : Edit) → meant_of t offered line ≡ Ok (Edits e) → HasRow t e
+  row-meant line e h = row-by (command_of line) e h

@@ -1,0 +1,33 @@
+use Rattle.std.proofs.Common.{◌<◌, length, sym, ap, ◌∙◌, subst}
+use Rattle.obs_case.specs.Tables.{Tables}
+use Rattle.obs_network.specs.Network.{NetworkOf, Rows, network_of, rows_of}
+use Rattle.obs_edit.specs.declared.edit.Edit.{Edit}
+use Rattle.obs_edit.specs.Edits.{HasRow, edited}
+use Rattle.obs_edit.proofs.Flagged.{rows-edited}
+use Rattle.obs_edit.proofs.repair.follow.Goals as goal
+
+pub refresh_meter-requires : goal.refresh_meter-requires
+refresh_meter-requires c =
+    let b = c.requires.before in
+    let is = c.in-Meter.is in
+    let low = subst (λ (e : Edit). HasRow b.before e) is b.row in
+    let same = b.same ∙ ap (edited b.before) is in
+    record {
+      meter = subst (λ n. c.in-Meter.at < n) (sym (ap (λ (t : Tables). length t.meters) b.same ∙ ap (λ (r : Rows). r.meters) (rows-edited b.before c.args.edit))) low;
+      before = record { tables = b.before; inservice = c.in-Meter.inservice; network = b.network; edited = same };
+    }
+
+pub refresh_branches-requires : goal.refresh_branches-requires
+refresh_branches-requires c =
+    let b = c.requires.before in
+    let is = c.in-Branch.is in
+    let same = b.same ∙ ap (edited b.before) is in
+    record {
+      rows = ap (λ (n : NetworkOf). n.rows) b.network ∙ sym (ap rows_of b.same ∙ rows-edited b.before c.args.edit);
+      buses = ap (λ (n : NetworkOf). n.buses) b.network ∙ sym (ap (λ (t : Tables). (network_of t).buses) same);
+    }
+
+pub refresh-requires : goal.refresh-requires
+refresh-requires c =
+    let b = c.requires.before in
+    record { rows = ap (λ (n : NetworkOf). n.rows) b.network ∙ sym (ap rows_of b.same ∙ rows-edited b.before c.args.edit) }
