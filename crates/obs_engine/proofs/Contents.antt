@@ -1,12 +1,11 @@
 -- Files that are taken one after the other, and the case that their contents are.
-use Rattle.std.proofs.Common.{ℕ, zero, suc, ◌≡◌, ◌≢◌, ◌∙◌, ◌+◌, ◌-◌, ◌<◌, ◌≤◌, ap, refl, sym, subst, true, false, List, [], ◌∷◌, ◌++◌, length, map, take, drop, get_or, Option, None, Some, Result, Ok, Err, inl, inr, arith, Vec}
+use Rattle.std.proofs.Common.{ℕ, zero, suc, ◌≡◌, ◌≢◌, ◌∙◌, ◌+◌, ◌-◌, ◌<◌, ◌≤◌, ◌⊎◌, ap, refl, sym, subst, true, false, List, [], ◌∷◌, ◌++◌, length, map, take, drop, get_or, add-one, Option, None, Some, Result, Ok, Err, inl, inr, arith, Vec}
 use Rattle.std.specs.Prelude.{All, IsErrAnd, codes, vec_len}
 use Rattle.std.specs.List.{range_with_len}
 use Rattle.std.specs.declared.alloc.Global.{Global}
-use Rattle.std.proofs.lemmas.Bool.{cases_eq}
-use Rattle.std.proofs.Math.Seq.{drop-cons, take-length}
-use Rattle.std.proofs.lemmas.List.{get_or-map, get_or-take, length-append, length-map}
-use Rattle.std.proofs.lemmas.List.FromFn.{get_or-map-range_with_len, map-range_with_len_more, take-map-range_with_len}
+use Rattle.std.proofs.Math.Seq.{take-append_seam, take-length}
+use Rattle.std.proofs.lemmas.List.{get_or-map, get_or-take, length-append, length-map, map-append, take-append-drop, take_all}
+use Rattle.std.proofs.lemmas.List.FromFn.{get_or-map-range_with_len, length-range_with_len, take-map-range_with_len}
 use Rattle.obs_io.specs.Causes.{Rose}
 use Rattle.obs_matroid.specs.Lists.{In}
 use Rattle.obs_text.specs.Faults.{Fault, fault_of, too_long}
@@ -29,47 +28,40 @@ use Rattle.obs_engine.specs.Replies.{fault_reply}
 use Rattle.obs_engine.specs.declared.words.CaseForm.{CaseForm}
 use Rattle.obs_engine.specs.declared.words.CaseForm.TheVariants.{Cdf, Matpower}
 use Rattle.obs_engine.specs.declared.words.Form.{Form}
-use Rattle.obs_engine.specs.declared.words.Form.TheVariants.{Topology, Report, Place}
+use Rattle.obs_engine.specs.declared.words.Form.TheVariants.{Topology, Report, Place, Session, SessionWith}
 use Rattle.obs_engine.specs.Files.{case_in, case_in_files, case_with_tables, first_too_long, is_too_long, parsed, switching_case, unless_fault}
 use Rattle.obs_engine.specs.Forms.{AreTold, ReadFailed}
 use Rattle.obs_engine.specs.Taken.{AreContents, IsNext, IsTaken, IsUntaken, bytes_of}
-use Rattle.obs_engine.specs.Words.{case_parts, first_file, parts_of}
+use Rattle.obs_engine.specs.Words.{case_parts, case_words, parts_of, words_of, words_with}
 use Rattle.obs_engine.proofs.Taking.{Fits}
 
--- behind a file that fits, and at one that doesn't
-fault_next : (parts : List (List ℕ)) (file : ℕ → List ℕ) (k at : ℕ) → k < length parts → is_too_long (file at) ≡ false
-    → first_too_long (drop k parts) file at ≡ first_too_long (drop (k + 1) parts) file (at + 1)
-fault_next parts file k at low fits = let e : k + 1 ≡ suc k = omega arith in rw e (rw (drop-cons parts k [] low) (rw fits refl))
+-- one element more of a front
+front_more : {X : Type 0} (xs : List X) (k : ℕ) (x : X) (rest : List X) → drop k xs ≡ x ∷ rest → take (suc k) xs ≡ take k xs ++ (x ∷ [])
+front_more [] zero x rest e = absurd cc
+front_more [] (suc k) x rest e = absurd cc
+front_more (y ∷ ys) zero x rest e = (let same : y ≡ x = cc e in ap (λ z. z ∷ []) same)
+front_more (y ∷ ys) (suc k) x rest e = ap (λ zs. y ∷ zs) (front_more ys k x rest e)
 
-fault_here : (parts : List (List ℕ)) (file : ℕ → List ℕ) (k at : ℕ) → k < length parts → is_too_long (file at) ≡ true
-    → first_too_long (drop k parts) file at ≡ Some (too_long (get_or parts k []))
-fault_here parts file k at low long = rw (drop-cons parts k [] low) (rw long refl)
+in_parts : (w : ℕ) (xs ys : List ℕ) → In w (xs ++ ys) → In w xs ⊎ In w ys
+in_parts w [] ys i = inr i
+in_parts w (x ∷ xs) ys (inl e) = inl (inl e)
+in_parts w (x ∷ xs) ys (inr i) = elim (in_parts w xs ys i) [ inl h ↦ inl (inr h) | inr h ↦ inr h ]
 
--- what is told of the words from one on
-told_split : (content : ℕ → Option (List ℕ)) (file : ℕ → List ℕ) (at m n : ℕ) → m ≡ suc n → AreTold content file (range_with_len at m)
-    → (content at ≡ Some (file at)) × (is_too_long (file at) ≡ false → AreTold content file (range_with_len (at + 1) n))
-told_split content file at m n e told = rw e at told
+none_left : {X : Type 0} (xs : List X) (n : ℕ) → n ≡ length xs → drop n xs ≡ []
+none_left xs n e = rw e (drop_whole xs)
+  where
+    drop_whole : {X : Type 0} (xs : List X) → drop (length xs) xs ≡ []
+    drop_whole [] = refl
+    drop_whole (x ∷ xs) = drop_whole xs
 
-pub in_range : (word first n : ℕ) → first ≤ word → word < first + n → In word (range_with_len first n)
-in_range word first zero low high = absurd (omega (arith, low, high))
-in_range word first (suc n) low high = elim (cases_eq word first) [
-  | inl e ↦ inl e
-  | inr ne ↦ inr (in_range word (first + 1) n (omega (arith, low, ne)) (omega (arith, high)))
-]
-
-range_low : (w first n : ℕ) → In w (range_with_len first n) → first ≤ w
-range_low w first zero i = elim i [ ]
-range_low w first (suc n) (inl e) = omega (arith, e)
-range_low w first (suc n) (inr i) = let l = range_low w (first + 1) n i in omega (arith, l)
-
--- the files of the words from first on are these parts of the input, and what was told of them before
-module _ (parts : List (List ℕ)) (first : ℕ) (content : ℕ → Option (List ℕ)) (before : ℕ → ℕ) (is_steady : ℕ → Type 0) where
+-- the files of these words are these parts of the input, and what was told of them before
+module _ (parts : List (List ℕ)) (words : List ℕ) (content : ℕ → Option (List ℕ)) (before : ℕ → ℕ) (is_steady : ℕ → Type 0) where
   -- the contents of the first k of them were taken
   abbrev pub IsTakenTo : ℕ → (ℕ → List ℕ) → List (Vec ℕ Global) → Type 0
   IsTakenTo k file contents =
-      AreTold content file (range_with_len (first + k) (length parts - k))
-      × (first_too_long parts file first ≡ first_too_long (drop k parts) file (first + k))
-      × (bytes_of contents ≡ map file (range_with_len first k))
+      AreTold content file (drop k words)
+      × (first_too_long parts file words ≡ first_too_long (drop k parts) file (drop k words))
+      × (bytes_of contents ≡ map file (take k words))
 
   pub record Reading (k : ℕ) (content_now : ℕ → Option (List ℕ)) (now : ℕ → ℕ) (is_steady_now : ℕ → Type 0) (contents : List (Vec ℕ Global)) : Type 0 where
     pub same : (w : ℕ) → content_now w ≡ content w
@@ -77,8 +69,8 @@ module _ (parts : List (List ℕ)) (first : ℕ) (content : ℕ → Option (List
     pub calm : (w : ℕ) → is_steady w → is_steady_now w
     pub count : length contents ≡ k
     pub short : All (λ (bytes : Vec ℕ Global). vec_len bytes ≤ most_file_bytes) contents
-    pub fits : (w : ℕ) → first ≤ w → w < first + k → Fits content w
-    pub taken : (file : ℕ → List ℕ) → AreTold content file (range_with_len first (length parts)) → IsTakenTo k file contents
+    pub fits : (w : ℕ) → In w (take k words) → Fits content w
+    pub taken : (file : ℕ → List ℕ) → AreTold content file words → IsTakenTo k file contents
 
   pub reading_begins : Reading 0 content before is_steady []
   reading_begins = record {
@@ -87,95 +79,104 @@ module _ (parts : List (List ℕ)) (first : ℕ) (content : ℕ → Option (List
     calm = λ w s. s;
     count = refl;
     short = λ i d l. absurd (omega (arith, l));
-    fits = λ w low high. absurd (omega (arith, low, high));
-    taken = λ file told.
-        let e : first + 0 ≡ first = omega arith in
-        let l : length parts - 0 ≡ length parts = omega arith in
-        (rw (e, l) told, rw e refl, refl);
+    fits = λ w i. elim i [ ];
+    taken = λ file told. (told, refl, refl);
   }
 
+  -- the next word, and the part that its file is
   module _ {k : ℕ} {content_now : ℕ → Option (List ℕ)} {now : ℕ → ℕ} {is_steady_now : ℕ → Type 0} {contents : List (Vec ℕ Global)}
-      (r : Reading k content_now now is_steady_now contents) (low : k < length parts) (word : ℕ) (at : word ≡ first + k) where
+      (r : Reading k content_now now is_steady_now contents) (word : ℕ) (part : List ℕ) (here : drop k words ≡ word ∷ drop (suc k) words)
+      (part_here : drop k parts ≡ part ∷ drop (suc k) parts) where
+    abbrev told_here : (file : ℕ → List ℕ) → AreTold content file words
+        → (content word ≡ Some (file word)) × (is_too_long (file word) ≡ false → AreTold content file (drop (suc k) words))
+    told_here file told = subst (λ (ws : List ℕ). AreTold content file ws) here (r.taken file told).0
+
+    fault_from : (file : ℕ → List ℕ) → AreTold content file words → first_too_long parts file words ≡ first_too_long (part ∷ drop (suc k) parts) file (word ∷ drop (suc k) words)
+    fault_from file told =
+        (r.taken file told).1
+        ∙ (ap (λ (ps : List (List ℕ)). first_too_long ps file (drop k words)) part_here ∙ ap (λ (ws : List ℕ). first_too_long (part ∷ drop (suc k) parts) file ws) here)
+
     -- what is told of the next file
-    next_told : (file : ℕ → List ℕ) → AreTold content file (range_with_len first (length parts)) → content_now word ≡ Some (file word)
-    next_told file told =
-        let t = told_split content file (first + k) (length parts - k) (length parts - (k + 1)) (omega (arith, low)) (r.taken file told).0 in
-        r.same word ∙ subst (λ (w : ℕ). content w ≡ Some (file w)) (sym at) t.0
+    next_told : (file : ℕ → List ℕ) → AreTold content file words → content_now word ≡ Some (file word)
+    next_told file told = r.same word ∙ (told_here file told).0
 
     pub reading_goes_on : {content_next : ℕ → Option (List ℕ)} {next : ℕ → ℕ} {is_steady_next : ℕ → Type 0} {more : List (Vec ℕ Global)}
-        → ((bytes : List ℕ) → content_now word ≡ Some bytes → IsNext (get_or parts k []) bytes (bytes_of contents) (bytes_of more) (Ok tt))
+        → ((bytes : List ℕ) → content_now word ≡ Some bytes → IsNext part bytes (bytes_of contents) (bytes_of more) (Ok tt))
         → ((w : ℕ) → content_next w ≡ content_now w) → ((w : ℕ) → next w ≡ now w) → ((w : ℕ) → is_steady_now w → is_steady_next w)
         → length more ≡ length contents + 1 → All (λ (bytes : Vec ℕ Global). vec_len bytes ≤ most_file_bytes) more
         → Reading (k + 1) content_next next is_steady_next more
-    reading_goes_on {more = more} stated same quiet calm count short = record {
-      same = λ w. same w ∙ r.same w;
-      quiet = λ w. quiet w ∙ r.quiet w;
-      calm = λ w s. calm w (r.calm w s);
-      count = count ∙ ap (λ (n : ℕ). n + 1) r.count;
-      short = short;
-      fits = λ w l h. elim (cases_eq w word) [
-        | inl e ↦ λ bytes is. (stated bytes (r.same word ∙ subst (λ (v : ℕ). content v ≡ Some bytes) e is)).1
-        | inr ne ↦ r.fits w l (omega (arith, h, ne, at))
-      ];
-      taken = λ file told.
-          let had = r.taken file told in
-          let t = told_split content file (first + k) (length parts - k) (length parts - (k + 1)) (omega (arith, low)) had.0 in
-          let next = stated (file word) (next_told file told) in
-          let fit : is_too_long (file (first + k)) ≡ false = subst (λ (w : ℕ). is_too_long (file w) ≡ false) at next.1 in
-          let e : first + (k + 1) ≡ first + k + 1 = omega arith in (
-            rw e (t.1 fit),
-            rw e (had.1 ∙ fault_next parts file k (first + k) low fit),
-            next.0 ∙ (ap (λ (xs : List (List ℕ)). xs ++ (file word ∷ [])) had.2 ∙ sym (map-range_with_len_more file first k word (sym at))),
-          );
-    }
+    reading_goes_on {content_next = content_next} {next = next} {is_steady_next = is_steady_next} {more = more} stated same quiet calm count short =
+        subst (λ (n : ℕ). Reading n content_next next is_steady_next more) (sym (add-one k)) one_more
+      where
+        one_more : Reading (suc k) content_next next is_steady_next more
+        one_more = record {
+          same = λ w. same w ∙ r.same w;
+          quiet = λ w. quiet w ∙ r.quiet w;
+          calm = λ w s. calm w (r.calm w s);
+          count = (let c = r.count in omega (arith, count, c));
+          short = short;
+          fits = λ w i. elim (in_parts w (take k words) (word ∷ []) (subst (λ (ws : List ℕ). In w ws) (front_more words k word (drop (suc k) words) here) i)) [
+            | inl h ↦ r.fits w h
+            | inr h ↦ elim h [
+              | inl e ↦ λ bytes is. (stated bytes (r.same word ∙ subst (λ (v : ℕ). content v ≡ Some bytes) e is)).1
+              | inr n ↦ elim n [ ]
+            ]
+          ];
+          taken = λ file told.
+              let next = stated (file word) (next_told file told) in
+              let fit : is_too_long (file word) ≡ false = next.1 in (
+                (told_here file told).1 fit,
+                fault_from file told ∙ rw fit refl,
+                next.0
+                    ∙ (ap (λ (xs : List (List ℕ)). xs ++ (file word ∷ [])) (r.taken file told).2
+                    ∙ (sym (map-append file (take k words) (word ∷ [])) ∙ ap (λ (ws : List ℕ). map file ws) (sym (front_more words k word (drop (suc k) words) here)))),
+              );
+        }
 
     -- the next file is too long
-    pub reading_refused : (why : Fault) → ((bytes : List ℕ) → content_now word ≡ Some bytes → (is_too_long bytes ≡ true) × (why ≡ too_long (get_or parts k [])))
-        → (file : ℕ → List ℕ) → AreTold content file (range_with_len first (length parts)) → first_too_long parts file first ≡ Some why
+    pub reading_refused : (why : Fault) → ((bytes : List ℕ) → content_now word ≡ Some bytes → (is_too_long bytes ≡ true) × (why ≡ too_long part))
+        → (file : ℕ → List ℕ) → AreTold content file words → first_too_long parts file words ≡ Some why
     reading_refused why stated file told =
-        let had = r.taken file told in
         let next = stated (file word) (next_told file told) in
-        let long : is_too_long (file (first + k)) ≡ true = subst (λ (w : ℕ). is_too_long (file w) ≡ true) at next.0 in
-        had.1 ∙ (fault_here parts file k (first + k) low long ∙ ap Some (sym next.1))
+        let long : is_too_long (file word) ≡ true = next.0 in
+        fault_from file told ∙ (rw long refl ∙ ap Some (sym next.1))
 
     -- it couldn't be read
-    pub reading_failed : {after : ℕ → ℕ} → Rose (now word) (after word) → ((w : ℕ) → w ≢ word → after w ≡ now w)
-        → ReadFailed (range_with_len first (length parts)) content before after
+    pub reading_failed : {after : ℕ → ℕ} → Rose (now word) (after word) → ((w : ℕ) → w ≢ word → after w ≡ now w) → ReadFailed words content before after
     reading_failed {after = after} rose others = record {
       word = word;
-      named = in_range word first (length parts) (omega (arith, at)) (omega (arith, at, low));
+      before_it = take k words;
+      behind_it = drop (suc k) words;
+      named = sym (take-append-drop k words) ∙ ap (λ (ws : List ℕ). take k words ++ ws) here;
       rose = subst (λ (n : ℕ). Rose n (after word)) (r.quiet word) rose;
       others = λ w ne. others w ne ∙ r.quiet w;
-      fits = λ w i l. r.fits w (range_low w first (length parts) i) (omega (arith, l, at));
+      fits = r.fits;
     }
 
   pub reading_ends : {k : ℕ} {content_now : ℕ → Option (List ℕ)} {now : ℕ → ℕ} {is_steady_now : ℕ → Type 0} (contents : Vec (Vec ℕ Global) Global)
-      → Reading k content_now now is_steady_now contents.items → k ≡ length parts
-      → (file : ℕ → List ℕ) → AreTold content file (range_with_len first (length parts)) → AreContents parts file first (Ok contents)
+      → Reading k content_now now is_steady_now contents.items → k ≡ length words
+      → (file : ℕ → List ℕ) → AreTold content file words → AreContents parts file words (Ok contents)
   reading_ends {k = k} contents r all file told =
-      let had = r.taken file told in
-      let none : drop k parts ≡ [] = rw all (drop_all parts) in
-      (had.1 ∙ ap (λ (xs : List (List ℕ)). first_too_long xs file (first + k)) none, subst (λ (n : ℕ). bytes_of contents.items ≡ map file (range_with_len first n)) all had.2)
-    where
-      drop_all : (xs : List (List ℕ)) → drop (length xs) xs ≡ []
-      drop_all [] = refl
-      drop_all (x ∷ xs) = drop_all xs
+      let had = r.taken file told in (
+        had.1 ∙ ap (λ (ws : List ℕ). first_too_long (drop k parts) file ws) (none_left words k all),
+        had.2 ∙ ap (λ (ws : List ℕ). map file ws) (take_all k words (omega (arith, all))),
+      )
 
 -- an error that ends the reading
-pub contents_not_taken : (parts : List (List ℕ)) (file : ℕ → List ℕ) (first : ℕ) (why : Untaken) (r : Result (Vec (Vec ℕ Global) Global) Untaken) → IsErrAnd r (λ e. e ≡ why)
-    → ((fault : InputFault) → why ≡ Refused fault → first_too_long parts file first ≡ Some (fault_of fault)) → AreContents parts file first r
-contents_not_taken parts file first why (Ok x) e h = absurd e
-contents_not_taken parts file first why (Err (Refused fault)) e h = h fault (sym e)
-contents_not_taken parts file first why (Err Read) e h = tt
-contents_not_taken parts file first why (Err NoMemory) e h = tt
+pub contents_not_taken : (parts : List (List ℕ)) (file : ℕ → List ℕ) (words : List ℕ) (why : Untaken) (r : Result (Vec (Vec ℕ Global) Global) Untaken) → IsErrAnd r (λ e. e ≡ why)
+    → ((fault : InputFault) → why ≡ Refused fault → first_too_long parts file words ≡ Some (fault_of fault)) → AreContents parts file words r
+contents_not_taken parts file words why (Ok x) e h = absurd e
+contents_not_taken parts file words why (Err (Refused fault)) e h = h fault (sym e)
+contents_not_taken parts file words why (Err Read) e h = tt
+contents_not_taken parts file words why (Err NoMemory) e h = tt
 
 -- no case is taken from such files
 pub case_not_taken : (form : Form) (file : ℕ → List ℕ) (why : Untaken) (r : Result Tables Untaken) → IsErrAnd r (λ e. e ≡ why)
-    → AreContents (parts_of form) file (first_file form) (Err why) → IsTaken (case_in_files form file) r
+    → AreContents (parts_of form) file (words_of form) (Err why) → IsTaken (case_in_files form file) r
 case_not_taken form file why (Ok x) e h = absurd e
 case_not_taken form file why (Err x) e h = subst (λ (u : Untaken). IsUntaken (case_in_files form file) u) (sym e) (by why h)
   where
-    by : (w : Untaken) → AreContents (parts_of form) file (first_file form) (Err w) → IsUntaken (case_in_files form file) w
+    by : (w : Untaken) → AreContents (parts_of form) file (words_of form) (Err w) → IsUntaken (case_in_files form file) w
     by (Refused fault) f = ap (λ (o : Option Fault). unless_fault o (parsed form file)) f
     by Read f = tt
     by NoMemory f = tt
@@ -199,7 +200,7 @@ module _ (contents : List (Vec ℕ Global)) (file : ℕ → List ℕ) (first n :
 -- the two files of `topology`
 topology_at : (contents : List (Vec ℕ Global)) (file : ℕ → List ℕ) (x y : Vec ℕ Global) (a b : List ℕ) (r : Result Tables Untaken)
     → x ≡ get_or contents 0 x → y ≡ get_or contents 1 y → a ≡ x.items → b ≡ y.items → IsTaken (switching_case a b) r
-    → length contents ≡ 2 → bytes_of contents ≡ map file (range_with_len 1 2) → IsTaken (parsed Topology file) r
+    → length contents ≡ 2 → bytes_of contents ≡ map file (words_of Topology) → IsTaken (parsed Topology file) r
 unfolding parsed
 topology_at contents file x y a b r xi yi ax by taken count told =
     let front = whole_front (bytes_of contents) 2 (length-map contents (λ (content : Vec ℕ Global). content.items) ∙ count) ∙ told in
@@ -210,9 +211,9 @@ topology_at contents file x y a b r xi yi ax by taken count told =
 
 pub topology_taken : (form : Form) (contents : List (Vec ℕ Global)) (file : ℕ → List ℕ) (x y : Vec ℕ Global) (a b : List ℕ) (r : Result Tables Untaken) → form ≡ Topology
     → x ≡ get_or contents 0 x → y ≡ get_or contents 1 y → a ≡ x.items → b ≡ y.items → IsTaken (switching_case a b) r
-    → length contents ≡ length (parts_of form) → bytes_of contents ≡ map file (range_with_len (first_file form) (length (parts_of form))) → IsTaken (parsed form file) r
+    → length contents ≡ length (words_of form) → bytes_of contents ≡ map file (words_of form) → IsTaken (parsed form file) r
 topology_taken form contents file x y a b r e xi yi ax by taken =
-    subst (λ (f : Form). length contents ≡ length (parts_of f) → bytes_of contents ≡ map file (range_with_len (first_file f) (length (parts_of f))) → IsTaken (parsed f file) r) (sym e)
+    subst (λ (f : Form). length contents ≡ length (words_of f) → bytes_of contents ≡ map file (words_of f) → IsTaken (parsed f file) r) (sym e)
     (topology_at contents file x y a b r xi yi ax by taken)
 
 -- the two files of a case that is no table
@@ -236,40 +237,72 @@ module _ (contents : List (Vec ℕ Global)) (file : ℕ → List ℕ) (x y : Vec
       subst (λ (f : CaseForm). length (case_parts f) ≤ length contents → take (length (case_parts f)) (bytes_of contents) ≡ map file (range_with_len 2 (length (case_parts f))) → IsTaken (case_in f candidates file) r) (sym e)
       (two_at (λ u v. IsTaken (case_with_tables mat_fault v candidates (mat_of u)) r) taken)
 
+at_seam : (xs : List (List ℕ)) (y : List ℕ) (n : ℕ) → length xs ≡ n → get_or (xs ++ (y ∷ [])) n [] ≡ y
+at_seam [] y n e = rw (sym e) refl
+at_seam (x ∷ xs) y zero e = absurd cc
+at_seam (x ∷ xs) y (suc n) e = at_seam xs y n (cc e)
+
 -- the files of a case, and behind them that of candidates
 module _ (contents : List (Vec ℕ Global)) (file : ℕ → List ℕ) (r : Result Tables Untaken) (from : CaseForm) where
   abbrev IsRead : Option (List ℕ) → Type 0
   IsRead candidates = take (length (case_parts from)) (bytes_of contents) ≡ map file (range_with_len 2 (length (case_parts from))) → IsTaken (case_in from candidates file) r
 
-  report_at : IsRead None → bytes_of contents ≡ map file (range_with_len 2 (length (case_parts from))) → IsTaken (parsed (Report from) file) r
-  unfolding parsed
-  report_at read told =
+  case_alone : IsRead None → bytes_of contents ≡ map file (case_words from) → IsTaken (case_in from None file) r
+  case_alone read told =
       let n = length (case_parts from) in
       read (ap (λ (xs : List (List ℕ)). take n xs) told ∙ take-map-range_with_len file 2 n n (omega arith))
 
-  pub report_taken : (form : Form) → form ≡ Report from → IsRead None
-      → bytes_of contents ≡ map file (range_with_len (first_file form) (length (parts_of form))) → IsTaken (parsed form file) r
-  report_taken form e read =
-      subst (λ (f : Form). bytes_of contents ≡ map file (range_with_len (first_file f) (length (parts_of f))) → IsTaken (parsed f file) r) (sym e) (report_at read)
+  report_at : IsRead None → bytes_of contents ≡ map file (words_of (Report from)) → IsTaken (parsed (Report from) file) r
+  unfolding parsed
+  report_at read = case_alone read
+
+  session_at : IsRead None → bytes_of contents ≡ map file (words_of (Session from)) → IsTaken (parsed (Session from) file) r
+  unfolding parsed
+  session_at read = case_alone read
+
+  pub report_taken : (form : Form) → form ≡ Report from → IsRead None → bytes_of contents ≡ map file (words_of form) → IsTaken (parsed form file) r
+  report_taken form e read = subst (λ (f : Form). bytes_of contents ≡ map file (words_of f) → IsTaken (parsed f file) r) (sym e) (report_at read)
+
+  pub session_taken : (form : Form) → form ≡ Session from → IsRead None → bytes_of contents ≡ map file (words_of form) → IsTaken (parsed form file) r
+  session_taken form e read = subst (λ (f : Form). bytes_of contents ≡ map file (words_of f) → IsTaken (parsed f file) r) (sym e) (session_at read)
+
+  -- behind them stands the word of the candidates
+  case_offered : (last : ℕ) (x : Vec ℕ Global) (a : List ℕ) → x ≡ get_or contents (length contents - 1) x → a ≡ x.items → IsRead (Some a)
+      → length contents ≡ length (case_words from ++ (last ∷ [])) → bytes_of contents ≡ map file (case_words from ++ (last ∷ [])) → IsTaken (case_in from (Some (file last)) file) r
+  case_offered last x a xi ax read count told =
+      let n = length (case_parts from) in
+      let front = map file (case_words from) in
+      let many : length (case_words from) ≡ n = length-range_with_len 2 n in
+      let size : length front ≡ n = length-map (case_words from) file ∙ many in
+      let total = length-append (case_words from) (last ∷ []) in
+      let split : bytes_of contents ≡ front ++ (file last ∷ []) = told ∙ map-append file (case_words from) (last ∷ []) in
+      let at : length contents - 1 ≡ n = omega (arith, count, total, many) in
+      let low : n < length contents = omega (arith, count, total, many) in
+      let here : a ≡ get_or (bytes_of contents) n [] =
+      ax ∙ (ap (λ (v : Vec ℕ Global). v.items) (xi ∙ ap (λ (k : ℕ). get_or contents k x) at) ∙ sym (get_or-map (λ (content : Vec ℕ Global). content.items) contents n x [] low)) in
+      let last_one : a ≡ file last = here ∙ (ap (λ (xs : List (List ℕ)). get_or xs n []) split ∙ at_seam front (file last) n size) in
+      subst (λ (u : List ℕ). IsTaken (case_in from (Some u) file) r) last_one
+      (read (ap (λ (xs : List (List ℕ)). take n xs) split ∙ (ap (λ (k : ℕ). take k (front ++ (file last ∷ []))) (sym size) ∙ take-append_seam front (file last ∷ []))))
 
   place_at : (x : Vec ℕ Global) (a : List ℕ) → x ≡ get_or contents (length contents - 1) x → a ≡ x.items → IsRead (Some a)
-      → length contents ≡ length (parts_of (Place from)) → bytes_of contents ≡ map file (range_with_len 2 (length (parts_of (Place from)))) → IsTaken (parsed (Place from) file) r
+      → length contents ≡ length (words_of (Place from)) → bytes_of contents ≡ map file (words_of (Place from)) → IsTaken (parsed (Place from) file) r
   unfolding parsed
-  place_at x a xi ax read count told =
-      let n = length (case_parts from) in
-      let size : length (parts_of (Place from)) ≡ n + 1 = length-append (case_parts from) (codes "candidates" ∷ []) in
-      let m = length (parts_of (Place from)) in
-      let all = whole_front (bytes_of contents) m (length-map contents (λ (content : Vec ℕ Global). content.items) ∙ count) ∙ told in
-      let at : length contents - 1 ≡ n = omega (arith, count, size) in
-      let last = handed contents file 2 m all (omega (arith, count)) n x a (xi ∙ ap (λ (k : ℕ). get_or contents k x) at) ax (omega (arith, size)) in
-      subst (λ (u : List ℕ). IsTaken (case_in from (Some u) file) r) last
-      (read (ap (λ (xs : List (List ℕ)). take n xs) told ∙ take-map-range_with_len file 2 m n (omega (arith, size))))
+  place_at x a xi ax read = case_offered (words_with from) x a xi ax read
+
+  session_with_at : (x : Vec ℕ Global) (a : List ℕ) → x ≡ get_or contents (length contents - 1) x → a ≡ x.items → IsRead (Some a)
+      → length contents ≡ length (words_of (SessionWith from)) → bytes_of contents ≡ map file (words_of (SessionWith from)) → IsTaken (parsed (SessionWith from) file) r
+  unfolding parsed
+  session_with_at x a xi ax read = case_offered (words_with from + 1) x a xi ax read
 
   pub place_taken : (form : Form) (x : Vec ℕ Global) (a : List ℕ) → form ≡ Place from → x ≡ get_or contents (length contents - 1) x → a ≡ x.items → IsRead (Some a)
-      → length contents ≡ length (parts_of form) → bytes_of contents ≡ map file (range_with_len (first_file form) (length (parts_of form))) → IsTaken (parsed form file) r
+      → length contents ≡ length (words_of form) → bytes_of contents ≡ map file (words_of form) → IsTaken (parsed form file) r
   place_taken form x a e xi ax read =
-      subst (λ (f : Form). length contents ≡ length (parts_of f) → bytes_of contents ≡ map file (range_with_len (first_file f) (length (parts_of f))) → IsTaken (parsed f file) r) (sym e)
-      (place_at x a xi ax read)
+      subst (λ (f : Form). length contents ≡ length (words_of f) → bytes_of contents ≡ map file (words_of f) → IsTaken (parsed f file) r) (sym e) (place_at x a xi ax read)
+
+  pub session_with_taken : (form : Form) (x : Vec ℕ Global) (a : List ℕ) → form ≡ SessionWith from → x ≡ get_or contents (length contents - 1) x → a ≡ x.items → IsRead (Some a)
+      → length contents ≡ length (words_of form) → bytes_of contents ≡ map file (words_of form) → IsTaken (parsed form file) r
+  session_with_taken form x a e xi ax read =
+      subst (λ (f : Form). length contents ≡ length (words_of f) → bytes_of contents ≡ map file (words_of f) → IsTaken (parsed f file) r) (sym e) (session_with_at x a xi ax read)
 
 -- the first fault of a MATPOWER file
 mat_ended : (r : Result Tables TableFault) (fault : MatFault) → mat.as_end r ≡ Err (Mat fault) → ⊥

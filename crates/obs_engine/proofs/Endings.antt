@@ -7,7 +7,7 @@ use Rattle.obs_engine.specs.declared.status.Status.{Status}
 use Rattle.obs_engine.specs.declared.status.Status.TheVariants.{Done, Short, Usage, InputFault, ReadFault, WriteFault, NoMemory, SessionTooLong}
 use Rattle.obs_engine.specs.declared.words.Form.{Form}
 use Rattle.obs_engine.specs.Ending.{Answers, AnswersPart, Ends, HasRoom, answered_before}
-use Rattle.obs_engine.specs.Replies.{EndsWith, RepliedAt, Reply, usage_reply}
+use Rattle.obs_engine.specs.Replies.{EndsBehind, EndsWith, RepliedAt, Reply, usage_reply}
 use Rattle.obs_engine.specs.Stated.{Told, IsStated}
 
 -- a reply that was written whole
@@ -37,73 +37,80 @@ replied_memory reply = record { ends = inr (inr (inr (refl, refl))); reads = λ 
 abbrev pub IsFailure : Status → Type 0
 IsFailure status = (status ≡ ReadFault) ⊎ ((status ≡ WriteFault) ⊎ (status ≡ NoMemory))
 
+-- a command that takes no input, or none yet, had answered nothing
+pub behind_of : (reply : Reply) (answered : List ℕ) (status : Status) (a b : Option (List ℕ)) → answered ≡ [] → EndsWith reply status a b → EndsBehind reply answered status a b
+behind_of reply answered status a b none (inl h) = inl h
+behind_of reply answered status a b none (inr (inl h)) = inr (inl h)
+behind_of reply answered status a b none (inr (inr (inl (e, same)))) = inr (inr (inl (e, rw none (same ∙ sym (and_then_none a)))))
+behind_of reply answered status a b none (inr (inr (inr h))) = inr (inr (inr h))
+
 -- the way in which a run ends with the reply that is stated for a form
-pub ends_stated : (form : Option Form) (told : Told) (left : Option (List ℕ)) (reply : Reply) (status : Status) (a b : Option (List ℕ)) → IsStated form told reply → (IsFailure reply.status → ⊥) → answered_before form told left ≡ []
-    → EndsWith reply status a b → Ends form told left status a b
-ends_stated form told left reply Done a b is not none ends = by ends
+pub ends_stated : (form : Option Form) (told : Told) (left : Option (List ℕ)) (reply : Reply) (status : Status) (a b : Option (List ℕ)) → IsStated form told reply → (IsFailure reply.status → ⊥)
+    → EndsBehind reply (answered_before form told left) status a b → Ends form told left status a b
+ends_stated form told left reply Done a b is not ends = by ends
   where
-    by : EndsWith reply Done a b → Answers form told Done a b
+    by : EndsBehind reply (answered_before form told left) Done a b → Answers form told Done a b
     by (inl (same, wrote)) = (reply, is, same, wrote)
     by (inr (inl (e, part))) = absurd cc
-    by (inr (inr (inl (e, same)))) = absurd cc
+    by (inr (inr (inl (e, wrote)))) = absurd cc
     by (inr (inr (inr (e, same)))) = absurd cc
-ends_stated form told left reply Short a b is not none ends = by ends
+ends_stated form told left reply Short a b is not ends = by ends
   where
-    by : EndsWith reply Short a b → Answers form told Short a b
+    by : EndsBehind reply (answered_before form told left) Short a b → Answers form told Short a b
     by (inl (same, wrote)) = (reply, is, same, wrote)
     by (inr (inl (e, part))) = absurd cc
-    by (inr (inr (inl (e, same)))) = absurd cc
+    by (inr (inr (inl (e, wrote)))) = absurd cc
     by (inr (inr (inr (e, same)))) = absurd cc
-ends_stated form told left reply Usage a b is not none ends = by ends
+ends_stated form told left reply Usage a b is not ends = by ends
   where
-    by : EndsWith reply Usage a b → Answers form told Usage a b
+    by : EndsBehind reply (answered_before form told left) Usage a b → Answers form told Usage a b
     by (inl (same, wrote)) = (reply, is, same, wrote)
     by (inr (inl (e, part))) = absurd cc
-    by (inr (inr (inl (e, same)))) = absurd cc
+    by (inr (inr (inl (e, wrote)))) = absurd cc
     by (inr (inr (inr (e, same)))) = absurd cc
-ends_stated form told left reply InputFault a b is not none ends = by ends
+ends_stated form told left reply InputFault a b is not ends = by ends
   where
-    by : EndsWith reply InputFault a b → Answers form told InputFault a b
+    by : EndsBehind reply (answered_before form told left) InputFault a b → Answers form told InputFault a b
     by (inl (same, wrote)) = (reply, is, same, wrote)
     by (inr (inl (e, part))) = absurd cc
-    by (inr (inr (inl (e, same)))) = absurd cc
+    by (inr (inr (inl (e, wrote)))) = absurd cc
     by (inr (inr (inr (e, same)))) = absurd cc
-ends_stated form told left reply SessionTooLong a b is not none ends = by ends
+ends_stated form told left reply SessionTooLong a b is not ends = by ends
   where
-    by : EndsWith reply SessionTooLong a b → Answers form told SessionTooLong a b
+    by : EndsBehind reply (answered_before form told left) SessionTooLong a b → Answers form told SessionTooLong a b
     by (inl (same, wrote)) = (reply, is, same, wrote)
     by (inr (inl (e, part))) = absurd cc
-    by (inr (inr (inl (e, same)))) = absurd cc
+    by (inr (inr (inl (e, wrote)))) = absurd cc
     by (inr (inr (inr (e, same)))) = absurd cc
-ends_stated form told left reply ReadFault a b is not none ends = by ends
+ends_stated form told left reply ReadFault a b is not ends = by ends
   where
-    by : EndsWith reply ReadFault a b → Wrote a b (answered_before form told left)
+    by : EndsBehind reply (answered_before form told left) ReadFault a b → Wrote a b (answered_before form told left)
     by (inl (same, wrote)) = absurd (not (inl (sym same)))
     by (inr (inl (e, part))) = absurd cc
-    by (inr (inr (inl (e, same)))) = rw none (same ∙ sym (and_then_none a))
+    by (inr (inr (inl (e, wrote)))) = wrote
     by (inr (inr (inr (e, same)))) = absurd cc
-ends_stated form told left reply WriteFault a b is not none ends = by ends
+ends_stated form told left reply WriteFault a b is not ends = by ends
   where
-    by : EndsWith reply WriteFault a b → AnswersPart form told a b
+    by : EndsBehind reply (answered_before form told left) WriteFault a b → AnswersPart form told a b
     by (inl (same, wrote)) = absurd (not (inr (inl (sym same))))
     by (inr (inl (e, part))) = (reply, is, part)
-    by (inr (inr (inl (e, same)))) = absurd cc
+    by (inr (inr (inl (e, wrote)))) = absurd cc
     by (inr (inr (inr (e, same)))) = absurd cc
-ends_stated form told left reply NoMemory a b is not none ends = by ends
+ends_stated form told left reply NoMemory a b is not ends = by ends
   where
-    by : EndsWith reply NoMemory a b → Wrote a b []
+    by : EndsBehind reply (answered_before form told left) NoMemory a b → Wrote a b []
     by (inl (same, wrote)) = absurd (not (inr (inr (sym same))))
     by (inr (inl (e, part))) = absurd cc
-    by (inr (inr (inl (e, same)))) = absurd cc
+    by (inr (inr (inl (e, wrote)))) = absurd cc
     by (inr (inr (inr (e, same)))) = same ∙ sym (and_then_none a)
 
 -- where no read and no write fails, all is answered, or there is no memory
 pub complete_stated : (form : Option Form) (told : Told) (reply : Reply) (status : Status) (a b : Option (List ℕ)) → IsStated form told reply → (status ≡ ReadFault → ⊥) → (status ≡ WriteFault → ⊥)
-    → EndsWith reply status a b → (status ≡ NoMemory) ⊎ Answers form told status a b
-complete_stated form told reply status a b is read write (inl (same, wrote)) = inr (reply, is, same, wrote)
-complete_stated form told reply status a b is read write (inr (inl (e, part))) = absurd (write e)
-complete_stated form told reply status a b is read write (inr (inr (inl (e, same)))) = absurd (read e)
-complete_stated form told reply status a b is read write (inr (inr (inr (e, same)))) = inl e
+    → (answered : List ℕ) → EndsBehind reply answered status a b → (status ≡ NoMemory) ⊎ Answers form told status a b
+complete_stated form told reply status a b is read write answered (inl (same, wrote)) = inr (reply, is, same, wrote)
+complete_stated form told reply status a b is read write answered (inr (inl (e, part))) = absurd (write e)
+complete_stated form told reply status a b is read write answered (inr (inr (inl (e, wrote)))) = absurd (read e)
+complete_stated form told reply status a b is read write answered (inr (inr (inr (e, same)))) = inl e
 
 usage_no_failure : IsFailure usage_reply.status → ⊥
 usage_no_failure (inl e) = absurd cc
@@ -113,7 +120,7 @@ usage_no_failure (inr (inr e)) = absurd cc
 -- words without a form
 pub usage_ends : (form : Option Form) (told : Told) (left : Option (List ℕ)) (status : Status) (a b : Option (List ℕ)) → None ≡ form → EndsWith usage_reply status a b → Ends form told left status a b
 usage_ends form told left status a b e ends =
-    subst (λ f. Ends f told left status a b) e (ends_stated None told left usage_reply status a b refl usage_no_failure refl ends)
+    subst (λ f. Ends f told left status a b) e (ends_stated None told left usage_reply status a b refl usage_no_failure (behind_of usage_reply [] status a b refl ends))
 
 pub usage_complete : {a b : Option (List ℕ)} {f k : ℕ} {room : ℕ → Type 0} {status : Status} (form : Option Form) (told : Told) → None ≡ form → HasRoom form told room → RepliedAt a b f k room status usage_reply
     → (status ≡ NoMemory) ⊎ Answers form told status a b
@@ -121,24 +128,7 @@ usage_complete {a = a} {b = b} {room = room} {status = status} form told e has r
     let here : HasRoom None told room = subst (λ f. HasRoom f told room) (sym e) has in
     let fits = here usage_reply refl in
     subst (λ f. (status ≡ NoMemory) ⊎ Answers f told status a b) e
-    (complete_stated None told usage_reply status a b refl replied.reads (replied.room fits.0 fits.1) replied.ends)
-
--- a form whose reply is this function of the contents of its files
-pub record IsFileForm (form : Option Form) (reply : (ℕ → List ℕ) → Reply) : Type 0 where
-  pub stated : (told : Told) → IsStated form told (reply told.file)
-  pub settled : (file : ℕ → List ℕ) → IsFailure (reply file).status → ⊥
-  pub nothing_before : (told : Told) (left : Option (List ℕ)) → answered_before form told left ≡ []
-
-pub file_form_ends : (form : Option Form) (reply : (ℕ → List ℕ) → Reply) → IsFileForm form reply → (told : Told) (left : Option (List ℕ)) (status : Status) (a b : Option (List ℕ))
-    → EndsWith (reply told.file) status a b → Ends form told left status a b
-file_form_ends form reply is told left status a b ends =
-    ends_stated form told left (reply told.file) status a b (is.stated told) (is.settled told.file) (is.nothing_before told left) ends
-
-pub file_form_complete : (form : Option Form) (reply : (ℕ → List ℕ) → Reply) → IsFileForm form reply → (told : Told) (status : Status) (a b : Option (List ℕ)) (room : ℕ → Type 0) → HasRoom form told room
-    → (status ≡ ReadFault → ⊥) → ((rest : ℕ) → room (length (reply told.file).text + rest) → status ≡ WriteFault → ⊥) → EndsWith (reply told.file) status a b → (status ≡ NoMemory) ⊎ Answers form told status a b
-file_form_complete form reply is told status a b room has read write ends =
-    let fits = has (reply told.file) (is.stated told) in
-    complete_stated form told (reply told.file) status a b (is.stated told) read (write fits.0 fits.1) ends
+    (complete_stated None told usage_reply status a b refl replied.reads (replied.room fits.0 fits.1) [] (behind_of usage_reply [] status a b refl replied.ends))
 
 -- the statuses of a command that replies so
 pub replied_statuses : (P : Status → Type 0) (reply : Reply) (status : Status) (a b : Option (List ℕ)) → P reply.status → P WriteFault → P NoMemory → (status ≡ ReadFault → ⊥) → EndsWith reply status a b → P status

@@ -9,3 +9,10 @@ pub mod Worded
 pub mod Commanded
 pub mod Contents
 pub mod Placed
+pub mod Ran
+pub mod Folding
+pub mod Going
+pub mod Pieces
+pub mod Lined
+pub mod Begun
+pub mod Answering

@@ -1,6 +1,7 @@
 -- The replies of forms: which statuses they have, and what follows for the form of the words.
-use Rattle.std.proofs.Common.{ℕ, None, ◌≡◌, ◌+◌, ◌⊎◌, inl, inr, refl, sym, subst, List, length, Some, [], Option, Result, Ok, Err, Bool, true, false}
-use Rattle.std.specs.Prelude.{if◌then◌else◌, ◌==◌}
+use Rattle.std.proofs.Common.{ℕ, None, ◌≡◌, ◌∙◌, ◌+◌, ◌-◌, ◌⊎◌, inl, inr, refl, ap, arith, List, length, Some, [], Option, Result, Ok, Err, Bool, true, false}
+use Rattle.std.proofs.lemmas.Bool.{cases_Bool}
+use Rattle.std.specs.Prelude.{if◌then◌else◌, ◌==◌, nat_lt}
 use Rattle.obs_network.specs.Network.{case_needed}
 use Rattle.obs_case.specs.Tables.{Tables}
 use Rattle.obs_case_csv.specs.declared.faults.TableFault.{TableFault}
@@ -15,23 +16,26 @@ use Rattle.obs_placement.specs.Placed.Placed.{cheapest, shortfall}
 use Rattle.obs_script.specs.declared.command.Ask.{Ask}
 use Rattle.obs_script.specs.declared.command.Ask.TheVariants.{Status as StatusAsk, Tree, Bound, Islands, Critical, Report as ReportAsk, Place as PlaceAsk, Cert}
 use Rattle.obs_text.specs.Faults.{Fault}
+use Rattle.obs_text.specs.Lines.{lines_of}
 use Rattle.obs_edit.specs.Answers.{case_rank}
 use Rattle.obs_edit.specs.Planned.{case_placement}
 use Rattle.obs_engine.specs.declared.status.Status.{Status}
-use Rattle.obs_engine.specs.declared.status.Status.TheVariants.{Done, Short, InputFault, ReadFault, WriteFault, NoMemory}
+use Rattle.obs_engine.specs.declared.status.Status.TheVariants.{Done, Short, InputFault, ReadFault, WriteFault, NoMemory, SessionTooLong}
 use Rattle.obs_engine.specs.declared.words.CaseForm.{CaseForm}
 use Rattle.obs_engine.specs.declared.words.CaseForm.TheVariants.{Csv, Cdf, Matpower}
 use Rattle.obs_engine.specs.declared.words.Form.{Form}
-use Rattle.obs_engine.specs.declared.words.Form.TheVariants.{Topology, Report, Place}
+use Rattle.obs_engine.specs.declared.words.Form.TheVariants.{Topology, Report, Place, Session, SessionWith}
 use Rattle.obs_engine.specs.Asks.{ask_status, placed_status, report_status}
 use Rattle.obs_engine.specs.Commands.{case_reply, files_reply}
 use Rattle.obs_engine.specs.Files.{case_in, case_in_files, case_of_tables, case_with_tables, first_too_long, parsed, unless_fault}
-use Rattle.obs_engine.specs.Ending.{Answers, Ends, HasRoom, answered_before}
-use Rattle.obs_engine.specs.Forms.{AnyReadFailed, AreFiles, CanAnswer, CanEnd, IsFileWord, ReadFailed}
+use Rattle.obs_engine.specs.Ending.{answered_before, answered_in}
+use Rattle.obs_engine.specs.Forms.{CanEnd, TakesInput}
+use Rattle.obs_engine.specs.Lines.{lines_case}
+use Rattle.obs_engine.specs.Sessions.{most_input_bytes, session_reply}
 use Rattle.obs_engine.specs.Stated.{Told}
-use Rattle.obs_engine.specs.Replies.{EndsWith, Reply, reply_to}
-use Rattle.obs_engine.specs.Words.{file_words, first_file, parts_of, words_with}
-use Rattle.obs_engine.proofs.Endings.{IsFailure, IsFileForm, file_form_complete, file_form_ends}
+use Rattle.obs_engine.specs.Replies.{Reply, reply_to}
+use Rattle.obs_engine.specs.Words.{parts_of, words_of, words_with}
+use Rattle.obs_engine.proofs.Endings.{IsFailure}
 
 -- files that are no case get a reply that says so
 abbrev pub RefusesInput : Result Tables Reply → Type 0
@@ -56,13 +60,19 @@ unfolding parsed
 parsed-refuses Topology file = tables-refuse _
 parsed-refuses (Report from) file = case-refuses from None file
 parsed-refuses (Place from) file = case-refuses from (Some (file (words_with from))) file
+parsed-refuses (Session from) file = case-refuses from None file
+parsed-refuses (SessionWith from) file = case-refuses from (Some (file (words_with from + 1))) file
 
 unless-refuses : (fault : Option Fault) (next : Result Tables Reply) → RefusesInput next → RefusesInput (unless_fault fault next)
 unless-refuses None next h = h
 unless-refuses (Some fault) next h = refl
 
 pub files-refuse : (form : Form) (file : ℕ → List ℕ) → RefusesInput (case_in_files form file)
-files-refuse form file = unless-refuses (first_too_long (parts_of form) file (first_file form)) (parsed form file) (parsed-refuses form file)
+files-refuse form file = unless-refuses (first_too_long (parts_of form) file (words_of form)) (parsed form file) (parsed-refuses form file)
+
+-- a status that the reply of a session can have
+abbrev pub CanReply : Status → Type 0
+CanReply status = (status ≡ Done) ⊎ (status ≡ Short) ⊎ (status ≡ SessionTooLong)
 
 -- a status that an answer can have
 abbrev pub IsVerdict : Status → Type 0
@@ -90,18 +100,26 @@ ask_status-is ReportAsk t = report_status-is t
 ask_status-is PlaceAsk t = placed_status-is (case_placement t)
 ask_status-is Cert t = report_status-is t
 
+-- the statuses of the reply of a session
+pub session-can : (offered : Bool) (t : Tables) (input : List ℕ) → CanReply (session_reply offered t input).status
+session-can offered t input = elim (cases_Bool (nat_lt most_input_bytes (length input))) [
+  | inl e ↦ rw e (inr (inr refl))
+  | inr e ↦ rw e (widened (report_status-is (lines_case offered t (lines_of input))))
+]
+  where
+    widened : {status : Status} → IsVerdict status → CanReply status
+    widened (inl e) = inl e
+    widened (inr e) = inr (inl e)
+
 -- the status of the reply to a case
-pub case-can : (form : Form) (t : Tables) → CanEnd form (case_reply form t).status
-case-can Topology t = refl
-case-can (Report from) t = report_status-is t
-case-can (Place from) t = placed_status-is (case_placement t)
+pub case-can : (form : Form) (input : List ℕ) (t : Tables) → CanEnd form (case_reply form input t).status
+case-can Topology input t = refl
+case-can (Report from) input t = report_status-is t
+case-can (Place from) input t = placed_status-is (case_placement t)
+case-can (Session from) input t = session-can false t input
+case-can (SessionWith from) input t = session-can true t input
 
-ended : (form : Form) (status : Status) → CanEnd form status → IsVerdict status
-ended Topology status e = inl e
-ended (Report from) status e = e
-ended (Place from) status e = e
-
-verdict_no_failure : (status : Status) → IsVerdict status → IsFailure status → ⊥
+pub verdict_no_failure : (status : Status) → IsVerdict status → IsFailure status → ⊥
 verdict_no_failure status (inl s) (inl e) = absurd cc
 verdict_no_failure status (inl s) (inr (inl e)) = absurd cc
 verdict_no_failure status (inl s) (inr (inr e)) = absurd cc
@@ -109,51 +127,47 @@ verdict_no_failure status (inr s) (inl e) = absurd cc
 verdict_no_failure status (inr s) (inr (inl e)) = absurd cc
 verdict_no_failure status (inr s) (inr (inr e)) = absurd cc
 
-pub case_no_failure : (form : Form) (t : Tables) → IsFailure (case_reply form t).status → ⊥
-case_no_failure form t = verdict_no_failure (case_reply form t).status (ended form (case_reply form t).status (case-can form t))
+reply_no_failure : (status : Status) → CanReply status → IsFailure status → ⊥
+reply_no_failure status (inl s) f = verdict_no_failure status (inl s) f
+reply_no_failure status (inr (inl s)) f = verdict_no_failure status (inr s) f
+reply_no_failure status (inr (inr s)) (inl e) = absurd cc
+reply_no_failure status (inr (inr s)) (inr (inl e)) = absurd cc
+reply_no_failure status (inr (inr s)) (inr (inr e)) = absurd cc
+
+end_no_failure : (form : Form) (status : Status) → CanEnd form status → IsFailure status → ⊥
+end_no_failure Topology status e = verdict_no_failure status (inl e)
+end_no_failure (Report from) status e = verdict_no_failure status e
+end_no_failure (Place from) status e = verdict_no_failure status e
+end_no_failure (Session from) status e = reply_no_failure status e
+end_no_failure (SessionWith from) status e = reply_no_failure status e
+
+pub case_no_failure : (form : Form) (input : List ℕ) (t : Tables) → IsFailure (case_reply form input t).status → ⊥
+case_no_failure form input t = end_no_failure form (case_reply form input t).status (case-can form input t)
 
 refused_no_failure : (status : Status) → status ≡ InputFault → IsFailure status → ⊥
 refused_no_failure status s (inl e) = absurd cc
 refused_no_failure status s (inr (inl e)) = absurd cc
 refused_no_failure status s (inr (inr e)) = absurd cc
 
-no_failure : (form : Form) (r : Result Tables Reply) → RefusesInput r → IsFailure (reply_to (case_reply form) r).status → ⊥
-no_failure form (Ok t) h = case_no_failure form t
-no_failure form (Err reply) h = refused_no_failure reply.status h
+no_failure : (form : Form) (input : List ℕ) (r : Result Tables Reply) → RefusesInput r → IsFailure (reply_to (case_reply form input) r).status → ⊥
+no_failure form input (Ok t) h = case_no_failure form input t
+no_failure form input (Err reply) h = refused_no_failure reply.status h
 
-nothing_before : (form : Form) (told : Told) (left : Option (List ℕ)) → answered_before (Some form) told left ≡ []
-nothing_before Topology told left = refl
-nothing_before (Report from) told left = refl
-nothing_before (Place from) told left = refl
+-- the reply that is stated for a form says no failure
+pub stated_no_failure : (form : Form) (told : Told) → IsFailure (files_reply form told.input told.file).status → ⊥
+stated_no_failure form told = no_failure form told.input (case_in_files form told.file) (files-refuse form told.file)
 
-pub file_form : (form : Form) → IsFileForm (Some form) (files_reply form)
-file_form form = record {
-  stated = λ told. refl;
-  settled = λ file. no_failure form (case_in_files form file) (files-refuse form file);
-  nothing_before = nothing_before form;
-}
+-- a session that took nothing has answered nothing
+nothing_in : (offered : Bool) (r : Result Tables Reply) (input : List ℕ) → answered_in offered r input (Some input) ≡ []
+nothing_in offered (Ok t) input = let none : length input - length input ≡ 0 = omega arith in rw none refl
+nothing_in offered (Err reply) input = refl
 
--- what is known of the form of the words, where they have one
-module _ (form : Option Form) (x : Form) (here : Some x ≡ form) where
-  pub files_at : (content : ℕ → Option (List ℕ)) (file : ℕ → List ℕ) → AreFiles form content file → AreFiles (Some x) content file
-  files_at content file h = subst (λ (o : Option Form). AreFiles o content file) (sym here) h
-
-  pub words_at : (P : ℕ → Type 0) → ((w : ℕ) → IsFileWord form w → P w) → (w : ℕ) → IsFileWord (Some x) w → P w
-  words_at P h = subst (λ (o : Option Form). (w : ℕ) → IsFileWord o w → P w) (sym here) h
-
-  pub statuses_at : (status : Status) → CanAnswer (Some x) status → CanAnswer form status
-  statuses_at status h = subst (λ (o : Option Form). CanAnswer o status) here h
-
-  pub failed_at : (content : ℕ → Option (List ℕ)) (old new : ℕ → ℕ) (m n : ℕ) → ReadFailed (file_words (Some x)) content old new → AnyReadFailed form content old new m n
-  failed_at content old new m n h = subst (λ (o : Option Form). AnyReadFailed o content old new m n) here (inl h)
-
-  pub ends_at : (told : Told) (left : Option (List ℕ)) (status : Status) (a b : Option (List ℕ)) → EndsWith (files_reply x told.file) status a b → Ends form told left status a b
-  ends_at told left status a b ends =
-      subst (λ (o : Option Form). Ends o told left status a b) here (file_form_ends (Some x) (files_reply x) (file_form x) told left status a b ends)
-
-  pub complete_at : (told : Told) (status : Status) (a b : Option (List ℕ)) (room : ℕ → Type 0) → HasRoom form told room
-      → (status ≡ ReadFault → ⊥) → ((rest : ℕ) → room (length (files_reply x told.file).text + rest) → status ≡ WriteFault → ⊥) → EndsWith (files_reply x told.file) status a b
-      → (status ≡ NoMemory) ⊎ Answers form told status a b
-  complete_at told status a b room has read write ends =
-      subst (λ (o : Option Form). (status ≡ NoMemory) ⊎ Answers o told status a b) here
-      (file_form_complete (Some x) (files_reply x) (file_form x) told status a b room (subst (λ (o : Option Form). HasRoom o told room) (sym here) has) read write ends)
+-- nothing is answered before the first byte of the input is taken
+pub nothing_before : (form : Form) (told : Told) (left : Option (List ℕ)) → (TakesInput (Some form) → left ≡ Some told.input) → answered_before (Some form) told left ≡ []
+nothing_before Topology told left is = refl
+nothing_before (Report from) told left is = refl
+nothing_before (Place from) told left is = refl
+nothing_before (Session from) told left is =
+    ap (λ (l : Option (List ℕ)). answered_in false (case_in_files (Session from) told.file) told.input l) (is tt) ∙ nothing_in false (case_in_files (Session from) told.file) told.input
+nothing_before (SessionWith from) told left is =
+    ap (λ (l : Option (List ℕ)). answered_in true (case_in_files (SessionWith from) told.file) told.input l) (is tt) ∙ nothing_in true (case_in_files (SessionWith from) told.file) told.input

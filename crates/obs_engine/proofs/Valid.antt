@@ -1,5 +1,5 @@
 -- Cases that files are are valid.
-use Rattle.std.proofs.Common.{◌≡◌, ◌∙◌, ap, ℕ, List, None, Option, Some, Result, Ok, Err, refl, subst}
+use Rattle.std.proofs.Common.{◌≡◌, ◌∙◌, ◌+◌, ap, ℕ, List, None, Option, Some, Result, Ok, Err, refl, subst}
 use Rattle.std.specs.Result.{MatchResult}
 use Rattle.obs_case.specs.Tables.{IsValid, Tables, no_rows}
 use Rattle.obs_case_csv.specs.declared.faults.Table.TheVariants.{Nodes, Switches}
@@ -22,11 +22,11 @@ use Rattle.obs_text.specs.Faults.{Fault}
 use Rattle.obs_engine.specs.declared.words.CaseForm.{CaseForm}
 use Rattle.obs_engine.specs.declared.words.CaseForm.TheVariants.{Csv, Cdf, Matpower}
 use Rattle.obs_engine.specs.declared.words.Form.{Form}
-use Rattle.obs_engine.specs.declared.words.Form.TheVariants.{Topology, Report, Place}
+use Rattle.obs_engine.specs.declared.words.Form.TheVariants.{Topology, Report, Place, Session, SessionWith}
 use Rattle.obs_engine.specs.Files.{case_in, case_in_files, case_of_tables, case_with_tables, first_too_long, parsed, unless_fault}
 use Rattle.obs_engine.specs.Laws.{CasesAreValid}
 use Rattle.obs_engine.specs.Replies.{Reply}
-use Rattle.obs_engine.specs.Words.{first_file, parts_of, words_with}
+use Rattle.obs_engine.specs.Words.{parts_of, words_of, words_with}
 
 -- a case, where there is one, is valid
 abbrev HoldsValid : Result Tables Reply → Type 0
@@ -66,13 +66,15 @@ in_form Topology file =
     of_tables _ (reads _ _ (λ t h. h.0.valid) (then_read Switches (file 2) (then_read Nodes (file 1) (Ok no_rows))) (SwitchingIsRead-holds (file 1) (file 2)))
 in_form (Report from) file = in_case from None file
 in_form (Place from) file = in_case from (Some (file (words_with from))) file
+in_form (Session from) file = in_case from None file
+in_form (SessionWith from) file = in_case from (Some (file (words_with from + 1))) file
 
 unless : (fault : Option Fault) (next : Result Tables Reply) → HoldsValid next → HoldsValid (unless_fault fault next)
 unless None next h = h
 unless (Some fault) next h = tt
 
 in_files : (form : Form) (file : ℕ → List ℕ) → HoldsValid (case_in_files form file)
-in_files form file = unless (first_too_long (parts_of form) file (first_file form)) (parsed form file) (in_form form file)
+in_files form file = unless (first_too_long (parts_of form) file (words_of form)) (parsed form file) (in_form form file)
 
 pub CasesAreValid-holds : CasesAreValid
 CasesAreValid-holds form file t e = subst HoldsValid e (in_files form file)

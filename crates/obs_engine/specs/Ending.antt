@@ -1,12 +1,20 @@
 -- How a run may end, where the outside tells its bytes.
-use Rattle.std.specs.Prelude.{ℕ, ◌≡◌, ◌+◌, List, [], length, Option, None, Some}
+use Rattle.std.specs.Prelude.{ℕ, ◌≡◌, ◌+◌, Bool, true, false, List, [], length, Option, None, Some, Result, Ok, Err}
+use Rattle.obs_case.specs.Tables.{Tables}
 use Rattle.obs_io.specs.Bytes.{Wrote, WrotePart}
 use Rattle.obs_engine.specs.declared.status.Status.{Status}
 use Rattle.obs_engine.specs.declared.status.Status.TheVariants.{Done, Short, Usage, InputFault, ReadFault, WriteFault, NoMemory, SessionTooLong}
 use Rattle.obs_engine.specs.declared.words.Form.{Form}
-use Rattle.obs_engine.specs.declared.words.Form.TheVariants.{Topology, Report, Place}
+use Rattle.obs_engine.specs.declared.words.Form.TheVariants.{Topology, Report, Place, Session, SessionWith}
+use Rattle.obs_engine.specs.Files.{case_in_files}
 use Rattle.obs_engine.specs.Replies.{Reply}
+use Rattle.obs_engine.specs.Sessions.{answered_within}
 use Rattle.obs_engine.specs.Stated.{Told, IsStated}
+
+-- what a session had answered where these bytes of its input were left: the lines that had ended, for the case that its files are
+abbrev pub answered_in : Bool → Result Tables Reply → List ℕ → Option (List ℕ) → List ℕ
+answered_in offered (Ok t) input left = answered_within offered t input left
+answered_in offered (Err reply) input left = []
 
 -- what had been answered when a read failed and these bytes of the input were left: nothing, but for forms that take the input
 abbrev pub answered_before : Option Form → Told → Option (List ℕ) → List ℕ
@@ -14,6 +22,8 @@ answered_before None told left = []
 answered_before (Some Topology) told left = []
 answered_before (Some (Report from)) told left = []
 answered_before (Some (Place from)) told left = []
+answered_before (Some (Session from)) told left = answered_in false (case_in_files (Session from) told.file) told.input left
+answered_before (Some (SessionWith from)) told left = answered_in true (case_in_files (SessionWith from) told.file) told.input left
 
 -- the run wrote the whole stated text and answered the stated status
 abbrev pub Answers : Option Form → Told → Status → Option (List ℕ) → Option (List ℕ) → Type 0

@@ -15,18 +15,19 @@ use Rattle.obs_matpower.specs.Read.{mat_of}
 use Rattle.obs_engine.specs.declared.words.CaseForm.{CaseForm}
 use Rattle.obs_engine.specs.declared.words.CaseForm.TheVariants.{Csv, Cdf, Matpower}
 use Rattle.obs_engine.specs.declared.words.Form.{Form}
-use Rattle.obs_engine.specs.declared.words.Form.TheVariants.{Topology, Report, Place}
+use Rattle.obs_engine.specs.declared.words.Form.TheVariants.{Topology, Report, Place, Session, SessionWith}
 use Rattle.obs_engine.specs.Replies.{Reply, fault_reply}
-use Rattle.obs_engine.specs.Words.{first_file, parts_of, words_with}
+use Rattle.obs_engine.specs.Words.{parts_of, words_of, words_with}
 
 -- whether bytes are more than a file may have
 abbrev pub is_too_long : List ℕ → Bool
 is_too_long bytes = nat_lt most_file_bytes (length bytes)
 
--- the fault of the first file that is too long, of those from a word on, which are these parts of the input
-abbrev pub first_too_long : List (List ℕ) → (ℕ → List ℕ) → ℕ → Option Fault
-first_too_long [] file word = None
-first_too_long (part ∷ parts) file word = if is_too_long (file word) then Some (too_long part) else first_too_long parts file (word + 1)
+-- the fault of the first file that is too long, of those of these words, which are these parts of the input
+abbrev pub first_too_long : List (List ℕ) → (ℕ → List ℕ) → List ℕ → Option Fault
+first_too_long parts file [] = None
+first_too_long [] file (word ∷ words) = None
+first_too_long (part ∷ parts) file (word ∷ words) = if is_too_long (file word) then Some (too_long part) else first_too_long parts file words
 
 -- the case that tables are, or the reply to their first fault
 abbrev pub case_of_tables : Result Tables TableFault → Result Tables Reply
@@ -54,6 +55,8 @@ unfoldable pub parsed : Form → (ℕ → List ℕ) → Result Tables Reply
 parsed Topology file = switching_case (file 1) (file 2)
 parsed (Report from) file = case_in from None file
 parsed (Place from) file = case_in from (Some (file (words_with from))) file
+parsed (Session from) file = case_in from None file
+parsed (SessionWith from) file = case_in from (Some (file (words_with from + 1))) file
 
 -- what comes next, unless there is a fault
 abbrev pub unless_fault : Option Fault → Result Tables Reply → Result Tables Reply
@@ -62,4 +65,4 @@ unless_fault (Some fault) next = Err (fault_reply fault)
 
 -- the case that the files of a form are
 abbrev pub case_in_files : Form → (ℕ → List ℕ) → Result Tables Reply
-case_in_files form file = unless_fault (first_too_long (parts_of form) file (first_file form)) (parsed form file)
+case_in_files form file = unless_fault (first_too_long (parts_of form) file (words_of form)) (parsed form file)

@@ -1,11 +1,11 @@
 -- What a form of words takes, and which answers it can have.
-use Rattle.std.specs.Prelude.{ℕ, ◌≡◌, ◌≢◌, ◌<◌, ◌⊎◌, false, List, [], ◌∷◌, Option, None, Some}
+use Rattle.std.specs.Prelude.{ℕ, ◌≡◌, ◌≢◌, ◌⊎◌, false, List, [], ◌∷◌, ◌++◌, Option, None, Some}
 use Rattle.obs_io.specs.Causes.{Rose}
 use Rattle.obs_matroid.specs.Lists.{In}
 use Rattle.obs_engine.specs.declared.status.Status.{Status}
-use Rattle.obs_engine.specs.declared.status.Status.TheVariants.{Done, Short, Usage, InputFault, ReadFault, WriteFault, NoMemory}
+use Rattle.obs_engine.specs.declared.status.Status.TheVariants.{Done, Short, Usage, InputFault, ReadFault, WriteFault, NoMemory, SessionTooLong}
 use Rattle.obs_engine.specs.declared.words.Form.{Form}
-use Rattle.obs_engine.specs.declared.words.Form.TheVariants.{Topology, Report, Place}
+use Rattle.obs_engine.specs.declared.words.Form.TheVariants.{Topology, Report, Place, Session, SessionWith}
 use Rattle.obs_engine.specs.Files.{is_too_long}
 use Rattle.obs_engine.specs.Words.{file_words}
 
@@ -18,12 +18,16 @@ TakesInput None = ⊥
 TakesInput (Some Topology) = ⊥
 TakesInput (Some (Report from)) = ⊥
 TakesInput (Some (Place from)) = ⊥
+TakesInput (Some (Session from)) = Unit {0}
+TakesInput (Some (SessionWith from)) = Unit {0}
 
 -- the statuses of a form whose answer is whole
 abbrev pub CanEnd : Form → Status → Type 0
 CanEnd Topology status = status ≡ Done
 CanEnd (Report from) status = (status ≡ Done) ⊎ (status ≡ Short)
 CanEnd (Place from) status = (status ≡ Done) ⊎ (status ≡ Short)
+CanEnd (Session from) status = (status ≡ Done) ⊎ (status ≡ Short) ⊎ (status ≡ SessionTooLong)
+CanEnd (SessionWith from) status = (status ≡ Done) ⊎ (status ≡ Short) ⊎ (status ≡ SessionTooLong)
 
 -- the statuses of a form whose files are refused, or where something failed
 abbrev pub CanStop : Status → Type 0
@@ -47,10 +51,12 @@ AreFiles form content file = AreTold content file (file_words form)
 -- where its content is told
 pub record ReadFailed (words : List ℕ) (content : ℕ → Option (List ℕ)) (before now : ℕ → ℕ) : Type 0 where
   pub word : ℕ
-  pub named : In word words
+  pub before_it : List ℕ
+  pub behind_it : List ℕ
+  pub named : words ≡ before_it ++ (word ∷ behind_it)
   pub rose : Rose (before word) (now word)
   pub others : (w : ℕ) → w ≢ word → now w ≡ before w
-  pub fits : (w : ℕ) → In w words → w < word → (bytes : List ℕ) → content w ≡ Some bytes → is_too_long bytes ≡ false
+  pub fits : (w : ℕ) → In w before_it → (bytes : List ℕ) → content w ≡ Some bytes → is_too_long bytes ≡ false
 
 -- a read failed: that of a file of the form, or of the input, where the form takes it
 abbrev pub AnyReadFailed : Option Form → (ℕ → Option (List ℕ)) → (ℕ → ℕ) → (ℕ → ℕ) → ℕ → ℕ → Type 0

@@ -1,15 +1,29 @@
 -- The laws that need a name.
-use Rattle.std.specs.Prelude.{◌≡◌, ◌↔◌, ℕ, List, Ok, [], ◌∷◌, ◌++◌, codes, length}
+use Rattle.std.specs.Prelude.{◌≡◌, ◌≢◌, ◌↔◌, ℕ, Bool, true, false, List, Ok, Err, [], ◌∷◌, ◌++◌, codes, length}
 use Rattle.obs_case.specs.Tables.{IsValid, Tables}
 use Rattle.obs_matroid.specs.Lists.{In}
 use Rattle.obs_exchange.specs.Critical.{IsCriticalAt}
 use Rattle.obs_network.specs.Network.{case_branches, case_meters}
 use Rattle.obs_network.specs.Observable.{case_live_meters, item_component}
+use Rattle.obs_engine.specs.declared.words.CaseForm.{CaseForm}
 use Rattle.obs_engine.specs.declared.words.Form.{Form}
-use Rattle.obs_engine.specs.declared.words.Form.TheVariants.{Topology, Report, Place}
+use Rattle.obs_engine.specs.declared.words.Form.TheVariants.{Topology, Report, Place, Session, SessionWith}
 use Rattle.obs_engine.specs.Files.{case_in_files}
 use Rattle.obs_engine.specs.Words.{case_parts, case_word}
-use Rattle.obs_edit.specs.Answers.{bound_meters}
+use Rattle.obs_network.specs.Network.{case_needed}
+use Rattle.obs_report.specs.Lines.{ok_line, refused_line}
+use Rattle.obs_script.specs.declared.command.Ask.{Ask}
+use Rattle.obs_script.specs.Gathered.{content_of, is_comment}
+use Rattle.obs_text.specs.Lines.{lines_of}
+use Rattle.obs_edit.specs.declared.edit.Edit.{Edit}
+use Rattle.obs_edit.specs.declared.edit.Meant.TheVariants.{Edits, Asks}
+use Rattle.obs_edit.specs.declared.edit.Refusal.{Refusal}
+use Rattle.obs_edit.specs.Answers.{bound_meters, case_rank}
+use Rattle.obs_edit.specs.Edits.{edited}
+use Rattle.obs_edit.specs.Lines.{meant_of, refusal_code, refusal_name}
+use Rattle.obs_engine.specs.Asks.{ask_text}
+use Rattle.obs_engine.specs.Commands.{case_reply}
+use Rattle.obs_engine.specs.Lines.{ended_after, line_case, line_text, lines_case, lines_text, open_after}
 
 -- the bound of a component lists exactly those live meters of the component whose loss doesn't lower the rank of the case
 abbrev pub ListsNonCritical : Type 0
@@ -30,3 +44,41 @@ IsFormOf (Report from) words =
 IsFormOf (Place from) words =
     (files : List (List ℕ)) × (candidates : List ℕ) × (length files ≡ length (case_parts from))
     × (words ≡ codes "place" ∷ case_word from ∷ (files ++ (candidates ∷ [])))
+IsFormOf (Session from) words =
+    (files : List (List ℕ)) × (length files ≡ length (case_parts from)) × (words ≡ codes "session" ∷ case_word from ∷ files)
+IsFormOf (SessionWith from) words =
+    (files : List (List ℕ)) × (candidates : List ℕ) × (length files ≡ length (case_parts from))
+    × (words ≡ codes "session" ∷ case_word from ∷ (files ++ (codes "with" ∷ candidates ∷ [])))
+
+-- of a session's lines an edit alone changes the present case: it sets its flag
+pub record EditsAloneChange (offered : Bool) (t : Tables) (line : List ℕ) : Type 0 where
+  pub edit : is_comment line ≡ false → (edit : Edit) → meant_of t offered line ≡ Ok (Edits edit) → line_case offered t line ≡ edited t edit
+  pub ask : (ask : Ask) → meant_of t offered line ≡ Ok (Asks ask) → line_case offered t line ≡ t
+  pub refused : (why : Refusal) → meant_of t offered line ≡ Err why → line_case offered t line ≡ t
+  pub passed : is_comment line ≡ true → line_case offered t line ≡ t
+
+-- the answer to a line, which the present case gives alone: of an edit the rank and the needed number after it, of an ask its text
+pub record IsAnswerTo (offered : Bool) (t : Tables) (line : List ℕ) : Type 0 where
+  pub edit : is_comment line ≡ false → (edit : Edit) → meant_of t offered line ≡ Ok (Edits edit)
+      → line_text offered t line ≡ ok_line (case_rank (edited t edit)) (case_needed (edited t edit))
+  pub ask : is_comment line ≡ false → (ask : Ask) → meant_of t offered line ≡ Ok (Asks ask) → line_text offered t line ≡ ask_text ask t
+  pub refused : is_comment line ≡ false → (why : Refusal) → meant_of t offered line ≡ Err why
+      → line_text offered t line ≡ refused_line (refusal_code why) (refusal_name why)
+  pub passed : is_comment line ≡ true → line_text offered t line ≡ []
+
+-- the answer to the line `report` is what the command prints of the present case
+abbrev pub ReportsAsTheCommand : Type 0
+ReportsAsTheCommand =
+    (offered : Bool) (t : Tables) (from : CaseForm) (input : List ℕ) → line_text offered t (codes "report") ≡ (case_reply (Report from) input t).text
+
+-- after lines that lead to one present case, in whatever order, all further lines get the same answers
+abbrev pub OrderIsForgotten : Type 0
+OrderIsForgotten =
+    (offered : Bool) (t : Tables) (some others more : List (List ℕ)) → lines_case offered t some ≡ lines_case offered t others
+    → (after : List ℕ) × (lines_text offered t (some ++ more) ≡ lines_text offered t some ++ after)
+    × (lines_text offered t (others ++ more) ≡ lines_text offered t others ++ after)
+
+-- the lines of bytes are those that end in them, and behind them the last bytes, where there are some
+pub record EndedOrLast (bytes : List ℕ) : Type 0 where
+  pub none : open_after [] bytes ≡ [] → lines_of bytes ≡ ended_after [] bytes
+  pub last : open_after [] bytes ≢ [] → lines_of bytes ≡ ended_after [] bytes ++ (content_of (open_after [] bytes) ∷ [])

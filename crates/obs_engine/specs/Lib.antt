@@ -5,8 +5,12 @@ pub mod Ending
 pub mod Files
 pub mod Forms
 pub mod Laws
+pub mod Lines
 pub mod Replies
+pub mod Runs
+pub mod Sessions
 pub mod Stated
 pub mod Taken
+pub mod Tasks
 pub mod Topology
 pub mod Words

@@ -36,6 +36,13 @@ EndsWith reply status before after =
     ⊎ (((status ≡ WriteFault) × WrotePart before after reply.text)
     ⊎ (((status ≡ ReadFault) × (after ≡ before)) ⊎ ((status ≡ NoMemory) × (after ≡ before))))
 
+-- the same of a command that takes the input, and had answered so much when a read of it failed
+abbrev pub EndsBehind : Reply → List ℕ → Status → Option (List ℕ) → Option (List ℕ) → Type 0
+EndsBehind reply answered status before after =
+    ((status ≡ reply.status) × Wrote before after reply.text)
+    ⊎ (((status ≡ WriteFault) × WrotePart before after reply.text)
+    ⊎ (((status ≡ ReadFault) × Wrote before after answered) ⊎ ((status ≡ NoMemory) × (after ≡ before))))
+
 -- a command that needs no further reading ends with this reply; a write fails only where the count of faults rose, and not
 -- while there is room for the text; where none failed the count is as before
 pub record RepliedAt (before after : Option (List ℕ)) (faults_before faults_after : ℕ) (has_room : ℕ → Type 0) (status : Status) (reply : Reply) : Type 0 where

@@ -19,4 +19,4 @@ pub record Tells (form : Option Form) (content : ℕ → Option (List ℕ)) (lef
 -- the reply that is stated for a form and what is told
 abbrev pub IsStated : Option Form → Told → Reply → Type 0
 IsStated None told reply = reply ≡ usage_reply
-IsStated (Some form) told reply = reply ≡ files_reply form told.file
+IsStated (Some form) told reply = reply ≡ files_reply form told.input told.file

@@ -1,6 +1,5 @@
 -- What was taken from files, beside what these hold.
-use Rattle.std.specs.Prelude.{ℕ, ◌≡◌, true, false, List, [], ◌∷◌, ◌++◌, length, map, None, Some, Result, Ok, Err, Vec}
-use Rattle.std.specs.List.{range_with_len}
+use Rattle.std.specs.Prelude.{ℕ, ◌≡◌, true, false, List, [], ◌∷◌, ◌++◌, map, None, Some, Result, Ok, Err, Vec}
 use Rattle.std.specs.declared.alloc.Global.{Global}
 use Rattle.obs_text.specs.Faults.{fault_of, too_long}
 use Rattle.obs_case.specs.Tables.{Tables}
@@ -39,11 +38,10 @@ IsNext part content before now (Err NoMemory) = Unit {0}
 abbrev pub bytes_of : List (Vec ℕ Global) → List (List ℕ)
 bytes_of contents = map (λ (content : Vec ℕ Global). content.items) contents
 
--- what was taken from the files of the words from one on, which are these parts of the input: their contents, of which none is too
--- long, or the fault of the first that is
-abbrev pub AreContents : List (List ℕ) → (ℕ → List ℕ) → ℕ → Result (Vec (Vec ℕ Global) Global) Untaken → Type 0
-AreContents parts file word (Ok contents) =
-    (first_too_long parts file word ≡ None) × (bytes_of contents.items ≡ map file (range_with_len word (length parts)))
-AreContents parts file word (Err (Refused why)) = first_too_long parts file word ≡ Some (fault_of why)
-AreContents parts file word (Err Read) = Unit {0}
-AreContents parts file word (Err NoMemory) = Unit {0}
+-- what was taken from the files of these words, which are these parts of the input: their contents, of which none is too long, or the
+-- fault of the first that is
+abbrev pub AreContents : List (List ℕ) → (ℕ → List ℕ) → List ℕ → Result (Vec (Vec ℕ Global) Global) Untaken → Type 0
+AreContents parts file words (Ok contents) = (first_too_long parts file words ≡ None) × (bytes_of contents.items ≡ map file words)
+AreContents parts file words (Err (Refused why)) = first_too_long parts file words ≡ Some (fault_of why)
+AreContents parts file words (Err Read) = Unit {0}
+AreContents parts file words (Err NoMemory) = Unit {0}

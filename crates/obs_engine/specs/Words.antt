@@ -5,7 +5,7 @@ use Rattle.std.specs.Str.{bytes_eq}
 use Rattle.obs_engine.specs.declared.words.CaseForm.{CaseForm}
 use Rattle.obs_engine.specs.declared.words.CaseForm.TheVariants.{Csv, Cdf, Matpower}
 use Rattle.obs_engine.specs.declared.words.Form.{Form}
-use Rattle.obs_engine.specs.declared.words.Form.TheVariants.{Topology, Report, Place}
+use Rattle.obs_engine.specs.declared.words.Form.TheVariants.{Topology, Report, Place, Session, SessionWith}
 
 -- the word that names a case's form
 abbrev pub case_word : CaseForm → List ℕ
@@ -24,21 +24,30 @@ abbrev pub parts_of : Form → List (List ℕ)
 parts_of Topology = codes "nodes" ∷ codes "switches" ∷ []
 parts_of (Report from) = case_parts from
 parts_of (Place from) = case_parts from ++ (codes "candidates" ∷ [])
-
--- the position of the first word that names a file: it stands behind the command, and behind the word for the form of a case
-abbrev pub first_file : Form → ℕ
-first_file Topology = 1
-first_file (Report from) = 2
-first_file (Place from) = 2
-
--- the positions of the words that name files, in the order in which these are read
-abbrev pub file_words : Option Form → List ℕ
-file_words None = []
-file_words (Some form) = range_with_len (first_file form) (length (parts_of form))
+parts_of (Session from) = case_parts from
+parts_of (SessionWith from) = case_parts from ++ (codes "candidates" ∷ [])
 
 -- how many words name a case: the command, the word for its form, and its files
 abbrev pub words_with : CaseForm → ℕ
 words_with from = 2 + length (case_parts from)
+
+-- the positions of the words that name a case's files: they stand behind the command and the word for its form
+abbrev pub case_words : CaseForm → List ℕ
+case_words from = range_with_len 2 (length (case_parts from))
+
+-- the positions of the words that name a form's files, in the order in which these are read. In a session the word `with` stands
+-- before that of the candidates
+abbrev pub words_of : Form → List ℕ
+words_of Topology = 1 ∷ 2 ∷ []
+words_of (Report from) = case_words from
+words_of (Place from) = case_words from ++ (words_with from ∷ [])
+words_of (Session from) = case_words from
+words_of (SessionWith from) = case_words from ++ ((words_with from + 1) ∷ [])
+
+-- the same where the words have a form, and else none
+abbrev pub file_words : Option Form → List ℕ
+file_words None = []
+file_words (Some form) = words_of form
 
 -- whether the word at a position is this one
 abbrev pub is_word : List (List ℕ) → ℕ → List ℕ → Bool
@@ -58,6 +67,9 @@ form_with words None = None
 form_with words (Some from) =
     if (length words == words_with from) && is_word words 0 (codes "report") then Some (Report from)
     else if (length words == words_with from + 1) && is_word words 0 (codes "place") then Some (Place from)
+    else if (length words == words_with from) && is_word words 0 (codes "session") then Some (Session from)
+    else if ((length words == words_with from + 2) && is_word words 0 (codes "session")) && is_word words (words_with from) (codes "with")
+    then Some (SessionWith from)
     else None
 
 -- the form that the words have

@@ -1,5 +1,5 @@
-// The answer to one ask of a case.
-ghost use Rattle.std.specs.Prelude.{◌≡◌, ◌<◌, true};
+// The answer to one ask of a session.
+ghost use Rattle.std.specs.Prelude.{◌≡◌, true};
 ghost use Rattle.obs_script.specs.declared.command.Ask.TheVariants.{Place};
 ghost use Rattle.obs_engine.specs.Asks.{ask_reply, ask_status, report_status};
 ghost use Rattle.obs_engine.specs.Replies.{IsReplied};
@@ -7,14 +7,11 @@ ghost use Rattle.obs_engine.specs.Replies.{IsReplied};
 use crate::asks::print_ask;
 use crate::status::Status;
 use obs_assign::Steps;
-use obs_case::Case;
 use obs_edit::Session;
 use obs_io::{Failed, Sink};
 use obs_placement::Placement;
 use obs_script::Ask;
-use std::alloc::Global;
-use std::marker::Brand;
-use std::sync::ledger::{Blank, Ledger};
+use std::sync::ledger::Ledger;
 
 /// Done where the present case has as many pairs as it needs.
 pub(crate) fn verdict(session: &Session) -> Status
@@ -55,8 +52,8 @@ fn status_of<L: Ledger>(session: &mut Session, ask: Ask, steps: &mut Steps<L>) -
     }
 }
 
-// Answers an ask of a session.
-fn answer_session<W: Sink, L: Ledger>(
+/// Answers an ask of a session. The placement is asked for only with candidates.
+pub(crate) fn answer_session<W: Sink, L: Ledger>(
     output: &mut W,
     session: &mut Session,
     ask: Ask,
@@ -70,40 +67,4 @@ fn answer_session<W: Sink, L: Ledger>(
         Ok(()) => status,
         Err(Failed) => Status::WriteFault,
     }
-}
-
-// Answers an ask of a case, and counts the searches in a ledger of its own.
-fn answer_counted<W: Sink, L: Ledger>(
-    alloc: Global,
-    output: &mut W,
-    case: Case,
-    offered: bool,
-    ask: Ask,
-    blank: Blank,
-) -> Status
-    requires name { blank.name ≡ L.name }
-    requires parts { blank.parts ≡ L.parts }
-    requires some { 0 < L.parts }
-    requires offered { ask ≡ Place → offered ≡ true }
-    ensures replied { IsReplied W.written W.faults W.has_room output.old output.new result (ask_reply ask case) }
-{
-    let mut steps = Steps::<L>::begin(blank);
-    let Ok(mut session) = Session::begin(alloc, case, offered, &mut steps) else {
-        return Status::NoMemory;
-    };
-    answer_session(output, &mut session, ask, &mut steps)
-}
-
-/// Answers an ask of a case, which was given with candidates or without. The placement is asked for only with candidates.
-pub(crate) fn answer_asked<W: Sink>(
-    alloc: Global,
-    output: &mut W,
-    case: Case,
-    offered: bool,
-    ask: Ask,
-) -> Status
-    requires offered { ask ≡ Place → offered ≡ true }
-    ensures replied { IsReplied W.written W.faults W.has_room output.old output.new result (ask_reply ask case) }
-{
-    answer_counted::<W, Brand>(alloc, output, case, offered, ask, Blank::new(1))
 }

@@ -10,11 +10,11 @@ ghost use Rattle.obs_matpower.specs.Read.{mat_of};
 ghost use Rattle.obs_engine.specs.Files.{case_in, case_in_files, case_of_tables, case_with_tables, parsed, switching_case};
 ghost use Rattle.obs_engine.specs.Forms.{AreFiles, IsFileWord, ReadFailed};
 ghost use Rattle.obs_engine.specs.Taken.{IsTaken, bytes_of};
-ghost use Rattle.obs_engine.specs.Words.{case_parts, file_words, first_file, parts_of};
+ghost use Rattle.obs_engine.specs.Words.{case_parts, file_words, words_of};
 
 use crate::files::take_files;
 use crate::taken::Untaken;
-use crate::words::{CaseForm, Form, first_file, parts};
+use crate::words::{CaseForm, Form, file_words, parts};
 use obs_case::Case;
 use obs_case_csv::{Table, TableEnd, read_table, read_tables};
 use obs_ieee_cdf::{CdfEnd, read_cdf};
@@ -132,10 +132,10 @@ fn read_case(
 
 // The case that the contents of a form's files are.
 fn read_form(alloc: Global, form: Form, contents: &[Vec<u8>]) -> Result<Case, Untaken>
-    requires count { length contents.now ≡ length (parts_of form) }
+    requires count { length contents.now ≡ length (words_of form) }
     requires short { All (λ bytes. vec_len bytes ≤ most_file_bytes) contents.now }
     ensures read { (file : ℕ → List ℕ)
-        → bytes_of contents.now ≡ map file (range_with_len (first_file form) (length (parts_of form)))
+        → bytes_of contents.now ≡ map file (words_of form)
         → IsTaken (parsed form file) result }
     ensures no_read { IsErrOf result Untaken.Read → ⊥ }
 {
@@ -145,6 +145,11 @@ fn read_form(alloc: Global, form: Form, contents: &[Vec<u8>]) -> Result<Case, Un
         Form::Place(from) => {
             let candidates = &contents[contents.len() - 1];
             read_case(alloc, from, contents, Some(candidates))
+        }
+        Form::Session(from) => read_case(alloc, from, contents, None),
+        Form::SessionWith(from) => {
+            let offered = &contents[contents.len() - 1];
+            read_case(alloc, from, contents, Some(offered))
         }
     }
 }
@@ -157,6 +162,6 @@ pub(crate) fn take_case<F: Files>(alloc: Global, files: &mut F, form: Form) -> R
     ensures quiet { (IsErrOf result Untaken.Read → ⊥) → (w : ℕ) → F.faults files.new w ≡ F.faults files.old w }
     ensures steady { ((w : ℕ) → IsFileWord (Some form) w → F.steady files.old w) → IsErrOf result Untaken.Read → ⊥ }
 {
-    let contents = take_files(alloc, files, first_file(form), parts(form))?;
+    let contents = take_files(alloc, files, file_words(form), parts(form))?;
     read_form(alloc, form, &contents)
 }

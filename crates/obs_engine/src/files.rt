@@ -1,6 +1,5 @@
 // Files, read whole one after the other.
 ghost use Rattle.std.specs.Prelude.{◌≡◌, ◌≢◌, ◌+◌, ◌≤◌, ◌<◌, ℕ, List, Some, All, IfOk, IsOk, IsErrOf, length, map, vec_len};
-ghost use Rattle.std.specs.List.{range_with_len};
 ghost use Rattle.obs_io.specs.Causes.{Rose};
 ghost use Rattle.obs_matroid.specs.Lists.{In};
 ghost use Rattle.obs_text.specs.Limits.{most_file_bytes};
@@ -66,27 +65,28 @@ fn take_next<F: Files>(
     }
 }
 
-/// The contents of the files of the words from one on, which are these parts of the input. Files are read in the order of their
-/// words, and the first that fails or is too long ends the reading.
+/// The contents of the files of these words, which are these parts of the input. Files are read in the order of their words, and
+/// the first that fails or is too long ends the reading.
 pub(crate) fn take_files<F: Files>(
     alloc: Global,
     files: &mut F,
-    first: usize,
+    words: &[usize],
     parts: &[&'static [u8]],
 ) -> Result<Vec<Vec<u8>>, Untaken>
-    requires words { first + length parts.now ≤ 16 }
-    ensures stated { (file : ℕ → List ℕ) → AreTold (F.content files.old) file (range_with_len first (length parts.now))
-        → AreContents (map (λ part. part.now) parts.now) file first result }
+    requires words { All (λ w. w < 16) words.now }
+    requires parts { length parts.now ≡ length words.now }
+    ensures stated { (file : ℕ → List ℕ) → AreTold (F.content files.old) file words.now
+        → AreContents (map (λ part. part.now) parts.now) file words.now result }
     ensures short { IfOk result (λ contents. All (λ bytes. vec_len bytes ≤ most_file_bytes) contents.items) }
-    ensures count { IfOk result (λ contents. vec_len contents ≡ length parts.now) }
+    ensures count { IfOk result (λ contents. vec_len contents ≡ length words.now) }
     ensures read { IsErrOf result Untaken.Read
-        → ReadFailed (range_with_len first (length parts.now)) (F.content files.old) (F.faults files.old) (F.faults files.new) }
+        → ReadFailed words.now (F.content files.old) (F.faults files.old) (F.faults files.new) }
     ensures quiet { (IsErrOf result Untaken.Read → ⊥) → (w : ℕ) → F.faults files.new w ≡ F.faults files.old w }
-    ensures steady { ((w : ℕ) → In w (range_with_len first (length parts.now)) → F.steady files.old w) → IsErrOf result Untaken.Read → ⊥ }
+    ensures steady { ((w : ℕ) → In w words.now → F.steady files.old w) → IsErrOf result Untaken.Read → ⊥ }
 {
     let mut contents = Vec::new(alloc);
-    for k in 0..parts.len() {
-        take_next(alloc, files, first + k, parts[k], &mut contents)?;
+    for k in 0..words.len() {
+        take_next(alloc, files, words[k], parts[k], &mut contents)?;
     }
     Ok(contents)
 }

@@ -1,5 +1,5 @@
 // The laws of what is stated: of cases, words, and the lines of a report.
-ghost use Rattle.std.specs.Prelude.{◌≡◌, ◌↔◌, ◌+◌, ◌<◌, ◌≤◌, ◌==◌, ℕ, true, List, length, filter, Some, codes};
+ghost use Rattle.std.specs.Prelude.{◌≡◌, ◌↔◌, ◌+◌, ◌<◌, ◌≤◌, ◌==◌, ℕ, Bool, true, List, length, filter, Some, codes};
 ghost use Rattle.obs_case.specs.Tables.{IsValid, Tables};
 ghost use Rattle.obs_matroid.specs.Lists.{In};
 ghost use Rattle.obs_matroid.specs.Assignments.{Pair};
@@ -13,7 +13,7 @@ ghost use Rattle.obs_engine.specs.declared.words.Form.{Form};
 ghost use Rattle.obs_engine.specs.Words.{form_of};
 ghost use Rattle.obs_report.specs.Counts.{verdict_word};
 ghost use Rattle.obs_engine.specs.Asks.{report_status};
-ghost use Rattle.obs_engine.specs.Laws.{CasesAreValid, IsFormOf, ListsNonCritical};
+ghost use Rattle.obs_engine.specs.Laws.{CasesAreValid, EditsAloneChange, EndedOrLast, IsAnswerTo, IsFormOf, ListsNonCritical, OrderIsForgotten, ReportsAsTheCommand};
 ghost use Rattle.obs_edit.specs.Answers.{bound_outside, bound_rank, case_critical_meters, case_rank, component_meters, short_components};
 
 /// Every case that files are is valid. The other laws ask this of a case.
@@ -73,4 +73,27 @@ pub fn critical_lines_are_exact()
 /// The words have a form exactly where they are those of a command, each in its place, with a word for each of its files.
 pub fn forms_of_words()
     ensures exactly { (words : List (List ℕ)) (form : Form) → (form_of words ≡ Some form) ↔ IsFormOf form words }
+{}
+
+/// Of a session's lines an edit alone changes the present case, and sets one flag. An ask, a refused line and one that is passed
+/// change nothing.
+pub fn edits_alone_change()
+    ensures change { (offered : Bool) (t : Tables) (line : List ℕ) → EditsAloneChange offered t line }
+{}
+
+/// Each answer is that of the present case: of an edit the rank and the needed number of the case after it, of an ask its text, and
+/// of the line `report` what the command prints of that case.
+pub fn answers_are_of_the_present_case()
+    ensures answers { (offered : Bool) (t : Tables) (line : List ℕ) → IsAnswerTo offered t line }
+    ensures report { ReportsAsTheCommand }
+{}
+
+/// Edits in another order that lead to the same present case leave no trace: all further lines get the same answers.
+pub fn the_order_of_edits_is_forgotten()
+    ensures forgotten { OrderIsForgotten }
+{}
+
+/// The lines of an input are those that end within it, and a last one where bytes are left.
+pub fn lines_end_or_are_last()
+    ensures lines { (bytes : List ℕ) → EndedOrLast bytes }
 {}

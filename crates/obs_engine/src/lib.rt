@@ -10,7 +10,9 @@ mod cdf_tests;
 mod claims;
 mod command;
 mod files;
+mod input;
 pub mod laws;
+mod lines;
 #[cfg(test)]
 mod matpower_tests;
 #[cfg(test)]
@@ -19,8 +21,11 @@ mod program;
 mod refused;
 #[cfg(test)]
 mod report_tests;
+#[cfg(test)]
+mod session_tests;
 mod status;
 mod taken;
+mod tasks;
 #[cfg(test)]
 mod tests;
 mod topology;

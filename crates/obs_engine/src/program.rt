@@ -1,8 +1,9 @@
 // The top call.
-ghost use Rattle.std.specs.Prelude.{◌≡◌, ◌≢◌, ◌⊎◌, ℕ, List, length, map, string_bytes, IsSome};
+ghost use Rattle.std.specs.Prelude.{◌≡◌, ◌≢◌, ◌⊎◌, ℕ, List, Some, length, map, string_bytes, IsSome};
 ghost use Rattle.obs_io.specs.Causes.{Rose};
 ghost use Rattle.obs_engine.specs.Ending.{Answers, Ends, HasRoom};
 ghost use Rattle.obs_engine.specs.Forms.{AnyReadFailed, CanAnswer, IsFileWord, TakesInput};
+ghost use Rattle.obs_engine.specs.Sessions.{IsTakenFront};
 ghost use Rattle.obs_engine.specs.Stated.{Told, Tells};
 ghost use Rattle.obs_engine.specs.Words.{form_of};
 
@@ -14,7 +15,7 @@ use obs_io::{Files, Sink, Source};
 use std::alloc::Global;
 
 /// Does all that the program does. The words are those behind the program's own name; `files` numbers
-/// a file by the position of its word.
+/// a file by the position of its word. The input is taken by sessions alone.
 pub fn run<F: Files, S: Source, W: Sink>(
     alloc: Global,
     words: &[String],
@@ -47,14 +48,16 @@ pub fn run<F: Files, S: Source, W: Sink>(
     ensures quiet_input { result ≢ Status.ReadFault → S.faults input.new ≡ S.faults input.old }
     ensures quiet_output { result ≢ Status.WriteFault → W.faults output.new ≡ W.faults output.old }
 
-    // What a run leaves that found no memory, or that didn't get its files.
+    // What a run leaves of the input, and what it leaves that found no memory, or that didn't get its files.
     ensures memory { result ≡ Status.NoMemory → W.written output.new ≡ W.written output.old }
     ensures memory_input { result ≡ Status.NoMemory → S.left input.new ≡ S.left input.old }
+    ensures taken { TakesInput (form_of (map string_bytes words.now)) → (bytes : List ℕ) → S.left input.old ≡ Some bytes
+        → IsTakenFront bytes (S.left input.new) result }
     ensures unread { (TakesInput (form_of (map string_bytes words.now)) → ⊥) → result ≡ Status.ReadFault → W.written output.new ≡ W.written output.old }
     ensures input { (TakesInput (form_of (map string_bytes words.now)) → ⊥) → input.new ≡ input.old }
 {
     let Some(form) = form_of_words(words) else {
         return refuse_words(output);
     };
-    command(alloc, form, files, output)
+    command(alloc, form, files, input, output)
 }

@@ -17,7 +17,7 @@ fn texts(alloc: Global, words: &[&str]) -> Result<Vec<String>, Fail> {
     Ok(all)
 }
 
-fn entries(alloc: Global, files: &[&[u8]]) -> Result<Vec<Entry>, Fail> {
+pub(crate) fn entries(alloc: Global, files: &[&[u8]]) -> Result<Vec<Entry>, Fail> {
     let mut all = Vec::new(alloc);
     for (i, bytes) in files.iter().enumerate() {
         all.push(Entry {
@@ -42,14 +42,26 @@ pub(crate) fn outcome_over(
     read_fails: &[u64],
     write_fails: &[u64],
 ) -> Result<Ended, Fail> {
+    let mut input = MemSource::new(Vec::new(alloc), 1, Vec::new(alloc));
+    outcome_from(alloc, words, entries, &mut input, read_fails, write_fails)
+}
+
+// The same over an input.
+pub(crate) fn outcome_from(
+    alloc: Global,
+    words: &[&str],
+    entries: Vec<Entry>,
+    input: &mut MemSource,
+    read_fails: &[u64],
+    write_fails: &[u64],
+) -> Result<Ended, Fail> {
     let words = texts(alloc, words)?;
     let mut files = MemFiles::new(entries, 7, Vec::from_slice(alloc, read_fails)?);
-    let mut input = MemSource::new(Vec::new(alloc), 1, Vec::new(alloc));
     let room = 1_000_000;
     let mut output = MemSink::with_room(alloc, room, MOVED, Vec::from_slice(alloc, write_fails)?)
         .ok()
         .ok_or("no room")?;
-    let status = run(alloc, &words, &mut files, &mut input, &mut output);
+    let status = run(alloc, &words, &mut files, input, &mut output);
     Ok(Ended {
         status,
         text: Vec::from_slice(alloc, output.written())?,
@@ -343,6 +355,9 @@ fn other_words_get_the_usage_line(rt: HostRuntime) -> Result<(), Fail> {
         &["Topology", "n", "s"],
         &["report", "cdf", "c"],
         &["report", "tables", "n", "s", "b", "m", "c"],
+        &["session", "tables", "n", "s", "b", "m", "c"],
+        &["session", "cdf", "c", "m", "with"],
+        &["session", "cdf", "c", "m", "With", "k"],
         &[],
     ];
     for words in forms {

@@ -1,6 +1,6 @@
 // The words of the command line.
 ghost use Rattle.std.specs.Prelude.{◌≡◌, ◌<◌, map, string_bytes, Some};
-ghost use Rattle.obs_engine.specs.Words.{case_form_of, form_of, first_file, form_with, is_word, parts_of, words_with};
+ghost use Rattle.obs_engine.specs.Words.{case_form_of, form_of, form_with, is_word, parts_of, words_of, words_with};
 
 /// In which form a case is given: four tables, or a file in the IEEE Common Data Format or of MATPOWER and a table of meters.
 #[derive(Clone, Copy, Debug, PartialEq, Eq)]
@@ -16,6 +16,10 @@ pub(crate) enum Form {
     Topology,
     Report(CaseForm),
     Place(CaseForm),
+    /// The lines of the input are answered.
+    Session(CaseForm),
+    /// The same with candidates.
+    SessionWith(CaseForm),
 }
 
 impl CaseForm {
@@ -62,6 +66,13 @@ fn form_with_case(words: &[String], from: CaseForm) -> Option<Form>
         Some(Form::Report(from))
     } else if words.len() == count + 1 && is_word(words, 0, "place") {
         Some(Form::Place(from))
+    } else if words.len() == count && is_word(words, 0, "session") {
+        Some(Form::Session(from))
+    } else if words.len() == count + 2
+        && is_word(words, 0, "session")
+        && is_word(words, count, "with")
+    {
+        Some(Form::SessionWith(from))
     } else {
         None
     }
@@ -94,16 +105,34 @@ pub(crate) fn parts(form: Form) -> &'static [&'static [u8]]
         }
         Form::Place(CaseForm::Cdf) => &[b"cdf", b"meters", b"candidates"],
         Form::Place(CaseForm::Matpower) => &[b"matpower", b"meters", b"candidates"],
+        Form::Session(CaseForm::Csv) => &[b"nodes", b"switches", b"branches", b"meters"],
+        Form::Session(CaseForm::Cdf) => &[b"cdf", b"meters"],
+        Form::Session(CaseForm::Matpower) => &[b"matpower", b"meters"],
+        Form::SessionWith(CaseForm::Csv) => {
+            &[b"nodes", b"switches", b"branches", b"meters", b"candidates"]
+        }
+        Form::SessionWith(CaseForm::Cdf) => &[b"cdf", b"meters", b"candidates"],
+        Form::SessionWith(CaseForm::Matpower) => &[b"matpower", b"meters", b"candidates"],
     }
 }
 
-/// The position of the first word that names a file of a form.
-pub(crate) fn first_file(form: Form) -> usize
-    ensures first { result ≡ first_file form }
+/// The positions of the words that name a form's files, in the order of the words.
+pub(crate) fn file_words(form: Form) -> &'static [usize]
+    ensures words { result.now ≡ words_of form }
 {
     match form {
-        Form::Topology => 1,
-        Form::Report(_) => 2,
-        Form::Place(_) => 2,
+        Form::Topology => &[1, 2],
+        Form::Report(CaseForm::Csv) => &[2, 3, 4, 5],
+        Form::Report(CaseForm::Cdf) => &[2, 3],
+        Form::Report(CaseForm::Matpower) => &[2, 3],
+        Form::Place(CaseForm::Csv) => &[2, 3, 4, 5, 6],
+        Form::Place(CaseForm::Cdf) => &[2, 3, 4],
+        Form::Place(CaseForm::Matpower) => &[2, 3, 4],
+        Form::Session(CaseForm::Csv) => &[2, 3, 4, 5],
+        Form::Session(CaseForm::Cdf) => &[2, 3],
+        Form::Session(CaseForm::Matpower) => &[2, 3],
+        Form::SessionWith(CaseForm::Csv) => &[2, 3, 4, 5, 7],
+        Form::SessionWith(CaseForm::Cdf) => &[2, 3, 5],
+        Form::SessionWith(CaseForm::Matpower) => &[2, 3, 5],
     }
 }

@@ -1,4 +1,4 @@
-use Rattle.obs_engine.proofs.Contents.{place_taken, report_taken, topology_taken}
+use Rattle.obs_engine.proofs.Contents.{place_taken, report_taken, session_taken, session_with_taken, topology_taken}
 use Rattle.obs_engine.proofs.cases.read_form.Goals as goal
 
 pub returns-in-Topology-clause-read : goal.returns-in-Topology-clause-read
@@ -14,3 +14,12 @@ pub returns-in-Place-clause-read : goal.returns-in-Place-clause-read
 returns-in-Place-clause-read c = λ file told.
     place_taken c.args.contents.now file c.read_case-in-Place.result c.in-Place.from c.args.form _ _ c.in-Place.is c.index-contents-contents.is c.deref-in-Place.ensures.value
     (c.read_case-in-Place.ensures.read file) c.requires.count told
+
+pub returns-in-Session-clause-read : goal.returns-in-Session-clause-read
+returns-in-Session-clause-read c = λ file told.
+    session_taken c.args.contents.now file c.read_case-in-Session.result c.in-Session.from c.args.form c.in-Session.is (c.read_case-in-Session.ensures.read file) told
+
+pub returns-in-SessionWith-clause-read : goal.returns-in-SessionWith-clause-read
+returns-in-SessionWith-clause-read c = λ file told.
+    session_with_taken c.args.contents.now file c.read_case-in-SessionWith.result c.in-SessionWith.from c.args.form _ _ c.in-SessionWith.is c.index-contents-contents-in-SessionWith.is c.deref-in-SessionWith.ensures.value
+    (c.read_case-in-SessionWith.ensures.read file) c.requires.count told

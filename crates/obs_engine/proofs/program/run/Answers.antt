@@ -1,5 +1,8 @@
+use Rattle.std.proofs.Common.{subst, Option}
+use Rattle.obs_engine.specs.declared.words.Form.{Form}
+use Rattle.obs_engine.specs.Forms.{TakesInput}
 use Rattle.obs_engine.proofs.Endings.{usage_complete, usage_ends}
-use Rattle.obs_engine.proofs.Replied.{complete_at, ends_at, failed_at, files_at, statuses_at, words_at}
+use Rattle.obs_engine.proofs.Ran.{ran_at}
 use Rattle.obs_engine.proofs.program.run.Goals as goal
 
 pub returns-in_default-clause-stated : goal.returns-in_default-clause-stated
@@ -8,20 +11,21 @@ returns-in_default-clause-stated g c = λ told tells. usage_ends _ told _ _ _ _ 
 pub returns-in_default-clause-complete : goal.returns-in_default-clause-complete
 returns-in_default-clause-complete g c = λ told tells files input has. usage_complete _ told c.in_default.ensures.form has c.refuse_words.ensures.replied
 
-pub returns-clause-stated : goal.returns-clause-stated
-returns-clause-stated g c = λ told tells.
-    ends_at _ _ c.in-Some.ensures.form told _ _ _ _
-    (c.command.ensures.command.ends told.file (files_at _ _ c.in-Some.ensures.form (g.F.Files.content c.args.files.now) told.file tells.files))
-
-pub returns-clause-complete : goal.returns-clause-complete
-returns-clause-complete g c = λ told tells files input has.
-    let here = files_at _ _ c.in-Some.ensures.form (g.F.Files.content c.args.files.now) told.file tells.files in
-    let ran = c.command.ensures.command in
-    complete_at _ _ c.in-Some.ensures.form told _ _ _ (g.W.Sink.has_room c.args.output.now) has
-    (ran.steady (words_at _ _ c.in-Some.ensures.form (g.F.Files.steady c.args.files.now) files)) (λ rest fits. ran.room told.file rest here fits) (ran.ends told.file here)
-
-pub returns-clause-statuses : goal.returns-clause-statuses
-returns-clause-statuses g c = statuses_at _ _ c.in-Some.ensures.form _ c.command.ensures.command.statuses
-
-pub returns-clause-read : goal.returns-clause-read
-returns-clause-read g c = λ e. failed_at _ _ c.in-Some.ensures.form _ _ _ _ _ (c.command.ensures.command.read e)
+pub returns : goal.returns
+returns g c =
+    let ran = ran_at _ _ c.in-Some.ensures.form c.command.ensures.ran in
+    record {
+      stated = ran.stated;
+      complete = ran.complete;
+      statuses = ran.statuses;
+      read = ran.read;
+      write = ran.write;
+      quiet_files = ran.quiet_files;
+      quiet_input = ran.quiet_input;
+      quiet_output = ran.quiet_output;
+      memory = ran.memory;
+      memory_input = ran.memory_input;
+      taken = ran.taken;
+      unread = ran.unread;
+      input = λ none. c.command.ensures.input (λ takes. none (subst (λ (o : Option Form). TakesInput o) c.in-Some.ensures.form takes));
+    }

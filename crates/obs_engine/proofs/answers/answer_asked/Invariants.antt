@@ -1,4 +1,0 @@
-use Rattle.obs_engine.proofs.answers.answer_asked.Given as goal
-
-abbrev pub ghosts-answer_counted : goal.ghosts-answer_counted
-ghosts-answer_counted g a = record { name = a.blank.name; parts = a.blank.parts }

@@ -1,0 +1,14 @@
+use Rattle.obs_engine.proofs.Begun.{task_begun, task_without_memory}
+use Rattle.obs_engine.proofs.tasks.do_counted.Goals as goal
+
+pub returns-in_default : goal.returns-in_default
+returns-in_default g c = record {
+  done = task_without_memory g.S.Source.left g.S.Source.faults g.S.Source.steady g.W.Sink.written g.W.Sink.faults g.W.Sink.has_room c.args.task c.args.offered c.args.case c.args.input.now c.args.output.now;
+}
+
+pub returns : goal.returns
+returns g c = record {
+  done =
+      task_begun g.S.Source.left g.S.Source.faults g.S.Source.steady g.W.Sink.written g.W.Sink.faults g.W.Sink.has_room c.args.task _ _ _ _
+      c.args.input.now c.do_task.new.input c.args.output.now c.do_task.new.output c.do_task.result c.in-Ok.ensures.offered c.in-Ok.ensures.case c.do_task.ensures.done;
+}

@@ -1,0 +1,326 @@
+// The answers to the lines of worked sessions.
+
+use crate::Status;
+use crate::tests::{Ended, entries, outcome_from};
+use obs_io::MemSource;
+use std::alloc::Global;
+use std::process::Abort;
+use std::test::Fail;
+
+const TABLES: [&str; 6] = ["session", "tables", "n", "s", "b", "m"];
+
+const TABLES_WITH: [&str; 8] = ["session", "tables", "n", "s", "b", "m", "with", "c"];
+
+const NO_SWITCHES: &[u8] = b"switch,from,to,closed\n";
+
+// A case, the lines of an input, and what is answered.
+#[derive(Clone, Copy)]
+struct Row<'a> {
+    words: &'a [&'a str],
+    files: &'a [&'a [u8]],
+    input: &'a [u8],
+    status: Status,
+    text: &'a [u8],
+}
+
+// A run over an input in pieces of so many bytes, whose calls with these numbers fail.
+fn outcome(
+    alloc: Global,
+    row: Row<'_>,
+    piece: usize,
+    take_fails: &[u64],
+    write_fails: &[u64],
+) -> Result<Ended, Fail> {
+    let bytes = Vec::from_slice(alloc, row.input)?;
+    let mut input = MemSource::new(bytes, piece.max(1), Vec::from_slice(alloc, take_fails)?);
+    let entries = entries(alloc, row.files)?;
+    outcome_from(alloc, row.words, entries, &mut input, &[], write_fails)
+}
+
+// However the input is cut into pieces, its lines are answered so.
+fn answers(rt: &impl Abort, alloc: Global, row: Row<'_>) -> Result<(), Fail> {
+    for piece in [1, 3, 7, 5000] {
+        let found = outcome(alloc, row, piece, &[], &[])?;
+        assert!(rt; found.status == row.status);
+        assert!(rt; found.text.as_slice() == row.text);
+    }
+    Ok(())
+}
+
+// Four buses in a row, two meters on the first branch, and an injection at the second bus.
+fn path(switches: &'static [u8]) -> [&'static [u8]; 5] {
+    [
+        b"",
+        b"node,source\na,1\nb,0\nc,0\nd,0\n",
+        switches,
+        b"branch,from,to,inservice\nL1,a,b,1\nL2,b,c,1\nL3,c,d,1\n",
+        b"meter,kind,at,inservice\nf1,flow,L1,1\nf2,flow,L1,1\nib,injection,b,1\n",
+    ]
+}
+
+// The state of the path.
+const PATH_STATE: &[u8] =
+    b"count\tbuses\t4\ncount\tenergised\t4\ncount\tbranches\t3\ncount\tmeters\t3\ncount\tneeded\t3\ncount\trank\t2\nverdict\tshort\nend\n";
+
+// Three nodes in a ring of closed switches are one bus, and with two of them open two.
+#[test]
+fn switches_make_buses(rt: HostRuntime) -> Result<(), Fail> {
+    let row = Row {
+        words: &TABLES,
+        files: &[
+            b"",
+            b"node,source\na,1\nb,0\nc,0\n",
+            b"switch,from,to,closed\nS1,a,b,1\nS2,b,c,1\nS3,c,a,1\n",
+            b"branch,from,to,inservice\n",
+            b"meter,kind,at,inservice\n",
+        ],
+        input: b"open S3\nstatus\nopen S1\nstatus\n",
+        status: Status::Done,
+        text: b"ok\t0\t0\ncount\tbuses\t1\ncount\tenergised\t1\ncount\tbranches\t0\ncount\tmeters\t0\ncount\tneeded\t0\ncount\trank\t0\nverdict\tobservable\nend\nok\t0\t0\ncount\tbuses\t2\ncount\tenergised\t1\ncount\tbranches\t0\ncount\tmeters\t0\ncount\tneeded\t0\ncount\trank\t0\nverdict\tobservable\nend\n",
+    };
+    answers(&rt, rt.alloc(), row)
+}
+
+#[test]
+fn a_closed_switch_takes_a_branch_out(rt: HostRuntime) -> Result<(), Fail> {
+    let row = Row {
+        words: &TABLES,
+        files: &[
+            b"",
+            b"node,source\na,1\nb,0\n",
+            b"switch,from,to,closed\nS1,a,b,0\n",
+            b"branch,from,to,inservice\nL1,a,b,1\n",
+            b"meter,kind,at,inservice\nf1,flow,L1,1\n",
+        ],
+        input: b"close S1\nstatus\n",
+        status: Status::Done,
+        text: b"ok\t0\t0\ncount\tbuses\t1\ncount\tenergised\t1\ncount\tbranches\t0\ncount\tmeters\t0\ncount\tneeded\t0\ncount\trank\t0\nverdict\tobservable\nend\n",
+    };
+    answers(&rt, rt.alloc(), row)
+}
+
+// The rank rises by four in one edit.
+#[test]
+fn a_switch_joins_a_source_to_a_hub(rt: HostRuntime) -> Result<(), Fail> {
+    let row = Row {
+        words: &TABLES,
+        files: &[
+            b"",
+            b"node,source\nx,1\nh,1\ny,0\np,0\nq,0\nr,0\ns,0\n",
+            b"switch,from,to,closed\nS1,x,h,0\n",
+            b"branch,from,to,inservice\nL1,h,p,1\nL2,h,q,1\nL3,h,r,1\nL4,h,s,1\nL5,x,y,1\n",
+            b"meter,kind,at,inservice\ni1,injection,x,1\ni2,injection,x,1\ni3,injection,x,1\ni4,injection,x,1\ni5,injection,x,1\n",
+        ],
+        input: b"close S1\ntree\n",
+        status: Status::Done,
+        text: b"ok\t5\t5\ntree\tx\npair\tmeter\ti1\tL1\npair\tmeter\ti2\tL2\npair\tmeter\ti3\tL3\npair\tmeter\ti4\tL4\npair\tmeter\ti5\tL5\nend\n",
+    };
+    answers(&rt, rt.alloc(), row)
+}
+
+// Edits in another order that lead to one present case: each ask has one answer.
+#[test]
+fn the_order_of_edits_is_forgotten(rt: HostRuntime) -> Result<(), Fail> {
+    let one = Row {
+        words: &TABLES,
+        files: &path(NO_SWITCHES),
+        input: b"lose f2\ntrip L3\ntree\nislands\ncritical\n",
+        status: Status::Done,
+        text: b"ok\t2\t3\nok\t2\t2\ntree\ta\npair\tmeter\tf1\tL1\npair\tmeter\tib\tL2\nend\nisland\ta\ta\nisland\ta\tb\nisland\ta\tc\nend\ncritical\tf1\ncritical\tib\nend\n",
+    };
+    answers(&rt, rt.alloc(), one)?;
+    let other = Row {
+        input: b"trip L3\nlose f1\nlose f2\nregain f1\ntree\nislands\ncritical\n",
+        text: b"ok\t2\t2\nok\t2\t2\nok\t1\t2\nok\t2\t2\ntree\ta\npair\tmeter\tf1\tL1\npair\tmeter\tib\tL2\nend\nisland\ta\ta\nisland\ta\tb\nisland\ta\tc\nend\ncritical\tf1\ncritical\tib\nend\n",
+        ..one
+    };
+    answers(&rt, rt.alloc(), other)
+}
+
+// A line that is too long is refused, and the last line has no line feed.
+#[test]
+fn refused_lines_end_nothing(rt: HostRuntime) -> Result<(), Fail> {
+    let mut input = Vec::from_slice(rt.alloc(), b"open S9\n")?;
+    input.extend_from_slice(&[b'x'; 257])?;
+    input.extend_from_slice(b"\nopen S1\nstatus")?;
+    let mut text = Vec::from_slice(
+        rt.alloc(),
+        b"refused\t5\tUnknownSwitch\nrefused\t2\tLineTooLong\nok\t2\t3\n",
+    )?;
+    text.extend_from_slice(PATH_STATE)?;
+    let row = Row {
+        words: &TABLES,
+        files: &path(b"switch,from,to,closed\nS1,c,d,0\n"),
+        input: &input,
+        status: Status::Short,
+        text: &text,
+    };
+    answers(&rt, rt.alloc(), row)
+}
+
+#[test]
+fn each_refusal_has_its_line(rt: HostRuntime) -> Result<(), Fail> {
+    let row = Row {
+        words: &TABLES,
+        files: &path(NO_SWITCHES),
+        input: b"place\ntrip\ntrip \nreport x\ntrip L9\nlose z\n\n# note\n",
+        status: Status::Short,
+        text: b"refused\t8\tNoCandidates\nrefused\t4\tWordMissing\nrefused\t3\tBadName\nrefused\t1\tUnknownCommand\nrefused\t6\tUnknownBranch\nrefused\t7\tUnknownMeter\n",
+    };
+    answers(&rt, rt.alloc(), row)
+}
+
+// Without its first branch only the bus of the source is energised.
+#[test]
+fn a_branch_goes_and_comes_back(rt: HostRuntime) -> Result<(), Fail> {
+    let row = Row {
+        words: &TABLES,
+        files: &path(NO_SWITCHES),
+        input: b"trip L1\r\nrestore L1\r\n",
+        status: Status::Short,
+        text: b"ok\t0\t0\nok\t2\t3\n",
+    };
+    answers(&rt, rt.alloc(), row)
+}
+
+// The status is that of the present case, though there is a plan.
+#[test]
+fn candidates_stand_behind_the_word_with(rt: HostRuntime) -> Result<(), Fail> {
+    let [none, nodes, switches, branches, meters] = path(NO_SWITCHES);
+    let row = Row {
+        words: &TABLES_WITH,
+        files: &[
+            none,
+            nodes,
+            switches,
+            branches,
+            meters,
+            b"",
+            b"candidate,kind,at,price\np1,flow,L2,0\np2,injection,c,3\np3,flow,L3,5\n",
+        ],
+        input: b"place\n",
+        status: Status::Short,
+        text: b"cost\t3\nchosen\tp2\npair\tmeter\tf1\tL1\npair\tmeter\tib\tL2\npair\tcandidate\tp2\tL3\nlayer\t0\t3\t2\t0\ninside\tmeter\tf1\ninside\tmeter\tf2\ninside\tmeter\tib\ninside\tcandidate\tp1\nend\n",
+    };
+    answers(&rt, rt.alloc(), row)
+}
+
+// The pair of the second meter may still be kept when the first comes back.
+#[test]
+fn the_first_tree_is_printed(rt: HostRuntime) -> Result<(), Fail> {
+    let row = Row {
+        words: &TABLES,
+        files: &[
+            b"",
+            b"node,source\na,1\nb,0\n",
+            NO_SWITCHES,
+            b"branch,from,to,inservice\nL1,a,b,1\nL2,a,b,1\n",
+            b"meter,kind,at,inservice\nf1,flow,L1,1\nf2,flow,L2,1\n",
+        ],
+        input: b"lose f1\ntree\nregain f1\ntree\n",
+        status: Status::Done,
+        text: b"ok\t1\t1\ntree\ta\npair\tmeter\tf2\tL2\nend\nok\t1\t1\ntree\ta\npair\tmeter\tf1\tL1\nend\n",
+    };
+    answers(&rt, rt.alloc(), row)
+}
+
+// The other two forms of a case.
+#[test]
+fn sessions_of_files_of_other_forms(rt: HostRuntime) -> Result<(), Fail> {
+    let cdf =
+        b"BUS DATA FOLLOWS\n   1                     3\n   2                     0\n-999\nBRANCH DATA FOLLOWS\n   1    2\n-999\n".as_slice();
+    let matpower =
+        b"mpc.bus = [\n1 3;\n2 1;\n];\nmpc.branch = [\n1 2 0 0 0 0 0 0 0 0 1;\n];\n".as_slice();
+    let meters = b"meter,kind,at,inservice\nf1,flow,L1,1\n".as_slice();
+    let row = Row {
+        words: &["session", "cdf", "c", "m"],
+        files: &[b"", cdf, meters],
+        input: b"bound\nlose f1\nbound\n",
+        status: Status::Short,
+        text: b"end\nok\t0\t1\nbound\t1\t0\t0\nend\n",
+    };
+    answers(&rt, rt.alloc(), row)?;
+    let other = Row {
+        words: &["session", "matpower", "c", "m", "with", "k"],
+        files: &[
+            b"",
+            matpower,
+            meters,
+            b"",
+            b"candidate,kind,at,price\nk1,flow,L1,2\n",
+        ],
+        input: b"lose f1\nplace\n",
+        text: b"ok\t0\t1\ncost\t2\nchosen\tk1\npair\tcandidate\tk1\tL1\nlayer\t0\t2\t0\t0\nend\n",
+        ..row
+    };
+    answers(&rt, rt.alloc(), other)
+}
+
+fn asked_twice<'a>(files: &'a [&'a [u8]]) -> Row<'a> {
+    Row {
+        words: &TABLES,
+        files,
+        input: b"status\nstatus\n",
+        status: Status::ReadFault,
+        text: PATH_STATE,
+    }
+}
+
+// Pieces of seven bytes, so each but the last is a line. A failed take leaves the answers to the lines before it.
+#[test]
+fn each_take_may_fail(rt: HostRuntime) -> Result<(), Fail> {
+    let files = path(NO_SWITCHES);
+    let row = asked_twice(&files);
+    for call in 0..3 {
+        let found = outcome(rt.alloc(), row, 7, &[call], &[])?;
+        assert!(rt; found.status == Status::ReadFault);
+        assert!(rt; found.text.len() == PATH_STATE.len().saturating_mul(call as usize));
+        assert!(rt; call != 1 || found.text.as_slice() == PATH_STATE);
+    }
+    let found = outcome(rt.alloc(), row, 7, &[3], &[])?;
+    assert!(rt; found.status == Status::Short);
+    Ok(())
+}
+
+// Five bytes are written at once.
+#[test]
+fn each_write_may_fail(rt: HostRuntime) -> Result<(), Fail> {
+    let files = path(NO_SWITCHES);
+    let row = asked_twice(&files);
+    let whole = outcome(rt.alloc(), row, 7, &[], &[])?;
+    assert!(rt; whole.status == Status::Short);
+    let mut calls = 0;
+    for call in 0..1000 {
+        let found = outcome(rt.alloc(), row, 7, &[], &[call])?;
+        if found.status != Status::WriteFault {
+            break;
+        }
+        assert!(rt; found.text.len() < whole.text.len());
+        assert!(rt; whole.text.as_slice().starts_with(&found.text));
+        calls = call.saturating_add(1);
+    }
+    assert!(rt; calls > 40);
+    Ok(())
+}
+
+// So many empty lines, which get no answer.
+fn empty_lines(rt: &impl Abort, alloc: Global, lines: usize, status: Status) -> Result<(), Fail> {
+    let bytes = vec![in alloc; b'\n'; lines]?;
+    let row = Row {
+        words: &TABLES,
+        files: &path(NO_SWITCHES),
+        input: &bytes,
+        status,
+        text: b"",
+    };
+    let found = outcome(alloc, row, 5000, &[], &[])?;
+    assert!(rt; found.status == status);
+    assert!(rt; found.text.is_empty());
+    Ok(())
+}
+
+#[test]
+fn an_input_has_a_greatest_length(rt: HostRuntime) -> Result<(), Fail> {
+    empty_lines(&rt, rt.alloc(), 16_777_217, Status::SessionTooLong)?;
+    empty_lines(&rt, rt.alloc(), 16_777_216, Status::Short)
+}

@@ -1,0 +1,83 @@
+// What a session is begun for. One function begins sessions, since each that owns one takes minutes to prove.
+ghost use Rattle.std.specs.Prelude.{◌≡◌, ◌<◌, true};
+ghost use Rattle.obs_script.specs.declared.command.Ask.TheVariants.{Place};
+ghost use Rattle.obs_engine.specs.Tasks.{IsTaskDone};
+
+use crate::answers::answer_session;
+use crate::input::answer_lines;
+use crate::status::Status;
+use obs_assign::Steps;
+use obs_case::Case;
+use obs_edit::Session;
+use obs_io::{Sink, Source};
+use obs_script::Ask;
+use std::alloc::Global;
+use std::marker::Brand;
+use std::sync::ledger::{Blank, Ledger};
+
+/// What a session is begun for: the answer to one ask, or the answers to the lines of the input.
+#[derive(Clone, Copy, Debug, PartialEq, Eq)]
+pub(crate) enum Task {
+    Answer(Ask),
+    Lines,
+}
+
+// Does what a session was begun for.
+fn do_task<S: Source, W: Sink, L: Ledger>(
+    session: &mut Session,
+    task: Task,
+    input: &mut S,
+    output: &mut W,
+    steps: &mut Steps<L>,
+) -> Status
+    requires offered { task ≡ Task.Answer Place → session.old.offered ≡ true }
+    ensures done { IsTaskDone S.left S.faults S.steady W.written W.faults W.has_room task
+        session.old.offered session.old.tables input.old input.new output.old output.new result }
+{
+    match task {
+        Task::Answer(ask) => answer_session(output, session, ask, steps),
+        Task::Lines => answer_lines(session, input, output, steps),
+    }
+}
+
+// Begins a session with a case, which takes all memory, and does what it is begun for. Searches are counted in a ledger of its
+// own.
+fn do_counted<S: Source, W: Sink, L: Ledger>(
+    alloc: Global,
+    case: Case,
+    offered: bool,
+    task: Task,
+    input: &mut S,
+    output: &mut W,
+    blank: Blank,
+) -> Status
+    requires name { blank.name ≡ L.name }
+    requires parts { blank.parts ≡ L.parts }
+    requires some { 0 < L.parts }
+    requires offered { task ≡ Task.Answer Place → offered ≡ true }
+    ensures done { IsTaskDone S.left S.faults S.steady W.written W.faults W.has_room task
+        offered case input.old input.new output.old output.new result }
+{
+    let mut steps = Steps::<L>::begin(blank);
+    let Ok(mut session) = Session::begin(alloc, case, offered, &mut steps) else {
+        return Status::NoMemory;
+    };
+    do_task(&mut session, task, input, output, &mut steps)
+}
+
+/// Begins a session with a case, which was given with candidates or without, and does what it is begun for. The placement is
+/// asked for only with candidates.
+pub(crate) fn begin_task<S: Source, W: Sink>(
+    alloc: Global,
+    case: Case,
+    offered: bool,
+    task: Task,
+    input: &mut S,
+    output: &mut W,
+) -> Status
+    requires offered { task ≡ Task.Answer Place → offered ≡ true }
+    ensures done { IsTaskDone S.left S.faults S.steady W.written W.faults W.has_room task
+        offered case input.old input.new output.old output.new result }
+{
+    do_counted::<S, W, Brand>(alloc, case, offered, task, input, output, Blank::new(1))
+}
