@@ -1,15 +1,15 @@
 -- What the fold over the lines of a session implies.
-use Rattle.std.proofs.Common.{ℕ, ◌≡◌, ◌≢◌, ◌∙◌, Bool, true, false, refl, sym, ap, List, [], ◌∷◌, ◌++◌, codes, Ok, Err, Result, inl, inr}
+use Rattle.std.proofs.Common.{ℕ, ◌≡◌, ◌≢◌, ◌∙◌, Bool, refl, sym, ap, List, [], ◌∷◌, ◌++◌, codes, Result, inl, inr}
 use Rattle.std.proofs.lemmas.Bool.{cases_Bool}
 use Rattle.std.proofs.lemmas.List.{append-nil}
 use Rattle.obs_case.specs.Tables.{Tables}
 use Rattle.obs_script.specs.Gathered.{content_of, is_comment}
-use Rattle.obs_text.specs.Lines.{lines_of}
 use Rattle.obs_edit.specs.declared.edit.Meant.{Meant}
 use Rattle.obs_edit.specs.declared.edit.Refusal.{Refusal}
 use Rattle.obs_edit.specs.Lines.{meant_of}
 use Rattle.obs_engine.specs.Laws.{EditsAloneChange, EndedOrLast, IsAnswerTo, OrderIsForgotten, ReportsAsTheCommand}
 use Rattle.obs_engine.specs.Lines.{answer_to, case_after, ended_after, line_case, lines_case, lines_text, open_after}
+use Rattle.obs_engine.specs.Replies.{Reply}
 use Rattle.obs_engine.proofs.Folding.{lines_are, some_line, text_parts}
 use Rattle.obs_engine.proofs.Lined.{passed_case, passed_text, said_case, said_text}
 
@@ -37,7 +37,7 @@ IsAnswerTo-holds o t line = record {
 }
 
 pub ReportsAsTheCommand-holds : ReportsAsTheCommand
-ReportsAsTheCommand-holds o t from input = said_text o t (codes "report") refl
+ReportsAsTheCommand-holds o t from input certificate reply is = said_text o t (codes "report") refl ∙ ap (λ (r : Reply). r.text) (sym is)
 
 pub OrderIsForgotten-holds : OrderIsForgotten
 OrderIsForgotten-holds o t some others more same = (

@@ -1,15 +1,17 @@
 -- A session that begins, or that finds no memory.
-use Rattle.std.proofs.Common.{ℕ, ◌≡◌, ◌⊎◌, Bool, inl, inr, refl, subst, arith, List, Option, Some}
+use Rattle.std.proofs.Common.{ℕ, ◌≡◌, ◌⊎◌, Bool, inl, inr, refl, subst, arith, List, Option}
 use Rattle.obs_case.specs.Tables.{Tables}
 use Rattle.obs_engine.specs.declared.status.Status.{Status}
 use Rattle.obs_engine.specs.declared.status.Status.TheVariants.{Done, Short, NoMemory}
 use Rattle.obs_engine.specs.declared.tasks.Task.{Task}
-use Rattle.obs_engine.specs.declared.tasks.Task.TheVariants.{Answer, Lines}
+use Rattle.obs_engine.specs.declared.tasks.Task.TheVariants.{Answer, Lines, Trial}
 use Rattle.obs_engine.specs.Asks.{ask_reply}
-use Rattle.obs_engine.specs.Replies.{RepliedAt}
+use Rattle.obs_engine.specs.Replies.{Reply, RepliedAt}
 use Rattle.obs_engine.specs.Sessions.{SessionAt}
 use Rattle.obs_engine.specs.Tasks.{IsTaskDone}
+use Rattle.obs_engine.specs.Trials.{IsTrialReply, dips_of, trial_reply}
 use Rattle.obs_engine.proofs.Endings.{replied_memory}
+use Rattle.obs_engine.proofs.Turned.{dips_few}
 
 pub no_memory : {o : Bool} {t : Tables} {left : Option (List ℕ)} {i : ℕ} {is_steady : Type 0} {a : Option (List ℕ)} {f : ℕ} {room : ℕ → Type 0} → SessionAt o t left left i i is_steady a a f f room NoMemory
 no_memory = record {
@@ -48,6 +50,9 @@ module _ {S W : Type 0} (left : S → Option (List ℕ)) (input_faults : S → �
   pub task_without_memory : (task : Task) (o : Bool) (t : Tables) (input : S) (output : W) → IsTaskDone left input_faults steady written faults has_room task o t input input output output NoMemory
   task_without_memory (Answer ask) o t input output = (refl, replied_memory (ask_reply ask t))
   task_without_memory Lines o t input output = no_memory
+  task_without_memory (Trial rows seed) o t input output =
+      let reply = trial_reply rows seed t (dips_of t) in
+      (refl, (reply, (dips_of t, omega arith, dips_few t, refl), replied_memory reply))
 
   -- it began with this case, with candidates or without
   pub task_begun : (task : Task) (o p : Bool) (t u : Tables) (input input_now : S) (output output_now : W) (status : Status) → o ≡ p → t ≡ u
@@ -56,3 +61,7 @@ module _ {S W : Type 0} (left : S → Option (List ℕ)) (input_faults : S → �
   task_begun (Answer ask) o p t u input input_now output output_now status o_is t_is done =
       (done.0, subst (λ (x : Tables). RepliedAt (written output) (written output_now) (faults output) (faults output_now) (has_room output) status (ask_reply ask x)) t_is done.1)
   task_begun Lines o p t u input input_now output output_now status o_is t_is done = begun o_is t_is done
+  task_begun (Trial rows seed) o p t u input input_now output output_now status o_is t_is done =
+      subst (λ (x : Tables). (input_now ≡ input)
+      × ((reply : Reply) × IsTrialReply rows seed x reply
+      × RepliedAt (written output) (written output_now) (faults output) (faults output_now) (has_room output) status reply)) t_is done

@@ -1,16 +1,16 @@
 -- What is said of a command, from what was taken from its files and what was answered.
-use Rattle.std.proofs.Common.{ℕ, ◌≡◌, ◌≢◌, ◌∙◌, ◌+◌, ◌⊎◌, ap, inl, inr, refl, sym, subst, arith, Bool, true, false, List, [], length, Option, Some, Result, Ok}
+use Rattle.std.proofs.Common.{ℕ, ◌≡◌, ◌∙◌, ◌⊎◌, ap, inl, inr, refl, sym, subst, arith, Bool, true, false, List, [], Option, Some, Result, Ok}
 use Rattle.obs_case.specs.Tables.{Tables}
 use Rattle.obs_engine.specs.declared.status.Status.{Status}
 use Rattle.obs_engine.specs.declared.status.Status.TheVariants.{Done, Short, InputFault, ReadFault, WriteFault, NoMemory, SessionTooLong}
 use Rattle.obs_engine.specs.declared.words.CaseForm.{CaseForm}
 use Rattle.obs_engine.specs.declared.words.Form.{Form}
 use Rattle.obs_engine.specs.declared.words.Form.TheVariants.{Session, SessionWith}
-use Rattle.obs_engine.specs.Commands.{case_reply, files_reply}
+use Rattle.obs_engine.specs.Commands.{IsCaseReply, IsFilesReply}
 use Rattle.obs_engine.specs.Ending.{answered_before, answered_in}
-use Rattle.obs_engine.specs.Files.{case_in_files}
-use Rattle.obs_engine.specs.Forms.{AreFiles, CanAnswer, CanEnd, CanStop, TakesInput}
-use Rattle.obs_engine.specs.Replies.{EndsBehind, EndsWith, RepliedAt, Reply, reply_to}
+use Rattle.obs_engine.specs.Files.{case_in_files, certificate_in}
+use Rattle.obs_engine.specs.Forms.{AreFiles, CanAnswer, CanStop, TakesInput}
+use Rattle.obs_engine.specs.Replies.{EndsBehind, IsReplyTo, RepliedAt, Reply}
 use Rattle.obs_engine.specs.Runs.{AnsweredAt, RanAt}
 use Rattle.obs_engine.specs.Sessions.{IsTakenFront, SessionAt, answered_within, session_reply}
 use Rattle.obs_engine.specs.Stated.{Told}
@@ -18,49 +18,48 @@ use Rattle.obs_engine.proofs.Endings.{behind_of, complete_stated, ends_stated, r
 use Rattle.obs_engine.proofs.Replied.{case-can, case_no_failure, nothing_before, stated_no_failure}
 
 -- the reply to files that are this case
-reply_of : (form : Form) (t : Tables) (told : Told) → case_in_files form told.file ≡ Ok t → files_reply form told.input told.file ≡ case_reply form told.input t
-reply_of form t told is = ap (λ (r : Result Tables Reply). reply_to (case_reply form told.input) r) is
+files_replied : (form : Form) (t : Tables) (certificate : List ℕ) (reply : Reply) (told : Told) → case_in_files form told.file ≡ Ok t → certificate_in form told.file ≡ certificate
+    → IsCaseReply form told.input certificate t reply → IsFilesReply form told.input told.file reply
+files_replied form t certificate reply told is beside of =
+    subst (λ (r : Result Tables Reply). IsReplyTo (IsCaseReply form told.input (certificate_in form told.file)) r reply) (sym is)
+    (subst (λ (c : List ℕ). IsCaseReply form told.input c t reply) (sym beside) of)
 
 -- a case was answered by a form that takes no input, which is as it was
-alone_answered : {left : Option (List ℕ)} {i : ℕ} {is_steady : Type 0} {a b : Option (List ℕ)} {f k : ℕ} {room : ℕ → Type 0} {status : Status} (form : Form) (t : Tables) (reply : Reply)
-    → ((input : List ℕ) → case_reply form input t ≡ reply) → (TakesInput (Some form) → ⊥) → RepliedAt a b f k room status reply
-    → AnsweredAt form t left left i i is_steady a b f k room status
-alone_answered {left = left} {a = a} {b = b} {room = room} {status = status} form t reply same none replied = record {
-  ends = λ told is takes.
-      ends_stated (Some form) told left (files_reply form told.input told.file) status a b refl (stated_no_failure form told)
-      (behind_of (files_reply form told.input told.file) (answered_before (Some form) told left) status a b (nothing_before form told left takes) (here told is));
-  complete = λ told is takes steady has.
-      let whole = files_reply form told.input told.file in
-      let fits = has whole refl in
-      complete_stated (Some form) told whole status a b refl replied.reads
-      (replied.room fits.0 (subst (λ (r : Reply). room (length r.text + fits.0)) (reply_of form t told is ∙ same told.input) fits.1))
-      [] (behind_of whole [] status a b refl (here told is));
+alone_answered : {left : Option (List ℕ)} {i : ℕ} {is_steady : Type 0} {a b : Option (List ℕ)} {f k : ℕ} {room : ℕ → Type 0} {status : Status} (form : Form) (t : Tables) (certificate : List ℕ) (reply : Reply)
+    → ((input : List ℕ) → IsCaseReply form input certificate t reply) → (TakesInput (Some form) → ⊥) → RepliedAt a b f k room status reply
+    → AnsweredAt form t certificate left left i i is_steady a b f k room status
+alone_answered {left = left} {a = a} {b = b} {room = room} {status = status} form t certificate reply same none replied = record {
+  ends = λ told is beside takes.
+      let here = files_replied form t certificate reply told is beside (same told.input) in
+      ends_stated (Some form) told left reply status a b here (stated_no_failure form told reply here)
+      (behind_of reply (answered_before (Some form) told left) status a b (nothing_before form told left takes) replied.ends);
+  complete = λ told is beside takes steady has.
+      let here = files_replied form t certificate reply told is beside (same told.input) in
+      let fits = has reply here in
+      complete_stated (Some form) told reply status a b here replied.reads (replied.room fits.0 fits.1) [] (behind_of reply [] status a b refl replied.ends);
   statuses = replied_statuses (λ s. CanAnswer (Some form) s) reply status a b
-      (inl (subst (λ (r : Reply). CanEnd form r.status) (same []) (case-can form [] t)))
+      (inl (case-can form [] certificate t reply (same [])))
       (inr (inr (inr (inl refl)))) (inr (inr (inr (inr refl)))) replied.reads replied.ends;
   read = λ e. absurd (replied.reads e);
   write = replied.write;
   quiet_input = λ n. refl;
   quiet_output = replied.quiet;
-  memory = unwritten reply status a b (λ e. case_no_failure form [] t (inr (inr (ap (λ (r : Reply). r.status) (same []) ∙ e)))) replied.ends;
+  memory = unwritten reply status a b (λ e. case_no_failure form [] certificate t reply (same []) (inr (inr e))) replied.ends;
   memory_input = λ e. refl;
   taken = λ takes. absurd (none takes);
 }
-  where
-    here : (told : Told) → case_in_files form told.file ≡ Ok t → EndsWith (files_reply form told.input told.file) status a b
-    here told is = subst (λ (r : Reply). EndsWith r status a b) (sym (reply_of form t told is ∙ same told.input)) replied.ends
 
-pub replied_answered : {left left_now : Option (List ℕ)} {i j : ℕ} {is_steady : Type 0} {a b : Option (List ℕ)} {f k : ℕ} {room : ℕ → Type 0} {status : Status} (form : Form) (t : Tables) (reply : Reply)
-    → ((input : List ℕ) → case_reply form input t ≡ reply) → (TakesInput (Some form) → ⊥) → left_now ≡ left → j ≡ i → RepliedAt a b f k room status reply
-    → AnsweredAt form t left left_now i j is_steady a b f k room status
-replied_answered {left = left} {left_now = left_now} {i = i} {j = j} {is_steady = is_steady} {a = a} {b = b} {f = f} {k = k} {room = room} {status = status} form t reply same none rest still replied =
-    subst (λ (l : Option (List ℕ)). AnsweredAt form t left l i j is_steady a b f k room status) (sym rest)
-    (subst (λ (n : ℕ). AnsweredAt form t left left i n is_steady a b f k room status) (sym still) (alone_answered form t reply same none replied))
+pub replied_answered : {left left_now : Option (List ℕ)} {i j : ℕ} {is_steady : Type 0} {a b : Option (List ℕ)} {f k : ℕ} {room : ℕ → Type 0} {status : Status} (form : Form) (t : Tables) (certificate : List ℕ) (reply : Reply)
+    → ((input : List ℕ) → IsCaseReply form input certificate t reply) → (TakesInput (Some form) → ⊥) → left_now ≡ left → j ≡ i → RepliedAt a b f k room status reply
+    → AnsweredAt form t certificate left left_now i j is_steady a b f k room status
+replied_answered {left = left} {left_now = left_now} {i = i} {j = j} {is_steady = is_steady} {a = a} {b = b} {f = f} {k = k} {room = room} {status = status} form t certificate reply same none rest still replied =
+    subst (λ (l : Option (List ℕ)). AnsweredAt form t certificate left l i j is_steady a b f k room status) (sym rest)
+    (subst (λ (n : ℕ). AnsweredAt form t certificate left left i n is_steady a b f k room status) (sym still) (alone_answered form t certificate reply same none replied))
 
 -- a form that answers the lines of the input, with candidates or without
 pub record IsSessionForm (form : Form) (offered : Bool) : Type 0 where
   pub takes : TakesInput (Some form)
-  pub replies : (input : List ℕ) (t : Tables) → case_reply form input t ≡ session_reply offered t input
+  pub replies : (input certificate : List ℕ) (t : Tables) → IsCaseReply form input certificate t (session_reply offered t input)
   pub behind : (told : Told) (left : Option (List ℕ)) → answered_before (Some form) told left ≡ answered_in offered (case_in_files form told.file) told.input left
   pub can : (status : Status) → ((status ≡ Done) ⊎ (status ≡ Short) ⊎ (status ≡ SessionTooLong)) ⊎ ((status ≡ ReadFault) ⊎ (status ≡ WriteFault) ⊎ (status ≡ NoMemory))
       → CanAnswer (Some form) status
@@ -70,23 +69,24 @@ widened status (inl h) = inl h
 widened status (inr h) = inr (inr h)
 
 pub session_form : (from : CaseForm) → IsSessionForm (Session from) false
-session_form from = record { takes = tt; replies = λ input t. refl; behind = λ told left. refl; can = λ status h. widened status h }
+session_form from = record { takes = tt; replies = λ input certificate t. refl; behind = λ told left. refl; can = λ status h. widened status h }
 
 pub session_with_form : (from : CaseForm) → IsSessionForm (SessionWith from) true
-session_with_form from = record { takes = tt; replies = λ input t. refl; behind = λ told left. refl; can = λ status h. widened status h }
+session_with_form from = record { takes = tt; replies = λ input certificate t. refl; behind = λ told left. refl; can = λ status h. widened status h }
 
 -- the lines of an input were answered for a case
 pub session_answered : {left left_now : Option (List ℕ)} {i j : ℕ} {is_steady : Type 0} {a b : Option (List ℕ)} {f k : ℕ} {room : ℕ → Type 0} {status : Status} (form : Form) (offered : Bool) (t : Tables)
-    → IsSessionForm form offered → SessionAt offered t left left_now i j is_steady a b f k room status → AnsweredAt form t left left_now i j is_steady a b f k room status
-session_answered {left = left} {left_now = left_now} {a = a} {b = b} {room = room} {status = status} form offered t is ran = record {
-  ends = λ told of takes.
-      ends_stated (Some form) told left_now (files_reply form told.input told.file) status a b refl (stated_no_failure form told) (here told of takes);
-  complete = λ told of takes steady has.
-      let whole = files_reply form told.input told.file in
-      let fits = has whole refl in
-      complete_stated (Some form) told whole status a b refl (ran.steady (steady is.takes))
-      (ran.room told.input fits.0 (takes is.takes) (subst (λ (r : Reply). room (length r.text + fits.0)) (same told of) fits.1))
-      (answered_before (Some form) told left_now) (here told of takes);
+    (certificate : List ℕ) → IsSessionForm form offered → SessionAt offered t left left_now i j is_steady a b f k room status
+    → AnsweredAt form t certificate left left_now i j is_steady a b f k room status
+session_answered {left = left} {left_now = left_now} {a = a} {b = b} {room = room} {status = status} form offered t certificate is ran = record {
+  ends = λ told of beside takes.
+      let stated = here told of beside in
+      ends_stated (Some form) told left_now (whole told) status a b stated (stated_no_failure form told (whole told) stated) (behind told of takes);
+  complete = λ told of beside takes steady has.
+      let stated = here told of beside in
+      let fits = has (whole told) stated in
+      complete_stated (Some form) told (whole told) status a b stated (ran.steady (steady is.takes)) (ran.room told.input fits.0 (takes is.takes) fits.1)
+      (answered_before (Some form) told left_now) (behind told of takes);
   statuses = is.can status ran.statuses;
   read = λ e. (is.takes, ran.read e);
   write = ran.write;
@@ -97,27 +97,28 @@ session_answered {left = left} {left_now = left_now} {a = a} {b = b} {room = roo
   taken = λ takes input told. ran.taken input told;
 }
   where
-    same : (told : Told) → case_in_files form told.file ≡ Ok t → files_reply form told.input told.file ≡ session_reply offered t told.input
-    same told of = reply_of form t told of ∙ is.replies told.input t
+    whole : Told → Reply
+    whole told = session_reply offered t told.input
+
+    here : (told : Told) → case_in_files form told.file ≡ Ok t → certificate_in form told.file ≡ certificate → IsFilesReply form told.input told.file (whole told)
+    here told of beside = files_replied form t certificate (whole told) told of beside (is.replies told.input certificate t)
 
     before : (told : Told) → case_in_files form told.file ≡ Ok t → answered_before (Some form) told left_now ≡ answered_within offered t told.input left_now
     before told of = is.behind told left_now ∙ ap (λ (r : Result Tables Reply). answered_in offered r told.input left_now) of
 
-    here : (told : Told) → case_in_files form told.file ≡ Ok t → (TakesInput (Some form) → left ≡ Some told.input)
-        → EndsBehind (files_reply form told.input told.file) (answered_before (Some form) told left_now) status a b
-    here told of takes =
-        subst (λ (r : Reply). EndsBehind r (answered_before (Some form) told left_now) status a b) (sym (same told of))
-        (subst (λ (text : List ℕ). EndsBehind (session_reply offered t told.input) text status a b) (sym (before told of)) (ran.ends told.input (takes is.takes)))
+    behind : (told : Told) → case_in_files form told.file ≡ Ok t → (TakesInput (Some form) → left ≡ Some told.input)
+        → EndsBehind (whole told) (answered_before (Some form) told left_now) status a b
+    behind told of takes = subst (λ (text : List ℕ). EndsBehind (whole told) text status a b) (sym (before told of)) (ran.ends told.input (takes is.takes))
 
 -- the files were a case, which was answered
 pub answered_ran : {form : Form} {content : ℕ → Option (List ℕ)} {faults_before faults_now : ℕ → ℕ} {files_steady : ℕ → Type 0} {left left_now : Option (List ℕ)} {i j : ℕ} {is_steady : Type 0}
-    {a b : Option (List ℕ)} {f k : ℕ} {room : ℕ → Type 0} {status : Status} (t : Tables)
-    → ((file : ℕ → List ℕ) → AreFiles (Some form) content file → case_in_files form file ≡ Ok t) → ((w : ℕ) → faults_now w ≡ faults_before w)
-    → AnsweredAt form t left left_now i j is_steady a b f k room status
+    {a b : Option (List ℕ)} {f k : ℕ} {room : ℕ → Type 0} {status : Status} (t : Tables) (certificate : List ℕ)
+    → ((file : ℕ → List ℕ) → AreFiles (Some form) content file → (case_in_files form file ≡ Ok t) × (certificate_in form file ≡ certificate)) → ((w : ℕ) → faults_now w ≡ faults_before w)
+    → AnsweredAt form t certificate left left_now i j is_steady a b f k room status
     → RanAt (Some form) content faults_before faults_now files_steady left left_now i j is_steady a b f k room status
-answered_ran t is quiet ran = record {
-  stated = λ told tells. ran.ends told (is told.file tells.files) tells.input;
-  complete = λ told tells files input has. ran.complete told (is told.file tells.files) tells.input input has;
+answered_ran t certificate is quiet ran = record {
+  stated = λ told tells. let here = is told.file tells.files in ran.ends told here.0 here.1 tells.input;
+  complete = λ told tells files input has. let here = is told.file tells.files in ran.complete told here.0 here.1 tells.input input has;
   statuses = ran.statuses;
   read = λ e. inr (ran.read e);
   write = ran.write;

@@ -1,5 +1,5 @@
 -- How runs end.
-use Rattle.std.proofs.Common.{ℕ, ◌≡◌, ◌∙◌, ◌+◌, ◌⊎◌, inl, inr, sym, refl, subst, List, [], length, Option, None, Ok, Err, IsOk}
+use Rattle.std.proofs.Common.{ℕ, ◌≡◌, ◌∙◌, ◌⊎◌, inl, inr, sym, refl, subst, List, [], Option, None, Ok, Err, IsOk}
 use Rattle.obs_io.specs.Bytes.{Wrote}
 use Rattle.obs_report.specs.Printed.{AppendsAt}
 use Rattle.obs_report.proofs.Printing.{and_then_none}

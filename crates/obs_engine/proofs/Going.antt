@@ -1,8 +1,8 @@
 -- A session in the middle of its input, and the ways in which it ends.
-use Rattle.std.proofs.Common.{ℕ, ◌≡◌, ◌≢◌, ◌∙◌, ◌+◌, ◌-◌, ◌<◌, ◌≤◌, ◌⊎◌, Bool, true, false, inl, inr, refl, sym, ap, subst, List, [], ◌∷◌, ◌++◌, length, take, drop, Option, Some, None, Result, Ok, Err, arith}
-use Rattle.std.specs.Prelude.{IsOk, min, nat_lt}
+use Rattle.std.proofs.Common.{ℕ, ◌≡◌, ◌∙◌, ◌+◌, ◌-◌, ◌<◌, ◌≤◌, ◌⊎◌, Bool, inl, inr, refl, sym, ap, subst, List, [], ◌++◌, length, take, drop, Option, Some, None, Result, Ok, Err, arith}
+use Rattle.std.specs.Prelude.{IsOk, min}
 use Rattle.std.proofs.lemmas.Bool.{le-ltb, lt-ltb}
-use Rattle.std.proofs.lemmas.List.{append-nil, drop-drop, length-drop, take-append-drop, take-take, take_all}
+use Rattle.std.proofs.lemmas.List.{append-nil, drop-drop, length-drop, take-take, take_all}
 use Rattle.std.proofs.Math.Seq.{take-add}
 use Rattle.obs_case.specs.Tables.{Tables}
 use Rattle.obs_io.specs.Bytes.{IsPiece, TakesFront, Wrote, WrotePart}
@@ -11,9 +11,8 @@ use Rattle.obs_io.specs.declared.outside.Failed.{Failed}
 use Rattle.obs_report.specs.Printed.{AppendsAt}
 use Rattle.obs_report.proofs.Printing.{failed_call, then_call}
 use Rattle.obs_script.specs.Gathered.{Holds, content_of}
-use Rattle.obs_text.specs.Lines.{lines_of}
 use Rattle.obs_engine.specs.declared.status.Status.{Status}
-use Rattle.obs_engine.specs.declared.status.Status.TheVariants.{Done, Short, InputFault, ReadFault, WriteFault, NoMemory, SessionTooLong}
+use Rattle.obs_engine.specs.declared.status.Status.TheVariants.{Done, Short, InputFault, ReadFault, WriteFault, SessionTooLong}
 use Rattle.obs_engine.specs.Asks.{report_status}
 use Rattle.obs_engine.specs.Lines.{ended_after, line_case, line_text, lines_case, lines_text, open_after}
 use Rattle.obs_engine.specs.Replies.{Reply}

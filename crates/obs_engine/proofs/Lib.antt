@@ -6,6 +6,7 @@ pub mod Lawful
 pub mod Valid
 pub mod Asked
 pub mod Worded
+pub mod Certified
 pub mod Commanded
 pub mod Contents
 pub mod Placed
@@ -16,3 +17,7 @@ pub mod Pieces
 pub mod Lined
 pub mod Begun
 pub mod Answering
+pub mod Verified
+pub mod Turned
+pub mod Dips
+pub mod Generated

@@ -1,9 +1,9 @@
 -- One line, and the bytes of a line.
-use Rattle.std.proofs.Common.{ℕ, ◌≡◌, ◌∙◌, ◌+◌, ◌<◌, ◌≤◌, Bool, true, false, inl, inr, refl, sym, ap, subst, List, [], ◌∷◌, ◌++◌, length, take, drop, get_or, suc, Option, None, Some, Result, Ok, Err, arith, append_assoc}
+use Rattle.std.proofs.Common.{ℕ, ◌≡◌, ◌∙◌, ◌<◌, Bool, true, false, inl, inr, refl, sym, ap, subst, List, [], ◌∷◌, ◌++◌, length, take, drop, get_or, suc, Option, None, Some, Result, Ok, Err, append_assoc}
 use Rattle.std.specs.Prelude.{if◌then◌else◌, nat_le}
 use Rattle.std.proofs.Math.Seq.{drop-cons}
 use Rattle.std.proofs.lemmas.Bool.{cases_lt, le-leb}
-use Rattle.std.proofs.lemmas.List.{append-nil, take-append-drop, take_more}
+use Rattle.std.proofs.lemmas.List.{take-append-drop}
 use Rattle.obs_case.specs.Tables.{Tables}
 use Rattle.obs_io.specs.declared.outside.Failed.{Failed}
 use Rattle.obs_report.specs.Printed.{AppendsAt}

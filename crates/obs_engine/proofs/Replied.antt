@@ -1,10 +1,15 @@
 -- The replies of forms: which statuses they have, and what follows for the form of the words.
-use Rattle.std.proofs.Common.{ℕ, None, ◌≡◌, ◌∙◌, ◌+◌, ◌-◌, ◌⊎◌, inl, inr, refl, ap, arith, List, length, Some, [], Option, Result, Ok, Err, Bool, true, false}
+use Rattle.std.proofs.Common.{ℕ, None, ◌≡◌, ◌∙◌, ◌+◌, ◌-◌, ◌⊎◌, inl, inr, refl, ap, arith, subst, sym, List, length, Some, [], Option, Result, Ok, Err, Bool, true, false}
 use Rattle.std.proofs.lemmas.Bool.{cases_Bool}
 use Rattle.std.specs.Prelude.{if◌then◌else◌, ◌==◌, nat_lt}
 use Rattle.obs_network.specs.Network.{case_needed}
 use Rattle.obs_case.specs.Tables.{Tables}
 use Rattle.obs_case_csv.specs.declared.faults.TableFault.{TableFault}
+use Rattle.obs_cert.specs.declared.fault.CertFault.{CertFault}
+use Rattle.obs_cert.specs.declared.flaw.Flaw.{Flaw}
+use Rattle.obs_cert.specs.Claims.{Claim}
+use Rattle.obs_cert.specs.Flaws.{first_flaw}
+use Rattle.obs_cert.specs.Read.{claims_of}
 use Rattle.obs_ieee_cdf.specs.Faults.{cdf_fault}
 use Rattle.obs_case_csv.specs.Read.{tables_in}
 use Rattle.obs_ieee_cdf.specs.Read.{tables_after}
@@ -20,22 +25,26 @@ use Rattle.obs_text.specs.Lines.{lines_of}
 use Rattle.obs_edit.specs.Answers.{case_rank}
 use Rattle.obs_edit.specs.Planned.{case_placement}
 use Rattle.obs_engine.specs.declared.status.Status.{Status}
-use Rattle.obs_engine.specs.declared.status.Status.TheVariants.{Done, Short, InputFault, ReadFault, WriteFault, NoMemory, SessionTooLong}
+use Rattle.obs_engine.specs.declared.status.Status.TheVariants.{Done, Short, InputFault, SessionTooLong}
 use Rattle.obs_engine.specs.declared.words.CaseForm.{CaseForm}
 use Rattle.obs_engine.specs.declared.words.CaseForm.TheVariants.{Csv, Cdf, Matpower}
 use Rattle.obs_engine.specs.declared.words.Form.{Form}
-use Rattle.obs_engine.specs.declared.words.Form.TheVariants.{Topology, Report, Place, Session, SessionWith}
-use Rattle.obs_engine.specs.Asks.{ask_status, placed_status, report_status}
-use Rattle.obs_engine.specs.Commands.{case_reply, files_reply}
-use Rattle.obs_engine.specs.Files.{case_in, case_in_files, case_of_tables, case_with_tables, first_too_long, parsed, unless_fault}
+use Rattle.obs_engine.specs.declared.words.Form.TheVariants.{Topology, Report, Place, Session, SessionWith, Verify, VerifyWith, Trial}
+use Rattle.obs_engine.specs.Asks.{ask_reply, ask_status, placed_status, report_status}
+use Rattle.obs_engine.specs.Commands.{IsCaseReply, IsFilesReply}
+use Rattle.obs_engine.specs.Files.{case_in, case_in_files, case_of_tables, case_with_tables, certificate_in, first_too_long, parsed, unless_fault}
 use Rattle.obs_engine.specs.Ending.{answered_before, answered_in}
 use Rattle.obs_engine.specs.Forms.{CanEnd, TakesInput}
 use Rattle.obs_engine.specs.Lines.{lines_case}
 use Rattle.obs_engine.specs.Sessions.{most_input_bytes, session_reply}
 use Rattle.obs_engine.specs.Stated.{Told}
-use Rattle.obs_engine.specs.Replies.{Reply, reply_to}
+use Rattle.obs_engine.specs.Replies.{IsRefused, IsReplyTo, Reply}
+use Rattle.obs_engine.specs.Topology.{topology_reply}
+use Rattle.obs_engine.specs.Trials.{dips_of, trial_reply}
+use Rattle.obs_engine.specs.Verify.{checked_reply, claims_reply, verify_reply}
 use Rattle.obs_engine.specs.Words.{parts_of, words_of, words_with}
 use Rattle.obs_engine.proofs.Endings.{IsFailure}
+use Rattle.obs_engine.proofs.Turned.{dips_few}
 
 -- files that are no case get a reply that says so
 abbrev pub RefusesInput : Result Tables Reply → Type 0
@@ -62,6 +71,9 @@ parsed-refuses (Report from) file = case-refuses from None file
 parsed-refuses (Place from) file = case-refuses from (Some (file (words_with from))) file
 parsed-refuses (Session from) file = case-refuses from None file
 parsed-refuses (SessionWith from) file = case-refuses from (Some (file (words_with from + 1))) file
+parsed-refuses (Verify from) file = case-refuses from None file
+parsed-refuses (VerifyWith from) file = case-refuses from (Some (file (words_with from + 1))) file
+parsed-refuses (Trial rows seed) file = tt
 
 unless-refuses : (fault : Option Fault) (next : Result Tables Reply) → RefusesInput next → RefusesInput (unless_fault fault next)
 unless-refuses None next h = h
@@ -111,13 +123,31 @@ session-can offered t input = elim (cases_Bool (nat_lt most_input_bytes (length 
     widened (inl e) = inl e
     widened (inr e) = inr (inl e)
 
+-- the statuses of the reply to a certificate
+abbrev pub CanVerify : Status → Type 0
+CanVerify status = (status ≡ Done) ⊎ (status ≡ Short) ⊎ (status ≡ InputFault)
+
+claims-can : (t : Tables) (r : Result (List Claim) CertFault) → CanVerify (claims_reply t r).status
+claims-can t (Ok claims) = flawed (first_flaw t 1 claims)
+  where
+    flawed : (o : Option Flaw) → CanVerify (checked_reply (length claims) o).status
+    flawed None = inl refl
+    flawed (Some flaw) = inr (inl refl)
+claims-can t (Err fault) = inr (inr refl)
+
+pub verify-can : (t : Tables) (bytes : List ℕ) → CanVerify (verify_reply t bytes).status
+verify-can t bytes = claims-can t (claims_of bytes)
+
 -- the status of the reply to a case
-pub case-can : (form : Form) (input : List ℕ) (t : Tables) → CanEnd form (case_reply form input t).status
-case-can Topology input t = refl
-case-can (Report from) input t = report_status-is t
-case-can (Place from) input t = placed_status-is (case_placement t)
-case-can (Session from) input t = session-can false t input
-case-can (SessionWith from) input t = session-can true t input
+pub case-can : (form : Form) (input certificate : List ℕ) (t : Tables) (reply : Reply) → IsCaseReply form input certificate t reply → CanEnd form reply.status
+case-can Topology input certificate t reply is = ap (λ (r : Reply). r.status) is
+case-can (Report from) input certificate t reply is = subst (λ (r : Reply). IsVerdict r.status) (sym is) (report_status-is t)
+case-can (Place from) input certificate t reply is = subst (λ (r : Reply). IsVerdict r.status) (sym is) (placed_status-is (case_placement t))
+case-can (Session from) input certificate t reply is = subst (λ (r : Reply). CanReply r.status) (sym is) (session-can false t input)
+case-can (SessionWith from) input certificate t reply is = subst (λ (r : Reply). CanReply r.status) (sym is) (session-can true t input)
+case-can (Verify from) input certificate t reply is = subst (λ (r : Reply). CanVerify r.status) (sym is) (verify-can t certificate)
+case-can (VerifyWith from) input certificate t reply is = subst (λ (r : Reply). CanVerify r.status) (sym is) (verify-can t certificate)
+case-can (Trial rows seed) input certificate t reply (searches, few, most, is) = subst (λ (r : Reply). IsVerdict r.status) (sym is) (report_status-is t)
 
 pub verdict_no_failure : (status : Status) → IsVerdict status → IsFailure status → ⊥
 verdict_no_failure status (inl s) (inl e) = absurd cc
@@ -134,28 +164,60 @@ reply_no_failure status (inr (inr s)) (inl e) = absurd cc
 reply_no_failure status (inr (inr s)) (inr (inl e)) = absurd cc
 reply_no_failure status (inr (inr s)) (inr (inr e)) = absurd cc
 
+refused_no_failure : (status : Status) → status ≡ InputFault → IsFailure status → ⊥
+refused_no_failure status s (inl e) = absurd cc
+refused_no_failure status s (inr (inl e)) = absurd cc
+refused_no_failure status s (inr (inr e)) = absurd cc
+
+verify_no_failure : (status : Status) → CanVerify status → IsFailure status → ⊥
+verify_no_failure status (inl s) f = verdict_no_failure status (inl s) f
+verify_no_failure status (inr (inl s)) f = verdict_no_failure status (inr s) f
+verify_no_failure status (inr (inr s)) f = refused_no_failure status s f
+
 end_no_failure : (form : Form) (status : Status) → CanEnd form status → IsFailure status → ⊥
 end_no_failure Topology status e = verdict_no_failure status (inl e)
 end_no_failure (Report from) status e = verdict_no_failure status e
 end_no_failure (Place from) status e = verdict_no_failure status e
 end_no_failure (Session from) status e = reply_no_failure status e
 end_no_failure (SessionWith from) status e = reply_no_failure status e
+end_no_failure (Verify from) status e = verify_no_failure status e
+end_no_failure (VerifyWith from) status e = verify_no_failure status e
+end_no_failure (Trial rows seed) status e = verdict_no_failure status e
 
-pub case_no_failure : (form : Form) (input : List ℕ) (t : Tables) → IsFailure (case_reply form input t).status → ⊥
-case_no_failure form input t = end_no_failure form (case_reply form input t).status (case-can form input t)
+pub case_no_failure : (form : Form) (input certificate : List ℕ) (t : Tables) (reply : Reply) → IsCaseReply form input certificate t reply → IsFailure reply.status → ⊥
+case_no_failure form input certificate t reply is = end_no_failure form reply.status (case-can form input certificate t reply is)
 
-refused_no_failure : (status : Status) → status ≡ InputFault → IsFailure status → ⊥
-refused_no_failure status s (inl e) = absurd cc
-refused_no_failure status s (inr (inl e)) = absurd cc
-refused_no_failure status s (inr (inr e)) = absurd cc
+no_failure : (form : Form) (input certificate : List ℕ) (r : Result Tables Reply) (reply : Reply) → RefusesInput r → IsReplyTo (IsCaseReply form input certificate) r reply → IsFailure reply.status → ⊥
+no_failure form input certificate (Ok t) reply h is = case_no_failure form input certificate t reply is
+no_failure form input certificate (Err refused) reply h is = refused_no_failure reply.status (ap (λ (r : Reply). r.status) is ∙ h)
 
-no_failure : (form : Form) (input : List ℕ) (r : Result Tables Reply) → RefusesInput r → IsFailure (reply_to (case_reply form input) r).status → ⊥
-no_failure form input (Ok t) h = case_no_failure form input t
-no_failure form input (Err reply) h = refused_no_failure reply.status h
+-- a reply that is stated for a form says no failure
+pub stated_no_failure : (form : Form) (told : Told) (reply : Reply) → IsFilesReply form told.input told.file reply → IsFailure reply.status → ⊥
+stated_no_failure form told reply is = no_failure form told.input (certificate_in form told.file) (case_in_files form told.file) reply (files-refuse form told.file) is
 
--- the reply that is stated for a form says no failure
-pub stated_no_failure : (form : Form) (told : Told) → IsFailure (files_reply form told.input told.file).status → ⊥
-stated_no_failure form told = no_failure form told.input (case_in_files form told.file) (files-refuse form told.file)
+-- there is a reply to each case
+some_reply : (form : Form) (input certificate : List ℕ) (t : Tables) → (reply : Reply) × IsCaseReply form input certificate t reply
+some_reply Topology input certificate t = (topology_reply t, refl)
+some_reply (Report from) input certificate t = (ask_reply ReportAsk t, refl)
+some_reply (Place from) input certificate t = (ask_reply PlaceAsk t, refl)
+some_reply (Session from) input certificate t = (session_reply false t input, refl)
+some_reply (SessionWith from) input certificate t = (session_reply true t input, refl)
+some_reply (Verify from) input certificate t = (verify_reply t certificate, refl)
+some_reply (VerifyWith from) input certificate t = (verify_reply t certificate, refl)
+some_reply (Trial rows seed) input certificate t = (trial_reply rows seed t (dips_of t), (dips_of t, omega arith, dips_few t, refl))
+
+-- and so one that is stated for the files of a form
+pub stated_reply : (form : Form) (told : Told) → (reply : Reply) × IsFilesReply form told.input told.file reply
+stated_reply form told = to (case_in_files form told.file)
+  where
+    to : (r : Result Tables Reply) → (reply : Reply) × IsReplyTo (IsCaseReply form told.input (certificate_in form told.file)) r reply
+    to (Ok t) = some_reply form told.input (certificate_in form told.file) t
+    to (Err refused) = (refused, refl)
+
+-- where the files are no case, this is what they got
+pub refused_reply : (answers : Tables → Reply → Type 0) (r : Result Tables Reply) (reply : Reply) → IsReplyTo answers r reply → IsRefused r reply
+refused_reply answers (Ok t) reply is = tt
+refused_reply answers (Err refused) reply is = is
 
 -- a session that took nothing has answered nothing
 nothing_in : (offered : Bool) (r : Result Tables Reply) (input : List ℕ) → answered_in offered r input (Some input) ≡ []
@@ -169,5 +231,8 @@ nothing_before (Report from) told left is = refl
 nothing_before (Place from) told left is = refl
 nothing_before (Session from) told left is =
     ap (λ (l : Option (List ℕ)). answered_in false (case_in_files (Session from) told.file) told.input l) (is tt) ∙ nothing_in false (case_in_files (Session from) told.file) told.input
+nothing_before (Verify from) told left is = refl
+nothing_before (VerifyWith from) told left is = refl
+nothing_before (Trial rows seed) told left is = refl
 nothing_before (SessionWith from) told left is =
     ap (λ (l : Option (List ℕ)). answered_in true (case_in_files (SessionWith from) told.file) told.input l) (is tt) ∙ nothing_in true (case_in_files (SessionWith from) told.file) told.input

@@ -19,14 +19,17 @@ use Rattle.obs_matpower.proofs.CaseLemmas.{CasesAreValid-holds as mat_case-valid
 use Rattle.obs_ieee_cdf.specs.Rows.{cdf_of}
 use Rattle.obs_ieee_cdf.proofs.CaseLemmas.{CasesAreValid-holds as cdf_case-valid}
 use Rattle.obs_text.specs.Faults.{Fault}
+use Rattle.obs_trial.proofs.ValidLemmas.{valid_trial}
 use Rattle.obs_engine.specs.declared.words.CaseForm.{CaseForm}
 use Rattle.obs_engine.specs.declared.words.CaseForm.TheVariants.{Csv, Cdf, Matpower}
 use Rattle.obs_engine.specs.declared.words.Form.{Form}
-use Rattle.obs_engine.specs.declared.words.Form.TheVariants.{Topology, Report, Place, Session, SessionWith}
+use Rattle.obs_engine.specs.declared.words.Form.TheVariants.{Topology, Report, Place, Session, SessionWith, Verify, VerifyWith, Trial}
 use Rattle.obs_engine.specs.Files.{case_in, case_in_files, case_of_tables, case_with_tables, first_too_long, parsed, unless_fault}
+use Rattle.obs_engine.specs.Forms.{HasRows}
 use Rattle.obs_engine.specs.Laws.{CasesAreValid}
 use Rattle.obs_engine.specs.Replies.{Reply}
 use Rattle.obs_engine.specs.Words.{parts_of, words_of, words_with}
+use Rattle.obs_engine.proofs.Worded.{rows_of}
 
 -- a case, where there is one, is valid
 abbrev HoldsValid : Result Tables Reply → Type 0
@@ -60,21 +63,24 @@ in_case Cdf candidates file = with_tables cdf_fault (file 3) candidates (cdf_of 
 in_case Matpower candidates file = with_tables mat_fault (file 3) candidates (mat_of (file 2))
     (λ u t read e. mat_case-valid (file 2) (file 3) candidates t (ap (λ (r : Result Tables MatFault). mat.with_tables (file 3) candidates r) read ∙ ap (λ (r : Result Tables TableFault). mat.as_end r) e))
 
-in_form : (form : Form) (file : ℕ → List ℕ) → HoldsValid (parsed form file)
+in_form : (form : Form) (file : ℕ → List ℕ) → HasRows form → HoldsValid (parsed form file)
 unfolding parsed
-in_form Topology file =
+in_form Topology file some =
     of_tables _ (reads _ _ (λ t h. h.0.valid) (then_read Switches (file 2) (then_read Nodes (file 1) (Ok no_rows))) (SwitchingIsRead-holds (file 1) (file 2)))
-in_form (Report from) file = in_case from None file
-in_form (Place from) file = in_case from (Some (file (words_with from))) file
-in_form (Session from) file = in_case from None file
-in_form (SessionWith from) file = in_case from (Some (file (words_with from + 1))) file
+in_form (Report from) file some = in_case from None file
+in_form (Place from) file some = in_case from (Some (file (words_with from))) file
+in_form (Session from) file some = in_case from None file
+in_form (SessionWith from) file some = in_case from (Some (file (words_with from + 1))) file
+in_form (Verify from) file some = in_case from None file
+in_form (VerifyWith from) file some = in_case from (Some (file (words_with from + 1))) file
+in_form (Trial rows seed) file some = valid_trial rows seed some.0 some.1
 
 unless : (fault : Option Fault) (next : Result Tables Reply) → HoldsValid next → HoldsValid (unless_fault fault next)
 unless None next h = h
 unless (Some fault) next h = tt
 
-in_files : (form : Form) (file : ℕ → List ℕ) → HoldsValid (case_in_files form file)
-in_files form file = unless (first_too_long (parts_of form) file (words_of form)) (parsed form file) (in_form form file)
+in_files : (form : Form) (file : ℕ → List ℕ) → HasRows form → HoldsValid (case_in_files form file)
+in_files form file some = unless (first_too_long (parts_of form) file (words_of form)) (parsed form file) (in_form form file some)
 
 pub CasesAreValid-holds : CasesAreValid
-CasesAreValid-holds form file t e = subst HoldsValid e (in_files form file)
+CasesAreValid-holds words form file t is e = subst HoldsValid e (in_files form file (rows_of words form is))

@@ -1,15 +1,17 @@
 -- Which words have which form.
-use Rattle.std.proofs.Common.{◌≡◌, ◌↔◌, ◌∙◌, ◌⊎◌, inl, inr, ℕ, zero, suc, ◌+◌, Bool, true, false, ◌&&◌, Option, Some, None, List, [], ◌∷◌, ◌++◌, length, codes, refl, sym, ap, subst, arith}
+use Rattle.std.proofs.Common.{◌≡◌, ◌↔◌, ◌∙◌, ◌⊎◌, inl, inr, ℕ, zero, suc, ◌+◌, ◌≤◌, Bool, true, false, ◌&&◌, Option, Some, None, List, [], ◌∷◌, ◌++◌, length, codes, refl, sym, ap, subst, arith}
 use Rattle.std.specs.Prelude.{◌==◌, if◌then◌else◌, nat_lt, slice_index_or}
 use Rattle.std.specs.Str.{bytes_eq}
-use Rattle.std.proofs.lemmas.Bool.{and_parts, eqb-true}
+use Rattle.std.proofs.lemmas.Bool.{and_from, and_parts, eqb-true, lt-ltb, ltb-true}
 use Rattle.obs_case.proofs.NameLemmas.{same_bytes}
+use Rattle.obs_text.specs.Numbers.{whole_of}
 use Rattle.obs_engine.specs.declared.words.CaseForm.{CaseForm}
 use Rattle.obs_engine.specs.declared.words.CaseForm.TheVariants.{Csv, Cdf, Matpower}
 use Rattle.obs_engine.specs.declared.words.Form.{Form}
-use Rattle.obs_engine.specs.declared.words.Form.TheVariants.{Topology, Report, Place, Session, SessionWith}
+use Rattle.obs_engine.specs.declared.words.Form.TheVariants.{Topology, Report, Place, Session, SessionWith, Verify, VerifyWith, Trial}
+use Rattle.obs_engine.specs.Forms.{HasRows}
 use Rattle.obs_engine.specs.Laws.{IsFormOf}
-use Rattle.obs_engine.specs.Words.{case_form_of, case_parts, case_word, form_of, form_with, is_word, words_with}
+use Rattle.obs_engine.specs.Words.{case_form_of, case_parts, case_word, form_of, form_with, is_word, trial_form, words_with}
 
 -- the first test that is met
 picked : (a : Bool) (x : Form) (o : Option Form) (form : Form) → (if a then Some x else o) ≡ Some form → ((a ≡ true) × (x ≡ form)) ⊎ (o ≡ Some form)
@@ -70,14 +72,16 @@ report_words words from second h =
     let p = and_parts (length words == words_with from) (is_word words 0 (codes "report")) h in
     words_of words from (codes "report") (length (case_parts from)) (eqb-true (length words) (words_with from) p.0) p.1 second
 
-place_words : (words : List (List ℕ)) (from : CaseForm) → is_word words 1 (case_word from) ≡ true
-    → ((length words == words_with from + 1) && is_word words 0 (codes "place")) ≡ true → IsFormOf (Place from) words
-place_words words from second h =
-    let p = and_parts (length words == words_with from + 1) (is_word words 0 (codes "place")) h in
+-- one word behind those that name a case
+one_behind : (words : List (List ℕ)) (from : CaseForm) (command : List ℕ) → is_word words 1 (case_word from) ≡ true
+    → ((length words == words_with from + 1) && is_word words 0 command) ≡ true
+    → (files : List (List ℕ)) × (last : List ℕ) × (length files ≡ length (case_parts from)) × (words ≡ command ∷ case_word from ∷ (files ++ (last ∷ [])))
+one_behind words from command second h =
+    let p = and_parts (length words == words_with from + 1) (is_word words 0 command) h in
     let l = eqb-true (length words) (words_with from + 1) p.0 in
-    let t = words_of words from (codes "place") (length (case_parts from) + 1) (omega (arith, l)) p.1 second in
+    let t = words_of words from command (length (case_parts from) + 1) (omega (arith, l)) p.1 second in
     let s = last_of t.0 (length (case_parts from)) t.1 in
-    (s.0, s.1, s.2, t.2 ∙ ap (λ (ws : List (List ℕ)). codes "place" ∷ case_word from ∷ ws) s.3)
+    (s.0, s.1, s.2, t.2 ∙ ap (λ (ws : List (List ℕ)). command ∷ case_word from ∷ ws) s.3)
 
 session_words : (words : List (List ℕ)) (from : CaseForm) → is_word words 1 (case_word from) ≡ true
     → ((length words == words_with from) && is_word words 0 (codes "session")) ≡ true → IsFormOf (Session from) words
@@ -91,48 +95,83 @@ two (a ∷ []) l = absurd (omega (arith, l))
 two (a ∷ b ∷ []) l = (a, b, refl)
 two (a ∷ b ∷ d ∷ words) l = absurd (omega (arith, l))
 
--- the last two of some words
-two_last : (words : List (List ℕ)) (n : ℕ) → length words ≡ n + 2
-    → (front : List (List ℕ)) × (a : List ℕ) × (b : List ℕ) × (length front ≡ n) × (words ≡ front ++ (a ∷ b ∷ []))
-two_last words zero l = let t = two words l in ([], t.0, t.1, refl, t.2)
-two_last [] (suc n) l = absurd (omega (arith, l))
-two_last (x ∷ words) (suc n) l =
-    let t = two_last words n (omega (arith, l)) in
-    (x ∷ t.0, t.1, t.2, ap suc t.3, ap (λ (ws : List (List ℕ)). x ∷ ws) t.4)
+one : (words : List (List ℕ)) → length words ≡ 1 → (a : List ℕ) × (words ≡ a ∷ [])
+one [] l = absurd (omega (arith, l))
+one (a ∷ []) l = (a, refl)
+one (a ∷ b ∷ words) l = absurd (omega (arith, l))
 
-behind_front : (front : List (List ℕ)) (a b : List ℕ) (n : ℕ) → length front ≡ n → slice_index_or (front ++ (a ∷ b ∷ [])) n [] ≡ a
-behind_front [] a b n e = rw (sym e) refl
-behind_front (x ∷ front) a b zero e = absurd cc
-behind_front (x ∷ front) a b (suc n) e = behind_front front a b n (cc e)
+-- a word between so many words and so many more
+parted : (words : List (List ℕ)) (n more : ℕ) → length words ≡ n + suc more
+    → (front : List (List ℕ)) × (a : List ℕ) × (rest : List (List ℕ)) × (length front ≡ n) × (length rest ≡ more) × (words ≡ front ++ (a ∷ rest))
+parted [] n more l = absurd (omega (arith, l))
+parted (a ∷ rest) zero more l = ([], a, rest, refl, omega (arith, l), refl)
+parted (x ∷ words) (suc n) more l =
+    let t = parted words n more (omega (arith, l)) in
+    (x ∷ t.0, t.1, t.2, ap suc t.3, t.4, ap (λ (ws : List (List ℕ)). x ∷ ws) t.5)
+
+behind_front : (front : List (List ℕ)) (a : List ℕ) (rest : List (List ℕ)) (n : ℕ) → length front ≡ n → slice_index_or (front ++ (a ∷ rest)) n [] ≡ a
+behind_front [] a rest n e = rw (sym e) refl
+behind_front (x ∷ front) a rest zero e = absurd cc
+behind_front (x ∷ front) a rest (suc n) e = behind_front front a rest n (cc e)
 
 behind_two : (a b : List ℕ) (rest : List (List ℕ)) (n : ℕ) → slice_index_or (a ∷ b ∷ rest) (2 + n) [] ≡ slice_index_or rest n []
 behind_two a b rest n = let e : 2 + n ≡ suc (suc n) = omega arith in rw e refl
+
+-- the word `with` and others behind those that name a case
+with_behind : (words : List (List ℕ)) (from : CaseForm) (command : List ℕ) (more : ℕ) → is_word words 1 (case_word from) ≡ true
+    → (((length words == words_with from + suc more) && is_word words 0 command) && is_word words (words_with from) (codes "with")) ≡ true
+    → (files rest : List (List ℕ)) × (length files ≡ length (case_parts from)) × (length rest ≡ more)
+    × (words ≡ command ∷ case_word from ∷ (files ++ (codes "with" ∷ rest)))
+with_behind words from command more second h =
+    let n = length (case_parts from) in
+    let q = and_parts ((length words == words_with from + suc more) && is_word words 0 command) (is_word words (words_with from) (codes "with")) h in
+    let p = and_parts (length words == words_with from + suc more) (is_word words 0 command) q.0 in
+    let l = eqb-true (length words) (words_with from + suc more) p.0 in
+    let t = words_of words from command (n + suc more) (omega (arith, l)) p.1 second in
+    let s = parted t.0 n more t.1 in
+    let all : words ≡ command ∷ case_word from ∷ (s.0 ++ (s.1 ∷ s.2)) = t.2 ∙ ap (λ (ws : List (List ℕ)). command ∷ case_word from ∷ ws) s.5 in
+    let at : slice_index_or words (words_with from) [] ≡ s.1 = ap (λ (ws : List (List ℕ)). slice_index_or ws (words_with from) []) all ∙ (behind_two command (case_word from) (s.0 ++ (s.1 ∷ s.2)) n ∙ behind_front s.0 s.1 s.2 n s.3) in
+    let word : s.1 ≡ codes "with" = word_at words (words_with from) (codes "with") s.1 q.1 at in
+    (s.0, s.2, s.3, s.4, all ∙ ap (λ (w : List ℕ). command ∷ case_word from ∷ (s.0 ++ (w ∷ s.2))) word)
 
 session_with_words : (words : List (List ℕ)) (from : CaseForm) → is_word words 1 (case_word from) ≡ true
     → (((length words == words_with from + 2) && is_word words 0 (codes "session")) && is_word words (words_with from) (codes "with")) ≡ true
     → IsFormOf (SessionWith from) words
 session_with_words words from second h =
-    let n = length (case_parts from) in
-    let q = and_parts ((length words == words_with from + 2) && is_word words 0 (codes "session")) (is_word words (words_with from) (codes "with")) h in
-    let p = and_parts (length words == words_with from + 2) (is_word words 0 (codes "session")) q.0 in
-    let l = eqb-true (length words) (words_with from + 2) p.0 in
-    let t = words_of words from (codes "session") (n + 2) (omega (arith, l)) p.1 second in
-    let s = two_last t.0 n t.1 in
-    let all : words ≡ codes "session" ∷ case_word from ∷ (s.0 ++ (s.1 ∷ s.2 ∷ [])) = t.2 ∙ ap (λ (ws : List (List ℕ)). codes "session" ∷ case_word from ∷ ws) s.4 in
-    let at : slice_index_or words (words_with from) [] ≡ s.1 = ap (λ (ws : List (List ℕ)). slice_index_or ws (words_with from) []) all ∙ (behind_two (codes "session") (case_word from) (s.0 ++ (s.1 ∷ s.2 ∷ [])) n ∙ behind_front s.0 s.1 s.2 n s.3) in
-    let word : s.1 ≡ codes "with" = word_at words (words_with from) (codes "with") s.1 q.1 at in
-    (s.0, s.2, s.3, all ∙ ap (λ (w : List ℕ). codes "session" ∷ case_word from ∷ (s.0 ++ (w ∷ s.2 ∷ []))) word)
+    let t = with_behind words from (codes "session") 1 second h in
+    let o = one t.1 t.3 in
+    (t.0, o.0, t.2, t.4 ∙ ap (λ (ws : List (List ℕ)). codes "session" ∷ case_word from ∷ (t.0 ++ (codes "with" ∷ ws))) o.1)
+
+verify_with_words : (words : List (List ℕ)) (from : CaseForm) → is_word words 1 (case_word from) ≡ true
+    → (((length words == words_with from + 3) && is_word words 0 (codes "verify")) && is_word words (words_with from) (codes "with")) ≡ true
+    → IsFormOf (VerifyWith from) words
+verify_with_words words from second h =
+    let t = with_behind words from (codes "verify") 2 second h in
+    let o = two t.1 t.3 in
+    (t.0, o.0, o.1, t.2, t.4 ∙ ap (λ (ws : List (List ℕ)). codes "verify" ∷ case_word from ∷ (t.0 ++ (codes "with" ∷ ws))) o.2)
+
+checks_case : (words : List (List ℕ)) (from : CaseForm) (form : Form) → is_word words 1 (case_word from) ≡ true
+    → (if (length words == words_with from + 1) && is_word words 0 (codes "verify") then Some (Verify from)
+    else if ((length words == words_with from + 3) && is_word words 0 (codes "verify")) && is_word words (words_with from) (codes "with") then Some (VerifyWith from)
+    else None) ≡ Some form → IsFormOf form words
+checks_case words from form second e = elim (picked ((length words == words_with from + 1) && is_word words 0 (codes "verify")) (Verify from) _ form e) [
+  | inl h ↦ subst (λ (f : Form). IsFormOf f words) h.1 (one_behind words from (codes "verify") second h.0)
+  | inr o ↦ elim (picked (((length words == words_with from + 3) && is_word words 0 (codes "verify")) && is_word words (words_with from) (codes "with")) (VerifyWith from) None form o) [
+    | inl h ↦ subst (λ (f : Form). IsFormOf f words) h.1 (verify_with_words words from second h.0)
+    | inr n ↦ absurd (cc n)
+  ]
+]
 
 with_case : (words : List (List ℕ)) (from : CaseForm) (form : Form) → is_word words 1 (case_word from) ≡ true → form_with words (Some from) ≡ Some form → IsFormOf form words
 with_case words from form second e = elim (picked ((length words == words_with from) && is_word words 0 (codes "report")) (Report from) _ form e) [
   | inl h ↦ subst (λ (f : Form). IsFormOf f words) h.1 (report_words words from second h.0)
   | inr o ↦ elim (picked ((length words == words_with from + 1) && is_word words 0 (codes "place")) (Place from) _ form o) [
-    | inl h ↦ subst (λ (f : Form). IsFormOf f words) h.1 (place_words words from second h.0)
+    | inl h ↦ subst (λ (f : Form). IsFormOf f words) h.1 (one_behind words from (codes "place") second h.0)
     | inr p ↦ elim (picked ((length words == words_with from) && is_word words 0 (codes "session")) (Session from) _ form p) [
       | inl h ↦ subst (λ (f : Form). IsFormOf f words) h.1 (session_words words from second h.0)
-      | inr q ↦ elim (picked (((length words == words_with from + 2) && is_word words 0 (codes "session")) && is_word words (words_with from) (codes "with")) (SessionWith from) None form q) [
+      | inr q ↦ elim (picked (((length words == words_with from + 2) && is_word words 0 (codes "session")) && is_word words (words_with from) (codes "with")) (SessionWith from) _ form q) [
         | inl h ↦ subst (λ (f : Form). IsFormOf f words) h.1 (session_with_words words from second h.0)
-        | inr n ↦ absurd (cc n)
+        | inr r ↦ checks_case words from form second r
       ]
     ]
   ]
@@ -149,18 +188,65 @@ three (a ∷ b ∷ []) l = absurd (omega (arith, l))
 three (a ∷ b ∷ d ∷ []) l = (a, b, d, refl)
 three (a ∷ b ∷ d ∷ e ∷ words) l = absurd (omega (arith, l))
 
-topology_words : (words : List (List ℕ)) → ((length words == 3) && is_word words 0 (codes "topology")) ≡ true → IsFormOf Topology words
-topology_words words h =
-    let p = and_parts (length words == 3) (is_word words 0 (codes "topology")) h in
+three_of : (words : List (List ℕ)) (command : List ℕ) → ((length words == 3) && is_word words 0 command) ≡ true
+    → (a b : List ℕ) × (words ≡ command ∷ a ∷ b ∷ [])
+three_of words command h =
+    let p = and_parts (length words == 3) (is_word words 0 command) h in
     let t = three words (eqb-true (length words) 3 p.0) in
-    let a : t.0 ≡ codes "topology" = word_at words 0 (codes "topology") t.0 p.1 (ap (λ (ws : List (List ℕ)). slice_index_or ws 0 []) t.3) in
+    let a : t.0 ≡ command = word_at words 0 command t.0 p.1 (ap (λ (ws : List (List ℕ)). slice_index_or ws 0 []) t.3) in
     (t.1, t.2, t.3 ∙ ap (λ (x : List ℕ). x ∷ t.1 ∷ t.2 ∷ []) a)
 
-to_form : (words : List (List ℕ)) (form : Form) → form_of words ≡ Some form → IsFormOf form words
-to_form words form h = elim (picked ((length words == 3) && is_word words 0 (codes "topology")) Topology (form_with words (case_form_of words)) form h) [
-  | inl t ↦ subst (λ (f : Form). IsFormOf f words) t.1 (topology_words words t.0)
-  | inr o ↦ with_any words form (case_form_of words) refl o
+-- a trial's form is that of two numbers
+tried : (n s : Option ℕ) (form : Form) → trial_form n s ≡ Some form
+    → (rows seed : ℕ) × (n ≡ Some rows) × (1 ≤ rows) × (rows ≤ 100) × (s ≡ Some seed) × (Trial rows seed ≡ form)
+tried None s form e = absurd (cc e)
+tried (Some rows) None form e = absurd (cc e)
+tried (Some rows) (Some seed) form e = elim (picked (nat_lt 0 rows && nat_lt rows 101) (Trial rows seed) None form e) [
+  | inl h ↦
+      let p = and_parts (nat_lt 0 rows) (nat_lt rows 101) h.0 in
+      let low = ltb-true 0 rows p.0 in
+      let high = ltb-true rows 101 p.1 in
+      (rows, seed, refl, omega (arith, low), omega (arith, high), refl, h.1)
+  | inr n ↦ absurd (cc n)
 ]
+
+trial_words : (words : List (List ℕ)) (form : Form) → ((length words == 3) && is_word words 0 (codes "trial")) ≡ true
+    → trial_form (whole_of (slice_index_or words 1 [])) (whole_of (slice_index_or words 2 [])) ≡ Some form → IsFormOf form words
+trial_words words form h e =
+    let t = three_of words (codes "trial") h in
+    let here : trial_form (whole_of t.0) (whole_of t.1) ≡ Some form =
+    subst (λ (ws : List (List ℕ)). trial_form (whole_of (slice_index_or ws 1 [])) (whole_of (slice_index_or ws 2 [])) ≡ Some form) t.2 e in
+    let r = tried (whole_of t.0) (whole_of t.1) form here in
+    subst (λ (f : Form). IsFormOf f words) r.6 (t.0, t.1, t.2, r.2, r.3, r.4, r.5)
+
+-- the tests of the words without a case
+picked_else : (a : Bool) (x o : Option Form) (form : Form) → (if a then x else o) ≡ Some form → ((a ≡ true) × (x ≡ Some form)) ⊎ (o ≡ Some form)
+picked_else true x o form e = inl (refl, e)
+picked_else false x o form e = inr e
+
+to_form : (words : List (List ℕ)) (form : Form) → form_of words ≡ Some form → IsFormOf form words
+to_form words form h = elim (picked ((length words == 3) && is_word words 0 (codes "topology")) Topology _ form h) [
+  | inl t ↦ subst (λ (f : Form). IsFormOf f words) t.1 (three_of words (codes "topology") t.0)
+  | inr o ↦ elim (picked_else ((length words == 3) && is_word words 0 (codes "trial")) (trial_form (whole_of (slice_index_or words 1 [])) (whole_of (slice_index_or words 2 [])))
+      (form_with words (case_form_of words)) form o) [
+        | inl t ↦ trial_words words form t.0 t.1
+        | inr p ↦ with_any words form (case_form_of words) refl p
+      ]
+]
+
+-- a trial has as many rows as it may have
+rows_in : (words : List (List ℕ)) (form : Form) → IsFormOf form words → HasRows form
+rows_in words Topology h = tt
+rows_in words (Report from) h = tt
+rows_in words (Place from) h = tt
+rows_in words (Session from) h = tt
+rows_in words (SessionWith from) h = tt
+rows_in words (Verify from) h = tt
+rows_in words (VerifyWith from) h = tt
+rows_in words (Trial rows seed) (n, s, is, first, low, high, second) = (low, high)
+
+pub rows_of : (words : List (List ℕ)) (form : Form) → form_of words ≡ Some form → HasRows form
+rows_of words form e = rows_in words form (to_form words form e)
 
 four : (words : List (List ℕ)) → length words ≡ 4 → (a : List ℕ) × (b : List ℕ) × (d : List ℕ) × (e : List ℕ) × (words ≡ a ∷ b ∷ d ∷ e ∷ [])
 four [] l = absurd (omega (arith, l))
@@ -210,6 +296,35 @@ from_form words (SessionWith Matpower) (files, candidates, many, is) =
     let t = two files many in
     subst (λ (ws : List (List ℕ)). form_of ws ≡ Some (SessionWith Matpower))
     (sym (is ∙ ap (λ (fs : List (List ℕ)). codes "session" ∷ codes "matpower" ∷ (fs ++ (codes "with" ∷ candidates ∷ []))) t.2)) refl
+from_form words (Verify Csv) (files, certificate, many, is) =
+    let t = four files many in
+    subst (λ (ws : List (List ℕ)). form_of ws ≡ Some (Verify Csv))
+    (sym (is ∙ ap (λ (fs : List (List ℕ)). codes "verify" ∷ codes "tables" ∷ (fs ++ (certificate ∷ []))) t.4)) refl
+from_form words (Verify Cdf) (files, certificate, many, is) =
+    let t = two files many in
+    subst (λ (ws : List (List ℕ)). form_of ws ≡ Some (Verify Cdf))
+    (sym (is ∙ ap (λ (fs : List (List ℕ)). codes "verify" ∷ codes "cdf" ∷ (fs ++ (certificate ∷ []))) t.2)) refl
+from_form words (Verify Matpower) (files, certificate, many, is) =
+    let t = two files many in
+    subst (λ (ws : List (List ℕ)). form_of ws ≡ Some (Verify Matpower))
+    (sym (is ∙ ap (λ (fs : List (List ℕ)). codes "verify" ∷ codes "matpower" ∷ (fs ++ (certificate ∷ []))) t.2)) refl
+from_form words (VerifyWith Csv) (files, candidates, certificate, many, is) =
+    let t = four files many in
+    subst (λ (ws : List (List ℕ)). form_of ws ≡ Some (VerifyWith Csv))
+    (sym (is ∙ ap (λ (fs : List (List ℕ)). codes "verify" ∷ codes "tables" ∷ (fs ++ (codes "with" ∷ candidates ∷ certificate ∷ []))) t.4)) refl
+from_form words (VerifyWith Cdf) (files, candidates, certificate, many, is) =
+    let t = two files many in
+    subst (λ (ws : List (List ℕ)). form_of ws ≡ Some (VerifyWith Cdf))
+    (sym (is ∙ ap (λ (fs : List (List ℕ)). codes "verify" ∷ codes "cdf" ∷ (fs ++ (codes "with" ∷ candidates ∷ certificate ∷ []))) t.2)) refl
+from_form words (VerifyWith Matpower) (files, candidates, certificate, many, is) =
+    let t = two files many in
+    subst (λ (ws : List (List ℕ)). form_of ws ≡ Some (VerifyWith Matpower))
+    (sym (is ∙ ap (λ (fs : List (List ℕ)). codes "verify" ∷ codes "matpower" ∷ (fs ++ (codes "with" ∷ candidates ∷ certificate ∷ []))) t.2)) refl
+from_form words (Trial rows seed) (n, s, is, first, low, high, second) =
+    subst (λ (ws : List (List ℕ)). form_of ws ≡ Some (Trial rows seed)) (sym is)
+    (subst (λ (o : Option ℕ). trial_form o (whole_of s) ≡ Some (Trial rows seed)) (sym first)
+    (subst (λ (o : Option ℕ). trial_form (Some rows) o ≡ Some (Trial rows seed)) (sym second)
+    (rw (and_from (nat_lt 0 rows) (nat_lt rows 101) (lt-ltb 0 rows (omega (arith, low))) (lt-ltb rows 101 (omega (arith, high)))) refl)))
 
 pub form_exactly : (words : List (List ℕ)) (form : Form) → (form_of words ≡ Some form) ↔ IsFormOf form words
 form_exactly words form = (to_form words form, from_form words form)

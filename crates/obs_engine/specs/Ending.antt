@@ -5,7 +5,7 @@ use Rattle.obs_io.specs.Bytes.{Wrote, WrotePart}
 use Rattle.obs_engine.specs.declared.status.Status.{Status}
 use Rattle.obs_engine.specs.declared.status.Status.TheVariants.{Done, Short, Usage, InputFault, ReadFault, WriteFault, NoMemory, SessionTooLong}
 use Rattle.obs_engine.specs.declared.words.Form.{Form}
-use Rattle.obs_engine.specs.declared.words.Form.TheVariants.{Topology, Report, Place, Session, SessionWith}
+use Rattle.obs_engine.specs.declared.words.Form.TheVariants.{Topology, Report, Place, Session, SessionWith, Verify, VerifyWith, Trial}
 use Rattle.obs_engine.specs.Files.{case_in_files}
 use Rattle.obs_engine.specs.Replies.{Reply}
 use Rattle.obs_engine.specs.Sessions.{answered_within}
@@ -24,6 +24,9 @@ answered_before (Some (Report from)) told left = []
 answered_before (Some (Place from)) told left = []
 answered_before (Some (Session from)) told left = answered_in false (case_in_files (Session from) told.file) told.input left
 answered_before (Some (SessionWith from)) told left = answered_in true (case_in_files (SessionWith from) told.file) told.input left
+answered_before (Some (Verify from)) told left = []
+answered_before (Some (VerifyWith from)) told left = []
+answered_before (Some (Trial rows seed)) told left = []
 
 -- the run wrote the whole stated text and answered the stated status
 abbrev pub Answers : Option Form → Told → Status → Option (List ℕ) → Option (List ℕ) → Type 0

@@ -12,10 +12,11 @@ use Rattle.obs_ieee_cdf.specs.Read.{tables_after}
 use Rattle.obs_ieee_cdf.specs.Rows.{cdf_of}
 use Rattle.obs_matpower.specs.Faults.{mat_fault}
 use Rattle.obs_matpower.specs.Read.{mat_of}
+use Rattle.obs_trial.specs.Trial.{trial_of}
 use Rattle.obs_engine.specs.declared.words.CaseForm.{CaseForm}
 use Rattle.obs_engine.specs.declared.words.CaseForm.TheVariants.{Csv, Cdf, Matpower}
 use Rattle.obs_engine.specs.declared.words.Form.{Form}
-use Rattle.obs_engine.specs.declared.words.Form.TheVariants.{Topology, Report, Place, Session, SessionWith}
+use Rattle.obs_engine.specs.declared.words.Form.TheVariants.{Topology, Report, Place, Session, SessionWith, Verify, VerifyWith, Trial}
 use Rattle.obs_engine.specs.Replies.{Reply, fault_reply}
 use Rattle.obs_engine.specs.Words.{parts_of, words_of, words_with}
 
@@ -50,13 +51,16 @@ case_in Csv candidates file = case_of_tables (tables_in (file 2) (file 3) (file 
 case_in Cdf candidates file = case_with_tables cdf_fault (file 3) candidates (cdf_of (file 2))
 case_in Matpower candidates file = case_with_tables mat_fault (file 3) candidates (mat_of (file 2))
 
--- the case that files of this form are, none of which is too long
+-- the case that files of this form are, none of which is too long. That of a trial is generated
 unfoldable pub parsed : Form → (ℕ → List ℕ) → Result Tables Reply
 parsed Topology file = switching_case (file 1) (file 2)
 parsed (Report from) file = case_in from None file
 parsed (Place from) file = case_in from (Some (file (words_with from))) file
 parsed (Session from) file = case_in from None file
 parsed (SessionWith from) file = case_in from (Some (file (words_with from + 1))) file
+parsed (Verify from) file = case_in from None file
+parsed (VerifyWith from) file = case_in from (Some (file (words_with from + 1))) file
+parsed (Trial rows seed) file = Ok (trial_of rows seed)
 
 -- what comes next, unless there is a fault
 abbrev pub unless_fault : Option Fault → Result Tables Reply → Result Tables Reply
@@ -66,3 +70,14 @@ unless_fault (Some fault) next = Err (fault_reply fault)
 -- the case that the files of a form are
 abbrev pub case_in_files : Form → (ℕ → List ℕ) → Result Tables Reply
 case_in_files form file = unless_fault (first_too_long (parts_of form) file (words_of form)) (parsed form file)
+
+-- the bytes of the certificate, which is the last file; none of a form that takes none
+abbrev pub certificate_in : Form → (ℕ → List ℕ) → List ℕ
+certificate_in Topology file = []
+certificate_in (Report from) file = []
+certificate_in (Place from) file = []
+certificate_in (Session from) file = []
+certificate_in (SessionWith from) file = []
+certificate_in (Verify from) file = file (words_with from)
+certificate_in (VerifyWith from) file = file (words_with from + 2)
+certificate_in (Trial rows seed) file = []

@@ -1,11 +1,11 @@
 -- What a form of words takes, and which answers it can have.
-use Rattle.std.specs.Prelude.{ℕ, ◌≡◌, ◌≢◌, ◌⊎◌, false, List, [], ◌∷◌, ◌++◌, Option, None, Some}
+use Rattle.std.specs.Prelude.{ℕ, ◌≡◌, ◌≢◌, ◌≤◌, ◌⊎◌, false, List, [], ◌∷◌, ◌++◌, Option, None, Some}
 use Rattle.obs_io.specs.Causes.{Rose}
 use Rattle.obs_matroid.specs.Lists.{In}
 use Rattle.obs_engine.specs.declared.status.Status.{Status}
 use Rattle.obs_engine.specs.declared.status.Status.TheVariants.{Done, Short, Usage, InputFault, ReadFault, WriteFault, NoMemory, SessionTooLong}
 use Rattle.obs_engine.specs.declared.words.Form.{Form}
-use Rattle.obs_engine.specs.declared.words.Form.TheVariants.{Topology, Report, Place, Session, SessionWith}
+use Rattle.obs_engine.specs.declared.words.Form.TheVariants.{Topology, Report, Place, Session, SessionWith, Verify, VerifyWith, Trial}
 use Rattle.obs_engine.specs.Files.{is_too_long}
 use Rattle.obs_engine.specs.Words.{file_words}
 
@@ -20,14 +20,31 @@ TakesInput (Some (Report from)) = ⊥
 TakesInput (Some (Place from)) = ⊥
 TakesInput (Some (Session from)) = Unit {0}
 TakesInput (Some (SessionWith from)) = Unit {0}
+TakesInput (Some (Verify from)) = ⊥
+TakesInput (Some (VerifyWith from)) = ⊥
+TakesInput (Some (Trial rows seed)) = ⊥
 
--- the statuses of a form whose answer is whole
+-- a trial has from 1 to 100 rows
+abbrev pub HasRows : Form → Type 0
+HasRows Topology = Unit {0}
+HasRows (Report from) = Unit {0}
+HasRows (Place from) = Unit {0}
+HasRows (Session from) = Unit {0}
+HasRows (SessionWith from) = Unit {0}
+HasRows (Verify from) = Unit {0}
+HasRows (VerifyWith from) = Unit {0}
+HasRows (Trial rows seed) = (1 ≤ rows) × (rows ≤ 100)
+
+-- the statuses of a form whose case was answered. Where a certificate is checked, its own fault is an answer too
 abbrev pub CanEnd : Form → Status → Type 0
 CanEnd Topology status = status ≡ Done
 CanEnd (Report from) status = (status ≡ Done) ⊎ (status ≡ Short)
 CanEnd (Place from) status = (status ≡ Done) ⊎ (status ≡ Short)
 CanEnd (Session from) status = (status ≡ Done) ⊎ (status ≡ Short) ⊎ (status ≡ SessionTooLong)
 CanEnd (SessionWith from) status = (status ≡ Done) ⊎ (status ≡ Short) ⊎ (status ≡ SessionTooLong)
+CanEnd (Verify from) status = (status ≡ Done) ⊎ (status ≡ Short) ⊎ (status ≡ InputFault)
+CanEnd (VerifyWith from) status = (status ≡ Done) ⊎ (status ≡ Short) ⊎ (status ≡ InputFault)
+CanEnd (Trial rows seed) status = (status ≡ Done) ⊎ (status ≡ Short)
 
 -- the statuses of a form whose files are refused, or where something failed
 abbrev pub CanStop : Status → Type 0

@@ -1,5 +1,5 @@
 -- The laws that need a name.
-use Rattle.std.specs.Prelude.{◌≡◌, ◌≢◌, ◌↔◌, ℕ, Bool, true, false, List, Ok, Err, [], ◌∷◌, ◌++◌, codes, length}
+use Rattle.std.specs.Prelude.{◌≡◌, ◌≢◌, ◌≤◌, ◌↔◌, ℕ, Bool, true, false, List, Some, Ok, Err, [], ◌∷◌, ◌++◌, codes, length}
 use Rattle.obs_case.specs.Tables.{IsValid, Tables}
 use Rattle.obs_matroid.specs.Lists.{In}
 use Rattle.obs_exchange.specs.Critical.{IsCriticalAt}
@@ -7,14 +7,16 @@ use Rattle.obs_network.specs.Network.{case_branches, case_meters}
 use Rattle.obs_network.specs.Observable.{case_live_meters, item_component}
 use Rattle.obs_engine.specs.declared.words.CaseForm.{CaseForm}
 use Rattle.obs_engine.specs.declared.words.Form.{Form}
-use Rattle.obs_engine.specs.declared.words.Form.TheVariants.{Topology, Report, Place, Session, SessionWith}
+use Rattle.obs_engine.specs.declared.words.Form.TheVariants.{Topology, Report, Place, Session, SessionWith, Verify, VerifyWith, Trial}
 use Rattle.obs_engine.specs.Files.{case_in_files}
-use Rattle.obs_engine.specs.Words.{case_parts, case_word}
+use Rattle.obs_engine.specs.Replies.{Reply}
+use Rattle.obs_engine.specs.Words.{case_parts, case_word, form_of}
 use Rattle.obs_network.specs.Network.{case_needed}
 use Rattle.obs_report.specs.Lines.{ok_line, refused_line}
 use Rattle.obs_script.specs.declared.command.Ask.{Ask}
 use Rattle.obs_script.specs.Gathered.{content_of, is_comment}
 use Rattle.obs_text.specs.Lines.{lines_of}
+use Rattle.obs_text.specs.Numbers.{whole_of}
 use Rattle.obs_edit.specs.declared.edit.Edit.{Edit}
 use Rattle.obs_edit.specs.declared.edit.Meant.TheVariants.{Edits, Asks}
 use Rattle.obs_edit.specs.declared.edit.Refusal.{Refusal}
@@ -22,7 +24,7 @@ use Rattle.obs_edit.specs.Answers.{bound_meters, case_rank}
 use Rattle.obs_edit.specs.Edits.{edited}
 use Rattle.obs_edit.specs.Lines.{meant_of, refusal_code, refusal_name}
 use Rattle.obs_engine.specs.Asks.{ask_text}
-use Rattle.obs_engine.specs.Commands.{case_reply}
+use Rattle.obs_engine.specs.Commands.{IsCaseReply}
 use Rattle.obs_engine.specs.Lines.{ended_after, line_case, line_text, lines_case, lines_text, open_after}
 
 -- the bound of a component lists exactly those live meters of the component whose loss doesn't lower the rank of the case
@@ -32,11 +34,13 @@ ListsNonCritical =
     In m (bound_meters t c)
     ↔ (In m (case_live_meters t) × (item_component t (case_meters t) m ≡ c) × (IsCriticalAt (case_branches t) (case_meters t) (case_live_meters t) m → ⊥))
 
--- the case that the files of a form are is valid: what the other laws ask of a case
+-- the case that the files of a form of words are is valid: what the other laws ask of a case
 abbrev pub CasesAreValid : Type 0
-CasesAreValid = (form : Form) (file : ℕ → List ℕ) (t : Tables) → case_in_files form file ≡ Ok t → IsValid t
+CasesAreValid =
+    (words : List (List ℕ)) (form : Form) (file : ℕ → List ℕ) (t : Tables) → form_of words ≡ Some form → case_in_files form file ≡ Ok t → IsValid t
 
--- the words have this form: a command's word, where it takes a case the word of the case's form, and then a word for each file
+-- the words have this form: a command's word, where it takes a case the word of the case's form, and then a word for each file; of a
+-- trial two numbers
 abbrev pub IsFormOf : Form → List (List ℕ) → Type 0
 IsFormOf Topology words = (n : List ℕ) × (s : List ℕ) × (words ≡ codes "topology" ∷ n ∷ s ∷ [])
 IsFormOf (Report from) words =
@@ -49,6 +53,14 @@ IsFormOf (Session from) words =
 IsFormOf (SessionWith from) words =
     (files : List (List ℕ)) × (candidates : List ℕ) × (length files ≡ length (case_parts from))
     × (words ≡ codes "session" ∷ case_word from ∷ (files ++ (codes "with" ∷ candidates ∷ [])))
+IsFormOf (Verify from) words =
+    (files : List (List ℕ)) × (certificate : List ℕ) × (length files ≡ length (case_parts from))
+    × (words ≡ codes "verify" ∷ case_word from ∷ (files ++ (certificate ∷ [])))
+IsFormOf (VerifyWith from) words =
+    (files : List (List ℕ)) × (candidates certificate : List ℕ) × (length files ≡ length (case_parts from))
+    × (words ≡ codes "verify" ∷ case_word from ∷ (files ++ (codes "with" ∷ candidates ∷ certificate ∷ [])))
+IsFormOf (Trial rows seed) words =
+    (n s : List ℕ) × (words ≡ codes "trial" ∷ n ∷ s ∷ []) × (whole_of n ≡ Some rows) × (1 ≤ rows) × (rows ≤ 100) × (whole_of s ≡ Some seed)
 
 -- of a session's lines an edit alone changes the present case: it sets its flag
 pub record EditsAloneChange (offered : Bool) (t : Tables) (line : List ℕ) : Type 0 where
@@ -69,7 +81,8 @@ pub record IsAnswerTo (offered : Bool) (t : Tables) (line : List ℕ) : Type 0 w
 -- the answer to the line `report` is what the command prints of the present case
 abbrev pub ReportsAsTheCommand : Type 0
 ReportsAsTheCommand =
-    (offered : Bool) (t : Tables) (from : CaseForm) (input : List ℕ) → line_text offered t (codes "report") ≡ (case_reply (Report from) input t).text
+    (offered : Bool) (t : Tables) (from : CaseForm) (input certificate : List ℕ) (reply : Reply) → IsCaseReply (Report from) input certificate t reply
+    → line_text offered t (codes "report") ≡ reply.text
 
 -- after lines that lead to one present case, in whatever order, all further lines get the same answers
 abbrev pub OrderIsForgotten : Type 0

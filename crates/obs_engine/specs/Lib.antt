@@ -13,4 +13,6 @@ pub mod Stated
 pub mod Taken
 pub mod Tasks
 pub mod Topology
+pub mod Trials
+pub mod Verify
 pub mod Words

@@ -25,9 +25,14 @@ abbrev pub fault_reply : Fault → Reply
 fault_reply fault = record { status = InputFault; text = fault_line fault.part fault.place fault.code fault.name }
 
 -- the reply to a case, or the one that its files got
-abbrev pub reply_to : (Tables → Reply) → Result Tables Reply → Reply
-reply_to answered (Ok t) = answered t
-reply_to answered (Err reply) = reply
+abbrev pub IsReplyTo : (Tables → Reply → Type 0) → Result Tables Reply → Reply → Type 0
+IsReplyTo answers (Ok t) reply = answers t reply
+IsReplyTo answers (Err refused) reply = reply ≡ refused
+
+-- the reply to files that are no case
+abbrev pub IsRefused : Result Tables Reply → Reply → Type 0
+IsRefused (Ok t) reply = Unit {0}
+IsRefused (Err refused) reply = reply ≡ refused
 
 -- how a command ends that has this reply: with all of it, or behind a front of its text, or with nothing written
 abbrev pub EndsWith : Reply → Status → Option (List ℕ) → Option (List ℕ) → Type 0

@@ -6,20 +6,20 @@ use Rattle.obs_engine.specs.declared.status.Status.{Status}
 use Rattle.obs_engine.specs.declared.status.Status.TheVariants.{ReadFault, WriteFault, NoMemory}
 use Rattle.obs_engine.specs.declared.words.Form.{Form}
 use Rattle.obs_engine.specs.Ending.{Answers, Ends, HasRoom}
-use Rattle.obs_engine.specs.Files.{case_in_files}
+use Rattle.obs_engine.specs.Files.{case_in_files, certificate_in}
 use Rattle.obs_engine.specs.Forms.{AnyReadFailed, CanAnswer, IsFileWord, TakesInput}
 use Rattle.obs_engine.specs.Sessions.{IsTakenFront}
 use Rattle.obs_engine.specs.Stated.{Told, Tells}
 
--- the case of a form was answered
+-- the case of a form was answered, and its certificate, where the form takes one
 pub record AnsweredAt
-    (form : Form) (t : Tables) (left left_now : Option (List ℕ)) (input_before input_now : ℕ) (input_steady : Type 0)
+    (form : Form) (t : Tables) (certificate : List ℕ) (left left_now : Option (List ℕ)) (input_before input_now : ℕ) (input_steady : Type 0)
     (before now : Option (List ℕ)) (sink_before sink_now : ℕ) (has_room : ℕ → Type 0) (status : Status) : Type 0 where
   -- it ends as is stated for files that are this case
-  pub ends : (told : Told) → case_in_files form told.file ≡ Ok t → (TakesInput (Some form) → left ≡ Some told.input)
-      → Ends (Some form) told left_now status before now
-  pub complete : (told : Told) → case_in_files form told.file ≡ Ok t → (TakesInput (Some form) → left ≡ Some told.input)
-      → (TakesInput (Some form) → input_steady) → HasRoom (Some form) told has_room
+  pub ends : (told : Told) → case_in_files form told.file ≡ Ok t → certificate_in form told.file ≡ certificate
+      → (TakesInput (Some form) → left ≡ Some told.input) → Ends (Some form) told left_now status before now
+  pub complete : (told : Told) → case_in_files form told.file ≡ Ok t → certificate_in form told.file ≡ certificate
+      → (TakesInput (Some form) → left ≡ Some told.input) → (TakesInput (Some form) → input_steady) → HasRoom (Some form) told has_room
       → (status ≡ NoMemory) ⊎ Answers (Some form) told status before now
   -- which answers it can have, and the cause of each that says that something failed
   pub statuses : CanAnswer (Some form) status
@@ -35,9 +35,9 @@ pub record AnsweredAt
 
 -- the same over the members of a source and a sink
 abbrev pub IsAnswered : {S W : Type 0} → (S → Option (List ℕ)) → (S → ℕ) → (S → Type 0) → (W → Option (List ℕ)) → (W → ℕ) → (W → ℕ → Type 0)
-    → Form → Tables → S → S → W → W → Status → Type 0
-IsAnswered left input_faults steady written faults has_room form t input_before input_now before now status =
-    AnsweredAt form t (left input_before) (left input_now) (input_faults input_before) (input_faults input_now) (steady input_before)
+    → Form → Tables → List ℕ → S → S → W → W → Status → Type 0
+IsAnswered left input_faults steady written faults has_room form t certificate input_before input_now before now status =
+    AnsweredAt form t certificate (left input_before) (left input_now) (input_faults input_before) (input_faults input_now) (steady input_before)
     (written before) (written now) (faults before) (faults now) (has_room before) status
 
 -- words of a form were run over files, an input and an output

@@ -1,7 +1,7 @@
 -- What the program is to answer, stated over the words and what the outside tells: the contents of the files, and the input.
 use Rattle.std.specs.Prelude.{ℕ, ◌≡◌, List, Option, None, Some}
 use Rattle.obs_engine.specs.declared.words.Form.{Form}
-use Rattle.obs_engine.specs.Commands.{files_reply}
+use Rattle.obs_engine.specs.Commands.{IsFilesReply}
 use Rattle.obs_engine.specs.Forms.{AreFiles, TakesInput}
 use Rattle.obs_engine.specs.Replies.{Reply, usage_reply}
 
@@ -16,7 +16,7 @@ pub record Tells (form : Option Form) (content : ℕ → Option (List ℕ)) (lef
   pub files : AreFiles form content told.file
   pub input : TakesInput form → left ≡ Some told.input
 
--- the reply that is stated for a form and what is told
+-- the reply that is stated for a form and what is told. For all forms but a trial it is one
 abbrev pub IsStated : Option Form → Told → Reply → Type 0
 IsStated None told reply = reply ≡ usage_reply
-IsStated (Some form) told reply = reply ≡ files_reply form told.input told.file
+IsStated (Some form) told reply = IsFilesReply form told.input told.file reply

@@ -3,9 +3,11 @@ use Rattle.std.specs.Prelude.{ℕ, ◌≡◌, true, false, List, [], ◌∷◌, 
 use Rattle.std.specs.declared.alloc.Global.{Global}
 use Rattle.obs_text.specs.Faults.{fault_of, too_long}
 use Rattle.obs_case.specs.Tables.{Tables}
+use Rattle.obs_engine.specs.declared.taken.Taken.{Taken}
 use Rattle.obs_engine.specs.declared.taken.Untaken.{Untaken}
 use Rattle.obs_engine.specs.declared.taken.Untaken.TheVariants.{Refused, Read, NoMemory}
-use Rattle.obs_engine.specs.Files.{first_too_long, is_too_long}
+use Rattle.obs_engine.specs.declared.words.Form.{Form}
+use Rattle.obs_engine.specs.Files.{case_in_files, certificate_in, first_too_long, is_too_long}
 use Rattle.obs_engine.specs.Replies.{Reply, fault_reply}
 
 -- why nothing was taken from files that hold this: they are refused for a fault whose reply is the one that is stated, or reading
@@ -19,6 +21,11 @@ IsUntaken stated NoMemory = Unit {0}
 abbrev pub IsTaken : Result Tables Reply → Result Tables Untaken → Type 0
 IsTaken stated (Ok t) = stated ≡ Ok t
 IsTaken stated (Err why) = IsUntaken stated why
+
+-- what was taken from the files of a form: the case that they are, and the certificate's bytes
+abbrev pub IsOfFiles : Form → (ℕ → List ℕ) → Result Taken Untaken → Type 0
+IsOfFiles form file (Ok taken) = (case_in_files form file ≡ Ok taken.case) × (certificate_in form file ≡ taken.certificate.items)
+IsOfFiles form file (Err why) = IsUntaken (case_in_files form file) why
 
 -- what was taken from one file that has this content and is this part of the input
 abbrev pub IsFile : List ℕ → List ℕ → Result (Vec ℕ Global) Untaken → Type 0

@@ -1,5 +1,5 @@
 // The case that the contents of files are.
-ghost use Rattle.std.specs.Prelude.{◌≡◌, ◌≤◌, ℕ, List, Ok, Some, All, IsErrOf, length, map, option_map, take, vec_len};
+ghost use Rattle.std.specs.Prelude.{◌≡◌, ◌≤◌, ℕ, List, Ok, Some, All, IfOk, IsErrOf, length, map, option_map, take, vec_len};
 ghost use Rattle.std.specs.List.{range_with_len};
 ghost use Rattle.obs_text.specs.Limits.{most_file_bytes};
 ghost use Rattle.obs_case_csv.specs.Read.{tables_in};
@@ -7,13 +7,14 @@ ghost use Rattle.obs_ieee_cdf.specs.Faults.{cdf_fault};
 ghost use Rattle.obs_ieee_cdf.specs.Rows.{cdf_of};
 ghost use Rattle.obs_matpower.specs.Faults.{mat_fault};
 ghost use Rattle.obs_matpower.specs.Read.{mat_of};
-ghost use Rattle.obs_engine.specs.Files.{case_in, case_in_files, case_of_tables, case_with_tables, parsed, switching_case};
-ghost use Rattle.obs_engine.specs.Forms.{AreFiles, IsFileWord, ReadFailed};
-ghost use Rattle.obs_engine.specs.Taken.{IsTaken, bytes_of};
-ghost use Rattle.obs_engine.specs.Words.{case_parts, file_words, words_of};
+ghost use Rattle.obs_trial.specs.Trial.{trial_of};
+ghost use Rattle.obs_engine.specs.Files.{case_in, case_of_tables, case_with_tables, certificate_in, parsed, switching_case};
+ghost use Rattle.obs_engine.specs.Forms.{AreFiles, HasRows, IsFileWord, ReadFailed};
+ghost use Rattle.obs_engine.specs.Taken.{IsOfFiles, IsTaken, bytes_of};
+ghost use Rattle.obs_engine.specs.Words.{case_parts, file_words, takes_certificate, words_of};
 
 use crate::files::take_files;
-use crate::taken::Untaken;
+use crate::taken::{Taken, Untaken};
 use crate::words::{CaseForm, Form, file_words, parts};
 use obs_case::Case;
 use obs_case_csv::{Table, TableEnd, read_table, read_tables};
@@ -130,8 +131,22 @@ fn read_case(
     }
 }
 
+// A generated case.
+fn generate(alloc: Global, rows: u32, seed: u64) -> Result<Case, Untaken>
+    requires low { 1 ≤ rows }
+    requires high { rows ≤ 100 }
+    ensures generated { IsTaken (Ok (trial_of rows seed)) result }
+    ensures no_read { IsErrOf result Untaken.Read → ⊥ }
+{
+    match obs_trial::make(alloc, rows, seed) {
+        Ok(case) => Ok(case),
+        Err(_) => Err(Untaken::NoMemory),
+    }
+}
+
 // The case that the contents of a form's files are.
 fn read_form(alloc: Global, form: Form, contents: &[Vec<u8>]) -> Result<Case, Untaken>
+    requires rows { HasRows form }
     requires count { length contents.now ≡ length (words_of form) }
     requires short { All (λ bytes. vec_len bytes ≤ most_file_bytes) contents.now }
     ensures read { (file : ℕ → List ℕ)
@@ -151,17 +166,57 @@ fn read_form(alloc: Global, form: Form, contents: &[Vec<u8>]) -> Result<Case, Un
             let offered = &contents[contents.len() - 1];
             read_case(alloc, from, contents, Some(offered))
         }
+        Form::Verify(from) => read_case(alloc, from, contents, None),
+        Form::VerifyWith(from) => {
+            let beside = &contents[contents.len() - 2];
+            read_case(alloc, from, contents, Some(beside))
+        }
+        Form::Trial { rows, seed } => generate(alloc, rows, seed),
     }
 }
 
-/// The case that the files of a form are. All are read before the first is parsed.
-pub(crate) fn take_case<F: Files>(alloc: Global, files: &mut F, form: Form) -> Result<Case, Untaken>
-    ensures stated { (file : ℕ → List ℕ) → AreFiles (Some form) (F.content files.old) file → IsTaken (case_in_files form file) result }
+// Whether a form takes a certificate.
+fn is_verify(form: Form) -> bool
+    ensures is { result ≡ takes_certificate form }
+{
+    match form {
+        Form::Verify(_) | Form::VerifyWith(_) => true,
+        _ => false,
+    }
+}
+
+// The bytes of the certificate, which is the last file; none of a form that takes none.
+fn certificate_of(alloc: Global, form: Form, mut contents: Vec<Vec<u8>>) -> Vec<u8>
+    requires count { vec_len contents ≡ length (words_of form) }
+    requires short { All (λ bytes. vec_len bytes ≤ most_file_bytes) contents.items }
+    ensures certificate { (file : ℕ → List ℕ) → bytes_of contents.items ≡ map file (words_of form) → result.items ≡ certificate_in form file }
+    ensures short { vec_len result ≤ most_file_bytes }
+{
+    if !is_verify(form) {
+        return Vec::new(alloc);
+    }
+    match contents.pop() {
+        Some(bytes) => bytes,
+        None => Vec::new(alloc),
+    }
+}
+
+/// The case that the files of a form are, and the certificate. All are read before the first is parsed.
+pub(crate) fn take_case<F: Files>(
+    alloc: Global,
+    files: &mut F,
+    form: Form,
+) -> Result<Taken, Untaken>
+    requires rows { HasRows form }
+    ensures stated { (file : ℕ → List ℕ) → AreFiles (Some form) (F.content files.old) file → IsOfFiles form file result }
+    ensures short { IfOk result (λ taken. vec_len taken.certificate ≤ most_file_bytes) }
     ensures read { IsErrOf result Untaken.Read
         → ReadFailed (file_words (Some form)) (F.content files.old) (F.faults files.old) (F.faults files.new) }
     ensures quiet { (IsErrOf result Untaken.Read → ⊥) → (w : ℕ) → F.faults files.new w ≡ F.faults files.old w }
     ensures steady { ((w : ℕ) → IsFileWord (Some form) w → F.steady files.old w) → IsErrOf result Untaken.Read → ⊥ }
 {
     let contents = take_files(alloc, files, file_words(form), parts(form))?;
-    read_form(alloc, form, &contents)
+    let case = read_form(alloc, form, &contents)?;
+    let certificate = certificate_of(alloc, form, contents);
+    Ok(Taken { case, certificate })
 }

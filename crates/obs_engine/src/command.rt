@@ -1,6 +1,8 @@
 // Commands: their files are taken and refused, or the case that they are is answered.
-ghost use Rattle.std.specs.Prelude.{◌≡◌, Some};
-ghost use Rattle.obs_engine.specs.Forms.{TakesInput};
+ghost use Rattle.std.specs.Prelude.{◌≡◌, ◌≤◌, ℕ, Some, length};
+ghost use Rattle.obs_text.specs.Limits.{most_file_bytes};
+ghost use Rattle.obs_engine.specs.Forms.{HasRows, TakesInput};
+ghost use Rattle.obs_engine.specs.Trials.{AreInService};
 ghost use Rattle.obs_engine.specs.Runs.{IsAnswered, IsRun};
 
 use crate::cases::take_case;
@@ -8,21 +10,26 @@ use crate::refused::refuse_files;
 use crate::status::Status;
 use crate::tasks::{Task, begin_task};
 use crate::topology::answer_topology;
+use crate::verify::answer_verify;
 use crate::words::Form;
 use obs_case::Case;
 use obs_io::{Files, Sink, Source};
 use obs_script::Ask;
 use std::alloc::Global;
 
-// Answers a case, and in a session the lines of the input.
+// Answers a case: in a session the lines of the input, and where a certificate is checked its claims.
 fn answer_case<S: Source, W: Sink>(
     alloc: Global,
     form: Form,
     case: Case,
+    certificate: &[u8],
     input: &mut S,
     output: &mut W,
 ) -> Status
-    ensures answered { IsAnswered S.left S.faults S.steady W.written W.faults W.has_room form case input.old input.new output.old output.new result }
+    requires few { length certificate.now ≤ most_file_bytes }
+    requires inservice { (rows seed : ℕ) → form ≡ Form.Trial rows seed → AreInService case }
+    ensures answered { IsAnswered S.left S.faults S.steady W.written W.faults W.has_room form case certificate.now
+        input.old input.new output.old output.new result }
     ensures input { (TakesInput (Some form) → ⊥) → input.new ≡ input.old }
 {
     match form {
@@ -37,6 +44,12 @@ fn answer_case<S: Source, W: Sink>(
         }
         Form::Session(_) => begin_task(alloc, case, false, Task::Lines, input, output),
         Form::SessionWith(_) => begin_task(alloc, case, true, Task::Lines, input, output),
+        Form::Verify(_) => answer_verify(alloc, output, &case, certificate),
+        Form::VerifyWith(_) => answer_verify(alloc, output, &case, certificate),
+        Form::Trial { rows, seed } => {
+            let task = Task::Trial { rows, seed };
+            begin_task(alloc, case, false, task, input, output)
+        }
     }
 }
 
@@ -48,12 +61,13 @@ pub(crate) fn command<F: Files, S: Source, W: Sink>(
     input: &mut S,
     output: &mut W,
 ) -> Status
+    requires rows { HasRows form }
     ensures ran { IsRun F.content F.faults F.steady S.left S.faults S.steady W.written W.faults W.has_room (Some form)
         files.old files.new input.old input.new output.old output.new result }
     ensures input { (TakesInput (Some form) → ⊥) → input.new ≡ input.old }
 {
     match take_case(alloc, files, form) {
-        Ok(case) => answer_case(alloc, form, case, input, output),
+        Ok(taken) => { answer_case(alloc, form, taken.case, &taken.certificate, input, output) }
         Err(why) => refuse_files(output, why),
     }
 }

@@ -1,5 +1,5 @@
 // The laws of what is stated: of cases, words, and the lines of a report.
-ghost use Rattle.std.specs.Prelude.{◌≡◌, ◌↔◌, ◌+◌, ◌<◌, ◌≤◌, ◌==◌, ℕ, Bool, true, List, length, filter, Some, codes};
+ghost use Rattle.std.specs.Prelude.{◌≡◌, ◌↔◌, ◌+◌, ◌<◌, ◌≤◌, ◌==◌, ℕ, Bool, true, List, length, filter, Some, Ok, codes};
 ghost use Rattle.obs_case.specs.Tables.{IsValid, Tables};
 ghost use Rattle.obs_matroid.specs.Lists.{In};
 ghost use Rattle.obs_matroid.specs.Assignments.{Pair};
@@ -8,11 +8,15 @@ ghost use Rattle.obs_exchange.specs.Critical.{IsCriticalAt};
 ghost use Rattle.obs_network.specs.Components.{need_of};
 ghost use Rattle.obs_network.specs.Network.{case_branches, case_component_count, case_meters, case_needed, case_sizes};
 ghost use Rattle.obs_network.specs.Observable.{IsObservable, IsObservableCase, branch_component, case_live_meters, is_fed};
+ghost use Rattle.obs_cert.specs.Claims.{Claim};
+ghost use Rattle.obs_cert.specs.Read.{claims_of};
+ghost use Rattle.obs_engine.specs.Verify.{AllHold, verify_reply};
 ghost use Rattle.obs_engine.specs.declared.status.Status.TheVariants.{Done, Short};
 ghost use Rattle.obs_engine.specs.declared.words.Form.{Form};
 ghost use Rattle.obs_engine.specs.Words.{form_of};
 ghost use Rattle.obs_report.specs.Counts.{verdict_word};
 ghost use Rattle.obs_engine.specs.Asks.{report_status};
+ghost use Rattle.obs_engine.specs.Trials.{dip_meters, dips_of};
 ghost use Rattle.obs_engine.specs.Laws.{CasesAreValid, EditsAloneChange, EndedOrLast, IsAnswerTo, IsFormOf, ListsNonCritical, OrderIsForgotten, ReportsAsTheCommand};
 ghost use Rattle.obs_edit.specs.Answers.{bound_outside, bound_rank, case_critical_meters, case_rank, component_meters, short_components};
 
@@ -30,6 +34,15 @@ pub fn rank_is_greatest()
 pub fn status_is_observability()
     ensures done { (t : Tables) → IsValid t → (report_status t ≡ Done) ↔ IsObservableCase t }
     ensures short { (t : Tables) → IsValid t → (report_status t ≡ Short) ↔ (IsObservableCase t → ⊥) }
+{}
+
+/// A certificate has the good status exactly where it is claims that all hold of the case, and the one that says that
+/// something falls short exactly where it is claims that don't all hold.
+pub fn status_is_validity()
+    ensures done { (t : Tables) (bytes : List ℕ) → ((verify_reply t bytes).status ≡ Done)
+        ↔ ((claims : List Claim) × (claims_of bytes ≡ Ok claims) × AllHold t claims) }
+    ensures short { (t : Tables) (bytes : List ℕ) → ((verify_reply t bytes).status ≡ Short)
+        ↔ ((claims : List Claim) × (claims_of bytes ≡ Ok claims) × (AllHold t claims → ⊥)) }
 {}
 
 /// The printed verdict is the word `observable` exactly where the case is observable, and else the word `short`.
@@ -96,4 +109,10 @@ pub fn the_order_of_edits_is_forgotten()
 /// The lines of an input are those that end within it, and a last one where bytes are left.
 pub fn lines_end_or_are_last()
     ensures lines { (bytes : List ℕ) → EndedOrLast bytes }
+{}
+
+/// The dips of a trial are exactly the critical meters of its case.
+pub fn dips_are_critical_meters()
+    ensures meters { (t : Tables) → dip_meters t ≡ case_critical_meters t }
+    ensures number { (t : Tables) → dips_of t ≡ length (case_critical_meters t) }
 {}

@@ -29,6 +29,12 @@ mod tasks;
 #[cfg(test)]
 mod tests;
 mod topology;
+mod trial;
+#[cfg(test)]
+mod trial_tests;
+mod verify;
+#[cfg(test)]
+mod verify_tests;
 mod words;
 
 pub use program::run;

@@ -3,7 +3,7 @@ ghost use Rattle.std.specs.Prelude.{◌≡◌, ◌≢◌, ◌+◌, ◌⊎◌, �
 ghost use Rattle.obs_case.specs.Tables.{Tables};
 ghost use Rattle.obs_io.specs.Causes.{Rose};
 ghost use Rattle.obs_text.specs.Faults.{fault_of};
-ghost use Rattle.obs_engine.specs.Replies.{EndsWith, IsReplied, Reply, fault_reply, reply_to, usage_reply};
+ghost use Rattle.obs_engine.specs.Replies.{EndsWith, IsRefused, IsReplied, Reply, fault_reply, usage_reply};
 ghost use Rattle.obs_engine.specs.Taken.{IsUntaken};
 
 use crate::status::Status;
@@ -27,8 +27,8 @@ pub(crate) fn refuse_words<W: Sink>(output: &mut W) -> Status
     }
 }
 
-// Answers files that have this fault, which is the first one.
-fn refuse<W: Sink>(output: &mut W, fault: InputFault) -> Status
+/// Answers files that have this fault, which is the first one.
+pub(crate) fn refuse<W: Sink>(output: &mut W, fault: InputFault) -> Status
     ensures replied { IsReplied W.written W.faults W.has_room output.old output.new result (fault_reply (fault_of fault)) }
 {
     let place = u64::from(fault.place);
@@ -40,8 +40,8 @@ fn refuse<W: Sink>(output: &mut W, fault: InputFault) -> Status
 
 /// Answers files from which nothing was taken. After a failed read, and for want of memory, nothing is written.
 pub(crate) fn refuse_files<W: Sink>(output: &mut W, why: Untaken) -> Status
-    ensures ends { (stated : Result Tables Reply) (answered : Tables → Reply) → IsUntaken stated why
-        → EndsWith (reply_to answered stated) result (W.written output.old) (W.written output.new) }
+    ensures ends { (stated : Result Tables Reply) (reply : Reply) → IsUntaken stated why → IsRefused stated reply
+        → EndsWith reply result (W.written output.old) (W.written output.new) }
     ensures statuses { (result ≡ Status.InputFault) ⊎ (result ≡ Status.ReadFault) ⊎ (result ≡ Status.WriteFault) ⊎ (result ≡ Status.NoMemory) }
     ensures read { result ≡ Status.ReadFault → why ≡ Untaken.Read }
     ensures unanswered { why ≡ Untaken.Read → result ≡ Status.ReadFault }
@@ -49,8 +49,8 @@ pub(crate) fn refuse_files<W: Sink>(output: &mut W, why: Untaken) -> Status
     ensures quiet { result ≢ Status.WriteFault → W.faults output.new ≡ W.faults output.old }
     ensures memory { result ≡ Status.NoMemory → W.written output.new ≡ W.written output.old }
     ensures unread { result ≡ Status.ReadFault → W.written output.new ≡ W.written output.old }
-    ensures room { (stated : Result Tables Reply) (answered : Tables → Reply) (rest : ℕ) → IsUntaken stated why
-        → W.has_room output.old (length (reply_to answered stated).text + rest) → result ≢ Status.WriteFault }
+    ensures room { (stated : Result Tables Reply) (reply : Reply) (rest : ℕ) → IsUntaken stated why → IsRefused stated reply
+        → W.has_room output.old (length reply.text + rest) → result ≢ Status.WriteFault }
 {
     match why {
         Untaken::Refused(fault) => refuse(output, fault),

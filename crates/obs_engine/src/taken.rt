@@ -1,5 +1,15 @@
-// Why no case was taken from files.
+// What was taken from files, or why nothing was.
+use obs_case::Case;
 use obs_text::InputFault;
+
+/// What was taken from the files of a form.
+#[derive(Drop)]
+pub(crate) struct Taken {
+    /// The case that they are.
+    pub(crate) case: Case,
+    /// The bytes of the certificate, where the form takes one.
+    pub(crate) certificate: Vec<u8>,
+}
 
 /// Why nothing was taken from files.
 #[derive(Clone, Copy, Debug)]

@@ -1,11 +1,13 @@
 // What a session is begun for. One function begins sessions, since each that owns one takes minutes to prove.
-ghost use Rattle.std.specs.Prelude.{◌≡◌, ◌<◌, true};
+ghost use Rattle.std.specs.Prelude.{◌≡◌, ◌<◌, ℕ, true};
 ghost use Rattle.obs_script.specs.declared.command.Ask.TheVariants.{Place};
 ghost use Rattle.obs_engine.specs.Tasks.{IsTaskDone};
+ghost use Rattle.obs_engine.specs.Trials.{AreInService};
 
 use crate::answers::answer_session;
 use crate::input::answer_lines;
 use crate::status::Status;
+use crate::trial::answer_trial;
 use obs_assign::Steps;
 use obs_case::Case;
 use obs_edit::Session;
@@ -15,11 +17,12 @@ use std::alloc::Global;
 use std::marker::Brand;
 use std::sync::ledger::{Blank, Ledger};
 
-/// What a session is begun for: the answer to one ask, or the answers to the lines of the input.
+/// What a session is begun for: the answer to one ask, the answers to the lines of the input, or the trial of a generated case.
 #[derive(Clone, Copy, Debug, PartialEq, Eq)]
 pub(crate) enum Task {
     Answer(Ask),
     Lines,
+    Trial { rows: u32, seed: u64 },
 }
 
 // Does what a session was begun for.
@@ -31,12 +34,14 @@ fn do_task<S: Source, W: Sink, L: Ledger>(
     steps: &mut Steps<L>,
 ) -> Status
     requires offered { task ≡ Task.Answer Place → session.old.offered ≡ true }
+    requires inservice { (rows seed : ℕ) → task ≡ Task.Trial rows seed → AreInService session.old.tables }
     ensures done { IsTaskDone S.left S.faults S.steady W.written W.faults W.has_room task
         session.old.offered session.old.tables input.old input.new output.old output.new result }
 {
     match task {
         Task::Answer(ask) => answer_session(output, session, ask, steps),
         Task::Lines => answer_lines(session, input, output, steps),
+        Task::Trial { rows, seed } => answer_trial(output, session, rows, seed, steps),
     }
 }
 
@@ -55,6 +60,7 @@ fn do_counted<S: Source, W: Sink, L: Ledger>(
     requires parts { blank.parts ≡ L.parts }
     requires some { 0 < L.parts }
     requires offered { task ≡ Task.Answer Place → offered ≡ true }
+    requires inservice { (rows seed : ℕ) → task ≡ Task.Trial rows seed → AreInService case }
     ensures done { IsTaskDone S.left S.faults S.steady W.written W.faults W.has_room task
         offered case input.old input.new output.old output.new result }
 {
@@ -66,7 +72,7 @@ fn do_counted<S: Source, W: Sink, L: Ledger>(
 }
 
 /// Begins a session with a case, which was given with candidates or without, and does what it is begun for. The placement is
-/// asked for only with candidates.
+/// asked for only with candidates, and a trial only where each meter is in service.
 pub(crate) fn begin_task<S: Source, W: Sink>(
     alloc: Global,
     case: Case,
@@ -76,6 +82,7 @@ pub(crate) fn begin_task<S: Source, W: Sink>(
     output: &mut W,
 ) -> Status
     requires offered { task ≡ Task.Answer Place → offered ≡ true }
+    requires inservice { (rows seed : ℕ) → task ≡ Task.Trial rows seed → AreInService case }
     ensures done { IsTaskDone S.left S.faults S.steady W.written W.faults W.has_room task
         offered case input.old input.new output.old output.new result }
 {

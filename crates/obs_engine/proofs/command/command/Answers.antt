@@ -1,13 +1,18 @@
-use Rattle.std.proofs.Common.{ap, Err, inl, inr, refl, Some}
-use Rattle.obs_engine.specs.Commands.{case_reply, files_reply}
+use Rattle.std.proofs.Common.{◌∙◌, ap, sym, Err, inl, inr, refl, Some}
+use Rattle.obs_engine.specs.Commands.{IsCaseReply}
+use Rattle.obs_engine.specs.Files.{case_in_files, certificate_in}
 use Rattle.obs_engine.proofs.Commanded.{answered_ran, nothing_taken}
 use Rattle.obs_engine.proofs.Endings.{behind_of, complete_stated, ends_stated}
-use Rattle.obs_engine.proofs.Replied.{nothing_before, stated_no_failure}
+use Rattle.obs_engine.proofs.Replied.{nothing_before, refused_reply, stated_no_failure, stated_reply}
 use Rattle.obs_engine.proofs.Taking.{ok_not_read, read_is}
+use Rattle.obs_engine.proofs.Generated.{generated_in_service}
 use Rattle.obs_engine.proofs.command.command.Goals as goal
 
+pub answer_case-requires-clause-inservice : goal.answer_case-requires-clause-inservice
+answer_case-requires-clause-inservice g c = generated_in_service (g.F.Files.content c.args.files.now) c.args.form c.in-Ok.taken.case c.in-Ok.taken.certificate.items c.in-Ok.ensures.stated
+
 pub returns-in-Ok-clause-ran : goal.returns-in-Ok-clause-ran
-returns-in-Ok-clause-ran g c = answered_ran c.in-Ok.case c.in-Ok.ensures.stated (c.in-Ok.ensures.quiet (ok_not_read _)) c.answer_case.ensures.answered
+returns-in-Ok-clause-ran g c = answered_ran c.in-Ok.taken.case c.deref.result.now (λ file told. let here = c.in-Ok.ensures.stated file told in (here.0, here.1 ∙ sym c.deref.ensures.value)) (c.in-Ok.ensures.quiet (ok_not_read _)) c.answer_case.ensures.answered
 
 pub returns-in-Err-clause-ran : goal.returns-in-Err-clause-ran
 returns-in-Err-clause-ran g c =
@@ -17,14 +22,15 @@ returns-in-Err-clause-ran g c =
     let taken = c.in-Err.ensures in
     record {
       stated = λ told tells.
-          ends_stated (Some form) told left (files_reply form told.input told.file) _ _ _ refl (stated_no_failure form told)
-          (behind_of _ _ _ _ _ (nothing_before form told left tells.input) (refused.ends _ (case_reply form told.input) (taken.stated told.file tells.files)));
+          let s = stated_reply form told in
+          ends_stated (Some form) told left s.0 _ _ _ s.1 (stated_no_failure form told s.0 s.1)
+          (behind_of _ _ _ _ _ (nothing_before form told left tells.input) (refused.ends _ s.0 (taken.stated told.file tells.files) (refused_reply (IsCaseReply form told.input (certificate_in form told.file)) (case_in_files form told.file) s.0 s.1)));
       complete = λ told tells files input has.
-          let whole = files_reply form told.input told.file in
-          let fits = has whole refl in
-          complete_stated (Some form) told whole _ _ _ refl (λ e. taken.steady files (ap Err (refused.read e)))
-          (refused.room _ (case_reply form told.input) fits.0 (taken.stated told.file tells.files) fits.1)
-          _ (behind_of _ _ _ _ _ (nothing_before form told left tells.input) (refused.ends _ (case_reply form told.input) (taken.stated told.file tells.files)));
+          let s = stated_reply form told in
+          let fits = has s.0 s.1 in
+          complete_stated (Some form) told s.0 _ _ _ s.1 (λ e. taken.steady files (ap Err (refused.read e)))
+          (refused.room _ s.0 fits.0 (taken.stated told.file tells.files) (refused_reply (IsCaseReply form told.input (certificate_in form told.file)) (case_in_files form told.file) s.0 s.1) fits.1)
+          _ (behind_of _ _ _ _ _ (nothing_before form told left tells.input) (refused.ends _ s.0 (taken.stated told.file tells.files) (refused_reply (IsCaseReply form told.input (certificate_in form told.file)) (case_in_files form told.file) s.0 s.1)));
       statuses = inr refused.statuses;
       read = λ e. inl (taken.read (ap Err (refused.read e)));
       write = refused.write;

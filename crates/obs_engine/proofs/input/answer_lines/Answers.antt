@@ -1,4 +1,4 @@
-use Rattle.std.proofs.Common.{◌∙◌, ap, arith, take, refl}
+use Rattle.std.proofs.Common.{◌∙◌, arith, take, refl}
 use Rattle.obs_engine.proofs.Going.{ends_badly, ends_well, goes_on, read_failed, stops, too_long}
 use Rattle.obs_engine.proofs.input.answer_lines.Goals as goal
 

@@ -1,5 +1,5 @@
 use Rattle.std.proofs.Common.{◌≡◌, ◌∙◌, ap, List, sym, Result, false, ℕ}
-use Rattle.obs_script.specs.Gathered.{Holds, content_of, is_comment}
+use Rattle.obs_script.specs.Gathered.{content_of, is_comment}
 use Rattle.obs_edit.specs.declared.edit.Meant.{Meant}
 use Rattle.obs_edit.specs.declared.edit.Refusal.{Refusal}
 use Rattle.obs_edit.specs.Lines.{meant_of}

@@ -1,5 +1,11 @@
+use Rattle.std.proofs.Common.{subst, sym}
+use Rattle.obs_case.specs.Tables.{Tables}
+use Rattle.obs_engine.specs.Trials.{AreInService}
 use Rattle.obs_engine.proofs.Begun.{task_begun, task_without_memory}
 use Rattle.obs_engine.proofs.tasks.do_counted.Goals as goal
+
+pub do_task-requires-clause-inservice : goal.do_task-requires-clause-inservice
+do_task-requires-clause-inservice g c = λ rows seed e. subst (λ (t : Tables). AreInService t) (sym c.in-Ok.ensures.case) (c.requires.inservice rows seed e)
 
 pub returns-in_default : goal.returns-in_default
 returns-in_default g c = record {
