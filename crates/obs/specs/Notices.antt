@@ -1,0 +1,39 @@
+-- What is said on standard error: where no answer was given or not the whole one, what happened and what to do.
+use Rattle.std.specs.Prelude.{ℕ, ◌<◌, nat_lt, List, [], ◌++◌, codes, Option, None, Some, position, slice_index, slice_index_or}
+use Rattle.obs_engine.specs.declared.status.Status.{Status}
+use Rattle.obs_engine.specs.declared.status.Status.TheVariants.{Done, Short, Usage, InputFault, ReadFault, WriteFault, NoMemory, SessionTooLong}
+use Rattle.obs_io.specs.Causes.{Rose}
+
+-- the first word whose count of failed reads isn't 0
+abbrev pub failed_word : List ℕ → Option ℕ
+failed_word counts = position (λ count. nat_lt 0 count) counts
+
+-- of a read that failed: the file, or the input where no file is named
+abbrev pub read_notice : List (List ℕ) → Option ℕ → List ℕ
+read_notice words None = codes "obs: the standard input could not be read. The lines that had ended before were answered.\n"
+read_notice words (Some word) =
+    codes "obs: this file could not be read: " ++ (slice_index_or words word []
+    ++ codes "\nobs: is it spelt right, and may you read it? It must be a plain file, no folder or pipe: it is opened more than once.\n")
+
+-- all that is said of a run with this status, where a read of the file of this word failed. Of a whole answer nothing is said
+abbrev pub notice : List (List ℕ) → Status → Option ℕ → List ℕ
+notice words Done failed = []
+notice words Short failed = []
+notice words Usage failed =
+    codes "obs: these words are none of: topology N S, report FORM, place FORM CAND, session FORM, verify FORM CERT, trial N SEED.\n"
+    ++ codes "obs: FORM is: tables N S B M, or cdf C M, or matpower C M; session and verify also take FORM with CAND. Names of files are UTF-8.\n"
+notice words InputFault failed =
+    codes "obs: a file has a fault. The line on standard output has its part, row, code and name; docs/GUIDE.md has likely causes.\n"
+    ++ codes "obs: of a table row 0 is the header and row k line k + 1 of a spreadsheet, empty lines not counted; of other files it is the line.\n"
+notice words ReadFault failed = read_notice words failed
+notice words WriteFault failed =
+    codes "obs: the answer could not be written whole: at most a front of it was. Is the disk full, or did the reader stop, as head does?\n"
+notice words NoMemory failed = codes "obs: there was no memory, and nothing was written. Allow more (see ulimit -v), or give a smaller case.\n"
+notice words SessionTooLong failed =
+    codes "obs: the session's input has more than 16,777,216 bytes. Only the lines that ended within these were answered.\n"
+    ++ codes "obs: begin a new session for the rest, and repeat the edits that are to hold there.\n"
+
+-- the word is one of whose file a read failed; where there is none, a read of the input failed
+abbrev pub NamesFailure : List ℕ → ℕ → ℕ → Option ℕ → Type 0
+NamesFailure counts before now (Some word) = 0 < slice_index counts word
+NamesFailure counts before now None = Rose before now

@@ -1,0 +1,40 @@
+// A run, and what is said of it on standard error.
+ghost use Rattle.std.specs.Prelude.{◌≡◌, ◌+◌, ◌<◌, ℕ, length, map, slice_index, string_bytes};
+ghost use Rattle.obs_engine.specs.Runs.{IsRun};
+ghost use Rattle.obs_engine.specs.Words.{form_of};
+ghost use Rattle.obs_io.specs.Bytes.{Wrote, WrotePart};
+ghost use Rattle.obs.specs.Notices.{NamesFailure, failed_word, notice};
+
+use crate::noted::Noted;
+use crate::notice::say;
+use obs_engine::{Status, run};
+use obs_io::{Files, Sink, Source};
+use std::alloc::Global;
+
+/// Runs the words, and says on `errors` what happened where no answer was given or not the whole one. What is said, or
+/// that it could not be said, changes nothing of the run.
+pub(crate) fn serve<F: Files, S: Source, W: Sink, E: Sink>(
+    alloc: Global,
+    words: &[String],
+    files: &mut Noted<F>,
+    input: &mut S,
+    output: &mut W,
+    errors: &mut E,
+) -> Status
+    requires fresh { (w : ℕ) → slice_index files.old.faults w ≡ 0 }
+    // it is a run of the words, whatever becomes of what is said
+    ensures ran { IsRun ⟦<Noted<F> as Files>⟧.content ⟦<Noted<F> as Files>⟧.faults ⟦<Noted<F> as Files>⟧.steady S.left S.faults S.steady
+        W.written W.faults W.has_room (form_of (map string_bytes words.now)) files.old files.new input.old input.new output.old output.new result }
+    // a front of the notice is said, and all of it where there is room
+    ensures says { WrotePart (E.written errors.old) (E.written errors.new)
+        (notice (map string_bytes words.now) result (failed_word files.new.faults)) }
+    ensures whole { (rest : ℕ) → E.has_room errors.old (length (notice (map string_bytes words.now) result (failed_word files.new.faults)) + rest)
+        → Wrote (E.written errors.old) (E.written errors.new) (notice (map string_bytes words.now) result (failed_word files.new.faults)) }
+    // after a failed read the named word is one of whose file a read failed, and none is named only where one of the input failed
+    ensures named { result ≡ Status.ReadFault
+        → NamesFailure files.new.faults (S.faults input.old) (S.faults input.new) (failed_word files.new.faults) }
+{
+    let status = run(alloc, words, files, input, output);
+    let _said = say(errors, words, status, files.failed());
+    status
+}
