@@ -29,7 +29,6 @@ use Rattle.obs_engine.specs.Forms.{HasRows}
 use Rattle.obs_engine.specs.Laws.{CasesAreValid}
 use Rattle.obs_engine.specs.Replies.{Reply}
 use Rattle.obs_engine.specs.Words.{parts_of, words_of, words_with}
-use Rattle.obs_engine.proofs.Worded.{rows_of}
 
 -- a case, where there is one, is valid
 abbrev HoldsValid : Result Tables Reply → Type 0
@@ -83,4 +82,4 @@ in_files : (form : Form) (file : ℕ → List ℕ) → HasRows form → HoldsVal
 in_files form file some = unless (first_too_long (parts_of form) file (words_of form)) (parsed form file) (in_form form file some)
 
 pub CasesAreValid-holds : CasesAreValid
-CasesAreValid-holds words form file t is e = subst HoldsValid e (in_files form file (rows_of words form is))
+CasesAreValid-holds form file t some e = subst HoldsValid e (in_files form file some)

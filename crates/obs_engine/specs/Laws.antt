@@ -9,8 +9,9 @@ use Rattle.obs_engine.specs.declared.words.CaseForm.{CaseForm}
 use Rattle.obs_engine.specs.declared.words.Form.{Form}
 use Rattle.obs_engine.specs.declared.words.Form.TheVariants.{Topology, Report, Place, Session, SessionWith, Verify, VerifyWith, Trial}
 use Rattle.obs_engine.specs.Files.{case_in_files}
+use Rattle.obs_engine.specs.Forms.{HasRows}
 use Rattle.obs_engine.specs.Replies.{Reply}
-use Rattle.obs_engine.specs.Words.{case_parts, case_word, form_of}
+use Rattle.obs_engine.specs.Words.{case_parts, case_word}
 use Rattle.obs_network.specs.Network.{case_needed}
 use Rattle.obs_report.specs.Lines.{ok_line, refused_line}
 use Rattle.obs_script.specs.declared.command.Ask.{Ask}
@@ -34,10 +35,9 @@ ListsNonCritical =
     In m (bound_meters t c)
     ↔ (In m (case_live_meters t) × (item_component t (case_meters t) m ≡ c) × (IsCriticalAt (case_branches t) (case_meters t) (case_live_meters t) m → ⊥))
 
--- the case that the files of a form of words are is valid: what the other laws ask of a case
+-- the case that the files of a form are is valid: what the other laws ask of a case. A trial has no files, but its rows
 abbrev pub CasesAreValid : Type 0
-CasesAreValid =
-    (words : List (List ℕ)) (form : Form) (file : ℕ → List ℕ) (t : Tables) → form_of words ≡ Some form → case_in_files form file ≡ Ok t → IsValid t
+CasesAreValid = (form : Form) (file : ℕ → List ℕ) (t : Tables) → HasRows form → case_in_files form file ≡ Ok t → IsValid t
 
 -- the words have this form: a command's word, where it takes a case the word of the case's form, and then a word for each file; of a
 -- trial two numbers

@@ -13,6 +13,7 @@ ghost use Rattle.obs_cert.specs.Read.{claims_of};
 ghost use Rattle.obs_engine.specs.Verify.{AllHold, verify_reply};
 ghost use Rattle.obs_engine.specs.declared.status.Status.TheVariants.{Done, Short};
 ghost use Rattle.obs_engine.specs.declared.words.Form.{Form};
+ghost use Rattle.obs_engine.specs.Forms.{HasRows};
 ghost use Rattle.obs_engine.specs.Words.{form_of};
 ghost use Rattle.obs_report.specs.Counts.{verdict_word};
 ghost use Rattle.obs_engine.specs.Asks.{report_status};
@@ -20,9 +21,10 @@ ghost use Rattle.obs_engine.specs.Trials.{dip_meters, dips_of};
 ghost use Rattle.obs_engine.specs.Laws.{CasesAreValid, EditsAloneChange, EndedOrLast, IsAnswerTo, IsFormOf, ListsNonCritical, OrderIsForgotten, ReportsAsTheCommand};
 ghost use Rattle.obs_edit.specs.Answers.{bound_outside, bound_rank, case_critical_meters, case_rank, component_meters, short_components};
 
-/// Every case that files are is valid. The other laws ask this of a case.
+/// Every case that files are is valid. The other laws ask this of a case. Words that are a trial's give it from 1 to 100 rows.
 pub fn cases_are_valid()
     ensures valid { CasesAreValid }
+    ensures rows { (words : List (List ℕ)) (form : Form) → form_of words ≡ Some form → HasRows form }
 {}
 
 /// The printed rank is the greatest length that an assignment of the live meters has.

@@ -7,9 +7,15 @@ mod blocks;
 mod cases;
 #[cfg(test)]
 mod cdf_tests;
+#[cfg(test)]
+mod certificate_tests;
 mod claims;
 mod command;
+#[cfg(test)]
+mod edit_tests;
 mod files;
+#[cfg(test)]
+mod grids;
 mod input;
 pub mod laws;
 mod lines;

@@ -358,6 +358,9 @@ fn other_words_get_the_usage_line(rt: HostRuntime) -> Result<(), Fail> {
         &["session", "tables", "n", "s", "b", "m", "c"],
         &["session", "cdf", "c", "m", "with"],
         &["session", "cdf", "c", "m", "With", "k"],
+        &["verify", "cdf", "c", "m"],
+        &["verify", "cdf", "c", "m", "with", "k"],
+        &["verify", "cdf", "c", "m", "k", "cert", "more"],
         &[],
     ];
     for words in forms {

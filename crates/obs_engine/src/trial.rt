@@ -1,5 +1,5 @@
 // What a trial says of a case: its counts, its islands, and what losing and regaining each of its meters comes to.
-ghost use Rattle.std.specs.Prelude.{◌≡◌, ◌<◌, ◌≤◌, ◌++◌, true, length, if◌then◌else◌};
+ghost use Rattle.std.specs.Prelude.{◌≡◌, ◌<◌, ◌≤◌, ◌+◌, ◌++◌, true, length, if◌then◌else◌};
 ghost use Rattle.obs_network.specs.Network.{network_of};
 ghost use Rattle.obs_network.specs.Switched.{case_bus_count};
 ghost use Rattle.obs_report.specs.Counts.{counts_text};
@@ -57,7 +57,7 @@ fn find_island_count<L: Ledger>(session: &mut Session, steps: &mut Steps<L>) -> 
     count_islands(session)
 }
 
-// Loses a meter and regains it. `first` is the rank at first.
+// Loses a meter and regains it. `first` is the rank at first. The searches that are told are those that the two edits took.
 fn turn_meter<L: Ledger>(session: &mut Session, at: u32, first: u32, steps: &mut Steps<L>) -> Turns
     requires meter { at < length session.old.tables.meters }
     requires inservice { AreInService session.old.tables }
@@ -66,6 +66,7 @@ fn turn_meter<L: Ledger>(session: &mut Session, at: u32, first: u32, steps: &mut
     ensures dips { result.dips ≡ (if is_dip session.old.tables at then 1 else 0) }
     ensures least { result.dips ≤ result.searches }
     ensures most { result.searches ≤ 2 }
+    ensures ticks { steps.new ≡ steps.old + result.searches }
 {
     let lost = session.set(
         Edit::Meter {
@@ -95,6 +96,7 @@ fn turn_meters<L: Ledger>(session: &mut Session, steps: &mut Steps<L>) -> Turns
     ensures dips { result.dips ≡ dips_of session.old.tables }
     ensures least { result.dips ≤ result.searches }
     ensures most { result.searches ≤ edits_of session.old.tables }
+    ensures ticks { steps.new ≡ steps.old + result.searches }
 {
     let first = session.state().rank;
     let count = session.present().meters().len() as u32;

@@ -1,7 +1,9 @@
 // What trials print.
 
 use crate::Status;
-use crate::tests::{Ended, answers, outcome};
+use crate::grids::{Grid, make_grid};
+use crate::tests::{Ended, answers, failing_writes, outcome, outcome_from};
+use obs_io::{Entry, MemSource};
 use obs_text::{lines, whole};
 use std::alloc::Global;
 use std::process::Abort;
@@ -67,11 +69,68 @@ fn other_numbers_are_no_trial(rt: HostRuntime) -> Result<(), Fail> {
 fn each_write_may_fail(rt: HostRuntime) -> Result<(), Fail> {
     let words = ["trial", "1", "0"];
     let whole = outcome(rt.alloc(), &words, &[], &[], &[])?;
-    for call in 0..10 {
-        let found = outcome(rt.alloc(), &words, &[], &[], &[call])?;
-        assert!(rt; found.status == Status::WriteFault);
-        assert!(rt; found.text.len() < whole.text.len());
-        assert!(rt; whole.text.as_slice().starts_with(&found.text));
+    let writes = failing_writes(&rt, rt.alloc(), &words, &[], &whole.text)?;
+    assert!(rt; writes >= 10);
+    Ok(())
+}
+
+// The session over a grid.
+fn session(alloc: Global, grid: &Grid) -> Result<Ended, Fail> {
+    let tables: [&[u8]; 4] = [
+        &grid.nodes,
+        b"switch,from,to,closed\n",
+        &grid.branches,
+        &grid.meters,
+    ];
+    let mut entries = Vec::new(alloc);
+    for (i, bytes) in tables.into_iter().enumerate() {
+        entries.push(Entry {
+            word: i.saturating_add(2),
+            bytes: Vec::from_slice(alloc, bytes)?,
+        })?;
     }
+    let mut input = MemSource::new(Vec::from_slice(alloc, &grid.input)?, 4096, Vec::new(alloc));
+    let words = ["session", "tables", "n", "s", "b", "m"];
+    outcome_from(alloc, &words, entries, &mut input, &[], &[])
+}
+
+// How many of a session's lines say a lower rank than at first. Each second line says that one again.
+fn count_dips(rt: &impl Abort, text: &[u8], rank: u64, edits: u64) -> Result<u64, Fail> {
+    let mut dips = 0_u64;
+    let mut count = 0_u64;
+    for line in lines(text) {
+        let rest = line.strip_prefix(b"ok\t".as_slice()).ok_or("no ok line")?;
+        let end = rest.iter().position(|byte| *byte == b'\t').ok_or("no tab")?;
+        let now = whole(rest.get(..end).ok_or("no rank")?).ok_or("no number")?;
+        if count % 2 == 1 {
+            assert!(rt; now == rank);
+        } else if now < rank {
+            dips = dips.wrapping_add(1);
+        }
+        count = count.wrapping_add(1);
+    }
+    assert!(rt; count == edits);
+    Ok(dips)
+}
+
+// A trial is what the session over its tables comes to. Thirty rows have 1,740 meters.
+#[test]
+fn a_trial_is_a_session(rt: HostRuntime) -> Result<(), Fail> {
+    let found = trial(rt.alloc(), "30", "1")?;
+    let text = found.text.as_slice();
+    assert!(rt; number_behind(text, b"count\tbuses\t")? == 900);
+    assert!(rt; number_behind(text, b"count\tbranches\t")? == 1740);
+    assert!(rt; number_behind(text, b"count\tmeters\t")? == 1740);
+    assert!(rt; number_behind(text, b"edits\t")? == 3480);
+    let searches = number_behind(text, b"searches\t")?;
+    let dips = number_behind(text, b"dips\t")?;
+    assert!(rt; dips <= searches && searches <= 3480);
+    let again = trial(rt.alloc(), "30", "1")?;
+    assert!(rt; again.text.as_slice() == text);
+    let grid = make_grid(rt.alloc(), 30, 1, 0)?;
+    let answered = session(rt.alloc(), &grid)?;
+    let rank = number_behind(text, b"count\trank\t")?;
+    assert!(rt; answered.status == found.status);
+    assert!(rt; count_dips(&rt, &answered.text, rank, 3480)? == dips);
     Ok(())
 }

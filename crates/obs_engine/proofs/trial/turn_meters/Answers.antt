@@ -15,6 +15,7 @@ loop-at-preserved g c =
       turned =
           turned_one (is_dip t) (length t.meters) c.loop-at.at c.loop-at.turns.dips c.loop-at.turns.searches c.turn_meter-turn.result.dips c.turn_meter-turn.result.searches c.loop-at.invariant.turned low
           (c.turn_meter-turn.ensures.dips ∙ ap (λ (x : Tables). if is_dip x c.loop-at.at then 1 else 0) same) c.turn_meter-turn.ensures.least c.turn_meter-turn.ensures.most;
+      ticks = omega (arith, c.loop-at.invariant.ticks, c.turn_meter-turn.ensures.ticks);
     }
 
 pub returns : goal.returns
@@ -22,4 +23,4 @@ returns g c =
     let t = c.args.session.now.tables in
     let past : length t.meters ≤ c.loop-at.at = omega (arith, c.loop-at-test.false, ap (λ xs. length xs) c.meters.ensures.rows, ap (λ (x : Tables). length x.meters) c.present.ensures.case) in
     let all = turned_all (is_dip t) (length t.meters) c.loop-at.at c.loop-at.turns.dips c.loop-at.turns.searches c.loop-at.invariant.turned past in
-    record { tables = c.loop-at.invariant.tables; dips = all.0 ∙ dips_are_counted t; least = all.1; most = all.2 }
+    record { tables = c.loop-at.invariant.tables; dips = all.0 ∙ dips_are_counted t; least = all.1; most = all.2; ticks = c.loop-at.invariant.ticks }

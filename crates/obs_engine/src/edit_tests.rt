@@ -1,0 +1,131 @@
+// Edits of each kind on a grid, forth and back, against sessions that begin anew.
+
+use crate::Status;
+use crate::grids::{Grid, make_grid};
+use crate::tests::{Ended, entries, outcome_from};
+use obs_io::MemSource;
+use obs_text::{Digits, lines};
+use std::alloc::Global;
+use std::process::Abort;
+use std::test::Fail;
+
+const SESSION: [&str; 6] = ["session", "tables", "n", "s", "b", "m"];
+
+// The words that turn a flag of a table and turn it back, and the letter before the numbers of its names.
+#[derive(Clone, Copy)]
+struct Words {
+    forth: &'static [u8],
+    back: &'static [u8],
+    letter: &'static [u8],
+}
+
+// The tables behind the nodes, in order.
+const TURNS: [Words; 3] = [
+    Words {
+        forth: b"close ",
+        back: b"open ",
+        letter: b"s",
+    },
+    Words {
+        forth: b"trip ",
+        back: b"restore ",
+        letter: b"b",
+    },
+    Words {
+        forth: b"lose ",
+        back: b"regain ",
+        letter: b"m",
+    },
+];
+
+fn session(alloc: Global, grid: &Grid, changed: [&[u8]; 3], input: &[u8]) -> Result<Ended, Fail> {
+    let [switches, branches, meters] = changed;
+    let files = [b"".as_slice(), &grid.nodes, switches, branches, meters];
+    let mut input = MemSource::new(Vec::from_slice(alloc, input)?, 4096, Vec::new(alloc));
+    outcome_from(
+        alloc,
+        &SESSION,
+        entries(alloc, &files)?,
+        &mut input,
+        &[],
+        &[],
+    )
+}
+
+// The table with the flag of a row turned. Each line ends with its flag.
+fn turned(alloc: Global, bytes: &[u8], row: usize) -> Result<Vec<u8>, Fail> {
+    let mut text = Vec::new(alloc);
+    for (i, line) in lines(bytes).enumerate() {
+        if i == row.saturating_add(1) {
+            let front = line
+                .strip_suffix(b"0".as_slice())
+                .or(line.strip_suffix(b"1".as_slice()))
+                .ok_or("no flag")?;
+            text.extend_from_slice(front)?;
+            text.extend_from_slice(if line.ends_with(b"0") { b"1" } else { b"0" })?;
+        } else {
+            text.extend_from_slice(line)?;
+        }
+        text.extend_from_slice(b"\n")?;
+    }
+    Ok(text)
+}
+
+fn turn(input: &mut Vec<u8>, word: &[u8], letter: &[u8], row: usize) -> Result<(), Fail> {
+    let mut digits = Digits::new();
+    input.extend_from_slice(word)?;
+    input.extend_from_slice(letter)?;
+    input.extend_from_slice(digits.text(row as u64))?;
+    input.extend_from_slice(b"\n")?;
+    Ok(())
+}
+
+// Each row's flag is turned and turned back in one session. Each answer is that of a session that begins with the tables as they
+// are then, to an edit that leaves them so.
+fn answers_as_anew(
+    rt: &impl Abort,
+    alloc: Global,
+    grid: &Grid,
+    table: usize,
+    rows: usize,
+) -> Result<(), Fail> {
+    let tables: [&[u8]; 3] = [&grid.switches, &grid.branches, &grid.meters];
+    let [switches, branches, meters] = tables;
+    let words = *TURNS.get(table).ok_or("no table")?;
+    let bytes = *tables.get(table).ok_or("no table")?;
+    let mut input = Vec::new(alloc);
+    for row in 0..rows {
+        turn(&mut input, words.forth, words.letter, row)?;
+        turn(&mut input, words.back, words.letter, row)?;
+    }
+    let found = session(alloc, grid, tables, &input)?;
+    let first = session(alloc, grid, tables, b"regain m0\n")?;
+    let mut answers = lines(&found.text);
+    for row in 0..rows {
+        let mut line = Vec::new(alloc);
+        turn(&mut line, words.forth, words.letter, row)?;
+        let now = turned(alloc, bytes, row)?;
+        let changed: [&[u8]; 3] = match table {
+            0 => [&now, branches, meters],
+            1 => [switches, &now, meters],
+            _ => [switches, branches, &now],
+        };
+        let anew = session(alloc, grid, changed, &line)?;
+        let forth = answers.next().ok_or("no answer")?;
+        let back = answers.next().ok_or("no answer")?;
+        assert!(rt; Some(forth) == lines(&anew.text).next());
+        assert!(rt; Some(back) == lines(&first.text).next());
+    }
+    assert!(rt; found.status == Status::Done || found.status == Status::Short);
+    assert!(rt; answers.next() == None);
+    Ok(())
+}
+
+// Ten rows of ten nodes have 180 branches and meters, and a switch at the head of each row.
+#[test]
+fn edits_are_as_a_new_session(rt: HostRuntime) -> Result<(), Fail> {
+    let grid = make_grid(rt.alloc(), 10, 3, 0)?;
+    answers_as_anew(&rt, rt.alloc(), &grid, 0, 10)?;
+    answers_as_anew(&rt, rt.alloc(), &grid, 1, 180)?;
+    answers_as_anew(&rt, rt.alloc(), &grid, 2, 180)
+}

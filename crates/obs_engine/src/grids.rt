@@ -1,0 +1,92 @@
+// The cases of trials, written as the trial is described: without the generator.
+
+use obs_text::Digits;
+use std::alloc::Global;
+use std::test::Fail;
+
+// The tables, and the lines of a session that loses and regains each meter. `drawn` is the number that draws change.
+#[derive(Drop)]
+pub(crate) struct Grid {
+    pub(crate) nodes: Vec<u8>,
+    // An open switch in each row, between its first two nodes. A trial has none.
+    pub(crate) switches: Vec<u8>,
+    pub(crate) branches: Vec<u8>,
+    pub(crate) meters: Vec<u8>,
+    // A flow meter for each branch, at prices from 0 to 3.
+    pub(crate) candidates: Vec<u8>,
+    pub(crate) input: Vec<u8>,
+    links: u64,
+    out: u64,
+    drawn: u64,
+}
+
+// A letter and a number behind it.
+fn put(bytes: &mut Vec<u8>, front: &[u8], number: u64, rest: &[u8]) -> Result<(), Fail> {
+    let mut digits = Digits::new();
+    bytes.extend_from_slice(front)?;
+    bytes.extend_from_slice(digits.text(number))?;
+    bytes.extend_from_slice(rest)?;
+    Ok(())
+}
+
+// A branch between two nodes, and its meter.
+fn link(grid: &mut Grid, from: u64, to: u64) -> Result<(), Fail> {
+    let at = grid.links;
+    put(&mut grid.branches, b"b", at, b",")?;
+    put(&mut grid.branches, b"n", from, b",")?;
+    put(&mut grid.branches, b"n", to, b",1\n")?;
+    grid.drawn = grid.drawn.wrapping_mul(1_103_515_245).wrapping_add(12345) % 2_147_483_648;
+    put(&mut grid.meters, b"m", at, b",")?;
+    let rest = if grid.out != 0 && at % grid.out == 0 {
+        b",0\n"
+    } else {
+        b",1\n"
+    };
+    let draw = grid.drawn / 65536;
+    if draw % 3 == 0 {
+        put(&mut grid.meters, b"flow,b", at, rest)?;
+    } else {
+        let end = if draw % 3 == 1 { from } else { to };
+        put(&mut grid.meters, b"injection,n", end, rest)?;
+    }
+    put(&mut grid.candidates, b"c", at, b",flow,b")?;
+    put(&mut grid.candidates, b"", at, b",")?;
+    put(&mut grid.candidates, b"", draw / 3 % 4, b"\n")?;
+    put(&mut grid.input, b"lose m", at, b"\n")?;
+    put(&mut grid.input, b"regain m", at, b"\n")?;
+    grid.links = at.wrapping_add(1);
+    Ok(())
+}
+
+// So many rows of as many nodes. Each meter whose number is a multiple of `out` is out of service; of 0 none is.
+pub(crate) fn make_grid(alloc: Global, rows: u64, seed: u64, out: u64) -> Result<Grid, Fail> {
+    let mut grid = Grid {
+        nodes: Vec::from_slice(alloc, b"node,source\n")?,
+        switches: Vec::from_slice(alloc, b"switch,from,to,closed\n")?,
+        branches: Vec::from_slice(alloc, b"branch,from,to,inservice\n")?,
+        candidates: Vec::from_slice(alloc, b"candidate,kind,at,price\n")?,
+        meters: Vec::from_slice(alloc, b"meter,kind,at,inservice\n")?,
+        input: Vec::new(alloc),
+        links: 0,
+        out,
+        drawn: seed % 2_147_483_648,
+    };
+    for row in 0..rows {
+        let head = row.wrapping_mul(rows);
+        put(&mut grid.switches, b"s", row, b",")?;
+        put(&mut grid.switches, b"n", head, b",")?;
+        put(&mut grid.switches, b"n", head.wrapping_add(1), b",0\n")?;
+        for column in 0..rows {
+            let at = head.wrapping_add(column);
+            let source = if at == 0 { b",1\n" } else { b",0\n" };
+            put(&mut grid.nodes, b"n", at, source)?;
+            if column.wrapping_add(1) < rows {
+                link(&mut grid, at, at.wrapping_add(1))?;
+            }
+            if row.wrapping_add(1) < rows {
+                link(&mut grid, at, at.wrapping_add(rows))?;
+            }
+        }
+    }
+    Ok(grid)
+}
