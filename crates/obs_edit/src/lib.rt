@@ -15,8 +15,6 @@ pub mod laws;
 mod lines;
 mod memory;
 mod pairing;
-#[cfg(test)]
-mod place_tests;
 mod placing;
 mod repair;
 mod seen;

@@ -14,7 +14,7 @@ use std::sync::ledger::{Blank, Ledger};
 use std::test::Fail;
 
 // Bytes that are a name.
-pub(crate) fn name<'a>(rt: &impl Abort, bytes: &'a [u8]) -> &'a [u8]
+fn name<'a>(rt: &impl Abort, bytes: &'a [u8]) -> &'a [u8]
     ensures name { IsTrue (is_name result.now) }
 {
     name_of(bytes).expect(rt, "the bytes are a name")
@@ -53,7 +53,7 @@ pub(crate) fn add_meters(rt: &impl Abort, case: &mut Case, meters: &[(u8, Kind, 
     }
 }
 
-pub(crate) fn begin<L: Ledger>(
+fn begin<L: Ledger>(
     alloc: Global,
     blank: Blank,
     case: Case,
@@ -168,7 +168,7 @@ fn path_falls_short(rt: HostRuntime) -> Result<(), Fail> {
 }
 
 // A triangle with an injection meter and a flow meter.
-pub(crate) fn triangle(rt: &impl Abort, alloc: Global) -> Case {
+fn triangle(rt: &impl Abort, alloc: Global) -> Case {
     let mut case = Case::new(alloc);
     add_nodes(rt, &mut case, &[(b'a', true), (b'b', false), (b'c', false)]);
     add_branches(

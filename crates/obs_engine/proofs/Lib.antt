@@ -21,3 +21,4 @@ pub mod Verified
 pub mod Turned
 pub mod Dips
 pub mod Generated
+pub mod Claimed

@@ -146,6 +146,53 @@ fn answers_are_certificates_that_hold(rt: HostRuntime) -> Result<(), Fail> {
     Ok(())
 }
 
+// One answer behind another.
+fn append(text: &mut Vec<u8>, alloc: Global, tables: Tables<'_>, line: &[u8]) -> Result<(), Fail> {
+    let asked = answer(alloc, tables, line)?;
+    text.extend_from_slice(&asked.text)?;
+    Ok(())
+}
+
+// An answer is the same when it is asked for again, behind another one too.
+fn is_same_again(
+    rt: &impl Abort,
+    alloc: Global,
+    tables: Tables<'_>,
+    first: &[u8],
+    second: &[u8],
+) -> Result<(), Fail> {
+    let mut input = Vec::new(alloc);
+    let mut text = Vec::new(alloc);
+    for line in [first, second, first, second] {
+        input.extend_from_slice(line)?;
+        input.extend_from_slice(b"\n")?;
+        append(&mut text, alloc, tables, line)?;
+    }
+    let found = answer(alloc, tables, &input)?;
+    assert!(rt; found.text.as_slice() == text.as_slice());
+    Ok(())
+}
+
+#[test]
+fn answers_are_the_same_again(rt: HostRuntime) -> Result<(), Fail> {
+    let asks = [
+        b"place".as_slice(),
+        b"tree",
+        b"bound",
+        b"islands",
+        b"critical",
+        b"report",
+    ];
+    for tables in small() {
+        for first in asks {
+            for second in asks {
+                is_same_again(&rt, rt.alloc(), tables, first, second)?;
+            }
+        }
+    }
+    Ok(())
+}
+
 // The claims of a ring of three buses with two meters are its tree.
 #[test]
 fn the_claims_of_a_ring_are_its_tree(rt: HostRuntime) -> Result<(), Fail> {

@@ -18,6 +18,7 @@ ghost use Rattle.obs_engine.specs.Words.{form_of};
 ghost use Rattle.obs_report.specs.Counts.{verdict_word};
 ghost use Rattle.obs_engine.specs.Asks.{report_status};
 ghost use Rattle.obs_engine.specs.Trials.{dip_meters, dips_of};
+ghost use Rattle.obs_engine.specs.Claimed.{AnswersHold};
 ghost use Rattle.obs_engine.specs.Laws.{CasesAreValid, EditsAloneChange, EndedOrLast, IsAnswerTo, IsFormOf, ListsNonCritical, OrderIsForgotten, ReportsAsTheCommand};
 ghost use Rattle.obs_edit.specs.Answers.{bound_outside, bound_rank, case_critical_meters, case_rank, component_meters, short_components};
 
@@ -45,6 +46,12 @@ pub fn status_is_validity()
         ↔ ((claims : List Claim) × (claims_of bytes ≡ Ok claims) × AllHold t claims) }
     ensures short { (t : Tables) (bytes : List ℕ) → ((verify_reply t bytes).status ≡ Short)
         ↔ ((claims : List Claim) × (claims_of bytes ≡ Ok claims) × (AllHold t claims → ⊥)) }
+{}
+
+/// The answers to `tree`, `bound`, `cert` and `place` are certificates that hold: each is read back as the claims that it makes, a
+/// tree or a bound for a component, or the placement, and the checker finds no flaw in them.
+pub fn answers_hold()
+    ensures hold { AnswersHold }
 {}
 
 /// The printed verdict is the word `observable` exactly where the case is observable, and else the word `short`.

@@ -109,9 +109,36 @@ fn parallel() -> Row {
     }
 }
 
+// Two components with a source each, whose meters stand in another order than their branches.
+fn two_parts() -> Row {
+    Row {
+        nodes: b"node,source\na,1\nb,0\nc,1\nd,0\n",
+        branches: b"branch,from,to,inservice\nL1,a,b,1\nL2,c,d,1\n",
+        meters: b"meter,kind,at,inservice\ng2,flow,L2,1\nf1,flow,L1,1\n",
+        text: b"count\tbuses\t4\ncount\tenergised\t4\ncount\tbranches\t2\ncount\tmeters\t2\ncount\tneeded\t2\ncount\trank\t2\nverdict\tobservable\ntree\ta\npair\tmeter\tf1\tL1\ntree\tc\npair\tmeter\tg2\tL2\nisland\ta\ta\nisland\ta\tb\nisland\tc\tc\nisland\tc\td\ncritical\tg2\ncritical\tf1\nend\n",
+    }
+}
+
+// A branch without a source, before one with a source.
+fn half_dead() -> Row {
+    Row {
+        nodes: b"node,source\nh,0\nd,0\nb,1\nc,0\n",
+        branches: b"branch,from,to,inservice\nL1,h,d,1\nL2,b,c,1\n",
+        meters: b"meter,kind,at,inservice\nf1,flow,L1,1\nf2,flow,L2,1\n",
+        text: b"count\tbuses\t4\ncount\tenergised\t2\ncount\tbranches\t1\ncount\tmeters\t1\ncount\tneeded\t1\ncount\trank\t1\nverdict\tobservable\ntree\tb\npair\tmeter\tf2\tL2\nisland\tb\tb\nisland\tb\tc\ncritical\tf2\nend\n",
+    }
+}
+
 #[test]
 fn observable_cases_have_the_good_status(rt: HostRuntime) -> Result<(), Fail> {
-    for row in [dead(), alone(), triangle(), parallel()] {
+    for row in [
+        dead(),
+        alone(),
+        triangle(),
+        parallel(),
+        two_parts(),
+        half_dead(),
+    ] {
         reports(&rt, rt.alloc(), Status::Done, row)?;
     }
     Ok(())

@@ -9,14 +9,10 @@ mod lines;
 mod meters;
 mod names;
 mod nodes;
-#[cfg(test)]
-mod placement_tests;
 mod placements;
 #[cfg(test)]
 mod tests;
 mod totals;
-#[cfg(test)]
-mod tree_tests;
 mod trees;
 mod words;
 

@@ -38,32 +38,32 @@ fn lines_are_words_with_tabs(rt: HostRuntime) -> Result<(), Fail> {
 }
 
 // Bytes that are a name.
-pub(crate) fn name<'a>(rt: &impl Abort, bytes: &'a [u8]) -> &'a [u8]
+fn name<'a>(rt: &impl Abort, bytes: &'a [u8]) -> &'a [u8]
     ensures name { IsTrue (is_name result.now) }
 {
     name_of(bytes).expect(rt, "the bytes are a name")
 }
 
-pub(crate) fn add_nodes(rt: &impl Abort, case: &mut Case, nodes: &[(&[u8], bool)]) {
+fn add_nodes(rt: &impl Abort, case: &mut Case, nodes: &[(&[u8], bool)]) {
     for (node, source) in nodes {
         assert!(rt; case.add_node(name(rt, node), *source).is_ok());
     }
 }
 
-pub(crate) fn add_branches(rt: &impl Abort, case: &mut Case, branches: &[[&[u8]; 3]]) {
+fn add_branches(rt: &impl Abort, case: &mut Case, branches: &[[&[u8]; 3]]) {
     for [branch, from, to] in branches {
         assert!(rt; case.add_branch(name(rt, branch), from, to, true).is_ok());
     }
 }
 
-pub(crate) fn add_meters(rt: &impl Abort, case: &mut Case, meters: &[(&[u8], Kind, &[u8])]) {
+fn add_meters(rt: &impl Abort, case: &mut Case, meters: &[(&[u8], Kind, &[u8])]) {
     for (meter, kind, at) in meters {
         assert!(rt; case.add_meter(name(rt, meter), *kind, at, true).is_ok());
     }
 }
 
 // A path of four buses.
-pub(crate) fn path(rt: &impl Abort, alloc: Global) -> Case {
+fn path(rt: &impl Abort, alloc: Global) -> Case {
     let mut case = Case::new(alloc);
     let nodes: [(&[u8], bool); 4] = [(b"a", true), (b"b", false), (b"c", false), (b"d", false)];
     add_nodes(rt, &mut case, &nodes);
@@ -83,7 +83,7 @@ pub(crate) fn path(rt: &impl Abort, alloc: Global) -> Case {
 }
 
 // A branch between two buses without a source, and one from a bus of two nodes, the second of which is a source.
-pub(crate) fn parted(rt: &impl Abort, alloc: Global) -> Case {
+fn parted(rt: &impl Abort, alloc: Global) -> Case {
     let mut case = Case::new(alloc);
     let nodes: [(&[u8], bool); 5] = [
         (b"h", false),
@@ -145,7 +145,7 @@ fn prints(rt: &impl Abort, alloc: Global, case: &Case, want: &Printed) -> Result
     Ok(())
 }
 
-pub(crate) fn sink(alloc: Global, room: usize) -> Result<MemSink, Fail> {
+fn sink(alloc: Global, room: usize) -> Result<MemSink, Fail> {
     let output = MemSink::with_room(alloc, room, 7, Vec::new(alloc))
         .ok()
         .ok_or("no memory")?;

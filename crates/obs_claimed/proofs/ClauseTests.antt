@@ -1,0 +1,48 @@
+-- Tests of claims that are false where what they test is true of each, and lists and what passes a test.
+use Rattle.std.proofs.Common.{◌≡◌, ℕ, ◌+◌, Bool, true, false, not, List, [], ◌∷◌, map, filter, refl, ap, inl, inr, arith}
+use Rattle.std.specs.List.{list_any, sum_by}
+use Rattle.std.proofs.lemmas.List.Sums.{sum_by-cons}
+use Rattle.obs_matroid.specs.Lists.{In, IsDistinct}
+use Rattle.obs_matroid.proofs.Lists.{In-filter, In-filter_from, In-map_from}
+use Rattle.obs_cert.specs.Flaws.{not_inside, twice}
+use Rattle.obs_cert.specs.Scopes.{has}
+use Rattle.obs_cert.proofs.ScopeLemmas.{has_at, has_from, has_not, same_truth}
+
+-- a test that is false for each is true for none
+pub any_false : {X : Type 0} (test : X → Bool) (xs : List X) → ((x : X) → In x xs → test x ≡ false) → list_any test xs ≡ false
+any_false test [] h = refl
+any_false test (x ∷ xs) h = rw (h x (inl refl)) (any_false test xs (λ y i. h y (inr i)))
+
+pub all_inside_scope : (scope : ℕ → Bool) (list : List ℕ) → ((m : ℕ) → In m list → scope m ≡ true) → not_inside scope list ≡ false
+all_inside_scope scope list h = any_false (λ m. not (scope m)) list (λ m i. ap not (h m i))
+
+-- no number of a list of different ones stands twice
+pub once : (xs : List ℕ) → IsDistinct xs → twice xs ≡ false
+once [] d = refl
+once (x ∷ xs) d = rw (has_not xs x d.0) (once xs d.1)
+
+-- what passes a test is in the list of what passes
+pub has-filter : (p : ℕ → Bool) (M : List ℕ) (m : ℕ) → In m M → has (filter p M) m ≡ p m
+has-filter p M m i =
+    same_truth (has (filter p M) m) (p m) (λ t. (In-filter_from p m M (has_from (filter p M) m t)).1) (λ t. has_at (filter p M) m (In-filter p m M i t))
+
+-- sums of what is the same for each
+pub same_sum : (f g : ℕ → ℕ) (xs : List ℕ) → ((x : ℕ) → In x xs → f x ≡ g x) → sum_by f xs ≡ sum_by g xs
+same_sum f g [] same = refl
+same_sum f g (x ∷ xs) same =
+    let a = sum_by-cons f x xs in
+    let b = sum_by-cons g x xs in
+    let here = same x (inl refl) in
+    let later = same_sum f g xs (λ y i. same y (inr i)) in
+    omega (arith, a, b, here, later)
+
+-- numbers moved up are as different as before
+pub distinct-moved : (k : ℕ) (xs : List ℕ) → IsDistinct xs → IsDistinct (map (λ x. k + x) xs)
+distinct-moved k [] d = tt
+distinct-moved k (x ∷ xs) d = (
+  (λ i. let f = In-map_from (λ y. k + y) (k + x) xs i in let e = f.2 in let same : x ≡ f.0 = omega (arith, e) in d.0 (subst_in x f.0 xs same f.1)),
+  distinct-moved k xs d.1,
+)
+  where
+    subst_in : (a b : ℕ) (ys : List ℕ) → a ≡ b → In b ys → In a ys
+    subst_in a b ys e i = rw e i

@@ -1,0 +1,15 @@
+pub mod Bounds
+pub mod ClauseTests
+pub mod ComponentNames
+pub mod Lacks
+pub mod LayerClaims
+pub mod Layered
+pub mod Lines
+pub mod NamedLemmas
+pub mod PlanClaims
+pub mod PlanPairs
+pub mod Small
+pub mod Texts
+pub mod Trees
+pub mod Within
+pub mod Words

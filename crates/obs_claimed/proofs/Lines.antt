@@ -1,0 +1,143 @@
+-- A printed line is read back as its words, and printed texts are read back one behind the other.
+use Rattle.std.proofs.Common.{◌≡◌, ◌∙◌, ℕ, zero, suc, ◌-◌, ◌<◌, ◌≤◌, Bool, true, false, not, List, [], ◌∷◌, ◌++◌, length, map, take, get_or, Option, Some, refl, sym, ap, inl, inr, append_assoc, append-nil, arith}
+use Rattle.std.specs.Prelude.{◌==◌, nat_le}
+use Rattle.std.specs.List.{before_first, flat_map, list_all, onto_first, position_or_len}
+use Rattle.std.specs.Str.Lines.{strip_carriage_return}
+use Rattle.std.proofs.Math.Numerals.{one-add}
+use Rattle.std.proofs.lemmas.Bool.{and_from, and_parts, leb-true, ne_eqb, not-true}
+use Rattle.std.proofs.lemmas.List.{map-append}
+use Rattle.obs_text.specs.Laws.{HasNoFeed}
+use Rattle.obs_text.specs.Lines.{content, ended_lines, is_feed, lines_of}
+use Rattle.obs_text.specs.Names.{is_name_byte}
+use Rattle.obs_matroid.specs.Lists.{In}
+use Rattle.obs_cert.specs.Words.{Line, line_of, line_of_words, words_of}
+use Rattle.obs_report.specs.Lines.{line_of as printed, line_feed, tab, tabbed}
+use Rattle.obs_claimed.specs.Laws.{AreLines}
+
+-- no byte of a word is a control byte
+abbrev pub IsPlain : List ℕ → Type 0
+IsPlain word = list_all is_name_byte word ≡ true
+
+-- and so of each word
+abbrev pub ArePlain : List (List ℕ) → Type 0
+ArePlain [] = Unit {0}
+ArePlain (word ∷ words) = IsPlain word × ArePlain words
+
+-- a byte of a word is no control byte
+not_control : (byte control : ℕ) → is_name_byte byte ≡ true → control < 32 → (byte == control) ≡ false
+not_control byte control plain low =
+    let above : 32 ≤ byte = leb-true 32 byte (and_parts (nat_le 32 byte) (not (byte == 0x7F)) plain).0 in
+    ne_eqb byte control (λ same. absurd (omega (arith, same, above, low)))
+
+-- a word and a tab behind it
+words_before : (word rest : List ℕ) → IsPlain word → words_of (word ++ tab ∷ rest) ≡ word ∷ words_of rest
+words_before [] rest plain = refl
+words_before (byte ∷ word) rest plain =
+    let both = and_parts (is_name_byte byte) (list_all is_name_byte word) plain in
+    rw (not_control byte 9 both.0 (omega arith)) (ap (onto_first byte) (words_before word rest both.1))
+
+-- the last word
+words_last : (word : List ℕ) → IsPlain word → words_of word ≡ word ∷ []
+words_last [] plain = refl
+words_last (byte ∷ word) plain =
+    let both = and_parts (is_name_byte byte) (list_all is_name_byte word) plain in
+    rw (not_control byte 9 both.0 (omega arith)) (ap (onto_first byte) (words_last word both.1))
+
+-- words with tabs between them are read back
+pub words_back : (word : List ℕ) (words : List (List ℕ)) → IsPlain word → ArePlain words → words_of (word ++ tabbed words) ≡ word ∷ words
+words_back word [] plain others = ap words_of (append-nil word) ∙ words_last word plain
+words_back word (next ∷ words) plain others = words_before word (next ++ tabbed words) plain ∙ ap (λ (ws : List (List ℕ)). word ∷ ws) (words_back next words others.0 others.1)
+
+-- what all bytes of words and tabs pass
+module _ (passes : ℕ → Bool) (in_words : (byte : ℕ) → is_name_byte byte ≡ true → passes byte ≡ true) (between : passes tab ≡ true) where
+  word_passes : (word rest : List ℕ) → IsPlain word → list_all passes rest ≡ true → list_all passes (word ++ rest) ≡ true
+  word_passes [] rest plain others = others
+  word_passes (byte ∷ word) rest plain others =
+      let both = and_parts (is_name_byte byte) (list_all is_name_byte word) plain in
+      and_from (passes byte) (list_all passes (word ++ rest)) (in_words byte both.0) (word_passes word rest both.1 others)
+
+  tabbed_passes : (words : List (List ℕ)) → ArePlain words → list_all passes (tabbed words) ≡ true
+  tabbed_passes [] plain = refl
+  tabbed_passes (word ∷ words) plain =
+      and_from (passes tab) (list_all passes (word ++ tabbed words)) between (word_passes word (tabbed words) plain.0 (tabbed_passes words plain.1))
+
+  words_pass : (word : List ℕ) (words : List (List ℕ)) → IsPlain word → ArePlain words → list_all passes (word ++ tabbed words) ≡ true
+  words_pass word words plain others = word_passes word (tabbed words) plain (tabbed_passes words others)
+
+-- a byte passes what all do, and what 0 does
+at_passes : (passes : ℕ → Bool) (bytes : List ℕ) (k : ℕ) → list_all passes bytes ≡ true → passes 0 ≡ true → passes (get_or bytes k 0) ≡ true
+at_passes passes [] k all none = none
+at_passes passes (byte ∷ bytes) zero all none = (and_parts (passes byte) (list_all passes bytes) all).0
+at_passes passes (byte ∷ bytes) (suc k) all none = at_passes passes bytes k (and_parts (passes byte) (list_all passes bytes) all).1 none
+
+is_no_return : ℕ → Bool
+is_no_return byte = not (byte == 13)
+
+-- bytes without a carriage return stay
+strip_none : (bytes : List ℕ) → list_all is_no_return bytes ≡ true → strip_carriage_return bytes ≡ bytes
+unfolding is_no_return
+strip_none bytes all =
+    let last = get_or bytes (length bytes - 1) 0 in
+    let other : (last == 13) ≡ false = not-true (last == 13) (at_passes is_no_return bytes (length bytes - 1) all refl) in
+    rw other refl
+
+-- the first of some bytes is no line feed, and none of the others is
+no_feed_parts : (byte : ℕ) (front : List ℕ) → HasNoFeed (byte ∷ front) → (is_feed byte ≡ false) × HasNoFeed front
+no_feed_parts byte front none =
+    let both = and_parts (not (is_feed byte)) (list_all (λ b. not (is_feed b)) front) none in
+    (not-true (is_feed byte) both.0, both.1)
+
+-- bytes and a line feed are the first line of what they begin
+ended_first : (front rest : List ℕ) → HasNoFeed front → ended_lines (front ++ line_feed ∷ rest) ≡ (front ++ line_feed ∷ []) ∷ ended_lines rest
+ended_first [] rest none = refl
+ended_first (byte ∷ front) rest none =
+    let parts = no_feed_parts byte front none in
+    let other : is_feed byte ≡ false = parts.0 in
+    rw other (ap (onto_first byte) (ended_first front rest parts.1))
+
+-- and they are what stands before it
+before_feed : (front : List ℕ) → HasNoFeed front → before_first is_feed (front ++ line_feed ∷ []) ≡ front
+before_feed [] none = refl
+before_feed (byte ∷ front) none =
+    let parts = no_feed_parts byte front none in
+    let other : is_feed byte ≡ false = parts.0 in
+    rw other (ap (λ n. take n (byte ∷ (front ++ line_feed ∷ []))) (one-add (position_or_len is_feed (front ++ line_feed ∷ []))) ∙ ap (λ (bytes : List ℕ). byte ∷ bytes) (before_feed front parts.1))
+
+-- the first line of bytes is their words
+pub first_words : (word : List ℕ) (words : List (List ℕ)) (rest : List ℕ) → IsPlain word → ArePlain words
+    → lines_of (printed (word ∷ words) ++ rest) ≡ (word ++ tabbed words) ∷ lines_of rest
+unfolding is_no_return
+first_words word words rest plain others =
+    let front = word ++ tabbed words in
+    let no_feed : HasNoFeed front =
+    words_pass (λ byte. not (is_feed byte)) (λ byte p. ap not (not_control byte 10 p (omega arith))) refl word words plain others in
+    let no_return = words_pass is_no_return (λ byte p. ap not (not_control byte 13 p (omega arith))) refl word words plain others in
+    let whole : printed (word ∷ words) ++ rest ≡ front ++ line_feed ∷ rest =
+    ap (λ (bytes : List ℕ). bytes ++ rest) (sym (append_assoc word (tabbed words) (line_feed ∷ []))) ∙ append_assoc front (line_feed ∷ []) rest in
+    ap lines_of whole ∙ (ap (map content) (ended_first front rest no_feed) ∙ ap (λ (line : List ℕ). line ∷ lines_of rest) (ap strip_carriage_return (before_feed front no_feed) ∙ strip_none front no_return))
+
+-- a printed line is a line of a certificate, if its words are
+pub line_back : (word : List ℕ) (words : List (List ℕ)) (line : Line) → IsPlain word → ArePlain words → line_of_words (word ∷ words) ≡ Some line → AreLines (printed (word ∷ words)) (line ∷ [])
+line_back word words line plain others is = λ rest.
+    ap (map line_of) (first_words word words rest plain others)
+    ∙ ap (λ (o : Option Line). o ∷ map line_of (lines_of rest)) (ap line_of_words (words_back word words plain others) ∙ is)
+
+-- nothing is no lines
+pub no_lines : AreLines [] []
+no_lines rest = refl
+
+-- lines behind lines
+pub lines_then : (first second : List ℕ) (of_first of_second : List Line) → AreLines first of_first → AreLines second of_second → AreLines (first ++ second) (of_first ++ of_second)
+lines_then first second of_first of_second a b = λ rest.
+    let rest_lines = map line_of (lines_of rest) in
+    ap (λ (bytes : List ℕ). map line_of (lines_of bytes)) (append_assoc first second rest)
+    ∙ (a (second ++ rest)
+    ∙ (ap (λ (lines : List (Option Line)). map Some of_first ++ lines) (b rest)
+    ∙ (sym (append_assoc (map Some of_first) (map Some of_second) rest_lines)
+    ∙ ap (λ (lines : List (Option Line)). lines ++ rest_lines) (sym (map-append Some of_first of_second)))))
+
+-- a line for each of several
+module _ {X Y : Type 0} (text : X → List ℕ) (name : X → Y) (line : Y → Line) where
+  pub each_line : (xs : List X) → ((x : X) → In x xs → AreLines (text x) (line (name x) ∷ [])) → AreLines (flat_map text xs) (map line (map name xs))
+  each_line [] each = no_lines
+  each_line (x ∷ xs) each = lines_then (text x) (flat_map text xs) (line (name x) ∷ []) (map line (map name xs)) (each x (inl refl)) (each_line xs (λ y i. each y (inr i)))

@@ -1,0 +1,111 @@
+-- The names that are printed stand for what they were printed for: items, branches, pairs and chosen candidates of a valid case.
+use Rattle.std.proofs.Common.{◌≡◌, ℕ, ◌+◌, ◌-◌, ◌<◌, ◌||◌, Bool, true, false, not, List, [], ◌∷◌, length, map, refl, ap, ◌∙◌, inl, inr, arith}
+use Rattle.std.proofs.lemmas.Bool.{cases_lt, le-ltb, lt-ltb}
+use Rattle.std.proofs.lemmas.List.{length-map}
+use Rattle.obs_case.specs.Tables.{IsValid, Tables, branch_names, candidate_names, has_name, meter_names, place_of}
+use Rattle.obs_matroid.specs.Assignments.{Pair as NumberPair, items}
+use Rattle.obs_matroid.specs.Lists.{In}
+use Rattle.obs_report.specs.Items.{branch_name, candidate_name, item_count, meter_name}
+use Rattle.obs_cert.specs.Claims.{Item}
+use Rattle.obs_cert.specs.Flaws.{unknown_branch, unknown_item, unknown_pair}
+use Rattle.obs_cert.specs.Numbered.{branch_of, chosen_items, is_known, is_known_branch, item_of, items_of, paired_items, pairs_of}
+use Rattle.obs_claimed.specs.Claimed.{named_item, named_items, named_pair}
+use Rattle.obs_claimed.proofs.ComponentNames.{has_own, place_own}
+
+-- pairs of items and branches that the case has
+abbrev pub AreWithin : Tables → List NumberPair → Type 0
+AreWithin t pairs = (p : NumberPair) → In p pairs → (p.0 < item_count t) × (p.1 < length t.branches)
+
+module _ (t : Tables) (v : IsValid t) where
+  -- a meter, a candidate and a branch
+  pub meter_place : (m : ℕ) → m < length t.meters → place_of (meter_names t) (meter_name t m) ≡ m
+  meter_place m l = place_own (meter_names t) m v.meters.different (omega (arith, l, length-map t.meters (λ row. row.name)))
+
+  pub candidate_place : (k : ℕ) → k < length t.candidates → place_of (candidate_names t) (candidate_name t k) ≡ k
+  candidate_place k l = place_own (candidate_names t) k v.candidates.different (omega (arith, l, length-map t.candidates (λ row. row.name)))
+
+  pub meter_known : (m : ℕ) → m < length t.meters → has_name (meter_names t) (meter_name t m) ≡ true
+  meter_known m l = has_own (meter_names t) m (omega (arith, l, length-map t.meters (λ row. row.name)))
+
+  pub candidate_known : (k : ℕ) → k < length t.candidates → has_name (candidate_names t) (candidate_name t k) ≡ true
+  candidate_known k l = has_own (candidate_names t) k (omega (arith, l, length-map t.candidates (λ row. row.name)))
+
+  pub named_branch : (e : ℕ) → e < length t.branches → branch_of t (branch_name t e) ≡ e
+  named_branch e l = place_own (branch_names t) e v.branches.different (omega (arith, l, length-map t.branches (λ row. row.name)))
+
+  pub branch_known : (e : ℕ) → e < length t.branches → is_known_branch t (branch_name t e) ≡ true
+  branch_known e l = has_own (branch_names t) e (omega (arith, l, length-map t.branches (λ row. row.name)))
+
+  -- an item
+  pub item_named : (m : ℕ) → m < item_count t → item_of t (named_item t m) ≡ m
+  item_named m l = elim (cases_lt m (length t.meters)) [
+    | inl low ↦ rw (lt-ltb m (length t.meters) low) (meter_place m low)
+    | inr high ↦ (let k = candidate_place (m - length t.meters) (omega (arith, l, high)) in rw (le-ltb m (length t.meters) high) (omega (arith, high, k)))
+  ]
+
+  pub item_known : (m : ℕ) → m < item_count t → is_known t (named_item t m) ≡ true
+  item_known m l = elim (cases_lt m (length t.meters)) [
+    | inl low ↦ rw (lt-ltb m (length t.meters) low) (meter_known m low)
+    | inr high ↦ rw (le-ltb m (length t.meters) high) (candidate_known (m - length t.meters) (omega (arith, l, high)))
+  ]
+
+  -- some items
+  pub items_named : (list : List ℕ) → ((m : ℕ) → In m list → m < item_count t) → items_of t (named_items t list) ≡ list
+  items_named [] low = refl
+  items_named (m ∷ list) low =
+      ap (λ (x : ℕ). x ∷ items_of t (named_items t list)) (item_named m (low m (inl refl)))
+      ∙ ap (λ (xs : List ℕ). m ∷ xs) (items_named list (λ k i. low k (inr i)))
+
+  pub none_unknown : (list : List ℕ) → ((m : ℕ) → In m list → m < item_count t) → unknown_item t (named_items t list) ≡ false
+  none_unknown [] low = refl
+  none_unknown (m ∷ list) low =
+      ap (λ (b : Bool). not b || unknown_item t (named_items t list)) (item_known m (low m (inl refl)))
+      ∙ none_unknown list (λ k i. low k (inr i))
+
+  -- some pairs
+  pub pairs_named : (pairs : List NumberPair) → AreWithin t pairs → pairs_of t (map (named_pair t) pairs) ≡ pairs
+  pairs_named [] within = refl
+  pairs_named (p ∷ pairs) within =
+      let here = within p (inl refl) in
+      ap (λ (x : ℕ). (x, branch_of t (branch_name t p.1)) ∷ pairs_of t (map (named_pair t) pairs)) (item_named p.0 here.0)
+      ∙ ap (λ (x : ℕ). (p.0, x) ∷ pairs_of t (map (named_pair t) pairs)) (named_branch p.1 here.1)
+      ∙ ap (λ (ps : List NumberPair). p ∷ ps) (pairs_named pairs (λ q i. within q (inr i)))
+
+  paired_are : (pairs : List NumberPair) → paired_items (map (named_pair t) pairs) ≡ named_items t (items pairs)
+  paired_are [] = refl
+  paired_are (p ∷ pairs) = ap (λ (xs : List Item). named_item t p.0 ∷ xs) (paired_are pairs)
+
+  items_low : (pairs : List NumberPair) → AreWithin t pairs → (m : ℕ) → In m (items pairs) → m < item_count t
+  items_low [] within m i = absurd i
+  items_low (p ∷ pairs) within m (inl e) = (let l = (within p (inl refl)).0 in omega (arith, e, l))
+  items_low (p ∷ pairs) within m (inr i) = items_low pairs (λ q j. within q (inr j)) m i
+
+  pub paired_named : (pairs : List NumberPair) → AreWithin t pairs → items_of t (paired_items (map (named_pair t) pairs)) ≡ items pairs
+  paired_named pairs within = ap (items_of t) (paired_are pairs) ∙ items_named (items pairs) (items_low pairs within)
+
+  pub paired_known : (pairs : List NumberPair) → AreWithin t pairs → unknown_item t (paired_items (map (named_pair t) pairs)) ≡ false
+  paired_known pairs within = ap (unknown_item t) (paired_are pairs) ∙ none_unknown (items pairs) (items_low pairs within)
+
+  pub branches_known : (pairs : List NumberPair) → AreWithin t pairs → unknown_branch t (map (named_pair t) pairs) ≡ false
+  branches_known [] within = refl
+  branches_known (p ∷ pairs) within =
+      ap (λ (b : Bool). not b || unknown_branch t (map (named_pair t) pairs)) (branch_known p.1 (within p (inl refl)).1)
+      ∙ branches_known pairs (λ q i. within q (inr i))
+
+  pub pairs_known : (pairs : List NumberPair) → AreWithin t pairs → unknown_pair t (map (named_pair t) pairs) ≡ false
+  pairs_known pairs within =
+      ap (λ (b : Bool). b || unknown_branch t (map (named_pair t) pairs)) (paired_known pairs within) ∙ branches_known pairs within
+
+  -- chosen candidates, as items behind the meters
+  pub chosen_named : (ks : List ℕ) → ((k : ℕ) → In k ks → k < length t.candidates)
+      → items_of t (chosen_items (map (candidate_name t) ks)) ≡ map (λ (k : ℕ). length t.meters + k) ks
+  chosen_named [] low = refl
+  chosen_named (k ∷ ks) low =
+      ap (λ (x : ℕ). (length t.meters + x) ∷ items_of t (chosen_items (map (candidate_name t) ks))) (candidate_place k (low k (inl refl)))
+      ∙ ap (λ (xs : List ℕ). (length t.meters + k) ∷ xs) (chosen_named ks (λ j i. low j (inr i)))
+
+  pub chosen_known : (ks : List ℕ) → ((k : ℕ) → In k ks → k < length t.candidates) → unknown_item t (chosen_items (map (candidate_name t) ks)) ≡ false
+  chosen_known [] low = refl
+  chosen_known (k ∷ ks) low =
+      ap (λ (b : Bool). not b || unknown_item t (chosen_items (map (candidate_name t) ks))) (candidate_known k (low k (inl refl)))
+      ∙ chosen_known ks (λ j i. low j (inr i))

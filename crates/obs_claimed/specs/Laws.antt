@@ -1,0 +1,55 @@
+-- What is printed is read back as claims, and these hold.
+use Rattle.std.specs.Prelude.{◌≡◌, ℕ, ◌<◌, true, List, [], ◌∷◌, ◌++◌, map, Some}
+use Rattle.obs_text.specs.Lines.{lines_of}
+use Rattle.obs_case.specs.Tables.{IsValid, Tables}
+use Rattle.obs_network.specs.Network.{case_component_count}
+use Rattle.obs_network.specs.Observable.{IsObservable, is_fed}
+use Rattle.obs_cert.specs.Certificate.{claim_lines}
+use Rattle.obs_cert.specs.Claims.{tree, bound}
+use Rattle.obs_cert.specs.Flaws.{Holds}
+use Rattle.obs_cert.specs.Words.{Line, end_line, line_of}
+use Rattle.obs_report.specs.Lines.{last_line}
+use Rattle.obs_report.specs.Meters.{bound_text}
+use Rattle.obs_report.specs.Placements.{placement_text}
+use Rattle.obs_report.specs.Trees.{tree_text}
+use Rattle.obs_edit.specs.Answers.{bound_meters, bound_outside, bound_rank, case_first_pairs}
+use Rattle.obs_edit.specs.Planned.{case_placed_pairs, case_placement}
+use Rattle.obs_claimed.specs.Claimed.{component_bound, component_tree, placement_claim}
+
+-- the tree of an energised component that is observable is a claim that holds
+abbrev pub TreesHold : Type 0
+TreesHold = (t : Tables) (c : ℕ) → IsValid t → c < case_component_count t → is_fed t c ≡ true → IsObservable t c →
+    Holds t (tree (component_tree t c))
+
+-- the bound of one that isn't is a claim that holds
+abbrev pub BoundsHold : Type 0
+BoundsHold = (t : Tables) (c : ℕ) → IsValid t → c < case_component_count t → is_fed t c ≡ true → (IsObservable t c → ⊥) →
+    Holds t (bound (component_bound t c))
+
+-- and so is the placement
+abbrev pub PlacementsHold : Type 0
+PlacementsHold = (t : Tables) → IsValid t → Holds t (placement_claim t (case_placement t) (case_placed_pairs t))
+
+-- bytes are these lines of a certificate, whatever stands behind them
+abbrev pub AreLines : List ℕ → List Line → Type 0
+AreLines bytes lines = (rest : List ℕ) →
+    map line_of (lines_of (bytes ++ rest)) ≡ map Some lines ++ map line_of (lines_of rest)
+
+-- a printed tree is the lines of its claim
+abbrev pub TreesAreLines : Type 0
+TreesAreLines = (t : Tables) (c : ℕ) → IsValid t → c < case_component_count t →
+    AreLines (tree_text t c (case_first_pairs t)) (claim_lines (tree (component_tree t c)))
+
+-- and so is a printed bound
+abbrev pub BoundsAreLines : Type 0
+BoundsAreLines = (t : Tables) (c : ℕ) → IsValid t → c < case_component_count t →
+    AreLines (bound_text t c (bound_meters t c) (bound_rank t c) (bound_outside t c)) (claim_lines (bound (component_bound t c)))
+
+-- a placement
+abbrev pub PlacementsAreLines : Type 0
+PlacementsAreLines = (t : Tables) → IsValid t →
+    AreLines (placement_text t (case_placement t) (case_placed_pairs t)) (claim_lines (placement_claim t (case_placement t) (case_placed_pairs t)))
+
+-- and the last line
+abbrev pub LastIsLine : Type 0
+LastIsLine = AreLines last_line (end_line ∷ [])

@@ -1,0 +1,25 @@
+//! What is printed of a case is a certificate that holds.
+ghost use Rattle.obs_claimed.specs.Laws.{BoundsAreLines, BoundsHold, LastIsLine, PlacementsAreLines, PlacementsHold, TreesAreLines, TreesHold};
+
+/// A printed text is the lines of the claim that it means, and the last line ends a certificate.
+pub fn texts_are_lines()
+    ensures trees { TreesAreLines }
+    ensures bounds { BoundsAreLines }
+    ensures placements { PlacementsAreLines }
+    ensures last { LastIsLine }
+{}
+
+/// The tree of an observable component holds.
+pub fn trees_hold()
+    ensures hold { TreesHold }
+{}
+
+/// The bound of an energised component that isn't observable holds.
+pub fn bounds_hold()
+    ensures hold { BoundsHold }
+{}
+
+/// The placement of a case holds: its plan with its pairs and layers, or its shortfall.
+pub fn placements_hold()
+    ensures hold { PlacementsHold }
+{}
