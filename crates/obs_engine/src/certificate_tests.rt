@@ -153,42 +153,27 @@ fn append(text: &mut Vec<u8>, alloc: Global, tables: Tables<'_>, line: &[u8]) ->
     Ok(())
 }
 
-// An answer is the same when it is asked for again, behind another one too.
-fn is_same_again(
-    rt: &impl Abort,
-    alloc: Global,
-    tables: Tables<'_>,
-    first: &[u8],
-    second: &[u8],
-) -> Result<(), Fail> {
-    let mut input = Vec::new(alloc);
-    let mut text = Vec::new(alloc);
-    for line in [first, second, first, second] {
-        input.extend_from_slice(line)?;
-        input.extend_from_slice(b"\n")?;
-        append(&mut text, alloc, tables, line)?;
-    }
-    let found = answer(alloc, tables, &input)?;
-    assert!(rt; found.text.as_slice() == text.as_slice());
-    Ok(())
-}
-
+// A placement is the same when it is asked for again, behind each other answer.
 #[test]
-fn answers_are_the_same_again(rt: HostRuntime) -> Result<(), Fail> {
+fn placements_are_the_same_again(rt: HostRuntime) -> Result<(), Fail> {
     let asks = [
-        b"place".as_slice(),
-        b"tree",
-        b"bound",
-        b"islands",
-        b"critical",
-        b"report",
+        b"place\n".as_slice(),
+        b"tree\n",
+        b"place\n",
+        b"islands\n",
+        b"place\n",
+        b"report\n",
+        b"place\n",
     ];
     for tables in small() {
-        for first in asks {
-            for second in asks {
-                is_same_again(&rt, rt.alloc(), tables, first, second)?;
-            }
+        let mut input = Vec::new(rt.alloc());
+        let mut text = Vec::new(rt.alloc());
+        for line in asks {
+            input.extend_from_slice(line)?;
+            append(&mut text, rt.alloc(), tables, line)?;
         }
+        let found = answer(rt.alloc(), tables, &input)?;
+        assert!(rt; found.text.as_slice() == text.as_slice());
     }
     Ok(())
 }

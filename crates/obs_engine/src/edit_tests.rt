@@ -55,8 +55,9 @@ fn session(alloc: Global, grid: &Grid, changed: [&[u8]; 3], input: &[u8]) -> Res
 // The table with the flag of a row turned. Each line ends with its flag.
 fn turned(alloc: Global, bytes: &[u8], row: usize) -> Result<Vec<u8>, Fail> {
     let mut text = Vec::new(alloc);
-    for (i, line) in lines(bytes).enumerate() {
-        if i == row.saturating_add(1) {
+    let mut at = 0_usize;
+    for line in lines(bytes) {
+        if at == row.saturating_add(1) {
             let front = line
                 .strip_suffix(b"0".as_slice())
                 .or(line.strip_suffix(b"1".as_slice()))
@@ -67,6 +68,7 @@ fn turned(alloc: Global, bytes: &[u8], row: usize) -> Result<Vec<u8>, Fail> {
             text.extend_from_slice(line)?;
         }
         text.extend_from_slice(b"\n")?;
+        at = at.wrapping_add(1);
     }
     Ok(text)
 }

@@ -2,8 +2,8 @@
 
 use crate::Status;
 use crate::grids::{Grid, make_grid};
-use crate::tests::{Ended, answers, failing_writes, outcome, outcome_from};
-use obs_io::{Entry, MemSource};
+use crate::tests::{Ended, answers, entries, failing_writes, outcome, outcome_from};
+use obs_io::MemSource;
 use obs_text::{lines, whole};
 use std::alloc::Global;
 use std::process::Abort;
@@ -74,24 +74,18 @@ fn each_write_may_fail(rt: HostRuntime) -> Result<(), Fail> {
     Ok(())
 }
 
-// The session over a grid.
+// The session over a grid, without its switches.
 fn session(alloc: Global, grid: &Grid) -> Result<Ended, Fail> {
-    let tables: [&[u8]; 4] = [
+    let files = [
+        b"".as_slice(),
         &grid.nodes,
         b"switch,from,to,closed\n",
         &grid.branches,
         &grid.meters,
     ];
-    let mut entries = Vec::new(alloc);
-    for (i, bytes) in tables.into_iter().enumerate() {
-        entries.push(Entry {
-            word: i.saturating_add(2),
-            bytes: Vec::from_slice(alloc, bytes)?,
-        })?;
-    }
     let mut input = MemSource::new(Vec::from_slice(alloc, &grid.input)?, 4096, Vec::new(alloc));
     let words = ["session", "tables", "n", "s", "b", "m"];
-    outcome_from(alloc, &words, entries, &mut input, &[], &[])
+    outcome_from(alloc, &words, entries(alloc, &files)?, &mut input, &[], &[])
 }
 
 // How many of a session's lines say a lower rank than at first. Each second line says that one again.
