@@ -1,5 +1,5 @@
 -- Answers are read back as what they claim, and that holds.
-use Rattle.std.proofs.Common.{◌≡◌, ◌∙◌, ◌<◌, ℕ, Bool, true, false, List, [], ◌∷◌, ◌++◌, length, map, Option, None, Some, Result, Ok, refl, sym, ap, subst, inl, inr, append_assoc, append-nil, arith}
+use Rattle.std.proofs.Common.{◌≡◌, ◌∙◌, ◌<◌, ℕ, Bool, true, false, List, [], ◌∷◌, ◌++◌, length, map, Option, Some, Result, Ok, refl, sym, ap, subst, inl, inr, append_assoc, append-nil, arith}
 use Rattle.std.specs.Prelude.{if◌then◌else◌, ◌==◌}
 use Rattle.std.specs.List.{flat_map, range_with_len}
 use Rattle.std.proofs.lemmas.Bool.{eq-eqb, eqb-true}
@@ -10,21 +10,18 @@ use Rattle.obs_matroid.proofs.Lists.{In-flat_map_from}
 use Rattle.obs_first.proofs.Ranges.{range_from}
 use Rattle.obs_network.specs.Components.{need_of}
 use Rattle.obs_network.specs.Network.{case_component_count, case_sizes}
-use Rattle.obs_network.specs.Observable.{IsObservable, is_fed}
-use Rattle.obs_text.specs.Lines.{lines_of}
+use Rattle.obs_network.specs.Observable.{is_fed}
 use Rattle.obs_cert.specs.declared.fault.CertFault.{CertFault}
 use Rattle.obs_cert.specs.declared.flaw.Flaw.{Flaw}
 use Rattle.obs_cert.specs.Certificate.{IsCertificate, claim_lines, joined}
 use Rattle.obs_cert.specs.Claims.{Claim, tree, bound}
-use Rattle.obs_cert.specs.Flaws.{Holds, first_flaw}
+use Rattle.obs_cert.specs.Flaws.{Holds}
 use Rattle.obs_cert.specs.Read.{claims_of}
-use Rattle.obs_cert.specs.Words.{Line, end_line, line_of}
+use Rattle.obs_cert.specs.Words.{Line, end_line}
 use Rattle.obs_cert.proofs.LawLemmas.{CertificateIsRead-holds}
 use Rattle.obs_cert.proofs.TruthLemmas.{no_flaw}
 use Rattle.obs_report.specs.Lines.{last_line}
 use Rattle.obs_report.specs.Placements.{placement_text}
-use Rattle.obs_script.specs.declared.command.Ask.{Ask}
-use Rattle.obs_script.specs.declared.command.Ask.TheVariants.{Tree, Bound, Place, Cert}
 use Rattle.obs_edit.specs.Answers.{component_rank}
 use Rattle.obs_edit.specs.Planned.{case_placed_pairs, case_placement}
 use Rattle.obs_edit.proofs.Tight.{observable-from, observable-to}
@@ -36,7 +33,7 @@ use Rattle.obs_claimed.proofs.PlanClaims.{placements_hold}
 use Rattle.obs_claimed.proofs.Texts.{bounds_are_lines, placements_are_lines, trees_are_lines}
 use Rattle.obs_claimed.proofs.Trees.{trees_hold}
 use Rattle.obs_claimed.proofs.Words.{last_is_line}
-use Rattle.obs_engine.specs.Asks.{ask_text, block_text, bound_claim, claims_text, component_claim, text_if, tree_claim}
+use Rattle.obs_engine.specs.Asks.{block_text, bound_claim, claims_text, component_claim, text_if, tree_claim}
 use Rattle.obs_engine.specs.Claimed.{AnswersHold, claim_if, claims_on, claims_on_all}
 use Rattle.obs_engine.specs.Verify.{AllHold, checked_reply, claims_reply, valid_reply, verify_reply}
 

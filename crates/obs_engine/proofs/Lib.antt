@@ -22,3 +22,4 @@ pub mod Turned
 pub mod Dips
 pub mod Generated
 pub mod Claimed
+pub mod StillValid

@@ -4,6 +4,7 @@ use crate::Status;
 use crate::grids::make_grid;
 use crate::tests::{Ended, entries, outcome, outcome_from};
 use obs_io::MemSource;
+use obs_text::{Digits, lines};
 use std::alloc::Global;
 use std::process::Abort;
 use std::test::Fail;
@@ -50,7 +51,7 @@ fn ring(meters: &'static [u8], candidates: &'static [u8]) -> Tables<'static> {
     }
 }
 
-// A path whose meters fall short, with each kind of candidate and of price; and rings.
+// A path with some meters or none, and each kind of candidate and of price; rings; one name in each table; two sources.
 fn small() -> [Tables<'static>; 9] {
     let three =
         b"meter,kind,at,inservice\nf1,flow,L1,1\nf2,flow,L1,1\nib,injection,b,1\n".as_slice();
@@ -117,7 +118,22 @@ fn answer(alloc: Global, tables: Tables<'_>, line: &[u8]) -> Result<Ended, Fail>
     )
 }
 
-// Each ask's answer is a certificate whose claims all hold.
+// How many lines begin a claim.
+fn count_claims(text: &[u8]) -> u64 {
+    let mut count = 0_u64;
+    for line in lines(text) {
+        if line.starts_with(b"tree\t")
+            || line.starts_with(b"bound\t")
+            || line.starts_with(b"cost\t")
+            || line.starts_with(b"shortfall\t")
+        {
+            count = count.wrapping_add(1);
+        }
+    }
+    count
+}
+
+// Each ask's answer is a certificate whose claims all hold, as many as its lines begin.
 fn are_valid(rt: &impl Abort, alloc: Global, tables: Tables<'_>) -> Result<(), Fail> {
     for line in [b"tree".as_slice(), b"bound", b"cert", b"place"] {
         let asked = answer(alloc, tables, line)?;
@@ -133,7 +149,14 @@ fn are_valid(rt: &impl Abort, alloc: Global, tables: Tables<'_>) -> Result<(), F
         ];
         let found = outcome(alloc, &VERIFY, &files, &[], &[])?;
         assert!(rt; found.status == Status::Done);
-        assert!(rt; found.text.starts_with(b"valid\t"));
+        let mut digits = Digits::new();
+        let rest = found
+            .text
+            .as_slice()
+            .strip_prefix(b"valid\t".as_slice())
+            .ok_or("a flaw")?;
+        let claims = rest.strip_suffix(b"\n".as_slice()).ok_or("no line feed")?;
+        assert!(rt; claims == digits.text(count_claims(&asked.text)));
     }
     Ok(())
 }
@@ -153,7 +176,7 @@ fn append(text: &mut Vec<u8>, alloc: Global, tables: Tables<'_>, line: &[u8]) ->
     Ok(())
 }
 
-// A placement is the same when it is asked for again, behind each other answer.
+// A placement is the same when it is asked for again, behind trees, islands and a whole report.
 #[test]
 fn placements_are_the_same_again(rt: HostRuntime) -> Result<(), Fail> {
     let asks = [
@@ -193,7 +216,7 @@ fn the_claims_of_a_ring_are_its_tree(rt: HostRuntime) -> Result<(), Fail> {
     Ok(())
 }
 
-// Grids of which each meter, each second or each fourth one is out of service.
+// Grids with all meters in service, with none, and with each second, third or fourth one out.
 #[test]
 fn answers_on_grids_are_certificates_that_hold(rt: HostRuntime) -> Result<(), Fail> {
     for out in 0..5 {

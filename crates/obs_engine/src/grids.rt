@@ -1,4 +1,4 @@
-// The cases of trials, written as the trial is described: without the generator.
+// The cases of trials, written as the trial is described, without obs_trial.
 
 use obs_text::Digits;
 use std::alloc::Global;

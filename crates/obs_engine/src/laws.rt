@@ -14,6 +14,9 @@ ghost use Rattle.obs_engine.specs.Verify.{AllHold, verify_reply};
 ghost use Rattle.obs_engine.specs.declared.status.Status.TheVariants.{Done, Short};
 ghost use Rattle.obs_engine.specs.declared.words.Form.{Form};
 ghost use Rattle.obs_engine.specs.Forms.{HasRows};
+ghost use Rattle.obs_engine.specs.Lines.{lines_case};
+ghost use Rattle.obs_edit.specs.declared.edit.Edit.{Edit};
+ghost use Rattle.obs_edit.specs.Edits.{edited};
 ghost use Rattle.obs_engine.specs.Words.{form_of};
 ghost use Rattle.obs_report.specs.Counts.{verdict_word};
 ghost use Rattle.obs_engine.specs.Asks.{report_status};
@@ -26,6 +29,13 @@ ghost use Rattle.obs_edit.specs.Answers.{bound_outside, bound_rank, case_critica
 pub fn cases_are_valid()
     ensures valid { CasesAreValid }
     ensures rows { (words : List (List ℕ)) (form : Form) → form_of words ≡ Some form → HasRows form }
+{}
+
+/// A valid case stays valid over edits. So the present case of a session is valid after any of its lines, and the other laws hold
+/// of it.
+pub fn edits_keep_cases_valid()
+    ensures edit { (t : Tables) (edit : Edit) → IsValid t → IsValid (edited t edit) }
+    ensures lines { (offered : Bool) (t : Tables) (lines : List (List ℕ)) → IsValid t → IsValid (lines_case offered t lines) }
 {}
 
 /// The printed rank is the greatest length that an assignment of the live meters has.

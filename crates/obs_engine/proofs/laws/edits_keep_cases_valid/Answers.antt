@@ -1,0 +1,5 @@
+use Rattle.obs_engine.proofs.StillValid.{valid_edited, valid_lines}
+use Rattle.obs_engine.proofs.laws.edits_keep_cases_valid.Goals as goal
+
+pub returns : goal.returns
+returns c = record { edit = valid_edited; lines = valid_lines }
