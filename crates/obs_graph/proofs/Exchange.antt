@@ -8,7 +8,7 @@ use Rattle.obs_graph.specs.declared.Ends.{Ends}
 use Rattle.obs_graph.specs.Joined.{merged, first_joined, is_joined, joined_by, rank, InRange, IsForest, AreDifferent}
 use Rattle.obs_graph.proofs.Chains.{Contains-here, Contains-there, Contains-cases, first_joined-contains, same_first-more}
 use Rattle.obs_graph.proofs.Ranks.{rank-le, rank-add_joined, rank-add_new}
-use Rattle.obs_graph.proofs.Forests.{AreAmong, SameFirst, same_first-among, rank-among, rank-add-le, rank-le-length, rank-from_Grows, Grows-from_rank, top, in_range_top, among_front, among_others, InRange-among, IsForest-from_Grows, Grows-from_IsForest}
+use Rattle.obs_graph.proofs.Forests.{AreAmong, SameFirst, same_first-among, rank-among, rank-add-le, rank-le-length, rank-from_Grows, Grows-from_rank, top, in_range_top, among_front, among_others, among_back, InRange-among, IsForest-from_Grows, Grows-from_IsForest}
 
 pub rank-from_IsForest : (n : ℕ) (es : List Ends) → InRange n es → IsForest es → rank n es ≡ length es
 rank-from_IsForest n es range forest = rank-from_Grows n es range (Grows-from_IsForest es forest)
@@ -125,11 +125,7 @@ IsForest-front xs d ys forest =
     let range : InRange n (d ∷ (xs ++ ys)) = in_range_top (d ∷ (xs ++ ys)) in
     let range2 : InRange n (xs ++ d ∷ ys) = InRange-among n (xs ++ d ∷ ys) (d ∷ (xs ++ ys)) (among_front xs d ys) range in
     let full : rank n (d ∷ (xs ++ ys)) ≡ length (d ∷ (xs ++ ys)) = rank-from_IsForest n (d ∷ (xs ++ ys)) range forest in
-    let up : rank n (d ∷ (xs ++ ys)) ≤ rank n (xs ++ d ∷ ys) = rank-among n (d ∷ (xs ++ ys)) (xs ++ d ∷ ys) (λ e has.
-    ⊎_elim
-    (λ (same : d ≡ e). subst (λ t. Contains (xs ++ d ∷ ys) t) same (Contains-append_right xs (d ∷ ys) d (Contains-here d ys)))
-    (λ there. among_others xs d ys e there)
-    (Contains-cases d e (xs ++ ys) has)) in
+    let up : rank n (d ∷ (xs ++ ys)) ≤ rank n (xs ++ d ∷ ys) = rank-among n (d ∷ (xs ++ ys)) (xs ++ d ∷ ys) (among_back xs d ys) in
     let few : rank n (xs ++ d ∷ ys) ≤ length (xs ++ d ∷ ys) = rank-le-length n (xs ++ d ∷ ys) range2 in
     IsForest-from_rank n (xs ++ d ∷ ys) range2 (omega (arith, length-append xs (d ∷ ys), length-append xs ys))
 

@@ -100,6 +100,13 @@ among_others xs e ys f has =
     (λ right. Contains-append_right xs (e ∷ ys) f (Contains-there e f ys right))
     (Contains-append_cases xs ys f has)
 
+pub among_back : (xs : List Ends) (e : Ends) (ys : List Ends) → AreAmong (e ∷ (xs ++ ys)) (xs ++ e ∷ ys)
+among_back xs e ys f has =
+    ⊎_elim
+    (λ (same : e ≡ f). subst (λ t. Contains (xs ++ e ∷ ys) t) same (Contains-append_right xs (e ∷ ys) e (Contains-here e ys)))
+    (among_others xs e ys f)
+    (Contains-cases e f (xs ++ ys) has)
+
 pub InRange-among : (n : ℕ) (es fs : List Ends) → AreAmong es fs → InRange n fs → InRange n es
 InRange-among n es fs among range =
     λ k d l. All-contains (λ e. (e.a < n) × (e.b < n)) fs (get_or es k d) range (among (get_or es k d) (Contains-get_or es k d l))

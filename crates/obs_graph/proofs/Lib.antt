@@ -9,6 +9,7 @@ pub mod IsJoined
 pub mod FlatParts
 pub mod Stored
 pub mod Shapes
+pub mod MergedBy
 pub mod Present
 pub mod AtVertex
 pub mod AtPositions

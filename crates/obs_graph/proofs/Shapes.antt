@@ -30,7 +30,7 @@ renamed-contains h (y ∷ es) d has =
     (λ there. let r = renamed-contains h es d there in (r.0, Contains-there y r.0 es r.1, r.2))
     (Contains-cases (renamed_one h y) d (renamed h es) has)
 
-same_tests : (x y p q : ℕ) → (x ≡ y → p ≡ q) → (p ≡ q → x ≡ y) → eqb x y ≡ eqb p q
+pub same_tests : (x y p q : ℕ) → (x ≡ y → p ≡ q) → (p ≡ q → x ≡ y) → eqb x y ≡ eqb p q
 same_tests x y p q to from =
     ⊎_elim
     (λ (same : x ≡ y). eq-eqb x y same ∙ sym (eq-eqb p q (to same)))
@@ -88,7 +88,7 @@ glue-below : (n s t u : ℕ) → s < n → u < n → glue s t u < n
 glue-below n s t u ls lu =
     ⊎_elim (λ at. omega (arith, at.1)) (λ other. omega (arith, other.1)) (glue_cases s t u)
 
-range_at : (n : ℕ) (es : List Ends) → InRange n es → (e : Ends) → Contains es e → (e.a < n) × (e.b < n)
+pub range_at : (n : ℕ) (es : List Ends) → InRange n es → (e : Ends) → Contains es e → (e.a < n) × (e.b < n)
 range_at n es range e has = All-contains (λ e. (e.a < n) × (e.b < n)) es e range has
 
 pub rank-merged : (n m s t : ℕ) (h : ℕ → ℕ) (es : List Ends) → Merges n s t h → ((u : ℕ) → u < n → h u < m) → InRange n es → s < n → rank m (renamed h es) ≡ rank n (glued s t es)

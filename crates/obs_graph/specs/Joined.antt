@@ -95,6 +95,12 @@ pub record IsMerging (n m s t : ℕ) (h : ℕ → ℕ) : Type 0 where
   pub into : (u : ℕ) → u < n → h u < m
   pub one : Merges n s t h
 
+-- the vertices that the pairs of a list join, and no others, become one by the new names, which are below m
+pub record AreMergedBy (n m : ℕ) (merges : List Ends) (h : ℕ → ℕ) : Type 0 where
+  pub in_range : InRange n merges
+  pub into : (u : ℕ) → u < n → h u < m
+  pub one : (u v : ℕ) → u < n → v < n → (h u ≡ h v) ↔ IsTrue (is_joined merges u v)
+
 -- each branch has both ends in the set
 abbrev pub LiesIn : (ℕ → Bool) → List Ends → Type 0
 LiesIn inside es = All (λ e. IsTrue (inside e.a) × IsTrue (inside e.b)) es

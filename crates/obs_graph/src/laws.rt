@@ -1,7 +1,7 @@
 // The laws of joined, forest and rank.
-ghost use Rattle.std.specs.Prelude.{◌≡◌, ◌≢◌, ◌↔◌, ◌+◌, ◌<◌, ◌≤◌, ℕ, Option, Some, None, List, ◌∷◌, ◌++◌, length, Bool, true, false, not, IsTrue, IsSome, All, AllPairs, Contains, slice_index_or};
+ghost use Rattle.std.specs.Prelude.{◌≡◌, ◌≢◌, ◌↔◌, ◌+◌, ◌<◌, ◌≤◌, ℕ, Option, Some, None, List, [], ◌∷◌, ◌++◌, length, Bool, true, false, not, IsTrue, IsSome, All, AllPairs, Contains, slice_index_or};
 ghost use Rattle.obs_graph.specs.declared.Ends.{Ends};
-ghost use Rattle.obs_graph.specs.Joined.{Chain, is_joined, joined_by, first_joined, rank, rank_in, count_below, InRange, LiesIn, IsSeparate, kept_in, IsForest, AreDifferent, glued, renamed, IsRenaming, IsMerging};
+ghost use Rattle.obs_graph.specs.Joined.{Chain, is_joined, joined_by, first_joined, rank, rank_in, count_below, InRange, LiesIn, IsSeparate, kept_in, IsForest, AreDifferent, glued, renamed, IsRenaming, IsMerging, AreMergedBy};
 ghost use Rattle.obs_graph.specs.Positions.{ends_of, has_end, branches_at, IsForestAt};
 
 /// The test is true exactly where a chain of the branches leads from u to v.
@@ -114,6 +114,19 @@ pub fn merged_by_new_names()
         IsTrue (is_joined es s t) → rank n es ≡ rank m (renamed h es) + 1 }
     ensures rank_if_apart { (n m s t : ℕ) (h : ℕ → ℕ) (es : List Ends) → IsMerging n m s t h → InRange n es →
         is_joined es s t ≡ false → rank n es ≡ rank m (renamed h es) }
+{}
+
+/// Where the vertices that the pairs of a list join become one by new names, the branches join what
+/// they joined together with these pairs, and the rank of the two is the rank that is left and that
+/// of the pairs. A list of one pair merges its two vertices.
+pub fn merged_by_list()
+    ensures joined { (n m : ℕ) (merges : List Ends) (h : ℕ → ℕ) (es : List Ends) → AreMergedBy n m merges h →
+        InRange n es → (u v : ℕ) → u < n → v < n →
+        is_joined (renamed h es) (h u) (h v) ≡ is_joined (merges ++ es) u v }
+    ensures rank { (n m : ℕ) (merges : List Ends) (h : ℕ → ℕ) (es : List Ends) → AreMergedBy n m merges h →
+        InRange n es → rank n (merges ++ es) ≡ rank m (renamed h es) + rank n merges }
+    ensures one { (n m s t : ℕ) (h : ℕ → ℕ) → s ≢ t →
+        IsMerging n m s t h ↔ AreMergedBy n m (record { a = s; b = t } ∷ []) h }
 {}
 
 /// Where two vertices become one, a forest loses one branch at most: of two branches beside a part
