@@ -1,7 +1,7 @@
 // The laws of kept assignments.
 ghost use Rattle.std.specs.Prelude.{◌≡◌, ◌≢◌, ◌+◌, ◌<◌, ◌≤◌, ◌↔◌, ℕ, Bool, false, Option, Some, None, List, length, slice_index_or, slice_set};
 ghost use Rattle.obs_graph.specs.declared.Ends.{Ends};
-ghost use Rattle.obs_graph.specs.Joined.{InRange, IsMerging, is_joined, rank, renamed};
+ghost use Rattle.obs_graph.specs.Joined.{AreMergedBy, InRange, IsMerging, is_joined, rank, renamed};
 ghost use Rattle.obs_graph.specs.Positions.{AreBranches, IsForestAt};
 ghost use Rattle.obs_graph.specs.Shape.{Shape};
 ghost use Rattle.obs_matroid.specs.Assignments.{Pair, branches, others};
@@ -71,6 +71,17 @@ pub fn rank_of_merged()
         rank m (renamed h es) ≤ rank n es }
     ensures same_if_apart { (n m s t : ℕ) (h : ℕ → ℕ) (es : List Ends) → IsMerging n m s t h → InRange n es →
         is_joined es s t ≡ false → rank m (renamed h es) ≡ rank n es }
+{}
+
+/// Where the vertices that the pairs of a list join become one, the rank of a list of branches falls by at most the
+/// rank of the pairs, and so by at most their number.
+pub fn rank_of_merges()
+    ensures at_most { (n m : ℕ) (merges : List Ends) (h : ℕ → ℕ) (es : List Ends) → AreMergedBy n m merges h →
+        InRange n es → rank n es ≤ rank m (renamed h es) + rank n merges }
+    ensures at_most_length { (n m : ℕ) (merges : List Ends) (h : ℕ → ℕ) (es : List Ends) → AreMergedBy n m merges h →
+        InRange n es → rank n es ≤ rank m (renamed h es) + length merges }
+    ensures no_higher { (n m : ℕ) (merges : List Ends) (h : ℕ → ℕ) (es : List Ends) → AreMergedBy n m merges h →
+        InRange n es → rank m (renamed h es) ≤ rank n es }
 {}
 
 /// The pairs that stand still are those whose meter touches their branch.
