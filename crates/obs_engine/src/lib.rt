@@ -13,6 +13,8 @@ mod claims;
 mod command;
 #[cfg(test)]
 mod edit_tests;
+#[cfg(test)]
+mod failure_tests;
 mod files;
 #[cfg(test)]
 mod grids;
