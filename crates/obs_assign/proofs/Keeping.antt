@@ -11,13 +11,14 @@ use Rattle.obs_matroid.specs.Lists.{In}
 use Rattle.obs_matroid.specs.Assignments.{Pair, branches}
 use Rattle.obs_matroid.specs.Closed.{HasFrozen}
 use Rattle.obs_matroid.specs.Slots.{pairs_from, pairs_of}
-use Rattle.obs_matroid.proofs.Contained.{In-from_All}
+use Rattle.obs_matroid.proofs.Contained.{Contains-from_In, In-from_All, In-from_Contains}
 use Rattle.obs_matroid.proofs.Lists.{clash}
 use Rattle.obs_meter.specs.declared.Touch.{Touch}
 use Rattle.obs_meter.specs.Touches.{touch_at}
 use Rattle.obs_forest.specs.Holding.{Holding, taken}
 use Rattle.obs_forest.specs.Holding.{StandsOver as ForestStandsOver}
 use Rattle.obs_forest.proofs.Held.{length-taken, part-taken}
+use Rattle.obs_forest.proofs.Keeping.{taken-exactly}
 use Rattle.obs_assign.specs.declared.Move.{Move}
 use Rattle.obs_assign.specs.Assigned.{Assigned, HoldsPairs, IsWhole, StandsOver, has_flag, pairs}
 use Rattle.obs_assign.specs.Kept.{HasArrays, IsInverse, IsKept, IsListed, Lengths, seen}
@@ -27,6 +28,14 @@ use Rattle.obs_assign.proofs.Moving.{length-moved_path, moved-some}
 
 pub StandsOver-taken : (f : Holding) (g : Shape) (L : List ℕ) → ForestStandsOver (record f { vertices = g.vertices; held = taken g.ends L }) g
 StandsOver-taken f g L = record { vertices = refl; positions = sym (length-taken g.ends L); held = part-taken g.ends L }
+
+-- the forest holds the branches at such a list
+pub held_listed : (f : Holding) (g : Shape) (slots : List (Option ℕ)) (list : List ℕ) → ForestStandsOver f g → HoldsPairs slots f.held → IsListed slots list → f.held ≡ taken g.ends list
+held_listed f g slots list stands holds listed =
+    taken-exactly g.ends f.held list (sym stands.positions) stands.held (λ p. (
+      (λ s. Contains-from_In p list ((listed.exactly p).1 ((holds.exactly p).0 s))),
+      (λ i. (holds.exactly p).1 ((listed.exactly p).0 (In-from_Contains p list i))),
+    ))
 
 module _ (forest after : Holding) (g : Shape) (meters : ℕ) (slots : List (Option ℕ)) (frozen : List Bool) (turns : ℕ)
     (is : after ≡ record forest { vertices = g.vertices; held = taken g.ends (branches (pairs_of (take meters slots))) })
