@@ -2,6 +2,8 @@
 #![tactic(auto)]
 
 mod columns;
+#[cfg(test)]
+mod fault_tests;
 mod faults;
 mod fields;
 pub mod laws;

@@ -1,0 +1,311 @@
+use super::{RowFault, Table, TableEnd, TableFault, read_tables};
+use obs_text::InputFault;
+use std::alloc::Global;
+
+const NODES: &[u8] = b"node,source\na,1\nb,0\nc,0\nd,0\n";
+
+const SWITCHES: &[u8] = b"switch,from,to,closed\n";
+
+const BRANCHES: &[u8] = b"branch,from,to,inservice\nL1,a,b,1\nL2,b,c,1\nL3,c,d,1\n";
+
+const METERS: &[u8] = b"meter,kind,at,inservice\nf1,flow,L1,1\nib,injection,b,1\n";
+
+const CANDIDATES: &[u8] = b"candidate,kind,at,price\np1,flow,L2,0\np2,zero,c,1000000000\n";
+
+// The fault of a table among the others, which have none.
+fn fault_in(alloc: Global, table: Table, bytes: &[u8]) -> Option<(Table, u32, RowFault)> {
+    let nodes = if table == Table::Nodes { bytes } else { NODES };
+    let switches = if table == Table::Switches {
+        bytes
+    } else {
+        SWITCHES
+    };
+    let branches = if table == Table::Branches {
+        bytes
+    } else {
+        BRANCHES
+    };
+    let meters = if table == Table::Meters {
+        bytes
+    } else {
+        METERS
+    };
+    let candidates = if table == Table::Candidates {
+        bytes
+    } else {
+        CANDIDATES
+    };
+    match read_tables(alloc, nodes, switches, branches, meters, Some(candidates)) {
+        Err(TableEnd::Fault(fault)) => Some((fault.table, fault.row, fault.code)),
+        _ => None,
+    }
+}
+
+#[test]
+fn each_fault_comes_where_it_is(rt: HostRuntime) {
+    for (table, bytes, row, code) in [
+        (Table::Nodes, b"".as_slice(), 0, RowFault::NoHeader),
+        (Table::Nodes, b"node\na\n", 0, RowFault::ColumnMissing),
+        (Table::Nodes, b"node,node\na\n", 0, RowFault::ColumnMissing),
+        (
+            Table::Nodes,
+            b"node,source,node\n",
+            0,
+            RowFault::ColumnTwice,
+        ),
+        (
+            Table::Nodes,
+            b"source,zone,node\n1,x\n",
+            1,
+            RowFault::ShortRow,
+        ),
+        (
+            Table::Nodes,
+            b"node,source\na,1\n,1\n",
+            2,
+            RowFault::BadName,
+        ),
+        (
+            Table::Nodes,
+            b"node,source\na,1\n\"b\nb\",1\n",
+            2,
+            RowFault::BadName,
+        ),
+        (Table::Nodes, b"node,source\na,2\n", 1, RowFault::BadFlag),
+        (Table::Nodes, b"node,source\na, 1\n", 1, RowFault::BadFlag),
+        (
+            Table::Nodes,
+            b"node,source\na,1\na,0\n",
+            2,
+            RowFault::NameTwice,
+        ),
+        (
+            Table::Switches,
+            b"switch,from,to,closed\nS1,a,z,7\n",
+            1,
+            RowFault::BadFlag,
+        ),
+        (
+            Table::Switches,
+            b"switch,from,to,closed\nS1,a,z,1\n",
+            1,
+            RowFault::UnknownNode,
+        ),
+        (
+            Table::Switches,
+            b"switch,from,to,closed\nS1,a,b,1\nS1,z,b,1\n",
+            2,
+            RowFault::NameTwice,
+        ),
+        (
+            Table::Branches,
+            b"branch,from,to,inservice\nL1,z,b,1\n",
+            1,
+            RowFault::UnknownNode,
+        ),
+        (
+            Table::Meters,
+            b"meter,kind,at,inservice\nf1,Flow,L1,1\n",
+            1,
+            RowFault::BadKind,
+        ),
+        (
+            Table::Meters,
+            b"meter,kind,at,inservice\nf1,flow,L9,1\n",
+            1,
+            RowFault::UnknownPlace,
+        ),
+        (
+            Table::Meters,
+            b"meter,kind,at,inservice\nz1,zero,L1,1\n",
+            1,
+            RowFault::UnknownPlace,
+        ),
+        (
+            Table::Candidates,
+            b"candidate,kind,at,price\np,flow,L1,1000000001\n",
+            1,
+            RowFault::BadPrice,
+        ),
+        (
+            Table::Candidates,
+            b"candidate,kind,at,price\np,flow,L1,00000000000000000001\n",
+            1,
+            RowFault::BadPrice,
+        ),
+        (
+            Table::Candidates,
+            b"candidate,kind,at,price\np,flow,a,5\n",
+            1,
+            RowFault::UnknownPlace,
+        ),
+    ] {
+        assert_eq!(rt;
+            fault_in(rt.alloc(), table, bytes),
+            Some((table, row, code))
+        );
+    }
+}
+
+// The fault of a table is met in its one row, or in its second after a good one.
+#[test]
+fn each_fault_of_a_row_comes_for_each_table(rt: HostRuntime) {
+    for (table, bytes, row, code) in [
+        (
+            Table::Switches,
+            b"switch,from,to,closed\n,a,b,1\n".as_slice(),
+            1,
+            RowFault::BadName,
+        ),
+        (
+            Table::Branches,
+            b"branch,from,to,inservice\n\x7f,a,b,1\n",
+            1,
+            RowFault::BadName,
+        ),
+        (
+            Table::Meters,
+            b"meter,kind,at,inservice\n,flow,L1,1\n",
+            1,
+            RowFault::BadName,
+        ),
+        (
+            Table::Candidates,
+            b"candidate,kind,at,price\n,flow,L1,1\n",
+            1,
+            RowFault::BadName,
+        ),
+        (
+            Table::Branches,
+            b"branch,from,to,inservice\nL1,a,b,\n",
+            1,
+            RowFault::BadFlag,
+        ),
+        (
+            Table::Meters,
+            b"meter,kind,at,inservice\nf1,flow,L1,yes\n",
+            1,
+            RowFault::BadFlag,
+        ),
+        (
+            Table::Candidates,
+            b"candidate,kind,at,price\np,,L1,1\n",
+            1,
+            RowFault::BadKind,
+        ),
+        (
+            Table::Branches,
+            b"branch,from,to,inservice\nL1,a,b,1\nL1,b,c,1\n",
+            2,
+            RowFault::NameTwice,
+        ),
+        (
+            Table::Meters,
+            b"meter,kind,at,inservice\nf1,flow,L1,1\nf1,flow,L2,1\n",
+            2,
+            RowFault::NameTwice,
+        ),
+        (
+            Table::Candidates,
+            b"candidate,kind,at,price\np,flow,L1,1\np,flow,L2,1\n",
+            2,
+            RowFault::NameTwice,
+        ),
+        (
+            Table::Switches,
+            b"switch,from,to,closed\nS1,a,b\n",
+            1,
+            RowFault::ShortRow,
+        ),
+        (
+            Table::Meters,
+            b"meter,kind,at,inservice\nf1,flow\n",
+            1,
+            RowFault::ShortRow,
+        ),
+        (
+            Table::Branches,
+            b"branch,from,to,from,inservice\nL1,a,b,c,1\n",
+            0,
+            RowFault::ColumnTwice,
+        ),
+        (
+            Table::Candidates,
+            b"candidate,kind,at\np,flow,L1\n",
+            0,
+            RowFault::ColumnMissing,
+        ),
+        (Table::Candidates, b"", 0, RowFault::NoHeader),
+        (
+            Table::Meters,
+            b"meter,kind,at,inservice\ni1,injection,z,1\n",
+            1,
+            RowFault::UnknownPlace,
+        ),
+    ] {
+        assert_eq!(rt;
+            fault_in(rt.alloc(), table, bytes),
+            Some((table, row, code))
+        );
+    }
+}
+
+#[test]
+fn faults_become_input_faults(rt: HostRuntime) {
+    for (table, row, code, part, number, name) in [
+        (
+            Table::Nodes,
+            0,
+            RowFault::NoHeader,
+            b"nodes".as_slice(),
+            1,
+            b"NoHeader".as_slice(),
+        ),
+        (
+            Table::Candidates,
+            20_001,
+            RowFault::TooMany,
+            b"candidates",
+            12,
+            b"TooMany",
+        ),
+    ] {
+        let fault = InputFault::from(TableFault { table, row, code });
+        assert!(rt; fault.part == part && fault.name == name);
+        assert!(rt; fault.place == row && fault.code == number);
+        assert!(rt; TableEnd::Fault(TableFault { table, row, code }).fault() == Some(fault));
+    }
+    assert!(rt; TableEnd::NoMemory.fault().is_none());
+}
+
+#[test]
+fn the_first_table_with_a_fault_is_named(rt: HostRuntime) {
+    let nodes = b"node,source\na,1\na,1\n";
+    let switches = b"switch,from,to\n";
+    let end = read_tables(rt.alloc(), nodes, switches, b"", b"meter\n", Some(b""));
+    let at = match end {
+        Err(TableEnd::Fault(fault)) => Some(fault),
+        _ => None,
+    };
+    assert_eq!(rt;
+        at,
+        Some(TableFault {
+            table: Table::Nodes,
+            row: 2,
+            code: RowFault::NameTwice
+        })
+    );
+    let end = read_tables(rt.alloc(), NODES, switches, b"", b"meter\n", Some(b""));
+    let at = match end {
+        Err(TableEnd::Fault(fault)) => Some(fault),
+        _ => None,
+    };
+    assert_eq!(rt;
+        at,
+        Some(TableFault {
+            table: Table::Switches,
+            row: 0,
+            code: RowFault::ColumnMissing
+        })
+    );
+}
