@@ -7,8 +7,6 @@ mod asks;
 mod components;
 mod counted;
 mod edit;
-#[cfg(test)]
-mod edit_tests;
 mod hand;
 mod kept;
 pub mod laws;
@@ -19,8 +17,6 @@ mod placing;
 mod repair;
 mod seen;
 mod session;
-#[cfg(test)]
-mod tests;
 
 pub use analysis::State;
 pub use edit::{Applied, Done, Edit, Meant, Refusal};

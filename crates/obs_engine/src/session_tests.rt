@@ -137,6 +137,35 @@ fn the_order_of_edits_is_forgotten(rt: HostRuntime) -> Result<(), Fail> {
     answers(&rt, rt.alloc(), other)
 }
 
+// Switches within a bus and between components, of which one is energised; meters and branches that count and that don't.
+#[test]
+fn edits_go_forth_and_back(rt: HostRuntime) -> Result<(), Fail> {
+    let row = Row {
+        words: &TABLES,
+        files: &[
+            b"",
+            b"node,source\na,1\nb,0\nc,0\nd,0\ne,0\ng,0\n",
+            b"switch,from,to,closed\nT,b,c,1\nU,b,c,1\nV,c,e,0\n",
+            b"branch,from,to,inservice\nL1,a,c,1\nL2,c,d,1\nL3,b,c,1\nL4,e,g,1\n",
+            b"meter,kind,at,inservice\nf,flow,L1,1\nh,flow,L2,1\ni,injection,c,1\nk,flow,L3,1\nm,flow,L4,1\n",
+        ],
+        // One of two parallel switches changes no bus, and a flag that is set to what it is changes nothing. The last of them
+        // parts the bus, and the branch within it counts. Then another component is energised, and an idle meter goes.
+        input: b"open U\nopen U\nopen T\nclose U\nclose V\nopen V\nlose k\nregain k\ntrip L3\nrestore L3\nlose f\nlose h\nregain f\ntrip L1\nrestore L1\nregain h\nclose T\n",
+        status: Status::Done,
+        text: b"ok\t2\t2\nok\t2\t2\nok\t3\t3\nok\t2\t2\nok\t3\t3\nok\t2\t2\nok\t2\t2\nok\t2\t2\nok\t2\t2\nok\t2\t2\nok\t2\t2\nok\t1\t2\nok\t2\t2\nok\t0\t0\nok\t2\t2\nok\t2\t2\nok\t2\t2\n",
+    };
+    answers(&rt, rt.alloc(), row)?;
+    // Of two meters on one branch one may go, and then the branch has none.
+    let path = Row {
+        files: &path(NO_SWITCHES),
+        input: b"lose f2\nlose f1\ntrip L3\nregain f1\nregain f2\n",
+        text: b"ok\t2\t3\nok\t1\t3\nok\t1\t2\nok\t2\t2\nok\t2\t2\n",
+        ..row
+    };
+    answers(&rt, rt.alloc(), path)
+}
+
 // A line that is too long is refused, and the last line has no line feed.
 #[test]
 fn refused_lines_end_nothing(rt: HostRuntime) -> Result<(), Fail> {
