@@ -161,7 +161,7 @@ struct Asked<'a> {
     files: Vec<&'a [u8]>,
 }
 
-fn asked<'a>(
+fn asked_in<'a>(
     alloc: Global,
     command: &'a str,
     form: &'a str,
@@ -203,7 +203,7 @@ fn fails_in_each_form(
     ends: Row<'_>,
 ) -> Result<(), Fail> {
     for form in FORMS {
-        let asked = asked(alloc, command, form, meters, behind)?;
+        let asked = asked_in(alloc, command, form, meters, behind)?;
         let row = Row {
             words: &asked.words,
             files: &asked.files,
@@ -326,17 +326,18 @@ fn is_answered_where_spoilt(
 }
 
 // Each file of a command over the network in this form.
-fn spoilt_files_are_answered(rt: &impl Abort, alloc: Global, form: &str) -> Result<(), Fail> {
-    let behind = [
-        ("with", b"".as_slice()),
-        ("candidates", CANDIDATES),
-        ("certificate", PLAN),
-    ];
-    let asked = asked(alloc, "verify", form, OUT, &behind)?;
+fn spoilt_files_are_answered(
+    rt: &impl Abort,
+    alloc: Global,
+    command: &str,
+    form: &str,
+    behind: &[(&str, &[u8])],
+) -> Result<(), Fail> {
+    let asked = asked_in(alloc, command, form, OUT, behind)?;
     let row = Row {
         words: &asked.words,
         files: &asked.files,
-        ..ends(b"", Status::Done, b"valid\t1\n")
+        ..ends(b"", Status::Done, b"")
     };
     for which in 1..row.files.len() {
         is_answered_where_spoilt(rt, alloc, row, which)?;
@@ -346,15 +347,21 @@ fn spoilt_files_are_answered(rt: &impl Abort, alloc: Global, form: &str) -> Resu
 
 #[test]
 fn spoilt_tables_are_answered(rt: HostRuntime) -> Result<(), Fail> {
-    spoilt_files_are_answered(&rt, rt.alloc(), "tables")
+    spoilt_files_are_answered(&rt, rt.alloc(), "report", "tables", &[])
 }
 
 #[test]
-fn spoilt_cdf_files_are_answered(rt: HostRuntime) -> Result<(), Fail> {
-    spoilt_files_are_answered(&rt, rt.alloc(), "cdf")
+fn spoilt_cdf_files_and_certificates_are_answered(rt: HostRuntime) -> Result<(), Fail> {
+    let behind = [
+        ("with", b"".as_slice()),
+        ("candidates", CANDIDATES),
+        ("certificate", PLAN),
+    ];
+    spoilt_files_are_answered(&rt, rt.alloc(), "verify", "cdf", &behind)
 }
 
 #[test]
-fn spoilt_matpower_files_are_answered(rt: HostRuntime) -> Result<(), Fail> {
-    spoilt_files_are_answered(&rt, rt.alloc(), "matpower")
+fn spoilt_matpower_files_and_candidates_are_answered(rt: HostRuntime) -> Result<(), Fail> {
+    let behind = [("candidates", CANDIDATES)];
+    spoilt_files_are_answered(&rt, rt.alloc(), "place", "matpower", &behind)
 }
