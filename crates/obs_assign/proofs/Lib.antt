@@ -14,3 +14,4 @@ pub mod Retained
 pub mod Pinned
 pub mod Free
 pub mod Afterwards
+pub mod Handing
