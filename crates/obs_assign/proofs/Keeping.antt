@@ -1,6 +1,7 @@
 -- What an assignment keeps when its pairs have changed.
 use Rattle.std.proofs.Common.{◌≡◌, ◌≢◌, ℕ, suc, ◌+◌, ◌<◌, ◌≤◌, Bool, false, Option, Some, None, List, [], ◌∷◌, length, get_or, set, take, refl, sym, ap, ◌∙◌, subst, inl, inr, arith, replicate, length-set, get_or-set_same, get_or-set_other}
 use Rattle.std.specs.Prelude.{IfSome}
+use Rattle.std.specs.List.{AllPairs}
 use Rattle.std.proofs.lemmas.Bool.{cases_eq, cases_lt}
 use Rattle.std.proofs.lemmas.List.{get_or-take, get_or-replicate, get_or_past, length-take, length-take-le, take-replicate, length-replicate}
 use Rattle.std.proofs.Math.Seq.{take-set-lt}
@@ -11,13 +12,14 @@ use Rattle.obs_matroid.specs.Lists.{In}
 use Rattle.obs_matroid.specs.Assignments.{Pair, branches}
 use Rattle.obs_matroid.specs.Closed.{HasFrozen}
 use Rattle.obs_matroid.specs.Slots.{pairs_from, pairs_of}
-use Rattle.obs_matroid.proofs.Contained.{In-from_All}
+use Rattle.obs_matroid.proofs.Contained.{Contains-from_In, In-from_All, In-from_Contains}
 use Rattle.obs_matroid.proofs.Lists.{clash}
 use Rattle.obs_meter.specs.declared.Touch.{Touch}
 use Rattle.obs_meter.specs.Touches.{touch_at}
 use Rattle.obs_forest.specs.Holding.{Holding, taken}
 use Rattle.obs_forest.specs.Holding.{StandsOver as ForestStandsOver}
 use Rattle.obs_forest.proofs.Held.{length-taken, part-taken}
+use Rattle.obs_forest.proofs.Keeping.{taken-exactly}
 use Rattle.obs_assign.specs.declared.Move.{Move}
 use Rattle.obs_assign.specs.Assigned.{Assigned, HoldsPairs, IsWhole, StandsOver, has_flag, pairs}
 use Rattle.obs_assign.specs.Kept.{HasArrays, IsInverse, IsKept, IsListed, Lengths, seen}
@@ -27,6 +29,14 @@ use Rattle.obs_assign.proofs.Moving.{length-moved_path, moved-some}
 
 pub StandsOver-taken : (f : Holding) (g : Shape) (L : List ℕ) → ForestStandsOver (record f { vertices = g.vertices; held = taken g.ends L }) g
 StandsOver-taken f g L = record { vertices = refl; positions = sym (length-taken g.ends L); held = part-taken g.ends L }
+
+-- the forest holds the branches at such a list
+pub held_listed : (f : Holding) (g : Shape) (slots : List (Option ℕ)) (list : List ℕ) → ForestStandsOver f g → HoldsPairs slots f.held → IsListed slots list → f.held ≡ taken g.ends list
+held_listed f g slots list stands holds listed =
+    taken-exactly g.ends f.held list (sym stands.positions) stands.held (λ p. (
+      (λ s. Contains-from_In p list ((listed.exactly p).1 ((holds.exactly p).0 s))),
+      (λ i. (holds.exactly p).1 ((listed.exactly p).0 (In-from_Contains p list i))),
+    ))
 
 module _ (forest after : Holding) (g : Shape) (meters : ℕ) (slots : List (Option ℕ)) (frozen : List Bool) (turns : ℕ)
     (is : after ≡ record forest { vertices = g.vertices; held = taken g.ends (branches (pairs_of (take meters slots))) })
@@ -93,14 +103,13 @@ pub path_low : (a : Assigned) (path : List Move) → ArePath a path → (x : Mov
 path_low a [] h x i = absurd i
 path_low a (first ∷ rest) h x i = In-from_All (λ (y : Move). y.meter < length a.slots) (first ∷ rest) h.low x i
 
--- the meter of the only move has no pair
-pub only_move : (a : Assigned) (meters : ℕ) (slots : List (Option ℕ)) (path : List Move) (x : Move) → take meters slots ≡ a.slots → ArePath a path → path ≡ x ∷ [] → get_or slots x.meter None ≡ None
-only_move a meters slots path x is h one =
-    let p : ArePath a (x ∷ []) = subst (λ (t : List Move). ArePath a t) one h in
-    let low = path_low a (x ∷ []) p x (inl refl) in
-    let len = ap (λ (s : List (Option ℕ)). length s) is in
-    let front : x.meter < meters = omega (arith, low, len, length-take meters slots) in
-    sym (get_or-take meters slots x.meter None front) ∙ (ap (λ (s : List (Option ℕ)). get_or s x.meter None) is ∙ p.bare)
+pub path_some : (a : Assigned) (path : List Move) → ArePath a path → 0 < length path
+path_some a [] h = absurd h
+path_some a (first ∷ rest) h = omega arith
+
+pub path_different : (a : Assigned) (path : List Move) → ArePath a path → AllPairs (λ (x y : Move). x.meter ≢ y.meter) path
+path_different a [] h = absurd h
+path_different a (first ∷ rest) h = h.different
 
 pub length-path : (a : Assigned) (path : List Move) → ArePath a path → length (pairs_of (moved path a.slots)) ≡ length (pairs a) + 1
 length-path a [] h = absurd h

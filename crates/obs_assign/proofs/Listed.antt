@@ -2,7 +2,7 @@
 use Rattle.std.proofs.Common.{◌≡◌, ℕ, ◌+◌, ◌<◌, ◌≤◌, Option, Some, None, List, [], ◌∷◌, ◌++◌, cond, length, get_or, set, take, sym, ap, ◌∙◌, subst, inl, inr, ◌⊎◌, ◌↔◌, arith, get_or-set_same, get_or-set_other, length-set}
 use Rattle.std.specs.Cmp.Derive.{one_truth}
 use Rattle.std.proofs.lemmas.Bool.{cases_eq}
-use Rattle.std.proofs.lemmas.List.{get_or-take, get_or_default, length-take-le, same_lists, take_more_set}
+use Rattle.std.proofs.lemmas.List.{get_or-take, get_or_default, length-take-le, same_lists, take_at, take_more_set}
 use Rattle.std.proofs.Math.Seq.{take-set-lt}
 use Rattle.obs_graph.specs.declared.Ends.{Ends}
 use Rattle.obs_graph.specs.Positions.{IsForestAt}
@@ -111,6 +111,7 @@ pub record IsAdded (ends : List (Option Ends)) (meters : ℕ) (slots owners : Li
   pub counted : count + 1 ≡ length (pairs_of (take meters (set slots m (Some e))))
   pub inverse : IsInverse (take meters (set slots m (Some e))) (set owners e (Some m))
   pub listed : IsListed (take meters (set slots m (Some e))) (take (count + 1) (set list count e))
+  pub front : take count (take (count + 1) (set list count e)) ≡ take count list
 
 pub IsAdded-made : (ends : List (Option Ends)) (meters : ℕ) (slots owners : List (Option ℕ)) (list : List ℕ) (count m e : ℕ)
     → meters ≤ length slots → m < meters → get_or slots m None ≡ None → meters ≤ length list → length ends ≤ length owners
@@ -138,4 +139,5 @@ IsAdded-made ends meters slots owners list count m e most lm bare room low count
       counted = counted ∙ ap (λ (s : List (Option ℕ)). length (pairs_of s)) (sym first);
       inverse = subst (λ (s : List (Option ℕ)). IsInverse s (set owners e (Some m))) (sym first) (IsInverse-more old m e inside none apart owners inverse (omega (arith, below, low)));
       listed = subst (λ (s : List (Option ℕ)). IsListed s (take (count + 1) (set list count e))) (sym first) all;
+      front = ap (take count) front ∙ take_at (take count list) (e ∷ []) count (length-take-le count list (omega (arith, few, room)));
     }

@@ -3,7 +3,7 @@ ghost use Rattle.std.specs.Prelude.{◌≡◌, ◌<◌, ◌≤◌, ◌^◌, ℕ,
 ghost use Rattle.obs_graph.specs.Positions.{IsForestAt};
 ghost use Rattle.obs_matroid.specs.Assignments.{branches};
 ghost use Rattle.obs_matroid.specs.Slots.{pairs_of};
-ghost use Rattle.obs_forest.specs.Holding.{taken};
+ghost use Rattle.obs_forest.specs.Holding.{taken, StandsOver};
 ghost use Rattle.obs_assign.specs.Kept.{IsInverse, IsListed, SlotsApart};
 
 use crate::Move;
@@ -89,11 +89,11 @@ pub fn add_pair(
     requires bare { slice_index_or slots.old x.meter None ≡ None }
     requires room { meters ≤ length list.old }
     requires owners { length g.now.ends ≤ length owners.old }
-    requires vertices { g.now.vertices ≤ forest.old.most_vertices }
-    requires branches { length g.now.ends ≤ forest.old.most_branches }
     requires count { count ≡ length (pairs_of (take meters slots.old)) }
     requires inverse { IsInverse (take meters slots.old) owners.old }
     requires listed { IsListed (take meters slots.old) (take count list.old) }
+    requires stands { StandsOver forest.old g.now }
+    requires held { forest.old.held ≡ taken g.now.ends (take count list.old) }
     requires forest { IsForestAt g.now.ends (branches (pairs_of (slice_set (take meters slots.old) x.meter (Some x.branch)))) }
     ensures moved { slots.new ≡ slice_set slots.old x.meter (Some x.branch) }
     ensures count { result ≡ length (pairs_of (take meters slots.new)) }
@@ -105,6 +105,6 @@ pub fn add_pair(
     owners[x.branch as usize] = Some(x.meter);
     list[count as usize] = x.branch;
     let more = count + 1;
-    forest.refill(g, &list[..more as usize]);
+    forest.refill_from(g, &list[..more as usize], count as usize);
     more
 }

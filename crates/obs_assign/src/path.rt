@@ -3,7 +3,7 @@ ghost use Rattle.std.specs.Prelude.{◌≡◌, ◌≢◌, ◌<◌, ◌≤◌, �
 ghost use Rattle.obs_graph.specs.Positions.{IsForestAt};
 ghost use Rattle.obs_matroid.specs.Assignments.{branches};
 ghost use Rattle.obs_matroid.specs.Slots.{pairs_of};
-ghost use Rattle.obs_forest.specs.Holding.{taken};
+ghost use Rattle.obs_forest.specs.Holding.{taken, StandsOver};
 ghost use Rattle.obs_assign.specs.declared.Move.{Move};
 ghost use Rattle.obs_assign.specs.Kept.{IsInverse, IsListed};
 ghost use Rattle.obs_assign.specs.Moves.{HandsOn, moved};
@@ -62,11 +62,11 @@ fn hand_on(
     requires hands { HandsOn slots.old None path.now }
     requires room { meters ≤ length list.old }
     requires owners { length g.now.ends ≤ length owners.old }
-    requires vertices { g.now.vertices ≤ forest.old.most_vertices }
-    requires branches { length g.now.ends ≤ forest.old.most_branches }
     requires count { count ≡ length (pairs_of (take meters slots.old)) }
     requires inverse { IsInverse (take meters slots.old) owners.old }
     requires listed { IsListed (take meters slots.old) (take count list.old) }
+    requires stands { StandsOver forest.old g.now }
+    requires held { forest.old.held ≡ taken g.now.ends (take count list.old) }
     requires forest { IsForestAt g.now.ends (branches (pairs_of (moved path.now (take meters slots.old)))) }
     ensures moved { slots.new ≡ moved path.now slots.old }
     ensures count { result ≡ length (pairs_of (take meters slots.new)) }
@@ -115,6 +115,8 @@ pub fn take_path(
     requires count { count ≡ length (pairs_of (take meters slots.old)) }
     requires inverse { IsInverse (take meters slots.old) owners.old }
     requires listed { IsListed (take meters slots.old) (take count list.old) }
+    requires stands { StandsOver forest.old g.now }
+    requires held { forest.old.held ≡ taken g.now.ends (take count list.old) }
     requires forest { IsForestAt g.now.ends (branches (pairs_of (moved path.now (take meters slots.old)))) }
     ensures moved { slots.new ≡ moved path.now slots.old }
     ensures count { result ≡ length (pairs_of (take meters slots.new)) }
