@@ -51,9 +51,9 @@ set-pinned slots m e k f ne lm lk =
     same_lists (set new k (Some f)) (set old k (Some f)) (omega (arith, o, l, n, length-set new k (Some f), length-set old k (Some f))) (λ j d low. elim (cases_eq j k) [
       | inl y ↦ rw y (get_or-set_same new k (Some f) d (omega (arith, l, n, lk)) ∙ sym (get_or-set_same old k (Some f) d (omega (arith, o, lk))))
       | inr a ↦ get_or-set_other new k j (Some f) d a ∙ (elim (cases_eq j m) [
-          | inl y ↦ rw y (get_or-set_same less m (Some e) d (omega (arith, l, lm)) ∙ sym (get_or-set_same slots m (Some e) d lm))
-          | inr b ↦ get_or-set_other less m j (Some e) d b ∙ (get_or-set_other slots k j None d a ∙ sym (get_or-set_other slots m j (Some e) d b))
-        ] ∙ sym (get_or-set_other old k j (Some f) d a))
+        | inl y ↦ rw y (get_or-set_same less m (Some e) d (omega (arith, l, lm)) ∙ sym (get_or-set_same slots m (Some e) d lm))
+        | inr b ↦ get_or-set_other less m j (Some e) d b ∙ (get_or-set_other slots k j None d a ∙ sym (get_or-set_other slots m j (Some e) d b))
+      ] ∙ sym (get_or-set_other old k j (Some f) d a))
     ])
 
 -- the moves that are left put in what the path does, and the pairs are kept and listed

@@ -15,3 +15,4 @@ pub mod Pinned
 pub mod Free
 pub mod Afterwards
 pub mod Handing
+pub mod Worked
