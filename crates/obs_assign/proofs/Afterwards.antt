@@ -13,13 +13,13 @@ use Rattle.obs_assign.proofs.Pinning.{pinned-at, pinned-other}
 use Rattle.obs_assign.proofs.Slotted.{slots_apart}
 
 -- no two of the moves have one meter
-abbrev Differ : List Move → Type 0
+abbrev pub Differ : List Move → Type 0
 Differ path = AllPairs (λ (x y : Move). x.meter ≢ y.meter) path
 
-head_apart : (x : Move) (path : List Move) → Differ (x ∷ path) → (y : Move) → In y path → x.meter ≢ y.meter
+pub head_apart : (x : Move) (path : List Move) → Differ (x ∷ path) → (y : Move) → In y path → x.meter ≢ y.meter
 head_apart x path d y i = let c = Contains-from_In y path i in let l = c.1 in λ e. d 0 (suc c.0) y (omega arith) (omega (arith, l)) (e ∙ sym (ap (λ (z : Move). z.meter) c.2))
 
-tail_apart : (x : Move) (path : List Move) → Differ (x ∷ path) → Differ path
+pub tail_apart : (x : Move) (path : List Move) → Differ (x ∷ path) → Differ path
 tail_apart x path d = λ i j e l m. d (suc i) (suc j) e (omega (arith, l)) (omega (arith, m))
 
 -- a meter that isn't moved keeps what it has

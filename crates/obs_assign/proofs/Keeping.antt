@@ -1,6 +1,7 @@
 -- What an assignment keeps when its pairs have changed.
 use Rattle.std.proofs.Common.{◌≡◌, ◌≢◌, ℕ, suc, ◌+◌, ◌<◌, ◌≤◌, Bool, false, Option, Some, None, List, [], ◌∷◌, length, get_or, set, take, refl, sym, ap, ◌∙◌, subst, inl, inr, arith, replicate, length-set, get_or-set_same, get_or-set_other}
 use Rattle.std.specs.Prelude.{IfSome}
+use Rattle.std.specs.List.{AllPairs}
 use Rattle.std.proofs.lemmas.Bool.{cases_eq, cases_lt}
 use Rattle.std.proofs.lemmas.List.{get_or-take, get_or-replicate, get_or_past, length-take, length-take-le, take-replicate, length-replicate}
 use Rattle.std.proofs.Math.Seq.{take-set-lt}
@@ -102,14 +103,13 @@ pub path_low : (a : Assigned) (path : List Move) → ArePath a path → (x : Mov
 path_low a [] h x i = absurd i
 path_low a (first ∷ rest) h x i = In-from_All (λ (y : Move). y.meter < length a.slots) (first ∷ rest) h.low x i
 
--- the meter of the only move has no pair
-pub only_move : (a : Assigned) (meters : ℕ) (slots : List (Option ℕ)) (path : List Move) (x : Move) → take meters slots ≡ a.slots → ArePath a path → path ≡ x ∷ [] → get_or slots x.meter None ≡ None
-only_move a meters slots path x is h one =
-    let p : ArePath a (x ∷ []) = subst (λ (t : List Move). ArePath a t) one h in
-    let low = path_low a (x ∷ []) p x (inl refl) in
-    let len = ap (λ (s : List (Option ℕ)). length s) is in
-    let front : x.meter < meters = omega (arith, low, len, length-take meters slots) in
-    sym (get_or-take meters slots x.meter None front) ∙ (ap (λ (s : List (Option ℕ)). get_or s x.meter None) is ∙ p.bare)
+pub path_some : (a : Assigned) (path : List Move) → ArePath a path → 0 < length path
+path_some a [] h = absurd h
+path_some a (first ∷ rest) h = omega arith
+
+pub path_different : (a : Assigned) (path : List Move) → ArePath a path → AllPairs (λ (x y : Move). x.meter ≢ y.meter) path
+path_different a [] h = absurd h
+path_different a (first ∷ rest) h = h.different
 
 pub length-path : (a : Assigned) (path : List Move) → ArePath a path → length (pairs_of (moved path a.slots)) ≡ length (pairs a) + 1
 length-path a [] h = absurd h

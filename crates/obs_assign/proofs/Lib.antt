@@ -14,3 +14,5 @@ pub mod Retained
 pub mod Pinned
 pub mod Free
 pub mod Afterwards
+pub mod Handing
+pub mod Worked

@@ -1,5 +1,5 @@
 -- Moves of an assignment, and its turns.
-use Rattle.std.specs.Prelude.{◌≡◌, ◌≢◌, ℕ, ◌+◌, ◌<◌, false, min, Option, Some, None, List, [], ◌∷◌, All, AllPairs, length, slice_set}
+use Rattle.std.specs.Prelude.{◌≡◌, ◌≢◌, ℕ, ◌+◌, ◌<◌, false, min, Option, Some, None, List, [], ◌∷◌, All, AllPairs, length, slice_index_or, slice_set}
 use Rattle.obs_assign.specs.declared.Move.{Move}
 use Rattle.obs_assign.specs.Assigned.{Assigned, branch_at, is_frozen}
 
@@ -7,6 +7,11 @@ use Rattle.obs_assign.specs.Assigned.{Assigned, branch_at, is_frozen}
 abbrev pub moved : List Move → List (Option ℕ) → List (Option ℕ)
 moved [] slots = slots
 moved (x ∷ path) slots = moved path (slice_set slots x.meter (Some x.branch))
+
+-- the meter of the first move has `before`, and that of each other one the branch that the move in front of it takes
+abbrev pub HandsOn : List (Option ℕ) → Option ℕ → List Move → Type 0
+HandsOn slots before [] = Unit {0}
+HandsOn slots before (x ∷ path) = (slice_index_or slots x.meter None ≡ before) × HandsOn slots (Some x.branch) path
 
 -- the first of the moves gives a pair to a meter that has none, the others move meters that have pairs and aren't
 -- frozen, and all these meters are different

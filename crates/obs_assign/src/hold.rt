@@ -1,12 +1,10 @@
 // The pairs, listed by their branches and held in a forest.
-ghost use Rattle.std.specs.Prelude.{◌≡◌, ◌<◌, ◌≤◌, ◌^◌, ℕ, All, Some, None, [], ◌∷◌, false, length, replicate, slice_index_or, slice_set, take};
+ghost use Rattle.std.specs.Prelude.{◌≡◌, ◌<◌, ◌≤◌, ◌^◌, ℕ, Some, None, false, length, replicate, slice_index_or, slice_set, take};
 ghost use Rattle.obs_graph.specs.Positions.{IsForestAt};
 ghost use Rattle.obs_matroid.specs.Assignments.{branches};
 ghost use Rattle.obs_matroid.specs.Slots.{pairs_of};
 ghost use Rattle.obs_forest.specs.Holding.{taken, StandsOver};
-ghost use Rattle.obs_assign.specs.declared.Move.{Move};
 ghost use Rattle.obs_assign.specs.Kept.{IsInverse, IsListed, SlotsApart};
-ghost use Rattle.obs_assign.specs.Moves.{moved};
 
 use crate::Move;
 use obs_forest::Forest;
@@ -74,18 +72,8 @@ pub fn hold_pairs(
     count as u32
 }
 
-/// Writes the new branch of each meter that moves.
-fn write_moves(path: &[Move], slots: &mut [Option<u32>])
-    requires low { All (λ x. x.meter < length slots.old) path.now }
-    ensures moved { slots.new ≡ moved path.now slots.old }
-{
-    for x in path {
-        slots[x.meter as usize] = Some(x.branch);
-    }
-}
-
 /// Puts a pair in for a meter that has none, whose branch goes to the end of the list. Says how many pairs there are.
-fn add_pair(
+pub fn add_pair(
     g: &Graph,
     meters: usize,
     slots: &mut [Option<u32>],
@@ -119,43 +107,4 @@ fn add_pair(
     let more = count + 1;
     forest.refill_from(g, &list[..more as usize], count as usize);
     more
-}
-
-/// Puts the moves of a path in, and holds the branches of the pairs. Where one move alone adds a pair, the list is kept and
-/// gets its branch; else the pairs are listed anew. Says how many they are.
-pub fn take_path(
-    g: &Graph,
-    meters: usize,
-    slots: &mut [Option<u32>],
-    owners: &mut [Option<u32>],
-    list: &mut [u32],
-    forest: &mut Forest,
-    count: u32,
-    path: &[Move],
-) -> u32
-    requires few { meters < 2 ^ 32 }
-    requires meters { meters ≤ length slots.old }
-    requires low { All (λ x. x.meter < meters) path.now }
-    requires bare { (x : Move) → path.now ≡ x ∷ [] → slice_index_or slots.old x.meter None ≡ None }
-    requires room { meters ≤ length list.old }
-    requires owners { length g.now.ends ≤ length owners.old }
-    requires vertices { g.now.vertices ≤ forest.old.most_vertices }
-    requires branches { length g.now.ends ≤ forest.old.most_branches }
-    requires count { count ≡ length (pairs_of (take meters slots.old)) }
-    requires inverse { IsInverse (take meters slots.old) owners.old }
-    requires listed { IsListed (take meters slots.old) (take count list.old) }
-    requires stands { StandsOver forest.old g.now }
-    requires held { forest.old.held ≡ taken g.now.ends (take count list.old) }
-    requires forest { IsForestAt g.now.ends (branches (pairs_of (moved path.now (take meters slots.old)))) }
-    ensures moved { slots.new ≡ moved path.now slots.old }
-    ensures count { result ≡ length (pairs_of (take meters slots.new)) }
-    ensures inverse { IsInverse (take meters slots.new) owners.new }
-    ensures listed { IsListed (take meters slots.new) (take result list.new) }
-    ensures forest { forest.new ≡ record forest.old { vertices = g.now.vertices; held = taken g.now.ends (branches (pairs_of (take meters slots.new))) } }
-{
-    if path.len() == 1 {
-        return add_pair(g, meters, slots, owners, list, forest, count, path[0]);
-    }
-    write_moves(path, slots);
-    hold_pairs(g, meters, slots, owners, list, forest)
 }

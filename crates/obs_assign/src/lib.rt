@@ -11,6 +11,7 @@ pub struct Move {
 mod hold;
 pub mod laws;
 mod memory;
+mod path;
 mod retain;
 mod spare;
 mod steps;

@@ -12,8 +12,9 @@ ghost use Rattle.obs_assign.specs.Pins.{IsPinnedAt, MayPin};
 ghost use Rattle.obs_assign.specs.Still.{AreRetained};
 
 use crate::Move;
-use crate::hold::{clear_flags, empty, hold_pairs, take_path};
+use crate::hold::{clear_flags, empty, hold_pairs};
 use crate::memory::NoMemory;
+use crate::path::take_path;
 use crate::retain::retain;
 use crate::spare::{spare_for, take_pin};
 use crate::steps::{Steps, turn};

@@ -9,15 +9,15 @@ use Rattle.obs_forest.proofs.Keeping.{written_back}
 use Rattle.obs_assign.specs.Assigned.{Assigned, IsWhole, StandsOver}
 use Rattle.obs_assign.specs.Kept.{seen}
 use Rattle.obs_assign.specs.Moves.{moved}
-use Rattle.obs_assign.proofs.Keeping.{HasArrays-same, IsKept-by, held_listed, only_move}
+use Rattle.obs_assign.proofs.Keeping.{HasArrays-same, IsKept-by, held_listed, path_different, path_some}
 use Rattle.obs_assign.proofs.Changes.{IsMoved, IsMoved-made}
 use Rattle.obs_assign.proofs.whole.Assignment.augment.Goals as goal
 
-pub take_path-self-inside-requires-clause-bare : goal.take_path-self-inside-requires-clause-bare
-take_path-self-inside-requires-clause-bare g c = λ x one.
-    let ins = c.self.inside in
-    ap (λ (s : List (Option ℕ)). get_or s x.meter None) c.deref_mut.ensures.value
-    ∙ only_move c.args.self.now ins.meters ins.slots.items c.args.path.now x (ap (λ (a : Assigned). a.slots) c.self.view_is) c.requires.path one
+pub take_path-self-inside-requires-clause-some : goal.take_path-self-inside-requires-clause-some
+take_path-self-inside-requires-clause-some g c = path_some c.args.self.now c.args.path.now c.requires.path
+
+pub take_path-self-inside-requires-clause-different : goal.take_path-self-inside-requires-clause-different
+take_path-self-inside-requires-clause-different g c = path_different c.args.self.now c.args.path.now c.requires.path
 
 pub take_path-self-inside-requires-clause-stands : goal.take_path-self-inside-requires-clause-stands
 take_path-self-inside-requires-clause-stands g c = subst (λ (a : Assigned). ForestStandsOver a.forest c.args.g.now) (sym c.self.view_is) c.requires.stands.forest

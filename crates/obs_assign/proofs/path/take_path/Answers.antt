@@ -6,7 +6,7 @@ use Rattle.obs_matroid.proofs.Contained.{In-from_All}
 use Rattle.obs_assign.specs.declared.Move.{Move}
 use Rattle.obs_assign.specs.Moves.{moved}
 use Rattle.obs_assign.proofs.Keeping.{take-moved}
-use Rattle.obs_assign.proofs.hold.take_path.Goals as goal
+use Rattle.obs_assign.proofs.path.take_path.Goals as goal
 
 pub hold_pairs-requires-clause-forest : goal.hold_pairs-requires-clause-forest
 hold_pairs-requires-clause-forest c =

@@ -1,0 +1,6 @@
+use Rattle.std.proofs.Common.{None, drop}
+use Rattle.obs_assign.specs.Moves.{HandsOn}
+use Rattle.obs_assign.proofs.path.hands_on.Given as goal
+
+abbrev pub invariant-loop-x : goal.invariant-loop-x
+invariant-loop-x l = HandsOn l.slots l.before (drop l.x-index l.path) → HandsOn l.slots None l.path
