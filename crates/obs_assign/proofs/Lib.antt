@@ -15,4 +15,3 @@ pub mod Pinned
 pub mod Free
 pub mod Afterwards
 pub mod Handing
-pub mod Worked

@@ -90,52 +90,6 @@ fn carry(rt: &impl Abort, g: &mut Graph, ms: &Meters, a: &mut Assignment)
     assert!(rt; a.retain_touching(g, ms) == 0);
 }
 
-// The same network. The injection takes the first branch. When it takes the second one, it hands the first one on to a flow
-// meter.
-fn hand_over<L: Ledger>(
-    rt: &impl Abort,
-    g: &mut Graph,
-    ms: &mut Meters,
-    a: &mut Assignment,
-    steps: &mut Steps<L>,
-)
-    requires vertices { 4 ≤ g.old.most_vertices }
-    requires branches { 3 ≤ g.old.most_branches }
-    requires meters { 3 ≤ ms.old.most }
-    requires most_meters { 3 ≤ a.old.most_meters }
-    requires most_vertices { 4 ≤ a.old.forest.most_vertices }
-    requires most_branches { 3 ≤ a.old.forest.most_branches }
-    ensures ticks { steps.new ≡ steps.old + 2 }
-{
-    g.refill(
-        4,
-        &[
-            Some(Ends { a: 0, b: 1 }),
-            Some(Ends { a: 1, b: 2 }),
-            Some(Ends { a: 2, b: 3 }),
-        ],
-    );
-    ms.refill(&[Touch::Edge(0), Touch::Edge(0), Touch::Star(1)]);
-    a.clear(g, ms);
-    let first = Move {
-        meter: 2,
-        branch: 0,
-    };
-    a.augment(g, ms, &[first], steps);
-    has(rt, a, &[None, None, Some(0)]);
-    let taken = Move {
-        meter: 0,
-        branch: 0,
-    };
-    let free = Move {
-        meter: 2,
-        branch: 1,
-    };
-    a.augment(g, ms, &[taken, free], steps);
-    has(rt, a, &[Some(0), None, Some(1)]);
-    assert!(rt; a.length() == 2 && a.meter_of(0) == Some(0) && a.meter_of(1) == Some(2));
-}
-
 // A triangle with an injection at the first vertex and a flow meter on the first branch. Once the injection is pinned to
 // that branch, the flow meter may not be.
 fn pin<L: Ledger>(
@@ -180,10 +134,6 @@ fn both<L: Ledger>(rt: &impl Abort, alloc: Global, blank: Blank) -> Result<(), F
     let mut a = Assignment::make(alloc, 3, 3, 4)?;
     let mut steps: Steps<L> = Steps::begin(blank);
     grow(rt, &mut g, &mut ms, &mut a, &mut steps);
-    let mut g = Graph::make(alloc, 4, 3)?;
-    let mut ms = Meters::make(alloc, 3)?;
-    let mut a = Assignment::make(alloc, 3, 3, 4)?;
-    hand_over(rt, &mut g, &mut ms, &mut a, &mut steps);
     let mut g = Graph::make(alloc, 3, 3)?;
     let mut ms = Meters::make(alloc, 2)?;
     let mut a = Assignment::make(alloc, 2, 3, 3)?;
