@@ -7,8 +7,8 @@ ghost use Rattle.obs_exchange.specs.Closed.{IsLeastClosedAt, IsSource};
 ghost use Rattle.obs_exchange.specs.Found.{IsFound};
 ghost use Rattle.obs_exchange.specs.Searching.{IsEnd, IsFreeFor, IsReady, end_of, first_of};
 
-use crate::queue::{begin, first_source, is_source, sources_end};
-use crate::visit::spread;
+use crate::begin::spread_range;
+use crate::queue::{first_source, is_source, sources_end};
 use crate::walk::is_free;
 use crate::{Found, Sources};
 use obs_assign::{Assignment, Move, Steps};
@@ -172,9 +172,21 @@ pub fn find(
     walked.fill(false);
     stars.fill(false);
     let mut tail = 0;
-    begin(g, ms, a, from, marks, parents, queue, &mut tail, walked);
-    match spread(
-        g, ms, a, from, marks, parents, queue, &mut tail, walked, stars, cycle,
+    let end = sources_end(from, ms.count());
+    match spread_range(
+        g,
+        ms,
+        a,
+        from,
+        first_source(from),
+        end,
+        marks,
+        parents,
+        queue,
+        &mut tail,
+        walked,
+        stars,
+        cycle,
     ) {
         Some(x) => Some(trace(g, ms, a, from, x, marks, parents, queue, tail, walked, path)),
         None => None,

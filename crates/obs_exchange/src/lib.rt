@@ -22,6 +22,7 @@ pub struct Lengthened {
     pub closed: bool,
 }
 
+mod begin;
 mod exchange;
 mod find;
 pub mod laws;

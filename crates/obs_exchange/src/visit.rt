@@ -127,12 +127,13 @@ fn visit(
     free
 }
 
-/// Visits the meters of the queue in their order, up to the first one that touches a free branch.
+/// Visits the meters of the queue in their order, from a place on, up to the first one that touches a free branch.
 pub fn spread(
     g: &Graph,
     ms: &Meters,
     a: &Assignment,
     from: Sources,
+    place: usize,
     marks: &mut [bool],
     parents: &mut [Option<Move>],
     queue: &mut [u32],
@@ -147,15 +148,16 @@ pub fn spread(
     requires room { g.now.vertices ≤ length cycle.old }
     requires stars { g.now.vertices ≤ length stars.old }
     requires flags { length g.now.ends ≤ length walked.old }
-    requires searching { IsSearching g.now.ends ms.now.touches from a.now marks.old parents.old queue.old tail.old 0 walked.old }
+    requires searching { IsSearching g.now.ends ms.now.touches from a.now marks.old parents.old queue.old tail.old place walked.old }
     requires starred { AreStarred g.now.ends stars.old walked.old }
     ensures found { MatchOption result
         (IsSearching g.now.ends ms.now.touches from a.now marks.new parents.new queue.new tail.new tail.new walked.new)
         (λ x. IsEnd g.now.ends ms.now.touches from a.now marks.new parents.new queue.new tail.new walked.new x) }
+    ensures starred { AreStarred g.now.ends stars.new walked.new }
     ensures keeps { Keeps marks.old marks.new }
 {
     let _ = ms.count();
-    let mut head = 0;
+    let mut head = place;
     while head < *tail {
         let m = queue[head];
         if let Some(e) = visit(
