@@ -6,7 +6,7 @@ ghost use Rattle.obs_exchange.specs.Closed.{IsSource};
 ghost use Rattle.obs_exchange.specs.Searching.{AreMarked, AreStarred, IsEnd, IsSearching, Keeps, end_of, first_of};
 
 use crate::Sources;
-use crate::queue::{is_source, push};
+use crate::queue::{first_source, is_source, push, sources_end};
 use crate::visit::spread;
 use obs_assign::{Assignment, Move};
 use obs_graph::Graph;
@@ -61,7 +61,7 @@ fn spread_source(
 
 /// Marks the live sources from one meter on, below a limit, and visits what is reached from each before the next, up to the
 /// first free branch.
-pub fn spread_range(
+fn spread_range(
     g: &Graph,
     ms: &Meters,
     a: &Assignment,
@@ -102,4 +102,58 @@ pub fn spread_range(
         }
     }
     None
+}
+
+/// Marks the live sources, those from the given meter on before the others, and visits what is reached from each before the
+/// next, up to the first free branch. The second range is the whole one; its marked meters are passed over.
+pub fn spread_all(
+    g: &Graph,
+    ms: &Meters,
+    a: &Assignment,
+    from: Sources,
+    middle: u32,
+    marks: &mut [bool],
+    parents: &mut [Option<Move>],
+    queue: &mut [u32],
+    tail: &mut usize,
+    walked: &mut [bool],
+    stars: &mut [bool],
+    cycle: &mut [u32],
+) -> Option<Move>
+    requires stands { StandsOver a.now g.now ms.now.touches }
+    requires whole { IsWhole a.now }
+    requires in_range { AreInRange g.now ms.now.touches }
+    requires room { g.now.vertices ≤ length cycle.old }
+    requires stars { g.now.vertices ≤ length stars.old }
+    requires flags { length g.now.ends ≤ length walked.old }
+    requires low { end_of from (length ms.now.touches) ≤ length ms.now.touches }
+    requires middle { first_of from ≤ middle }
+    requires searching { IsSearching g.now.ends ms.now.touches from a.now marks.old parents.old queue.old tail.old tail.old walked.old }
+    requires starred { AreStarred g.now.ends stars.old walked.old }
+    ensures found { MatchOption result
+        (IsSearching g.now.ends ms.now.touches from a.now marks.new parents.new queue.new tail.new tail.new walked.new
+        × AreMarked g.now.ends ms.now.touches from a.now marks.new (first_of from) (end_of from (length ms.now.touches)))
+        (λ x. IsEnd g.now.ends ms.now.touches from a.now marks.new parents.new queue.new tail.new walked.new x) }
+{
+    let end = sources_end(from, ms.count());
+    if let Some(x) = spread_range(
+        g, ms, a, from, middle, end, marks, parents, queue, tail, walked, stars, cycle,
+    ) {
+        return Some(x);
+    }
+    spread_range(
+        g,
+        ms,
+        a,
+        from,
+        first_source(from),
+        end,
+        marks,
+        parents,
+        queue,
+        tail,
+        walked,
+        stars,
+        cycle,
+    )
 }

@@ -7,7 +7,7 @@ ghost use Rattle.obs_exchange.specs.Closed.{IsLeastClosedAt, IsSource};
 ghost use Rattle.obs_exchange.specs.Found.{IsFound};
 ghost use Rattle.obs_exchange.specs.Searching.{IsEnd, IsFreeFor, IsReady, end_of, first_of};
 
-use crate::begin::spread_range;
+use crate::begin::spread_all;
 use crate::queue::{first_source, is_source, sources_end};
 use crate::walk::is_free;
 use crate::{Found, Sources};
@@ -125,15 +125,16 @@ fn trace(
 }
 
 /// Looks for a path of moves that gives a source a pair, writes it at the end of the array and says where it begins. None
-/// where there is no such path; the marks are then the least closed set. The sources from the given meter on are tried for
-/// a free branch first; where this isn't the first source, the stars tell at which vertices an earlier search found no free
-/// branch.
+/// where there is no such path; the marks are then the least closed set. The sources from the first given meter on are
+/// tried for a free branch; where this isn't the first source, the stars tell at which vertices an earlier search found no
+/// free branch. Where none is found, it searches from the sources, those from the second given meter on before the others.
 pub fn find(
     g: &Graph,
     ms: &Meters,
     a: &Assignment,
     from: Sources,
     first: u32,
+    middle: u32,
     marks: &mut [bool],
     parents: &mut [Option<Move>],
     queue: &mut [u32],
@@ -146,6 +147,7 @@ pub fn find(
     requires in_range { AreInRange g.now ms.now.touches }
     requires low { end_of from (length ms.now.touches) ≤ length ms.now.touches }
     requires first { first_of from ≤ first }
+    requires middle { first_of from ≤ middle }
     requires marks { length ms.now.touches ≤ length marks.old }
     requires parents { length ms.now.touches ≤ length parents.old }
     requires queue { length ms.now.touches ≤ length queue.old }
@@ -172,21 +174,8 @@ pub fn find(
     walked.fill(false);
     stars.fill(false);
     let mut tail = 0;
-    let end = sources_end(from, ms.count());
-    match spread_range(
-        g,
-        ms,
-        a,
-        from,
-        first_source(from),
-        end,
-        marks,
-        parents,
-        queue,
-        &mut tail,
-        walked,
-        stars,
-        cycle,
+    match spread_all(
+        g, ms, a, from, middle, marks, parents, queue, &mut tail, walked, stars, cycle,
     ) {
         Some(x) => Some(trace(g, ms, a, from, x, marks, parents, queue, tail, walked, path)),
         None => None,

@@ -7,7 +7,7 @@ ghost use Rattle.obs_exchange.specs.Found.{CanBegin, IsFound};
 
 use crate::find::{find, grow};
 use crate::memory::NoMemory;
-use crate::pass::{Pass, first_tried, next_tried};
+use crate::pass::{Pass, first_searched, first_tried, next_tried};
 use crate::{Found, Sources};
 use obs_assign::{Assignment, Move, Steps};
 use obs_graph::Graph;
@@ -108,13 +108,16 @@ impl Work {
         let _ = g.vertices();
         let _ = a.length();
         self.meters = ms.count() as usize;
-        let first = first_tried(self.pass, a, from);
+        let pass = self.pass.resumed(a);
+        let first = first_tried(pass, from);
+        let middle = first_searched(pass, from);
         let start = find(
             g,
             ms,
             a,
             from,
             first,
+            middle,
             &mut self.reached,
             &mut self.parents,
             &mut self.queue,
@@ -127,7 +130,7 @@ impl Work {
             Some(k) => {
                 let next = next_tried(&self.path[k..], ms.count());
                 let found = grow(g, ms, a, from, &self.path[k..], steps);
-                self.pass = Pass::after(a, from, next);
+                self.pass = Pass::after(a, from, next, found);
                 found
             }
             None => {

@@ -1,5 +1,5 @@
-use Rattle.std.proofs.Common.{◌-◌, length, sym, ap, subst, arith}
-use Rattle.obs_exchange.specs.Searching.{IsReady, end_of}
+use Rattle.std.proofs.Common.{◌-◌, length, sym, subst, arith}
+use Rattle.obs_exchange.specs.Searching.{IsReady}
 use Rattle.obs_exchange.proofs.Closing.{IsLeastClosedAt-search, all_marked}
 use Rattle.obs_exchange.proofs.Growing.{IsReady-one}
 use Rattle.obs_exchange.proofs.Tracing.{drop_last}
@@ -14,6 +14,5 @@ returns-in-Some-clause-found c = let r = c.requires in let f = c.in-Some.ensures
 pub returns-in-None-clause-found : goal.returns-in-None-clause-found
 returns-in-None-clause-found c = let f = c.in-None.ensures.found in
     IsLeastClosedAt-search c.args.g.now c.args.ms.now.touches c.args.from c.args.a.now c.vertices.ensures.branches c.length.ensures.whole c.requires.stands
-    c.spread_range.new.marks c.spread_range.new.parents c.spread_range.new.queue c.spread_range.new.tail c.spread_range.new.walked f.0
-    (all_marked c.args.g.now.ends c.args.ms.now.touches c.args.from c.args.a.now c.spread_range.new.marks
-    (λ m low high. f.1 m (omega (arith, low, c.first_source-2.ensures.first)) (omega (arith, high, c.sources_end-end.ensures.end, ap (end_of c.args.from) c.count.ensures.count))))
+    c.spread_all.new.marks c.spread_all.new.parents c.spread_all.new.queue c.spread_all.new.tail c.spread_all.new.walked f.0
+    (all_marked c.args.g.now.ends c.args.ms.now.touches c.args.from c.args.a.now c.spread_all.new.marks f.1)
