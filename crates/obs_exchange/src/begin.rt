@@ -26,6 +26,7 @@ fn spread_source(
     tail: &mut usize,
     walked: &mut [bool],
     stars: &mut [bool],
+    tried: &mut [u32],
     cycle: &mut [u32],
 ) -> Option<Move>
     requires stands { StandsOver a.now g.now ms.now.touches }
@@ -33,6 +34,7 @@ fn spread_source(
     requires in_range { AreInRange g.now ms.now.touches }
     requires room { g.now.vertices ≤ length cycle.old }
     requires stars { g.now.vertices ≤ length stars.old }
+    requires tried { g.now.vertices ≤ length tried.old }
     requires flags { length g.now.ends ≤ length walked.old }
     requires m { m < length ms.now.touches }
     requires first { first_of from ≤ m }
@@ -55,7 +57,7 @@ fn spread_source(
     let place = *tail;
     push(m, None, marks, parents, queue, tail);
     spread(
-        g, ms, a, from, place, marks, parents, queue, tail, walked, stars, cycle,
+        g, ms, a, from, place, marks, parents, queue, tail, walked, stars, tried, cycle,
     )
 }
 
@@ -74,6 +76,7 @@ fn spread_range(
     tail: &mut usize,
     walked: &mut [bool],
     stars: &mut [bool],
+    tried: &mut [u32],
     cycle: &mut [u32],
 ) -> Option<Move>
     requires stands { StandsOver a.now g.now ms.now.touches }
@@ -81,6 +84,7 @@ fn spread_range(
     requires in_range { AreInRange g.now ms.now.touches }
     requires room { g.now.vertices ≤ length cycle.old }
     requires stars { g.now.vertices ≤ length stars.old }
+    requires tried { g.now.vertices ≤ length tried.old }
     requires flags { length g.now.ends ≤ length walked.old }
     requires low { end_of from (length ms.now.touches) ≤ length ms.now.touches }
     requires first { first_of from ≤ first }
@@ -96,7 +100,7 @@ fn spread_range(
 {
     for m in first..limit {
         if let Some(x) = spread_source(
-            g, ms, a, from, m, marks, parents, queue, tail, walked, stars, cycle,
+            g, ms, a, from, m, marks, parents, queue, tail, walked, stars, tried, cycle,
         ) {
             return Some(x);
         }
@@ -118,6 +122,7 @@ pub fn spread_all(
     tail: &mut usize,
     walked: &mut [bool],
     stars: &mut [bool],
+    tried: &mut [u32],
     cycle: &mut [u32],
 ) -> Option<Move>
     requires stands { StandsOver a.now g.now ms.now.touches }
@@ -125,6 +130,7 @@ pub fn spread_all(
     requires in_range { AreInRange g.now ms.now.touches }
     requires room { g.now.vertices ≤ length cycle.old }
     requires stars { g.now.vertices ≤ length stars.old }
+    requires tried { g.now.vertices ≤ length tried.old }
     requires flags { length g.now.ends ≤ length walked.old }
     requires low { end_of from (length ms.now.touches) ≤ length ms.now.touches }
     requires middle { first_of from ≤ middle }
@@ -137,7 +143,7 @@ pub fn spread_all(
 {
     let end = sources_end(from, ms.count());
     if let Some(x) = spread_range(
-        g, ms, a, from, middle, end, marks, parents, queue, tail, walked, stars, cycle,
+        g, ms, a, from, middle, end, marks, parents, queue, tail, walked, stars, tried, cycle,
     ) {
         return Some(x);
     }
@@ -154,6 +160,7 @@ pub fn spread_all(
         tail,
         walked,
         stars,
+        tried,
         cycle,
     )
 }

@@ -25,6 +25,7 @@ pub struct Lengthened {
 mod begin;
 mod exchange;
 mod find;
+mod free;
 pub mod laws;
 mod memory;
 #[cfg(test)]

@@ -25,6 +25,7 @@ pub struct Work {
     queue: Vec<u32>,
     walked: Vec<bool>,
     stars: Vec<bool>,
+    tried: Vec<u32>,
     path: Vec<Move>,
     cycle: Vec<u32>,
     pass: Pass,
@@ -45,7 +46,7 @@ impl Model for Work {
     ghost invariant = { λ w.
         (w.meters ≤ length w.reached.items) × (length w.parents.items ≡ length w.reached.items)
         × (length w.queue.items ≡ length w.reached.items) × (length w.path.items ≡ length w.reached.items)
-        × (length w.cycle.items ≡ length w.stars.items) };
+        × (length w.cycle.items ≡ length w.stars.items) × (length w.tried.items ≡ length w.stars.items) };
 }
 
 impl Work {
@@ -72,6 +73,7 @@ impl Work {
             queue: vec![in alloc; 0; most_meters as usize]?,
             walked: vec![in alloc; false; most_branches as usize]?,
             stars: vec![in alloc; false; most_vertices as usize]?,
+            tried: vec![in alloc; 0; most_vertices as usize]?,
             path: vec![in alloc; no_move; most_meters as usize]?,
             cycle: vec![in alloc; 0; most_vertices as usize]?,
             pass: Pass::new(),
@@ -123,6 +125,7 @@ impl Work {
             &mut self.queue,
             &mut self.walked,
             &mut self.stars,
+            &mut self.tried,
             &mut self.path,
             &mut self.cycle,
         );
