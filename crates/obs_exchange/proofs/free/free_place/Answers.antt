@@ -1,4 +1,4 @@
-use Rattle.std.proofs.Common.{get_or, subst, arith}
+use Rattle.std.proofs.Common.{get_or, subst}
 use Rattle.obs_matroid.specs.Lists.{In}
 use Rattle.obs_matroid.proofs.Contained.{In-get_or}
 use Rattle.obs_exchange.proofs.Walking.{touched_there}
