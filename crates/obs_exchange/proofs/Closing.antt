@@ -28,7 +28,7 @@ use Rattle.obs_exchange.specs.declared.Sources.{Sources}
 use Rattle.obs_exchange.specs.declared.Sources.TheVariants.{All, One}
 use Rattle.obs_exchange.specs.Closed.{HoldsSourcesAt, IsClosedAt, IsLeastClosedAt, IsSource}
 use Rattle.obs_exchange.specs.Found.{AddsSource, HasClosed}
-use Rattle.obs_exchange.specs.Searching.{AreMarked, IsParent, IsSearching, end_of, parent_at, place_in}
+use Rattle.obs_exchange.specs.Searching.{AreMarked, IsParent, IsSearching, end_of, first_of, parent_at, place_in}
 use Rattle.obs_exchange.proofs.Beginning.{source_bare}
 use Rattle.obs_exchange.proofs.Queued.{has_pair}
 
@@ -71,7 +71,7 @@ live_low ends touches m t = elim (cases_lt m (length touches)) [
 
 -- the sources that were looked at are all
 pub all_marked : (ends : List (Option Ends)) (touches : List Touch) (from : Sources) (a : Assigned) (marks : List Bool)
-    → AreMarked ends touches from a marks (end_of from (length touches)) → HoldsSourcesAt ends touches from a (has_flag marks)
+    → AreMarked ends touches from a marks (first_of from) (end_of from (length touches)) → HoldsSourcesAt ends touches from a (has_flag marks)
 all_marked ends touches All a marks h m s = h m (omega arith) (live_low ends touches m s.0) s
 all_marked ends touches (One k) a marks h m s = let e = s.0 in h m (omega (arith, e)) (omega (arith, e)) s
 

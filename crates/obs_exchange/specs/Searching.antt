@@ -93,9 +93,9 @@ pub record IsVisiting (ends : List (Option Ends)) (touches : List Touch) (from :
 abbrev pub AreStarred : List (Option Ends) → List Bool → List Bool → Type 0
 AreStarred ends stars walked = (v : ℕ) → has_flag stars v ≡ true → (e : ℕ) → In e (branches_at ends v) → has_flag walked e ≡ true
 
--- the sources from the first one on, below a limit, are marked
-abbrev pub AreMarked : List (Option Ends) → List Touch → Sources → Assigned → List Bool → ℕ → Type 0
-AreMarked ends touches from a marks limit = (m : ℕ) → first_of from ≤ m → m < limit → IsSource ends touches from a m → has_flag marks m ≡ true
+-- the sources from one meter on, below a limit, are marked
+abbrev pub AreMarked : List (Option Ends) → List Touch → Sources → Assigned → List Bool → ℕ → ℕ → Type 0
+AreMarked ends touches from a marks first limit = (m : ℕ) → first ≤ m → m < limit → IsSource ends touches from a m → has_flag marks m ≡ true
 
 -- the meter may take the branch, which it touches: the branches of the pairs do not join its ends
 pub record IsFreeFor (ends : List (Option Ends)) (touches : List Touch) (a : Assigned) (m e : ℕ) : Type 0 where

@@ -7,51 +7,14 @@ ghost use Rattle.obs_exchange.specs.Closed.{IsLeastClosedAt, IsSource};
 ghost use Rattle.obs_exchange.specs.Found.{IsFound};
 ghost use Rattle.obs_exchange.specs.Searching.{IsEnd, IsFreeFor, IsReady, end_of, first_of};
 
-use crate::queue::{begin, first_source, is_source, sources_end};
-use crate::visit::spread;
-use crate::walk::is_free;
+use crate::begin::spread_all;
+use crate::free::untried_branch;
+use crate::queue::{first_source, is_source, sources_end};
 use crate::{Found, Sources};
 use obs_assign::{Assignment, Move, Steps};
 use obs_graph::Graph;
-use obs_meter::{Meters, Touch};
+use obs_meter::Meters;
 use std::sync::ledger::Ledger;
-
-/// The first free branch that the meter touches.
-fn free_branch(g: &Graph, ms: &Meters, a: &Assignment, m: u32) -> Option<u32>
-    requires stands { StandsOver a.now g.now ms.now.touches }
-    requires whole { IsWhole a.now }
-    requires in_range { AreInRange g.now ms.now.touches }
-    requires m { m < length ms.now.touches }
-    ensures free { IfSome result (λ e. IsFreeFor g.now.ends ms.now.touches a.now m e) }
-{
-    for e in ms.touch(g, m) {
-        if is_free(g, a, *e) {
-            return Some(*e);
-        }
-    }
-    None
-}
-
-/// The first free branch that the meter touches. Where none of the branches at a vertex is free, they aren't tried again
-/// for a further meter there.
-fn untried_branch(g: &Graph, ms: &Meters, a: &Assignment, m: u32, tried: &mut [bool]) -> Option<u32>
-    requires stands { StandsOver a.now g.now ms.now.touches }
-    requires whole { IsWhole a.now }
-    requires in_range { AreInRange g.now ms.now.touches }
-    requires m { m < length ms.now.touches }
-    requires tried { g.now.vertices ≤ length tried.old }
-    ensures free { IfSome result (λ e. IsFreeFor g.now.ends ms.now.touches a.now m e) }
-{
-    let Touch::Star(v) = ms.kind(m) else {
-        return free_branch(g, ms, a, m);
-    };
-    if tried[v as usize] {
-        return None;
-    }
-    let free = free_branch(g, ms, a, m);
-    tried[v as usize] = free.is_none();
-    free
-}
 
 /// The move of the first source that touches a free branch. Sources before the given meter are passed over.
 fn free_move(
@@ -60,7 +23,7 @@ fn free_move(
     a: &Assignment,
     from: Sources,
     first: u32,
-    tried: &mut [bool],
+    tried: &mut [u32],
 ) -> Option<Move>
     requires stands { StandsOver a.now g.now ms.now.touches }
     requires whole { IsWhole a.now }
@@ -125,20 +88,22 @@ fn trace(
 }
 
 /// Looks for a path of moves that gives a source a pair, writes it at the end of the array and says where it begins. None
-/// where there is no such path; the marks are then the least closed set. The sources from the given meter on are tried for
-/// a free branch first; where this isn't the first source, the stars tell at which vertices an earlier search found no free
-/// branch.
+/// where there is no such path; the marks are then the least closed set. The sources from the first given meter on are
+/// tried for a free branch; where this isn't the first source, the counts tell how many branches at a vertex earlier searches tried in
+/// vain. Where none is found, it searches from the sources, those from the second given meter on before the others.
 pub fn find(
     g: &Graph,
     ms: &Meters,
     a: &Assignment,
     from: Sources,
     first: u32,
+    middle: u32,
     marks: &mut [bool],
     parents: &mut [Option<Move>],
     queue: &mut [u32],
     walked: &mut [bool],
     stars: &mut [bool],
+    tried: &mut [u32],
     path: &mut [Move],
     cycle: &mut [u32],
 ) -> Option<usize>
@@ -146,12 +111,14 @@ pub fn find(
     requires in_range { AreInRange g.now ms.now.touches }
     requires low { end_of from (length ms.now.touches) ≤ length ms.now.touches }
     requires first { first_of from ≤ first }
+    requires middle { first_of from ≤ middle }
     requires marks { length ms.now.touches ≤ length marks.old }
     requires parents { length ms.now.touches ≤ length parents.old }
     requires queue { length ms.now.touches ≤ length queue.old }
     requires path { length ms.now.touches ≤ length path.old }
     requires walked { length g.now.ends ≤ length walked.old }
     requires stars { g.now.vertices ≤ length stars.old }
+    requires tried { g.now.vertices ≤ length tried.old }
     requires cycle { g.now.vertices ≤ length cycle.old }
     ensures bound { IfSome result (λ k. k ≤ length path.new) }
     ensures found { MatchOption result
@@ -161,9 +128,9 @@ pub fn find(
     let _ = g.vertices();
     let _ = a.length();
     if first == first_source(from) {
-        stars.fill(false);
+        tried.fill(0);
     }
-    if let Some(x) = free_move(g, ms, a, from, first, stars) {
+    if let Some(x) = free_move(g, ms, a, from, first, tried) {
         let last = path.len() - 1;
         path[last] = x;
         return Some(last);
@@ -172,9 +139,8 @@ pub fn find(
     walked.fill(false);
     stars.fill(false);
     let mut tail = 0;
-    begin(g, ms, a, from, marks, parents, queue, &mut tail, walked);
-    match spread(
-        g, ms, a, from, marks, parents, queue, &mut tail, walked, stars, cycle,
+    match spread_all(
+        g, ms, a, from, middle, marks, parents, queue, &mut tail, walked, stars, tried, cycle,
     ) {
         Some(x) => Some(trace(g, ms, a, from, x, marks, parents, queue, tail, walked, path)),
         None => None,

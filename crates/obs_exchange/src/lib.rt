@@ -22,8 +22,10 @@ pub struct Lengthened {
     pub closed: bool,
 }
 
+mod begin;
 mod exchange;
 mod find;
+mod free;
 pub mod laws;
 mod memory;
 #[cfg(test)]

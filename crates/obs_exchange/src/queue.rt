@@ -1,10 +1,10 @@
 // Meters that are marked and put into the queue.
-ghost use Rattle.std.specs.Prelude.{◌≡◌, ◌↔◌, ◌+◌, ◌<◌, ◌≤◌, ℕ, true, false, IsTrue, None, Some, length, slice_set};
+ghost use Rattle.std.specs.Prelude.{◌≡◌, ◌↔◌, ◌+◌, ◌<◌, ◌≤◌, true, false, IsTrue, None, Some, length, slice_set};
 ghost use Rattle.obs_matroid.specs.Lists.{In};
 ghost use Rattle.obs_meter.specs.Touches.{AreInRange, touch_at};
-ghost use Rattle.obs_assign.specs.Assigned.{IsWhole, StandsOver, has_flag, is_frozen};
+ghost use Rattle.obs_assign.specs.Assigned.{StandsOver, has_flag, is_frozen};
 ghost use Rattle.obs_exchange.specs.Closed.{IsSource};
-ghost use Rattle.obs_exchange.specs.Searching.{AreMarked, IsNeededOf, IsSearching, IsVisiting, Keeps, end_of, first_of};
+ghost use Rattle.obs_exchange.specs.Searching.{IsNeededOf, IsVisiting, Keeps, end_of, first_of};
 
 use crate::Sources;
 use obs_assign::{Assignment, Move};
@@ -46,7 +46,7 @@ pub fn is_source(g: &Graph, ms: &Meters, a: &Assignment, from: Sources, m: u32) 
 }
 
 /// Marks a meter, notes how it was reached, and puts it at the end of the queue.
-fn push(
+pub fn push(
     x: u32,
     by: Option<Move>,
     marks: &mut [bool],
@@ -66,35 +66,6 @@ fn push(
     parents[x as usize] = by;
     queue[*tail] = x;
     *tail += 1;
-}
-
-/// Marks the live sources.
-pub fn begin(
-    g: &Graph,
-    ms: &Meters,
-    a: &Assignment,
-    from: Sources,
-    marks: &mut [bool],
-    parents: &mut [Option<Move>],
-    queue: &mut [u32],
-    tail: &mut usize,
-    walked: &[bool],
-)
-    requires stands { StandsOver a.now g.now ms.now.touches }
-    requires whole { IsWhole a.now }
-    requires in_range { AreInRange g.now ms.now.touches }
-    requires low { end_of from (length ms.now.touches) ≤ length ms.now.touches }
-    requires none { (k : ℕ) → has_flag marks.old k ≡ false }
-    requires searching { IsSearching g.now.ends ms.now.touches from a.now marks.old parents.old queue.old tail.old 0 walked.now }
-    ensures searching { IsSearching g.now.ends ms.now.touches from a.now marks.new parents.new queue.new tail.new 0 walked.now }
-    ensures marked { AreMarked g.now.ends ms.now.touches from a.now marks.new (end_of from (length ms.now.touches)) }
-{
-    let _ = walked;
-    for m in first_source(from)..sources_end(from, ms.count()) {
-        if is_source(g, ms, a, from, m) {
-            push(m, None, marks, parents, queue, tail);
-        }
-    }
 }
 
 /// Marks a meter whose pair a branch of the visited one needs, unless it is marked or frozen.

@@ -6,6 +6,7 @@ ghost use Rattle.obs_assign.specs.Assigned.{IsWhole, StandsOver, has_flag};
 ghost use Rattle.obs_exchange.specs.Searching.{AreStarred, IsEnd, IsFreeFor, IsSearching, IsVisiting, Keeps};
 
 use crate::Sources;
+use crate::free::untried_branch;
 use crate::walk::walk;
 use obs_assign::{Assignment, Move};
 use obs_graph::Graph;
@@ -84,7 +85,8 @@ fn walk_touched(
     None
 }
 
-/// Visits the meter at the head of the queue: walks the branches that it touches, up to the first free one.
+/// Visits the meter at the head of the queue: looks for a free branch that it touches, and walks the branches that it touches
+/// where it finds none.
 fn visit(
     g: &Graph,
     ms: &Meters,
@@ -98,6 +100,7 @@ fn visit(
     tail: &mut usize,
     walked: &mut [bool],
     stars: &mut [bool],
+    tried: &mut [u32],
     cycle: &mut [u32],
 ) -> Option<u32>
     requires stands { StandsOver a.now g.now ms.now.touches }
@@ -106,6 +109,7 @@ fn visit(
     requires m { m < length ms.now.touches }
     requires room { g.now.vertices ≤ length cycle.old }
     requires stars { g.now.vertices ≤ length stars.old }
+    requires tried { g.now.vertices ≤ length tried.old }
     requires flags { length g.now.ends ≤ length walked.old }
     requires visiting { IsVisiting g.now.ends ms.now.touches from a.now marks.old parents.old queue.old tail.old head walked.old m }
     requires starred { AreStarred g.now.ends stars.old walked.old }
@@ -117,6 +121,9 @@ fn visit(
     if is_starred(g, ms, m, walked, stars) {
         return None;
     }
+    if let Some(e) = untried_branch(g, ms, a, m, tried) {
+        return Some(e);
+    }
     let touched = ms.touch(g, m);
     let free = walk_touched(
         g, ms, a, from, head, m, touched, marks, parents, queue, tail, walked, cycle,
@@ -127,18 +134,20 @@ fn visit(
     free
 }
 
-/// Visits the meters of the queue in their order, up to the first one that touches a free branch.
+/// Visits the meters of the queue in their order, from a place on, up to the first one that touches a free branch.
 pub fn spread(
     g: &Graph,
     ms: &Meters,
     a: &Assignment,
     from: Sources,
+    place: usize,
     marks: &mut [bool],
     parents: &mut [Option<Move>],
     queue: &mut [u32],
     tail: &mut usize,
     walked: &mut [bool],
     stars: &mut [bool],
+    tried: &mut [u32],
     cycle: &mut [u32],
 ) -> Option<Move>
     requires stands { StandsOver a.now g.now ms.now.touches }
@@ -146,20 +155,22 @@ pub fn spread(
     requires in_range { AreInRange g.now ms.now.touches }
     requires room { g.now.vertices ≤ length cycle.old }
     requires stars { g.now.vertices ≤ length stars.old }
+    requires tried { g.now.vertices ≤ length tried.old }
     requires flags { length g.now.ends ≤ length walked.old }
-    requires searching { IsSearching g.now.ends ms.now.touches from a.now marks.old parents.old queue.old tail.old 0 walked.old }
+    requires searching { IsSearching g.now.ends ms.now.touches from a.now marks.old parents.old queue.old tail.old place walked.old }
     requires starred { AreStarred g.now.ends stars.old walked.old }
     ensures found { MatchOption result
         (IsSearching g.now.ends ms.now.touches from a.now marks.new parents.new queue.new tail.new tail.new walked.new)
         (λ x. IsEnd g.now.ends ms.now.touches from a.now marks.new parents.new queue.new tail.new walked.new x) }
+    ensures starred { AreStarred g.now.ends stars.new walked.new }
     ensures keeps { Keeps marks.old marks.new }
 {
     let _ = ms.count();
-    let mut head = 0;
+    let mut head = place;
     while head < *tail {
         let m = queue[head];
         if let Some(e) = visit(
-            g, ms, a, from, head, m, marks, parents, queue, tail, walked, stars, cycle,
+            g, ms, a, from, head, m, marks, parents, queue, tail, walked, stars, tried, cycle,
         ) {
             return Some(Move {
                 meter: m,

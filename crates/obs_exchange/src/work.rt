@@ -7,7 +7,7 @@ ghost use Rattle.obs_exchange.specs.Found.{CanBegin, IsFound};
 
 use crate::find::{find, grow};
 use crate::memory::NoMemory;
-use crate::pass::{Pass, first_tried, next_tried};
+use crate::pass::{Pass, first_searched, first_tried, next_tried};
 use crate::{Found, Sources};
 use obs_assign::{Assignment, Move, Steps};
 use obs_graph::Graph;
@@ -25,6 +25,7 @@ pub struct Work {
     queue: Vec<u32>,
     walked: Vec<bool>,
     stars: Vec<bool>,
+    tried: Vec<u32>,
     path: Vec<Move>,
     cycle: Vec<u32>,
     pass: Pass,
@@ -45,7 +46,7 @@ impl Model for Work {
     ghost invariant = { λ w.
         (w.meters ≤ length w.reached.items) × (length w.parents.items ≡ length w.reached.items)
         × (length w.queue.items ≡ length w.reached.items) × (length w.path.items ≡ length w.reached.items)
-        × (length w.cycle.items ≡ length w.stars.items) };
+        × (length w.cycle.items ≡ length w.stars.items) × (length w.tried.items ≡ length w.stars.items) };
 }
 
 impl Work {
@@ -72,6 +73,7 @@ impl Work {
             queue: vec![in alloc; 0; most_meters as usize]?,
             walked: vec![in alloc; false; most_branches as usize]?,
             stars: vec![in alloc; false; most_vertices as usize]?,
+            tried: vec![in alloc; 0; most_vertices as usize]?,
             path: vec![in alloc; no_move; most_meters as usize]?,
             cycle: vec![in alloc; 0; most_vertices as usize]?,
             pass: Pass::new(),
@@ -108,18 +110,22 @@ impl Work {
         let _ = g.vertices();
         let _ = a.length();
         self.meters = ms.count() as usize;
-        let first = first_tried(self.pass, a, from);
+        let pass = self.pass.resumed(a);
+        let first = first_tried(pass, from);
+        let middle = first_searched(pass, from);
         let start = find(
             g,
             ms,
             a,
             from,
             first,
+            middle,
             &mut self.reached,
             &mut self.parents,
             &mut self.queue,
             &mut self.walked,
             &mut self.stars,
+            &mut self.tried,
             &mut self.path,
             &mut self.cycle,
         );
@@ -127,7 +133,7 @@ impl Work {
             Some(k) => {
                 let next = next_tried(&self.path[k..], ms.count());
                 let found = grow(g, ms, a, from, &self.path[k..], steps);
-                self.pass = Pass::after(a, from, next);
+                self.pass = Pass::after(a, from, next, found);
                 found
             }
             None => {

@@ -12,7 +12,7 @@ returns-in-Some-clause-found c = let r = c.requires in let f = c.in-Some.ensures
     (IsReady-one c.args.a.now c.args.g.now c.args.ms.now.touches c.args.from c.in-Some.x c.vertices.ensures.branches c.length.ensures.whole r.stands f.0 f.1 f.2)
 
 pub returns-in-None-clause-found : goal.returns-in-None-clause-found
-returns-in-None-clause-found c =
+returns-in-None-clause-found c = let f = c.in-None.ensures.found in
     IsLeastClosedAt-search c.args.g.now c.args.ms.now.touches c.args.from c.args.a.now c.vertices.ensures.branches c.length.ensures.whole c.requires.stands
-    c.spread.new.marks c.spread.new.parents c.spread.new.queue c.spread.new.tail c.spread.new.walked c.in-None.ensures.found
-    (λ m s. c.spread.ensures.keeps m (all_marked c.args.g.now.ends c.args.ms.now.touches c.args.from c.args.a.now c.begin.new.marks c.begin.ensures.marked m s))
+    c.spread_all.new.marks c.spread_all.new.parents c.spread_all.new.queue c.spread_all.new.tail c.spread_all.new.walked f.0
+    (all_marked c.args.g.now.ends c.args.ms.now.touches c.args.from c.args.a.now c.spread_all.new.marks f.1)

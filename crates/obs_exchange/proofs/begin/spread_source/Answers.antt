@@ -1,0 +1,15 @@
+use Rattle.obs_exchange.proofs.Beginning.{source_thawed}
+use Rattle.obs_exchange.proofs.Queued.{IsSearching-source, source_room}
+use Rattle.obs_exchange.proofs.begin.spread_source.Goals as goal
+
+pub push-requires-clause-queue : goal.push-requires-clause-queue
+push-requires-clause-queue c = let r = c.requires in
+    source_room c.args.g.now.ends c.args.ms.now.touches c.args.from c.args.a.now c.args.marks.now c.args.parents.now c.args.queue.now c.args.tail.now c.args.tail.now c.args.walked.now c.args.m
+    r.searching r.m c.if-marks-m.false
+
+pub spread-requires-clause-searching : goal.spread-requires-clause-searching
+spread-requires-clause-searching c = let r = c.requires in
+    let source = c.is_source.ensures.source.0 c.if-not-is_source.false in
+    rw (c.push.ensures.marks, c.push.ensures.parents, c.push.ensures.queue, c.push.ensures.tail)
+    (IsSearching-source c.args.g.now.ends c.args.ms.now.touches c.args.from c.args.a.now c.args.marks.now c.args.parents.now c.args.queue.now c.args.tail.now c.args.tail.now c.args.walked.now c.args.m
+    r.searching r.m c.if-marks-m.false (source_thawed c.args.g.now.ends c.args.ms.now.touches c.args.from c.args.a.now c.args.m r.whole source) source)
