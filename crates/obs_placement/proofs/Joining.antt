@@ -1,5 +1,5 @@
 -- The held branches stay those that known items touch.
-use Rattle.std.proofs.Common.{◌≡◌, ℕ, ◌+◌, ◌<◌, Bool, true, Option, None, Some, List, [], ◌∷◌, ◌++◌, length, get_or, set, take, replicate, refl, sym, ap, ◌∙◌, inl, inr, arith, subst, get_or-set_same, get_or-set_other}
+use Rattle.std.proofs.Common.{◌≡◌, ℕ, ◌+◌, ◌<◌, true, Option, None, Some, List, [], ◌∷◌, length, get_or, set, take, replicate, sym, ap, ◌∙◌, inl, inr, arith, subst, get_or-set_same, get_or-set_other}
 use Rattle.std.specs.Prelude.{nat_lt}
 use Rattle.std.proofs.lemmas.Bool.{cases_eq, cases_lt, lt-ltb}
 use Rattle.std.proofs.lemmas.List.{get_or_past, get_or-replicate, get_or_default, length-replicate, length-set, take_more}
@@ -8,7 +8,7 @@ use Rattle.obs_graph.specs.Search.{IsPart}
 use Rattle.obs_graph.specs.Shape.{Shape}
 use Rattle.obs_graph.proofs.Present.{none_some}
 use Rattle.obs_matroid.specs.Lists.{In}
-use Rattle.obs_matroid.proofs.Lists.{In-append_cases, clash}
+use Rattle.obs_matroid.proofs.Lists.{In-append_cases}
 use Rattle.obs_meter.specs.declared.Touch.{Touch}
 use Rattle.obs_meter.specs.Touches.{touch_at}
 use Rattle.obs_placement.specs.Holding.{AreOfKnown, JoinEnds}

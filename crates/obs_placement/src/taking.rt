@@ -124,9 +124,7 @@ fn take_item<L: Ledger>(
         since[c as usize] = price;
         return false;
     }
-    if search_item(
-        g, offered, meters, prices, a, work, since, price, c, steps,
-    ) {
+    if search_item(g, offered, meters, prices, a, work, since, price, c, steps) {
         return true;
     }
     hold_reached(g, offered, since, work.reached(), held, joined);

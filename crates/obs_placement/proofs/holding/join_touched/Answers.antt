@@ -1,7 +1,6 @@
 use Rattle.std.proofs.Common.{List, ℕ, subst, sym, arith}
 use Rattle.std.proofs.lemmas.List.{take_all}
 use Rattle.obs_matroid.specs.Lists.{In}
-use Rattle.obs_placement.specs.Holding.{JoinEnds}
 use Rattle.obs_placement.proofs.Joining.{joined_next}
 use Rattle.obs_placement.proofs.holding.join_touched.Goals as goal
 
