@@ -1,6 +1,7 @@
 pub mod Taken
 pub mod Ordered
 pub mod Stepped
+pub mod Joining
 pub mod Going
 pub mod Listing
 pub mod Lawful

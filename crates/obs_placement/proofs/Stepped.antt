@@ -1,11 +1,15 @@
 -- One item over a graph: what the search from it says.
-use Rattle.std.proofs.Common.{◌≡◌, ℕ, ◌≤◌, ◌<◌, Bool, true, false, ◌||◌, ◌&&◌, Option, None, List, ◌∷◌, length, refl, sym, ◌∙◌, inl, inr, arith, subst, eqb, ltb}
-use Rattle.std.specs.Prelude.{nat_lt}
-use Rattle.std.proofs.lemmas.Bool.{cases_eq, or_cases, or_left, and_parts, and_from, ne_eqb, lt-ltb, le-ltb}
+use Rattle.std.proofs.Common.{◌≡◌, ℕ, ◌≤◌, ◌<◌, Bool, true, false, ◌||◌, ◌&&◌, Option, None, Some, List, ◌∷◌, length, set, refl, sym, ap, ◌∙◌, inl, inr, arith, subst, eqb, ltb, eq-eqb, get_or-set_same, get_or-set_other}
+use Rattle.std.specs.Prelude.{Contains, IfSome, nat_lt, slice_index_or}
+use Rattle.std.proofs.lemmas.Bool.{cases_eq, cases_lt, or_cases, or_right, or_left, and_parts, and_from, ne_eqb, lt-ltb, le-ltb}
 use Rattle.std.proofs.lemmas.Bool.Decides.{nat_tests}
 use Rattle.obs_graph.specs.declared.Ends.{Ends}
-use Rattle.obs_graph.specs.Positions.{AreBranches}
+use Rattle.obs_graph.specs.Joined.{first_joined, is_joined}
+use Rattle.obs_graph.specs.Positions.{AreBranches, ends_of, present}
 use Rattle.obs_graph.specs.Shape.{Shape}
+use Rattle.obs_graph.proofs.Chains.{same_first-more}
+use Rattle.obs_graph.proofs.IsJoined.{same-from_true, true-from_same}
+use Rattle.obs_graph.proofs.Present.{present_contains}
 use Rattle.obs_matroid.specs.Lists.{In, IsDistinct}
 use Rattle.obs_matroid.specs.Matroid.{Matroid, IsMatroid}
 use Rattle.obs_matroid.specs.Assignments.{items, branches, part, IsRho}
@@ -17,7 +21,7 @@ use Rattle.obs_matroid.proofs.Critical.{rho_same}
 use Rattle.obs_matroid.proofs.Lists.{clash, In_same, In-filter_from, is_in, is_in_from, is_in_at}
 use Rattle.obs_matroid.proofs.Pairs.{In-items_from, In-part, In-part_from, more_pairs}
 use Rattle.obs_meter.specs.declared.Touch.{Touch}
-use Rattle.obs_meter.specs.Spanned.{graph_matroid}
+use Rattle.obs_meter.specs.Spanned.{both_ends, graph_matroid}
 use Rattle.obs_meter.specs.Touches.{is_live, live_items, touch_at}
 use Rattle.obs_meter.proofs.Instance.{IsMatroid-graph}
 use Rattle.obs_assign.specs.Assigned.{Assigned, branch_at, has_flag, is_frozen, pairs}
@@ -28,8 +32,9 @@ use Rattle.obs_exchange.proofs.AtGraph.{IsAssignment-live, IsClosed-to_matroid, 
 use Rattle.obs_exchange.proofs.Lawful.{AddsSource-grown}
 use Rattle.obs_placement.specs.Answer.{earlier_items, is_chosen}
 use Rattle.obs_placement.specs.Order.{is_earlier}
-use Rattle.obs_placement.specs.Taking.{AreHeld, IsStanding, IsTaken, IsTakenAt, is_known, never, since_after, since_at}
-use Rattle.obs_placement.proofs.Taken.{IsReached, grown_only, IsTaken-grown, IsTaken-passed, IsTaken-rho, IsTaken-same, passed_rho}
+use Rattle.obs_placement.specs.Holding.{AreOfKnown, JoinTouched}
+use Rattle.obs_placement.specs.Taking.{AreAdded, AreHeld, IsStanding, IsTaken, IsTakenAt, is_known, never, since_after, since_at}
+use Rattle.obs_placement.proofs.Taken.{IsReached, grown_only, joined_rho, known_spanned, IsTaken-grown, IsTaken-joined, IsTaken-passed, IsTaken-rho, IsTaken-same, passed_rho}
 
 -- the first i places are marked
 pub record AreMarked (reached : ℕ → Bool) (price : ℕ) (before : List ℕ) (i : ℕ) (since : List ℕ) : Type 0 where
@@ -110,6 +115,35 @@ module _ (a : Assigned) (g : Shape) (touches : List Touch) (ok : AreBranches g.v
         (passed_rho mat (IsMatroid-graph g.vertices g.ends ok) (touch_at g.ends touches) N c (pairs a) S taken out R IsReached-closed)
         ∙ le-ltb (length (pairs a)) (length (pairs a)) (omega arith)
 
+  -- where the held branches join all that the item touches, so do the pairs of the known items
+  module _ (since : List ℕ) (is : (m : ℕ) → S m ≡ is_known since m) (held : List (Option Ends)) (of : AreOfKnown g touches since held) (joins : JoinTouched held g.ends touches c) where
+    joins_own : (e : ℕ) → In e (touch_at g.ends touches c) → mat.spans (branches (part (λ x. S x || none x) (pairs a))) e ≡ true
+    joins_own e i = spans_ends (slice_index_or g.ends e None) (joins e i)
+      where
+        kept : List Ends
+        kept = ends_of g.ends (branches (part (λ x. S x || none x) (pairs a)))
+
+        held_joined : (x : Ends) → Contains (present held) x → first_joined kept x.a ≡ first_joined kept x.b
+        held_joined x i =
+            let v = present_contains held x i in
+            let k = of.known v.0 x v.1 in
+            let s = known_spanned mat (IsMatroid-graph g.vertices g.ends ok) (touch_at g.ends touches) N c (pairs a) S taken out k.0 v.0 (is k.0 ∙ k.1) k.2 in
+            same-from_true kept x.a x.b (rw (of.part v.0 x v.1) at s)
+
+        spans_ends : (o : Option Ends) → IfSome o (λ x. first_joined (present held) x.a ≡ first_joined (present held) x.b) → is_joined kept (both_ends o).0 (both_ends o).1 ≡ true
+        spans_ends None u = true-from_same kept 0 0 refl
+        spans_ends (Some x) u = true-from_same kept x.a x.b (same_first-more (present held) kept held_joined x.a x.b u)
+
+    pub joined_taken : IsTaken mat (touch_at g.ends touches) (c ∷ N) (pairs a) (λ m. S m || eqb m c)
+    joined_taken = IsTaken-joined mat (IsMatroid-graph g.vertices g.ends ok) (touch_at g.ends touches) N c (pairs a) S taken out joins_own
+
+    pub joined_not_raising : is_raising mat (touch_at g.ends touches) N c ≡ false
+    joined_not_raising =
+        raising_by mat (IsMatroid-graph g.vertices g.ends ok) (touch_at g.ends touches) N c (length (pairs a)) (length (pairs a)) (out, taken.distinct)
+        (IsTaken-rho mat (IsMatroid-graph g.vertices g.ends ok) (touch_at g.ends touches) N (pairs a) S taken)
+        (joined_rho mat (IsMatroid-graph g.vertices g.ends ok) (touch_at g.ends touches) N c (pairs a) S taken out joins_own)
+        ∙ le-ltb (length (pairs a)) (length (pairs a)) (omega arith)
+
   module _ (b : Assigned) (m : ℕ) (later : IsStanding g touches b) (h : HasGrown g.ends touches (One c) a b m) where
     added : AddsSource g.ends touches (One c) a (pairs b)
     added = AddsSource-grown a b g touches (One c) m later.whole later.stands h
@@ -177,3 +211,36 @@ passed_at a b g touches ok standing price c p before after reached live low fits
 pub chosen_by : (g : Shape) (touches : List Touch) (price : ℕ → ℕ) (c : ℕ) (r : Bool) → is_live g.ends touches c ≡ true
     → is_raising (graph_matroid g.vertices g.ends) (touch_at g.ends touches) (earlier_items g.ends touches price c) c ≡ r → r ≡ is_chosen g.vertices g.ends touches price c
 chosen_by g touches price c r live e = sym (rw live e)
+
+-- what is known where one item more is
+pub known_with : (before : List ℕ) (c p m : ℕ) → c < length before → p < never → is_known (set before c p) m ≡ (is_known before m || eqb m c)
+known_with before c p m l low = elim (cases_eq m c) [
+  | inl e ↦ rw (e, get_or-set_same before c p never l, lt-ltb p never low) (sym (or_right (is_known before c) (eqb c c) (eq-eqb c c refl)))
+  | inr n ↦ rw (get_or-set_other before c m p never n, ne_eqb m c n) (or_none (is_known before m))
+]
+
+-- a live item whose branches' ends are joined by held ones, with its price after it
+pub joined_at : (a : Assigned) (g : Shape) (touches : List Touch) (ok : AreBranches g.vertices g.ends) (standing : IsStanding g touches a) (price : ℕ → ℕ) (c p : ℕ)
+    (before : List ℕ) (held : List (Option Ends)) → is_live g.ends touches c ≡ true → p < never → c < length before
+    → IsTakenAt g touches (earlier_items g.ends touches price c) a before → AreOfKnown g touches before held → JoinTouched held g.ends touches c
+    → IsTakenAt g touches (c ∷ earlier_items g.ends touches price c) a (set before c p)
+joined_at a g touches ok standing price c p before held live low l taken of joins =
+    let N = earlier_items g.ends touches price c in
+    let mat = graph_matroid g.vertices g.ends in
+    let t = joined_taken a g touches ok standing N c (is_known before) taken (earlier-live g.ends touches price c) (earlier-out g.ends touches price c) live before (λ m. refl) held of joins in
+    IsTaken-same mat (IsMatroid-graph g.vertices g.ends ok) (touch_at g.ends touches) (c ∷ N) (c ∷ N) (pairs a) (λ m. is_known before m || eqb m c) (is_known (set before c p))
+    t.distinct (λ x i. i) (λ x i. i) (λ m. known_with before c p m l low) t
+
+-- an item that is taken next isn't known yet
+pub joined_added : (a : Assigned) (g : Shape) (touches : List Touch) (price : ℕ → ℕ) (c p : ℕ) (before : List ℕ) → c < length before → ((m : ℕ) → since_at before m ≤ never)
+    → IsTakenAt g touches (earlier_items g.ends touches price c) a before → AreAdded p before (set before c p)
+joined_added a g touches price c p before l b taken m = elim (cases_eq m c) [
+  | inl e ↦ inr (ap (since_at before) e ∙ never_yet, ap (since_at (set before c p)) e ∙ get_or-set_same before c p never l)
+  | inr n ↦ inl (get_or-set_other before c m p never n)
+]
+  where
+    never_yet : since_at before c ≡ never
+    never_yet = elim (cases_lt (since_at before c) never) [
+      | inl k ↦ absurd (earlier-out g.ends touches price c (taken.within c (lt-ltb (since_at before c) never k)))
+      | inr k ↦ let u = b c in omega (arith, k, u)
+    ]

@@ -1,6 +1,6 @@
 -- One more item is taken: it is chosen, or it is passed with a closed set.
-use Rattle.std.proofs.Common.{◌≡◌, ℕ, suc, ◌+◌, ◌≤◌, Bool, true, false, ◌||◌, List, ◌∷◌, length, refl, sym, ap, ◌∙◌, ◌↔◌, inl, inr, arith, subst}
-use Rattle.std.proofs.lemmas.Bool.{cases_Bool, cases_eq, or_cases, or_left, or_right}
+use Rattle.std.proofs.Common.{◌≡◌, ℕ, suc, ◌+◌, ◌≤◌, Bool, true, false, ◌||◌, List, ◌∷◌, length, refl, sym, ap, ◌∙◌, ◌↔◌, inl, inr, arith, subst, eqb, eq-eqb}
+use Rattle.std.proofs.lemmas.Bool.{cases_Bool, eqb-true, cases_eq, or_cases, or_left, or_right}
 use Rattle.obs_matroid.specs.Lists.{In, IsDistinct, other_than, without}
 use Rattle.obs_matroid.specs.Matroid.{Matroid, IsMatroid}
 use Rattle.obs_matroid.specs.Assignments.{Pair, items, branches, part, IsAssignment, IsRho}
@@ -131,27 +131,72 @@ module _ (g : Matroid) (laws : IsMatroid g) (touch : ℕ → List ℕ) where
         (elim (or_cases (T p.0) (none p.0) u.1) [ inl s ↦ s | inr f ↦ clash f refl ]))))
         w
 
-    module _ (R : ℕ → Bool) (k : IsReached g touch N c A R) where
-      assigned : IsAssignment g touch (c ∷ N) A
-      assigned = IsAssignment-items g laws touch N (c ∷ N) A t.assigns (λ p i. inr (t.assigns.of_items p i))
+    assigned : IsAssignment g touch (c ∷ N) A
+    assigned = IsAssignment-items g laws touch N (c ∷ N) A t.assigns (λ p i. inr (t.assigns.of_items p i))
 
-      own : (T : ℕ → Bool) × IsLeastClosed g touch N none every A T
-      own = elim (grows_or_closes g laws touch N none every A t.distinct t.assigns (λ m w. clash w refl)) [
-        | inl b ↦ let l = t.longest b.0 b.2.assigns in let e = b.2.longer in absurd (omega (arith, l, e))
-        | inr s ↦ s
-      ]
+    own : (T : ℕ → Bool) × IsLeastClosed g touch N none every A T
+    own = elim (grows_or_closes g laws touch N none every A t.distinct t.assigns (λ m w. clash w refl)) [
+      | inl b ↦ let l = t.longest b.0 b.2.assigns in let e = b.2.longer in absurd (omega (arith, l, e))
+      | inr s ↦ s
+    ]
 
-      same : (m : ℕ) → In m N → S m ≡ own.0 m
-      same m i = same_tests (S m) (own.0 m) (IsCritical g touch N m) (t.critical m i) (marks_critical g laws touch N A own.0 t.distinct t.assigns own.1 m i)
+    same : (m : ℕ) → In m N → S m ≡ own.0 m
+    same m i = same_tests (S m) (own.0 m) (IsCritical g touch N m) (t.critical m i) (marks_critical g laws touch N A own.0 t.distinct t.assigns own.1 m i)
 
-      known_closed : IsClosed g touch (c ∷ N) none A S
-      known_closed = record {
-        spanned = λ m e i s j. elim i [
-          | inl w ↦ absurd (out (In_same c m N (sym w) (t.within m s)))
-          | inr h ↦ larger own.0 S e (λ x y z. same x (item_of N A t.assigns x y) ∙ z) (own.1.closed.spanned m e h (sym (same m h) ∙ s) j)
+    known_closed : IsClosed g touch (c ∷ N) none A S
+    known_closed = record {
+      spanned = λ m e i s j. elim i [
+        | inl w ↦ absurd (out (In_same c m N (sym w) (t.within m s)))
+        | inr h ↦ larger own.0 S e (λ x y z. same x (item_of N A t.assigns x y) ∙ z) (own.1.closed.spanned m e h (sym (same m h) ∙ s) j)
+      ];
+    }
+
+    -- what the known items touch, their own pairs span
+    pub known_spanned : (m e : ℕ) → S m ≡ true → In e (touch m) → g.spans (branches (part (λ x. S x || none x) A)) e ≡ true
+    known_spanned m e s j = known_closed.spanned m e (inr (t.within m s)) s j
+
+    -- where they span all that the item touches too, the known ones and the item are the least closed set
+    module _ (spanned : (e : ℕ) → In e (touch c) → g.spans (branches (part (λ x. S x || none x) A)) e ≡ true) where
+      joined_closed : IsClosed g touch (c ∷ N) none A (λ m. S m || eqb m c)
+      joined_closed = record {
+        spanned = λ m e i s j. larger S (λ x. S x || eqb x c) e (λ x y z. or_left (S x) (eqb x c) z) (elim (or_cases (S m) (eqb m c) s) [
+          | inl y ↦ known_spanned m e y j
+          | inr y ↦ spanned e (subst (λ (x : ℕ). In e (touch x)) (eqb-true m c y) j)
+        ]);
+      }
+
+      joined_least : IsLeastClosed g touch (c ∷ N) none every A (λ m. S m || eqb m c)
+      joined_least = record {
+        closed = joined_closed;
+        holds = λ m i f free. elim i [
+          | inl w ↦ or_right (S m) (eqb m c) (eq-eqb m c w)
+          | inr h ↦ or_left (S m) (eqb m c) (same m h ∙ own.1.holds m h f free)
+        ];
+        least = λ U cu hu m s. elim (or_cases (S m) (eqb m c) s) [
+          | inl y ↦
+              let h = t.within m y in
+              own.1.least U (record { spanned = λ x e i w j. cu.spanned x e (inr i) w j }) (λ x i f o. hu x (inr i) f o) m (sym (same m h) ∙ y)
+          | inr y ↦ subst (λ (x : ℕ). U x ≡ true) (sym (eqb-true m c y)) (hu c (inl refl) refl bare)
         ];
       }
 
+      joined_longest : (B : List Pair) → IsAssignment g touch (c ∷ N) B → length B ≤ length A
+      joined_longest = still_longest g laws touch N c A (λ m. S m || eqb m c) (out, t.distinct) t.assigns t.longest joined_closed (or_right (S c) (eqb c c) (eq-eqb c c refl))
+
+      pub joined_rho : IsRho g touch (c ∷ N) (length A)
+      joined_rho = record { longest = A; assigns = assigned; long = refl; none_longer = joined_longest }
+
+      -- the item is passed, and only it becomes known
+      pub IsTaken-joined : IsTaken g touch (c ∷ N) A (λ m. S m || eqb m c)
+      IsTaken-joined = record {
+        distinct = (out, t.distinct);
+        assigns = assigned;
+        longest = joined_longest;
+        critical = marks_critical g laws touch (c ∷ N) A (λ m. S m || eqb m c) (out, t.distinct) assigned joined_least;
+        within = λ m s. elim (or_cases (S m) (eqb m c) s) [ inl y ↦ inr (t.within m y) | inr y ↦ inl (eqb-true m c y) ];
+      }
+
+    module _ (R : ℕ → Bool) (k : IsReached g touch N c A R) where
       both_least : IsLeastClosed g touch (c ∷ N) none every A (λ m. S m || R m)
       both_least = record {
         closed = IsClosed-union g laws touch none A (c ∷ N) S R known_closed k.closed;

@@ -1,6 +1,7 @@
 // The answer: which candidates are chosen, and what they cost.
 ghost use Rattle.std.specs.Prelude.{◌≡◌, ◌+◌, ◌<◌, ◌≤◌, ◌^◌, ℕ, All, false, filter, length, replicate, take};
 ghost use Rattle.std.specs.List.{range_with_len};
+ghost use Rattle.obs_graph.specs.Search.{room_of};
 ghost use Rattle.obs_meter.specs.Assignments.{rho_at};
 ghost use Rattle.obs_meter.specs.Sizes.{HasRoomFor};
 ghost use Rattle.obs_meter.specs.Touches.{AreInRange, live_items};
@@ -12,11 +13,13 @@ ghost use Rattle.obs_placement.specs.Choosing.{HavePairsOnly};
 ghost use Rattle.obs_placement.specs.Order.{IsOrder, price_of};
 ghost use Rattle.obs_placement.specs.Taking.{AreKnown, IsStanding, is_raised, never};
 
+use crate::holding::hold_none;
 use crate::order::put_in_order;
 use crate::taking::{NEVER, take_all};
 use obs_assign::{Assignment, Steps};
 use obs_exchange::Work;
-use obs_graph::Graph;
+use obs_graph::search::Search;
+use obs_graph::{Ends, Graph};
 use obs_meter::Meters;
 use std::sync::ledger::Ledger;
 
@@ -69,6 +72,8 @@ pub fn choose_in<L: Ledger>(
     pairs: &mut Assignment,
     search: &mut Work,
     since: &mut [u64],
+    held: &mut [Option<Ends>],
+    joined: &mut Search,
     raised: &mut [bool],
     list: &mut [u32],
     steps: &mut Steps<L>,
@@ -83,6 +88,8 @@ pub fn choose_in<L: Ledger>(
     requires since { length since.old ≡ length offered.now.touches }
     requires raised { length raised.old ≡ length offered.now.touches }
     requires list { length prices.now ≤ length list.old }
+    requires held { length held.old ≡ length g.now.ends }
+    requires joined { g.now.vertices ≤ room_of joined.old }
     ensures bound { result.count ≤ length prices.now }
     ensures chosen { take result.count list.new ≡ chosen_of g.now.vertices g.now.ends offered.now.touches meters prices.now }
     ensures cost { result.cost ≡ cost_of prices.now (chosen_of g.now.vertices g.now.ends offered.now.touches meters prices.now) }
@@ -94,14 +101,16 @@ pub fn choose_in<L: Ledger>(
     ensures raised { (m : ℕ) → m < length offered.now.touches → has_flag raised.new m ≡ is_chosen g.now.vertices g.now.ends offered.now.touches (price_of meters prices.now) m }
     ensures same_room { HasRoomOf pairs.old pairs.new }
     ensures same_sizes { search.new.sizes ≡ search.old.sizes }
+    ensures same_joined { room_of joined.new ≡ room_of joined.old }
 {
     let _ = offered.count();
     let _ = g.vertices();
     pairs.clear(g, offered);
     put_in_order(meters, prices, keys);
     begin(since, raised);
+    hold_none(g, held, joined);
     take_all(
-        g, offered, meters, prices, keys, pairs, search, since, raised, steps,
+        g, offered, meters, prices, keys, pairs, search, since, held, joined, raised, steps,
     );
     list_raised(meters, prices, raised, list)
 }

@@ -1,16 +1,20 @@
 // Items are taken one after the other: each that raises the greatest length gets a pair, and of each other one it is kept
 // which items aren't critical from its price on.
-ghost use Rattle.std.specs.Prelude.{◌≡◌, ◌<◌, ◌≤◌, ◌∷◌, ℕ, true, length};
+ghost use Rattle.std.specs.Prelude.{◌≡◌, ◌<◌, ◌≤◌, ◌∷◌, ℕ, false, true, length};
+ghost use Rattle.obs_graph.specs.Search.{IsRooted, room_of};
 ghost use Rattle.obs_meter.specs.Sizes.{HasRoomFor};
 ghost use Rattle.obs_meter.specs.Touches.{AreInRange, is_live};
 ghost use Rattle.obs_assign.specs.Assigned.{HasRoomOf, has_flag, pairs};
 ghost use Rattle.obs_placement.specs.Answer.{earlier_items, is_chosen};
+ghost use Rattle.obs_placement.specs.Holding.{AreOfKnown};
 ghost use Rattle.obs_placement.specs.Order.{IsOrder, price_of};
 ghost use Rattle.obs_placement.specs.Taking.{AreAdded, AreHeld, AreTaken, IsStanding, IsTakenAt, IsUnderWay, never, since_after, since_at};
 
+use crate::holding::{hold_reached, join_touched};
 use obs_assign::{Assignment, Steps};
 use obs_exchange::{Found, Sources, Work, search};
-use obs_graph::Graph;
+use obs_graph::search::Search;
+use obs_graph::{Ends, Graph};
 use obs_meter::Meters;
 use std::sync::ledger::Ledger;
 
@@ -30,8 +34,8 @@ fn mark(reached: &[bool], price: u64, since: &mut [u64])
     }
 }
 
-/// Takes a live item, and says whether it raises the greatest length.
-fn take_item<L: Ledger>(
+/// Takes a live item by a search from it, and says whether it raises the greatest length.
+fn search_item<L: Ledger>(
     g: &Graph,
     offered: &Meters,
     meters: u32,
@@ -58,6 +62,7 @@ fn take_item<L: Ledger>(
     ensures held { AreHeld g.now offered.now.touches (price_of meters prices.now) a.new }
     ensures added { AreAdded price since.old since.new }
     ensures count { length since.new ≡ length since.old }
+    ensures flags { result ≡ false → length work.new.reached ≡ length offered.now.touches }
     ensures standing { IsStanding g.now offered.now.touches a.new }
     ensures same_room { HasRoomOf a.old a.new }
     ensures same_sizes { work.new.sizes ≡ work.old.sizes }
@@ -74,6 +79,58 @@ fn take_item<L: Ledger>(
     }
 }
 
+/// Takes a live item, and says whether it raises the greatest length. Where the held branches join the ends of all that it touches,
+/// it raises nothing, and no other item becomes known: so no search is made.
+fn take_item<L: Ledger>(
+    g: &Graph,
+    offered: &Meters,
+    meters: u32,
+    prices: &[u64],
+    a: &mut Assignment,
+    work: &mut Work,
+    since: &mut [u64],
+    held: &mut [Option<Ends>],
+    joined: &mut Search,
+    price: u64,
+    c: u32,
+    steps: &mut Steps<L>,
+) -> bool
+    requires c { c < length offered.now.touches }
+    requires in_range { AreInRange g.now offered.now.touches }
+    requires room { HasRoomFor work.old.sizes g.now offered.now.touches }
+    requires standing { IsStanding g.now offered.now.touches a.old }
+    requires live { is_live g.now.ends offered.now.touches c ≡ true }
+    requires count { length since.old ≡ length offered.now.touches }
+    requires price { price < never }
+    requires bounded { (m : ℕ) → since_at since.old m ≤ never }
+    requires taken { IsTakenAt g.now offered.now.touches (earlier_items g.now.ends offered.now.touches (price_of meters prices.now) c) a.old since.old }
+    requires held { AreHeld g.now offered.now.touches (price_of meters prices.now) a.old }
+    requires known { AreOfKnown g.now offered.now.touches since.old held.old }
+    requires rooted { IsRooted g.now.vertices held.old joined.old }
+    ensures taken { IsTakenAt g.now offered.now.touches (c ∷ earlier_items g.now.ends offered.now.touches (price_of meters prices.now) c) a.new since.new }
+    ensures chosen { result ≡ is_chosen g.now.vertices g.now.ends offered.now.touches (price_of meters prices.now) c }
+    ensures held { AreHeld g.now offered.now.touches (price_of meters prices.now) a.new }
+    ensures added { AreAdded price since.old since.new }
+    ensures count { length since.new ≡ length since.old }
+    ensures standing { IsStanding g.now offered.now.touches a.new }
+    ensures same_room { HasRoomOf a.old a.new }
+    ensures same_sizes { work.new.sizes ≡ work.old.sizes }
+    ensures known { AreOfKnown g.now offered.now.touches since.new held.new }
+    ensures rooted { IsRooted g.now.vertices held.new joined.new }
+    ensures same_joined { room_of joined.new ≡ room_of joined.old }
+{
+    let _ = g.vertices();
+    if join_touched(g, offered, c, held, joined) {
+        since[c as usize] = price;
+        return false;
+    }
+    if search_item(g, offered, meters, prices, a, work, since, price, c, steps) {
+        return true;
+    }
+    hold_reached(g, offered, since, work.reached(), held, joined);
+    false
+}
+
 /// Takes all items, in their order, and says which of them raise the greatest length of those before them.
 pub fn take_all<L: Ledger>(
     g: &Graph,
@@ -84,6 +141,8 @@ pub fn take_all<L: Ledger>(
     a: &mut Assignment,
     work: &mut Work,
     since: &mut [u64],
+    held: &mut [Option<Ends>],
+    joined: &mut Search,
     raised: &mut [bool],
     steps: &mut Steps<L>,
 )
@@ -92,17 +151,20 @@ pub fn take_all<L: Ledger>(
     requires cheap { (m : ℕ) → price_of meters prices.now m < never }
     requires order { IsOrder (price_of meters prices.now) (length offered.now.touches) keys.now }
     requires begun { IsUnderWay g.now offered.now.touches (price_of meters prices.now) keys.now 0 a.old since.old raised.old }
+    requires known { AreOfKnown g.now offered.now.touches since.old held.old }
+    requires rooted { IsRooted g.now.vertices held.old joined.old }
     ensures taken { AreTaken g.now offered.now.touches (price_of meters prices.now) a.new since.new raised.new }
     ensures standing { IsStanding g.now offered.now.touches a.new }
     ensures same_room { HasRoomOf a.old a.new }
     ensures same_sizes { work.new.sizes ≡ work.old.sizes }
+    ensures same_joined { room_of joined.new ≡ room_of joined.old }
 {
     let _ = g.vertices();
     for k in 0..keys.len() {
         let (price, c) = keys[k];
         if offered.live(g, c) {
             raised[c as usize] = take_item(
-                g, offered, meters, prices, a, work, since, price, c, steps,
+                g, offered, meters, prices, a, work, since, held, joined, price, c, steps,
             );
         }
     }

@@ -217,3 +217,21 @@ fn second_placement_in_the_same_arrays(rt: HostRuntime) -> Result<(), Fail> {
     assert!(rt; work.pairs().length() == 1 && work.chosen().is_empty());
     Ok(())
 }
+
+#[test]
+fn candidate_whose_branch_is_joined_by_known_items(rt: HostRuntime) -> Result<(), Fail> {
+    let mut g = Graph::make(rt.alloc(), 3, 3)?;
+    g.refill(3, &TRIANGLE);
+    let mut offered = Meters::make(rt.alloc(), 5)?;
+    offered.refill(&[
+        Touch::Edge(0),
+        Touch::Edge(0),
+        Touch::Edge(1),
+        Touch::Edge(1),
+        Touch::Edge(2),
+    ]);
+    let mut work = PlaceWork::make(rt.alloc(), 5, 3, 3)?;
+    let found = place_once::<Brand>(Blank::new(1), &g, &offered, 4, &[9], 3, &mut work);
+    assert!(rt; is_shortfall(found, &[0, 1, 2, 3, 4], 2, 0, 3));
+    Ok(())
+}

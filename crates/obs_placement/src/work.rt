@@ -16,7 +16,8 @@ use crate::placing::{Laid, place_first};
 use crate::plans::{Layer, Placement, Plan};
 use obs_assign::{Assignment, Steps};
 use obs_exchange::Work;
-use obs_graph::Graph;
+use obs_graph::search::Search;
+use obs_graph::{Ends, Graph};
 use obs_meter::Meters;
 use obs_rankcut::{Bound, CutWork};
 use std::alloc::Global;
@@ -49,6 +50,8 @@ pub struct PlaceWork {
     laid: Laid,
     keys: Vec<(u64, u32)>,
     since: Vec<u64>,
+    held: Vec<Option<Ends>>,
+    joined: Search,
     raised: Vec<bool>,
     list: Vec<u32>,
     marks: Vec<bool>,
@@ -92,6 +95,8 @@ impl Model for PlaceWork {
       vertices : w.pairs.forest.most_vertices ≡ w.search.sizes.vertices;
       search : w.search.sizes.meters ≡ length w.since.items;
       cut : w.cut.sizes ≡ w.search.sizes;
+      held : length w.held.items ≡ w.search.sizes.branches;
+      joined : length w.joined.piece ≡ w.search.sizes.vertices;
     } };
 }
 
@@ -111,6 +116,8 @@ impl PlaceWork {
             laid: NOTHING,
             keys: vec![in alloc; (0, 0); most_offered as usize]?,
             since: vec![in alloc; 0; most_offered as usize]?,
+            held: vec![in alloc; None; most_branches as usize]?,
+            joined: Search::make(alloc, most_vertices)?,
             raised: vec![in alloc; false; most_offered as usize]?,
             list: vec![in alloc; 0; most_offered as usize]?,
             marks: vec![in alloc; false; most_offered as usize]?,
@@ -197,6 +204,8 @@ pub fn find_placement<L: Ledger>(
         &mut work.pairs,
         &mut work.search,
         &mut work.since,
+        &mut work.held,
+        &mut work.joined,
         &mut work.raised,
         &mut work.list,
         &mut work.marks,

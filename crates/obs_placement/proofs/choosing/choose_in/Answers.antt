@@ -2,6 +2,7 @@ use Rattle.std.proofs.Common.{length, ap, ◌∙◌}
 use Rattle.obs_placement.specs.Answer.{cost_of}
 use Rattle.obs_placement.specs.Order.{price_of}
 use Rattle.obs_placement.proofs.Going.{IsUnderWay-begun}
+use Rattle.obs_placement.proofs.Joining.{AreOfKnown-none}
 use Rattle.obs_placement.proofs.Listing.{chosen_list, cheap_price, cleared_standing, only_chosen, rank_of_all, replicated_at, unset_at}
 use Rattle.obs_placement.proofs.choosing.choose_in.Goals as goal
 
@@ -15,6 +16,10 @@ take_all-requires-clause-begun g c =
     (replicated_at (length c.args.since.now) c.begin.new.since c.begin.ensures.since) (unset_at (length c.args.raised.now) c.begin.new.raised c.begin.ensures.raised)
     (cleared_standing c.args.g.now c.args.offered.now.touches c.clear.new.self c.clear.ensures.stands c.clear.ensures.whole c.clear.ensures.no_pair) c.clear.ensures.no_pair
     (rw c.requires.items c.put_in_order.ensures.order)
+
+pub take_all-requires-clause-known : goal.take_all-requires-clause-known
+take_all-requires-clause-known g c =
+    AreOfKnown-none c.args.g.now c.args.offered.now.touches c.begin.new.since (length c.args.held.now) c.hold_none.new.held c.requires.held c.hold_none.ensures.held
 
 pub returns-clause-rank : goal.returns-clause-rank
 returns-clause-rank g c =
