@@ -14,7 +14,7 @@ use Rattle.obs_assign.specs.declared.Move.{Move}
 use Rattle.obs_assign.specs.Kept.{IsInverse, IsListed, SlotsApart}
 use Rattle.obs_assign.specs.Moves.{HandsOn, moved}
 use Rattle.obs_assign.specs.Pins.{pinned_slots}
-use Rattle.obs_assign.proofs.Slotted.{branch_slot, distinct-from_apart, none_some, slot_branch, slot_low, some_same}
+use Rattle.obs_assign.proofs.Slotted.{distinct-from_apart, none_some, slot_low, some_same}
 use Rattle.obs_assign.proofs.Keeping.{take-moved}
 use Rattle.obs_assign.proofs.Pinning.{inverse-swapped, pinned-other, same_branches, take-pinned}
 use Rattle.obs_assign.proofs.Listed.{IsListed-same}

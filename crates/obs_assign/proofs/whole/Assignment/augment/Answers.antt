@@ -1,5 +1,4 @@
-use Rattle.std.proofs.Common.{◌≡◌, ◌++◌, ℕ, List, Option, get_or, length, take, drop, refl, ap, sym, ◌∙◌, subst}
-use Rattle.std.specs.Prelude.{None}
+use Rattle.std.proofs.Common.{◌≡◌, ◌++◌, ℕ, List, Option, length, take, drop, refl, ap, sym, ◌∙◌, subst}
 use Rattle.obs_graph.specs.Search.{room_of}
 use Rattle.obs_matroid.specs.Assignments.{branches}
 use Rattle.obs_matroid.specs.Slots.{pairs_of}
