@@ -1,7 +1,7 @@
 -- The held branches stay those that known items touch.
-use Rattle.std.proofs.Common.{◌≡◌, ℕ, ◌+◌, ◌<◌, true, Option, None, Some, List, [], ◌∷◌, length, get_or, set, take, replicate, sym, ap, ◌∙◌, inl, inr, arith, subst, get_or-set_same, get_or-set_other}
+use Rattle.std.proofs.Common.{◌≡◌, ℕ, ◌+◌, ◌<◌, Bool, true, Option, None, Some, List, [], ◌∷◌, length, get_or, set, take, replicate, refl, sym, ap, ◌∙◌, inl, inr, arith, subst, get_or-set_same, get_or-set_other}
 use Rattle.std.specs.Prelude.{nat_lt}
-use Rattle.std.proofs.lemmas.Bool.{cases_eq, cases_lt, lt-ltb}
+use Rattle.std.proofs.lemmas.Bool.{cases_Bool, cases_eq, cases_lt, lt-ltb, ne_eqb}
 use Rattle.std.proofs.lemmas.List.{get_or_past, get_or-replicate, get_or_default, length-replicate, length-set, take_more}
 use Rattle.obs_graph.specs.declared.Ends.{Ends}
 use Rattle.obs_graph.specs.Search.{IsPart}
@@ -12,7 +12,7 @@ use Rattle.obs_matroid.proofs.Lists.{In-append_cases}
 use Rattle.obs_meter.specs.declared.Touch.{Touch}
 use Rattle.obs_meter.specs.Touches.{touch_at}
 use Rattle.obs_placement.specs.Holding.{AreOfKnown, JoinEnds}
-use Rattle.obs_placement.specs.Taking.{AreAdded, is_known, never, since_at}
+use Rattle.obs_placement.specs.Taking.{AreAdded, is_known, never, since_after, since_at}
 
 -- no branch is held
 none_at : (n p : ℕ) → get_or {A = Option Ends} (replicate n None) p None ≡ None
@@ -68,6 +68,19 @@ AreOfKnown-more g touches p before after held low added h = record {
       | inl e ↦ subst (λ (s : ℕ). nat_lt s never ≡ true) (sym e) k
       | inr e ↦ lt-ltb (since_at after m) never (let u = e.1 in omega (arith, u, low))
     ]
+
+-- of the items that a mark is for, some are known from its price on
+pub AreAdded-marked : (reached : ℕ → Bool) (p : ℕ) (before after : List ℕ) → ((m : ℕ) → since_at after m ≡ since_after (reached m) p (since_at before m)) → AreAdded p before after
+AreAdded-marked reached p before after marked m = elim (cases_eq (since_at before m) never) [
+  | inl e ↦ elim (cases_Bool (reached m)) [
+    | inl t ↦ inr (e, marked m ∙ rw (t, e) refl)
+    | inr f ↦ inl (marked m ∙ rw f refl)
+  ]
+  | inr n ↦ elim (cases_Bool (reached m)) [
+    | inl t ↦ inl (marked m ∙ rw (t, ne_eqb (since_at before m) never n) refl)
+    | inr f ↦ inl (marked m ∙ rw f refl)
+  ]
+]
 
 -- one branch more that is touched has its ends joined
 pub joined_next : (held ends : List (Option Ends)) (L : List ℕ) (i : ℕ) → i < length L → JoinEnds held ends (get_or L i 0)

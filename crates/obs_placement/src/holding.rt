@@ -1,10 +1,11 @@
 // The held branches are touched by items that are known not to be critical. An item raises nothing where they join the ends of
 // each branch that it touches.
-ghost use Rattle.std.specs.Prelude.{◌≡◌, ◌<◌, ◌≤◌, IsTrue, None, length, replicate, true};
+ghost use Rattle.std.specs.Prelude.{◌≡◌, ◌<◌, ◌≤◌, ℕ, IsTrue, None, length, replicate, true};
 ghost use Rattle.obs_graph.specs.Search.{IsRooted, room_of};
 ghost use Rattle.obs_meter.specs.Touches.{AreInRange};
+ghost use Rattle.obs_assign.specs.Assigned.{has_flag};
 ghost use Rattle.obs_placement.specs.Holding.{AreOfKnown, JoinEnds, JoinTouched};
-ghost use Rattle.obs_placement.specs.Taking.{is_known};
+ghost use Rattle.obs_placement.specs.Taking.{is_known, never, since_after, since_at};
 
 use crate::taking::NEVER;
 use obs_graph::search::{Search, reach_all};
@@ -81,27 +82,32 @@ fn hold_touched(g: &Graph, offered: &Meters, m: u32, since: &[u64], held: &mut [
     }
 }
 
-/// Holds the branches that the reached items touch too, as far as these are known, and finds anew what is joined.
-pub fn hold_reached(
+/// Keeps the price for the reached items that have none yet, holds the branches that these touch too, and finds anew what is joined.
+pub fn mark_and_hold(
     g: &Graph,
     offered: &Meters,
-    since: &[u64],
     reached: &[bool],
+    price: u64,
+    since: &mut [u64],
     held: &mut [Option<Ends>],
     joined: &mut Search,
 )
     requires in_range { AreInRange g.now offered.now.touches }
-    requires count { length since.now ≡ length offered.now.touches }
-    requires flags { length reached.now ≡ length offered.now.touches }
+    requires count { length reached.now ≡ length since.old }
+    requires items { length since.old ≡ length offered.now.touches }
+    requires price { price < never }
     requires room { g.now.vertices ≤ room_of joined.old }
-    requires known { AreOfKnown g.now offered.now.touches since.now held.old }
-    ensures known { AreOfKnown g.now offered.now.touches since.now held.new }
+    requires known { AreOfKnown g.now offered.now.touches since.old held.old }
+    ensures count { length since.new ≡ length since.old }
+    ensures marked { (m : ℕ) → since_at since.new m ≡ since_after (has_flag reached.now m) price (since_at since.old m) }
+    ensures known { AreOfKnown g.now offered.now.touches since.new held.new }
     ensures rooted { IsRooted g.now.vertices held.new joined.new }
     ensures room { room_of joined.new ≡ room_of joined.old }
 {
     let _ = g.vertices();
     for m in 0..offered.count() {
-        if reached[m as usize] && since[m as usize] < NEVER {
+        if reached[m as usize] && since[m as usize] == NEVER {
+            since[m as usize] = price;
             hold_touched(g, offered, m, since, held);
         }
     }

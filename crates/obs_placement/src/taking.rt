@@ -10,7 +10,7 @@ ghost use Rattle.obs_placement.specs.Holding.{AreOfKnown};
 ghost use Rattle.obs_placement.specs.Order.{IsOrder, price_of};
 ghost use Rattle.obs_placement.specs.Taking.{AreAdded, AreHeld, AreTaken, IsStanding, IsTakenAt, IsUnderWay, never, since_after, since_at};
 
-use crate::holding::{hold_reached, join_touched};
+use crate::holding::{join_touched, mark_and_hold};
 use obs_assign::{Assignment, Steps};
 use obs_exchange::{Found, Sources, Work, search};
 use obs_graph::search::Search;
@@ -20,6 +20,21 @@ use std::sync::ledger::Ledger;
 
 /// The price of an item that wasn't found not to be critical: above all prices.
 pub const NEVER: u64 = 18446744073709551615;
+
+/// From how many reached items on their branches are held. To find anew what is joined passes over all branches, which pays where
+/// the search passed over many too.
+const LARGE: usize = 64;
+
+/// Whether a search reached many items.
+fn is_large(reached: &[bool]) -> bool {
+    let mut count = 0;
+    for m in 0..reached.len() {
+        if reached[m] {
+            count += 1;
+        }
+    }
+    count >= LARGE
+}
 
 /// Keeps the price for the reached items that have none yet.
 fn mark(reached: &[bool], price: u64, since: &mut [u64])
@@ -34,6 +49,35 @@ fn mark(reached: &[bool], price: u64, since: &mut [u64])
     }
 }
 
+/// Keeps the price for the reached items that have none yet. Where they are many, the branches that these touch are held too.
+fn keep(
+    g: &Graph,
+    offered: &Meters,
+    reached: &[bool],
+    price: u64,
+    since: &mut [u64],
+    held: &mut [Option<Ends>],
+    joined: &mut Search,
+)
+    requires in_range { AreInRange g.now offered.now.touches }
+    requires count { length reached.now ≡ length since.old }
+    requires items { length since.old ≡ length offered.now.touches }
+    requires price { price < never }
+    requires known { AreOfKnown g.now offered.now.touches since.old held.old }
+    requires rooted { IsRooted g.now.vertices held.old joined.old }
+    ensures count { length since.new ≡ length since.old }
+    ensures marked { (m : ℕ) → since_at since.new m ≡ since_after (has_flag reached.now m) price (since_at since.old m) }
+    ensures known { AreOfKnown g.now offered.now.touches since.new held.new }
+    ensures rooted { IsRooted g.now.vertices held.new joined.new }
+    ensures same_joined { room_of joined.new ≡ room_of joined.old }
+{
+    if is_large(reached) {
+        mark_and_hold(g, offered, reached, price, since, held, joined);
+    } else {
+        mark(reached, price, since);
+    }
+}
+
 /// Takes a live item by a search from it, and says whether it raises the greatest length.
 fn search_item<L: Ledger>(
     g: &Graph,
@@ -43,6 +87,8 @@ fn search_item<L: Ledger>(
     a: &mut Assignment,
     work: &mut Work,
     since: &mut [u64],
+    held: &mut [Option<Ends>],
+    joined: &mut Search,
     price: u64,
     c: u32,
     steps: &mut Steps<L>,
@@ -57,15 +103,19 @@ fn search_item<L: Ledger>(
     requires bounded { (m : ℕ) → since_at since.old m ≤ never }
     requires taken { IsTakenAt g.now offered.now.touches (earlier_items g.now.ends offered.now.touches (price_of meters prices.now) c) a.old since.old }
     requires held { AreHeld g.now offered.now.touches (price_of meters prices.now) a.old }
+    requires known { AreOfKnown g.now offered.now.touches since.old held.old }
+    requires rooted { IsRooted g.now.vertices held.old joined.old }
     ensures taken { IsTakenAt g.now offered.now.touches (c ∷ earlier_items g.now.ends offered.now.touches (price_of meters prices.now) c) a.new since.new }
     ensures chosen { result ≡ is_chosen g.now.vertices g.now.ends offered.now.touches (price_of meters prices.now) c }
     ensures held { AreHeld g.now offered.now.touches (price_of meters prices.now) a.new }
     ensures added { AreAdded price since.old since.new }
     ensures count { length since.new ≡ length since.old }
-    ensures flags { result ≡ false → length work.new.reached ≡ length offered.now.touches }
     ensures standing { IsStanding g.now offered.now.touches a.new }
     ensures same_room { HasRoomOf a.old a.new }
     ensures same_sizes { work.new.sizes ≡ work.old.sizes }
+    ensures known { AreOfKnown g.now offered.now.touches since.new held.new }
+    ensures rooted { IsRooted g.now.vertices held.new joined.new }
+    ensures same_joined { room_of joined.new ≡ room_of joined.old }
 {
     let _ = g.vertices();
     let _ = meters;
@@ -73,7 +123,7 @@ fn search_item<L: Ledger>(
     match search(g, offered, a, Sources::One(c), work, steps) {
         Found::Grown(_) => true,
         Found::Closed => {
-            mark(work.reached(), price, since);
+            keep(g, offered, work.reached(), price, since, held, joined);
             false
         }
     }
@@ -124,11 +174,9 @@ fn take_item<L: Ledger>(
         since[c as usize] = price;
         return false;
     }
-    if search_item(g, offered, meters, prices, a, work, since, price, c, steps) {
-        return true;
-    }
-    hold_reached(g, offered, since, work.reached(), held, joined);
-    false
+    search_item(
+        g, offered, meters, prices, a, work, since, held, joined, price, c, steps,
+    )
 }
 
 /// Takes all items, in their order, and says which of them raise the greatest length of those before them.

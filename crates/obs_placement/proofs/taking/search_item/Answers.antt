@@ -46,8 +46,8 @@ pub returns-in-Closed-clause-taken : goal.returns-in-Closed-clause-taken
 returns-in-Closed-clause-taken g c =
     let r = c.requires in
     passed_at c.args.a.now c.search.new.a c.args.g.now c.args.offered.now.touches c.vertices.ensures.branches r.standing (price_of c.args.meters c.args.prices.now) c.args.c c.args.price
-    c.args.since.now c.mark.new.since c.search.new.work.reached r.live r.price r.bounded r.taken c.in-Closed.ensures.found
-    (rw (c.reached.ensures.reached) at c.mark.ensures.marked)
+    c.args.since.now c.keep.new.since c.search.new.work.reached r.live r.price r.bounded r.taken c.in-Closed.ensures.found
+    (rw (c.reached.ensures.reached) at c.keep.ensures.marked)
 
 pub returns-in-Closed-clause-chosen : goal.returns-in-Closed-clause-chosen
 returns-in-Closed-clause-chosen g c =

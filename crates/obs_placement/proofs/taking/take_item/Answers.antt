@@ -31,13 +31,3 @@ pub returns-then-join_touched-clause-known : goal.returns-then-join_touched-clau
 returns-then-join_touched-clause-known g c =
     AreOfKnown-more c.args.g.now c.args.offered.now.touches c.args.price c.args.since.now (set c.args.since.now c.args.c c.args.price) c.args.held.now c.requires.price
     (returns-then-join_touched-clause-added g c) c.requires.known
-
-pub returns-then-search_item-clause-known : goal.returns-then-search_item-clause-known
-returns-then-search_item-clause-known g c =
-    AreOfKnown-more c.args.g.now c.args.offered.now.touches c.args.price c.args.since.now c.search_item.new.since c.args.held.now c.requires.price
-    c.search_item.ensures.added c.requires.known
-
-pub hold_reached-requires-clause-known : goal.hold_reached-requires-clause-known
-hold_reached-requires-clause-known g c =
-    AreOfKnown-more c.args.g.now c.args.offered.now.touches c.args.price c.args.since.now c.search_item.new.since c.args.held.now c.requires.price
-    c.search_item.ensures.added c.requires.known
