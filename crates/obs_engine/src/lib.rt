@@ -31,6 +31,8 @@ mod refused;
 mod report_tests;
 #[cfg(test)]
 mod session_tests;
+#[cfg(test)]
+mod spoilt_tests;
 mod status;
 mod taken;
 mod tasks;
