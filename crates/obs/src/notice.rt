@@ -60,8 +60,10 @@ fn write_three<E: Sink>(
     second: &[u8],
     third: &[u8],
 ) -> Result<(), Failed>
-    ensures writes { Writes (E.written errors.old) (E.written errors.new) result (first.now ++ (second.now ++ third.now)) }
-    ensures succeeds { (rest : ℕ) → E.has_room errors.old (length (first.now ++ (second.now ++ third.now)) + rest) → IsOk result }
+    ensures writes { Writes (E.written errors.old) (E.written errors.new) result
+        (first.now ++ (second.now ++ third.now)) }
+    ensures succeeds { (rest : ℕ) → E.has_room errors.old (length (first.now ++ (second.now ++ third.now)) + rest)
+        → IsOk result }
 {
     match write_all(errors, first) {
         Ok(()) => write_two(errors, second, third),
@@ -75,8 +77,10 @@ fn say_unread<E: Sink>(
     words: &[String],
     failed: Option<usize>,
 ) -> Result<(), Failed>
-    ensures says { Writes (E.written errors.old) (E.written errors.new) result (read_notice (map string_bytes words.now) failed) }
-    ensures succeeds { (rest : ℕ) → E.has_room errors.old (length (read_notice (map string_bytes words.now) failed) + rest) → IsOk result }
+    ensures says { Writes (E.written errors.old) (E.written errors.new) result
+        (read_notice (map string_bytes words.now) failed) }
+    ensures succeeds { (rest : ℕ)
+        → E.has_room errors.old (length (read_notice (map string_bytes words.now) failed) + rest) → IsOk result }
 {
     match failed {
         Some(word) => write_three(errors, FILE, word_bytes(words, word), FILE_END),
@@ -92,8 +96,10 @@ pub(crate) fn say<E: Sink>(
     status: Status,
     failed: Option<usize>,
 ) -> Result<(), Failed>
-    ensures says { Writes (E.written errors.old) (E.written errors.new) result (notice (map string_bytes words.now) status failed) }
-    ensures succeeds { (rest : ℕ) → E.has_room errors.old (length (notice (map string_bytes words.now) status failed) + rest) → IsOk result }
+    ensures says { Writes (E.written errors.old) (E.written errors.new) result
+        (notice (map string_bytes words.now) status failed) }
+    ensures succeeds { (rest : ℕ)
+        → E.has_room errors.old (length (notice (map string_bytes words.now) status failed) + rest) → IsOk result }
 {
     match status {
         Status::Done => Ok(()),

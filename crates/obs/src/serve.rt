@@ -23,14 +23,19 @@ pub(crate) fn serve<F: Files, S: Source, W: Sink, E: Sink>(
 ) -> Status
     requires fresh { (w : ℕ) → slice_index files.old.faults w ≡ 0 }
     // it is a run of the words, whatever becomes of what is said
-    ensures ran { IsRun ⟦<Noted<F> as Files>⟧.content ⟦<Noted<F> as Files>⟧.faults ⟦<Noted<F> as Files>⟧.steady S.left S.faults S.steady
-        W.written W.faults W.has_room (form_of (map string_bytes words.now)) files.old files.new input.old input.new output.old output.new result }
+    ensures ran { IsRun ⟦<Noted<F> as Files>⟧.content ⟦<Noted<F> as Files>⟧.faults ⟦<Noted<F> as Files>⟧.steady
+        S.left S.faults S.steady W.written W.faults W.has_room
+        (form_of (map string_bytes words.now)) files.old files.new input.old input.new output.old output.new result }
     // a front of the notice is said, and all of it where there is room
     ensures says { WrotePart (E.written errors.old) (E.written errors.new)
         (notice (map string_bytes words.now) result (failed_word files.new.faults)) }
-    ensures whole { (rest : ℕ) → E.has_room errors.old (length (notice (map string_bytes words.now) result (failed_word files.new.faults)) + rest)
-        → Wrote (E.written errors.old) (E.written errors.new) (notice (map string_bytes words.now) result (failed_word files.new.faults)) }
-    // after a failed read the named word is one of whose file a read failed, and none is named only where one of the input failed
+    ensures whole { (rest : ℕ)
+        → E.has_room errors.old
+        (length (notice (map string_bytes words.now) result (failed_word files.new.faults)) + rest)
+        → Wrote (E.written errors.old) (E.written errors.new)
+        (notice (map string_bytes words.now) result (failed_word files.new.faults)) }
+    // after a failed read the named word is one of whose file a read failed,
+    // and none is named only where one of the input failed
     ensures named { result ≡ Status.ReadFault
         → NamesFailure files.new.faults (S.faults input.old) (S.faults input.new) (failed_word files.new.faults) }
 {

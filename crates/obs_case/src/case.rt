@@ -168,7 +168,8 @@ impl Case {
         ensures refused { IfErr result (Refuses (switch_fault self.old name.now from.now to.now)) }
         ensures never_unknown_place { result ≢ Err AddFault.UnknownPlace }
         ensures position { IfOk result (λ at. at ≡ length self.old.switches) }
-        ensures added { OnOk result (self.new ≡ with_switch self.old (switch_of self.old name.now from.now to.now closed)) }
+        ensures added { OnOk result
+            (self.new ≡ with_switch self.old (switch_of self.old name.now from.now to.now closed)) }
         ensures unchanged { OnErr result (self.new ≡ self.old) }
     {
         if self.switches.len() == MOST_ROWS {
@@ -201,7 +202,8 @@ impl Case {
         ensures refused { IfErr result (Refuses (branch_fault self.old name.now from.now to.now)) }
         ensures never_unknown_place { result ≢ Err AddFault.UnknownPlace }
         ensures position { IfOk result (λ at. at ≡ length self.old.branches) }
-        ensures added { OnOk result (self.new ≡ with_branch self.old (branch_of self.old name.now from.now to.now inservice)) }
+        ensures added { OnOk result
+            (self.new ≡ with_branch self.old (branch_of self.old name.now from.now to.now inservice)) }
         ensures unchanged { OnErr result (self.new ≡ self.old) }
     {
         if self.branches.len() == MOST_ROWS {
@@ -234,7 +236,8 @@ impl Case {
         ensures refused { IfErr result (Refuses (meter_fault self.old name.now kind at.now)) }
         ensures never_unknown_node { result ≢ Err AddFault.UnknownNode }
         ensures position { IfOk result (λ at. at ≡ length self.old.meters) }
-        ensures added { OnOk result (self.new ≡ with_meter self.old (meter_of self.old name.now kind at.now inservice)) }
+        ensures added { OnOk result
+            (self.new ≡ with_meter self.old (meter_of self.old name.now kind at.now inservice)) }
         ensures unchanged { OnErr result (self.new ≡ self.old) }
     {
         if self.meters.len() == MOST_ROWS {
@@ -268,7 +271,8 @@ impl Case {
         ensures refused { IfErr result (Refuses (candidate_fault self.old name.now kind at.now)) }
         ensures never_unknown_node { result ≢ Err AddFault.UnknownNode }
         ensures position { IfOk result (λ at. at ≡ length self.old.candidates) }
-        ensures added { OnOk result (self.new ≡ with_candidate self.old (candidate_of self.old name.now kind at.now price)) }
+        ensures added { OnOk result
+            (self.new ≡ with_candidate self.old (candidate_of self.old name.now kind at.now price)) }
         ensures unchanged { OnErr result (self.new ≡ self.old) }
     {
         if self.candidates.len() == MOST_ROWS {

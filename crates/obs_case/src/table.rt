@@ -153,7 +153,8 @@ pub(crate) fn find<R: Row>(rows: &IndexSet<R>, name: &[u8]) -> Option<u32>
 pub(crate) fn find_both<R: Row>(rows: &IndexSet<R>, from: &[u8], to: &[u8]) -> Option<(u32, u32)>
     requires named { IsTrue (list_all is_name (map R.own_name rows.now.keys)) }
     requires few { length rows.now.keys ≤ most_rows }
-    ensures both { let names = map R.own_name rows.now.keys in is_some result ≡ (has_name names from.now && has_name names to.now) }
+    ensures both { let names = map R.own_name rows.now.keys in
+        is_some result ≡ (has_name names from.now && has_name names to.now) }
     ensures from { IfSome result (λ ends. ends.0 ≡ place_of (map R.own_name rows.now.keys) from.now) }
     ensures to { IfSome result (λ ends. ends.1 ≡ place_of (map R.own_name rows.now.keys) to.now) }
     ensures within { IfSome result (λ ends. (ends.0 < length rows.now.keys) × (ends.1 < length rows.now.keys)) }

@@ -68,7 +68,8 @@ fn seek(header: &ByteRecord, column: &[u8]) -> Column
 
 fn places_of_two(header: &ByteRecord, own: &[u8], second: &[u8]) -> Result<Places, RowFault>
     ensures accepted { OnOk result (columns_fault (own.now ∷ second.now ∷ []) (fields_of header.now) ≡ None) }
-    ensures refused { IfErr result (λ fault. columns_fault (own.now ∷ second.now ∷ []) (fields_of header.now) ≡ Some fault) }
+    ensures refused { IfErr result
+        (λ fault. columns_fault (own.now ∷ second.now ∷ []) (fields_of header.now) ≡ Some fault) }
     ensures own { IfOk result (λ p. p.own ≡ place_of (fields_of header.now) own.now) }
     ensures second { IfOk result (λ p. p.second ≡ place_of (fields_of header.now) second.now) }
     ensures third { IfOk result (λ p. p.third ≡ p.second) }
@@ -97,8 +98,10 @@ fn places_of_four(
     third: &[u8],
     fourth: &[u8],
 ) -> Result<Places, RowFault>
-    ensures accepted { OnOk result (columns_fault (own.now ∷ second.now ∷ third.now ∷ fourth.now ∷ []) (fields_of header.now) ≡ None) }
-    ensures refused { IfErr result (λ fault. columns_fault (own.now ∷ second.now ∷ third.now ∷ fourth.now ∷ []) (fields_of header.now) ≡ Some fault) }
+    ensures accepted { OnOk result
+        (columns_fault (own.now ∷ second.now ∷ third.now ∷ fourth.now ∷ []) (fields_of header.now) ≡ None) }
+    ensures refused { IfErr result (λ fault. columns_fault (own.now ∷ second.now ∷ third.now ∷ fourth.now ∷ [])
+        (fields_of header.now) ≡ Some fault) }
     ensures own { IfOk result (λ p. p.own ≡ place_of (fields_of header.now) own.now) }
     ensures second { IfOk result (λ p. p.second ≡ place_of (fields_of header.now) second.now) }
     ensures third { IfOk result (λ p. p.third ≡ place_of (fields_of header.now) third.now) }

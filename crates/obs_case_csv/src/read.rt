@@ -34,9 +34,12 @@ fn read_row(
 ) -> Result<(), TableEnd>
     requires number { number ≡ next_row table case.old }
     requires few { number ≤ most_rows + 1 }
-    ensures accepted { OnOk result ((header : Record) → ArePlaces table header places.now → row_fault table header case.old (fields_of row.now) ≡ None) }
-    ensures refused { IfErr result (λ end. (header : Record) → ArePlaces table header places.now → Ends (fault_at table number (row_fault table header case.old (fields_of row.now))) end) }
-    ensures added { OnOk result ((header : Record) → ArePlaces table header places.now → case.new ≡ with_record table header case.old (fields_of row.now)) }
+    ensures accepted { OnOk result ((header : Record) → ArePlaces table header places.now
+        → row_fault table header case.old (fields_of row.now) ≡ None) }
+    ensures refused { IfErr result (λ end. (header : Record) → ArePlaces table header places.now
+        → Ends (fault_at table number (row_fault table header case.old (fields_of row.now))) end) }
+    ensures added { OnOk result ((header : Record) → ArePlaces table header places.now
+        → case.new ≡ with_record table header case.old (fields_of row.now)) }
     ensures unchanged { OnErr result (case.new ≡ case.old) }
 {
     if number > LAST_ROW {
@@ -94,8 +97,10 @@ pub fn read_tables(
     meters: &[u8],
     candidates: Option<&[u8]>,
 ) -> Result<Case, TableEnd>
-    ensures read { IfOk result (λ case. tables_in nodes.now switches.now branches.now meters.now (option_map (λ c. c.now) candidates.entry) ≡ Ok case) }
-    ensures refused { IfErr result (EndsAll (tables_in nodes.now switches.now branches.now meters.now (option_map (λ c. c.now) candidates.entry))) }
+    ensures read { IfOk result (λ case. tables_in nodes.now switches.now branches.now meters.now
+        (option_map (λ c. c.now) candidates.entry) ≡ Ok case) }
+    ensures refused { IfErr result (EndsAll
+        (tables_in nodes.now switches.now branches.now meters.now (option_map (λ c. c.now) candidates.entry))) }
 {
     let mut case = Case::new(alloc);
     read_table(alloc, &mut case, Table::Nodes, nodes)?;

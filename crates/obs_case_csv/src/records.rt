@@ -23,8 +23,10 @@ pub(crate) fn open(alloc: Global, bytes: &[u8]) -> Reader<&[u8]>
 
 // Reads the next record, if there is one. No record is refused for its length or its bytes.
 fn read_record(reader: &mut Reader<&[u8]>, row: &mut ByteRecord) -> Result<bool, csv::Error>
-    ensures refused { IfErr result (λ e. (most : ℕ) (rows : List Record) → Gives reader.old most rows → IsFromOutside (error_kind e)) }
-    ensures row { IfOk result (λ found. (most : ℕ) (rows : List Record) → Gives reader.old (suc most) rows → ReadsFirst found reader.new most (fields_of row.new) rows) }
+    ensures refused { IfErr result
+        (λ e. (most : ℕ) (rows : List Record) → Gives reader.old most rows → IsFromOutside (error_kind e)) }
+    ensures row { IfOk result (λ found. (most : ℕ) (rows : List Record)
+        → Gives reader.old (suc most) rows → ReadsFirst found reader.new most (fields_of row.new) rows) }
 {
     reader.read_byte_record(row)
 }
@@ -32,7 +34,8 @@ fn read_record(reader: &mut Reader<&[u8]>, row: &mut ByteRecord) -> Result<bool,
 // Reads the next record, if there is one. Bytes in memory don't fail, so a refusal is want of memory.
 pub(crate) fn next_row(reader: &mut Reader<&[u8]>, row: &mut ByteRecord) -> Result<bool, TableEnd>
     ensures end { IfErr result (λ end. end ≡ TableEnd.NoMemory) }
-    ensures row { IfOk result (λ found. (most : ℕ) (rows : List Record) → Gives reader.old (suc most) rows → ReadsFirst found reader.new most (fields_of row.new) rows) }
+    ensures row { IfOk result (λ found. (most : ℕ) (rows : List Record)
+        → Gives reader.old (suc most) rows → ReadsFirst found reader.new most (fields_of row.new) rows) }
 {
     let Ok(found) = read_record(reader, row) else {
         return Err(TableEnd::NoMemory);

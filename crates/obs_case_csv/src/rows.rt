@@ -59,7 +59,8 @@ fn add_switch(
     requires room { length (switch_names case.old) < most_rows }
     ensures accepted { OnOk result (switch_row_fault case.old switch.now from.now to.now closed.now ≡ None) }
     ensures refused { IfErr result (Stops (switch_row_fault case.old switch.now from.now to.now closed.now)) }
-    ensures added { OnOk result (case.new ≡ with_switch case.old (switch_of case.old switch.now from.now to.now (flag closed.now))) }
+    ensures added { OnOk result
+        (case.new ≡ with_switch case.old (switch_of case.old switch.now from.now to.now (flag closed.now))) }
     ensures unchanged { OnErr result (case.new ≡ case.old) }
 {
     let Some(switch) = name_of(switch) else {
@@ -84,7 +85,8 @@ fn add_branch(
     requires room { length (branch_names case.old) < most_rows }
     ensures accepted { OnOk result (branch_row_fault case.old branch.now from.now to.now inservice.now ≡ None) }
     ensures refused { IfErr result (Stops (branch_row_fault case.old branch.now from.now to.now inservice.now)) }
-    ensures added { OnOk result (case.new ≡ with_branch case.old (branch_of case.old branch.now from.now to.now (flag inservice.now))) }
+    ensures added { OnOk result
+        (case.new ≡ with_branch case.old (branch_of case.old branch.now from.now to.now (flag inservice.now))) }
     ensures unchanged { OnErr result (case.new ≡ case.old) }
 {
     let Some(branch) = name_of(branch) else {
@@ -109,7 +111,8 @@ fn add_meter(
     requires room { length (meter_names case.old) < most_rows }
     ensures accepted { OnOk result (meter_row_fault case.old meter.now kind.now at.now inservice.now ≡ None) }
     ensures refused { IfErr result (Stops (meter_row_fault case.old meter.now kind.now at.now inservice.now)) }
-    ensures added { OnOk result (case.new ≡ with_meter case.old (meter_of case.old meter.now (kind_in kind.now) at.now (flag inservice.now))) }
+    ensures added { OnOk result
+        (case.new ≡ with_meter case.old (meter_of case.old meter.now (kind_in kind.now) at.now (flag inservice.now))) }
     ensures unchanged { OnErr result (case.new ≡ case.old) }
 {
     let Some(meter) = name_of(meter) else {
@@ -137,7 +140,8 @@ fn add_candidate(
     requires room { length (candidate_names case.old) < most_rows }
     ensures accepted { OnOk result (candidate_row_fault case.old candidate.now kind.now at.now price.now ≡ None) }
     ensures refused { IfErr result (Stops (candidate_row_fault case.old candidate.now kind.now at.now price.now)) }
-    ensures added { OnOk result (case.new ≡ with_candidate case.old (candidate_of case.old candidate.now (kind_in kind.now) at.now (price_in price.now))) }
+    ensures added { OnOk result (case.new ≡ with_candidate case.old
+        (candidate_of case.old candidate.now (kind_in kind.now) at.now (price_in price.now))) }
     ensures unchanged { OnErr result (case.new ≡ case.old) }
 {
     let Some(candidate) = name_of(candidate) else {
@@ -158,9 +162,12 @@ fn add_candidate(
 // Adds the row of these fields to a table that isn't full.
 pub(crate) fn add_row(case: &mut Case, table: Table, fields: &Fields) -> Result<(), RowEnd>
     requires room { length (names_in table case.old) < most_rows }
-    ensures accepted { let f = fields.now in OnOk result (ordered_fault table case.old f.own.now f.second.now f.third.now f.fourth.now ≡ None) }
-    ensures refused { let f = fields.now in IfErr result (Stops (ordered_fault table case.old f.own.now f.second.now f.third.now f.fourth.now)) }
-    ensures added { let f = fields.now in OnOk result (case.new ≡ with_ordered table case.old f.own.now f.second.now f.third.now f.fourth.now) }
+    ensures accepted { let f = fields.now in
+        OnOk result (ordered_fault table case.old f.own.now f.second.now f.third.now f.fourth.now ≡ None) }
+    ensures refused { let f = fields.now in
+        IfErr result (Stops (ordered_fault table case.old f.own.now f.second.now f.third.now f.fourth.now)) }
+    ensures added { let f = fields.now in
+        OnOk result (case.new ≡ with_ordered table case.old f.own.now f.second.now f.third.now f.fourth.now) }
     ensures unchanged { OnErr result (case.new ≡ case.old) }
 {
     match table {

@@ -33,7 +33,8 @@ impl Model for Checker {
 
     ghost view = { λ c. c.network };
 
-    ghost invariant = { λ c. HasRoom c.network.rows c.work × (length c.keys.items ≡ c.network.rows.meters + c.network.rows.candidates) };
+    ghost invariant = { λ c. HasRoom c.network.rows c.work
+        × (length c.keys.items ≡ c.network.rows.meters + c.network.rows.candidates) };
 }
 
 impl Checker {
@@ -49,8 +50,8 @@ impl Checker {
         })
     }
 
-    /// Whether every claim holds of the case, else the first one that fails, counted from 1, and its false clause of the
-    /// lowest number.
+    /// Whether every claim holds of the case, else the first one that fails, counted from 1, and its false clause of
+    /// the lowest number.
     pub fn check(&mut self, case: &Case, cert: &Cert) -> Result<(), Flaw>
         requires of_case { self.old ≡ network_of case.now }
         ensures holds { OnOk result (first_flaw case.now 1 cert.now ≡ None) }

@@ -57,7 +57,8 @@ pub(crate) fn forest(
     requires room { HasRoom (rows_of case.now) work.old }
     requires clear { AreJoined [] work.old.ups.items [] }
     ensures none { IfNone result ((clauses : List (Bool × FlawCode)) →
-        first_true (forest_clauses case.now (pairs_of case.now (parts_in rest.now).pairs) need clauses) ≡ first_true clauses) }
+        first_true (forest_clauses case.now (pairs_of case.now (parts_in rest.now).pairs) need clauses)
+        ≡ first_true clauses) }
     ensures flaw { IfSome result (λ code. (clauses : List (Bool × FlawCode)) →
         first_true (forest_clauses case.now (pairs_of case.now (parts_in rest.now).pairs) need clauses) ≡ Some code) }
     ensures ready { (stamp : ℕ) → IsReady case.now stamp work.old → IsReady case.now stamp work.new }

@@ -32,8 +32,8 @@ pub fn bounds_are_not_observable()
     ensures short { BoundsAreNotObservable }
 {}
 
-/// The candidates that a cost claim that holds chooses are a cheapest set that completes the meters of the case, and they
-/// cost what the claim says.
+/// The candidates that a cost claim that holds chooses are a cheapest set that completes the meters of the case, and
+/// they cost what the claim says.
 pub fn chosen_are_cheapest()
     ensures cheapest { ChosenAreCheapest }
 {}

@@ -19,7 +19,8 @@ use crate::walk::{Items, Layers, Sort, walk_items};
 use obs_case::Case;
 use obs_network::Network;
 
-/// What is known of the items that were listed so far: whether one is idle, and what the dearest of the candidates costs.
+/// What is known of the items that were listed so far:
+/// whether one is idle, and what the dearest of the candidates costs.
 #[derive(Clone, Copy, Debug)]
 pub(crate) struct Seen {
     pub idle: bool,
@@ -59,7 +60,8 @@ fn see(case: &Case, network: &Network, m: u32, seen: Seen) -> Seen
 // The same with these items more.
 fn see_items(case: &Case, network: &Network, items: Items<'_>, seen: Seen) -> Seen
     requires of_case { network.now ≡ network_of case.now }
-    ensures tells { (list : List ℕ) → Tells case.now list seen → Tells case.now (list ++ items_of case.now items.entry) result }
+    ensures tells { (list : List ℕ) → Tells case.now list seen
+        → Tells case.now (list ++ items_of case.now items.entry) result }
 {
     let mut seen = seen;
     for item in items {
@@ -166,9 +168,11 @@ pub(crate) fn count_live(case: &Case, network: &Network) -> u32
 /// Whether a layer has a wrong number outside, where each item is inside and none stands twice.
 pub(crate) fn has_wrong_outside(case: &Case, keys: &[u128], layers: Layers<'_>) -> bool
     requires keys { AreKeys case.now keys.now }
-    requires inside { list_any (λ l. not_inside (is_below case.now l.layer.to) l.list) (listed_layers case.now layers) ≡ false }
+    requires inside { list_any (λ l. not_inside (is_below case.now l.layer.to) l.list)
+        (listed_layers case.now layers) ≡ false }
     requires once { twice (items_of case.now (all_inside layers)) ≡ false }
-    ensures outside { result ≡ list_any (λ l. wrong_outside case.now (is_below case.now l.layer.to) l.list l.layer.outside)
+    ensures outside { result ≡ list_any
+        (λ l. wrong_outside case.now (is_below case.now l.layer.to) l.list l.layer.outside)
         (listed_layers case.now layers.entry) }
 {
     let mut listed = 0;

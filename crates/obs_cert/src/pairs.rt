@@ -99,7 +99,8 @@ fn join_pairs(
     requires clear { AreJoined [] ups.old [] }
     requires vertices { g.now.vertices ≤ length ups.old }
     requires room { length ups.old ≤ length moved.old }
-    ensures joined { AreJoined (onto g.now.ends (branches (pairs_of case.now pairs.entry)) []) ups.new (take result.0 moved.new) }
+    ensures joined { AreJoined (onto g.now.ends (branches (pairs_of case.now pairs.entry)) []) ups.new
+        (take result.0 moved.new) }
     ensures count { result.0 ≤ length moved.new }
     ensures cycle { result.1 ≡ not (result.0 == length pairs.entry) }
 {

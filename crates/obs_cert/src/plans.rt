@@ -90,7 +90,8 @@ fn has_unknown_name(case: &Case, rest: &[u8]) -> bool
 // Whether an item of a cost claim, whose chosen candidates are marked, isn't one that it may speak of.
 fn has_outside_item(case: &Case, network: &Network, rest: &[u8], chosen: &[u32], stamp: u32) -> bool
     requires of_case { network.now ≡ network_of case.now }
-    requires marked { (x : ℕ) → is_marked chosen.now stamp x ≡ has (items_of case.now (chosen_items (parts_in rest.now).chosen)) x }
+    requires marked { (x : ℕ) → is_marked chosen.now stamp x
+        ≡ has (items_of case.now (chosen_items (parts_in rest.now).chosen)) x }
     ensures outside { (number : ℕ) → result ≡ outside_of_plan case.now (cost_of number (parts_in rest.now)) }
 {
     let paired = walk_items(Sort::Paired, rest);

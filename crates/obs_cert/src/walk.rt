@@ -163,7 +163,8 @@ pub(crate) fn walk_items(sort: Sort, bytes: &[u8]) -> Items<'_>
 
 // The next pair and the bytes after it.
 fn next_pair(bytes: &[u8]) -> Option<(PairLine<'_>, &[u8])>
-    ensures pair { IfSome result (λ found. (parts_in bytes.now).pairs ≡ pair_said found.0 ∷ (parts_in found.1.now).pairs) }
+    ensures pair { IfSome result
+        (λ found. (parts_in bytes.now).pairs ≡ pair_said found.0 ∷ (parts_in found.1.now).pairs) }
     ensures none { IfNone result ((parts_in bytes.now).pairs ≡ []) }
 {
     let mut rest = bytes;
@@ -244,7 +245,8 @@ fn layer_on<'a>(line: &Line<'_>, rest: &'a [u8]) -> Option<LayerLines<'a>>
 
 // The next layer, and the bytes after its line.
 fn next_layer(bytes: &[u8]) -> Option<(LayerLines<'_>, &[u8])>
-    ensures layer { IfSome result (λ found. (parts_in bytes.now).layers ≡ layer_said found.0 ∷ (parts_in found.1.now).layers) }
+    ensures layer { IfSome result
+        (λ found. (parts_in bytes.now).layers ≡ layer_said found.0 ∷ (parts_in found.1.now).layers) }
     ensures none { IfNone result ((parts_in bytes.now).layers ≡ []) }
 {
     let mut rest = bytes;
@@ -323,7 +325,8 @@ fn claim_on<'a>(line: &Line<'a>, rest: &'a [u8]) -> Option<ClaimLines<'a>>
 
 // The next claim, and the bytes after its first line.
 fn next_claim(bytes: &[u8]) -> Option<(ClaimLines<'_>, &[u8])>
-    ensures claim { IfSome result (λ found. (parts_in bytes.now).claims ≡ claim_said found.0 ∷ (parts_in found.1.now).claims) }
+    ensures claim { IfSome result
+        (λ found. (parts_in bytes.now).claims ≡ claim_said found.0 ∷ (parts_in found.1.now).claims) }
     ensures none { IfNone result ((parts_in bytes.now).claims ≡ []) }
 {
     let mut rest = bytes;

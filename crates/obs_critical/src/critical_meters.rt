@@ -80,8 +80,8 @@ fn list_unmarked(ms: &Meters, a: &Assignment, marks: &[bool], list: &mut [u32]) 
     count
 }
 
-/// Finds the critical meters: those that the search which found no further pair didn't reach. `CriticalWork::list` then has
-/// them.
+/// Finds the critical meters: those that the search which found no further pair didn't reach. `CriticalWork::list` then
+/// has them.
 pub fn find_critical(
     g: &Graph,
     ms: &Meters,

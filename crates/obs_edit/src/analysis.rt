@@ -31,8 +31,8 @@ pub struct State {
     pub needed: u32,
 }
 
-/// A case, its network, a longest assignment of its live meters, and the answers that are at hand, save a placement. Of that it
-/// knows only whether it is at hand.
+/// A case, its network, a longest assignment of its live meters, and the answers that are at hand, save a placement. Of
+/// that it knows only whether it is at hand.
 #[derive(Drop)]
 pub(crate) struct Analysis {
     case: Case,
@@ -49,15 +49,25 @@ impl Model for Analysis {
 
     ghost Value = { Kept };
 
-    ghost view = { λ s. record { tables = s.case; offered = s.offered; pairs = s.held.pairs; at_hand = s.answers.hand } };
+    ghost view = { λ s. record {
+      tables = s.case;
+      offered = s.offered;
+      pairs = s.held.pairs;
+      at_hand = s.answers.hand;
+    } };
 
     ghost invariant = { λ s. record {
       network : s.network ≡ network_of s.case;
       longest : AreLongest s.case s.held.pairs;
       room : HasRoom s.case s.held.pairs s.held.work;
-      answer_room : HasRoomToAnswer s.case s.answers.marks.items s.answers.critical s.answers.islands s.answers.inside.items s.answers.measured.listed;
+      answer_room : HasRoomToAnswer s.case s.answers.marks.items s.answers.critical
+          s.answers.islands s.answers.inside.items s.answers.measured.listed;
       answers : AreAnswers s.case s.held.pairs s.answers.marks.items s.answers.critical s.answers.islands
-          (record { inside = take s.answers.measured.listed s.answers.inside.items; rank = s.answers.measured.rank; outside = s.answers.measured.outside })
+          (record {
+            inside = take s.answers.measured.listed s.answers.inside.items;
+            rank = s.answers.measured.rank;
+            outside = s.answers.measured.outside;
+          })
           s.answers.hand;
     } };
 }
@@ -250,8 +260,8 @@ impl Analysis {
         self.answers.hand.islands = true;
     }
 
-    /// Measures the bound of a component, where the critical meters are at hand. `found_bound` then lends it. This goes through
-    /// the component's own meters alone.
+    /// Measures the bound of a component, where the critical meters are at hand. `found_bound` then lends it. This goes
+    /// through the component's own meters alone.
     pub(crate) fn find_bound(&mut self, c: u32)
         requires component { c < case_component_count self.old.tables }
         requires critical { self.old.at_hand.critical ≡ true }
@@ -297,8 +307,8 @@ impl Analysis {
         self.answers.islands.firsts()
     }
 
-    /// The bound of a component of the present case, where it is at hand: its live meters that aren't critical, the rank of what
-    /// they touch, the number of its other live meters, and its need.
+    /// The bound of a component of the present case, where it is at hand: its live meters that aren't critical, the
+    /// rank of what they touch, the number of its other live meters, and its need.
     pub(crate) fn found_bound(&self, c: u32) -> Bound<'_>
         requires component { c < case_component_count self.now.tables }
         requires bound { self.now.at_hand.bound ≡ Some c }

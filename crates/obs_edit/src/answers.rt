@@ -25,7 +25,8 @@ pub(crate) struct Answers {
 
 /// Room for the answers to each case with as many rows as this one, and none at hand.
 pub(crate) fn make_answers(alloc: Global, case: &Case) -> Result<Answers, NoMemory>
-    ensures room { IfOk result (λ x. HasRoomToAnswer case.now x.marks.items x.critical x.islands x.inside.items x.measured.listed) }
+    ensures room { IfOk result
+        (λ x. HasRoomToAnswer case.now x.marks.items x.critical x.islands x.inside.items x.measured.listed) }
     ensures nothing { IfOk result (λ x. x.hand ≡
         record { first = false; critical = false; islands = false; bound = None; placed = false }) }
 {

@@ -83,7 +83,8 @@ pub(crate) fn find_islands<L: Ledger>(
     obs_islands::find_islands(network.graph(), network.meters(), islands, steps);
 }
 
-/// The numbers of a bound: how many meters it lists, the rank of what they touch, and how many other live meters there are.
+/// The numbers of a bound:
+/// how many meters it lists, the rank of what they touch, and how many other live meters there are.
 #[derive(Clone, Copy)]
 pub(crate) struct Measured {
     pub(crate) listed: usize,
@@ -91,8 +92,8 @@ pub(crate) struct Measured {
     pub(crate) outside: u32,
 }
 
-/// Lists the meters of a component's bound, and measures it. The rank of what they touch is the number of the component's pairs
-/// without one for each other live meter, so this goes through the component's meters alone.
+/// Lists the meters of a component's bound, and measures it. The rank of what they touch is the number of the
+/// component's pairs without one for each other live meter, so this goes through the component's meters alone.
 pub(crate) fn find_bound(
     case: &Case,
     network: &Network,

@@ -9,8 +9,8 @@ use obs_assign::Assignment;
 use obs_case::Case;
 use obs_network::Network;
 
-/// Whether a longest assignment has as many pairs in a component as it needs. This goes through the component's own meters
-/// alone.
+/// Whether a longest assignment has as many pairs in a component as it needs. This goes through the component's own
+/// meters alone.
 pub(crate) fn has_enough(case: &Case, network: &Network, a: &Assignment, c: u32) -> bool
     requires network { network.now ≡ network_of case.now }
     requires longest { AreLongest case.now a.now }

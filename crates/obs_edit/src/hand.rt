@@ -1,8 +1,8 @@
 // Which answers to the present case are at hand.
 ghost use Rattle.std.specs.Prelude.{◌≡◌, false, None};
 
-/// Whether the kept pairs are the first ones, whether the critical meters are listed, whether the islands are found, for
-/// which component a bound is at hand, and whether a placement is.
+/// Whether the kept pairs are the first ones, whether the critical meters are listed, whether the islands are found,
+/// for which component a bound is at hand, and whether a placement is.
 #[derive(Clone, Copy, Debug, PartialEq, Eq)]
 pub struct AtHand {
     pub first: bool,
@@ -15,7 +15,13 @@ pub struct AtHand {
 impl AtHand {
     /// Nothing.
     pub(crate) fn nothing() -> AtHand
-        ensures nothing { result ≡ record { first = false; critical = false; islands = false; bound = None; placed = false } }
+        ensures nothing { result ≡ record {
+          first = false;
+          critical = false;
+          islands = false;
+          bound = None;
+          placed = false;
+        } }
     {
         AtHand {
             first: false,

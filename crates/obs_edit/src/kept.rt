@@ -58,8 +58,8 @@ pub(crate) fn fill<L: Ledger>(
     let _ = lengthen(g, ms, pairs, network.needed(), work, steps);
 }
 
-/// Searches once more. The pairs are as many as they can be, so there is none more, and what was reached is the closed set that
-/// shows it.
+/// Searches once more. The pairs are as many as they can be, so there is none more, and what was reached is the closed
+/// set that shows it.
 pub(crate) fn close<L: Ledger>(
     g: &Graph,
     ms: &Meters,

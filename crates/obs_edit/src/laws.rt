@@ -3,8 +3,8 @@ ghost use Rattle.obs_edit.specs.Laws.{IslandsAreNamed, IslandsLieInComponents, I
 ghost use Rattle.obs_edit.specs.Placements.{LayersAddUp, LayersAreBounds, LayersBoundCosts, PlansAreCheapest, PlansComplete, PlansHaveFirstPairs, ShortfallsRefute};
 ghost use Rattle.obs_edit.specs.Planned.{PlanPairsAreFirst};
 
-/// The pairs of a plan are the first assignment of its items, the meters and then the chosen candidates: no assignment of
-/// them is longer, and of those that are as long none comes before it.
+/// The pairs of a plan are the first assignment of its items, the meters and then the chosen candidates: no assignment
+/// of them is longer, and of those that are as long none comes before it.
 pub fn plan_pairs_are_first()
     ensures first { PlanPairsAreFirst }
     ensures in_cases { PlansHaveFirstPairs }
@@ -39,8 +39,8 @@ pub fn plans_are_cheapest()
     ensures cheapest { PlansAreCheapest }
 {}
 
-/// The layers of a plan run on from 0, and each has the numbers of the bound of a list of its items. Candidates that complete the
-/// meters cost at least what such layers show, and those of the plan show its whole cost.
+/// The layers of a plan run on from 0, and each has the numbers of the bound of a list of its items. Candidates that
+/// complete the meters cost at least what such layers show, and those of the plan show its whole cost.
 pub fn layers_show_the_cost()
     ensures bounds { LayersAreBounds }
     ensures least { LayersBoundCosts }

@@ -9,7 +9,8 @@ use obs_script::{Ask, Command, read_line};
 
 // Opens or closes the switch of that name.
 fn edit_switch(case: &Case, name: &[u8], closed: bool) -> Result<Meant, Refusal>
-    ensures meant { result ≡ edit_at (position_of (switch_names case.now) name.now) (λ at. Edit.Switch at closed) Refusal.UnknownSwitch }
+    ensures meant { result ≡ edit_at (position_of (switch_names case.now) name.now)
+        (λ at. Edit.Switch at closed) Refusal.UnknownSwitch }
 {
     match case.find_switch(name) {
         Some(at) => Ok(Meant::Edits(Edit::Switch { at, closed })),
@@ -19,7 +20,8 @@ fn edit_switch(case: &Case, name: &[u8], closed: bool) -> Result<Meant, Refusal>
 
 // Puts the branch of that name in service, or takes it out.
 fn edit_branch(case: &Case, name: &[u8], inservice: bool) -> Result<Meant, Refusal>
-    ensures meant { result ≡ edit_at (position_of (branch_names case.now) name.now) (λ at. Edit.Branch at inservice) Refusal.UnknownBranch }
+    ensures meant { result ≡ edit_at (position_of (branch_names case.now) name.now)
+        (λ at. Edit.Branch at inservice) Refusal.UnknownBranch }
 {
     match case.find_branch(name) {
         Some(at) => Ok(Meant::Edits(Edit::Branch { at, inservice })),
@@ -29,7 +31,8 @@ fn edit_branch(case: &Case, name: &[u8], inservice: bool) -> Result<Meant, Refus
 
 // Puts the meter of that name in service, or takes it out.
 fn edit_meter(case: &Case, name: &[u8], inservice: bool) -> Result<Meant, Refusal>
-    ensures meant { result ≡ edit_at (position_of (meter_names case.now) name.now) (λ at. Edit.Meter at inservice) Refusal.UnknownMeter }
+    ensures meant { result ≡ edit_at (position_of (meter_names case.now) name.now)
+        (λ at. Edit.Meter at inservice) Refusal.UnknownMeter }
 {
     match case.find_meter(name) {
         Some(at) => Ok(Meant::Edits(Edit::Meter { at, inservice })),

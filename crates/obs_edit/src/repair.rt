@@ -41,8 +41,8 @@ pub(crate) fn set_flag(case: &mut Case, edit: Edit)
     }
 }
 
-/// Makes the network that of the case after an edit. An edit of a meter leaves all but that meter alone, and one of a branch
-/// leaves the buses alone.
+/// Makes the network that of the case after an edit. An edit of a meter leaves all but that meter alone, and one of a
+/// branch leaves the buses alone.
 pub(crate) fn follow(case: &Case, edit: Edit, network: &mut Network)
     requires before { IsNetworkBefore network.old edit case.now }
     ensures network { network.new ≡ network_of case.now }
@@ -77,8 +77,8 @@ fn most_pairs(edit: Edit, had: u32, needed: u32) -> u32
     }
 }
 
-/// Gives up the pairs that don't stand any more, and of the others at most one, whose branch closes a cycle where a switch
-/// was closed. An edit of a meter leaves the pairs of the others as they are.
+/// Gives up the pairs that don't stand any more, and of the others at most one, whose branch closes a cycle where a
+/// switch was closed. An edit of a meter leaves the pairs of the others as they are.
 fn keep_standing(case: &Case, network: &Network, edit: Edit, a: &mut Assignment)
     requires network { network.now ≡ network_of case.now }
     requires before { IsBefore case.now edit a.old }
@@ -126,7 +126,8 @@ pub(crate) fn repair<L: Ledger>(
     ensures longest { AreLongest case.now a.new }
     ensures repaired { IsRepaired case.now a.old a.new (length (pairs_at a.new)) result }
     ensures meter { TakesOne edit a.old a.new result }
-    ensures without_pair { (at : ℕ) → edit ≡ Meter at false → branch_at a.old at ≡ None → (result ≡ 0) × (a.new ≡ a.old) }
+    ensures without_pair { (at : ℕ) → edit ≡ Meter at false
+        → branch_at a.old at ≡ None → (result ≡ 0) × (a.new ≡ a.old) }
     ensures ticks { steps.new ≡ steps.old + result }
     ensures room { HasRoom case.now a.new work.new }
 {

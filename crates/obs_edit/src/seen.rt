@@ -1,4 +1,5 @@
-//! The asks of a session: each finds its answer, where it isn't at hand, and lends it with the present case and its network.
+//! The asks of a session:
+//! each finds its answer, where it isn't at hand, and lends it with the present case and its network.
 ghost use Rattle.std.specs.Prelude.{◌≡◌, ◌<◌, true};
 ghost use Rattle.obs_assign.specs.Assigned.{StandsOver, pairs};
 ghost use Rattle.obs_placement.specs.Placed.{placed_of};
@@ -24,8 +25,8 @@ pub struct Seen<'a, T> {
     pub found: T,
 }
 
-/// A placement and its pairs: of a plan the first assignment of the meters and then the chosen candidates, numbered as in what
-/// is offered, and of a shortfall none.
+/// A placement and its pairs: of a plan the first assignment of the meters and then the chosen candidates, numbered as
+/// in what is offered, and of a shortfall none.
 #[derive(Clone, Copy)]
 pub struct Placed<'a> {
     pub placement: Placement<'a>,
@@ -48,8 +49,8 @@ impl Session {
         }
     }
 
-    /// The bound of an energised component of the present case that isn't observable: its live meters that aren't critical, the
-    /// rank of what they touch, the number of its other live meters, and its need.
+    /// The bound of an energised component of the present case that isn't observable: its live meters that aren't
+    /// critical, the rank of what they touch, the number of its other live meters, and its need.
     pub fn bound<L: Ledger>(&mut self, c: u32, steps: &mut Steps<L>) -> Seen<'_, Bound<'_>>
         requires component { c < case_component_count self.old.tables }
         requires energised { is_fed self.old.tables c ≡ true }
@@ -98,15 +99,16 @@ impl Session {
         }
     }
 
-    /// The cheapest candidates that complete the meters of the present case, with the pairs of the plan, or the bound that shows
-    /// that none do. The session was begun with candidates.
+    /// The cheapest candidates that complete the meters of the present case, with the pairs of the plan, or the bound
+    /// that shows that none do. The session was begun with candidates.
     pub fn place<L: Ledger>(&mut self, steps: &mut Steps<L>) -> Seen<'_, Placed<'_>>
         requires candidates { self.old.offered ≡ true }
         ensures case { result.case.now ≡ self.old.tables }
         ensures network { result.network.now ≡ network_of self.old.tables }
         ensures placement { placed_of result.found.placement ≡ case_placement self.old.tables }
         ensures pairs { pairs result.found.pairs.now ≡ case_placed_pairs self.old.tables }
-        ensures stands { StandsOver result.found.pairs.now (network_of self.old.tables).graph (case_offered self.old.tables) }
+        ensures stands { StandsOver result.found.pairs.now (network_of self.old.tables).graph
+            (case_offered self.old.tables) }
     {
         self.find_placement(steps);
         Seen {

@@ -25,10 +25,11 @@ use std::alloc::Global;
 use std::marker::Model;
 use std::sync::ledger::Ledger;
 
-/// A case, its network, a longest assignment of its live meters, and the answers that are at hand. All memory is taken when it
-/// begins.
+/// A case, its network, a longest assignment of its live meters, and the answers that are at hand. All memory is taken
+/// when it begins.
 ///
-/// Each answer is found by a call `find_..`, which lends nothing, and seen by a call on `&self`. What was found stays at hand.
+/// Each answer is found by a call `find_..`, which lends nothing, and seen by a call on `&self`.
+/// What was found stays at hand.
 #[derive(Drop)]
 pub struct Session {
     analysis: Analysis,
@@ -46,7 +47,8 @@ impl Model for Session {
 }
 
 impl Session {
-    /// Begins a session with a case. `offered` says whether candidates were given. After want of memory the case is dropped.
+    /// Begins a session with a case. `offered` says whether candidates were given.
+    /// After want of memory the case is dropped.
     pub fn begin<L: Ledger>(
         alloc: Global,
         case: Case,
@@ -109,21 +111,21 @@ impl Session {
         self.analysis.observable(c)
     }
 
-    /// Sets the one flag, which can't be refused, and repairs the pairs. An edit that sets a flag to what it is leaves the session
-    /// as it was, with all that is at hand; any other takes away what is at hand, and nothing is found before it is asked for. No
-    /// memory is taken.
+    /// Sets the one flag, which can't be refused, and repairs the pairs. An edit that sets a flag to what it is leaves
+    /// the session as it was, with all that is at hand; any other takes away what is at hand, and nothing is found
+    /// before it is asked for. No memory is taken.
     pub fn set<L: Ledger>(&mut self, edit: Edit, steps: &mut Steps<L>) -> Applied
         requires row { HasRow self.old.tables edit }
-        // The one flag is set, the pairs are repaired within their bounds, and the rank and the needed number are those of the
-        // case afterwards.
+        // The one flag is set, the pairs are repaired within their bounds, and the rank and the needed number are those
+        // of the case afterwards.
         ensures edited { IsEdited self.old edit self.new result }
         ensures ticks { steps.new ≡ steps.old + result.searches }
     {
         self.analysis.set(edit, steps)
     }
 
-    /// Does what a line says. An edit is done as by `set`; an ask changes nothing, and is answered by the calls below. A line that
-    /// is refused leaves the session as it was. The line has no line end.
+    /// Does what a line says. An edit is done as by `set`; an ask changes nothing, and is answered by the calls below.
+    /// A line that is refused leaves the session as it was. The line has no line end.
     pub fn apply<L: Ledger>(&mut self, line: &[u8], steps: &mut Steps<L>) -> Result<Done, Refusal>
         ensures refused { IfErr result (λ why. meant_of self.old.tables self.old.offered line.now ≡ Err why) }
         ensures unchanged { OnErr result (self.new ≡ self.old) }
@@ -166,8 +168,8 @@ impl Session {
         self.analysis.find_islands(steps)
     }
 
-    /// Measures the bound of a component, where the critical meters are at hand. `found_bound` then lends it. This goes through
-    /// the component's own meters alone.
+    /// Measures the bound of a component, where the critical meters are at hand. `found_bound` then lends it. This goes
+    /// through the component's own meters alone.
     pub fn find_bound(&mut self, c: u32)
         requires component { c < case_component_count self.old.tables }
         requires critical { self.old.at_hand.critical ≡ true }
@@ -205,8 +207,8 @@ impl Session {
         self.analysis.found_islands()
     }
 
-    /// The bound of a component of the present case, where it is at hand: its live meters that aren't critical, the rank of what
-    /// they touch, the number of its other live meters, and its need.
+    /// The bound of a component of the present case, where it is at hand: its live meters that aren't critical, the
+    /// rank of what they touch, the number of its other live meters, and its need.
     pub fn found_bound(&self, c: u32) -> Bound<'_>
         requires component { c < case_component_count self.now.tables }
         requires bound { self.now.at_hand.bound ≡ Some c }
@@ -238,8 +240,8 @@ impl Session {
         self.analysis.note_placement();
     }
 
-    /// The cheapest candidates that complete the meters of the present case, or the bound that shows that none do, where they
-    /// are at hand.
+    /// The cheapest candidates that complete the meters of the present case, or the bound that shows that none do,
+    /// where they are at hand.
     pub fn found_placement(&self) -> Placement<'_>
         requires placed { self.now.at_hand.placed ≡ true }
         ensures placed { placed_of result ≡ case_placement self.now.tables }
@@ -247,8 +249,8 @@ impl Session {
         self.placing.found()
     }
 
-    /// The pairs of the placement of the present case, where it is at hand: of a plan the first assignment of the meters and then
-    /// the chosen candidates, numbered as in what is offered, and of a shortfall none.
+    /// The pairs of the placement of the present case, where it is at hand: of a plan the first assignment of the
+    /// meters and then the chosen candidates, numbered as in what is offered, and of a shortfall none.
     pub fn found_plan_pairs(&self) -> &Assignment
         requires placed { self.now.at_hand.placed ≡ true }
         ensures pairs { pairs result.now ≡ case_placed_pairs self.now.tables }

@@ -60,7 +60,8 @@ pub(crate) fn answer_session<W: Sink, L: Ledger>(
     steps: &mut Steps<L>,
 ) -> Status
     requires offered { ask ≡ Place → session.old.offered ≡ true }
-    ensures replied { IsReplied W.written W.faults W.has_room output.old output.new result (ask_reply ask session.old.tables) }
+    ensures replied { IsReplied W.written W.faults W.has_room output.old output.new result
+        (ask_reply ask session.old.tables) }
 {
     let status = status_of(session, ask, steps);
     match print_ask(output, session, ask, steps) {

@@ -17,7 +17,8 @@ use std::sync::ledger::Ledger;
 
 // Prints the counts and the verdict.
 fn print_case_counts<W: Sink>(output: &mut W, session: &Session) -> Result<(), Failed>
-    ensures appends { Appends W.written W.faults W.has_room output.old output.new result (block_text Block.Counts session.now.tables) }
+    ensures appends { Appends W.written W.faults W.has_room output.old output.new result
+        (block_text Block.Counts session.now.tables) }
 {
     print_counts(output, session.network(), session.state().rank)
 }
@@ -30,7 +31,8 @@ fn print_case_islands<W: Sink, L: Ledger>(
 ) -> Result<(), Failed>
     ensures tables { session.new.tables ≡ session.old.tables }
     ensures offered { session.new.offered ≡ session.old.offered }
-    ensures appends { Appends W.written W.faults W.has_room output.old output.new result (block_text Block.Islands session.old.tables) }
+    ensures appends { Appends W.written W.faults W.has_room output.old output.new result
+        (block_text Block.Islands session.old.tables) }
 {
     session.find_islands(steps);
     let _nodes = session.present().nodes();
@@ -50,7 +52,8 @@ fn print_case_critical<W: Sink, L: Ledger>(
 ) -> Result<(), Failed>
     ensures tables { session.new.tables ≡ session.old.tables }
     ensures offered { session.new.offered ≡ session.old.offered }
-    ensures appends { Appends W.written W.faults W.has_room output.old output.new result (block_text Block.Critical session.old.tables) }
+    ensures appends { Appends W.written W.faults W.has_room output.old output.new result
+        (block_text Block.Critical session.old.tables) }
 {
     session.find_critical(steps);
     print_critical(output, session.present(), session.found_critical())
@@ -65,7 +68,8 @@ fn print_case_placement<W: Sink, L: Ledger>(
     requires offered { session.old.offered ≡ true }
     ensures tables { session.new.tables ≡ session.old.tables }
     ensures offered { session.new.offered ≡ session.old.offered }
-    ensures appends { Appends W.written W.faults W.has_room output.old output.new result (block_text Block.Placement session.old.tables) }
+    ensures appends { Appends W.written W.faults W.has_room output.old output.new result
+        (block_text Block.Placement session.old.tables) }
 {
     session.find_placement(steps);
     let _nodes = session.present().nodes();
@@ -87,7 +91,8 @@ fn print_block<W: Sink, L: Ledger>(
     requires offered { block ≡ Placement → session.old.offered ≡ true }
     ensures tables { session.new.tables ≡ session.old.tables }
     ensures offered { session.new.offered ≡ session.old.offered }
-    ensures appends { Appends W.written W.faults W.has_room output.old output.new result (block_text block session.old.tables) }
+    ensures appends { Appends W.written W.faults W.has_room output.old output.new result
+        (block_text block session.old.tables) }
 {
     match block {
         Block::Counts => print_case_counts(output, session),
@@ -110,7 +115,8 @@ fn print_blocks<W: Sink, L: Ledger>(
     requires offered { In Placement blocks.now → session.old.offered ≡ true }
     ensures tables { session.new.tables ≡ session.old.tables }
     ensures offered { session.new.offered ≡ session.old.offered }
-    ensures appends { Appends W.written W.faults W.has_room output.old output.new result (blocks_text blocks.now session.old.tables) }
+    ensures appends { Appends W.written W.faults W.has_room output.old output.new result
+        (blocks_text blocks.now session.old.tables) }
 {
     for k in 0..blocks.len() {
         match print_block(output, session, blocks[k], steps) {
@@ -131,7 +137,8 @@ pub(crate) fn print_ask<W: Sink, L: Ledger>(
     requires offered { ask ≡ Place → session.old.offered ≡ true }
     ensures tables { session.new.tables ≡ session.old.tables }
     ensures offered { session.new.offered ≡ session.old.offered }
-    ensures appends { Appends W.written W.faults W.has_room output.old output.new result (ask_text ask session.old.tables) }
+    ensures appends { Appends W.written W.faults W.has_room output.old output.new result
+        (ask_text ask session.old.tables) }
 {
     match print_blocks(output, session, blocks_of(ask), steps) {
         Ok(()) => print_last_line(output),

@@ -4,8 +4,8 @@ ghost use Rattle.obs_engine.specs.Asks.{blocks_of};
 
 use obs_script::Ask;
 
-/// A part of an answer: the counts and the verdict, the claims on the components (trees, bounds, or both), the islands, the
-/// critical meters, or the placement with its pairs.
+/// A part of an answer: the counts and the verdict, the claims on the components (trees, bounds, or both), the islands,
+/// the critical meters, or the placement with its pairs.
 #[derive(Clone, Copy, Debug, PartialEq, Eq)]
 pub(crate) enum Block {
     Counts,

@@ -62,8 +62,8 @@ fn read_csv(
     }
 }
 
-// The case that the bytes of a file in the IEEE Common Data Format and of a table of meters are, with candidates where they are
-// given.
+// The case that the bytes of a file in the IEEE Common Data Format and of a table of meters are, with candidates where
+// they are given.
 fn read_cdf_tables(
     alloc: Global,
     cdf: &[u8],
@@ -71,7 +71,8 @@ fn read_cdf_tables(
     candidates: Option<&[u8]>,
 ) -> Result<Case, Untaken>
     requires few { length cdf.now ≤ most_file_bytes }
-    ensures read { IsTaken (case_with_tables cdf_fault meters.now (option_map (λ bytes. bytes.now) candidates.entry) (cdf_of cdf.now)) result }
+    ensures read { IsTaken (case_with_tables cdf_fault meters.now (option_map (λ bytes. bytes.now) candidates.entry)
+        (cdf_of cdf.now)) result }
     ensures no_read { IsErrOf result Untaken.Read → ⊥ }
 {
     match read_cdf(alloc, cdf, meters, candidates) {
@@ -90,7 +91,8 @@ fn read_matpower_tables(
     candidates: Option<&[u8]>,
 ) -> Result<Case, Untaken>
     requires few { length matpower.now ≤ most_file_bytes }
-    ensures read { IsTaken (case_with_tables mat_fault meters.now (option_map (λ bytes. bytes.now) candidates.entry) (mat_of matpower.now)) result }
+    ensures read { IsTaken (case_with_tables mat_fault meters.now (option_map (λ bytes. bytes.now) candidates.entry)
+        (mat_of matpower.now)) result }
     ensures no_read { IsErrOf result Untaken.Read → ⊥ }
 {
     match read_matpower(alloc, matpower, meters, candidates) {
@@ -111,7 +113,8 @@ fn read_case(
     requires count { length (case_parts from) ≤ length contents.now }
     requires short { All (λ bytes. vec_len bytes ≤ most_file_bytes) contents.now }
     ensures read { (file : ℕ → List ℕ)
-        → take (length (case_parts from)) (bytes_of contents.now) ≡ map file (range_with_len 2 (length (case_parts from)))
+        → take (length (case_parts from)) (bytes_of contents.now)
+        ≡ map file (range_with_len 2 (length (case_parts from)))
         → IsTaken (case_in from (option_map (λ bytes. bytes.now) candidates.entry) file) result }
     ensures no_read { IsErrOf result Untaken.Read → ⊥ }
 {
@@ -189,7 +192,8 @@ fn is_verify(form: Form) -> bool
 fn certificate_of(alloc: Global, form: Form, mut contents: Vec<Vec<u8>>) -> Vec<u8>
     requires count { vec_len contents ≡ length (words_of form) }
     requires short { All (λ bytes. vec_len bytes ≤ most_file_bytes) contents.items }
-    ensures certificate { (file : ℕ → List ℕ) → bytes_of contents.items ≡ map file (words_of form) → result.items ≡ certificate_in form file }
+    ensures certificate { (file : ℕ → List ℕ) → bytes_of contents.items ≡ map file (words_of form)
+        → result.items ≡ certificate_in form file }
     ensures short { vec_len result ≤ most_file_bytes }
 {
     if !is_verify(form) {
@@ -208,7 +212,8 @@ pub(crate) fn take_case<F: Files>(
     form: Form,
 ) -> Result<Taken, Untaken>
     requires rows { HasRows form }
-    ensures stated { (file : ℕ → List ℕ) → AreFiles (Some form) (F.content files.old) file → IsOfFiles form file result }
+    ensures stated { (file : ℕ → List ℕ) → AreFiles (Some form) (F.content files.old) file
+        → IsOfFiles form file result }
     ensures short { IfOk result (λ taken. vec_len taken.certificate ≤ most_file_bytes) }
     ensures read { IsErrOf result Untaken.Read
         → ReadFailed (file_words (Some form)) (F.content files.old) (F.faults files.old) (F.faults files.new) }

@@ -1,4 +1,5 @@
-// The claims on the components of a session's case, printed. Each call finds what is not at hand, and leaves the case as it is.
+// The claims on the components of a session's case, printed.
+// Each call finds what is not at hand, and leaves the case as it is.
 ghost use Rattle.std.specs.Prelude.{◌≡◌, ◌<◌, true};
 ghost use Rattle.obs_network.specs.Network.{case_component_count};
 ghost use Rattle.obs_network.specs.Observable.{is_fed};
@@ -21,7 +22,8 @@ fn print_component_tree<W: Sink, L: Ledger>(
     requires component { c < case_component_count session.old.tables }
     ensures tables { session.new.tables ≡ session.old.tables }
     ensures offered { session.new.offered ≡ session.old.offered }
-    ensures appends { Appends W.written W.faults W.has_room output.old output.new result (tree_claim session.old.tables c) }
+    ensures appends { Appends W.written W.faults W.has_room output.old output.new result
+        (tree_claim session.old.tables c) }
 {
     session.find_first(steps);
     let _nodes = session.present().nodes();
@@ -44,7 +46,8 @@ fn print_component_bound<W: Sink, L: Ledger>(
     requires component { c < case_component_count session.old.tables }
     ensures tables { session.new.tables ≡ session.old.tables }
     ensures offered { session.new.offered ≡ session.old.offered }
-    ensures appends { Appends W.written W.faults W.has_room output.old output.new result (bound_claim session.old.tables c) }
+    ensures appends { Appends W.written W.faults W.has_room output.old output.new result
+        (bound_claim session.old.tables c) }
 {
     session.find_critical(steps);
     session.find_bound(c);
@@ -81,8 +84,8 @@ fn print_claim<W: Sink, L: Ledger>(
     Ok(())
 }
 
-/// Prints the claims on the components, in their order: trees of observable ones, bounds of the others, as far as they are asked
-/// for.
+/// Prints the claims on the components, in their order: trees of observable ones, bounds of the others, as far as they
+/// are asked for.
 pub(crate) fn print_claims<W: Sink, L: Ledger>(
     output: &mut W,
     session: &mut Session,

@@ -65,8 +65,8 @@ fn take_next<F: Files>(
     }
 }
 
-/// The contents of the files of these words, which are these parts of the input. Files are read in the order of their words, and
-/// the first that fails or is too long ends the reading.
+/// The contents of the files of these words, which are these parts of the input. Files are read in the order of their
+/// words, and the first that fails or is too long ends the reading.
 pub(crate) fn take_files<F: Files>(
     alloc: Global,
     files: &mut F,

@@ -34,7 +34,8 @@ fn take_piece<S: Source>(input: &mut S, piece: &mut [u8], most: usize) -> Result
     input.take(&mut piece[..most])
 }
 
-/// Answers the lines of the input. It is taken piece by piece, and each line that ended is answered before more is taken.
+/// Answers the lines of the input.
+/// It is taken piece by piece, and each line that ended is answered before more is taken.
 pub(crate) fn answer_lines<S: Source, W: Sink, L: Ledger>(
     session: &mut Session,
     input: &mut S,

@@ -25,22 +25,25 @@ ghost use Rattle.obs_engine.specs.Claimed.{AnswersHold};
 ghost use Rattle.obs_engine.specs.Laws.{CasesAreValid, EditsAloneChange, EndedOrLast, IsAnswerTo, IsFormOf, ListsNonCritical, OrderIsForgotten, ReportsAsTheCommand};
 ghost use Rattle.obs_edit.specs.Answers.{bound_outside, bound_rank, case_critical_meters, case_rank, component_meters, short_components};
 
-/// Every case that files are is valid. The other laws ask this of a case. Words that are a trial's give it from 1 to 100 rows.
+/// Every case that files are is valid. The other laws ask this of a case.
+/// Words that are a trial's give it from 1 to 100 rows.
 pub fn cases_are_valid()
     ensures valid { CasesAreValid }
     ensures rows { (words : List (List ℕ)) (form : Form) → form_of words ≡ Some form → HasRows form }
 {}
 
-/// A valid case stays valid over edits. So the present case of a session is valid after any of its lines, and the other laws hold
-/// of it.
+/// A valid case stays valid over edits. So the present case of a session is valid after any of its lines, and the other
+/// laws hold of it.
 pub fn edits_keep_cases_valid()
     ensures edit { (t : Tables) (edit : Edit) → IsValid t → IsValid (edited t edit) }
-    ensures lines { (offered : Bool) (t : Tables) (lines : List (List ℕ)) → IsValid t → IsValid (lines_case offered t lines) }
+    ensures lines { (offered : Bool) (t : Tables) (lines : List (List ℕ))
+        → IsValid t → IsValid (lines_case offered t lines) }
 {}
 
 /// The printed rank is the greatest length that an assignment of the live meters has.
 pub fn rank_is_greatest()
-    ensures greatest { (t : Tables) → IsValid t → IsRhoAt (case_branches t) (case_meters t) (case_live_meters t) (case_rank t) }
+    ensures greatest { (t : Tables) → IsValid t
+        → IsRhoAt (case_branches t) (case_meters t) (case_live_meters t) (case_rank t) }
 {}
 
 /// A report has the good status exactly where the case is observable, and else the one that says that it falls short.
@@ -58,8 +61,8 @@ pub fn status_is_validity()
         ↔ ((claims : List Claim) × (claims_of bytes ≡ Ok claims) × (AllHold t claims → ⊥)) }
 {}
 
-/// The answers to `tree`, `bound`, `cert` and `place` are certificates that hold: each is read back as the claims that it makes, a
-/// tree or a bound for a component, or the placement, and the checker finds no flaw in them.
+/// The answers to `tree`, `bound`, `cert` and `place` are certificates that hold: each is read back as the claims that
+/// it makes, a tree or a bound for a component, or the placement, and the checker finds no flaw in them.
 pub fn answers_hold()
     ensures hold { AnswersHold }
 {}
@@ -90,8 +93,8 @@ pub fn bounds_refute()
         length (filter (λ p. branch_component t p.1 == c) A) ≤ bound_rank t c + bound_outside t c }
 {}
 
-/// The bound of a component lists exactly those of its live meters that aren't critical. A listed meter can be lost, and the
-/// rank of the case stays.
+/// The bound of a component lists exactly those of its live meters that aren't critical. A listed meter can be lost,
+/// and the rank of the case stays.
 pub fn bounds_list_the_meters_that_are_not_critical()
     ensures lists { ListsNonCritical }
 {}
@@ -102,19 +105,20 @@ pub fn critical_lines_are_exact()
         In m (case_critical_meters t) ↔ IsCriticalAt (case_branches t) (case_meters t) (case_live_meters t) m }
 {}
 
-/// The words have a form exactly where they are those of a command, each in its place, with a word for each of its files.
+/// The words have a form exactly where they are those of a command,
+/// each in its place, with a word for each of its files.
 pub fn forms_of_words()
     ensures exactly { (words : List (List ℕ)) (form : Form) → (form_of words ≡ Some form) ↔ IsFormOf form words }
 {}
 
-/// Of a session's lines an edit alone changes the present case, and sets one flag. An ask, a refused line and one that is passed
-/// change nothing.
+/// Of a session's lines an edit alone changes the present case, and sets one flag. An ask, a refused line and one that
+/// is passed change nothing.
 pub fn edits_alone_change()
     ensures change { (offered : Bool) (t : Tables) (line : List ℕ) → EditsAloneChange offered t line }
 {}
 
-/// Each answer is that of the present case: of an edit the rank and the needed number of the case after it, of an ask its text, and
-/// of the line `report` what the command prints of that case.
+/// Each answer is that of the present case: of an edit the rank and the needed number of the case after it, of an ask
+/// its text, and of the line `report` what the command prints of that case.
 pub fn answers_are_of_the_present_case()
     ensures answers { (offered : Bool) (t : Tables) (line : List ℕ) → IsAnswerTo offered t line }
     ensures report { ReportsAsTheCommand }

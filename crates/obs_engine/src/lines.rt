@@ -16,7 +16,8 @@ use std::sync::ledger::Ledger;
 
 // Prints why a line is refused.
 fn print_refusal<W: Sink>(output: &mut W, why: Refusal) -> Result<(), Failed>
-    ensures appends { (tables : Tables) → Appends W.written W.faults W.has_room output.old output.new result (answer_to tables (Err why)) }
+    ensures appends { (tables : Tables)
+        → Appends W.written W.faults W.has_room output.old output.new result (answer_to tables (Err why)) }
 {
     print_refused(output, u64::from(why.code()), why.name())
 }
@@ -29,7 +30,8 @@ fn answer_content<W: Sink, L: Ledger>(
     steps: &mut Steps<L>,
 ) -> Result<(), Failed>
     ensures offered { session.new.offered ≡ session.old.offered }
-    ensures tables { session.new.tables ≡ case_after session.old.tables (meant_of session.old.tables session.old.offered line.now) }
+    ensures tables { session.new.tables ≡ case_after session.old.tables
+        (meant_of session.old.tables session.old.offered line.now) }
     ensures appends { Appends W.written W.faults W.has_room output.old output.new result
         (answer_to session.old.tables (meant_of session.old.tables session.old.offered line.now)) }
 {
@@ -50,7 +52,8 @@ pub(crate) fn answer_line<W: Sink, L: Ledger>(
     ensures offered { session.new.offered ≡ session.old.offered }
     ensures tables { (line : List ℕ) → Holds gather.now line
         → session.new.tables ≡ line_case session.old.offered session.old.tables (content_of line) }
-    ensures appends { (line : List ℕ) → Holds gather.now line → Appends W.written W.faults W.has_room output.old output.new result
+    ensures appends { (line : List ℕ) → Holds gather.now line
+        → Appends W.written W.faults W.has_room output.old output.new result
         (line_text session.old.offered session.old.tables (content_of line)) }
 {
     if gather.passed() {
@@ -71,10 +74,12 @@ fn answer_byte<W: Sink, L: Ledger>(
     steps: &mut Steps<L>,
 ) -> Result<(), Failed>
     ensures offered { session.new.offered ≡ session.old.offered }
-    ensures held { (line : List ℕ) → Holds gather.old line → IfOk result (λ _. Holds gather.new (open_after line (byte ∷ []))) }
+    ensures held { (line : List ℕ) → Holds gather.old line
+        → IfOk result (λ _. Holds gather.new (open_after line (byte ∷ []))) }
     ensures tables { (line : List ℕ) → Holds gather.old line
         → session.new.tables ≡ lines_case session.old.offered session.old.tables (ended_after line (byte ∷ [])) }
-    ensures appends { (line : List ℕ) → Holds gather.old line → Appends W.written W.faults W.has_room output.old output.new result
+    ensures appends { (line : List ℕ) → Holds gather.old line
+        → Appends W.written W.faults W.has_room output.old output.new result
         (lines_text session.old.offered session.old.tables (ended_after line (byte ∷ []))) }
 {
     if gather.feed(byte) {
@@ -99,10 +104,13 @@ pub(crate) fn answer_bytes<W: Sink, L: Ledger>(
     steps: &mut Steps<L>,
 ) -> Result<(), Failed>
     ensures offered { session.new.offered ≡ session.old.offered }
-    ensures held { (line : List ℕ) → Holds gather.old line → IfOk result (λ _. Holds gather.new (open_after line bytes.now)) }
+    ensures held { (line : List ℕ) → Holds gather.old line
+        → IfOk result (λ _. Holds gather.new (open_after line bytes.now)) }
     ensures tables { (line : List ℕ) → Holds gather.old line
-        → IfOk result (λ _. session.new.tables ≡ lines_case session.old.offered session.old.tables (ended_after line bytes.now)) }
-    ensures appends { (line : List ℕ) → Holds gather.old line → Appends W.written W.faults W.has_room output.old output.new result
+        → IfOk result
+        (λ _. session.new.tables ≡ lines_case session.old.offered session.old.tables (ended_after line bytes.now)) }
+    ensures appends { (line : List ℕ) → Holds gather.old line
+        → Appends W.written W.faults W.has_room output.old output.new result
         (lines_text session.old.offered session.old.tables (ended_after line bytes.now)) }
 {
     for k in 0..bytes.len() {

@@ -39,7 +39,8 @@ pub fn run<F: Files, S: Source, W: Sink>(
     // order of their words, and no word is asked behind the first whose file fails or is too long.
     ensures statuses { CanAnswer (form_of (map string_bytes words.now)) result }
     ensures read { result ≡ Status.ReadFault
-        → AnyReadFailed (form_of (map string_bytes words.now)) (F.content files.old) (F.faults files.old) (F.faults files.new)
+        → AnyReadFailed (form_of (map string_bytes words.now)) (F.content files.old)
+        (F.faults files.old) (F.faults files.new)
         (S.faults input.old) (S.faults input.new) }
     ensures write { result ≡ Status.WriteFault → Rose (W.faults output.old) (W.faults output.new) }
 
@@ -53,7 +54,8 @@ pub fn run<F: Files, S: Source, W: Sink>(
     ensures memory_input { result ≡ Status.NoMemory → S.left input.new ≡ S.left input.old }
     ensures taken { TakesInput (form_of (map string_bytes words.now)) → (bytes : List ℕ) → S.left input.old ≡ Some bytes
         → IsTakenFront bytes (S.left input.new) result }
-    ensures unread { (TakesInput (form_of (map string_bytes words.now)) → ⊥) → result ≡ Status.ReadFault → W.written output.new ≡ W.written output.old }
+    ensures unread { (TakesInput (form_of (map string_bytes words.now)) → ⊥)
+        → result ≡ Status.ReadFault → W.written output.new ≡ W.written output.old }
     ensures input { (TakesInput (form_of (map string_bytes words.now)) → ⊥) → input.new ≡ input.old }
 {
     let Some(form) = form_of_words(words) else {

@@ -29,7 +29,8 @@ pub(crate) fn refuse_words<W: Sink>(output: &mut W) -> Status
 
 /// Answers files that have this fault, which is the first one.
 pub(crate) fn refuse<W: Sink>(output: &mut W, fault: InputFault) -> Status
-    ensures replied { IsReplied W.written W.faults W.has_room output.old output.new result (fault_reply (fault_of fault)) }
+    ensures replied { IsReplied W.written W.faults W.has_room output.old output.new result
+        (fault_reply (fault_of fault)) }
 {
     let place = u64::from(fault.place);
     match print_fault(output, fault.part, place, u64::from(fault.code), fault.name) {
@@ -42,14 +43,16 @@ pub(crate) fn refuse<W: Sink>(output: &mut W, fault: InputFault) -> Status
 pub(crate) fn refuse_files<W: Sink>(output: &mut W, why: Untaken) -> Status
     ensures ends { (stated : Result Tables Reply) (reply : Reply) → IsUntaken stated why → IsRefused stated reply
         → EndsWith reply result (W.written output.old) (W.written output.new) }
-    ensures statuses { (result ≡ Status.InputFault) ⊎ (result ≡ Status.ReadFault) ⊎ (result ≡ Status.WriteFault) ⊎ (result ≡ Status.NoMemory) }
+    ensures statuses { (result ≡ Status.InputFault) ⊎ (result ≡ Status.ReadFault)
+        ⊎ (result ≡ Status.WriteFault) ⊎ (result ≡ Status.NoMemory) }
     ensures read { result ≡ Status.ReadFault → why ≡ Untaken.Read }
     ensures unanswered { why ≡ Untaken.Read → result ≡ Status.ReadFault }
     ensures write { result ≡ Status.WriteFault → Rose (W.faults output.old) (W.faults output.new) }
     ensures quiet { result ≢ Status.WriteFault → W.faults output.new ≡ W.faults output.old }
     ensures memory { result ≡ Status.NoMemory → W.written output.new ≡ W.written output.old }
     ensures unread { result ≡ Status.ReadFault → W.written output.new ≡ W.written output.old }
-    ensures room { (stated : Result Tables Reply) (reply : Reply) (rest : ℕ) → IsUntaken stated why → IsRefused stated reply
+    ensures room { (stated : Result Tables Reply) (reply : Reply) (rest : ℕ)
+        → IsUntaken stated why → IsRefused stated reply
         → W.has_room output.old (length reply.text + rest) → result ≢ Status.WriteFault }
 {
     match why {

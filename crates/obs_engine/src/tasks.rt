@@ -17,7 +17,8 @@ use std::alloc::Global;
 use std::marker::Brand;
 use std::sync::ledger::{Blank, Ledger};
 
-/// What a session is begun for: the answer to one ask, the answers to the lines of the input, or the trial of a generated case.
+/// What a session is begun for:
+/// the answer to one ask, the answers to the lines of the input, or the trial of a generated case.
 #[derive(Clone, Copy, Debug, PartialEq, Eq)]
 pub(crate) enum Task {
     Answer(Ask),
@@ -45,8 +46,8 @@ fn do_task<S: Source, W: Sink, L: Ledger>(
     }
 }
 
-// Begins a session with a case, which takes all memory, and does what it is begun for. Searches are counted in a ledger of its
-// own.
+// Begins a session with a case, which takes all memory, and does what it is begun for. Searches are counted in a ledger
+// of its own.
 fn do_counted<S: Source, W: Sink, L: Ledger>(
     alloc: Global,
     case: Case,
@@ -71,8 +72,8 @@ fn do_counted<S: Source, W: Sink, L: Ledger>(
     do_task(&mut session, task, input, output, &mut steps)
 }
 
-/// Begins a session with a case, which was given with candidates or without, and does what it is begun for. The placement is
-/// asked for only with candidates, and a trial only where each meter is in service.
+/// Begins a session with a case, which was given with candidates or without, and does what it is begun for. The
+/// placement is asked for only with candidates, and a trial only where each meter is in service.
 pub(crate) fn begin_task<S: Source, W: Sink>(
     alloc: Global,
     case: Case,

@@ -16,7 +16,8 @@ use std::alloc::Global;
 
 // Prints how many buses there are, and the last line.
 fn print_bus_count<W: Sink>(output: &mut W, count: u32) -> Result<(), Failed>
-    ensures appends { Appends W.written W.faults W.has_room output.old output.new result (count_line (codes "buses") count ++ last_line) }
+    ensures appends { Appends W.written W.faults W.has_room output.old output.new result
+        (count_line (codes "buses") count ++ last_line) }
 {
     match print_count(output, b"buses", count as u64) {
         Ok(()) => print_last_line(output),

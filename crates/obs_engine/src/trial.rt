@@ -57,7 +57,8 @@ fn find_island_count<L: Ledger>(session: &mut Session, steps: &mut Steps<L>) -> 
     count_islands(session)
 }
 
-// Loses a meter and regains it. `first` is the rank at first. The searches that are told are those that the two edits took.
+// Loses a meter and regains it. `first` is the rank at first.
+// The searches that are told are those that the two edits took.
 fn turn_meter<L: Ledger>(session: &mut Session, at: u32, first: u32, steps: &mut Steps<L>) -> Turns
     requires meter { at < length session.old.tables.meters }
     requires inservice { AreInService session.old.tables }
@@ -142,8 +143,8 @@ fn print_turns<W: Sink>(
     )
 }
 
-/// Answers a trial on the case of so many rows and this seed: loses and regains each meter, and prints what that comes to. All is
-/// done before the first byte is written.
+/// Answers a trial on the case of so many rows and this seed: loses and regains each meter, and prints what that comes
+/// to. All is done before the first byte is written.
 pub(crate) fn answer_trial<W: Sink, L: Ledger>(
     output: &mut W,
     session: &mut Session,

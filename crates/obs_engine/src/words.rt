@@ -6,7 +6,8 @@ ghost use Rattle.obs_engine.specs.Words.{case_form_of, form_of, form_with, is_wo
 
 use obs_text::whole;
 
-/// In which form a case is given: four tables, or a file in the IEEE Common Data Format or of MATPOWER and a table of meters.
+/// In which form a case is given:
+/// four tables, or a file in the IEEE Common Data Format or of MATPOWER and a table of meters.
 #[derive(Clone, Copy, Debug, PartialEq, Eq)]
 pub(crate) enum CaseForm {
     Csv,

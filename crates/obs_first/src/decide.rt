@@ -53,7 +53,9 @@ fn take_branch<L: Ledger>(
     requires m { m < length a.old.slots }
     requires thawed { is_frozen a.old m ≡ false }
     requires touched { In e (touch_at g.now.ends ms.now.touches m) }
-    ensures taken { MatchBool result (HasTaken a.old a.new m e rank) (HasRefused g.now.ends ms.now.touches a.old a.new m e rank) }
+    ensures taken { MatchBool result
+        (HasTaken a.old a.new m e rank)
+        (HasRefused g.now.ends ms.now.touches a.old a.new m e rank) }
     ensures keeps { KeepsFrozen a.old a.new }
     ensures stands { StandsOver a.new g.now ms.now.touches }
     ensures whole { IsWhole a.new }
@@ -89,9 +91,9 @@ fn lowest_for(ms: &Meters, a: &Assignment, m: u32) -> u32
     }
 }
 
-/// Decides the meter, where those before it are decided, and so many of these have a pair: it takes the lowest branch with
-/// which the pairs can be as many as before, or none where there is no such branch. Says how many have a pair then. Once
-/// all pairs are those of decided meters, the further ones have none.
+/// Decides the meter, where those before it are decided, and so many of these have a pair: it takes the lowest branch
+/// with which the pairs can be as many as before, or none where there is no such branch. Says how many have a pair
+/// then. Once all pairs are those of decided meters, the further ones have none.
 pub fn decide<L: Ledger>(
     g: &Graph,
     ms: &Meters,

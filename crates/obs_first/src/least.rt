@@ -24,8 +24,9 @@ fn thaw(a: &mut Assignment) -> u32
     a.length()
 }
 
-/// Makes a longest assignment the first one: of the longest assignments the least, compared meter by meter, where a lower
-/// branch comes before a higher one, and a branch before none. Thaws all meters. How many steps it takes isn't said.
+/// Makes a longest assignment the first one: of the longest assignments the least, compared meter by meter, where a
+/// lower branch comes before a higher one, and a branch before none. Thaws all meters. How many steps it
+/// takes isn't said.
 pub fn first<L: Ledger>(
     g: &Graph,
     ms: &Meters,

@@ -19,7 +19,8 @@ pub(crate) struct Found<'a> {
 pub(crate) fn find_line<'a>(bytes: &'a [u8], text: &[u8]) -> Option<Found<'a>>
     requires few { length bytes.now ≤ most_file_bytes }
     ensures none { IfNone result (list_any (begins text.now) (ended_lines bytes.now) ≡ false) }
-    ensures found { IfSome result (λ found. IsFirstLine (begins text.now) bytes.now found.before.now found.after.now found.number) }
+    ensures found { IfSome result
+        (λ found. IsFirstLine (begins text.now) bytes.now found.before.now found.after.now found.number) }
 {
     let mut rest = lines(bytes);
     let mut passed = 0u32;

@@ -39,8 +39,10 @@ pub fn add_tables(
 ) -> Result<(), TableEnd>
     requires meters { case.old.meters ≡ [] }
     requires candidates { case.old.candidates ≡ [] }
-    ensures read { OnOk result (tables_after meters.now (option_map (λ bytes. bytes.now) candidates.entry) case.old ≡ Ok case.new) }
-    ensures refused { IfErr result (EndsAll (tables_after meters.now (option_map (λ bytes. bytes.now) candidates.entry) case.old)) }
+    ensures read { OnOk result
+        (tables_after meters.now (option_map (λ bytes. bytes.now) candidates.entry) case.old ≡ Ok case.new) }
+    ensures refused { IfErr result
+        (EndsAll (tables_after meters.now (option_map (λ bytes. bytes.now) candidates.entry) case.old)) }
 {
     read_table(alloc, case, Table::Meters, meters)?;
     match candidates {
@@ -60,8 +62,10 @@ pub fn read_cdf(
     candidates: Option<&[u8]>,
 ) -> Result<Case, CdfEnd>
     requires few { length cdf.now ≤ most_file_bytes }
-    ensures read { IfOk result (λ case. case_in cdf.now meters.now (option_map (λ bytes. bytes.now) candidates.entry) ≡ Ok case) }
-    ensures refused { IfErr result (EndsCase (case_in cdf.now meters.now (option_map (λ bytes. bytes.now) candidates.entry))) }
+    ensures read { IfOk result
+        (λ case. case_in cdf.now meters.now (option_map (λ bytes. bytes.now) candidates.entry) ≡ Ok case) }
+    ensures refused { IfErr result
+        (EndsCase (case_in cdf.now meters.now (option_map (λ bytes. bytes.now) candidates.entry))) }
 {
     let mut case = Case::new(alloc);
     add_file(&mut case, cdf)?;

@@ -53,7 +53,8 @@ fn add_bus(case: &mut Case, line: &[u8], at: u32) -> Result<(), Stop>
 pub(crate) fn add_buses(case: &mut Case, section: &[u8], first: u32) -> Result<(), Stop>
     requires empty { case.old ≡ no_rows }
     requires room { first + length section.now < 2 ^ 32 }
-    ensures read { Answers (read_rows read_bus [] (numbered first (lines_of section.now))) (λ buses. tables_of_rows buses []) case.new result }
+    ensures read { Answers (read_rows read_bus [] (numbered first (lines_of section.now)))
+        (λ buses. tables_of_rows buses []) case.new result }
 {
     let mut at = first;
     for line in lines(section) {
@@ -78,8 +79,10 @@ pub fn branch_name(room: &mut [u8; NAME_ROOM], number: u64) -> &[u8]
 
 // Adds the branch that a branch line is.
 fn add_branch(case: &mut Case, line: &[u8], at: u32) -> Result<(), Stop>
-    ensures read { (buses : List Bus) (earlier : List Branch) → AreBuses buses → AreNamed 1 earlier → case.old ≡ tables_of_rows buses earlier →
-        Answers (read_branch buses earlier at line.now) (λ branch. tables_of_rows buses (earlier ++ branch ∷ [])) case.new result }
+    ensures read { (buses : List Bus) (earlier : List Branch) → AreBuses buses →
+        AreNamed 1 earlier → case.old ≡ tables_of_rows buses earlier →
+        Answers (read_branch buses earlier at line.now)
+        (λ branch. tables_of_rows buses (earlier ++ branch ∷ [])) case.new result }
 {
     let count = case.branches().len();
     if count >= MOST_BRANCHES {
@@ -106,7 +109,8 @@ fn add_branch(case: &mut Case, line: &[u8], at: u32) -> Result<(), Stop>
 pub(crate) fn add_branches(case: &mut Case, section: &[u8], first: u32) -> Result<(), Stop>
     requires room { first + length section.now < 2 ^ 32 }
     ensures read { (buses : List Bus) → AreBuses buses → case.old ≡ tables_of_rows buses [] →
-        Answers (read_rows (read_branch buses) [] (numbered first (lines_of section.now))) (tables_of_rows buses) case.new result }
+        Answers (read_rows (read_branch buses) [] (numbered first (lines_of section.now)))
+        (tables_of_rows buses) case.new result }
 {
     let mut at = first;
     for line in lines(section) {

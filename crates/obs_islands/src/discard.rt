@@ -31,8 +31,8 @@ fn is_straddling(crossed: &[bool], touch: Touch) -> bool
     }
 }
 
-/// Writes what each item touches, and nothing where it touches all branches at a marked vertex. Says whether there is such
-/// an item.
+/// Writes what each item touches, and nothing where it touches all branches at a marked vertex. Says whether there is
+/// such an item.
 fn keep_others(ms: &Meters, crossed: &[bool], touches: &mut [Touch]) -> bool
     requires low { All (IsStarBelow (length crossed.now)) ms.now.touches }
     requires one_each { length touches.old ≡ length ms.now.touches }
@@ -52,8 +52,8 @@ fn keep_others(ms: &Meters, crossed: &[bool], touches: &mut [Touch]) -> bool
     some
 }
 
-/// Writes what each item touches, and nothing where it touches all branches at a vertex and one of these lies between two
-/// pieces. Says whether there is such an item.
+/// Writes what each item touches, and nothing where it touches all branches at a vertex and one of these lies between
+/// two pieces. Says whether there is such an item.
 pub(crate) fn discard(
     g: &Graph,
     ms: &Meters,

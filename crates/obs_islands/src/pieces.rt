@@ -22,7 +22,8 @@ pub(crate) fn name_pieces(forest: &Forest, firsts: &mut [u32])
 fn cross(ends: Option<Ends>, firsts: &[u32], crossed: &mut [bool])
     requires low { IfSome ends (λ x. (x.a < length firsts.now) × (x.b < length firsts.now)) }
     requires one_each { length crossed.old ≡ length firsts.now }
-    ensures crossed { (v : ℕ) → has_flag crossed.new v ≡ (has_flag crossed.old v || (has_end v ends && is_between firsts.now ends)) }
+    ensures crossed { (v : ℕ) → has_flag crossed.new v
+        ≡ (has_flag crossed.old v || (has_end v ends && is_between firsts.now ends)) }
 {
     if let Some(x) = ends {
         if firsts[x.a as usize] != firsts[x.b as usize] {

@@ -16,8 +16,8 @@ use obs_graph::Graph;
 use obs_meter::{Meters, Touch};
 use std::sync::ledger::Ledger;
 
-/// Makes the assignment of the used items a longest one, names the pieces of its forest, and writes the items that stay used.
-/// Says whether one was discarded.
+/// Makes the assignment of the used items a longest one, names the pieces of its forest, and writes the items that stay
+/// used. Says whether one was discarded.
 fn round<L: Ledger>(
     g: &Graph,
     used: &Meters,
@@ -49,8 +49,8 @@ fn round<L: Ledger>(
     discard(g, used, firsts, crossed, touches)
 }
 
-/// Discards items, round by round, until none of those that are used touches a branch between two pieces. The pieces then
-/// are the islands.
+/// Discards items, round by round, until none of those that are used touches a branch between two pieces. The pieces
+/// then are the islands.
 fn settle<L: Ledger>(
     g: &Graph,
     used: &mut Meters,
@@ -83,7 +83,8 @@ fn settle<L: Ledger>(
     }
 }
 
-/// Carries the pairs over where there are as many meters and positions as before, and leaves no pair where there are not.
+/// Carries the pairs over where there are as many meters and positions as before,
+/// and leaves no pair where there are not.
 fn carry_over(g: &Graph, ms: &Meters, pairs: &mut Assignment, meters: u32, positions: u32)
     requires meters { meters ≡ length pairs.old.slots }
     requires positions { positions ≡ length pairs.old.forest.held }
@@ -99,8 +100,8 @@ fn carry_over(g: &Graph, ms: &Meters, pairs: &mut Assignment, meters: u32, posit
     }
 }
 
-/// Writes for each vertex the first vertex of its island. The pairs that were kept before, over so many meters and positions,
-/// only save searches.
+/// Writes for each vertex the first vertex of its island. The pairs that were kept before, over so many meters and
+/// positions, only save searches.
 pub(crate) fn find_firsts<L: Ledger>(
     g: &Graph,
     ms: &Meters,

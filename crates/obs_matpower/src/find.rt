@@ -57,7 +57,8 @@ fn has_closing(code: &[u8]) -> bool
 
 // Whether a line is one that is looked for.
 fn is_sought(sought: Sought, line: &[u8]) -> bool
-    ensures opening { (table : MatTable) → sought ≡ Sought.Opening table → result ≡ has_opening table (without_comment line.now) }
+    ensures opening { (table : MatTable) → sought ≡ Sought.Opening table
+        → result ≡ has_opening table (without_comment line.now) }
     ensures closing { sought ≡ Sought.Closing → result ≡ list_any is_closing (without_comment line.now) }
 {
     let code = without_comment(line);
@@ -71,7 +72,8 @@ fn is_sought(sought: Sought, line: &[u8]) -> bool
 pub(crate) fn find_line(bytes: &[u8], sought: Sought) -> Option<Found<'_>>
     requires few { length bytes.now ≤ most_file_bytes }
     ensures none { IfNone result (list_any (is_sought sought) (ended_lines bytes.now) ≡ false) }
-    ensures found { IfSome result (λ found. IsFound (is_sought sought) bytes.now found.before.now found.from.now found.number) }
+    ensures found { IfSome result
+        (λ found. IsFound (is_sought sought) bytes.now found.before.now found.from.now found.number) }
 {
     let mut rest = lines(bytes);
     let mut passed = 0u32;

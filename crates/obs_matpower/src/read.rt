@@ -38,8 +38,10 @@ pub fn read_matpower(
     candidates: Option<&[u8]>,
 ) -> Result<Case, MatEnd>
     requires few { length matpower.now ≤ most_file_bytes }
-    ensures read { IfOk result (λ case. case_in matpower.now meters.now (option_map (λ bytes. bytes.now) candidates.entry) ≡ Ok case) }
-    ensures refused { IfErr result (EndsCase (case_in matpower.now meters.now (option_map (λ bytes. bytes.now) candidates.entry))) }
+    ensures read { IfOk result
+        (λ case. case_in matpower.now meters.now (option_map (λ bytes. bytes.now) candidates.entry) ≡ Ok case) }
+    ensures refused { IfErr result
+        (EndsCase (case_in matpower.now meters.now (option_map (λ bytes. bytes.now) candidates.entry))) }
 {
     let mut case = Case::new(alloc);
     add_file(alloc, &mut case, matpower)?;

@@ -30,21 +30,24 @@ pub fn least_tight()
     ensures least { OutsideTightIsCritical }
 {}
 
-/// An item is critical exactly where the test says so, and where the least closed set, with nothing frozen and every item a source, does not hold it. What is critical in a list is critical in each smaller list that holds it.
+/// An item is critical exactly where the test says so, and where the least closed set, with nothing frozen and every
+/// item a source, does not hold it. What is critical in a list is critical in each smaller list that holds it.
 pub fn critical()
     ensures computed { CriticalComputed }
     ensures outside_least_closed { LeastClosedIsNonCritical }
     ensures in_smaller { CriticalInSmaller }
 {}
 
-/// An assignment grows by a source, or it has a least closed set: then none that keeps its items and the frozen pairs adds a source, and where every item is a source, none that keeps the frozen pairs is longer.
+/// An assignment grows by a source, or it has a least closed set: then none that keeps its items and the frozen pairs
+/// adds a source, and where every item is a source, none that keeps the frozen pairs is longer.
 pub fn search()
     ensures grows_or_closes { GrowsOrCloses }
     ensures adds_none { ClosedAddsNone }
     ensures longest { ClosedIsLongest }
 {}
 
-/// What a closed set says of other assignments; the least one holds no frozen item, and two closed sets together are closed.
+/// What a closed set says of other assignments; the least one holds no frozen item,
+/// and two closed sets together are closed.
 pub fn closed_sets()
     ensures counts { ClosedCounts }
     ensures tight { ClosedIsTight }
@@ -57,7 +60,8 @@ pub fn exchange_path()
     ensures grows { ExchangePathGrows }
 {}
 
-/// A pair of an item that is not frozen can be made, and at most one further item loses its pair, which is not frozen; or the frozen branches span its branch, and then no assignment that has the frozen pairs has it.
+/// A pair of an item that is not frozen can be made, and at most one further item loses its pair, which is not frozen;
+/// or the frozen branches span its branch, and then no assignment that has the frozen pairs has it.
 pub fn pin()
     ensures gives_up_one { PinGivesUpOne }
     ensures impossible { PinIsImpossible }
@@ -89,7 +93,8 @@ pub fn layer_bound()
     ensures cost { LayerBound }
 {}
 
-/// There is one answer, and `answer_of` gives it; it does as much as all candidates, layers with tight lists that its prices neither cut nor exceed show its whole cost, and none that does as much is cheaper.
+/// There is one answer, and `answer_of` gives it; it does as much as all candidates, layers with tight lists that its
+/// prices neither cut nor exceed show its whole cost, and none that does as much is cheaper.
 pub fn answer()
     ensures computed { AnswerComputed }
     ensures unique { AnswerUnique }
@@ -100,7 +105,9 @@ pub fn answer()
     ensures cheapest { AnswerIsCheapest }
 {}
 
-/// The own layers of the answer, one for each different price above 0 of its members, with the lists of the items that are not critical, show its whole cost; each lacks something to the needed number, and each list holds the one before it.
+/// The own layers of the answer, one for each different price above 0 of its members, with the lists of the items that
+/// are not critical, show its whole cost; each lacks something to the needed number, and each list holds the
+/// one before it.
 pub fn own_layers()
     ensures run { OwnLayersRun }
     ensures show { OwnLayersShow }

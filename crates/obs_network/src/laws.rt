@@ -137,7 +137,8 @@ pub fn a_meter_changes_its_touch()
         ≡ slice_set (case_meters t) at (slice_index_or (case_meters (with_meter_inservice t at inservice)) at Nothing) }
     ensures offered { (t : Tables) (at : ℕ) (inservice : Bool) → at < length t.meters →
         case_offered (with_meter_inservice t at inservice)
-        ≡ slice_set (case_offered t) at (slice_index_or (case_meters (with_meter_inservice t at inservice)) at Nothing) }
+        ≡ slice_set (case_offered t) at
+        (slice_index_or (case_meters (with_meter_inservice t at inservice)) at Nothing) }
 {}
 
 /// Between a switch open and the same switch closed, the buses and the ends of branches are the same, or two buses

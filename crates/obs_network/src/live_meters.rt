@@ -181,7 +181,8 @@ impl LiveMeters {
         requires components { self.old.components ≡ length components.now.first_buses }
         requires meter { m < length self.old.lists }
         ensures lists { self.new.lists ≡ slice_set self.old.lists m
-            (list_of (length components.now.first_buses) (touch_component components.now.of_buses graph.now.ends touch)) }
+            (list_of (length components.now.first_buses)
+            (touch_component components.now.of_buses graph.now.ends touch)) }
         ensures components { self.new.components ≡ self.old.components }
         ensures most_meters { self.new.most_meters ≡ self.old.most_meters }
         ensures most_components { self.new.most_components ≡ self.old.most_components }

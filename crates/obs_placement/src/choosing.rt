@@ -38,8 +38,10 @@ fn list_raised(meters: u32, prices: &[u64], raised: &[bool], list: &mut [u32]) -
     requires cheap { All (λ p. p ≤ most_price) prices.now }
     requires room { length prices.now ≤ length list.old }
     ensures bound { result.count ≤ length prices.now }
-    ensures listed { take result.count list.new ≡ filter (is_raised raised.now meters) (range_with_len 0 (length prices.now)) }
-    ensures cost { result.cost ≡ cost_of prices.now (filter (is_raised raised.now meters) (range_with_len 0 (length prices.now))) }
+    ensures listed { take result.count list.new ≡ filter (is_raised raised.now meters)
+        (range_with_len 0 (length prices.now)) }
+    ensures cost { result.cost ≡ cost_of prices.now
+        (filter (is_raised raised.now meters) (range_with_len 0 (length prices.now))) }
 {
     let mut count = 0;
     let mut cost = 0;
@@ -91,14 +93,19 @@ pub fn choose_in<L: Ledger>(
     requires held { length held.old ≡ length g.now.ends }
     requires joined { g.now.vertices ≤ room_of joined.old }
     ensures bound { result.count ≤ length prices.now }
-    ensures chosen { take result.count list.new ≡ chosen_of g.now.vertices g.now.ends offered.now.touches meters prices.now }
-    ensures cost { result.cost ≡ cost_of prices.now (chosen_of g.now.vertices g.now.ends offered.now.touches meters prices.now) }
-    ensures rank { length (pairs_at pairs.new) ≡ rho_at g.now.vertices g.now.ends offered.now.touches (live_items g.now.ends offered.now.touches) }
+    ensures chosen { take result.count list.new
+        ≡ chosen_of g.now.vertices g.now.ends offered.now.touches meters prices.now }
+    ensures cost { result.cost ≡ cost_of prices.now
+        (chosen_of g.now.vertices g.now.ends offered.now.touches meters prices.now) }
+    ensures rank { length (pairs_at pairs.new) ≡ rho_at g.now.vertices g.now.ends offered.now.touches
+        (live_items g.now.ends offered.now.touches) }
     ensures standing { IsStanding g.now offered.now.touches pairs.new }
-    ensures only_chosen { HavePairsOnly meters (chosen_of g.now.vertices g.now.ends offered.now.touches meters prices.now) pairs.new }
+    ensures only_chosen { HavePairsOnly meters
+        (chosen_of g.now.vertices g.now.ends offered.now.touches meters prices.now) pairs.new }
     ensures known { AreKnown g.now offered.now.touches (price_of meters prices.now) since.new }
     ensures order { IsOrder (price_of meters prices.now) (length offered.now.touches) keys.new }
-    ensures raised { (m : ℕ) → m < length offered.now.touches → has_flag raised.new m ≡ is_chosen g.now.vertices g.now.ends offered.now.touches (price_of meters prices.now) m }
+    ensures raised { (m : ℕ) → m < length offered.now.touches → has_flag raised.new m
+        ≡ is_chosen g.now.vertices g.now.ends offered.now.touches (price_of meters prices.now) m }
     ensures same_room { HasRoomOf pairs.old pairs.new }
     ensures same_sizes { search.new.sizes ≡ search.old.sizes }
     ensures same_joined { room_of joined.new ≡ room_of joined.old }

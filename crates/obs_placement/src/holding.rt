@@ -1,5 +1,5 @@
-// The held branches are touched by items that are known not to be critical. An item raises nothing where they join the ends of
-// each branch that it touches.
+// The held branches are touched by items that are known not to be critical. An item raises nothing where they join the
+// ends of each branch that it touches.
 ghost use Rattle.std.specs.Prelude.{◌≡◌, ◌<◌, ◌≤◌, ℕ, IsTrue, None, length, replicate, true};
 ghost use Rattle.obs_graph.specs.Search.{IsRooted, room_of};
 ghost use Rattle.obs_meter.specs.Touches.{AreInRange};
@@ -82,7 +82,8 @@ fn hold_touched(g: &Graph, offered: &Meters, m: u32, since: &[u64], held: &mut [
     }
 }
 
-/// Keeps the price for the reached items that have none yet, holds the branches that these touch too, and finds anew what is joined.
+/// Keeps the price for the reached items that have none yet,
+/// holds the branches that these touch too, and finds anew what is joined.
 pub fn mark_and_hold(
     g: &Graph,
     offered: &Meters,
@@ -99,7 +100,8 @@ pub fn mark_and_hold(
     requires room { g.now.vertices ≤ room_of joined.old }
     requires known { AreOfKnown g.now offered.now.touches since.old held.old }
     ensures count { length since.new ≡ length since.old }
-    ensures marked { (m : ℕ) → since_at since.new m ≡ since_after (has_flag reached.now m) price (since_at since.old m) }
+    ensures marked { (m : ℕ) → since_at since.new m
+        ≡ since_after (has_flag reached.now m) price (since_at since.old m) }
     ensures known { AreOfKnown g.now offered.now.touches since.new held.new }
     ensures rooted { IsRooted g.now.vertices held.new joined.new }
     ensures room { room_of joined.new ≡ room_of joined.old }

@@ -23,15 +23,16 @@ fn is_new(since: &[u64], from: u64, to: u64, m: usize) -> bool
     from <= since[m] && since[m] < to
 }
 
-/// Lists the items that aren't critical from a price on that is at least `from` and below `to`, rising, after the `upto` items
-/// that are listed already. Says how many are listed then.
+/// Lists the items that aren't critical from a price on that is at least `from` and below `to`, rising, after the
+/// `upto` items that are listed already. Says how many are listed then.
 fn list_added(since: &[u64], from: u64, to: u64, inside: &mut [u32], upto: usize) -> usize
     requires few { length since.now < 2 ^ 32 }
     requires room { length since.now ≤ length inside.old }
     requires rising { from ≤ to }
     requires upto { upto ≡ count_known since.now from }
     ensures upto { result ≡ count_known since.now to }
-    ensures listed { take result inside.new ≡ take upto inside.old ++ filter (is_added since.now from to) (range_with_len 0 (length since.now)) }
+    ensures listed { take result inside.new ≡ take upto inside.old ++ filter (is_added since.now from to)
+        (range_with_len 0 (length since.now)) }
     ensures count { length inside.new ≡ length inside.old }
 {
     let mut count = upto;
@@ -44,8 +45,8 @@ fn list_added(since: &[u64], from: u64, to: u64, inside: &mut [u32], upto: usize
     count
 }
 
-/// Lays out the layer from one price to another, where so many layers and so many items are listed before it. Says how many
-/// items are listed then.
+/// Lays out the layer from one price to another, where so many layers and so many items are listed before it. Says how
+/// many items are listed then.
 fn lay_one(
     g: &Graph,
     offered: &Meters,
@@ -74,9 +75,12 @@ fn lay_one(
     requires inside { length offered.now.touches ≤ length inside.old }
     requires upto { upto ≡ count_known since.now from }
     ensures upto { result ≡ count_known since.now to }
-    ensures added { result ≡ upto + length (added_items g.now.vertices g.now.ends offered.now.touches (price_of meters prices.now) from to) }
-    ensures layer { layers.new ≡ set layers.old count (layer_of g.now.vertices g.now.ends offered.now.touches (price_of meters prices.now) from to upto) }
-    ensures listed { take result inside.new ≡ take upto inside.old ++ added_items g.now.vertices g.now.ends offered.now.touches (price_of meters prices.now) from to }
+    ensures added { result ≡ upto + length
+        (added_items g.now.vertices g.now.ends offered.now.touches (price_of meters prices.now) from to) }
+    ensures layer { layers.new ≡ set layers.old count
+        (layer_of g.now.vertices g.now.ends offered.now.touches (price_of meters prices.now) from to upto) }
+    ensures listed { take result inside.new ≡ take upto inside.old
+        ++ added_items g.now.vertices g.now.ends offered.now.touches (price_of meters prices.now) from to }
     ensures inside { length inside.new ≡ length inside.old }
     ensures marks { length marks.new ≡ length marks.old }
     ensures scope { length scope.new ≡ length scope.old }
@@ -121,7 +125,8 @@ pub fn lay_all(
     requires items { length offered.now.touches ≡ meters + length prices.now }
     requires order { IsOrder (price_of meters prices.now) (length offered.now.touches) keys.now }
     requires flags { length raised.now ≡ length offered.now.touches }
-    requires raised { (m : ℕ) → m < length offered.now.touches → has_flag raised.now m ≡ is_chosen g.now.vertices g.now.ends offered.now.touches (price_of meters prices.now) m }
+    requires raised { (m : ℕ) → m < length offered.now.touches → has_flag raised.now m
+        ≡ is_chosen g.now.vertices g.now.ends offered.now.touches (price_of meters prices.now) m }
     requires since { length since.now ≡ length offered.now.touches }
     requires marks { length marks.old ≡ length offered.now.touches }
     requires scope { length scope.old ≡ length offered.now.touches }
@@ -129,8 +134,12 @@ pub fn lay_all(
     requires known { AreKnown g.now offered.now.touches (price_of meters prices.now) since.now }
     requires layers { length offered.now.touches ≤ length layers.old }
     requires inside { length offered.now.touches ≤ length inside.old }
-    ensures layers { take result.layers layers.new ≡ layers_of g.now.vertices g.now.ends offered.now.touches (price_of meters prices.now) 0 0 (prices_above prices.now (chosen_of g.now.vertices g.now.ends offered.now.touches meters prices.now) 0) }
-    ensures inside { take result.inside inside.new ≡ inside_of g.now.vertices g.now.ends offered.now.touches (price_of meters prices.now) 0 (prices_above prices.now (chosen_of g.now.vertices g.now.ends offered.now.touches meters prices.now) 0) }
+    ensures layers { take result.layers layers.new
+        ≡ layers_of g.now.vertices g.now.ends offered.now.touches (price_of meters prices.now) 0 0
+        (prices_above prices.now (chosen_of g.now.vertices g.now.ends offered.now.touches meters prices.now) 0) }
+    ensures inside { take result.inside inside.new
+        ≡ inside_of g.now.vertices g.now.ends offered.now.touches (price_of meters prices.now) 0
+        (prices_above prices.now (chosen_of g.now.vertices g.now.ends offered.now.touches meters prices.now) 0) }
     ensures layers_room { result.layers ≤ length layers.new }
     ensures inside_room { result.inside ≤ length inside.new }
     ensures layers_count { length layers.new ≡ length layers.old }

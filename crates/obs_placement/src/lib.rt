@@ -1,5 +1,5 @@
-//! Placement: the candidates that complete the meters at the least cost, with the layers of prices that prove it, or the bound
-//! which shows that all candidates together fall short.
+//! Placement: the candidates that complete the meters at the least cost, with the layers of prices that prove it, or
+//! the bound which shows that all candidates together fall short.
 #![tactic(auto)]
 
 mod choosing;

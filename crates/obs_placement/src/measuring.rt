@@ -28,7 +28,8 @@ fn mark_below(meters: u32, prices: &[u64], to: u64, scope: &mut [bool])
     requires count { length scope.old ≡ meters + length prices.now }
     requires few { meters + length prices.now < 2 ^ 32 }
     ensures count { length scope.new ≡ length scope.old }
-    ensures marks { (m : ℕ) → m < meters + length prices.now → marked scope.new m ≡ is_below (price_of meters prices.now) to m }
+    ensures marks { (m : ℕ) → m < meters + length prices.now
+        → marked scope.new m ≡ is_below (price_of meters prices.now) to m }
 {
     for m in 0..meters + prices.len() as u32 {
         scope[m as usize] = price_at(meters, prices, m) < to;
@@ -54,9 +55,12 @@ pub fn measure_own(
     requires scope { length scope.old ≡ length offered.now.touches }
     requires room { HasRoomFor cut.old.sizes g.now offered.now.touches }
     requires known { AreKnown g.now offered.now.touches (price_of meters prices.now) since.now }
-    ensures inside { cut.new.inside ≡ own_items g.now.vertices g.now.ends offered.now.touches (price_of meters prices.now) to }
-    ensures rank { result.rank ≡ own_rank g.now.vertices g.now.ends offered.now.touches (price_of meters prices.now) to }
-    ensures outside { result.outside ≡ own_outside g.now.vertices g.now.ends offered.now.touches (price_of meters prices.now) to }
+    ensures inside { cut.new.inside ≡ own_items g.now.vertices g.now.ends offered.now.touches
+        (price_of meters prices.now) to }
+    ensures rank { result.rank ≡ own_rank g.now.vertices g.now.ends offered.now.touches
+        (price_of meters prices.now) to }
+    ensures outside { result.outside ≡ own_outside g.now.vertices g.now.ends offered.now.touches
+        (price_of meters prices.now) to }
     ensures marks { length marks.new ≡ length marks.old }
     ensures scope { length scope.new ≡ length scope.old }
     ensures same_sizes { cut.new.sizes ≡ cut.old.sizes }

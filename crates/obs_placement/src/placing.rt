@@ -26,8 +26,8 @@ use obs_meter::Meters;
 use obs_rankcut::CutWork;
 use std::sync::ledger::Ledger;
 
-/// How much of the arrays is in use, and the numbers of what was found: whether it falls short, how many candidates are chosen
-/// and what they cost, the bound of a shortfall, and how many layers there are and how many items they list.
+/// How much of the arrays is in use, and the numbers of what was found: whether it falls short, how many candidates are
+/// chosen and what they cost, the bound of a shortfall, and how many layers there are and how many items they list.
 #[derive(Clone, Copy)]
 pub struct Laid {
     pub short: bool,
@@ -79,11 +79,15 @@ fn place_in<L: Ledger>(
     requires inside { length offered.now.touches ≤ length inside.old }
     requires held { length held.old ≡ length g.now.ends }
     requires joined { g.now.vertices ≤ room_of joined.old }
-    ensures placed { laid_in result list.new cut.new.inside layers.new inside.new ≡ placement_of g.now.vertices g.now.ends offered.now.touches meters prices.now needed }
-    ensures chosen { take result.count list.new ≡ chosen_of g.now.vertices g.now.ends offered.now.touches meters prices.now }
-    ensures longest { length (pairs_at pairs.new) ≡ rho_at g.now.vertices g.now.ends offered.now.touches (live_items g.now.ends offered.now.touches) }
+    ensures placed { laid_in result list.new cut.new.inside layers.new inside.new
+        ≡ placement_of g.now.vertices g.now.ends offered.now.touches meters prices.now needed }
+    ensures chosen { take result.count list.new
+        ≡ chosen_of g.now.vertices g.now.ends offered.now.touches meters prices.now }
+    ensures longest { length (pairs_at pairs.new) ≡ rho_at g.now.vertices g.now.ends offered.now.touches
+        (live_items g.now.ends offered.now.touches) }
     ensures standing { IsStanding g.now offered.now.touches pairs.new }
-    ensures only_chosen { HavePairsOnly meters (chosen_of g.now.vertices g.now.ends offered.now.touches meters prices.now) pairs.new }
+    ensures only_chosen { HavePairsOnly meters
+        (chosen_of g.now.vertices g.now.ends offered.now.touches meters prices.now) pairs.new }
     ensures known { AreKnown g.now offered.now.touches (price_of meters prices.now) since.new }
     ensures count_room { result.count ≤ length list.new }
     ensures layers_room { result.layers ≤ length layers.new }
@@ -164,12 +168,17 @@ pub fn place_first<L: Ledger>(
     requires inside { length offered.now.touches ≤ length inside.old }
     requires held { length g.now.ends ≤ length held.old }
     requires joined { g.now.vertices ≤ room_of joined.old }
-    ensures placed { laid_in result list.new cut.new.inside layers.new inside.new ≡ placement_of g.now.vertices g.now.ends offered.now.touches meters prices.now needed }
-    ensures chosen { take result.count list.new ≡ chosen_of g.now.vertices g.now.ends offered.now.touches meters prices.now }
-    ensures longest { length (pairs_at pairs.new) ≡ rho_at g.now.vertices g.now.ends offered.now.touches (live_items g.now.ends offered.now.touches) }
+    ensures placed { laid_in result list.new cut.new.inside layers.new inside.new
+        ≡ placement_of g.now.vertices g.now.ends offered.now.touches meters prices.now needed }
+    ensures chosen { take result.count list.new
+        ≡ chosen_of g.now.vertices g.now.ends offered.now.touches meters prices.now }
+    ensures longest { length (pairs_at pairs.new) ≡ rho_at g.now.vertices g.now.ends offered.now.touches
+        (live_items g.now.ends offered.now.touches) }
     ensures standing { IsStanding g.now offered.now.touches pairs.new }
-    ensures only_chosen { HavePairsOnly meters (chosen_of g.now.vertices g.now.ends offered.now.touches meters prices.now) pairs.new }
-    ensures known { AreKnown g.now offered.now.touches (price_of meters prices.now) (take (length offered.now.touches) since.new) }
+    ensures only_chosen { HavePairsOnly meters
+        (chosen_of g.now.vertices g.now.ends offered.now.touches meters prices.now) pairs.new }
+    ensures known { AreKnown g.now offered.now.touches (price_of meters prices.now)
+        (take (length offered.now.touches) since.new) }
     ensures count_room { result.count ≤ length list.new }
     ensures layers_room { result.layers ≤ length layers.new }
     ensures inside_room { result.inside ≤ length inside.new }

@@ -3,9 +3,10 @@ ghost use Rattle.std.specs.Prelude.{◌≡◌};
 
 use obs_rankcut::Bound;
 
-/// The part of the cost between two prices. The items of a layer are the live meters and the live candidates whose price is
-/// below `to`, and its list are those of them that aren't critical among them: the first `upto` entries of a plan's `inside`.
-/// `rank` is the rank of the branches that the listed ones touch, and `outside` is the number of the other items.
+/// The part of the cost between two prices. The items of a layer are the live meters and the live candidates whose
+/// price is below `to`, and its list are those of them that aren't critical among them: the first `upto` entries of a
+/// plan's `inside`. `rank` is the rank of the branches that the listed ones touch, and `outside` is the number of the
+/// other items.
 #[derive(Clone, Copy, Debug, PartialEq, Eq)]
 pub struct Layer {
     pub from: u64,
@@ -15,8 +16,9 @@ pub struct Layer {
     pub upto: u32,
 }
 
-/// The positions of the chosen candidates, rising, and what they cost. There is a layer for each different price above 0 of
-/// theirs, by rising price; `inside` has the lists of the layers one after the other, where each adds only what is new.
+/// The positions of the chosen candidates, rising, and what they cost. There is a layer for each different price above
+/// 0 of theirs, by rising price; `inside` has the lists of the layers one after the other, where each adds only
+/// what is new.
 #[derive(Clone, Copy, Debug)]
 pub struct Plan<'a> {
     pub chosen: &'a [u32],

@@ -1,5 +1,5 @@
-// Items are taken one after the other: each that raises the greatest length gets a pair, and of each other one it is kept
-// which items aren't critical from its price on.
+// Items are taken one after the other: each that raises the greatest length gets a pair, and of each other one it is
+// kept which items aren't critical from its price on.
 ghost use Rattle.std.specs.Prelude.{◌≡◌, ◌<◌, ◌≤◌, ◌∷◌, ℕ, false, true, length};
 ghost use Rattle.obs_graph.specs.Search.{IsRooted, room_of};
 ghost use Rattle.obs_meter.specs.Sizes.{HasRoomFor};
@@ -21,8 +21,8 @@ use std::sync::ledger::Ledger;
 /// The price of an item that wasn't found not to be critical: above all prices.
 pub const NEVER: u64 = 18446744073709551615;
 
-/// From how many reached items on their branches are held. To find anew what is joined passes over all branches, which pays where
-/// the search passed over many too.
+/// From how many reached items on their branches are held. To find anew what is joined passes over all branches, which
+/// pays where the search passed over many too.
 const LARGE: usize = 64;
 
 /// Whether a search reached many items.
@@ -40,7 +40,8 @@ fn is_large(reached: &[bool]) -> bool {
 fn mark(reached: &[bool], price: u64, since: &mut [u64])
     requires count { length reached.now ≡ length since.old }
     ensures count { length since.new ≡ length since.old }
-    ensures marked { (m : ℕ) → since_at since.new m ≡ since_after (has_flag reached.now m) price (since_at since.old m) }
+    ensures marked { (m : ℕ) → since_at since.new m
+        ≡ since_after (has_flag reached.now m) price (since_at since.old m) }
 {
     for m in 0..reached.len() {
         if reached[m] && since[m] == NEVER {
@@ -49,7 +50,8 @@ fn mark(reached: &[bool], price: u64, since: &mut [u64])
     }
 }
 
-/// Keeps the price for the reached items that have none yet. Where they are many, the branches that these touch are held too.
+/// Keeps the price for the reached items that have none yet.
+/// Where they are many, the branches that these touch are held too.
 fn keep(
     g: &Graph,
     offered: &Meters,
@@ -66,7 +68,8 @@ fn keep(
     requires known { AreOfKnown g.now offered.now.touches since.old held.old }
     requires rooted { IsRooted g.now.vertices held.old joined.old }
     ensures count { length since.new ≡ length since.old }
-    ensures marked { (m : ℕ) → since_at since.new m ≡ since_after (has_flag reached.now m) price (since_at since.old m) }
+    ensures marked { (m : ℕ) → since_at since.new m
+        ≡ since_after (has_flag reached.now m) price (since_at since.old m) }
     ensures known { AreOfKnown g.now offered.now.touches since.new held.new }
     ensures rooted { IsRooted g.now.vertices held.new joined.new }
     ensures same_joined { room_of joined.new ≡ room_of joined.old }
@@ -101,11 +104,13 @@ fn search_item<L: Ledger>(
     requires count { length since.old ≡ length offered.now.touches }
     requires price { price < never }
     requires bounded { (m : ℕ) → since_at since.old m ≤ never }
-    requires taken { IsTakenAt g.now offered.now.touches (earlier_items g.now.ends offered.now.touches (price_of meters prices.now) c) a.old since.old }
+    requires taken { IsTakenAt g.now offered.now.touches
+        (earlier_items g.now.ends offered.now.touches (price_of meters prices.now) c) a.old since.old }
     requires held { AreHeld g.now offered.now.touches (price_of meters prices.now) a.old }
     requires known { AreOfKnown g.now offered.now.touches since.old held.old }
     requires rooted { IsRooted g.now.vertices held.old joined.old }
-    ensures taken { IsTakenAt g.now offered.now.touches (c ∷ earlier_items g.now.ends offered.now.touches (price_of meters prices.now) c) a.new since.new }
+    ensures taken { IsTakenAt g.now offered.now.touches
+        (c ∷ earlier_items g.now.ends offered.now.touches (price_of meters prices.now) c) a.new since.new }
     ensures chosen { result ≡ is_chosen g.now.vertices g.now.ends offered.now.touches (price_of meters prices.now) c }
     ensures held { AreHeld g.now offered.now.touches (price_of meters prices.now) a.new }
     ensures added { AreAdded price since.old since.new }
@@ -129,8 +134,8 @@ fn search_item<L: Ledger>(
     }
 }
 
-/// Takes a live item, and says whether it raises the greatest length. Where the held branches join the ends of all that it touches,
-/// it raises nothing, and no other item becomes known: so no search is made.
+/// Takes a live item, and says whether it raises the greatest length. Where the held branches join the ends of all that
+/// it touches, it raises nothing, and no other item becomes known: so no search is made.
 fn take_item<L: Ledger>(
     g: &Graph,
     offered: &Meters,
@@ -153,11 +158,13 @@ fn take_item<L: Ledger>(
     requires count { length since.old ≡ length offered.now.touches }
     requires price { price < never }
     requires bounded { (m : ℕ) → since_at since.old m ≤ never }
-    requires taken { IsTakenAt g.now offered.now.touches (earlier_items g.now.ends offered.now.touches (price_of meters prices.now) c) a.old since.old }
+    requires taken { IsTakenAt g.now offered.now.touches
+        (earlier_items g.now.ends offered.now.touches (price_of meters prices.now) c) a.old since.old }
     requires held { AreHeld g.now offered.now.touches (price_of meters prices.now) a.old }
     requires known { AreOfKnown g.now offered.now.touches since.old held.old }
     requires rooted { IsRooted g.now.vertices held.old joined.old }
-    ensures taken { IsTakenAt g.now offered.now.touches (c ∷ earlier_items g.now.ends offered.now.touches (price_of meters prices.now) c) a.new since.new }
+    ensures taken { IsTakenAt g.now offered.now.touches
+        (c ∷ earlier_items g.now.ends offered.now.touches (price_of meters prices.now) c) a.new since.new }
     ensures chosen { result ≡ is_chosen g.now.vertices g.now.ends offered.now.touches (price_of meters prices.now) c }
     ensures held { AreHeld g.now offered.now.touches (price_of meters prices.now) a.new }
     ensures added { AreAdded price since.old since.new }
@@ -198,7 +205,8 @@ pub fn take_all<L: Ledger>(
     requires room { HasRoomFor work.old.sizes g.now offered.now.touches }
     requires cheap { (m : ℕ) → price_of meters prices.now m < never }
     requires order { IsOrder (price_of meters prices.now) (length offered.now.touches) keys.now }
-    requires begun { IsUnderWay g.now offered.now.touches (price_of meters prices.now) keys.now 0 a.old since.old raised.old }
+    requires begun { IsUnderWay g.now offered.now.touches
+        (price_of meters prices.now) keys.now 0 a.old since.old raised.old }
     requires known { AreOfKnown g.now offered.now.touches since.old held.old }
     requires rooted { IsRooted g.now.vertices held.old joined.old }
     ensures taken { AreTaken g.now offered.now.touches (price_of meters prices.now) a.new since.new raised.new }

@@ -151,16 +151,16 @@ impl PlaceWork {
         }
     }
 
-    /// The positions of the candidates that were chosen last, rising: of those that each raise the greatest length, also where
-    /// all that was offered fell short.
+    /// The positions of the candidates that were chosen last, rising: of those that each raise the greatest length,
+    /// also where all that was offered fell short.
     pub fn chosen(&self) -> &[u32]
         ensures chosen { result.now ≡ self.now.chosen }
     {
         &self.list[..self.laid.count]
     }
 
-    /// The pairs after the last placement: of meters and chosen candidates alone, and as many as the greatest length of all that
-    /// was offered. Before the first placement nothing is said of them.
+    /// The pairs after the last placement: of meters and chosen candidates alone, and as many as the greatest length of
+    /// all that was offered. Before the first placement nothing is said of them.
     pub fn pairs(&self) -> &Assignment
         ensures pairs { result.now ≡ self.now.pairs }
     {
@@ -168,8 +168,8 @@ impl PlaceWork {
     }
 }
 
-/// Finds the cheapest candidates that, with the meters, reach the needed number, or the bound which shows that all of them don't.
-/// `offered` are so many meters and then the candidates. `PlaceWork::found` then has the placement.
+/// Finds the cheapest candidates that, with the meters, reach the needed number, or the bound which shows that all of
+/// them don't. `offered` are so many meters and then the candidates. `PlaceWork::found` then has the placement.
 pub fn find_placement<L: Ledger>(
     g: &Graph,
     offered: &Meters,
@@ -184,11 +184,14 @@ pub fn find_placement<L: Ledger>(
     requires few { length prices.now ≤ most_candidates }
     requires cheap { All (λ p. p ≤ most_price) prices.now }
     requires room { HasRoomFor work.old.sizes g.now offered.now.touches }
-    ensures placed { work.new.placed ≡ placement_of g.now.vertices g.now.ends offered.now.touches meters prices.now needed }
+    ensures placed { work.new.placed
+        ≡ placement_of g.now.vertices g.now.ends offered.now.touches meters prices.now needed }
     ensures chosen { work.new.chosen ≡ chosen_of g.now.vertices g.now.ends offered.now.touches meters prices.now }
-    ensures longest { length (pairs_at work.new.pairs) ≡ rho_at g.now.vertices g.now.ends offered.now.touches (live_items g.now.ends offered.now.touches) }
+    ensures longest { length (pairs_at work.new.pairs)
+        ≡ rho_at g.now.vertices g.now.ends offered.now.touches (live_items g.now.ends offered.now.touches) }
     ensures standing { IsStanding g.now offered.now.touches work.new.pairs }
-    ensures only_chosen { HavePairsOnly meters (chosen_of g.now.vertices g.now.ends offered.now.touches meters prices.now) work.new.pairs }
+    ensures only_chosen { HavePairsOnly meters
+        (chosen_of g.now.vertices g.now.ends offered.now.touches meters prices.now) work.new.pairs }
     ensures known { AreKnown g.now offered.now.touches (price_of meters prices.now) work.new.since }
     ensures same_sizes { work.new.sizes ≡ work.old.sizes }
 {
@@ -219,9 +222,9 @@ pub fn find_placement<L: Ledger>(
     work.laid = laid;
 }
 
-/// The cheapest candidates that, with the meters, reach the needed number, with the layers that prove it; or, where all candidates
-/// together fall short of it, the bound that shows this. `offered` are so many meters and then the candidates, whose prices these
-/// are. No memory is taken.
+/// The cheapest candidates that, with the meters, reach the needed number, with the layers that prove it; or, where all
+/// candidates together fall short of it, the bound that shows this. `offered` are so many meters and then the
+/// candidates, whose prices these are. No memory is taken.
 pub fn place<'a, L: Ledger>(
     g: &Graph,
     offered: &Meters,
@@ -236,7 +239,8 @@ pub fn place<'a, L: Ledger>(
     requires few { length prices.now ≤ most_candidates }
     requires cheap { All (λ p. p ≤ most_price) prices.now }
     requires room { HasRoomFor work.old.sizes g.now offered.now.touches }
-    ensures placed { placed_of result ≡ placement_of g.now.vertices g.now.ends offered.now.touches meters prices.now needed }
+    ensures placed { placed_of result
+        ≡ placement_of g.now.vertices g.now.ends offered.now.touches meters prices.now needed }
 {
     find_placement(g, offered, meters, prices, needed, work, steps);
     work.found()

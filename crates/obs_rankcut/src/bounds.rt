@@ -1,8 +1,8 @@
 // What a bound is.
 
 /// A list of meters, rising, with the rank of the branches that they touch and the number of live meters of the scope
-/// outside the list: no assignment of meters of the scope has more pairs than these two together. `needed` is the number of
-/// pairs that it is compared with.
+/// outside the list: no assignment of meters of the scope has more pairs than these two together. `needed` is the
+/// number of pairs that it is compared with.
 #[derive(Clone, Copy, Debug)]
 pub struct Bound<'a> {
     pub inside: &'a [u32],

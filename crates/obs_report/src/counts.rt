@@ -72,8 +72,8 @@ fn print_verdict<W: Sink>(lines: &mut LineBuffer, output: &mut W, rank: u32, nee
     lines.line(output, &[b"verdict", verdict_word(rank, needed)]);
 }
 
-/// Appends the counts of the network's buses, energised buses, live branches, live meters and needed pairs, this rank, and
-/// the verdict on it.
+/// Appends the counts of the network's buses, energised buses, live branches, live meters and needed pairs, this rank,
+/// and the verdict on it.
 pub fn print_counts<W: Sink>(output: &mut W, network: &Network, rank: u32) -> Result<(), Failed>
     ensures appends { Appends W.written W.faults W.has_room output.old output.new result
         (counts_text network.now rank) }

@@ -174,9 +174,9 @@ fn print_shortfall<W: Sink>(output: &mut W, case: &Case, bound: &Bound<'_>) -> R
     lines.finish(output)
 }
 
-/// Appends a placement: of a plan what it costs, the chosen candidates, the pairs of meters and candidates with their branches,
-/// and its layers, each with the items that it adds; of a shortfall the two numbers of its bound and the listed items. Items
-/// are the meters and then the candidates.
+/// Appends a placement: of a plan what it costs, the chosen candidates, the pairs of meters and candidates with their
+/// branches, and its layers, each with the items that it adds; of a shortfall the two numbers of its bound and the
+/// listed items. Items are the meters and then the candidates.
 pub fn print_placement<W: Sink>(
     output: &mut W,
     case: &Case,

@@ -34,8 +34,8 @@ fn print_pairs<W: Sink>(
     }
 }
 
-/// Appends the tree of a component: its name, and a line for each of these pairs whose branch lies in it, in the order of
-/// the meters. All components together take one pass over the meters.
+/// Appends the tree of a component: its name, and a line for each of these pairs whose branch lies in it, in the order
+/// of the meters. All components together take one pass over the meters.
 pub fn print_tree<W: Sink>(
     output: &mut W,
     case: &Case,

@@ -37,7 +37,11 @@ impl Model for Buses {
 
     ghost Value = { Labelled };
 
-    ghost view = { λ b. record { buses = take b.nodes b.numbers.items; count = b.count; most_nodes = vec_len b.numbers } };
+    ghost view = { λ b. record {
+      buses = take b.nodes b.numbers.items;
+      count = b.count;
+      most_nodes = vec_len b.numbers;
+    } };
 
     ghost invariant = { λ b. AreHeld b.nodes b.count b.firsts.items b.numbers.items b.members.items b.starts.items };
 }

@@ -17,15 +17,19 @@ pub fn first_node_is_lowest()
 
 /// Buses are numbered in the order of their first nodes, from 0, and each number is that of a bus.
 pub fn buses_by_first_nodes()
-    ensures order { (links : List Link) (u v : ℕ) → first_node links u < first_node links v → bus_of links u < bus_of links v }
+    ensures order { (links : List Link) (u v : ℕ)
+        → first_node links u < first_node links v → bus_of links u < bus_of links v }
     ensures below { (nodes : ℕ) (links : List Link) (u : ℕ) → u < nodes → bus_of links u < bus_count nodes links }
-    ensures each { (nodes : ℕ) (links : List Link) (bus : ℕ) → bus < bus_count nodes links → (u : ℕ) × (u < nodes) × (bus_of links u ≡ bus) }
+    ensures each { (nodes : ℕ) (links : List Link) (bus : ℕ)
+        → bus < bus_count nodes links → (u : ℕ) × (u < nodes) × (bus_of links u ≡ bus) }
 {}
 
 /// The first member of a node's bus is the first node of that bus, and there is one.
 pub fn first_member_names_the_bus()
-    ensures some { (nodes : ℕ) (links : List Link) (u : ℕ) → u < nodes → 0 < length (members_of (buses_of nodes links) (bus_of links u)) }
-    ensures named { (nodes : ℕ) (links : List Link) (u : ℕ) → u < nodes → slice_index (members_of (buses_of nodes links) (bus_of links u)) 0 ≡ first_node links u }
+    ensures some { (nodes : ℕ) (links : List Link) (u : ℕ) → u < nodes
+        → 0 < length (members_of (buses_of nodes links) (bus_of links u)) }
+    ensures named { (nodes : ℕ) (links : List Link) (u : ℕ) → u < nodes
+        → slice_index (members_of (buses_of nodes links) (bus_of links u)) 0 ≡ first_node links u }
 {}
 
 /// One closed switch more, between two nodes of one bus, leaves the buses. Between nodes of two buses it makes these

@@ -49,7 +49,8 @@ fn place_drawn(draw: u64, k: u64, from: u64, to: u64) -> u64
 
 // Adds a branch and its meter, and answers the state of the generator after the draw.
 fn add_link(case: &mut Case, state: u32, from: u64, to: u64) -> Result<u32, NoMemory>
-    ensures added { (n seed : ℕ) (ends : List (ℕ × ℕ)) → IsSoFar n seed ends case.old state → from < n * n → to < n * n →
+    ensures added { (n seed : ℕ) (ends : List (ℕ × ℕ)) →
+        IsSoFar n seed ends case.old state → from < n * n → to < n * n →
         IfOk result (λ after. IsSoFar n seed (ends ++ (from, to) ∷ []) case.new after) }
 {
     let k = case.branches().len() as u64;

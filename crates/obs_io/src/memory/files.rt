@@ -39,7 +39,8 @@ impl MemFiles {
         ensures calls { result.calls ≡ 0 }
         ensures content { (w : ℕ) → ⟦<MemFiles as Files>⟧.content result w ≡ content_of entries.items w }
         ensures faults { (w : ℕ) → ⟦<MemFiles as Files>⟧.faults result w ≡ 0 }
-        ensures steady { (w : ℕ) → fail.items ≡ [] → IsSome (content_of entries.items w) → ⟦<MemFiles as Files>⟧.steady result w }
+        ensures steady { (w : ℕ) → fail.items ≡ [] → IsSome (content_of entries.items w)
+            → ⟦<MemFiles as Files>⟧.steady result w }
     {
         MemFiles {
             entries,
@@ -75,7 +76,8 @@ impl Files for MemFiles {
         ensures well { is_ok result ≡ reads_well self.old.fail.items self.old.calls self.old.entries.items word }
         ensures piece { IfOk result (λ n. n ≤ self.old.piece) }
         ensures calls { self.new.calls ≡ next_call self.old.calls }
-        ensures kept { (self.new.entries ≡ self.old.entries) × (self.new.piece ≡ self.old.piece) × (self.new.fail ≡ self.old.fail) }
+        ensures kept { (self.new.entries ≡ self.old.entries)
+            × (self.new.piece ≡ self.old.piece) × (self.new.fail ≡ self.old.fail) }
     {
         let call = self.calls;
         self.calls = call.saturating_add(1);

@@ -94,7 +94,8 @@ impl Sink for MemSink {
         ensures quiet { IfOk result (λ _. self.new.faults ≡ self.old.faults) }
         ensures room { (room : ℕ) → ⟦<MemSink as Sink>⟧.has_room self.old room → length bytes.now ≤ room
             → IfOk result (λ n. ⟦<MemSink as Sink>⟧.has_room self.new (room - n)) }
-        ensures succeeds { (room : ℕ) → ⟦<MemSink as Sink>⟧.has_room self.old room → length bytes.now ≤ room → IsOk result }
+        ensures succeeds { (room : ℕ) → ⟦<MemSink as Sink>⟧.has_room self.old room
+            → length bytes.now ≤ room → IsOk result }
         // what this form says: which calls succeed, how much one moves, and the room left
         ensures well { is_ok result ≡ writes_well self.old.fail.items self.old.calls self.old.room }
         ensures piece { IfOk result (λ n. n ≤ self.old.piece) }

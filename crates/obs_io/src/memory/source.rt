@@ -53,7 +53,8 @@ impl Source for MemSource {
         requires room { 0 < length into.old }
         // what each source says
         ensures bound { IfOk result (λ n. n ≤ length into.new) }
-        ensures bytes { TakesFront (Some (drop self.old.at self.old.bytes.items)) (Some (drop self.new.at self.new.bytes.items)) result into.new }
+        ensures bytes { TakesFront (Some (drop self.old.at self.old.bytes.items))
+            (Some (drop self.new.at self.new.bytes.items)) result into.new }
         ensures cause { HasCause self.old.faults self.new.faults result }
         ensures quiet { IfOk result (λ _. self.new.faults ≡ self.old.faults) }
         ensures steady { self.old.fail.items ≡ [] → self.new.fail.items ≡ [] }
@@ -62,7 +63,8 @@ impl Source for MemSource {
         ensures well { is_ok result ≡ not (is_listed self.old.fail.items self.old.calls) }
         ensures piece { IfOk result (λ n. n ≤ self.old.piece) }
         ensures calls { self.new.calls ≡ next_call self.old.calls }
-        ensures kept { (self.new.bytes ≡ self.old.bytes) × (self.new.piece ≡ self.old.piece) × (self.new.fail ≡ self.old.fail) }
+        ensures kept { (self.new.bytes ≡ self.old.bytes)
+            × (self.new.piece ≡ self.old.piece) × (self.new.fail ≡ self.old.fail) }
     {
         let call = self.calls;
         self.calls = call.saturating_add(1);

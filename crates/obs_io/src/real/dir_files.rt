@@ -55,7 +55,8 @@ impl<'a, R: rt::Files> Files for DirFiles<'a, R> {
         // what each form of files says, where no content is told
         ensures bound { IfOk result (λ n. n ≤ length into.new) }
         ensures bytes { ReadsPart None at result into.new }
-        ensures same { (w : ℕ) → ⟦<DirFiles<'a, R> as Files>⟧.content self.new w ≡ ⟦<DirFiles<'a, R> as Files>⟧.content self.old w }
+        ensures same { (w : ℕ) → ⟦<DirFiles<'a, R> as Files>⟧.content self.new w
+            ≡ ⟦<DirFiles<'a, R> as Files>⟧.content self.old w }
         ensures cause { HasCause (slice_index self.old.faults word) (slice_index self.new.faults word) result }
         ensures quiet { IfOk result (λ _. slice_index self.new.faults word ≡ slice_index self.old.faults word) }
         ensures others { (w : ℕ) → w ≢ word → slice_index self.new.faults w ≡ slice_index self.old.faults w }
