@@ -1,12 +1,12 @@
 -- The first assignment: the least of the longest ones.
-use Rattle.std.specs.Prelude.{◌≡◌, ℕ, ◌≤◌, ◌<◌, cond, ◌==◌, ◌⊎◌, List, [], ◌∷◌, length, Option, Some, None}
+use Rattle.std.specs.Prelude.{◌≡◌, ℕ, ◌≤◌, ◌<◌, if◌then◌else◌, ◌==◌, ◌⊎◌, List, [], ◌∷◌, length, Option, Some, None}
 use Rattle.obs_matroid.specs.Matroid.{Matroid}
 use Rattle.obs_matroid.specs.Assignments.{Pair, IsAssignment}
 
 -- the branch that A gives to the item m, if it gives one
 abbrev pub branch_at : List Pair → ℕ → Option ℕ
 branch_at [] m = None
-branch_at (p ∷ A) m = cond (p.0 == m) (Some p.1) (branch_at A m)
+branch_at (p ∷ A) m = if p.0 == m then Some p.1 else branch_at A m
 
 -- a lower branch comes before a higher one, and a branch before none
 abbrev pub IsBefore : Option ℕ → Option ℕ → Type 0

@@ -1,5 +1,5 @@
 -- Candidates that may be added to the items at a price, and what shows that a choice is cheapest.
-use Rattle.std.specs.Prelude.{◌≡◌, ℕ, ◌+◌, ◌*◌, ◌-◌, ◌≤◌, ◌<◌, Bool, cond, not, nat_lt, ◌⊎◌, List, [], ◌∷◌, ◌++◌, length, filter, flat_map}
+use Rattle.std.specs.Prelude.{◌≡◌, ℕ, ◌+◌, ◌*◌, ◌-◌, ◌≤◌, ◌<◌, Bool, if◌then◌else◌, not, nat_lt, ◌⊎◌, List, [], ◌∷◌, ◌++◌, length, filter, flat_map}
 use Rattle.obs_matroid.specs.Lists.{In, IsDistinct}
 use Rattle.obs_matroid.specs.Matroid.{Matroid}
 use Rattle.obs_matroid.specs.Assignments.{IsRho}
@@ -39,7 +39,7 @@ is_raising g touch M c = nat_lt (rho_of g touch M) (rho_of g touch (c ∷ M))
 -- the answer, computed
 unfoldable pub answer_of : Matroid → (ℕ → List ℕ) → List ℕ → List ℕ → List ℕ
 answer_of g touch M [] = []
-answer_of g touch M (c ∷ es) = cond (is_raising g touch M c) (c ∷ answer_of g touch (c ∷ M) es) (answer_of g touch (c ∷ M) es)
+answer_of g touch M (c ∷ es) = if is_raising g touch M c then c ∷ answer_of g touch (c ∷ M) es else answer_of g touch (c ∷ M) es
 
 -- a layer of prices, with the two numbers of the bound of a list of its items
 pub record Layer : Type 0 where
@@ -85,6 +85,6 @@ own_layer g touch price M E f t = record {
 -- the own layers of an answer, from the price f: one for each different price above f of its members, which stand by price
 abbrev pub own_layers : Matroid → (ℕ → List ℕ) → (ℕ → ℕ) → List ℕ → List ℕ → ℕ → List ℕ → List Layer
 own_layers g touch price M E f [] = []
-own_layers g touch price M E f (c ∷ xs) = cond (nat_lt f (price c))
-    (own_layer g touch price M E f (price c) ∷ own_layers g touch price M E (price c) xs)
-    (own_layers g touch price M E f xs)
+own_layers g touch price M E f (c ∷ xs) =
+    if nat_lt f (price c) then own_layer g touch price M E f (price c) ∷ own_layers g touch price M E (price c) xs
+    else own_layers g touch price M E f xs

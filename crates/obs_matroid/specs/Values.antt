@@ -1,18 +1,19 @@
 -- Functions that compute what the relations say: the first assignment, the greatest length, and whether an item is critical.
 -- They try every branch of every item, and serve as definitions, never as programs.
-use Rattle.std.specs.Prelude.{ℕ, Bool, cond, not, nat_lt, List, [], ◌∷◌, length}
+use Rattle.std.specs.Prelude.{ℕ, Bool, if◌then◌else◌, not, nat_lt, List, [], ◌∷◌, length}
 use Rattle.obs_matroid.specs.Lists.{without}
 use Rattle.obs_matroid.specs.Matroid.{Matroid}
 use Rattle.obs_matroid.specs.Assignments.{Pair}
 
 -- the longer of two, the first where they are equally long
 abbrev pub longer : List Pair → List Pair → List Pair
-longer A B = cond (nat_lt (length A) (length B)) B A
+longer A B = if nat_lt (length A) (length B) then B else A
 
 -- the first of the longest among what each branch that passes gives, in order, and last `bare`, which needs no branch
 abbrev pub pick : (ℕ → Bool) → (ℕ → List Pair) → List Pair → List ℕ → List Pair
 pick passes given bare [] = bare
-pick passes given bare (e ∷ es) = cond (passes e) (longer (given e) (pick passes given bare es)) (pick passes given bare es)
+pick passes given bare (e ∷ es) =
+    if passes e then longer (given e) (pick passes given bare es) else pick passes given bare es
 
 -- the first of the longest assignments of M whose branches are independent together with those of L
 unfoldable pub first_with : Matroid → (ℕ → List ℕ) → List ℕ → List ℕ → List Pair

@@ -1,5 +1,5 @@
 -- What a placement is: the plan where all that is offered reaches the needed number, and else the shortfall.
-use Rattle.std.specs.Prelude.{ℕ, not, cond, nat_lt, Option, List, take, length, filter, flat_map}
+use Rattle.std.specs.Prelude.{ℕ, not, if◌then◌else◌, nat_lt, Option, List, take, length, filter, flat_map}
 use Rattle.obs_graph.specs.declared.Ends.{Ends}
 use Rattle.obs_meter.specs.declared.Touch.{Touch}
 use Rattle.obs_meter.specs.Assignments.{rho_at}
@@ -63,11 +63,12 @@ lack_of n ends touches needed = record {
 -- the shortfall exactly where the greatest length of all that is offered is below the needed number, and else the plan
 abbrev pub placement_of : ℕ → List (Option Ends) → List Touch → ℕ → List ℕ → ℕ → Placed
 placement_of n ends touches meters prices needed =
-    cond (nat_lt (rho_at n ends touches (live_items ends touches)) needed) (shortfall (lack_of n ends touches needed)) (cheapest (plan_of n ends touches meters prices))
+    if nat_lt (rho_at n ends touches (live_items ends touches)) needed then shortfall (lack_of n ends touches needed)
+    else cheapest (plan_of n ends touches meters prices)
 
 -- what was laid out in these arrays: the chosen positions, the list of the bound that was measured last, the layers, and what they list
 abbrev pub laid_in : Laid → List ℕ → List ℕ → List Layer → List ℕ → Placed
 laid_in l list bound layers inside =
-    cond l.short
-    (shortfall (record { inside = bound; rank = l.rank; outside = l.outside; needed = l.needed }))
-    (cheapest (record { chosen = take l.count list; cost = l.cost; layers = take l.layers layers; inside = take l.inside inside }))
+    if l.short
+    then shortfall (record { inside = bound; rank = l.rank; outside = l.outside; needed = l.needed })
+    else cheapest (record { chosen = take l.count list; cost = l.cost; layers = take l.layers layers; inside = take l.inside inside })

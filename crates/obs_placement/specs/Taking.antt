@@ -1,5 +1,5 @@
 -- Where the taking of items stands.
-use Rattle.std.specs.Prelude.{◌≡◌, ◌⊎◌, ℕ, ◌+◌, ◌≤◌, ◌<◌, ◌==◌, ◌&&◌, Bool, true, false, ◌↔◌, cond, nat_lt, Option, List, length, slice_index_or}
+use Rattle.std.specs.Prelude.{◌≡◌, ◌⊎◌, ℕ, ◌+◌, ◌≤◌, ◌<◌, ◌==◌, ◌&&◌, Bool, true, false, ◌↔◌, if◌then◌else◌, nat_lt, Option, List, length, slice_index_or}
 use Rattle.obs_graph.specs.declared.Ends.{Ends}
 use Rattle.obs_graph.specs.Shape.{Shape}
 use Rattle.obs_matroid.specs.Lists.{In, IsDistinct}
@@ -47,7 +47,7 @@ pub record IsStanding (g : Shape) (touches : List Touch) (a : Assigned) : Type 0
 
 -- from which price on an item isn't critical, after a search from an item of this price has reached it or not
 abbrev pub since_after : Bool → ℕ → ℕ → ℕ
-since_after reached price s = cond (reached && (s == never)) price s
+since_after reached price s = if reached && (s == never) then price else s
 
 -- each item with a pair is chosen
 abbrev pub AreHeld : Shape → List Touch → (ℕ → ℕ) → Assigned → Type 0
