@@ -1,5 +1,5 @@
 -- The plan of a placement: its items, what these touch, and its pairs.
-use Rattle.std.specs.Prelude.{◌≡◌, ℕ, ◌+◌, cond, Option, List, [], ◌++◌, length, map, slice_index_or}
+use Rattle.std.specs.Prelude.{◌≡◌, ℕ, ◌+◌, if◌then◌else◌, Option, List, [], ◌++◌, length, map, slice_index_or}
 use Rattle.std.specs.List.{range_with_len}
 use Rattle.obs_graph.specs.declared.Ends.{Ends}
 use Rattle.obs_graph.specs.Positions.{AreBranches}
@@ -27,7 +27,7 @@ planned_items meters chosen = range_with_len 0 meters ++ map (λ k. meters + k) 
 -- what each item touches, where the items that aren't in the list touch nothing
 abbrev pub touches_of : List Touch → List ℕ → List Touch
 touches_of touches listed =
-    map (λ m. cond (has_position listed m) (slice_index_or touches m Nothing) Nothing) (every_item touches)
+    map (λ m. if has_position listed m then slice_index_or touches m Nothing else Nothing) (every_item touches)
 
 -- the pairs of a placement, over what its items touch: the first assignment for a plan, and none for a shortfall
 abbrev pub pairs_in : ℕ → List (Option Ends) → List Touch → Placed → List Pair
