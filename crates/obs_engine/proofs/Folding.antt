@@ -6,8 +6,9 @@ use Rattle.std.proofs.lemmas.Bool.{and_parts, cases_Bool, eqb-true}
 use Rattle.std.proofs.lemmas.List.{append-nil, take-append-drop, take-take}
 use Rattle.obs_case.specs.Tables.{Tables}
 use Rattle.obs_text.specs.Lines.{is_feed, lines_of}
+use Rattle.obs_text.specs.Laws.{HasNoFeed}
 use Rattle.obs_script.specs.Gathered.{content_of}
-use Rattle.obs_script.proofs.LineLemmas.{HasNoFeed, ended_line, last_line}
+use Rattle.obs_script.proofs.LineLemmas.{ended_line, last_line}
 use Rattle.obs_engine.specs.Lines.{ended_after, line_case, line_text, lines_case, lines_text, open_after}
 use Rattle.obs_engine.specs.Replies.{Reply}
 use Rattle.obs_engine.specs.Sessions.{cut_reply, most_input_bytes, session_reply, whole_reply}

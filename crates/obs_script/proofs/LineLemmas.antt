@@ -1,34 +1,14 @@
 -- The lines of bytes, by where a line feed stands.
-use Rattle.std.proofs.Common.{◌≡◌, ◌≢◌, ℕ, ◌+◌, Bool, true, false, not, IsTrue, add-zero, List, [], ◌∷◌, ◌++◌, length, take, drop, refl, sym, ap, ◌∙◌, arith}
-use Rattle.std.proofs.lemmas.Bool.{and_parts}
+use Rattle.std.proofs.Common.{◌≡◌, ◌≢◌, ℕ, ◌+◌, add-zero, List, [], ◌∷◌, ◌++◌, length, take, drop, refl, sym, ap, ◌∙◌, arith}
 use Rattle.std.proofs.lemmas.List.{append-nil, drop_all, length-append, take_all}
 use Rattle.std.proofs.Math.Seq.{drop-append-add, take-append_seam}
-use Rattle.std.specs.List.{list_all, position_or_len}
+use Rattle.std.specs.List.{position_or_len}
 use Rattle.std.specs.Str.Lines.{strip_carriage_return}
 use Rattle.obs_text.specs.Lines.{is_feed, lines_of}
+use Rattle.obs_text.specs.Laws.{HasNoFeed}
 use Rattle.obs_text.proofs.LineLemmas.{lines_of-step}
+use Rattle.obs_text.proofs.LineLaws.{feed_after}
 use Rattle.obs_script.specs.Gathered.{content_of}
-
--- no byte of these is a line feed
-abbrev pub HasNoFeed : List ℕ → Type 0
-HasNoFeed line = IsTrue (list_all (λ byte. not (is_feed byte)) line)
-
-not_true : (b : Bool) → not b ≡ true → b ≡ false
-not_true true is = cc
-not_true false is = refl
-
--- what the first of these bytes says, and what the others say
-parts : (byte : ℕ) (line : List ℕ) → HasNoFeed (byte ∷ line) → (is_feed byte ≡ false) × HasNoFeed line
-parts byte line none =
-    let both = and_parts (not (is_feed byte)) (list_all (λ b. not (is_feed b)) line) none in (not_true (is_feed byte) both.0, both.1)
-
--- the first line feed stands after them
-feed_after : (line rest : List ℕ) → HasNoFeed line → position_or_len is_feed (line ++ rest) ≡ length line + position_or_len is_feed rest
-feed_after [] rest none = omega arith
-feed_after (byte ∷ line) rest none =
-    let first = parts byte line none in
-    let other : is_feed byte ≡ false = first.0 in
-    rw other (let later = feed_after line rest first.1 in omega (arith, later))
 
 no_feed : (line : List ℕ) → HasNoFeed line → position_or_len is_feed line ≡ length line
 no_feed line none = ap (position_or_len is_feed) (sym (append-nil line)) ∙ feed_after line [] none ∙ add-zero (length line)

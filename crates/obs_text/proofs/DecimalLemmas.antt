@@ -1,10 +1,14 @@
 -- Whole numbers and their decimal texts.
 use Rattle.std.proofs.Common.{◌≡◌, ℕ, suc, ◌^◌, ◌<◌, ◌≤◌, Bool, true, false, ◌&&◌, cond, ltb, leb, eqb, List, [], ◌∷◌, ◌++◌, length, replicate, decimal, Option, None, Some, refl, sym, ap, ◌∙◌, inl, inr, arith, rules}
 use Rattle.std.proofs.lemmas.Bool.{and_from, and_parts, cases_Bool, eqb-true, le-leb, leb-true, lt-ltb, ltb-true, eqb-false}
-use Rattle.std.proofs.lemmas.Fmt.{decimal-digits_value, decimal_nonempty, digits_decimal, digits_value-decimal, length-decimal-le}
+use Rattle.std.proofs.lemmas.Bool.Decides.{Decides-eqb, Decides-like, nat_tests, same_from_decides}
+use Rattle.std.proofs.lemmas.Fmt.{decimal-digits_value, decimal_injective, decimal_nonempty, digits_decimal, digits_value-decimal, length-decimal-le}
 use Rattle.std.proofs.lemmas.Str.Parse.{IsNumeralModel, digits_value_short, numerals_by_fold, tells_all_ascii_digits}
 use Rattle.std.specs.Char.{is_ascii_digit}
-use Rattle.std.specs.Str.{all_ascii_digits}
+use Rattle.std.specs.Cmp.Lexicographic.{bytes_decides}
+use Rattle.std.specs.List.{list_all}
+use Rattle.std.specs.Str.{all_ascii_digits, bytes_eq}
+use Rattle.obs_text.specs.Names.{is_name_byte}
 use Rattle.obs_text.specs.Numbers.{is_whole, value_after, whole_of}
 
 -- the number that digits write is that of a numeral
@@ -49,3 +53,23 @@ whole_of-text bytes n is =
     let some : Some (value_after 0 bytes) ≡ Some n = whole.1 in
     let value : value_after 0 bytes ≡ n = cc in
     (text.0, text.1 ∙ ap (λ m. replicate text.0 0x30 ++ decimal m) value)
+
+pub length-decimal : (n : ℕ) → n < 2 ^ 64 → length (decimal n) ≤ 20
+length-decimal n small = length-decimal-le 20 n (omega arith) (omega arith) small
+
+-- a digit may stand in a name
+digit-name : (d : ℕ) → is_ascii_digit d ≡ true → is_name_byte d ≡ true
+digit-name d is = grind (arith, nat_tests)
+
+pub digits-name : (ds : List ℕ) → all_ascii_digits ds ≡ true → list_all is_name_byte ds ≡ true
+digits-name [] all = refl
+digits-name (d ∷ ds) all =
+    let parts = and_parts (is_ascii_digit d) (all_ascii_digits ds) all in
+    and_from (is_name_byte d) (list_all is_name_byte ds) (digit-name d parts.0) (digits-name ds parts.1)
+
+-- two numbers have one text exactly where they are one
+pub same_name : (m n : ℕ) → m < 2 ^ 64 → n < 2 ^ 64 → bytes_eq (decimal n) (decimal m) ≡ eqb m n
+same_name m n small below =
+    same_from_decides {P = m ≡ n} (bytes_eq (decimal n) (decimal m)) (eqb m n)
+    (Decides-like {P = decimal n ≡ decimal m} {Q = m ≡ n} (bytes_eq (decimal n) (decimal m)) (λ e. sym (decimal_injective n m below small e)) (λ e. ap decimal (sym e)) (bytes_decides (decimal n) (decimal m)))
+    (Decides-eqb m n)

@@ -1,5 +1,5 @@
 mod BareLemmas
 pub mod DecimalLemmas
-mod LineLaws
+pub mod LineLaws
 pub mod LineLemmas
 pub mod NumberLemmas

@@ -1,28 +1,13 @@
 -- Names of a letter and a number.
-use Rattle.std.proofs.Common.{◌≡◌, ℕ, zero, suc, ◌+◌, ◌-◌, ◌^◌, ◌<◌, ◌≤◌, true, ◌&&◌, eqb, leb, ltb, List, [], ◌∷◌, length, map, decimal, refl, sym, ap, ◌∙◌, inl, inr, arith}
-use Rattle.std.proofs.lemmas.Bool.{and_from, and_parts, cases_Bool, eqb-false, eqb-true, le-leb, lt-ltb}
-use Rattle.std.proofs.lemmas.Bool.Decides.{Decides-eqb, Decides-like, nat_tests, same_from_decides}
-use Rattle.std.proofs.lemmas.Fmt.{decimal_injective, digits_decimal, length-decimal-le}
-use Rattle.std.specs.Char.{is_ascii_digit}
-use Rattle.std.specs.Cmp.Lexicographic.{bytes_decides}
+use Rattle.std.proofs.Common.{◌≡◌, ℕ, zero, suc, ◌+◌, ◌-◌, ◌^◌, ◌<◌, ◌≤◌, true, ◌&&◌, eqb, leb, ltb, List, ◌∷◌, length, map, decimal, ap, ◌∙◌, inl, inr, arith}
+use Rattle.std.proofs.lemmas.Bool.{and_from, cases_Bool, eqb-false, eqb-true, le-leb, lt-ltb}
+use Rattle.std.proofs.lemmas.Bool.Decides.{nat_tests}
+use Rattle.std.proofs.lemmas.Fmt.{digits_decimal}
 use Rattle.std.specs.List.{list_all, range_with_len}
-use Rattle.std.specs.Str.{all_ascii_digits, bytes_eq}
+use Rattle.std.specs.Str.{bytes_eq}
 use Rattle.obs_text.specs.Names.{is_name, is_name_byte}
-use Rattle.obs_text.proofs.DecimalLemmas.{numerals}
+use Rattle.obs_text.proofs.DecimalLemmas.{digits-name, length-decimal, numerals, same_name}
 use Rattle.obs_case.specs.Tables.{place_of}
-
--- a digit may stand in a name
-digit-name : (d : ℕ) → is_ascii_digit d ≡ true → is_name_byte d ≡ true
-digit-name d is = grind (arith, nat_tests)
-
-digits-name : (ds : List ℕ) → all_ascii_digits ds ≡ true → list_all is_name_byte ds ≡ true
-digits-name [] all = refl
-digits-name (d ∷ ds) all =
-    let parts = and_parts (is_ascii_digit d) (all_ascii_digits ds) all in
-    and_from (is_name_byte d) (list_all is_name_byte ds) (digit-name d parts.0) (digits-name ds parts.1)
-
-pub length-decimal : (n : ℕ) → n < 2 ^ 64 → length (decimal n) ≤ 20
-length-decimal n small = length-decimal-le 20 n (omega arith) (omega arith) small
 
 -- a letter and a number are a name
 pub is_name-numbered : (letter n : ℕ) → is_name_byte letter ≡ true → n < 2 ^ 64 → is_name (letter ∷ decimal n) ≡ true
@@ -32,13 +17,6 @@ is_name-numbered letter n good small =
     (and_from (ltb 0 (length (letter ∷ decimal n))) (leb (length (letter ∷ decimal n)) 64)
     (lt-ltb 0 (length (letter ∷ decimal n)) (omega arith)) (le-leb (length (letter ∷ decimal n)) 64 (omega (arith, few))))
     (and_from (is_name_byte letter) (list_all is_name_byte (decimal n)) good (digits-name (decimal n) (digits_decimal numerals n small)))
-
--- two numbers have one name exactly where they are one
-same_name : (m n : ℕ) → m < 2 ^ 64 → n < 2 ^ 64 → bytes_eq (decimal n) (decimal m) ≡ eqb m n
-same_name m n small below =
-    same_from_decides {P = m ≡ n} (bytes_eq (decimal n) (decimal m)) (eqb m n)
-    (Decides-like {P = decimal n ≡ decimal m} {Q = m ≡ n} (bytes_eq (decimal n) (decimal m)) (λ e. sym (decimal_injective n m below small e)) (λ e. ap decimal (sym e)) (bytes_decides (decimal n) (decimal m)))
-    (Decides-eqb m n)
 
 itself : (n : ℕ) → eqb n n ≡ true
 itself n = grind (arith, nat_tests)

@@ -1,8 +1,8 @@
 use Rattle.std.proofs.Common.{◌≡◌, ℕ, ◌+◌, ◌-◌, ◌<◌, List, [], ◌∷◌, ◌++◌, length, take, set, refl, ap, ◌∙◌, arith}
 use Rattle.std.proofs.Math.ListN.{length-set}
 use Rattle.std.proofs.lemmas.Slice.{take-put_mid}
-use Rattle.obs_trial.proofs.NameLemmas.{length-decimal}
 use Rattle.obs_trial.proofs.names.numbered.Goals as goal
+use Rattle.obs_text.proofs.DecimalLemmas.{length-decimal}
 
 -- a list whose first item is set begins with it
 first_set : (xs : List ℕ) (x : ℕ) → 0 < length xs → take 1 (set xs 0 x) ≡ x ∷ []
