@@ -65,7 +65,10 @@ pub fn hold_pairs(
     ensures count { result ≡ length (pairs_of (take meters slots.now)) }
     ensures inverse { IsInverse (take meters slots.now) owners.new }
     ensures listed { IsListed (take meters slots.now) (take result list.new) }
-    ensures forest { forest.new ≡ record forest.old { vertices = g.now.vertices; held = taken g.now.ends (branches (pairs_of (take meters slots.now))) } }
+    ensures forest { forest.new ≡ record forest.old {
+      vertices = g.now.vertices;
+      held = taken g.now.ends (branches (pairs_of (take meters slots.now)));
+    } }
 {
     let count = list_pairs(&slots[..meters], owners, list);
     forest.refill(g, &list[..count]);
@@ -94,12 +97,16 @@ pub fn add_pair(
     requires listed { IsListed (take meters slots.old) (take count list.old) }
     requires stands { StandsOver forest.old g.now }
     requires held { forest.old.held ≡ taken g.now.ends (take count list.old) }
-    requires forest { IsForestAt g.now.ends (branches (pairs_of (slice_set (take meters slots.old) x.meter (Some x.branch)))) }
+    requires forest { IsForestAt g.now.ends
+        (branches (pairs_of (slice_set (take meters slots.old) x.meter (Some x.branch)))) }
     ensures moved { slots.new ≡ slice_set slots.old x.meter (Some x.branch) }
     ensures count { result ≡ length (pairs_of (take meters slots.new)) }
     ensures inverse { IsInverse (take meters slots.new) owners.new }
     ensures listed { IsListed (take meters slots.new) (take result list.new) }
-    ensures forest { forest.new ≡ record forest.old { vertices = g.now.vertices; held = taken g.now.ends (branches (pairs_of (take meters slots.new))) } }
+    ensures forest { forest.new ≡ record forest.old {
+      vertices = g.now.vertices;
+      held = taken g.now.ends (branches (pairs_of (take meters slots.new)));
+    } }
 {
     slots[x.meter as usize] = Some(x.branch);
     owners[x.branch as usize] = Some(x.meter);

@@ -19,7 +19,8 @@ ghost use Rattle.obs_assign.specs.Still.{AreRetained, still};
 
 /// No assignment is longer than a bound: the rank of what some items touch, and one for each other item.
 pub fn weak_bound()
-    ensures weak { (n : ℕ) (ends : List (Option Ends)) (touches : List Touch) (M : List ℕ) (J : ℕ → Bool) (A : List Pair) →
+    ensures weak { (n : ℕ) (ends : List (Option Ends)) (touches : List Touch)
+        (M : List ℕ) (J : ℕ → Bool) (A : List Pair) →
         AreBranches n ends → IsAssignmentAt ends touches M A → length A ≤ bound_at n ends touches J M }
 {}
 
@@ -50,8 +51,8 @@ pub fn after_moves()
         slice_index_or (moved path a.slots) m None ≡ branch_at a m }
 {}
 
-/// After a pin of m to e the meter m has e, the meter x that gave up its pair has none where it is another one than m, and
-/// every other meter has what it had.
+/// After a pin of m to e the meter m has e, the meter x that gave up its pair has none where it is another one than m,
+/// and every other meter has what it had.
 pub fn after_pin()
     ensures taken { (a : Assigned) (ends : List (Option Ends)) (m e x : ℕ) (after : List (Option ℕ)) →
         IsPinnedAt a ends m e after x → m < length a.slots → slice_index_or after m None ≡ Some e }

@@ -14,7 +14,8 @@ use crate::hold::{add_pair, hold_pairs};
 use obs_forest::Forest;
 use obs_graph::Graph;
 
-/// Whether the first meter of the path has no pair, and each other one has the branch that the move in front of it takes.
+/// Whether the first meter of the path has no pair,
+/// and each other one has the branch that the move in front of it takes.
 fn hands_on(path: &[Move], slots: &[Option<u32>]) -> bool
     requires low { All (λ x. x.meter < length slots.now) path.now }
     ensures hands { IsTrue result → HandsOn slots.now None path.now }
@@ -42,8 +43,8 @@ fn hand(slots: &mut [Option<u32>], owners: &mut [Option<u32>], x: Move, next: u3
     owners[x.branch as usize] = Some(x.meter);
 }
 
-/// Puts in a path whose meters hand their branches on: the pairs get only the branch of the last move, which goes to the
-/// end of the list. Says how many pairs there are.
+/// Puts in a path whose meters hand their branches on: the pairs get only the branch of the last move, which goes to
+/// the end of the list. Says how many pairs there are.
 fn hand_on(
     g: &Graph,
     meters: usize,
@@ -72,7 +73,10 @@ fn hand_on(
     ensures count { result ≡ length (pairs_of (take meters slots.new)) }
     ensures inverse { IsInverse (take meters slots.new) owners.new }
     ensures listed { IsListed (take meters slots.new) (take result list.new) }
-    ensures forest { forest.new ≡ record forest.old { vertices = g.now.vertices; held = taken g.now.ends (branches (pairs_of (take meters slots.new))) } }
+    ensures forest { forest.new ≡ record forest.old {
+      vertices = g.now.vertices;
+      held = taken g.now.ends (branches (pairs_of (take meters slots.new)));
+    } }
 {
     let last = path.len() - 1;
     for i in 0..last {
@@ -91,8 +95,8 @@ fn write_moves(path: &[Move], slots: &mut [Option<u32>])
     }
 }
 
-/// Puts the moves of a path in, and holds the branches of the pairs. Where its meters hand their branches on, the list is
-/// kept and gets the last one; else the pairs are listed anew. Says how many they are.
+/// Puts the moves of a path in, and holds the branches of the pairs. Where its meters hand their branches on, the list
+/// is kept and gets the last one; else the pairs are listed anew. Says how many they are.
 pub fn take_path(
     g: &Graph,
     meters: usize,
@@ -122,7 +126,10 @@ pub fn take_path(
     ensures count { result ≡ length (pairs_of (take meters slots.new)) }
     ensures inverse { IsInverse (take meters slots.new) owners.new }
     ensures listed { IsListed (take meters slots.new) (take result list.new) }
-    ensures forest { forest.new ≡ record forest.old { vertices = g.now.vertices; held = taken g.now.ends (branches (pairs_of (take meters slots.new))) } }
+    ensures forest { forest.new ≡ record forest.old {
+      vertices = g.now.vertices;
+      held = taken g.now.ends (branches (pairs_of (take meters slots.new)));
+    } }
 {
     if hands_on(path, slots) {
         return hand_on(g, meters, slots, owners, list, forest, count, path);

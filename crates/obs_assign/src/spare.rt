@@ -79,8 +79,8 @@ pub fn spare_for(
     spare_of(&path[..count], owners, frozen, m)
 }
 
-/// Whether the branches stay the same where a meter, which had the branch `before`, takes e: e has an owner, and the meter
-/// had no other branch.
+/// Whether the branches stay the same where a meter, which had the branch `before`, takes e: e has an owner, and the
+/// meter had no other branch.
 fn keeps_branches(before: Option<u32>, owner: Option<u32>, e: u32) -> bool
     ensures keeps { IsTrue result → IsSome owner × ((f : ℕ) → before ≡ Some f → f ≡ e) }
 {
@@ -90,8 +90,8 @@ fn keeps_branches(before: Option<u32>, owner: Option<u32>, e: u32) -> bool
     }
 }
 
-/// Puts a pair in for those of its meter and of x. The forest is made anew only where its branches change. Says how many
-/// pairs there are.
+/// Puts a pair in for those of its meter and of x. The forest is made anew only where its branches change. Says how
+/// many pairs there are.
 pub fn take_pin(
     g: &Graph,
     meters: usize,
@@ -118,7 +118,8 @@ pub fn take_pin(
     requires listed { IsListed (take meters slots.old) (take count list.old) }
     requires count { count ≡ length (pairs_of (take meters slots.old)) }
     requires spare { (y : ℕ) → slice_index_or (take meters slots.old) y None ≡ Some pin.branch → y ≡ x }
-    requires forest { IsForestAt g.now.ends (branches (pairs_of (pinned_slots (take meters slots.old) pin.meter pin.branch x))) }
+    requires forest { IsForestAt g.now.ends
+        (branches (pairs_of (pinned_slots (take meters slots.old) pin.meter pin.branch x))) }
     ensures slots { take meters slots.new ≡ pinned_slots (take meters slots.old) pin.meter pin.branch x }
     ensures inverse { IsInverse (take meters slots.new) owners.new }
     ensures count { result ≡ length (pairs_of (take meters slots.new)) }

@@ -5,8 +5,8 @@ ghost use Rattle.obs_assign.specs.Moves.{turned};
 use std::marker::Model;
 use std::sync::ledger::{Blank, Book, Ledger, Share};
 
-/// How many steps were taken: only `tick` changes it, and it takes no bytes when the program runs. A step of an assignment
-/// is one `augment` or one `pin`.
+/// How many steps were taken: only `tick` changes it, and it takes no bytes when the program runs. A step of an
+/// assignment is one `augment` or one `pin`.
 #[derive(Drop)]
 pub struct Steps<L: Ledger> {
     book: Book<L>,

@@ -27,8 +27,8 @@ use std::marker::Model;
 use std::sync::ledger::Ledger;
 
 /// Pairs of a meter and a branch that it touches, with different meters, whose branches are a forest. Some pairs are
-/// frozen: their meters keep them until they are thawed. It means something only beside a graph and meters over which it
-/// stands.
+/// frozen: their meters keep them until they are thawed. It means something only beside a graph and meters over which
+/// it stands.
 #[derive(Drop)]
 pub struct Assignment {
     meters: usize,
@@ -55,8 +55,15 @@ impl Model for Assignment {
     ghost view = { λ a. seen a.meters a.slots.items a.frozen.items a.turns a.forest };
 
     ghost invariant = { λ a.
-        IsKept (seen a.meters a.slots.items a.frozen.items a.turns a.forest) a.meters a.count a.owners.items (take a.count a.list.items)
-        (record { frozen = length a.frozen.items; list = length a.list.items; path = length a.path.items; candidates = length a.candidates.items; search = room_of a.search }) };
+        IsKept (seen a.meters a.slots.items a.frozen.items a.turns a.forest) a.meters a.count a.owners.items
+        (take a.count a.list.items)
+        (record {
+          frozen = length a.frozen.items;
+          list = length a.list.items;
+          path = length a.path.items;
+          candidates = length a.candidates.items;
+          search = room_of a.search;
+        }) };
 }
 
 impl Assignment {
@@ -187,7 +194,8 @@ impl Assignment {
     )
         requires stands { StandsOver self.old g.now ms.now.touches }
         requires path { ArePath self.old path.now }
-        requires assignment { IsAssignmentAt g.now.ends ms.now.touches (every_item ms.now.touches) (pairs_of (moved path.now self.old.slots)) }
+        requires assignment { IsAssignmentAt g.now.ends ms.now.touches (every_item ms.now.touches)
+            (pairs_of (moved path.now self.old.slots)) }
         ensures moved { self.new.slots ≡ moved path.now self.old.slots }
         ensures frozen { self.new.frozen ≡ self.old.frozen }
         ensures longer { length (pairs self.new) ≡ length (pairs self.old) + 1 }
@@ -219,7 +227,8 @@ impl Assignment {
         ensures thawed { self.new.frozen ≡ slice_set self.old.frozen m false }
         ensures turns { self.new.turns ≡ self.old.turns }
         ensures forest { ForestStandsOver self.new.forest g.now }
-        ensures stands { (touches : List Touch) → StandsOver self.old g.now touches → StandsOver self.new g.now touches }
+        ensures stands { (touches : List Touch) → StandsOver self.old g.now touches
+            → StandsOver self.new g.now touches }
         ensures whole { IsWhole self.new }
         ensures same_room { HasRoomOf self.old self.new }
     {
@@ -235,8 +244,8 @@ impl Assignment {
         );
     }
 
-    /// Whether `pin` may be called for m and e, a present branch: whether m isn't frozen, no frozen meter has e, and the
-    /// frozen branches don't join the ends of e.
+    /// Whether `pin` may be called for m and e, a present branch: whether m isn't frozen, no frozen meter has e, and
+    /// the frozen branches don't join the ends of e.
     pub fn may_pin(&mut self, g: &Graph, m: u32, e: u32) -> bool
         requires stands { ForestStandsOver self.old.forest g.now }
         requires m { m < length self.old.slots }
@@ -260,8 +269,8 @@ impl Assignment {
         spare.is_some()
     }
 
-    /// Makes m and e a frozen pair, and ticks once. Any other pair of m or of e is given up, and else at most one, which
-    /// isn't frozen.
+    /// Makes m and e a frozen pair, and ticks once. Any other pair of m or of e is given up, and else at most one,
+    /// which isn't frozen.
     pub fn pin<L: Ledger>(&mut self, g: &Graph, ms: &Meters, m: u32, e: u32, steps: &mut Steps<L>)
         requires stands { StandsOver self.old g.now ms.now.touches }
         requires m { m < length self.old.slots }
@@ -307,9 +316,9 @@ impl Assignment {
         self.turns = turn(self.turns, steps);
     }
 
-    /// Carries the pairs over to a new network, of as many meters and positions, and thaws all. Gives up each pair whose
-    /// meter doesn't touch its branch any more, and of the others only such whose branch closes a cycle with those that
-    /// are kept. Says how many are kept.
+    /// Carries the pairs over to a new network, of as many meters and positions, and thaws all. Gives up each pair
+    /// whose meter doesn't touch its branch any more, and of the others only such whose branch closes a cycle with
+    /// those that are kept. Says how many are kept.
     pub fn retain_touching(&mut self, g: &Graph, ms: &Meters) -> u32
         requires meters { length ms.now.touches ≡ length self.old.slots }
         requires positions { length g.now.ends ≡ length self.old.forest.held }

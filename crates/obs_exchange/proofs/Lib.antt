@@ -1,5 +1,7 @@
 pub mod Queued
 pub mod Walking
+pub mod Classes
+pub mod Upward
 pub mod Beginning
 pub mod Closing
 pub mod Tracing

@@ -11,8 +11,8 @@ use obs_graph::Graph;
 use obs_meter::Meters;
 use std::sync::ledger::Ledger;
 
-/// Looks for one pair more from the sources, and ticks once. Either a source has a pair afterwards, and no meter lost its
-/// own; or there is none, and the meters that were reached are the least closed set.
+/// Looks for one pair more from the sources, and ticks once. Either a source has a pair afterwards, and no meter lost
+/// its own; or there is none, and the meters that were reached are the least closed set.
 pub fn search<L: Ledger>(
     g: &Graph,
     ms: &Meters,

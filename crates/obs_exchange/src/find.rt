@@ -10,6 +10,7 @@ ghost use Rattle.obs_exchange.specs.Searching.{IsEnd, IsFreeFor, IsReady, end_of
 use crate::begin::spread_all;
 use crate::free::untried_branch;
 use crate::queue::{first_source, is_source, sources_end};
+use crate::tops::separate;
 use crate::{Found, Sources};
 use obs_assign::{Assignment, Move, Steps};
 use obs_graph::Graph;
@@ -31,7 +32,9 @@ fn free_move(
     requires low { end_of from (length ms.now.touches) ≤ length ms.now.touches }
     requires first { first_of from ≤ first }
     requires tried { g.now.vertices ≤ length tried.old }
-    ensures free { IfSome result (λ x. (x.meter < length ms.now.touches) × IsSource g.now.ends ms.now.touches from a.now x.meter × IsFreeFor g.now.ends ms.now.touches a.now x.meter x.branch) }
+    ensures free { IfSome result
+        (λ x. (x.meter < length ms.now.touches) × IsSource g.now.ends ms.now.touches from a.now x.meter
+        × IsFreeFor g.now.ends ms.now.touches a.now x.meter x.branch) }
 {
     for m in first..sources_end(from, ms.count()) {
         if is_source(g, ms, a, from, m) {
@@ -87,10 +90,11 @@ fn trace(
     start
 }
 
-/// Looks for a path of moves that gives a source a pair, writes it at the end of the array and says where it begins. None
-/// where there is no such path; the marks are then the least closed set. The sources from the first given meter on are
-/// tried for a free branch; where this isn't the first source, the counts tell how many branches at a vertex earlier searches tried in
-/// vain. Where none is found, it searches from the sources, those from the second given meter on before the others.
+/// Looks for a path of moves that gives a source a pair, writes it at the end of the array and says where it begins.
+/// None where there is no such path; the marks are then the least closed set. The sources from the first given meter on
+/// are tried for a free branch; where this isn't the first source, the counts tell how many branches at a vertex
+/// earlier searches tried in vain. Where none is found, it searches from the sources, those from the second given meter
+/// on before the others.
 pub fn find(
     g: &Graph,
     ms: &Meters,
@@ -105,7 +109,7 @@ pub fn find(
     stars: &mut [bool],
     tried: &mut [u32],
     path: &mut [Move],
-    cycle: &mut [u32],
+    tops: &mut [u32],
 ) -> Option<usize>
     requires stands { StandsOver a.now g.now ms.now.touches }
     requires in_range { AreInRange g.now ms.now.touches }
@@ -119,7 +123,7 @@ pub fn find(
     requires walked { length g.now.ends ≤ length walked.old }
     requires stars { g.now.vertices ≤ length stars.old }
     requires tried { g.now.vertices ≤ length tried.old }
-    requires cycle { g.now.vertices ≤ length cycle.old }
+    requires tops { g.now.vertices ≤ length tops.old }
     ensures bound { IfSome result (λ k. k ≤ length path.new) }
     ensures found { MatchOption result
         (IsLeastClosedAt g.now.ends ms.now.touches from a.now (has_flag (take (length ms.now.touches) marks.new)))
@@ -138,9 +142,12 @@ pub fn find(
     marks.fill(false);
     walked.fill(false);
     stars.fill(false);
+    let ways = &a.forest().ways();
+    let tops = &mut tops[..g.vertices() as usize];
+    separate(tops);
     let mut tail = 0;
     match spread_all(
-        g, ms, a, from, middle, marks, parents, queue, &mut tail, walked, stars, tried, cycle,
+        g, ms, a, from, middle, marks, parents, queue, &mut tail, walked, stars, tried, ways, tops,
     ) {
         Some(x) => Some(trace(g, ms, a, from, x, marks, parents, queue, tail, walked, path)),
         None => None,

@@ -39,8 +39,8 @@ fn count(branches: usize) -> u32 {
     u32::try_from(branches).unwrap_or(0)
 }
 
-/// The first free branch that the meter touches. At a vertex so many of the first branches as are counted there are passed
-/// over, and those that were tried in vain are counted.
+/// The first free branch that the meter touches. At a vertex so many of the first branches as are counted there are
+/// passed over, and those that were tried in vain are counted.
 pub fn untried_branch(
     g: &Graph,
     ms: &Meters,

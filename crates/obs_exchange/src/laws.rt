@@ -37,8 +37,8 @@ pub fn least_tight()
         (m : ℕ) → In m M → (IsCriticalAt ends touches M m → ⊥) → J m ≡ true }
 {}
 
-/// Where a search from all sources ends with a closed set and nothing is frozen, the pairs are as many as they can be, and
-/// the closed set holds just the live meters that aren't critical.
+/// Where a search from all sources ends with a closed set and nothing is frozen, the pairs are as many as they can be,
+/// and the closed set holds just the live meters that aren't critical.
 pub fn closed_is_longest()
     ensures longest { (a : Assigned) (g : Shape) (touches : List Touch) (S : ℕ → Bool) →
         HasClosedSet a g touches S → IsThawed a →
@@ -48,8 +48,8 @@ pub fn closed_is_longest()
         (S m ≡ true) ↔ ((is_live g.ends touches m ≡ true) × (critical_at g.vertices g.ends touches m ≡ false)) }
 {}
 
-/// Then the bound of the closed set is the number of pairs, over the live meters and over those of each component, and no
-/// assignment has more pairs of meters of a component. `kind` is the component of a branch and `of` that of a meter.
+/// Then the bound of the closed set is the number of pairs, over the live meters and over those of each component, and
+/// no assignment has more pairs of meters of a component. `kind` is the component of a branch and `of` that of a meter.
 pub fn closed_is_tight()
     ensures whole { (a : Assigned) (g : Shape) (touches : List Touch) (S : ℕ → Bool) →
         HasClosedSet a g touches S → IsThawed a →
@@ -79,7 +79,8 @@ pub fn grown_adds_source()
     ensures adds { (a b : Assigned) (g : Shape) (touches : List Touch) (from : Sources) (m : ℕ) →
         IsWhole b → StandsOver b g touches → HasGrown g.ends touches from a b m →
         AddsSource g.ends touches from a (pairs b) }
-    ensures closed { (a b : Assigned) (g : Shape) (touches : List Touch) (from : Sources) (flags : List Bool) (answer : Found) →
+    ensures closed { (a b : Assigned) (g : Shape) (touches : List Touch) (from : Sources)
+        (flags : List Bool) (answer : Found) →
         IsWhole b → StandsOver b g touches → IsFound g.ends touches from a b flags answer →
         (answer ≡ Found.Closed) ↔ ((B : List Pair) → AddsSource g.ends touches from a B → ⊥) }
 {}

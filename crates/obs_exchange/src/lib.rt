@@ -35,6 +35,7 @@ mod queue;
 mod repeated;
 #[cfg(test)]
 mod tests;
+mod tops;
 mod visit;
 mod walk;
 mod work;

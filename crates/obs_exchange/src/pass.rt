@@ -5,10 +5,10 @@ ghost use Rattle.obs_exchange.specs.Searching.{first_of};
 use crate::{Found, Sources};
 use obs_assign::{Assignment, Move};
 
-/// Two meters at which a search goes on, as long as the pairs are those of so many turns and so many pairs. Pairs that are
-/// only added to make no branch free, and lead no path to a source from which none led. A meter before `next` had a pair or
-/// touched no free branch. The last path began at `searched`, and none at the sources that were searched from before it.
-/// Nothing rests on this: a source that is passed over here is searched from after the others.
+/// Two meters at which a search goes on, as long as the pairs are those of so many turns and so many pairs. Pairs that
+/// are only added to make no branch free, and lead no path to a source from which none led. A meter before `next` had a
+/// pair or touched no free branch. The last path began at `searched`, and none at the sources that were searched from
+/// before it. Nothing rests on this: a source that is passed over here is searched from after the others.
 #[derive(Clone, Copy, Debug, PartialEq, Eq)]
 pub(crate) struct Pass {
     next: u32,
@@ -71,8 +71,8 @@ pub(crate) fn first_searched(pass: Pass, from: Sources) -> u32
     }
 }
 
-/// The first meter that the search after this path tries for a free branch: the one that took one at once, or none where no
-/// source could.
+/// The first meter that the search after this path tries for a free branch: the one that took one at once, or none
+/// where no source could.
 pub(crate) fn next_tried(path: &[Move], meters: u32) -> u32 {
     if path.len() == 1 {
         path[0].meter

@@ -87,8 +87,10 @@ pub fn reach(
     requires x { x < length a.now.slots }
     requires touched { In by.branch (touch_at g.now.ends ms.now.touches by.meter) }
     requires needed { IsNeededOf g.now.ends a.now x by.branch }
-    requires visiting { IsVisiting g.now.ends ms.now.touches from a.now marks.old parents.old queue.old tail.old head walked.now by.meter }
-    ensures visiting { IsVisiting g.now.ends ms.now.touches from a.now marks.new parents.new queue.new tail.new head walked.now by.meter }
+    requires visiting { IsVisiting g.now.ends ms.now.touches from a.now
+        marks.old parents.old queue.old tail.old head walked.now by.meter }
+    ensures visiting { IsVisiting g.now.ends ms.now.touches from a.now
+        marks.new parents.new queue.new tail.new head walked.now by.meter }
     ensures reached { is_frozen a.now x ≡ false → has_flag marks.new x ≡ true }
     ensures keeps { Keeps marks.old marks.new }
 {

@@ -13,9 +13,9 @@ use obs_graph::Graph;
 use obs_meter::Meters;
 use std::sync::ledger::Ledger;
 
-/// Searches from all live meters without a pair, again and again, until there are `most` pairs or a search finds none more.
-/// In the second case `Work::reached` marks the least closed set, and the pairs are as many as they can be beside the frozen
-/// ones. `u32::MAX` asks for as many as there can be: no network has so many.
+/// Searches from all live meters without a pair, again and again, until there are `most` pairs or a search finds none
+/// more. In the second case `Work::reached` marks the least closed set, and the pairs are as many as they can be beside
+/// the frozen ones. `u32::MAX` asks for as many as there can be: no network has so many.
 pub fn lengthen<L: Ledger>(
     g: &Graph,
     ms: &Meters,
@@ -29,7 +29,9 @@ pub fn lengthen<L: Ledger>(
     requires room { HasRoomFor work.old.sizes g.now ms.now.touches }
     // What became of the pairs, and how it ended.
     ensures lengthened { HasLengthened a.old a.new result.searches }
-    ensures ended { MatchBool result.closed (HasClosed g.now.ends ms.now.touches All a.new a.new work.new.reached) (most ≤ length (pairs a.new)) }
+    ensures ended { MatchBool result.closed
+        (HasClosed g.now.ends ms.now.touches All a.new a.new work.new.reached)
+        (most ≤ length (pairs a.new)) }
     ensures short { result.closed ≡ true → length (pairs a.new) < most }
     ensures stands { StandsOver a.new g.now ms.now.touches }
     ensures whole { IsWhole a.new }

@@ -27,7 +27,7 @@ pub struct Work {
     stars: Vec<bool>,
     tried: Vec<u32>,
     path: Vec<Move>,
-    cycle: Vec<u32>,
+    tops: Vec<u32>,
     pass: Pass,
 }
 
@@ -40,13 +40,17 @@ impl Model for Work {
     ghost view = { λ w.
         record {
           reached = take w.meters w.reached.items;
-          sizes = record { meters = length w.reached.items; branches = length w.walked.items; vertices = length w.stars.items };
+          sizes = record {
+            meters = length w.reached.items;
+            branches = length w.walked.items;
+            vertices = length w.stars.items;
+          };
         } };
 
     ghost invariant = { λ w.
         (w.meters ≤ length w.reached.items) × (length w.parents.items ≡ length w.reached.items)
         × (length w.queue.items ≡ length w.reached.items) × (length w.path.items ≡ length w.reached.items)
-        × (length w.cycle.items ≡ length w.stars.items) × (length w.tried.items ≡ length w.stars.items) };
+        × (length w.tops.items ≡ length w.stars.items) × (length w.tried.items ≡ length w.stars.items) };
 }
 
 impl Work {
@@ -75,7 +79,7 @@ impl Work {
             stars: vec![in alloc; false; most_vertices as usize]?,
             tried: vec![in alloc; 0; most_vertices as usize]?,
             path: vec![in alloc; no_move; most_meters as usize]?,
-            cycle: vec![in alloc; 0; most_vertices as usize]?,
+            tops: vec![in alloc; 0; most_vertices as usize]?,
             pass: Pass::new(),
         })
     }
@@ -127,7 +131,7 @@ impl Work {
             &mut self.stars,
             &mut self.tried,
             &mut self.path,
-            &mut self.cycle,
+            &mut self.tops,
         );
         match start {
             Some(k) => {
