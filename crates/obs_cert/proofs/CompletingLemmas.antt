@@ -38,7 +38,7 @@ use Rattle.obs_cert.proofs.ScopeLemmas.{has_at, has_from}
 use Rattle.obs_cert.proofs.TruthLemmas.{bound_below, each_false, each_passes, laws, neither, none_true, pairs_assign, rank_within}
 
 -- a layer as the laws of layers speak of it
-abbrev bare : Layer → BareLayer
+abbrev pub bare : Layer → BareLayer
 bare l = record { from = l.from; to = l.to; rank = l.rank; outside = l.outside }
 
 run_on : (f : ℕ) (layers : List Layer) → runs_on f layers ≡ true → RunOn f (map bare layers)
@@ -50,7 +50,7 @@ run_on f (l ∷ layers) e =
     let below = ltb-true l.from l.to two.0 in
     (from, omega (arith, from, below), run_on l.to layers two.1)
 
-sum_is : (needed : ℕ) (layers : List Layer) → sum_by (shows needed) layers ≡ layers_sum needed (map bare layers)
+pub sum_is : (needed : ℕ) (layers : List Layer) → sum_by (shows needed) layers ≡ layers_sum needed (map bare layers)
 sum_is needed [] = refl
 sum_is needed (l ∷ layers) = sum_by-cons (shows needed) l layers ∙ ap (λ (k : ℕ). shows needed l + k) (sum_is needed layers)
 
@@ -60,7 +60,8 @@ with_list t before [] l i = absurd i
 with_list t before (x ∷ layers) l (inl e) = (record { layer = x; list = before ++ items_of t x.inside }, inl refl, e)
 with_list t before (x ∷ layers) l (inr i) = let w = with_list t (before ++ items_of t x.inside) layers l i in (w.0, inr w.1, w.2)
 
-same_sum : (f g : ℕ → ℕ) (xs : List ℕ) → ((x : ℕ) → In x xs → f x ≡ g x) → sum_by f xs ≡ sum_by g xs
+-- sums of what is the same for each
+pub same_sum : (f g : ℕ → ℕ) (xs : List ℕ) → ((x : ℕ) → In x xs → f x ≡ g x) → sum_by f xs ≡ sum_by g xs
 same_sum f g [] same = refl
 same_sum f g (x ∷ xs) same =
     let a = sum_by-cons f x xs in

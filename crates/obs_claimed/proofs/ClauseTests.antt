@@ -1,7 +1,6 @@
 -- Tests of claims that are false where what they test is true of each, and lists and what passes a test.
 use Rattle.std.proofs.Common.{◌≡◌, ℕ, ◌+◌, Bool, true, false, not, List, [], ◌∷◌, map, filter, refl, ap, inl, inr, arith}
-use Rattle.std.specs.List.{list_any, sum_by}
-use Rattle.std.proofs.lemmas.List.Sums.{sum_by-cons}
+use Rattle.std.specs.List.{list_any}
 use Rattle.obs_matroid.specs.Lists.{In, IsDistinct}
 use Rattle.obs_matroid.proofs.Lists.{In-filter, In-filter_from, In-map_from}
 use Rattle.obs_cert.specs.Flaws.{not_inside, twice}
@@ -25,16 +24,6 @@ once (x ∷ xs) d = rw (has_not xs x d.0) (once xs d.1)
 pub has-filter : (p : ℕ → Bool) (M : List ℕ) (m : ℕ) → In m M → has (filter p M) m ≡ p m
 has-filter p M m i =
     same_truth (has (filter p M) m) (p m) (λ t. (In-filter_from p m M (has_from (filter p M) m t)).1) (λ t. has_at (filter p M) m (In-filter p m M i t))
-
--- sums of what is the same for each
-pub same_sum : (f g : ℕ → ℕ) (xs : List ℕ) → ((x : ℕ) → In x xs → f x ≡ g x) → sum_by f xs ≡ sum_by g xs
-same_sum f g [] same = refl
-same_sum f g (x ∷ xs) same =
-    let a = sum_by-cons f x xs in
-    let b = sum_by-cons g x xs in
-    let here = same x (inl refl) in
-    let later = same_sum f g xs (λ y i. same y (inr i)) in
-    omega (arith, a, b, here, later)
 
 -- numbers moved up are as different as before
 pub distinct-moved : (k : ℕ) (xs : List ℕ) → IsDistinct xs → IsDistinct (map (λ x. k + x) xs)

@@ -1,21 +1,21 @@
 -- The shortfall of a case is a claim that holds.
-use Rattle.std.proofs.Common.{◌≡◌, ℕ, ◌+◌, ◌<◌, Bool, true, false, not, cond, nat_lt, List, length, filter, refl, sym, ap, ◌∙◌, subst}
+use Rattle.std.proofs.Common.{◌≡◌, ℕ, ◌+◌, ◌<◌, Bool, true, false, not, List, length, filter, refl, sym, ap, subst}
 use Rattle.std.proofs.lemmas.Bool.{eq-eqb, lt-ltb}
 use Rattle.obs_case.specs.Tables.{IsValid, Tables}
 use Rattle.obs_matroid.specs.Lists.{In, IsDistinct}
 use Rattle.obs_matroid.proofs.Lists.{In-filter_from, IsDistinct-filter, filter_same}
 use Rattle.obs_meter.specs.Touches.{live_items}
-use Rattle.obs_meter.specs.Assignments.{rho_at}
 use Rattle.obs_meter.proofs.Assigned.{live_items-distinct}
 use Rattle.obs_exchange.specs.Laws.{noncritical_in}
 use Rattle.obs_exchange.proofs.AtGraph.{live-from_live_items}
-use Rattle.obs_placement.specs.Placed.{Lacking, Planned, lack_of, loose_items, plan_of}
-use Rattle.obs_placement.specs.Placed.Placed.{cheapest, shortfall as short_of}
+use Rattle.obs_placement.specs.Placed.{Lacking, lack_of, loose_items}
+use Rattle.obs_placement.specs.Placed.Placed.{shortfall as short_of}
 use Rattle.obs_placement.proofs.Going.{live_low}
 use Rattle.obs_network.specs.Network.{case_branches, case_needed, case_offered}
 use Rattle.obs_network.specs.Switched.{case_bus_count}
-use Rattle.obs_edit.specs.Planned.{case_placement, prices_of}
+use Rattle.obs_edit.specs.Planned.{case_placement}
 use Rattle.obs_edit.proofs.CheapestPlans.{shortfalls_refute}
+use Rattle.obs_edit.proofs.PlanOrShortfall.{lack_is}
 use Rattle.obs_cert.specs.Claims.{shortfall}
 use Rattle.obs_cert.specs.Flaws.{Holds, not_inside, outside_of, rank_of_items, twice, unknown_item}
 use Rattle.obs_cert.specs.Numbered.{items_of}
@@ -24,43 +24,6 @@ use Rattle.obs_claimed.specs.Claimed.{lack_claim, named_items}
 use Rattle.obs_claimed.proofs.ClauseTests.{all_inside_scope, has-filter, once}
 
 module _ (t : Tables) where
-  -- the greatest length of all that is offered
-  most : ℕ
-  most = rho_at (case_bus_count t) (case_branches t) (case_offered t) (live_items (case_branches t) (case_offered t))
-
-  -- the placement is the plan or the shortfall
-  plan : Planned
-  plan = plan_of (case_bus_count t) (case_branches t) (case_offered t) (length t.meters) (prices_of t.candidates)
-
-  lack : Lacking
-  lack = lack_of (case_bus_count t) (case_branches t) (case_offered t) (case_needed t)
-
-  which : case_placement t ≡ cond (nat_lt most (case_needed t)) (short_of lack) (cheapest plan)
-  unfolding most plan lack
-  which = refl
-
-  lacking : (l : Lacking) → case_placement t ≡ short_of l → lack ≡ l
-  lacking l e = by (nat_lt most (case_needed t)) (sym which ∙ e)
-    where
-      by : (b : Bool) → cond b (short_of lack) (cheapest plan) ≡ short_of l → lack ≡ l
-      by true e = cc e
-      by false e = absurd (cc e)
-
-  pub lack_is : (l : Lacking) → case_placement t ≡ short_of l → lack_of (case_bus_count t) (case_branches t) (case_offered t) (case_needed t) ≡ l
-  unfolding lack
-  lack_is l e = lacking l e
-
-  planned : (p : Planned) → case_placement t ≡ cheapest p → plan ≡ p
-  planned p e = by (nat_lt most (case_needed t)) (sym which ∙ e)
-    where
-      by : (b : Bool) → cond b (short_of lack) (cheapest plan) ≡ cheapest p → plan ≡ p
-      by true e = absurd (cc e)
-      by false e = cc e
-
-  pub plan_is : (p : Planned) → case_placement t ≡ cheapest p → plan_of (case_bus_count t) (case_branches t) (case_offered t) (length t.meters) (prices_of t.candidates) ≡ p
-  unfolding plan
-  plan_is p e = planned p e
-
   abbrev loose : List ℕ
   loose = loose_items (case_bus_count t) (case_branches t) (case_offered t)
 

@@ -1,12 +1,11 @@
 -- The layers of a plan have no false clause: their lists, ranks and numbers outside are those of what isn't critical below their ends.
 use Rattle.std.proofs.Common.{◌≡◌, ◌↔◌, ℕ, ◌+◌, ◌<◌, ◌≤◌, ◌||◌, ◌&&◌, Bool, true, false, not, nat_lt, List, [], ◌∷◌, ◌++◌, length, map, filter, refl, sym, ap, ◌∙◌, subst, inl, inr, arith}
-use Rattle.std.specs.List.{flat_map, list_any, sum_by}
+use Rattle.std.specs.List.{flat_map, list_any}
 use Rattle.std.proofs.lemmas.Bool.{and_from, and_parts, cases_Bool, eq-eqb, lt-ltb, ltb-true}
-use Rattle.std.proofs.lemmas.List.Sums.{sum_by-cons}
 use Rattle.obs_case.specs.Tables.{IsValid, Tables}
 use Rattle.obs_matroid.specs.Lists.{In, IsDistinct}
 use Rattle.obs_matroid.specs.Matroid.{Matroid}
-use Rattle.obs_matroid.specs.Placement.{Layer as BareLayer, RunOn, layers_sum}
+use Rattle.obs_matroid.specs.Placement.{Layer as BareLayer, RunOn}
 use Rattle.obs_matroid.proofs.Lists.{In-append_cases, In-append_left, In-append_right, In-filter, In-filter_from, In-flat_map, In-flat_map_from, In-map, IsDistinct-append, IsDistinct-filter, clash, length-within}
 use Rattle.obs_matroid.proofs.Ranks.{rank-within}
 use Rattle.obs_meter.specs.Spanned.{graph_matroid}
@@ -25,12 +24,13 @@ use Rattle.obs_network.specs.Switched.{case_bus_count}
 use Rattle.obs_network.proofs.OfCase.{case_branches-are, length-case_offered}
 use Rattle.obs_edit.specs.Planned.{prices_of}
 use Rattle.obs_cert.specs.Claims.{Item, Layer}
-use Rattle.obs_cert.specs.Flaws.{Listed, all_inside, listed_from, listed_layers, not_below, not_inside, outside_of, rank_of_items, runs_on, shows, wrong_outside, wrong_rank}
+use Rattle.obs_cert.specs.Flaws.{Listed, all_inside, listed_from, listed_layers, not_below, not_inside, outside_of, rank_of_items, runs_on, wrong_outside, wrong_rank}
 use Rattle.obs_cert.specs.Numbered.{items_of}
 use Rattle.obs_cert.specs.Scopes.{has, is_below, is_live_item, is_meter, price_at, scope_of, touches_of}
 use Rattle.obs_cert.proofs.OutsideLemmas.{scope_distinct}
 use Rattle.obs_cert.proofs.ScopeLemmas.{has_at, has_from, same_truth}
 use Rattle.obs_cert.proofs.TruthLemmas.{laws}
+use Rattle.obs_cert.proofs.CompletingLemmas.{bare}
 use Rattle.obs_claimed.specs.Claimed.{named_item, named_items, named_layers}
 use Rattle.obs_claimed.proofs.ClauseTests.{all_inside_scope, any_false}
 use Rattle.obs_claimed.proofs.Layered.{added, added_low, added_own, below_same, inside_from, layer_claim, layer_claims, own, own_below, own_low, price}
@@ -162,10 +162,6 @@ module _ (t : Tables) (v : IsValid t) where
       named_append [] ys = refl
       named_append (x ∷ xs) ys = ap (λ (zs : List Item). named_item t x ∷ zs) (named_append xs ys)
 
--- a layer that is claimed, as the laws of layers speak of it
-abbrev pub bare : Layer → BareLayer
-bare l = record { from = l.from; to = l.to; rank = l.rank; outside = l.outside }
-
 pub bare_same : (t : Tables) (inside : List ℕ) (u : ℕ) (layers : List PlacedLayer) → map bare (named_layers t inside u layers) ≡ map bare_layer layers
 bare_same t inside u [] = refl
 bare_same t inside u (l ∷ layers) = ap (λ (ls : List BareLayer). bare_layer l ∷ ls) (bare_same t inside l.upto layers)
@@ -179,7 +175,3 @@ run_from f (l ∷ layers) r =
     let from = r.0 in
     let above = r.1 in
     rw (eq-eqb l.from f from, lt-ltb l.from l.to (omega (arith, from, above))) (run_from l.to layers r.2)
-
-pub sum_same : (needed : ℕ) (layers : List Layer) → sum_by (shows needed) layers ≡ layers_sum needed (map bare layers)
-sum_same needed [] = refl
-sum_same needed (l ∷ layers) = sum_by-cons (shows needed) l layers ∙ ap (λ (k : ℕ). shows needed l + k) (sum_same needed layers)

@@ -28,15 +28,17 @@ use Rattle.obs_network.proofs.OfCase.{length-case_offered}
 use Rattle.obs_edit.specs.Placements.{CompletesCase, price_together}
 use Rattle.obs_edit.specs.Planned.{case_placed_pairs, case_placement, planned_items, prices_of}
 use Rattle.obs_edit.proofs.CheapestPlans.{layers_add_up, layers_are_bounds, plans_complete, plans_have_first_pairs}
+use Rattle.obs_edit.proofs.PlanOrShortfall.{plan_is}
 use Rattle.obs_cert.specs.Claims.{CostClaim, Item, Layer, cost}
 use Rattle.obs_cert.specs.Flaws.{Holds, Listed, all_inside, cycle, listed_layers, not_below, not_inside, not_touched, outside_of_plan, runs_on, shows, twice, twice_in_plan, unknown_in_plan, unknown_item, unknown_pair, wrong_cost, wrong_length, wrong_outside, wrong_rank}
 use Rattle.obs_cert.specs.Numbered.{chosen_items, items_of, paired_items, pairs_of}
 use Rattle.obs_cert.specs.Scopes.{has, is_below, is_of_plan, price_at}
+use Rattle.obs_cert.proofs.CompletingLemmas.{bare, same_sum, sum_is}
 use Rattle.obs_claimed.specs.Claimed.{named_items, named_layers, placement_claim, plan_claim}
 use Rattle.obs_claimed.specs.Laws.{PlacementsHold}
-use Rattle.obs_claimed.proofs.ClauseTests.{distinct-moved, once, same_sum}
-use Rattle.obs_claimed.proofs.Lacks.{lack_holds, plan_is}
-use Rattle.obs_claimed.proofs.LayerClaims.{are_below, bare, bare_same, inside_distinct, layers_counted, layers_inside, layers_ranked, listed_all, run_from, sum_same}
+use Rattle.obs_claimed.proofs.ClauseTests.{distinct-moved, once}
+use Rattle.obs_claimed.proofs.Lacks.{lack_holds}
+use Rattle.obs_claimed.proofs.LayerClaims.{are_below, bare_same, inside_distinct, layers_counted, layers_inside, layers_ranked, listed_all, run_from}
 use Rattle.obs_claimed.proofs.Layered.{are_claimed, inside_low, layer_claims}
 use Rattle.obs_claimed.proofs.NamedLemmas.{AreWithin, chosen_known, chosen_named, items_named, none_unknown, paired_named, pairs_known, pairs_named}
 use Rattle.obs_claimed.proofs.PlanPairs.{as_needed, branch_low, branches_once, items_once, no_cycle, paired_inside, paired_live, touched_pairs}
@@ -189,7 +191,7 @@ module _ (t : Tables) (v : IsValid t) where
               none_of (not (sum_by (price_at t) (items_of t (chosen_items claim.chosen)) == claim.number)) (not (sum_by (shows (case_needed t)) claim.layers == claim.number))
               (ap not (eq-eqb (sum_by (price_at t) (items_of t (chosen_items claim.chosen))) claim.number (ap (sum_by (price_at t)) chosen_are ∙ cost_same ∙ sym cost_is)))
               (ap not (eq-eqb (sum_by (shows (case_needed t)) claim.layers) claim.number
-              (sum_same (case_needed t) claim.layers ∙ ap (layers_sum (case_needed t)) layers_bare ∙ layers_add_up t whole v is)));
+              (sum_is (case_needed t) claim.layers ∙ ap (layers_sum (case_needed t)) layers_bare ∙ layers_add_up t whole v is)));
         }
 
   pub plan_holds : (p : Planned) → case_placement t ≡ cheapest p → Holds t (cost (plan_claim t p (case_placed_pairs t)))

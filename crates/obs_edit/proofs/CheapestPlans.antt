@@ -1,5 +1,5 @@
 -- The placement of a case is a cheapest one, or shows that there is none.
-use Rattle.std.proofs.Common.{◌≡◌, ◌∙◌, ℕ, ◌+◌, ◌≤◌, ◌<◌, ap, refl, sym, subst, Bool, true, false, List, length, map, filter, not, cond, ◌++◌, arith}
+use Rattle.std.proofs.Common.{◌≡◌, ◌∙◌, ℕ, ◌+◌, ◌≤◌, ◌<◌, ap, sym, subst, true, false, List, length, map, filter, not, ◌++◌, arith}
 use Rattle.std.specs.Prelude.{nat_lt}
 use Rattle.std.proofs.lemmas.Bool.Decides.{nat_tests}
 use Rattle.std.proofs.lemmas.List.{length-map}
@@ -13,8 +13,8 @@ use Rattle.obs_meter.specs.Assignments.{IsRhoAt, rho_at}
 use Rattle.obs_meter.specs.Touches.{is_live, live_items}
 use Rattle.obs_meter.proofs.Assigned.{live_items-distinct, rho_at-is}
 use Rattle.obs_placement.specs.Laws.{DoAsMuch, answer_at, live_meters}
-use Rattle.obs_placement.specs.Placed.{Lacking, Planned, lack_of, plan_of}
-use Rattle.obs_placement.specs.Placed.Placed.{cheapest, shortfall}
+use Rattle.obs_placement.specs.Placed.{Lacking, Planned}
+use Rattle.obs_placement.specs.Placed.Placed.{cheapest}
 use Rattle.obs_placement.specs.Shown.{bare_layer}
 use Rattle.obs_placement.proofs.Costed.{layers_are_shown, layers_show_the_cost}
 use Rattle.obs_placement.proofs.Lawful.{chosen_enough}
@@ -26,13 +26,10 @@ use Rattle.obs_network.proofs.Observed.{most_pairs}
 use Rattle.obs_network.proofs.OfCase.{case_branches-are, length-case_offered}
 use Rattle.obs_edit.proofs.PlanFirst.{plan_pairs_first}
 use Rattle.obs_edit.specs.Placements.{CompletesCase, IsBoundOf, LayersAddUp, LayersAreBounds, LayersBoundCosts, PlansAreCheapest, PlansComplete, PlansHaveFirstPairs, ShortfallsRefute, chosen_items, price_together}
-use Rattle.obs_edit.specs.Planned.{case_placement, prices_of}
+use Rattle.obs_edit.specs.Planned.{prices_of}
+use Rattle.obs_edit.proofs.PlanOrShortfall.{lack, lacking, most, plan, planned}
 
 module _ (t : Tables) (v : IsValid t) where
-  -- the greatest length of all that is offered
-  most : ℕ
-  most = rho_at (case_bus_count t) (case_branches t) (case_offered t) (live_items (case_branches t) (case_offered t))
-
   ok : AreBranches (case_bus_count t) (case_branches t)
   ok = case_branches-are t v
 
@@ -40,7 +37,7 @@ module _ (t : Tables) (v : IsValid t) where
   size = length-case_offered t ∙ ap (λ (k : ℕ). length t.meters + k) (sym (length-map t.candidates (λ (row : Candidate). row.price)))
 
   -- where it isn't below the needed number, it is that number
-  reaches : nat_lt most (case_needed t) ≡ false → IsRhoAt (case_branches t) (case_offered t) (live_items (case_branches t) (case_offered t)) (case_needed t)
+  reaches : nat_lt (most t) (case_needed t) ≡ false → IsRhoAt (case_branches t) (case_offered t) (live_items (case_branches t) (case_offered t)) (case_needed t)
   unfolding most
   reaches enough =
       let live = live_items (case_branches t) (case_offered t) in
@@ -52,31 +49,6 @@ module _ (t : Tables) (v : IsValid t) where
     where
       not_below : (a b : ℕ) → nat_lt a b ≡ false → b ≤ a
       not_below a b e = grind (arith, nat_tests)
-
-  -- the placement is the plan or the shortfall
-  plan : Planned
-  plan = plan_of (case_bus_count t) (case_branches t) (case_offered t) (length t.meters) (prices_of t.candidates)
-
-  lack : Lacking
-  lack = lack_of (case_bus_count t) (case_branches t) (case_offered t) (case_needed t)
-
-  which : case_placement t ≡ cond (nat_lt most (case_needed t)) (shortfall lack) (cheapest plan)
-  unfolding most plan lack
-  which = refl
-
-  planned : (p : Planned) → case_placement t ≡ cheapest p → (nat_lt most (case_needed t) ≡ false) × (plan ≡ p)
-  planned p e = by (nat_lt most (case_needed t)) (sym which ∙ e)
-    where
-      by : (b : Bool) → cond b (shortfall lack) (cheapest plan) ≡ cheapest p → (b ≡ false) × (plan ≡ p)
-      by true e = absurd (cc e)
-      by false e = (refl, cc e)
-
-  lacking : (b : Lacking) → case_placement t ≡ shortfall b → (nat_lt most (case_needed t) ≡ true) × (lack ≡ b)
-  lacking l e = by (nat_lt most (case_needed t)) (sym which ∙ e)
-    where
-      by : (b : Bool) → cond b (shortfall lack) (cheapest plan) ≡ shortfall l → (b ≡ true) × (lack ≡ l)
-      by true e = (refl, cc e)
-      by false e = absurd (cc e)
 
 -- what does as much as all completes
 completes : (t : Tables) (X : List ℕ) → DoAsMuch (case_branches t) (case_offered t) (length t.meters) (case_needed t) X → CompletesCase t X
@@ -101,31 +73,31 @@ plans_complete t p v e =
     let touches = case_offered t in
     let m = length t.meters in
     let prices = prices_of t.candidates in
-    let is = planned t v p e in
-    let at : map (λ k. m + k) (plan t v).chosen ≡ answer_at n ends touches m prices = positions_are n ends touches m prices (size t v) in
+    let is = planned t p e in
+    let at : map (λ k. m + k) (plan t).chosen ≡ answer_at n ends touches m prices = positions_are n ends touches m prices (size t v) in
     let does = chosen_enough n ends touches m (case_needed t) prices (ok t v) (reaches t v is.0) in
-    let cost : (plan t v).cost ≡ price_together t (chosen_items t (plan t v)) = cost_is n ends touches m prices (size t v) ∙ ap (λ (X : List ℕ). price_together t X) (sym at) in
+    let cost : (plan t).cost ≡ price_together t (chosen_items t (plan t)) = cost_is n ends touches m prices (size t v) ∙ ap (λ (X : List ℕ). price_together t X) (sym at) in
     subst (λ (q : Planned). CompletesCase t (chosen_items t q) × (q.cost ≡ price_together t (chosen_items t q))) is.1
     (subst (λ (X : List ℕ). CompletesCase t X) (sym at) (completes t (answer_at n ends touches m prices) does), cost)
 
 pub plans_are_cheapest : PlansAreCheapest
 unfolding plan
 plans_are_cheapest t p X v e c =
-    let is = planned t v p e in
+    let is = planned t p e in
     subst (λ (q : Planned). q.cost ≤ price_together t X) is.1
     (none_for_less (case_bus_count t) (case_branches t) (case_offered t) (length t.meters) (case_needed t) (prices_of t.candidates) X (ok t v) (size t v) (reaches t v is.0) c)
 
 pub layers_add_up : LayersAddUp
 unfolding plan
 layers_add_up t p v e =
-    let is = planned t v p e in
+    let is = planned t p e in
     subst (λ (q : Planned). layers_sum (case_needed t) (map bare_layer q.layers) ≡ q.cost) is.1
     (layers_show_the_cost (case_bus_count t) (case_branches t) (case_offered t) (length t.meters) (case_needed t) (prices_of t.candidates) (ok t v) (size t v) (reaches t v is.0))
 
 pub layers_are_bounds : LayersAreBounds
 unfolding plan
 layers_are_bounds t p v e =
-    let is = planned t v p e in
+    let is = planned t p e in
     subst (λ (q : Planned). RunOn 0 (map bare_layer q.layers) × ((l : Layer) → In l (map bare_layer q.layers) → IsBoundOf t l × (l.rank + l.outside < case_needed t))) is.1
     (layers_are_shown (case_bus_count t) (case_branches t) (case_offered t) (length t.meters) (case_needed t) (prices_of t.candidates) (ok t v) (size t v) (reaches t v is.0))
 
@@ -143,9 +115,9 @@ shortfalls_refute t l v e =
     let n = case_bus_count t in
     let ends = case_branches t in
     let touches = case_offered t in
-    let is = lacking t v l e in
+    let is = lacking t l e in
     let sum = bound_reached n ends touches (case_needed t) (ok t v) in
-    let low : (lack t v).rank + (lack t v).outside < case_needed t = omega (arith, sum, below _ _ is.0) in
+    let low : (lack t).rank + (lack t).outside < case_needed t = omega (arith, sum, below _ _ is.0) in
     subst (λ (b : Lacking). (b.rank + b.outside < case_needed t) × ((X : List ℕ) → CompletesCase t X → ⊥)) is.1
     (low, λ X c. bound_refutes n ends touches (length t.meters) (case_needed t) X (ok t v) low c)
   where

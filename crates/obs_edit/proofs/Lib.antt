@@ -8,6 +8,7 @@ pub mod Offered
 pub mod Plans
 pub mod Tight
 pub mod Answered
+pub mod PlanOrShortfall
 pub mod CheapestPlans
 pub mod FirstParts
 pub mod FirstTrees
