@@ -4,14 +4,14 @@ use Rattle.std.specs.Prelude.{nat_lt}
 use Rattle.std.proofs.lemmas.Bool.{cases_Bool, cases_eq, cases_lt, lt-ltb, ne_eqb}
 use Rattle.std.proofs.lemmas.List.{get_or_past, get_or-replicate, get_or_default, length-replicate, length-set, take_more}
 use Rattle.obs_graph.specs.declared.Ends.{Ends}
-use Rattle.obs_graph.specs.Search.{IsPart}
+use Rattle.obs_graph.specs.Search.{IsPart, State}
 use Rattle.obs_graph.specs.Shape.{Shape}
 use Rattle.obs_graph.proofs.Present.{none_some}
 use Rattle.obs_matroid.specs.Lists.{In}
 use Rattle.obs_matroid.proofs.Lists.{In-append_cases}
 use Rattle.obs_meter.specs.declared.Touch.{Touch}
 use Rattle.obs_meter.specs.Touches.{touch_at}
-use Rattle.obs_placement.specs.Holding.{AreOfKnown, JoinEnds}
+use Rattle.obs_placement.specs.Holding.{AreOfKnown, IsJoinedByKnown, JoinEnds}
 use Rattle.obs_placement.specs.Taking.{AreAdded, is_known, never, since_after, since_at}
 
 -- no branch is held
@@ -68,6 +68,15 @@ AreOfKnown-more g touches p before after held low added h = record {
       | inl e ↦ subst (λ (s : ℕ). nat_lt s never ≡ true) (sym e) k
       | inr e ↦ lt-ltb (since_at after m) never (let u = e.1 in omega (arith, u, low))
     ]
+
+-- and what their branches joined is still what those of known items join
+pub IsJoinedByKnown-more : (g : Shape) (touches : List Touch) (p : ℕ) (before after : List ℕ) (joined : State) → p < never → AreAdded p before after
+    → IsJoinedByKnown g touches before joined → IsJoinedByKnown g touches after joined
+IsJoinedByKnown-more g touches p before after joined low added j = record {
+  held = j.held;
+  known = AreOfKnown-more g touches p before after j.held low added j.known;
+  rooted = j.rooted;
+}
 
 -- of the items that a mark is for, some are known from its price on
 pub AreAdded-marked : (reached : ℕ → Bool) (p : ℕ) (before after : List ℕ) → ((m : ℕ) → since_at after m ≡ since_after (reached m) p (since_at before m)) → AreAdded p before after

@@ -1,9 +1,9 @@
--- The held branches, which items touch that are known not to be critical, and what they join.
+-- Branches that items touch which are known not to be critical, and what they join.
 use Rattle.std.specs.Prelude.{◌≡◌, ℕ, true, Option, Some, None, IfSome, List, length, slice_index_or}
 use Rattle.obs_graph.specs.declared.Ends.{Ends}
 use Rattle.obs_graph.specs.Joined.{first_joined}
 use Rattle.obs_graph.specs.Positions.{present}
-use Rattle.obs_graph.specs.Search.{IsPart}
+use Rattle.obs_graph.specs.Search.{IsPart, IsRooted, State}
 use Rattle.obs_graph.specs.Shape.{Shape}
 use Rattle.obs_matroid.specs.Lists.{In}
 use Rattle.obs_meter.specs.declared.Touch.{Touch}
@@ -23,3 +23,9 @@ JoinEnds held ends p = IfSome (slice_index_or ends p None) (λ e. first_joined (
 -- they join the ends of each branch that the item m touches
 abbrev pub JoinTouched : List (Option Ends) → List (Option Ends) → List Touch → ℕ → Type 0
 JoinTouched held ends touches m = (p : ℕ) → In p (touch_at ends touches m) → JoinEnds held ends p
+
+-- what was found to be joined is what some branches join that known items touch
+pub record IsJoinedByKnown (g : Shape) (touches : List Touch) (since : List ℕ) (joined : State) : Type 0 where
+  pub held : List (Option Ends)
+  pub known : AreOfKnown g touches since held
+  pub rooted : IsRooted g.vertices held joined

@@ -1,16 +1,19 @@
-// The held branches are touched by items that are known not to be critical. An item raises nothing where they join the
-// ends of each branch that it touches.
-ghost use Rattle.std.specs.Prelude.{◌≡◌, ◌<◌, ◌≤◌, ℕ, IsTrue, None, length, replicate, true};
+// The held branches are touched by items that are known not to be critical. An item raises nothing where some of them join
+// the ends of each branch that it touches.
+ghost use Rattle.std.specs.Prelude.{◌≡◌, ◌<◌, ◌≤◌, ℕ, IsTrue, List, None, Option, length, replicate, true};
 ghost use Rattle.obs_graph.specs.Search.{IsRooted, room_of};
 ghost use Rattle.obs_meter.specs.Touches.{AreInRange};
 ghost use Rattle.obs_assign.specs.Assigned.{has_flag};
-ghost use Rattle.obs_placement.specs.Holding.{AreOfKnown, JoinEnds, JoinTouched};
+ghost use Rattle.obs_placement.specs.Holding.{AreOfKnown, IsJoinedByKnown, JoinEnds, JoinTouched};
 ghost use Rattle.obs_placement.specs.Taking.{is_known, never, since_after, since_at};
 
 use crate::taking::NEVER;
 use obs_graph::search::{Search, reach_all};
 use obs_graph::{Ends, Graph};
 use obs_meter::Meters;
+
+/// For how many items at once it is found anew what their branches join, which passes over all vertices and branches.
+const MANY: usize = 64;
 
 /// Lets go of all held branches.
 fn let_go(held: &mut [Option<Ends>])
@@ -32,35 +35,30 @@ pub fn hold_none(g: &Graph, held: &mut [Option<Ends>], joined: &mut Search)
     reach_all(g, held, joined);
 }
 
-/// Whether the held branches join the ends of this branch.
-fn join_ends(g: &Graph, e: u32, held: &[Option<Ends>], joined: &Search) -> bool
+/// Whether the ends of this branch are joined.
+fn join_ends(g: &Graph, e: u32, joined: &Search) -> bool
     requires e { e < length g.now.ends }
-    requires rooted { IsRooted g.now.vertices held.now joined.now }
-    ensures joined { IsTrue result → JoinEnds held.now g.now.ends e }
+    requires room { g.now.vertices ≤ room_of joined.now }
+    ensures joined { IsTrue result → (held : List (Option Ends)) → IsRooted g.now.vertices held joined.now
+        → JoinEnds held g.now.ends e }
 {
-    let _ = held;
     match g.ends(e) {
         Some(ends) => joined.piece_of(ends.a) == joined.piece_of(ends.b),
         None => true,
     }
 }
 
-/// Whether they join the ends of each branch that the item touches.
-pub fn join_touched(
-    g: &Graph,
-    offered: &Meters,
-    m: u32,
-    held: &[Option<Ends>],
-    joined: &Search,
-) -> bool
+/// Whether the ends of each branch are joined that the item touches.
+pub fn join_touched(g: &Graph, offered: &Meters, m: u32, joined: &Search) -> bool
     requires in_range { AreInRange g.now offered.now.touches }
     requires m { m < length offered.now.touches }
-    requires rooted { IsRooted g.now.vertices held.now joined.now }
-    ensures joined { IsTrue result → JoinTouched held.now g.now.ends offered.now.touches m }
+    requires room { g.now.vertices ≤ room_of joined.now }
+    ensures joined { IsTrue result → (held : List (Option Ends)) → IsRooted g.now.vertices held joined.now
+        → JoinTouched held g.now.ends offered.now.touches m }
 {
     let touched = offered.touch(g, m);
     for e in touched {
-        if !join_ends(g, *e, held, joined) {
+        if !join_ends(g, *e, joined) {
             return false;
         }
     }
@@ -82,9 +80,41 @@ fn hold_touched(g: &Graph, offered: &Meters, m: u32, since: &[u64], held: &mut [
     }
 }
 
-/// Keeps the price for the reached items that have none yet,
-/// holds the branches that these touch too, and finds anew what is joined.
-pub fn mark_and_hold(
+/// Keeps the price for the reached items that have none yet, and holds the branches that these touch too. Says how many
+/// they are.
+fn hold_reached(
+    g: &Graph,
+    offered: &Meters,
+    reached: &[bool],
+    price: u64,
+    since: &mut [u64],
+    held: &mut [Option<Ends>],
+) -> usize
+    requires in_range { AreInRange g.now offered.now.touches }
+    requires count { length reached.now ≡ length since.old }
+    requires items { length since.old ≡ length offered.now.touches }
+    requires price { price < never }
+    requires known { AreOfKnown g.now offered.now.touches since.old held.old }
+    ensures count { length since.new ≡ length since.old }
+    ensures marked { (m : ℕ) → since_at since.new m
+        ≡ since_after (has_flag reached.now m) price (since_at since.old m) }
+    ensures known { AreOfKnown g.now offered.now.touches since.new held.new }
+    ensures bound { result ≤ length offered.now.touches }
+{
+    let mut fresh = 0;
+    for m in 0..offered.count() {
+        if reached[m as usize] && since[m as usize] == NEVER {
+            since[m as usize] = price;
+            hold_touched(g, offered, m, since, held);
+            fresh += 1;
+        }
+    }
+    fresh
+}
+
+/// Keeps the price for the reached items that have none yet, and holds the branches that these touch too. Finds anew what
+/// is joined where many such items wait for it.
+pub fn keep(
     g: &Graph,
     offered: &Meters,
     reached: &[bool],
@@ -92,26 +122,29 @@ pub fn mark_and_hold(
     since: &mut [u64],
     held: &mut [Option<Ends>],
     joined: &mut Search,
+    waiting: &mut usize,
 )
     requires in_range { AreInRange g.now offered.now.touches }
     requires count { length reached.now ≡ length since.old }
     requires items { length since.old ≡ length offered.now.touches }
     requires price { price < never }
-    requires room { g.now.vertices ≤ room_of joined.old }
     requires known { AreOfKnown g.now offered.now.touches since.old held.old }
+    requires joined { IsJoinedByKnown g.now offered.now.touches since.old joined.old }
     ensures count { length since.new ≡ length since.old }
     ensures marked { (m : ℕ) → since_at since.new m
         ≡ since_after (has_flag reached.now m) price (since_at since.old m) }
     ensures known { AreOfKnown g.now offered.now.touches since.new held.new }
-    ensures rooted { IsRooted g.now.vertices held.new joined.new }
-    ensures room { room_of joined.new ≡ room_of joined.old }
+    ensures joined { IsJoinedByKnown g.now offered.now.touches since.new joined.new }
+    ensures same_joined { room_of joined.new ≡ room_of joined.old }
 {
     let _ = g.vertices();
-    for m in 0..offered.count() {
-        if reached[m as usize] && since[m as usize] == NEVER {
-            since[m as usize] = price;
-            hold_touched(g, offered, m, since, held);
-        }
+    let _ = offered.count();
+    let fresh = hold_reached(g, offered, reached, price, since, held);
+    let before = if *waiting < MANY { *waiting } else { MANY };
+    *waiting = before + fresh;
+    if *waiting < MANY {
+        return;
     }
     reach_all(g, held, joined);
+    *waiting = 0;
 }

@@ -1,16 +1,16 @@
 // Items are taken one after the other: each that raises the greatest length gets a pair, and of each other one it is
 // kept which items aren't critical from its price on.
 ghost use Rattle.std.specs.Prelude.{◌≡◌, ◌<◌, ◌≤◌, ◌∷◌, ℕ, false, true, length};
-ghost use Rattle.obs_graph.specs.Search.{IsRooted, room_of};
+ghost use Rattle.obs_graph.specs.Search.{room_of};
 ghost use Rattle.obs_meter.specs.Sizes.{HasRoomFor};
 ghost use Rattle.obs_meter.specs.Touches.{AreInRange, is_live};
-ghost use Rattle.obs_assign.specs.Assigned.{HasRoomOf, has_flag, pairs};
+ghost use Rattle.obs_assign.specs.Assigned.{HasRoomOf, pairs};
 ghost use Rattle.obs_placement.specs.Answer.{earlier_items, is_chosen};
-ghost use Rattle.obs_placement.specs.Holding.{AreOfKnown};
+ghost use Rattle.obs_placement.specs.Holding.{AreOfKnown, IsJoinedByKnown};
 ghost use Rattle.obs_placement.specs.Order.{IsOrder, price_of};
-ghost use Rattle.obs_placement.specs.Taking.{AreAdded, AreHeld, AreTaken, IsStanding, IsTakenAt, IsUnderWay, never, since_after, since_at};
+ghost use Rattle.obs_placement.specs.Taking.{AreAdded, AreHeld, AreTaken, IsStanding, IsTakenAt, IsUnderWay, never, since_at};
 
-use crate::holding::{join_touched, mark_and_hold};
+use crate::holding::{join_touched, keep};
 use obs_assign::{Assignment, Steps};
 use obs_exchange::{Found, Sources, Work, search};
 use obs_graph::search::Search;
@@ -20,66 +20,6 @@ use std::sync::ledger::Ledger;
 
 /// The price of an item that wasn't found not to be critical: above all prices.
 pub const NEVER: u64 = 18446744073709551615;
-
-/// From how many reached items on their branches are held. To find anew what is joined passes over all branches, which
-/// pays where the search passed over many too.
-const LARGE: usize = 64;
-
-/// Whether a search reached many items.
-fn is_large(reached: &[bool]) -> bool {
-    let mut count = 0;
-    for m in 0..reached.len() {
-        if reached[m] {
-            count += 1;
-        }
-    }
-    count >= LARGE
-}
-
-/// Keeps the price for the reached items that have none yet.
-fn mark(reached: &[bool], price: u64, since: &mut [u64])
-    requires count { length reached.now ≡ length since.old }
-    ensures count { length since.new ≡ length since.old }
-    ensures marked { (m : ℕ) → since_at since.new m
-        ≡ since_after (has_flag reached.now m) price (since_at since.old m) }
-{
-    for m in 0..reached.len() {
-        if reached[m] && since[m] == NEVER {
-            since[m] = price;
-        }
-    }
-}
-
-/// Keeps the price for the reached items that have none yet.
-/// Where they are many, the branches that these touch are held too.
-fn keep(
-    g: &Graph,
-    offered: &Meters,
-    reached: &[bool],
-    price: u64,
-    since: &mut [u64],
-    held: &mut [Option<Ends>],
-    joined: &mut Search,
-)
-    requires in_range { AreInRange g.now offered.now.touches }
-    requires count { length reached.now ≡ length since.old }
-    requires items { length since.old ≡ length offered.now.touches }
-    requires price { price < never }
-    requires known { AreOfKnown g.now offered.now.touches since.old held.old }
-    requires rooted { IsRooted g.now.vertices held.old joined.old }
-    ensures count { length since.new ≡ length since.old }
-    ensures marked { (m : ℕ) → since_at since.new m
-        ≡ since_after (has_flag reached.now m) price (since_at since.old m) }
-    ensures known { AreOfKnown g.now offered.now.touches since.new held.new }
-    ensures rooted { IsRooted g.now.vertices held.new joined.new }
-    ensures same_joined { room_of joined.new ≡ room_of joined.old }
-{
-    if is_large(reached) {
-        mark_and_hold(g, offered, reached, price, since, held, joined);
-    } else {
-        mark(reached, price, since);
-    }
-}
 
 /// Takes a live item by a search from it, and says whether it raises the greatest length.
 fn search_item<L: Ledger>(
@@ -92,6 +32,7 @@ fn search_item<L: Ledger>(
     since: &mut [u64],
     held: &mut [Option<Ends>],
     joined: &mut Search,
+    waiting: &mut usize,
     price: u64,
     c: u32,
     steps: &mut Steps<L>,
@@ -108,7 +49,7 @@ fn search_item<L: Ledger>(
         (earlier_items g.now.ends offered.now.touches (price_of meters prices.now) c) a.old since.old }
     requires held { AreHeld g.now offered.now.touches (price_of meters prices.now) a.old }
     requires known { AreOfKnown g.now offered.now.touches since.old held.old }
-    requires rooted { IsRooted g.now.vertices held.old joined.old }
+    requires joined { IsJoinedByKnown g.now offered.now.touches since.old joined.old }
     ensures taken { IsTakenAt g.now offered.now.touches
         (c ∷ earlier_items g.now.ends offered.now.touches (price_of meters prices.now) c) a.new since.new }
     ensures chosen { result ≡ is_chosen g.now.vertices g.now.ends offered.now.touches (price_of meters prices.now) c }
@@ -119,7 +60,7 @@ fn search_item<L: Ledger>(
     ensures same_room { HasRoomOf a.old a.new }
     ensures same_sizes { work.new.sizes ≡ work.old.sizes }
     ensures known { AreOfKnown g.now offered.now.touches since.new held.new }
-    ensures rooted { IsRooted g.now.vertices held.new joined.new }
+    ensures joined { IsJoinedByKnown g.now offered.now.touches since.new joined.new }
     ensures same_joined { room_of joined.new ≡ room_of joined.old }
 {
     let _ = g.vertices();
@@ -128,7 +69,16 @@ fn search_item<L: Ledger>(
     match search(g, offered, a, Sources::One(c), work, steps) {
         Found::Grown(_) => true,
         Found::Closed => {
-            keep(g, offered, work.reached(), price, since, held, joined);
+            keep(
+                g,
+                offered,
+                work.reached(),
+                price,
+                since,
+                held,
+                joined,
+                waiting,
+            );
             false
         }
     }
@@ -146,6 +96,7 @@ fn take_item<L: Ledger>(
     since: &mut [u64],
     held: &mut [Option<Ends>],
     joined: &mut Search,
+    waiting: &mut usize,
     price: u64,
     c: u32,
     steps: &mut Steps<L>,
@@ -162,7 +113,7 @@ fn take_item<L: Ledger>(
         (earlier_items g.now.ends offered.now.touches (price_of meters prices.now) c) a.old since.old }
     requires held { AreHeld g.now offered.now.touches (price_of meters prices.now) a.old }
     requires known { AreOfKnown g.now offered.now.touches since.old held.old }
-    requires rooted { IsRooted g.now.vertices held.old joined.old }
+    requires joined { IsJoinedByKnown g.now offered.now.touches since.old joined.old }
     ensures taken { IsTakenAt g.now offered.now.touches
         (c ∷ earlier_items g.now.ends offered.now.touches (price_of meters prices.now) c) a.new since.new }
     ensures chosen { result ≡ is_chosen g.now.vertices g.now.ends offered.now.touches (price_of meters prices.now) c }
@@ -173,16 +124,16 @@ fn take_item<L: Ledger>(
     ensures same_room { HasRoomOf a.old a.new }
     ensures same_sizes { work.new.sizes ≡ work.old.sizes }
     ensures known { AreOfKnown g.now offered.now.touches since.new held.new }
-    ensures rooted { IsRooted g.now.vertices held.new joined.new }
+    ensures joined { IsJoinedByKnown g.now offered.now.touches since.new joined.new }
     ensures same_joined { room_of joined.new ≡ room_of joined.old }
 {
     let _ = g.vertices();
-    if join_touched(g, offered, c, held, joined) {
+    if join_touched(g, offered, c, joined) {
         since[c as usize] = price;
         return false;
     }
     search_item(
-        g, offered, meters, prices, a, work, since, held, joined, price, c, steps,
+        g, offered, meters, prices, a, work, since, held, joined, waiting, price, c, steps,
     )
 }
 
@@ -208,7 +159,7 @@ pub fn take_all<L: Ledger>(
     requires begun { IsUnderWay g.now offered.now.touches
         (price_of meters prices.now) keys.now 0 a.old since.old raised.old }
     requires known { AreOfKnown g.now offered.now.touches since.old held.old }
-    requires rooted { IsRooted g.now.vertices held.old joined.old }
+    requires joined { IsJoinedByKnown g.now offered.now.touches since.old joined.old }
     ensures taken { AreTaken g.now offered.now.touches (price_of meters prices.now) a.new since.new raised.new }
     ensures standing { IsStanding g.now offered.now.touches a.new }
     ensures same_room { HasRoomOf a.old a.new }
@@ -216,11 +167,24 @@ pub fn take_all<L: Ledger>(
     ensures same_joined { room_of joined.new ≡ room_of joined.old }
 {
     let _ = g.vertices();
+    let mut waiting = 0;
     for k in 0..keys.len() {
         let (price, c) = keys[k];
         if offered.live(g, c) {
             raised[c as usize] = take_item(
-                g, offered, meters, prices, a, work, since, held, joined, price, c, steps,
+                g,
+                offered,
+                meters,
+                prices,
+                a,
+                work,
+                since,
+                held,
+                joined,
+                &mut waiting,
+                price,
+                c,
+                steps,
             );
         }
     }

@@ -21,6 +21,13 @@ pub take_all-requires-clause-known : goal.take_all-requires-clause-known
 take_all-requires-clause-known g c =
     AreOfKnown-none c.args.g.now c.args.offered.now.touches c.begin.new.since (length c.args.held.now) c.hold_none.new.held c.requires.held c.hold_none.ensures.held
 
+pub take_all-requires-clause-joined : goal.take_all-requires-clause-joined
+take_all-requires-clause-joined g c = record {
+  held = c.hold_none.new.held;
+  known = take_all-requires-clause-known g c;
+  rooted = c.hold_none.ensures.rooted;
+}
+
 pub returns-clause-rank : goal.returns-clause-rank
 returns-clause-rank g c =
     rank_of_all c.args.g.now c.args.offered.now.touches c.args.meters c.args.prices.now c.take_all.new.a c.take_all.new.since c.take_all.new.raised c.vertices.ensures.branches

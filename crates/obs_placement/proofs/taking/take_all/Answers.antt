@@ -27,7 +27,7 @@ loop-k-preserved g c =
     let room = l.invariant.1 in
     let sizes = l.invariant.2 in
     let of = l.invariant.3 in
-    let rooted = l.invariant.4 in
+    let joined = l.invariant.4 in
     let wide = l.invariant.5 in
     elim c.if-live.branch [
       | then-live b ↦
@@ -41,7 +41,7 @@ loop-k-preserved g c =
             record { meters = same_room.meters ∙ room.meters; vertices = same_room.vertices ∙ room.vertices; branches = same_room.branches ∙ room.branches },
             same_sizes ∙ sizes,
             e.known,
-            e.rooted,
+            e.joined,
             same_joined ∙ wide,
           )
       | else-live b ↦
@@ -50,7 +50,7 @@ loop-k-preserved g c =
             room,
             sizes,
             of,
-            rooted,
+            joined,
             wide,
           )
     ]
