@@ -26,11 +26,11 @@ HandsOn-kept slots new before [] same h = tt
 HandsOn-kept slots new before (x ∷ path) same h = (same x (inl refl) ∙ h.0, HandsOn-kept slots new (Some x.branch) path (λ y i. same y (inr i)) h.1)
 
 -- a branch has one owner
-apart-inverse : (slots owners : List (Option ℕ)) → IsInverse slots owners → SlotsApart slots
+pub apart-inverse : (slots owners : List (Option ℕ)) → IsInverse slots owners → SlotsApart slots
 apart-inverse slots owners inverse m n e h k = some_same m n (sym ((inverse m e).0 h) ∙ (inverse n e).0 k)
 
 -- as many pairs as branches
-count-same : (slots new : List (Option ℕ)) → SlotsApart slots → SlotsApart new → ((e : ℕ) → In e (branches (pairs_of new)) ↔ In e (branches (pairs_of slots)))
+pub count-same : (slots new : List (Option ℕ)) → SlotsApart slots → SlotsApart new → ((e : ℕ) → In e (branches (pairs_of new)) ↔ In e (branches (pairs_of slots)))
     → length (pairs_of new) ≡ length (pairs_of slots)
 count-same slots new a b same =
     let ps = branches (pairs_of slots) in

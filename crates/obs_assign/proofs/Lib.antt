@@ -15,3 +15,5 @@ pub mod Pinned
 pub mod Free
 pub mod Afterwards
 pub mod Handing
+pub mod Unlisting
+pub mod Losing

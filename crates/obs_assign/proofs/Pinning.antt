@@ -2,7 +2,7 @@
 use Rattle.std.proofs.Common.{◌≡◌, ℕ, ◌<◌, Option, Some, None, List, length, get_or, set, take, refl, sym, ap, ◌∙◌, inl, inr, ◌⊎◌, ◌↔◌, arith, get_or-set_same, get_or-set_other, length-set}
 use Rattle.std.specs.Prelude.{IsSome}
 use Rattle.std.proofs.lemmas.Bool.{cases_eq, cases_lt}
-use Rattle.std.proofs.lemmas.List.{get_or_past}
+use Rattle.std.proofs.lemmas.List.{get_or_past, set-set, set_comm}
 use Rattle.std.proofs.Math.Seq.{take-set-lt}
 use Rattle.obs_graph.specs.declared.Ends.{Ends}
 use Rattle.obs_graph.specs.Positions.{IsForestAt}
@@ -28,6 +28,13 @@ some_there (Some y) s = (y, refl)
 -- writes below n
 pub take-pinned : (n : ℕ) (slots : List (Option ℕ)) (m e x : ℕ) → m < n → x < n → take n (pinned_slots slots m e x) ≡ pinned_slots (take n slots) m e x
 take-pinned n slots m e x lm lx = take-set-lt n (set slots x None) m (Some e) lm ∙ ap (λ s. set s m (Some e)) (take-set-lt n slots x None lx)
+
+-- the pair that the meter had doesn't matter
+pub pinned-lost : (slots : List (Option ℕ)) (m e x : ℕ) → pinned_slots (set slots m None) m e x ≡ pinned_slots slots m e x
+pinned-lost slots m e x = elim (cases_eq m x) [
+  | inl y ↦ ap (λ s. set s m (Some e)) (ap (λ k. set (set slots m None) k None) (sym y) ∙ (set-set slots m None None ∙ ap (λ k. set slots k None) y))
+  | inr n ↦ ap (λ s. set s m (Some e)) (set_comm slots m x None None n) ∙ set-set (set slots x None) m None (Some e)
+]
 
 module _ (slots : List (Option ℕ)) (m e x : ℕ) (low : m < length slots) where
   pub pinned-at : get_or (pinned_slots slots m e x) m None ≡ Some e

@@ -10,6 +10,7 @@ pub struct Move {
 
 mod hold;
 pub mod laws;
+mod lose;
 mod memory;
 mod path;
 mod retain;

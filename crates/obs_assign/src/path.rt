@@ -31,7 +31,7 @@ fn hands_on(path: &[Move], slots: &[Option<u32>]) -> bool
 }
 
 /// The next meter hands its branch on to that of the move, which has none.
-fn hand(slots: &mut [Option<u32>], owners: &mut [Option<u32>], x: Move, next: u32)
+pub fn hand(slots: &mut [Option<u32>], owners: &mut [Option<u32>], x: Move, next: u32)
     requires meter { x.meter < length slots.old }
     requires next { next < length slots.old }
     requires branch { x.branch < length owners.old }

@@ -1,17 +1,19 @@
 // Which pair may be given up for another one.
-ghost use Rattle.std.specs.Prelude.{◌≡◌, ◌⊎◌, ◌<◌, ◌≤◌, ◌^◌, ℕ, true, false, All, Contains, IsSome, None, Some, IsTrue, MatchOption, length, slice_index_or, take};
+ghost use Rattle.std.specs.Prelude.{◌≡◌, ◌≢◌, ◌⊎◌, ◌<◌, ◌≤◌, ◌^◌, ℕ, true, false, All, Contains, IsSome, None, Some, IsTrue, MatchOption, length, slice_index_or, take};
 ghost use Rattle.obs_graph.specs.Positions.{IsForestAt};
 ghost use Rattle.obs_matroid.specs.Assignments.{branches, part, others};
 ghost use Rattle.obs_matroid.specs.Lists.{other_than};
 ghost use Rattle.obs_matroid.specs.Slots.{pairs_of};
-ghost use Rattle.obs_forest.specs.Holding.{StandsOver};
-ghost use Rattle.obs_assign.specs.Assigned.{ArePaired, HoldsPairs, has_flag};
+ghost use Rattle.obs_forest.specs.Holding.{taken, StandsOver};
+ghost use Rattle.obs_assign.specs.Assigned.{ArePaired, has_flag};
 ghost use Rattle.obs_assign.specs.Kept.{IsInverse, IsListed};
 ghost use Rattle.obs_assign.specs.Pins.{joins, pinned_slots};
 ghost use Rattle.obs_assign.specs.Spare.{IsSpare, IsSpareOf};
 
 use crate::Move;
-use crate::hold::hold_pairs;
+use crate::hold::add_pair;
+use crate::lose::lose_pair;
+use crate::path::hand;
 use obs_forest::Forest;
 use obs_graph::Graph;
 
@@ -79,19 +81,67 @@ pub fn spare_for(
     spare_of(&path[..count], owners, frozen, m)
 }
 
-/// Whether the branches stay the same where a meter, which had the branch `before`, takes e: e has an owner, and the
-/// meter had no other branch.
-fn keeps_branches(before: Option<u32>, owner: Option<u32>, e: u32) -> bool
-    ensures keeps { IsTrue result → IsSome owner × ((f : ℕ) → before ≡ Some f → f ≡ e) }
+/// Whether the meter has another branch than e.
+fn has_other(branch: Option<u32>, e: u32) -> bool
+    ensures other { IsTrue result → IsSome branch × (branch ≢ Some e) }
+    ensures none { result ≡ false → (f : ℕ) → branch ≡ Some f → f ≡ e }
 {
-    match before {
-        Some(f) => owner.is_some() && f == e,
-        None => owner.is_some(),
+    match branch {
+        Some(f) => f != e,
+        None => false,
     }
 }
 
-/// Puts a pair in for those of its meter and of x. The forest is made anew only where its branches change. Says how
-/// many pairs there are.
+/// Puts a pair in for that of x, where its meter has none with another branch. Where the branch of the pair is held
+/// already, the forest stays as it is. Says how many pairs there are.
+fn put_pin(
+    g: &Graph,
+    meters: usize,
+    slots: &mut [Option<u32>],
+    owners: &mut [Option<u32>],
+    list: &mut [u32],
+    forest: &mut Forest,
+    count: u32,
+    pin: Move,
+    x: u32,
+) -> u32
+    requires few { meters < 2 ^ 32 }
+    requires meters { meters ≤ length slots.old }
+    requires m { pin.meter < meters }
+    requires x { x < meters }
+    requires e { pin.branch < length g.now.ends }
+    requires room { meters ≤ length list.old }
+    requires owners { length g.now.ends ≤ length owners.old }
+    requires stands { StandsOver forest.old g.now }
+    requires inverse { IsInverse (take meters slots.old) owners.old }
+    requires listed { IsListed (take meters slots.old) (take count list.old) }
+    requires count { count ≡ length (pairs_of (take meters slots.old)) }
+    requires held { forest.old.held ≡ taken g.now.ends (take count list.old) }
+    requires before { IsForestAt g.now.ends (branches (pairs_of (take meters slots.old))) }
+    requires bare { (f : ℕ) → slice_index_or slots.old pin.meter None ≡ Some f → f ≡ pin.branch }
+    requires spare { (y : ℕ) → slice_index_or (take meters slots.old) y None ≡ Some pin.branch → y ≡ x }
+    requires forest { IsForestAt g.now.ends
+        (branches (pairs_of (pinned_slots (take meters slots.old) pin.meter pin.branch x))) }
+    ensures slots { slots.new ≡ pinned_slots slots.old pin.meter pin.branch x }
+    ensures inverse { IsInverse (take meters slots.new) owners.new }
+    ensures count { result ≡ length (pairs_of (take meters slots.new)) }
+    ensures listed { IsListed (take meters slots.new) (take result list.new) }
+    ensures forest { forest.new ≡ record forest.old {
+      vertices = g.now.vertices;
+      held = taken g.now.ends (branches (pairs_of (take meters slots.new)));
+    } }
+{
+    let _ = g.vertices();
+    if owners[pin.branch as usize].is_some() {
+        hand(slots, owners, pin, x);
+        return count;
+    }
+    let less = lose_pair(g, meters, slots, owners, list, forest, count, x);
+    add_pair(g, meters, slots, owners, list, forest, less, pin)
+}
+
+/// Puts a pair in for those of its meter and of x: the forest loses the branches of these and gets that of the pair.
+/// Says how many pairs there are.
 pub fn take_pin(
     g: &Graph,
     meters: usize,
@@ -110,32 +160,27 @@ pub fn take_pin(
     requires e { pin.branch < length g.now.ends }
     requires room { meters ≤ length list.old }
     requires owners { length g.now.ends ≤ length owners.old }
-    requires vertices { g.now.vertices ≤ forest.old.most_vertices }
-    requires branches { length g.now.ends ≤ forest.old.most_branches }
     requires stands { StandsOver forest.old g.now }
     requires inverse { IsInverse (take meters slots.old) owners.old }
-    requires holds { HoldsPairs (take meters slots.old) forest.old.held }
     requires listed { IsListed (take meters slots.old) (take count list.old) }
     requires count { count ≡ length (pairs_of (take meters slots.old)) }
+    requires held { forest.old.held ≡ taken g.now.ends (take count list.old) }
+    requires before { IsForestAt g.now.ends (branches (pairs_of (take meters slots.old))) }
     requires spare { (y : ℕ) → slice_index_or (take meters slots.old) y None ≡ Some pin.branch → y ≡ x }
     requires forest { IsForestAt g.now.ends
         (branches (pairs_of (pinned_slots (take meters slots.old) pin.meter pin.branch x))) }
-    ensures slots { take meters slots.new ≡ pinned_slots (take meters slots.old) pin.meter pin.branch x }
+    ensures slots { slots.new ≡ pinned_slots slots.old pin.meter pin.branch x }
     ensures inverse { IsInverse (take meters slots.new) owners.new }
     ensures count { result ≡ length (pairs_of (take meters slots.new)) }
     ensures listed { IsListed (take meters slots.new) (take result list.new) }
-    ensures holds { HoldsPairs (take meters slots.new) forest.new.held }
-    ensures stands { StandsOver forest.new g.now }
-    ensures most_vertices { forest.new.most_vertices ≡ forest.old.most_vertices }
-    ensures most_branches { forest.new.most_branches ≡ forest.old.most_branches }
+    ensures forest { forest.new ≡ record forest.old {
+      vertices = g.now.vertices;
+      held = taken g.now.ends (branches (pairs_of (take meters slots.new)));
+    } }
 {
-    let e = pin.branch;
-    let before = slots[pin.meter as usize];
-    slots[x as usize] = None;
-    slots[pin.meter as usize] = Some(e);
-    if keeps_branches(before, owners[e as usize], e) {
-        owners[e as usize] = Some(pin.meter);
-        return count;
+    if has_other(slots[pin.meter as usize], pin.branch) {
+        let less = lose_pair(g, meters, slots, owners, list, forest, count, pin.meter);
+        return put_pin(g, meters, slots, owners, list, forest, less, pin, x);
     }
-    hold_pairs(g, meters, slots, owners, list, forest)
+    put_pin(g, meters, slots, owners, list, forest, count, pin, x)
 }

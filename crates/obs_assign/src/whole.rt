@@ -13,6 +13,7 @@ ghost use Rattle.obs_assign.specs.Still.{AreRetained};
 
 use crate::Move;
 use crate::hold::{clear_flags, empty, hold_pairs};
+use crate::lose::lose_pair;
 use crate::memory::NoMemory;
 use crate::path::take_path;
 use crate::retain::retain;
@@ -232,15 +233,16 @@ impl Assignment {
         ensures whole { IsWhole self.new }
         ensures same_room { HasRoomOf self.old self.new }
     {
-        self.slots[m as usize] = None;
         self.frozen[m as usize] = false;
-        self.count = hold_pairs(
+        self.count = lose_pair(
             g,
             self.meters,
-            &self.slots,
+            &mut self.slots,
             &mut self.owners,
             &mut self.list,
             &mut self.forest,
+            self.count,
+            m,
         );
     }
 
