@@ -1,5 +1,5 @@
 -- A pair less, in the arrays of an assignment.
-use Rattle.std.proofs.Common.{◌≡◌, ◌≢◌, ℕ, suc, ◌+◌, ◌<◌, ◌≤◌, Option, Some, None, List, ◌∷◌, length, get_or, set, take, sym, ap, ◌∙◌, subst, inl, inr, ◌↔◌, arith, get_or-set_same, get_or-set_other, length-set}
+use Rattle.std.proofs.Common.{◌≡◌, ◌≢◌, ℕ, suc, ◌<◌, ◌≤◌, Option, Some, None, List, ◌∷◌, length, get_or, set, take, sym, ap, ◌∙◌, subst, inl, inr, ◌↔◌, arith, get_or-set_same, get_or-set_other, length-set}
 use Rattle.std.proofs.lemmas.Bool.{cases_eq}
 use Rattle.std.proofs.lemmas.List.{get_or-take, length-take-le, set-get_or, set-set}
 use Rattle.std.proofs.Math.Seq.{take-set-lt}
@@ -12,12 +12,11 @@ use Rattle.obs_matroid.specs.Slots.{pairs_of}
 use Rattle.obs_matroid.proofs.Contained.{Contains-from_In, In-from_Contains, pairs_from_IsDistinct}
 use Rattle.obs_graph.specs.Shape.{Shape}
 use Rattle.obs_forest.specs.Holding.{Holding, StandsOver, taken}
-use Rattle.obs_assign.specs.Kept.{IsInverse, IsListed, SlotsApart}
-use Rattle.obs_assign.proofs.Changes.{forest_dropped}
+use Rattle.obs_assign.specs.Kept.{IsInverse, IsListed}
 use Rattle.obs_assign.proofs.Keeping.{slot_without}
 use Rattle.obs_assign.proofs.Listed.{IsForestAt-listed, taken-same}
 use Rattle.obs_assign.proofs.Moving.{length-put_bare}
-use Rattle.obs_assign.proofs.Slotted.{branch_low, branch_slot, none_some, slot_branch, some_same}
+use Rattle.obs_assign.proofs.Slotted.{branch_slot, none_some, slot_branch, some_same}
 
 -- what holds once the pair of m and e is gone, and its branch is out of the list
 pub record IsLost (ends : List (Option Ends)) (meters : ℕ) (slots owners : List (Option ℕ)) (list less : List ℕ) (count m e : ℕ) : Type 0 where
@@ -75,8 +74,8 @@ module _ (ends : List (Option Ends)) (meters : ℕ) (slots owners : List (Option
   inverse_new : e < length owners → IsInverse new (set owners e None)
   inverse_new room k g = (
     (λ h.
-    let w = slot_without old m k g h in
-    get_or-set_other owners e g None None (λ s. w.0 (owner_one k (w.1 ∙ ap Some s))) ∙ (inverse k g).0 w.1),
+        let w = slot_without old m k g h in
+        get_or-set_other owners e g None None (λ s. w.0 (owner_one k (w.1 ∙ ap Some s))) ∙ (inverse k g).0 w.1),
     (λ h. elim (cases_eq g e) [
       | inl y ↦ absurd (none_some k (sym (get_or-set_same owners e None None room) ∙ (ap (λ x. get_or (set owners e None) x None) (sym y) ∙ h)))
       | inr n ↦
@@ -91,13 +90,13 @@ module _ (ends : List (Option Ends)) (meters : ℕ) (slots owners : List (Option
       different = different;
       exactly = λ x. (
         (λ i.
-        let w = (exactly x).0 i in
-        let s = branch_slot old x ((listed.exactly x).0 w.0) in
-        slot_branch new s.0 x (get_or-set_other old m s.0 None None (λ same. w.1 (some_same x e (sym s.1 ∙ (ap (λ y. get_or old y None) same ∙ at_m)))) ∙ s.1)),
+            let w = (exactly x).0 i in
+            let s = branch_slot old x ((listed.exactly x).0 w.0) in
+            slot_branch new s.0 x (get_or-set_other old m s.0 None None (λ same. w.1 (some_same x e (sym s.1 ∙ (ap (λ y. get_or old y None) same ∙ at_m)))) ∙ s.1)),
         (λ i.
-        let s = branch_slot new x i in
-        let w = slot_without old m s.0 x s.1 in
-        (exactly x).1 ((listed.exactly x).1 (slot_branch old s.0 x w.1), (λ same. w.0 (owner_one s.0 (w.1 ∙ ap Some same))))),
+            let s = branch_slot new x i in
+            let w = slot_without old m s.0 x s.1 in
+            (exactly x).1 ((listed.exactly x).1 (slot_branch old s.0 x w.1), (λ same. w.0 (owner_one s.0 (w.1 ∙ ap Some same))))),
       );
     }
 

@@ -1,6 +1,5 @@
 -- A list from which a number was taken, whose last number came to its place.
-use Rattle.std.proofs.Common.{◌≡◌, ◌≢◌, ℕ, ◌-◌, ◌<◌, ◌≤◌, List, length, get_or, set, take, sym, ap, ◌∙◌, subst, ⊎_elim, ◌↔◌, arith, get_or-set_same, get_or-set_other, length-set}
-use Rattle.std.specs.List.{Contains}
+use Rattle.std.proofs.Common.{◌≡◌, ◌≢◌, ℕ, ◌-◌, ◌<◌, ◌≤◌, List, length, get_or, set, take, sym, ap, ◌∙◌, ⊎_elim, ◌↔◌, arith, get_or-set_same, get_or-set_other, length-set}
 use Rattle.std.proofs.lemmas.Bool.{cases_eq, cases_lt}
 use Rattle.std.proofs.lemmas.List.{get_or-take, get_or_default, length-take-le}
 use Rattle.obs_matroid.specs.Lists.{In, IsDistinct}

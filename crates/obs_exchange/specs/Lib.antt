@@ -5,3 +5,4 @@ pub mod Searching
 pub mod Classes
 pub mod Critical
 pub mod Laws
+pub mod Blank

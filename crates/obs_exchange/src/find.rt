@@ -1,5 +1,5 @@
 // The path of moves by which the assignment grows.
-ghost use Rattle.std.specs.Prelude.{◌≡◌, ◌+◌, ◌<◌, ◌≤◌, Bool, List, false, IfSome, MatchOption, None, Some, length, drop, take};
+ghost use Rattle.std.specs.Prelude.{◌≡◌, ◌+◌, ◌<◌, ◌≤◌, Bool, List, ℕ, false, IfSome, MatchOption, None, Some, length, drop, replicate, slice_index, take};
 ghost use Rattle.obs_graph.specs.Positions.{AreBranches};
 ghost use Rattle.obs_meter.specs.Touches.{AreInRange};
 ghost use Rattle.obs_assign.specs.Assigned.{HasRoomOf, IsWhole, StandsOver, has_flag};
@@ -8,6 +8,7 @@ ghost use Rattle.obs_exchange.specs.Found.{IsFound};
 ghost use Rattle.obs_exchange.specs.Searching.{IsEnd, IsFreeFor, IsReady, end_of, first_of};
 
 use crate::begin::spread_all;
+use crate::blanks::{Blanks, clear, set_counts};
 use crate::free::untried_branch;
 use crate::queue::{first_source, is_source, sources_end};
 use crate::tops::separate;
@@ -110,6 +111,7 @@ pub fn find(
     tried: &mut [u32],
     path: &mut [Move],
     tops: &mut [u32],
+    blanks: &Blanks<'_>,
 ) -> Option<usize>
     requires stands { StandsOver a.now g.now ms.now.touches }
     requires in_range { AreInRange g.now ms.now.touches }
@@ -124,6 +126,13 @@ pub fn find(
     requires stars { g.now.vertices ≤ length stars.old }
     requires tried { g.now.vertices ≤ length tried.old }
     requires tops { g.now.vertices ≤ length tops.old }
+    requires no_mark { length marks.old ≤ length blanks.now.flags.now }
+    requires none_walked { length walked.old ≤ length blanks.now.flags.now }
+    requires no_star { length stars.old ≤ length blanks.now.flags.now }
+    requires no_flag { blanks.now.flags.now ≡ replicate (length blanks.now.flags.now) false }
+    requires counts { length tried.old ≤ length blanks.now.counts.now }
+    requires numbered { g.now.vertices ≤ length blanks.now.numbers.now }
+    requires numbers { (v : ℕ) → v < length blanks.now.numbers.now → slice_index blanks.now.numbers.now v ≡ v }
     ensures bound { IfSome result (λ k. k ≤ length path.new) }
     ensures found { MatchOption result
         (IsLeastClosedAt g.now.ends ms.now.touches from a.now (has_flag (take (length ms.now.touches) marks.new)))
@@ -132,19 +141,19 @@ pub fn find(
     let _ = g.vertices();
     let _ = a.length();
     if first == first_source(from) {
-        tried.fill(0);
+        set_counts(tried, blanks.counts);
     }
     if let Some(x) = free_move(g, ms, a, from, first, tried) {
         let last = path.len() - 1;
         path[last] = x;
         return Some(last);
     }
-    marks.fill(false);
-    walked.fill(false);
-    stars.fill(false);
+    clear(marks, blanks.flags);
+    clear(walked, blanks.flags);
+    clear(stars, blanks.flags);
     let ways = &a.forest().ways();
     let tops = &mut tops[..g.vertices() as usize];
-    separate(tops);
+    separate(tops, blanks.numbers);
     let mut tail = 0;
     match spread_all(
         g, ms, a, from, middle, marks, parents, queue, &mut tail, walked, stars, tried, ways, tops,

@@ -23,6 +23,7 @@ pub struct Lengthened {
 }
 
 mod begin;
+mod blanks;
 mod exchange;
 mod find;
 mod free;

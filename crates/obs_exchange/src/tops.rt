@@ -1,19 +1,18 @@
 // Classes of vertices that met branches join. What was met is never walked again: each class has one top, and the tops
 // lead there by ever fewer steps.
-ghost use Rattle.std.specs.Prelude.{◌≡◌, ◌<◌, ◌^◌, ℕ, length, slice_index};
+ghost use Rattle.std.specs.Prelude.{◌≡◌, ◌<◌, ◌≤◌, ℕ, length, slice_index};
 ghost use Rattle.obs_exchange.specs.Classes.{AreTops, Rises, SameMet};
 
 use obs_forest::Ways;
 
-/// No branch is met: each vertex is its own top.
-pub fn separate(tops: &mut [u32])
-    requires fits { length tops.old < 2 ^ 32 }
+/// No branch is met: each vertex is its own top. The numbers of the vertices are given.
+pub fn separate(tops: &mut [u32], numbers: &[u32])
+    requires room { length tops.old ≤ length numbers.now }
+    requires numbers { (v : ℕ) → v < length numbers.now → slice_index numbers.now v ≡ v }
     ensures length { length tops.new ≡ length tops.old }
     ensures own { (v : ℕ) → v < length tops.old → slice_index tops.new v ≡ v }
 {
-    for v in 0..tops.len() {
-        tops[v] = v as u32;
-    }
+    tops.copy_from_slice(&numbers[..tops.len()]);
 }
 
 /// The top of the class of v. Each vertex on the way there is led to one that is higher.

@@ -5,6 +5,7 @@ ghost use Rattle.obs_meter.specs.Touches.{AreInRange};
 ghost use Rattle.obs_assign.specs.Assigned.{HasRoomOf, IsWhole, StandsOver};
 ghost use Rattle.obs_exchange.specs.Found.{CanBegin, IsFound};
 
+use crate::blanks::{Blanks, number};
 use crate::find::{find, grow};
 use crate::memory::NoMemory;
 use crate::pass::{Pass, first_searched, first_tried, next_tried};
@@ -28,11 +29,16 @@ pub struct Work {
     tried: Vec<u32>,
     path: Vec<Move>,
     tops: Vec<u32>,
+    // what the arrays are set to before a search
+    no_flags: Vec<bool>,
+    numbers: Vec<u32>,
+    no_counts: Vec<u32>,
     pass: Pass,
 }
 
 impl Model for Work {
     ghost use Rattle.std.specs.Prelude.{◌≡◌, ◌≤◌, ◌<◌, length, take};
+    ghost use Rattle.obs_exchange.specs.Blank.{AreBlank};
     ghost use Rattle.obs_exchange.specs.Found.{Working};
 
     ghost Value = { Working };
@@ -50,7 +56,9 @@ impl Model for Work {
     ghost invariant = { λ w.
         (w.meters ≤ length w.reached.items) × (length w.parents.items ≡ length w.reached.items)
         × (length w.queue.items ≡ length w.reached.items) × (length w.path.items ≡ length w.reached.items)
-        × (length w.tops.items ≡ length w.stars.items) × (length w.tried.items ≡ length w.stars.items) };
+        × (length w.tops.items ≡ length w.stars.items) × (length w.tried.items ≡ length w.stars.items)
+        × AreBlank (length w.reached.items) (length w.walked.items) (length w.stars.items)
+        w.no_flags.items w.numbers.items w.no_counts.items };
 }
 
 impl Work {
@@ -70,6 +78,9 @@ impl Work {
             meter: 0,
             branch: 0,
         };
+        let most = most_meters.max(most_branches).max(most_vertices);
+        let mut numbers = vec![in alloc; 0; most_vertices as usize]?;
+        number(&mut numbers);
         Ok(Work {
             meters: 0,
             reached: vec![in alloc; false; most_meters as usize]?,
@@ -80,6 +91,9 @@ impl Work {
             tried: vec![in alloc; 0; most_vertices as usize]?,
             path: vec![in alloc; no_move; most_meters as usize]?,
             tops: vec![in alloc; 0; most_vertices as usize]?,
+            no_flags: vec![in alloc; false; most as usize]?,
+            numbers,
+            no_counts: vec![in alloc; 0; most_vertices as usize]?,
             pass: Pass::new(),
         })
     }
@@ -132,6 +146,11 @@ impl Work {
             &mut self.tried,
             &mut self.path,
             &mut self.tops,
+            &Blanks {
+                flags: &self.no_flags,
+                numbers: &self.numbers,
+                counts: &self.no_counts,
+            },
         );
         match start {
             Some(k) => {

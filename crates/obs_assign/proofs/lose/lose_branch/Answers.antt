@@ -1,10 +1,9 @@
-use Rattle.std.proofs.Common.{◌≡◌, ◌<◌, ◌≤◌, ◌-◌, suc, ◌∷◌, Option, Some, None, List, length, set, take, sym, ap, ◌∙◌, subst, arith}
+use Rattle.std.proofs.Common.{◌-◌, Option, None, List, set, take, sym, ap, ◌∙◌, arith}
 use Rattle.std.proofs.lemmas.List.{get_or-take, length-take-le}
 use Rattle.obs_graph.specs.declared.Ends.{Ends}
-use Rattle.obs_graph.specs.Positions.{IsForestAt}
 use Rattle.obs_matroid.specs.Assignments.{branches}
 use Rattle.obs_matroid.specs.Slots.{pairs_of}
-use Rattle.obs_forest.specs.Holding.{Holding, taken}
+use Rattle.obs_forest.specs.Holding.{Holding}
 use Rattle.obs_assign.proofs.Listed.{taken-same}
 use Rattle.obs_assign.proofs.Losing.{IsLosable, IsLost, losable, IsLost-made}
 use Rattle.obs_assign.proofs.Slotted.{branch_low, length-pairs_of}

@@ -1,4 +1,4 @@
-use Rattle.std.proofs.Common.{◌<◌, arith, length, sym, ◌∙◌}
+use Rattle.std.proofs.Common.{◌<◌, arith, sym, ◌∙◌}
 use Rattle.std.proofs.lemmas.List.{get_or-take, length-take-le}
 use Rattle.obs_assign.proofs.Unlisting.{unlisted-different, unlisted-exactly}
 use Rattle.obs_assign.proofs.lose.unlist.Goals as goal

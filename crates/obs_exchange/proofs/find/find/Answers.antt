@@ -27,7 +27,7 @@ spread_all-requires-clause-classes c =
     let w = c.ways.ensures in
     let len : length (take c.vertices-2.result c.args.tops.now) ≡ n =
     length-take-le c.vertices-2.result c.args.tops.now (rw c.vertices-2.ensures.value c.requires.tops) ∙ c.vertices-2.ensures.value in
-    AreClasses-own n c.ways.result.ups.now c.ways.result.depths.now c.args.a.now c.fill-2.new.self c.separate.new.tops
+    AreClasses-own n c.ways.result.ups.now c.ways.result.depths.now c.args.a.now c.clear.new.flags c.separate.new.tops
     (rw c.forest.ensures.forest at w.ups ∙ v) (rw c.forest.ensures.forest at w.depths ∙ v) (rw c.forest.ensures.forest at w.forest)
     (subst (λ k. AreWays k c.args.a.now.forest.held c.ways.result.ups.now c.ways.result.depths.now) v (rw c.forest.ensures.forest at w.ways))
     (c.separate.ensures.length ∙ len) (λ k l. c.separate.ensures.own k (rw len l))

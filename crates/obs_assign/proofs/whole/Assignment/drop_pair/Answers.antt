@@ -1,5 +1,4 @@
 use Rattle.std.proofs.Common.{◌≡◌, ◌++◌, ℕ, List, Option, None, false, length, set, take, drop, refl, ap, sym, ◌∙◌, subst, length-set}
-use Rattle.obs_graph.specs.Positions.{IsForestAt}
 use Rattle.obs_graph.specs.Search.{room_of}
 use Rattle.obs_matroid.specs.Assignments.{branches}
 use Rattle.obs_matroid.specs.Slots.{pairs_of}

@@ -10,7 +10,7 @@ use Rattle.obs_meter.specs.declared.Touch.{Touch}
 use Rattle.obs_forest.specs.Holding.{Holding}
 use Rattle.obs_forest.specs.Holding.{StandsOver as ForestStandsOver}
 use Rattle.obs_forest.proofs.Keeping.{written_back}
-use Rattle.obs_assign.specs.Assigned.{Assigned, HoldsPairs, IsWhole, StandsOver, has_flag, pairs}
+use Rattle.obs_assign.specs.Assigned.{Assigned, HoldsPairs, StandsOver, has_flag, pairs}
 use Rattle.obs_assign.specs.Kept.{seen}
 use Rattle.obs_assign.specs.Pins.{IsPinnedAt, MayPin, joins, pinned_slots}
 use Rattle.obs_assign.specs.Spare.{IsSpare}
@@ -160,8 +160,7 @@ pub returns-clause-pinned : goal.returns-clause-pinned
 returns-clause-pinned g c =
     let a = (goal.at.returns-clause-pinned g c).After-take_pin-self-inside in
     let u = (goal.at.returns-clause-pinned g c).After-unwrap-x in
-    let meters = c.self.inside.meters in
-    (
+    let meters = c.self.inside.meters in (
       c.unwrap-x.result,
       rw (slots_back g a) (subst (λ (b : Assigned). IsPinnedAt b c.args.g.now.ends c.args.m c.args.e (take meters c.take_pin-self-inside.new.slots) c.unwrap-x.result) c.self.view_is
           (made g a c.turn-self-inside.result (ready g u) (pinned_forest g u)).pinned_is),
