@@ -71,3 +71,5 @@ pub record AreParts (links : List Link) (live kept : List (Option Ends)) (touche
   pub listed_components : listed.most_components ≡ components.most_buses
   pub listed_count : listed.components ≡ length components.first_buses
   pub lists : listed.lists ≡ lists_of components graph meters
+  pub touches_are : take (length offered.touches) touches ≡ offered.touches
+  pub front : take (length meters.touches) offered.touches ≡ meters.touches

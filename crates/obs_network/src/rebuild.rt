@@ -144,6 +144,8 @@ pub(crate) fn refill_items(
     ensures offered { offered.new.touches ≡ case_offered case.now }
     ensures most_meters { meters.new.most ≡ meters.old.most }
     ensures most_offered { offered.new.most ≡ offered.old.most }
+    ensures kept { touches.new ≡ offered.new.touches }
+    ensures front { take (length meters.new.touches) touches.new ≡ meters.new.touches }
 {
     let (of_meters, of_candidates) = touches.split_at_mut(case.meters().len());
     write_meters(case.meters(), buses, of_meters);
@@ -152,31 +154,17 @@ pub(crate) fn refill_items(
     offered.refill(touches);
 }
 
-// Copies what the items touch.
-fn copy_touches(items: &Meters, touches: &mut [Touch])
-    requires one_each { length touches.old ≡ length items.now.touches }
-    ensures copied { touches.new ≡ items.now.touches }
-{
-    for m in 0..items.count() {
-        touches[m as usize] = items.kind(m);
-    }
-}
-
-// Gives one item another touch. The others are copied out and in again.
-fn give_touch(items: &mut Meters, touches: &mut [Touch], m: u32, touch: Touch)
-    requires item { m < length items.old.touches }
-    requires room { length items.old.touches ≤ length touches.old }
+// Makes the items anew, as many as they are, from what they touch now.
+fn renew(items: &mut Meters, touches: &[Touch])
+    requires room { length items.old.touches ≤ length touches.now }
     requires most { length items.old.touches ≤ items.old.most }
-    ensures whole { items.new ≡ record items.old { touches = slice_set items.old.touches m touch } }
-    ensures same_room { length touches.new ≡ length touches.old }
+    ensures whole { items.new ≡ record items.old { touches = take (length items.old.touches) touches.now } }
 {
-    let touches = &mut touches[..items.count() as usize];
-    copy_touches(items, touches);
-    touches[m as usize] = touch;
-    items.refill(touches);
+    items.refill(&touches[..items.count() as usize]);
 }
 
-/// Makes one meter that of the case, among the meters and among these with the candidates behind them.
+/// Makes one meter that of the case, among the meters and among these with the candidates behind them. What all touch
+/// stands in the array still, from when they were made.
 pub(crate) fn change_item(
     case: &Case,
     buses: &Buses,
@@ -191,8 +179,9 @@ pub(crate) fn change_item(
     requires offered { m < length offered.old.touches }
     requires few { length meters.old.touches ≤ meters.old.most }
     requires few_offered { length offered.old.touches ≤ offered.old.most }
-    requires room { length meters.old.touches ≤ length touches.old }
     requires room_offered { length offered.old.touches ≤ length touches.old }
+    requires kept { take (length offered.old.touches) touches.old ≡ offered.old.touches }
+    requires front { take (length meters.old.touches) offered.old.touches ≡ meters.old.touches }
     ensures meters { meters.new ≡ record meters.old {
       touches = slice_set meters.old.touches m (slice_index_or (case_meters case.now) m Touch.Nothing);
     } }
@@ -200,8 +189,10 @@ pub(crate) fn change_item(
       touches = slice_set offered.old.touches m (slice_index_or (case_meters case.now) m Touch.Nothing);
     } }
     ensures same_room { length touches.new ≡ length touches.old }
+    ensures kept { take (length offered.new.touches) touches.new ≡ offered.new.touches }
+    ensures front { take (length meters.new.touches) offered.new.touches ≡ meters.new.touches }
 {
-    let touch = touch_of_meter(&case.meters()[m as usize], buses);
-    give_touch(meters, touches, m, touch);
-    give_touch(offered, touches, m, touch);
+    touches[m as usize] = touch_of_meter(&case.meters()[m as usize], buses);
+    renew(meters, touches);
+    renew(offered, touches);
 }

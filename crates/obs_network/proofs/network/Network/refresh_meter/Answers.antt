@@ -1,4 +1,4 @@
-use Rattle.std.proofs.Common.{◌≡◌, ◌∙◌, ℕ, sym, ap, ◌<◌, ◌≤◌, length, get_or, set, subst, arith}
+use Rattle.std.proofs.Common.{◌≡◌, ◌∙◌, ℕ, sym, ap, ◌<◌, ◌≤◌, length, get_or, set, take, subst, arith}
 use Rattle.obs_meter.specs.declared.Touch.TheVariants.{Nothing}
 use Rattle.std.proofs.lemmas.List.Elements.{All-get_or}
 use Rattle.obs_meter.specs.Held.{Items}
@@ -17,7 +17,6 @@ change_item-requires c =
     let is = c.self.view_is in
     let few = subst (λ (x : NetworkOf). length x.meters.touches ≤ x.meters.most) (sym is) f.few in
     let few_offered = subst (λ (x : NetworkOf). length x.offered.touches ≤ x.offered.most) (sym is) f.few_offered in
-    let fewer = c.self.invariant.fewer in
     let room = c.self.invariant.touches_len in
     let same = ap length c.deref_mut.ensures.value in
     record {
@@ -27,8 +26,9 @@ change_item-requires c =
       offered = subst (λ (x : NetworkOf). c.args.m < length x.offered.touches) (sym is) f.item_offered;
       few = few;
       few_offered = few_offered;
-      room = omega (arith, few, fewer, room, same);
       room_offered = omega (arith, few_offered, room, same);
+      kept = ap (take (length c.self.inside.offered.touches)) c.deref_mut.ensures.value ∙ c.self.invariant.touches_are;
+      front = c.self.invariant.front;
     }
 
 -- what the meters and the items touch after
@@ -73,12 +73,13 @@ invariant_of-self c =
     let most = ap (λ (i : Items). i.most) items.meters in
     let most_offered = ap (λ (i : Items). i.most) items.offered in
     let as_long = items.same_room ∙ ap length c.deref_mut.ensures.value in
+    let back = written_back c.self.inside.touches.len c.change_item.new.touches c.self.inside.touches.items as_long (omega arith) in
     record {
       buses_room = v.buses_room;
       vertices_room = v.vertices_room;
       branches_room = v.branches_room;
       kept_len = v.kept_len;
-      touches_len = ap length (written_back c.self.inside.touches.len c.change_item.new.touches c.self.inside.touches.items as_long (omega arith)) ∙ (as_long ∙ (v.touches_len ∙ sym most_offered));
+      touches_len = ap length back ∙ (as_long ∙ (v.touches_len ∙ sym most_offered));
       fewer = omega (arith, v.fewer, most, most_offered);
       search_room = v.search_room;
       vertices = v.vertices;
@@ -90,6 +91,8 @@ invariant_of-self c =
       listed_count = listed.components ∙ v.listed_count;
       lists = lists-set c.self.inside.components g c.self.inside.meters c.change_item.new.meters c.args.m (get_or (case_meters c.args.case.now) c.args.m Nothing) c.kind-touch.result
           (subst (λ (x : NetworkOf). c.args.m < length x.meters.touches) (sym is) f.item) items.meters c.kind-touch.ensures.kind c.self.inside.live_meters.lists c.set.new.self.lists v.lists listed.lists;
+      touches_are = ap (take (length c.change_item.new.offered.touches)) back ∙ items.kept;
+      front = items.front;
     }
 
 pub returns : goal.returns

@@ -1,4 +1,5 @@
-use Rattle.std.proofs.Common.{◌∙◌, sym, refl, ap, length, arith}
+use Rattle.std.proofs.Common.{◌∙◌, sym, refl, ap, length, take, arith}
+use Rattle.std.proofs.lemmas.List.{take_all}
 use Rattle.obs_switch.specs.Held.{Labelled}
 use Rattle.obs_network.specs.Network.{NetworkOf, Rows, case_needed}
 use Rattle.obs_network.proofs.Grouping.{written_back}
@@ -103,6 +104,8 @@ invariant_of-self c =
       listed_components = omega (arith, v.listed_components, listed.most_components, found.room);
       listed_count = listed.components;
       lists = listed.lists;
+      touches_are = ap (take (length c.refill_items.new.offered.touches)) items.kept ∙ take_all (length c.refill_items.new.offered.touches) c.refill_items.new.offered.touches (omega arith);
+      front = ap (take (length c.refill_items.new.meters.touches)) (sym items.kept) ∙ items.front;
     }
 
 pub returns : goal.returns
