@@ -1,0 +1,24 @@
+use Rattle.std.proofs.Common.{◌≡◌, ℕ, Option, Some, None, true, false, ap, sym, ◌∙◌}
+use Rattle.obs_matroid.proofs.Lists.{clash}
+use Rattle.obs_edit.specs.declared.hand.AtHand.{AtHand}
+use Rattle.obs_edit.proofs.analysis.Analysis.begin.Goals as goal
+
+no_bound : (k : ℕ) → None ≡ Some k → ⊥
+no_bound k is = cc
+
+pub invariant_of-result : goal.invariant_of-result
+invariant_of-result g c =
+    let nothing = c.in_ok-answers.ensures.nothing in
+    record {
+      network = c.in_ok-network.ensures.whole;
+      longest = c.fill.ensures.longest;
+      room = c.fill.ensures.room;
+      answer_room = c.in_ok-answers.ensures.room;
+      answers = record {
+        first = λ is. clash is (ap (λ (h : AtHand). h.first) nothing);
+        marks = λ is. clash is (ap (λ (h : AtHand). h.critical) nothing);
+        critical = λ is. clash is (ap (λ (h : AtHand). h.critical) nothing);
+        islands = λ is. clash is (ap (λ (h : AtHand). h.islands) nothing);
+        bound = λ k is. absurd (no_bound k (sym (ap (λ (h : AtHand). h.bound) nothing) ∙ is));
+      };
+    }
