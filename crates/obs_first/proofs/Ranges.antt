@@ -32,6 +32,16 @@ range_last a (suc n) j e = ap (λ l. a ∷ l) (range_last (a + 1) n j (omega ari
 pub range_more : (i : ℕ) → range_with_len 0 (i + 1) ≡ range_with_len 0 i ++ i ∷ []
 range_more i = let on : i + 1 ≡ suc i = omega arith in ap (range_with_len 0) on ∙ range_last 0 i i (omega arith)
 
+pub range_parts : (a n k : ℕ) → range_with_len a (n + k) ≡ range_with_len a n ++ range_with_len (a + n) k
+range_parts a zero k =
+    let none : 0 + k ≡ k = omega arith in
+    let same : a ≡ a + 0 = omega arith in
+    ap (range_with_len a) none ∙ ap (λ b. range_with_len b k) same
+range_parts a (suc n) k =
+    let more : suc n + k ≡ suc (n + k) = omega arith in
+    let on : a + 1 + n ≡ a + suc n = omega arith in
+    ap (range_with_len a) more ∙ ap (λ l. a ∷ l) (range_parts (a + 1) n k ∙ ap (λ b. range_with_len (a + 1) n ++ range_with_len b k) on)
+
 -- one of the first k + 1 elements is one of the first k, or the next one
 pub In-take_more : (xs : List ℕ) (k d y : ℕ) → k < length xs → In y (take (k + 1) xs) → In y (take k xs) ⊎ (y ≡ get_or xs k d)
 In-take_more xs k d y l i =

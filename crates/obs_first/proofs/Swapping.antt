@@ -1,6 +1,6 @@
--- Two meters in a row that touch the same: what would be lower at the first of them, the second can't have, since the two
--- could swap.
-use Rattle.std.proofs.Common.{◌≡◌, ℕ, suc, ◌<◌, cond, ◌==◌, Option, Some, None, List, [], ◌∷◌, ◌++◌, length, map, get_or, refl, sym, ap, ◌∙◌, subst, inl, inr, arith, eq-eqb}
+-- Two meters that touch the same: what would be lower at the first of them, the second can't have, since the two could
+-- swap.
+use Rattle.std.proofs.Common.{◌≡◌, ℕ, suc, ◌<◌, ◌≤◌, ◌+◌, ◌-◌, cond, ◌==◌, Option, Some, None, List, [], ◌∷◌, ◌++◌, length, map, get_or, refl, sym, ap, ◌∙◌, subst, inl, inr, arith, eq-eqb}
 use Rattle.std.specs.List.{range_with_len}
 use Rattle.std.proofs.lemmas.Bool.{cases_eq, ne_eqb}
 use Rattle.obs_graph.specs.declared.Ends.{Ends}
@@ -18,7 +18,7 @@ use Rattle.obs_meter.specs.Assignments.{IsAssignmentAt}
 use Rattle.obs_meter.specs.Touches.{every_item, touch_at, touched}
 use Rattle.obs_assign.specs.Assigned.{Assigned, pairs}
 use Rattle.obs_first.specs.Deciding.{HasFrozenOf, IsDecided, IsPassed}
-use Rattle.obs_first.proofs.Ranges.{below_from, below_in, range_more}
+use Rattle.obs_first.proofs.Ranges.{below_from, below_in, range_more, range_parts}
 
 -- where A does not come after B by P and k, and B has at P what A has: B has nothing lower than A at k
 not_lower : (P : List ℕ) (k y : ℕ) (A B : List Pair) → IsNotAfter (P ++ k ∷ []) A B → ((x e : ℕ) → In x P → branch_at A x ≡ Some e → branch_at B x ≡ Some e)
@@ -40,6 +40,17 @@ not_lower (x ∷ P) k y A B (inl l) h at b = elim (cases_Option (branch_at A x))
   | inr s ↦ let t = h x s.0 (inl refl) s.1 in let w : s.0 < s.0 = rw (s.1, t) at l in omega (arith, w)
 ]
 not_lower (x ∷ P) k y A B (inr c) h at b = not_lower P k y A B c.1 (λ z e i s. h z e (inr i) s) at b
+
+-- what comes first by a list, comes first by the front of it
+IsNotAfter-front : (P Q : List ℕ) (A B : List Pair) → IsNotAfter (P ++ Q) A B → IsNotAfter P A B
+IsNotAfter-front [] Q A B n = tt
+IsNotAfter-front (x ∷ P) Q A B (inl l) = inl l
+IsNotAfter-front (x ∷ P) Q A B (inr c) = inr (c.0, IsNotAfter-front P Q A B c.1)
+
+IsNotAfter-range : (i n : ℕ) (A B : List Pair) → i ≤ n → IsNotAfter (range_with_len 0 n) A B → IsNotAfter (range_with_len 0 i) A B
+IsNotAfter-range i n A B l h =
+    let parts : n ≡ i + (n - i) = omega (arith, l) in
+    IsNotAfter-front (range_with_len 0 i) (range_with_len (0 + i) (n - i)) A B (subst (λ P. IsNotAfter P A B) (ap (range_with_len 0) parts ∙ range_parts 0 i (n - i)) h)
 
 module _ (k m : ℕ) where
   -- k and m swapped
@@ -145,29 +156,29 @@ module _ (k m : ℕ) where
   unfolding swapped swap_pair
   swapped_at B x e i = In-map swap_pair (x, e) B i
 
--- a branch that would be lower at the meter before is refused
+-- a branch that would be lower at a meter before is refused
 pub refused_passed : (g : Shape) (touches : List Touch) (a : Assigned) (m long y : ℕ) → IsDecided g.ends touches a m long → m < length touches → IsPassed touches a m y
     → (B : List Pair) → HasFrozenOf g.ends touches a B → In (m, y) B → length B < long
 refused_passed g touches a m long y d low p B h i =
     let k = p.before in
-    let next = p.next in
-    let apart : k ≡ m → ⊥ = λ e. omega (arith, e, next) in
+    let before = p.lower in
+    let apart : k ≡ m → ⊥ = λ e. omega (arith, e, before) in
     let same : touch_at g.ends touches k ≡ touch_at g.ends touches m = ap (touched g.ends) p.same in
     let C : List Pair = swapped k m B in
-    let c = swapped_assigns k m g.ends touches apart same (below_in (length touches) k (omega (arith, low, next))) (below_in (length touches) m low) B h.assigns in
+    let c = swapped_assigns k m g.ends touches apart same (below_in (length touches) k (omega (arith, low, before))) (below_in (length touches) m low) B h.assigns in
     let top = d.longest B h.assigns in
     elim (cases_eq (length B) long) [
       | inr n ↦ omega (arith, top, n)
       | inl e ↦
           let least : IsNotAfter (range_with_len 0 k ++ k ∷ []) (pairs a) C =
-          subst (λ P. IsNotAfter P (pairs a) C) (ap (range_with_len 0) next ∙ range_more k) (d.least C c (swapped_length k m B ∙ e)) in
+          subst (λ P. IsNotAfter P (pairs a) C) (range_more k) (IsNotAfter-range (k + 1) m (pairs a) C (omega (arith, before)) (d.least C c (swapped_length k m B ∙ e))) in
           let at : branch_at C k ≡ Some y =
           branch_at_in C k y c.different (subst (λ x. In (x, y) C) (swap_m k m apart) (swapped_at k m B m y i)) in
           let has : (x f : ℕ) → In x (range_with_len 0 k) → branch_at (pairs a) x ≡ Some f → branch_at C x ≡ Some f = λ x f j s.
           let l = below_from k x j in
           let v = branch_at_from (pairs a) x f s in
-          let t = h.extends (x, f) v ((d.frozen x).1 (omega (arith, l, next), In-items (pairs a) (x, f) v)) in
-          branch_at_in C x f c.different (subst (λ z. In (z, f) C) (swap_other k m x (λ w. omega (arith, w, l)) (λ w. omega (arith, w, l, next))) (swapped_at k m B x f t)) in
+          let t = h.extends (x, f) v ((d.frozen x).1 (omega (arith, l, before), In-items (pairs a) (x, f) v)) in
+          branch_at_in C x f c.different (subst (λ z. In (z, f) C) (swap_other k m x (λ w. omega (arith, w, l)) (λ w. omega (arith, w, l, before))) (swapped_at k m B x f t)) in
           absurd (not_lower (range_with_len 0 k) k y (pairs a) C least has at (higher p))
     ]
   where

@@ -1,5 +1,5 @@
 -- How the first assignment is found, meter by meter: the decided pairs are frozen.
-use Rattle.std.specs.Prelude.{◌≡◌, ◌↔◌, ℕ, ◌+◌, ◌<◌, ◌≤◌, true, Option, Some, List, length, slice_index_or, slice_set}
+use Rattle.std.specs.Prelude.{◌≡◌, ◌↔◌, ℕ, ◌<◌, ◌≤◌, true, Option, Some, List, length, slice_index_or, slice_set}
 use Rattle.std.specs.List.{range_with_len}
 use Rattle.obs_graph.specs.declared.Ends.{Ends}
 use Rattle.obs_matroid.specs.Assignments.{Pair, items, part}
@@ -40,10 +40,10 @@ pub record HasRefused (ends : List (Option Ends)) (touches : List Touch) (a b : 
   pub frozen : b.frozen ≡ a.frozen
   pub none : (B : List Pair) → HasFrozenOf ends touches a B → In (m, e) B → length B < long
 
--- the meter before m touches the same, and has a higher branch than y, or none
+-- a meter before m touches the same, and has a higher branch than y, or none
 pub record IsPassed (touches : List Touch) (a : Assigned) (m y : ℕ) : Type 0 where
   pub before : ℕ
-  pub next : m ≡ before + 1
+  pub lower : before < m
   pub same : slice_index_or touches before Nothing ≡ slice_index_or touches m Nothing
   pub higher : IsBefore (Some y) (branch_at a before)
 

@@ -1,6 +1,7 @@
 // How one meter is decided: it takes the lowest branch with which the pairs can be as many as before.
-ghost use Rattle.std.specs.Prelude.{◌≡◌, ◌+◌, ◌<◌, ◌≤◌, false, ℕ, length, MatchBool};
+ghost use Rattle.std.specs.Prelude.{◌≡◌, ◌+◌, ◌<◌, ◌≤◌, false, ℕ, Some, length, slice_index_or, MatchBool};
 ghost use Rattle.obs_matroid.specs.Lists.{In};
+ghost use Rattle.obs_meter.specs.declared.Touch.TheVariants.{Nothing};
 ghost use Rattle.obs_meter.specs.Sizes.{HasRoomFor};
 ghost use Rattle.obs_meter.specs.Touches.{AreInRange, touch_at};
 ghost use Rattle.obs_assign.specs.Assigned.{HasRoomOf, IsWhole, StandsOver, is_frozen, pairs};
@@ -11,6 +12,9 @@ use obs_exchange::{Work, lengthen};
 use obs_graph::Graph;
 use obs_meter::Meters;
 use std::sync::ledger::Ledger;
+
+/// How many meters before a meter are looked at for one that touches the same.
+const LOOKS_BACK: u32 = 1000;
 
 /// Searches until there are so many pairs beside the frozen ones, and says whether that came about.
 fn regrow<L: Ledger>(
@@ -75,17 +79,33 @@ fn take_branch<L: Ledger>(
     false
 }
 
-/// A bound below which the meter can have no branch: where the one before touches the same, this one can have none that
+/// The nearest meter before m that touches the same, of the last thousand.
+fn same_before(ms: &Meters, m: u32) -> Option<u32>
+    requires m { m < length ms.now.touches }
+    ensures before { (k : ℕ) → result ≡ Some k → k < m }
+    ensures same { (k : ℕ) → result ≡ Some k →
+        slice_index_or ms.now.touches k Nothing ≡ slice_index_or ms.now.touches m Nothing }
+{
+    let kind = ms.kind(m);
+    for k in (m.saturating_sub(LOOKS_BACK)..m).rev() {
+        if ms.kind(k) == kind {
+            return Some(k);
+        }
+    }
+    None
+}
+
+/// A bound below which the meter can have no branch: where one before it touches the same, this one can have none that
 /// would have been lower there.
 fn lowest_for(ms: &Meters, a: &Assignment, m: u32) -> u32
     requires m { m < length ms.now.touches }
     requires meters { length ms.now.touches ≡ length a.now.slots }
     ensures passed { (y : ℕ) → y < result → IsPassed ms.now.touches a.now m y }
 {
-    if m == 0 || ms.kind(m - 1) != ms.kind(m) {
+    let Some(k) = same_before(ms, m) else {
         return 0;
-    }
-    match a.branch_of(m - 1) {
+    };
+    match a.branch_of(k) {
         Some(e) => e,
         None => u32::MAX,
     }
