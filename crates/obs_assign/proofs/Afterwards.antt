@@ -5,7 +5,7 @@ use Rattle.obs_graph.specs.declared.Ends.{Ends}
 use Rattle.obs_matroid.specs.Lists.{In}
 use Rattle.obs_matroid.proofs.Contained.{Contains-from_In}
 use Rattle.obs_assign.specs.declared.Move.{Move}
-use Rattle.obs_assign.specs.Assigned.{Assigned, IsWhole, branch_at}
+use Rattle.obs_assign.specs.Assignment.{Assignment, IsWhole, branch_at}
 use Rattle.obs_assign.specs.Moves.{ArePath, moved}
 use Rattle.obs_assign.specs.Pins.{IsPinnedAt}
 use Rattle.obs_assign.proofs.Keeping.{path_low}
@@ -37,15 +37,15 @@ moved-taken (y ∷ path) slots d low x (inl e) =
 moved-taken (y ∷ path) slots d low x (inr i) =
     moved-taken path (set slots y.meter (Some y.branch)) (tail_apart y path d) (λ z k. let l = low z (inr k) in omega (arith, l, length-set slots y.meter (Some y.branch))) x i
 
-pub path_taken : (a : Assigned) (path : List Move) → ArePath a path → (x : Move) → In x path → get_or (moved path a.slots) x.meter None ≡ Some x.branch
+pub path_taken : (a : Assignment) (path : List Move) → ArePath a path → (x : Move) → In x path → get_or (moved path a.slots) x.meter None ≡ Some x.branch
 path_taken a [] h x i = absurd i
 path_taken a (first ∷ rest) h x i = moved-taken (first ∷ rest) a.slots h.different (path_low a (first ∷ rest) h) x i
 
 -- a meter has its branch alone
-pub one_owner : (a : Assigned) → IsWhole a → (m k e : ℕ) → branch_at a m ≡ Some e → branch_at a k ≡ Some e → m ≡ k
+pub one_owner : (a : Assignment) → IsWhole a → (m k e : ℕ) → branch_at a m ≡ Some e → branch_at a k ≡ Some e → m ≡ k
 one_owner a whole m k e = slots_apart a.forest.held a.slots whole.paired.holds.forest m k e
 
-module _ (a : Assigned) (ends : List (Option Ends)) (m e x : ℕ) (after : List (Option ℕ)) (h : IsPinnedAt a ends m e after x) where
+module _ (a : Assignment) (ends : List (Option Ends)) (m e x : ℕ) (after : List (Option ℕ)) (h : IsPinnedAt a ends m e after x) where
   pub pin_taken : m < length a.slots → get_or after m None ≡ Some e
   pin_taken low = rw h.pairs_are (pinned-at a.slots m e x low)
 

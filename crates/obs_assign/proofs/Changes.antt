@@ -4,7 +4,7 @@ use Rattle.std.proofs.lemmas.List.{length-take-le, length-replicate}
 use Rattle.std.proofs.Math.Seq.{take-set-lt}
 use Rattle.obs_graph.specs.declared.Ends.{Ends}
 use Rattle.obs_graph.specs.Positions.{IsForestAt}
-use Rattle.obs_graph.specs.Shape.{Shape}
+use Rattle.obs_graph.specs.Graph.{Graph}
 use Rattle.obs_graph.proofs.AtPositions.{IsForestAt-among}
 use Rattle.obs_matroid.specs.Assignments.{branches}
 use Rattle.obs_matroid.specs.Closed.{HasFrozen}
@@ -14,20 +14,20 @@ use Rattle.obs_matroid.proofs.Slots.{slot_at}
 use Rattle.obs_meter.specs.declared.Touch.{Touch}
 use Rattle.obs_meter.specs.Assignments.{IsAssignmentAt}
 use Rattle.obs_meter.specs.Touches.{every_item}
-use Rattle.obs_forest.specs.Holding.{Holding, taken}
-use Rattle.obs_forest.specs.Holding.{StandsOver as ForestStandsOver}
+use Rattle.obs_forest.specs.Forest.{Forest, taken}
+use Rattle.obs_forest.specs.Forest.{StandsOver as ForestStandsOver}
 use Rattle.obs_assign.specs.declared.Move.{Move}
-use Rattle.obs_assign.specs.Assigned.{Assigned, IsWhole, StandsOver, has_flag, pairs}
+use Rattle.obs_assign.specs.Assignment.{Assignment, IsWhole, StandsOver, has_flag, pairs}
 use Rattle.obs_assign.specs.Kept.{SlotsApart, seen}
 use Rattle.obs_assign.specs.Moves.{ArePath, moved}
 use Rattle.obs_assign.proofs.Slotted.{IsForestAt-over, branch_slot, distinct-from_apart, none_some, slot_branch, slots_apart}
 use Rattle.obs_assign.proofs.Keeping.{HasFrozen-clear, HasFrozen-dropped, HasFrozen-moved, IsForestAt-empty, IsWhole-remade, StandsOver-remade, empty_pairs, forest_stands, length-path, path_low, slot_without, take_at, take-moved}
 
 -- the slots after moves, of the first meters
-pub moved_first : (now : Assigned) (path : List Move) (meters : ℕ) (slots new : List (Option ℕ)) (frozen : List Bool) (turns : ℕ) (forest : Holding)
+pub moved_first : (now : Assignment) (path : List Move) (meters : ℕ) (slots new : List (Option ℕ)) (frozen : List Bool) (turns : ℕ) (forest : Forest)
     → seen meters slots frozen turns forest ≡ now → meters ≤ length slots → ArePath now path → new ≡ moved path slots → take meters new ≡ moved path now.slots
 moved_first now path meters slots new frozen turns forest is low h new_is =
-    let slots_are : take meters slots ≡ now.slots = ap (λ (a : Assigned). a.slots) is in
+    let slots_are : take meters slots ≡ now.slots = ap (λ (a : Assignment). a.slots) is in
     let len = length-take-le meters slots low in
     let same = ap (λ (l : List (Option ℕ)). length l) slots_are in
     ap (take meters) new_is ∙ (take-moved meters path slots (λ x i. let l = path_low now path h x i in omega (arith, l, len, same)) ∙ ap (moved path) slots_are)
@@ -36,13 +36,13 @@ abbrev pub HF : List Bool → List (Option ℕ) → Type 0
 HF flags s = HasFrozen (has_flag flags) (pairs_of s)
 
 -- the new assignment after the moves of a path
-pub record IsMoved (now : Assigned) (path : List Move) (g : Shape) (touches : List Touch) (new : Assigned) : Type 0 where
+pub record IsMoved (now : Assignment) (path : List Move) (g : Graph) (touches : List Touch) (new : Assignment) : Type 0 where
   pub slots_are : new.slots ≡ moved path now.slots
   pub longer : length (pairs new) ≡ length (pairs now) + 1
   pub stands : StandsOver new g touches
   pub whole : IsWhole new
 
-pub IsMoved-made : (now : Assigned) (path : List Move) (g : Shape) (touches : List Touch) (meters : ℕ) (slots new : List (Option ℕ)) (frozen : List Bool) (turns after_turns : ℕ) (forest after : Holding)
+pub IsMoved-made : (now : Assignment) (path : List Move) (g : Graph) (touches : List Touch) (meters : ℕ) (slots new : List (Option ℕ)) (frozen : List Bool) (turns after_turns : ℕ) (forest after : Forest)
     → seen meters slots frozen turns forest ≡ now → IsWhole (seen meters slots frozen turns forest) → meters ≤ length slots → length frozen ≡ length slots
     → StandsOver now g touches → ArePath now path → IsAssignmentAt g.ends touches (every_item touches) (pairs_of (moved path now.slots))
     → new ≡ moved path slots → length new ≡ length slots
@@ -51,10 +51,10 @@ pub IsMoved-made : (now : Assigned) (path : List Move) (g : Shape) (touches : Li
 IsMoved-made now path g touches meters slots new frozen turns after_turns forest after is whole low flags stands h assigns new_is len after_is =
     let first = moved_first now path meters slots new frozen turns forest is low h new_is in
     let f : IsForestAt g.ends (branches (pairs_of (take meters new))) = subst (λ (s : List (Option ℕ)). IsForestAt g.ends (branches (pairs_of s))) (sym first) assigns.forest in
-    let slots_are : take meters slots ≡ now.slots = ap (λ (a : Assigned). a.slots) is in
-    let forest_is : forest ≡ now.forest = ap (λ (a : Assigned). a.forest) is in
-    let vertices = ap (λ (x : Holding). x.vertices) forest_is in
-    let held = ap (λ (x : Holding). length x.held) forest_is in
+    let slots_are : take meters slots ≡ now.slots = ap (λ (a : Assignment). a.slots) is in
+    let forest_is : forest ≡ now.forest = ap (λ (a : Assignment). a.forest) is in
+    let vertices = ap (λ (x : Forest). x.vertices) forest_is in
+    let held = ap (λ (x : Forest). length x.held) forest_is in
     let sv = stands.forest.vertices in
     let sp = stands.forest.positions in
     let wv = whole.vertices in
@@ -82,7 +82,7 @@ forest_dropped ends slots m f =
     (λ q c. let s = branch_slot (set slots m None) q (In-from_Contains q K c) in Contains-from_In q L (slot_branch slots s.0 q (slot_without slots m s.0 q s.1).1))
     (pairs_from_IsDistinct K (distinct-from_apart (set slots m None) apart))
 
-pub record IsDropped (now : Assigned) (m : ℕ) (g : Shape) (new : Assigned) : Type 0 where
+pub record IsDropped (now : Assignment) (m : ℕ) (g : Graph) (new : Assignment) : Type 0 where
   pub slots_are : new.slots ≡ set now.slots m None
   pub frozen_are : new.frozen ≡ set now.frozen m false
   pub forest : ForestStandsOver new.forest g
@@ -90,19 +90,19 @@ pub record IsDropped (now : Assigned) (m : ℕ) (g : Shape) (new : Assigned) : T
   pub whole : IsWhole new
 
 -- what hold_pairs asks when a pair was taken away
-pub dropped_first : (now : Assigned) (m : ℕ) (g : Shape) (meters : ℕ) (slots : List (Option ℕ)) (frozen : List Bool) (turns : ℕ) (forest : Holding)
+pub dropped_first : (now : Assignment) (m : ℕ) (g : Graph) (meters : ℕ) (slots : List (Option ℕ)) (frozen : List Bool) (turns : ℕ) (forest : Forest)
     → seen meters slots frozen turns forest ≡ now → IsWhole (seen meters slots frozen turns forest) → meters ≤ length slots → ForestStandsOver now.forest g → m < length now.slots
     → IsForestAt g.ends (branches (pairs_of (take meters (set slots m None)))) × (m < meters)
 dropped_first now m g meters slots frozen turns forest is whole low stands lm =
-    let forest_is : forest ≡ now.forest = ap (λ (a : Assigned). a.forest) is in
-    let part = subst (λ (h : Holding). ForestStandsOver h g) (sym forest_is) stands in
+    let forest_is : forest ≡ now.forest = ap (λ (a : Assignment). a.forest) is in
+    let part = subst (λ (h : Forest). ForestStandsOver h g) (sym forest_is) stands in
     let lt = length-take-le meters slots low in
-    let len_now = ap (λ (a : Assigned). length a.slots) is in
+    let len_now = ap (λ (a : Assignment). length a.slots) is in
     let l : m < meters = omega arith in
     let f = IsForestAt-over forest.held g.ends (branches (pairs_of (take meters slots))) part.held whole.paired.holds.forest in
     (subst (λ (s : List (Option ℕ)). IsForestAt g.ends (branches (pairs_of s))) (sym (take-set-lt meters slots m None l)) (forest_dropped g.ends (take meters slots) m f), l)
 
-pub IsDropped-made : (now : Assigned) (m : ℕ) (g : Shape) (meters : ℕ) (slots : List (Option ℕ)) (frozen : List Bool) (turns : ℕ) (forest after : Holding)
+pub IsDropped-made : (now : Assignment) (m : ℕ) (g : Graph) (meters : ℕ) (slots : List (Option ℕ)) (frozen : List Bool) (turns : ℕ) (forest after : Forest)
     → seen meters slots frozen turns forest ≡ now → IsWhole (seen meters slots frozen turns forest) → meters ≤ length slots → length frozen ≡ length slots → ForestStandsOver now.forest g → m < length now.slots
     → after ≡ record forest { vertices = g.vertices; held = taken g.ends (branches (pairs_of (take meters (set slots m None)))) }
     → IsDropped now m g (seen meters (set slots m None) (set frozen m false) turns after)
@@ -111,11 +111,11 @@ IsDropped-made now m g meters slots frozen turns forest after is whole low flags
     let new = set slots m None in
     let f = first.0 in
     let l = first.1 in
-    let slots_are : take meters slots ≡ now.slots = ap (λ (a : Assigned). a.slots) is in
-    let frozen_are : take meters frozen ≡ now.frozen = ap (λ (a : Assigned). a.frozen) is in
-    let forest_is : forest ≡ now.forest = ap (λ (a : Assigned). a.forest) is in
-    let vertices = ap (λ (x : Holding). x.vertices) forest_is in
-    let held = ap (λ (x : Holding). length x.held) forest_is in
+    let slots_are : take meters slots ≡ now.slots = ap (λ (a : Assignment). a.slots) is in
+    let frozen_are : take meters frozen ≡ now.frozen = ap (λ (a : Assignment). a.frozen) is in
+    let forest_is : forest ≡ now.forest = ap (λ (a : Assignment). a.forest) is in
+    let vertices = ap (λ (x : Forest). x.vertices) forest_is in
+    let held = ap (λ (x : Forest). length x.held) forest_is in
     let sv = stands.vertices in
     let sp = stands.positions in
     let wv = whole.vertices in
@@ -126,7 +126,7 @@ IsDropped-made now m g meters slots frozen turns forest after is whole low flags
     let cut_flags : take meters (set frozen m false) ≡ set (take meters frozen) m false = take-set-lt meters frozen m false l in
     let lt = length-take-le meters slots low in
     let ltf = length-take-le meters frozen (omega arith) in
-    let len_now = ap (λ (a : Assigned). length a.slots) is in
+    let len_now = ap (λ (a : Assignment). length a.slots) is in
     let has = HasFrozen-dropped (take meters frozen) (take meters slots) m (omega arith) whole.paired.frozen_have in
     record {
       slots_are = cut ∙ ap (λ (s : List (Option ℕ)). set s m None) slots_are;
@@ -140,12 +140,12 @@ IsDropped-made now m g meters slots frozen turns forest after is whole low flags
           (subst (λ (s : List (Option ℕ)). HasFrozen (has_flag (set (take meters frozen) m false)) (pairs_of s)) (sym cut) has));
     }
 
-pub record IsCleared (g : Shape) (touches : List Touch) (new : Assigned) : Type 0 where
+pub record IsCleared (g : Graph) (touches : List Touch) (new : Assignment) : Type 0 where
   pub no_pair : pairs new ≡ []
   pub stands : StandsOver new g touches
   pub whole : IsWhole new
 
-pub IsCleared-made : (g : Shape) (touches : List Touch) (meters n k : ℕ) (turns : ℕ) (forest after : Holding) → meters ≡ length touches → meters ≤ n → k ≡ n → g.vertices ≤ forest.most_vertices → length g.ends ≤ forest.most_branches
+pub IsCleared-made : (g : Graph) (touches : List Touch) (meters n k : ℕ) (turns : ℕ) (forest after : Forest) → meters ≡ length touches → meters ≤ n → k ≡ n → g.vertices ≤ forest.most_vertices → length g.ends ≤ forest.most_branches
     → after ≡ record forest { vertices = g.vertices; held = taken g.ends (branches (pairs_of (take meters (replicate n None)))) }
     → IsCleared g touches (seen meters (replicate n None) (replicate k false) turns after)
 IsCleared-made g touches meters n k turns forest after m low same v b after_is =

@@ -9,7 +9,7 @@ use Rattle.obs_graph.specs.Positions.{branches_at, has_end}
 use Rattle.obs_graph.proofs.AtVertex.{at_vertex, has_end-at_vertex}
 use Rattle.std.specs.Cmp.Derive.{one_truth}
 use Rattle.obs_meter.specs.declared.Touch.{Touch}
-use Rattle.obs_forest.specs.Holding.{has_position}
+use Rattle.obs_forest.specs.Forest.{has_position}
 use Rattle.obs_forest.proofs.Held.{has_position-contains, contains-has_position}
 use Rattle.obs_assign.specs.declared.Move.{Move}
 use Rattle.obs_assign.specs.Kept.{IsInverse}

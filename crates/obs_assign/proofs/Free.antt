@@ -3,7 +3,7 @@ use Rattle.std.proofs.Common.{◌≡◌, ℕ, ◌<◌, List, [], ◌∷◌, Some
 use Rattle.obs_graph.specs.declared.Ends.{Ends}
 use Rattle.obs_graph.specs.Joined.{first_joined}
 use Rattle.obs_graph.specs.Positions.{AreBranches, present}
-use Rattle.obs_graph.specs.Shape.{Shape}
+use Rattle.obs_graph.specs.Graph.{Graph}
 use Rattle.obs_matroid.specs.Lists.{In, other_than}
 use Rattle.obs_matroid.specs.Assignments.{branches, others, part}
 use Rattle.obs_matroid.specs.Exchange.{put}
@@ -19,16 +19,16 @@ use Rattle.obs_meter.specs.Spanned.{ends_at, graph_matroid}
 use Rattle.obs_meter.specs.Touches.{every_item, touch_at}
 use Rattle.obs_meter.proofs.Assigned.{from_matroid, to_matroid}
 use Rattle.obs_meter.proofs.Instance.{IsMatroid-graph}
-use Rattle.obs_forest.specs.Holding.{has_position}
+use Rattle.obs_forest.specs.Forest.{has_position}
 use Rattle.obs_forest.proofs.Held.{has_position-contains}
 use Rattle.obs_assign.specs.declared.Move.{Move}
 use Rattle.obs_assign.specs.Moves.{ArePath}
-use Rattle.obs_assign.specs.Assigned.{Assigned, IsWhole, StandsOver, pairs}
+use Rattle.obs_assign.specs.Assignment.{Assignment, IsWhole, StandsOver, pairs}
 use Rattle.obs_assign.specs.Pins.{joins}
 use Rattle.obs_assign.proofs.Paths.{apart-pairs, apart_ends, joined-less}
 use Rattle.obs_assign.proofs.Standing.{IsAssignmentAt-standing, In-every}
 
-pub IsAssignmentAt-free : (a : Assigned) (g : Shape) (touches : List Touch) (m e : ℕ) → AreBranches g.vertices g.ends → IsWhole a → StandsOver a g touches → m < length a.slots → In e (touch_at g.ends touches m)
+pub IsAssignmentAt-free : (a : Assignment) (g : Graph) (touches : List Touch) (m e : ℕ) → AreBranches g.vertices g.ends → IsWhole a → StandsOver a g touches → m < length a.slots → In e (touch_at g.ends touches m)
     → joins g.ends (others (pairs a) m) e ≡ false → IsAssignmentAt g.ends touches (every_item touches) (pairs_of (set a.slots m (Some e)))
 IsAssignmentAt-free a g touches m e ok whole stands low touched free =
     let mat = graph_matroid g.vertices g.ends in
@@ -41,7 +41,7 @@ IsAssignmentAt-free a g touches m e ok whole stands low touched free =
     (IsAssignment-within mat laws (touch_at g.ends touches) M (put (m, e) (pairs a)) (pairs_of (set a.slots m (Some e))) p (IsDistinct-slots (set a.slots m (Some e))) (λ q j. (slots_put a.slots m e low q).0 j))
 
 -- a branch between two pieces is free
-pub IsAssignmentAt-between : (a : Assigned) (g : Shape) (touches : List Touch) (m e : ℕ) (u : Ends) → AreBranches g.vertices g.ends → IsWhole a → StandsOver a g touches → m < length a.slots
+pub IsAssignmentAt-between : (a : Assignment) (g : Graph) (touches : List Touch) (m e : ℕ) (u : Ends) → AreBranches g.vertices g.ends → IsWhole a → StandsOver a g touches → m < length a.slots
     → has_position (touch_at g.ends touches m) e ≡ true → get_or g.ends e None ≡ Some u → (first_joined (present a.forest.held) u.a ≡ first_joined (present a.forest.held) u.b → ⊥)
     → IsAssignmentAt g.ends touches (every_item touches) (pairs_of (set a.slots m (Some e)))
 IsAssignmentAt-between a g touches m e u ok whole stands low t there apart =
@@ -51,7 +51,7 @@ IsAssignmentAt-between a g touches m e u ok whole stands low t there apart =
     (λ p i. branches_within (part (other_than m) (pairs a)) (pairs a) (λ q j. (In-part_from (other_than m) (pairs a) q j).0) p i) off)
 
 -- one move is a path
-pub ArePath-one : (a : Assigned) (x : Move) → x.meter < length a.slots → get_or a.slots x.meter None ≡ None → ArePath a (x ∷ [])
+pub ArePath-one : (a : Assignment) (x : Move) → x.meter < length a.slots → get_or a.slots x.meter None ≡ None → ArePath a (x ∷ [])
 ArePath-one a x low bare = record {
   low = All-from_In (λ (y : Move). y.meter < length a.slots) (x ∷ []) (λ y i. one y i);
   bare = bare;

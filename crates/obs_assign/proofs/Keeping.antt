@@ -7,7 +7,7 @@ use Rattle.std.proofs.lemmas.List.{get_or-take, get_or-replicate, get_or_past, l
 use Rattle.std.proofs.Math.Seq.{take-set-lt}
 use Rattle.obs_graph.specs.declared.Ends.{Ends}
 use Rattle.obs_graph.specs.Positions.{IsForestAt}
-use Rattle.obs_graph.specs.Shape.{Shape}
+use Rattle.obs_graph.specs.Graph.{Graph}
 use Rattle.obs_matroid.specs.Lists.{In}
 use Rattle.obs_matroid.specs.Assignments.{Pair, branches}
 use Rattle.obs_matroid.specs.Closed.{HasFrozen}
@@ -16,47 +16,47 @@ use Rattle.obs_matroid.proofs.Contained.{Contains-from_In, In-from_All, In-from_
 use Rattle.obs_matroid.proofs.Lists.{clash}
 use Rattle.obs_meter.specs.declared.Touch.{Touch}
 use Rattle.obs_meter.specs.Touches.{touch_at}
-use Rattle.obs_forest.specs.Holding.{Holding, taken}
-use Rattle.obs_forest.specs.Holding.{StandsOver as ForestStandsOver}
+use Rattle.obs_forest.specs.Forest.{Forest, taken}
+use Rattle.obs_forest.specs.Forest.{StandsOver as ForestStandsOver}
 use Rattle.obs_forest.proofs.Held.{length-taken, part-taken}
 use Rattle.obs_forest.proofs.Keeping.{taken-exactly}
 use Rattle.obs_assign.specs.declared.Move.{Move}
-use Rattle.obs_assign.specs.Assigned.{Assigned, HoldsPairs, IsWhole, StandsOver, has_flag, pairs}
+use Rattle.obs_assign.specs.Assignment.{Assignment, HoldsPairs, IsWhole, StandsOver, has_flag, pairs}
 use Rattle.obs_assign.specs.Kept.{HasArrays, IsInverse, IsKept, IsListed, Lengths, seen}
 use Rattle.obs_assign.specs.Moves.{ArePath, moved}
 use Rattle.obs_assign.proofs.Slotted.{HoldsPairs-taken, IsForestAt-nil, item_slot, none_some, slot_item, slot_low}
 use Rattle.obs_assign.proofs.Moving.{length-moved_path, moved-some}
 
-pub StandsOver-taken : (f : Holding) (g : Shape) (L : List ℕ) → ForestStandsOver (record f { vertices = g.vertices; held = taken g.ends L }) g
+pub StandsOver-taken : (f : Forest) (g : Graph) (L : List ℕ) → ForestStandsOver (record f { vertices = g.vertices; held = taken g.ends L }) g
 StandsOver-taken f g L = record { vertices = refl; positions = sym (length-taken g.ends L); held = part-taken g.ends L }
 
 -- the forest holds the branches at such a list
-pub held_listed : (f : Holding) (g : Shape) (slots : List (Option ℕ)) (list : List ℕ) → ForestStandsOver f g → HoldsPairs slots f.held → IsListed slots list → f.held ≡ taken g.ends list
+pub held_listed : (f : Forest) (g : Graph) (slots : List (Option ℕ)) (list : List ℕ) → ForestStandsOver f g → HoldsPairs slots f.held → IsListed slots list → f.held ≡ taken g.ends list
 held_listed f g slots list stands holds listed =
     taken-exactly g.ends f.held list (sym stands.positions) stands.held (λ p. (
       (λ s. Contains-from_In p list ((listed.exactly p).1 ((holds.exactly p).0 s))),
       (λ i. (holds.exactly p).1 ((listed.exactly p).0 (In-from_Contains p list i))),
     ))
 
-module _ (forest after : Holding) (g : Shape) (meters : ℕ) (slots : List (Option ℕ)) (frozen : List Bool) (turns : ℕ)
+module _ (forest after : Forest) (g : Graph) (meters : ℕ) (slots : List (Option ℕ)) (frozen : List Bool) (turns : ℕ)
     (is : after ≡ record forest { vertices = g.vertices; held = taken g.ends (branches (pairs_of (take meters slots))) })
     (f : IsForestAt g.ends (branches (pairs_of (take meters slots)))) (low : meters ≤ length slots) where
   pub forest_stands : ForestStandsOver after g
-  forest_stands = subst (λ (h : Holding). ForestStandsOver h g) (sym is) (StandsOver-taken forest g (branches (pairs_of (take meters slots))))
+  forest_stands = subst (λ (h : Forest). ForestStandsOver h g) (sym is) (StandsOver-taken forest g (branches (pairs_of (take meters slots))))
 
   pub IsWhole-remade : length frozen ≡ length slots → g.vertices ≤ forest.most_vertices → length g.ends ≤ forest.most_branches
       → HasFrozen (has_flag (take meters frozen)) (pairs_of (take meters slots)) → IsWhole (seen meters slots frozen turns after)
   IsWhole-remade flags v b has =
-      let vertices = ap (λ (h : Holding). h.vertices) is in
-      let most_v = ap (λ (h : Holding). h.most_vertices) is in
-      let most_b = ap (λ (h : Holding). h.most_branches) is in
+      let vertices = ap (λ (h : Forest). h.vertices) is in
+      let most_v = ap (λ (h : Forest). h.most_vertices) is in
+      let most_b = ap (λ (h : Forest). h.most_branches) is in
       let positions = forest_stands.positions in
       let ls = length-take-le meters slots low in
       let lf = length-take-le meters frozen (omega arith) in
       record {
         paired = record {
           flags = omega arith;
-          holds = subst (λ (h : Holding). HoldsPairs (take meters slots) h.held) (sym is) (HoldsPairs-taken g.ends (take meters slots) f);
+          holds = subst (λ (h : Forest). HoldsPairs (take meters slots) h.held) (sym is) (HoldsPairs-taken g.ends (take meters slots) f);
           frozen_have = has;
         };
         meters = omega arith;
@@ -99,19 +99,19 @@ pub HasFrozen-clear : (n m : ℕ) (A : List Pair) → HasFrozen (has_flag (take 
 HasFrozen-clear n m A = λ k t. clash t (clear_flag n m k)
 
 -- the moves of a path
-pub path_low : (a : Assigned) (path : List Move) → ArePath a path → (x : Move) → In x path → x.meter < length a.slots
+pub path_low : (a : Assignment) (path : List Move) → ArePath a path → (x : Move) → In x path → x.meter < length a.slots
 path_low a [] h x i = absurd i
 path_low a (first ∷ rest) h x i = In-from_All (λ (y : Move). y.meter < length a.slots) (first ∷ rest) h.low x i
 
-pub path_some : (a : Assigned) (path : List Move) → ArePath a path → 0 < length path
+pub path_some : (a : Assignment) (path : List Move) → ArePath a path → 0 < length path
 path_some a [] h = absurd h
 path_some a (first ∷ rest) h = omega arith
 
-pub path_different : (a : Assigned) (path : List Move) → ArePath a path → AllPairs (λ (x y : Move). x.meter ≢ y.meter) path
+pub path_different : (a : Assignment) (path : List Move) → ArePath a path → AllPairs (λ (x y : Move). x.meter ≢ y.meter) path
 path_different a [] h = absurd h
 path_different a (first ∷ rest) h = h.different
 
-pub length-path : (a : Assigned) (path : List Move) → ArePath a path → length (pairs_of (moved path a.slots)) ≡ length (pairs a) + 1
+pub length-path : (a : Assignment) (path : List Move) → ArePath a path → length (pairs_of (moved path a.slots)) ≡ length (pairs a) + 1
 length-path a [] h = absurd h
 length-path a (first ∷ rest) h =
     length-moved_path first rest a.slots (path_low a (first ∷ rest) h first (inl refl)) h.bare (In-from_All (λ (y : Move). get_or a.slots y.meter None ≢ None) rest h.paired)
@@ -148,13 +148,13 @@ HasFrozen-dropped frozen slots m l h k t = elim (cases_eq k m) [
 ]
 
 -- thawed, with the pairs as they are
-pub seen-thawed : (meters : ℕ) (slots : List (Option ℕ)) (frozen new : List Bool) (turns : ℕ) (forest : Holding) (now : Assigned) → seen meters slots frozen turns forest ≡ now → meters ≤ length frozen
+pub seen-thawed : (meters : ℕ) (slots : List (Option ℕ)) (frozen new : List Bool) (turns : ℕ) (forest : Forest) (now : Assignment) → seen meters slots frozen turns forest ≡ now → meters ≤ length frozen
     → new ≡ replicate (length frozen) false → seen meters slots new turns forest ≡ record now { frozen = replicate (length now.frozen) false }
 seen-thawed meters slots frozen new turns forest now is low new_is =
     let len : length (take meters frozen) ≡ meters = length-take-le meters frozen low in
     let flags : take meters new ≡ replicate (length (take meters frozen)) false = ap (take meters) new_is ∙ (take-replicate meters (length frozen) false low ∙ ap (λ k. replicate k false) (sym len)) in
-    subst (λ (a : Assigned). seen meters slots new turns forest ≡ record a { frozen = replicate (length a.frozen) false }) is
-    (ap (λ (fs : List Bool). let a : Assigned = record { slots = take meters slots; frozen = fs; turns = turns; forest = forest; most_meters = length slots } in a) flags)
+    subst (λ (a : Assignment). seen meters slots new turns forest ≡ record a { frozen = replicate (length a.frozen) false }) is
+    (ap (λ (fs : List Bool). let a : Assignment = record { slots = take meters slots; frozen = fs; turns = turns; forest = forest; most_meters = length slots } in a) flags)
 
 -- the meter of a branch is one of the first
 pub owner_low : (meters : ℕ) (slots owners : List (Option ℕ)) (o : Option ℕ) (e : ℕ) → IsInverse (take meters slots) owners → get_or owners e None ≡ o → IfSome o (λ m. m < length (take meters slots))
@@ -169,7 +169,7 @@ pub record AreSame (n k : Lengths) : Type 0 where
   pub candidates : k.candidates ≡ n.candidates
   pub search : k.search ≡ n.search
 
-pub HasArrays-same : (a b : Assigned) (meters after : ℕ) (n k : Lengths) → HasArrays a meters n → b.most_meters ≡ a.most_meters → b.forest.most_vertices ≡ a.forest.most_vertices → b.forest.most_branches ≡ a.forest.most_branches
+pub HasArrays-same : (a b : Assignment) (meters after : ℕ) (n k : Lengths) → HasArrays a meters n → b.most_meters ≡ a.most_meters → b.forest.most_vertices ≡ a.forest.most_vertices → b.forest.most_branches ≡ a.forest.most_branches
     → after ≤ a.most_meters → AreSame n k → HasArrays b after k
 HasArrays-same a b meters after n k h m v p low same =
     let few = h.few in
@@ -193,22 +193,22 @@ HasArrays-same a b meters after n k h m v p low same =
       search = omega arith;
     }
 
-pub IsKept-by : (a : Assigned) → IsWhole a → (meters count : ℕ) (owners : List (Option ℕ)) (list : List ℕ) (n : Lengths) → HasArrays a meters n → count ≡ length (pairs a) → IsInverse a.slots owners
+pub IsKept-by : (a : Assignment) → IsWhole a → (meters count : ℕ) (owners : List (Option ℕ)) (list : List ℕ) (n : Lengths) → HasArrays a meters n → count ≡ length (pairs a) → IsInverse a.slots owners
     → length owners ≡ a.forest.most_branches → IsListed a.slots list → IsKept a meters count owners list n
 IsKept-by a whole meters count owners list n arrays count_is inverse owners_len listed = record { whole = whole; arrays = arrays; count_is = count_is; inverse = inverse; owners_len = owners_len; listed = listed }
 
 -- no pair, and nothing in use
-pub IsKept-none : (slots : List (Option ℕ)) (frozen : List Bool) (forest : Holding) (owners : List (Option ℕ)) (n : Lengths) (v b : ℕ) → forest ≡ record { vertices = 0; held = []; most_vertices = v; most_branches = b }
+pub IsKept-none : (slots : List (Option ℕ)) (frozen : List Bool) (forest : Forest) (owners : List (Option ℕ)) (n : Lengths) (v b : ℕ) → forest ≡ record { vertices = 0; held = []; most_vertices = v; most_branches = b }
     → ((k : ℕ) → get_or owners k None ≡ None) → length owners ≡ b → HasArrays (seen 0 slots frozen 0 forest) 0 n → IsKept (seen 0 slots frozen 0 forest) 0 0 owners [] n
 IsKept-none slots frozen forest owners n v b is none len arrays =
-    let fv = ap (λ (h : Holding). h.vertices) is in
-    let fb = ap (λ (h : Holding). h.most_branches) is in
-    let fh = ap (λ (h : Holding). length h.held) is in
+    let fv = ap (λ (h : Forest). h.vertices) is in
+    let fb = ap (λ (h : Forest). h.most_branches) is in
+    let fh = ap (λ (h : Forest). length h.held) is in
     record {
       whole = record {
         paired = record {
           flags = refl;
-          holds = subst (λ (h : Holding). HoldsPairs [] h.held) (sym is) (HoldsPairs-taken [] [] (IsForestAt-nil []));
+          holds = subst (λ (h : Forest). HoldsPairs [] h.held) (sym is) (HoldsPairs-taken [] [] (IsForestAt-nil []));
           frozen_have = λ m t. absurd cc;
         };
         meters = omega arith;

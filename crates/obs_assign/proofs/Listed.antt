@@ -12,7 +12,7 @@ use Rattle.obs_matroid.specs.Assignments.{branches}
 use Rattle.obs_matroid.specs.Slots.{pairs_of}
 use Rattle.obs_matroid.proofs.Contained.{Contains-from_In, In-from_Contains, pairs_from_IsDistinct}
 use Rattle.obs_matroid.proofs.Lists.{In_same, In-append_cases, In-append_left, In-append_right, IsDistinct-append}
-use Rattle.obs_forest.specs.Holding.{has_position, taken}
+use Rattle.obs_forest.specs.Forest.{has_position, taken}
 use Rattle.obs_forest.proofs.Held.{contains-has_position, get_or-taken, has_position-contains, length-taken}
 use Rattle.obs_assign.specs.Kept.{IsInverse, IsListed, SlotsApart}
 use Rattle.obs_assign.proofs.Moving.{length-put_bare}

@@ -10,8 +10,8 @@ use Rattle.obs_matroid.specs.Lists.{In, IsDistinct}
 use Rattle.obs_matroid.specs.Assignments.{branches}
 use Rattle.obs_matroid.specs.Slots.{pairs_of}
 use Rattle.obs_matroid.proofs.Contained.{Contains-from_In, In-from_Contains, pairs_from_IsDistinct}
-use Rattle.obs_graph.specs.Shape.{Shape}
-use Rattle.obs_forest.specs.Holding.{Holding, StandsOver, taken}
+use Rattle.obs_graph.specs.Graph.{Graph}
+use Rattle.obs_forest.specs.Forest.{Forest, StandsOver, taken}
 use Rattle.obs_assign.specs.Kept.{IsInverse, IsListed}
 use Rattle.obs_assign.proofs.Keeping.{slot_without}
 use Rattle.obs_assign.proofs.Listed.{IsForestAt-listed, taken-same}
@@ -128,7 +128,7 @@ pub lost_none : (slots : List (Option ℕ)) (m : ℕ) → get_or slots m None �
 lost_none slots m at = ap (λ (o : Option ℕ). set slots m o) (sym at) ∙ set-get_or slots m None
 
 -- a forest that stands over the graph, by what it holds
-pub held_over : (f : Holding) (g : Shape) (hs : List (Option Ends)) → StandsOver f g → f.held ≡ hs → f ≡ record { vertices = g.vertices; held = hs; most_vertices = f.most_vertices; most_branches = f.most_branches }
+pub held_over : (f : Forest) (g : Graph) (hs : List (Option Ends)) → StandsOver f g → f.held ≡ hs → f ≡ record { vertices = g.vertices; held = hs; most_vertices = f.most_vertices; most_branches = f.most_branches }
 held_over f g hs stands is =
-    ap (λ (v : ℕ). let h : Holding = record { vertices = v; held = f.held; most_vertices = f.most_vertices; most_branches = f.most_branches } in h) (sym stands.vertices)
-    ∙ ap (λ (l : List (Option Ends)). let h : Holding = record { vertices = g.vertices; held = l; most_vertices = f.most_vertices; most_branches = f.most_branches } in h) is
+    ap (λ (v : ℕ). let h : Forest = record { vertices = v; held = f.held; most_vertices = f.most_vertices; most_branches = f.most_branches } in h) (sym stands.vertices)
+    ∙ ap (λ (l : List (Option Ends)). let h : Forest = record { vertices = g.vertices; held = l; most_vertices = f.most_vertices; most_branches = f.most_branches } in h) is

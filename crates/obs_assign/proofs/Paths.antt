@@ -25,7 +25,7 @@ use Rattle.obs_meter.proofs.Assigned.{independent-from_forest_at}
 use Rattle.obs_forest.specs.Cycle.{IsCycle, without}
 use Rattle.obs_forest.proofs.Without.{other_present}
 use Rattle.obs_forest.proofs.Keeping.{present_low}
-use Rattle.obs_assign.specs.Assigned.{ArePaired, Assigned, HoldsPairs, frozen_branches, has_flag, is_frozen}
+use Rattle.obs_assign.specs.Assignment.{ArePaired, Assignment, HoldsPairs, frozen_branches, has_flag, is_frozen}
 use Rattle.obs_assign.specs.Kept.{IsInverse}
 use Rattle.obs_assign.specs.Pins.{MayPin, joins}
 use Rattle.obs_assign.specs.Spare.{IsSpare, IsSpareOf}
@@ -208,7 +208,7 @@ module _ (ends : List (Option Ends)) (slots : List (Option ℕ)) (frozen : List 
   spare_some None f h = clash h f
   spare_some (Some x) f h = (x, refl, h)
 
-may_core : (a : Assigned) (ends : List (Option Ends)) (m e : ℕ) (spare : Option ℕ) → is_frozen a m ≡ false
+may_core : (a : Assignment) (ends : List (Option Ends)) (m e : ℕ) (spare : Option ℕ) → is_frozen a m ≡ false
     → MatchOption spare (joins ends (frozen_branches a) e ≡ true) (λ x. IsSpare ends a.slots a.frozen m e x)
     → (IsSome spare → MayPin a ends m e) × (MayPin a ends m e → IsSome spare)
 may_core a ends m e None fm h = ((λ s. absurd cc), (λ p. clash h p.apart))
@@ -216,7 +216,7 @@ may_core a ends m e (Some x) fm h =
     let off = spare_apart ends a.slots a.frozen m e x fm h in
     ((λ s. record { thawed = fm; free = no_owner ends a.slots a.frozen m e off; apart = off }), (λ p. refl))
 
-pub may_from : (a now : Assigned) (ends : List (Option Ends)) (m e : ℕ) (spare : Option ℕ) → a ≡ now → is_frozen a m ≡ false
+pub may_from : (a now : Assignment) (ends : List (Option Ends)) (m e : ℕ) (spare : Option ℕ) → a ≡ now → is_frozen a m ≡ false
     → MatchOption spare (joins ends (frozen_branches a) e ≡ true) (λ x. IsSpare ends a.slots a.frozen m e x)
     → (IsSome spare → MayPin now ends m e) × (MayPin now ends m e → IsSome spare)
-may_from a now ends m e spare is fm h = subst (λ (b : Assigned). (IsSome spare → MayPin b ends m e) × (MayPin b ends m e → IsSome spare)) is (may_core a ends m e spare fm h)
+may_from a now ends m e spare is fm h = subst (λ (b : Assignment). (IsSome spare → MayPin b ends m e) × (MayPin b ends m e → IsSome spare)) is (may_core a ends m e spare fm h)

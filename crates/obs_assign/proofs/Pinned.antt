@@ -4,7 +4,7 @@ use Rattle.std.proofs.lemmas.Bool.{cases_eq}
 use Rattle.std.proofs.lemmas.List.{length-replicate, length-take-le}
 use Rattle.std.proofs.Math.Seq.{take-set-lt}
 use Rattle.obs_graph.specs.Positions.{AreBranches, IsForestAt}
-use Rattle.obs_graph.specs.Shape.{Shape}
+use Rattle.obs_graph.specs.Graph.{Graph}
 use Rattle.obs_matroid.specs.Lists.{In, other_than}
 use Rattle.obs_matroid.specs.Assignments.{branches, others, part}
 use Rattle.obs_matroid.specs.Closed.{HasFrozen}
@@ -20,9 +20,9 @@ use Rattle.obs_meter.specs.Touches.{every_item, touch_at}
 use Rattle.obs_meter.specs.Spanned.{graph_matroid}
 use Rattle.obs_meter.proofs.Assigned.{forest_at-from_independent, independent-from_forest_at, to_matroid}
 use Rattle.obs_meter.proofs.Instance.{IsMatroid-graph}
-use Rattle.obs_forest.specs.Holding.{Holding, taken}
-use Rattle.obs_forest.specs.Holding.{StandsOver as ForestStandsOver}
-use Rattle.obs_assign.specs.Assigned.{Assigned, HoldsPairs, IsWhole, StandsOver, has_flag, is_frozen, pairs}
+use Rattle.obs_forest.specs.Forest.{Forest, taken}
+use Rattle.obs_forest.specs.Forest.{StandsOver as ForestStandsOver}
+use Rattle.obs_assign.specs.Assignment.{Assignment, HoldsPairs, IsWhole, StandsOver, has_flag, is_frozen, pairs}
 use Rattle.obs_assign.specs.Kept.{seen}
 use Rattle.obs_assign.specs.Pins.{IsPinnedAt, pinned_slots}
 use Rattle.obs_assign.specs.Spare.{IsSpare}
@@ -51,7 +51,7 @@ length-pinned slots m e x l =
     let a = put_bound (set slots x None) m e (get_or (set slots x None) m None) (omega (arith, l, length-set slots x None)) refl in
     omega (arith, a, count_gone 0 slots x)
 
-module _ (n : ℕ) (g : Shape) (touches : List Touch) (a : Assigned) (ok : AreBranches n g.ends) (whole : IsWhole a) (stands : StandsOver a g touches) (m e x : ℕ)
+module _ (n : ℕ) (g : Graph) (touches : List Touch) (a : Assignment) (ok : AreBranches n g.ends) (whole : IsWhole a) (stands : StandsOver a g touches) (m e x : ℕ)
     (low : m < length a.slots) (touched : In e (touch_at g.ends touches m)) (thawed : is_frozen a m ≡ false) (spare : IsSpare g.ends a.slots a.frozen m e x) where
   forest_now : IsForestAt g.ends (branches (pairs a))
   forest_now = IsForestAt-over a.forest.held g.ends (branches (pairs a)) stands.forest.held whole.paired.holds.forest
@@ -101,14 +101,14 @@ module _ (n : ℕ) (g : Shape) (touches : List Touch) (a : Assigned) (ok : AreBr
     | inr b ↦ stands.touched k f b.2
   ]
 
-pub record IsPinnedNew (now : Assigned) (g : Shape) (touches : List Touch) (m e x : ℕ) (new : Assigned) : Type 0 where
+pub record IsPinnedNew (now : Assignment) (g : Graph) (touches : List Touch) (m e x : ℕ) (new : Assignment) : Type 0 where
   pub pinned_is : IsPinnedAt now g.ends m e new.slots x
   pub frozen_is : new.frozen ≡ set now.frozen m true
   pub bound : length (pairs new) ≤ length (pairs now) + 1
   pub stands : StandsOver new g touches
   pub whole : IsWhole new
 
-pub IsPinnedNew-core : (n : ℕ) (g : Shape) (touches : List Touch) (meters : ℕ) (slots new : List (Option ℕ)) (frozen : List Bool) (turns after_turns : ℕ) (forest after : Holding) (m e x : ℕ)
+pub IsPinnedNew-core : (n : ℕ) (g : Graph) (touches : List Touch) (meters : ℕ) (slots new : List (Option ℕ)) (frozen : List Bool) (turns after_turns : ℕ) (forest after : Forest) (m e x : ℕ)
     → AreBranches n g.ends → IsWhole (seen meters slots frozen turns forest) → meters ≤ length slots → length frozen ≡ length slots → length new ≡ length slots
     → StandsOver (seen meters slots frozen turns forest) g touches → m < length (take meters slots) → In e (touch_at g.ends touches m)
     → has_flag (take meters frozen) m ≡ false → IsSpare g.ends (take meters slots) (take meters frozen) m e x
@@ -116,7 +116,7 @@ pub IsPinnedNew-core : (n : ℕ) (g : Shape) (touches : List Touch) (meters : �
     → after.most_vertices ≡ forest.most_vertices → after.most_branches ≡ forest.most_branches
     → IsPinnedNew (seen meters slots frozen turns forest) g touches m e x (seen meters new (set frozen m true) after_turns after)
 IsPinnedNew-core n g touches meters slots new frozen turns after_turns forest after m e x ok whole low flags len stands lm touched thawed spare new_is holds over mv mb =
-    let a : Assigned = seen meters slots frozen turns forest in
+    let a : Assignment = seen meters slots frozen turns forest in
     let lt = length-take-le meters slots low in
     let ln = length-take-le meters new (omega arith) in
     let lf = length-set frozen m true in
@@ -151,22 +151,22 @@ IsPinnedNew-core n g touches meters slots new frozen turns after_turns forest af
       };
     }
 
-pub record IsCarried (now : Assigned) (g : Shape) (touches : List Touch) (new : Assigned) : Type 0 where
+pub record IsCarried (now : Assignment) (g : Graph) (touches : List Touch) (new : Assignment) : Type 0 where
   pub retained : AreRetained g.ends touches (pairs now) (pairs new)
   pub thawed : (m : ℕ) → is_frozen new m ≡ false
   pub stands : StandsOver new g touches
   pub whole : IsWhole new
 
-pub IsCarried-made : (now : Assigned) (g : Shape) (touches : List Touch) (meters : ℕ) (slots new : List (Option ℕ)) (frozen : List Bool) (k turns : ℕ) (forest after : Holding)
+pub IsCarried-made : (now : Assignment) (g : Graph) (touches : List Touch) (meters : ℕ) (slots new : List (Option ℕ)) (frozen : List Bool) (k turns : ℕ) (forest after : Forest)
     → seen meters slots frozen turns forest ≡ now → meters ≤ length slots → k ≡ length slots → length new ≡ length slots → length touches ≡ length now.slots → g.vertices ≤ now.forest.most_vertices → length g.ends ≤ now.forest.most_branches
     → AreRetained g.ends touches (pairs_of (take meters slots)) (pairs_of (take meters new)) → IsForestAt g.ends (branches (pairs_of (take meters new)))
     → after ≡ record forest { vertices = g.vertices; held = taken g.ends (branches (pairs_of (take meters new))) }
     → IsCarried now g touches (seen meters new (replicate k false) turns after)
 IsCarried-made now g touches meters slots new frozen k turns forest after is low k_is len n v b retained f after_is =
-    let slots_are : take meters slots ≡ now.slots = ap (λ (a : Assigned). a.slots) is in
-    let len_now = ap (λ (a : Assigned). length a.slots) is in
-    let most_v = ap (λ (a : Assigned). a.forest.most_vertices) is in
-    let most_b = ap (λ (a : Assigned). a.forest.most_branches) is in
+    let slots_are : take meters slots ≡ now.slots = ap (λ (a : Assignment). a.slots) is in
+    let len_now = ap (λ (a : Assignment). length a.slots) is in
+    let most_v = ap (λ (a : Assignment). a.forest.most_vertices) is in
+    let most_b = ap (λ (a : Assignment). a.forest.most_branches) is in
     let lt = length-take-le meters slots low in
     let lk = length-replicate k false in
     record {
@@ -178,9 +178,9 @@ IsCarried-made now g touches meters slots new frozen k turns forest after is low
     }
 
 -- the pairs before they are carried over
-pub carried_low : (now : Assigned) (g : Shape) (meters : ℕ) (slots : List (Option ℕ)) (frozen : List Bool) (turns : ℕ) (forest : Holding) → seen meters slots frozen turns forest ≡ now → IsWhole (seen meters slots frozen turns forest)
+pub carried_low : (now : Assignment) (g : Graph) (meters : ℕ) (slots : List (Option ℕ)) (frozen : List Bool) (turns : ℕ) (forest : Forest) → seen meters slots frozen turns forest ≡ now → IsWhole (seen meters slots frozen turns forest)
     → length g.ends ≡ length now.forest.held → (m e : ℕ) → get_or (take meters slots) m None ≡ Some e → e < length g.ends
 carried_low now g meters slots frozen turns forest is whole p m e h =
-    let held = ap (λ (a : Assigned). length a.forest.held) is in
+    let held = ap (λ (a : Assignment). length a.forest.held) is in
     let l = branch_low forest.held (take meters slots) whole.paired.holds.forest m e h in
     omega arith

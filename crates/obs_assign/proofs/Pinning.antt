@@ -9,7 +9,7 @@ use Rattle.obs_graph.specs.Positions.{IsForestAt}
 use Rattle.obs_matroid.specs.Lists.{In}
 use Rattle.obs_matroid.specs.Assignments.{branches}
 use Rattle.obs_matroid.specs.Slots.{pairs_of}
-use Rattle.obs_assign.specs.Assigned.{HoldsPairs}
+use Rattle.obs_assign.specs.Assignment.{HoldsPairs}
 use Rattle.obs_assign.specs.Kept.{IsInverse}
 use Rattle.obs_assign.specs.Pins.{pinned_slots}
 use Rattle.obs_assign.proofs.Slotted.{HoldsPairs-same, branch_slot, distinct_branches, none_some, slot_branch, some_same}

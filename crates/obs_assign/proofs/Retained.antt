@@ -11,7 +11,7 @@ use Rattle.obs_matroid.specs.Assignments.{branches}
 use Rattle.obs_matroid.specs.Slots.{pairs_of}
 use Rattle.obs_matroid.proofs.Contained.{All-from_In}
 use Rattle.obs_meter.specs.declared.Touch.{Touch}
-use Rattle.obs_forest.specs.Holding.{taken}
+use Rattle.obs_forest.specs.Forest.{taken}
 use Rattle.obs_forest.proofs.Held.{taken-some}
 use Rattle.obs_assign.specs.Kept.{SlotsApart}
 use Rattle.obs_assign.specs.Retain.{AreChosen, touched_slot}

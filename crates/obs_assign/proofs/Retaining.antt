@@ -26,7 +26,7 @@ use Rattle.obs_meter.specs.declared.Touch.TheVariants.{Nothing}
 use Rattle.obs_meter.specs.Touches.{touch_at}
 use Rattle.obs_meter.specs.Spanned.{joined_at}
 use Rattle.obs_meter.proofs.Touched.{touched-present}
-use Rattle.obs_forest.specs.Holding.{taken}
+use Rattle.obs_forest.specs.Forest.{taken}
 use Rattle.obs_forest.proofs.Held.{has_position-contains, part-taken, taken-at, taken-some}
 use Rattle.obs_assign.specs.Kept.{SlotsApart}
 use Rattle.obs_assign.specs.Retain.{AreChosen, touched_slot}

@@ -18,10 +18,10 @@ use Rattle.obs_matroid.proofs.Pairs.{In-branches, In-branches_from, In-items, In
 use Rattle.obs_matroid.proofs.Bounds.{length-branches}
 use Rattle.obs_matroid.proofs.Contained.{Contains-from_In, In-from_Contains, In-from_All, All-from_In, IsDistinct-from_pairs, pairs_from_IsDistinct}
 use Rattle.obs_matroid.proofs.Slots.{slot_from, slot_at, IsDistinct-slots}
-use Rattle.obs_forest.specs.Holding.{taken}
+use Rattle.obs_forest.specs.Forest.{taken}
 use Rattle.obs_forest.proofs.Held.{taken-at}
 use Rattle.obs_forest.proofs.Keeping.{positions_in, held_exactly}
-use Rattle.obs_assign.specs.Assigned.{HoldsPairs}
+use Rattle.obs_assign.specs.Assignment.{HoldsPairs}
 use Rattle.obs_assign.specs.Kept.{SlotsApart}
 
 pub some_same : (a b : ℕ) → Some a ≡ Some b → a ≡ b

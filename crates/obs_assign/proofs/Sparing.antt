@@ -5,7 +5,7 @@ use Rattle.std.specs.List.{Contains}
 use Rattle.std.proofs.lemmas.Bool.{cases_eq}
 use Rattle.std.proofs.lemmas.List.{get_or_default}
 use Rattle.std.proofs.lemmas.List.Elements.{Contains-get_or}
-use Rattle.obs_assign.specs.Assigned.{has_flag}
+use Rattle.obs_assign.specs.Assignment.{has_flag}
 use Rattle.obs_assign.specs.Spare.{IsSpareOf}
 use Rattle.obs_assign.proofs.Slotted.{some_same}
 

@@ -4,7 +4,7 @@ use Rattle.std.specs.List.{range_with_len}
 use Rattle.std.proofs.lemmas.Bool.{cases_eq}
 use Rattle.obs_graph.specs.declared.Ends.{Ends}
 use Rattle.obs_graph.specs.Positions.{AreBranches, IsForestAt}
-use Rattle.obs_graph.specs.Shape.{Shape}
+use Rattle.obs_graph.specs.Graph.{Graph}
 use Rattle.obs_matroid.specs.Lists.{In}
 use Rattle.obs_matroid.specs.Assignments.{Pair, branches}
 use Rattle.obs_matroid.proofs.Lists.{In-filter, In-filter_from}
@@ -20,7 +20,7 @@ use Rattle.obs_meter.specs.Spanned.{graph_matroid, rank_at}
 use Rattle.obs_meter.proofs.Assigned.{to_matroid, independent-from_forest_at}
 use Rattle.obs_meter.proofs.Instance.{IsMatroid-graph}
 use Rattle.obs_forest.proofs.Held.{has_position-contains, contains-has_position}
-use Rattle.obs_assign.specs.Assigned.{Assigned, IsWhole, StandsOver, pairs}
+use Rattle.obs_assign.specs.Assignment.{Assignment, IsWhole, StandsOver, pairs}
 use Rattle.obs_assign.specs.Still.{AreRetained, is_still, still}
 use Rattle.obs_assign.proofs.Slotted.{IsForestAt-over, slot_low}
 
@@ -32,7 +32,7 @@ pub In-every : (touches : List Touch) (m : ℕ) → m < length touches → In m 
 In-every touches m l = In-range (length touches) 0 m (omega arith) (omega arith)
 
 -- an assignment that stands is one of the meters
-pub IsAssignmentAt-standing : (a : Assigned) (g : Shape) (touches : List Touch) → IsWhole a → StandsOver a g touches → IsAssignmentAt g.ends touches (every_item touches) (pairs a)
+pub IsAssignmentAt-standing : (a : Assignment) (g : Graph) (touches : List Touch) → IsWhole a → StandsOver a g touches → IsAssignmentAt g.ends touches (every_item touches) (pairs a)
 IsAssignmentAt-standing a g touches w s = record {
   of_items = λ p i. In-every touches p.0 (let l = slot_low a.slots p.0 p.1 (slot_from a.slots p i) in let e = s.meters in omega arith);
   touched = λ p i. s.touched p.0 p.1 (slot_from a.slots p i);

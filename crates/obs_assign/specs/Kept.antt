@@ -3,11 +3,11 @@ use Rattle.std.specs.Prelude.{◌≡◌, ◌↔◌, ℕ, ◌≤◌, ◌<◌, ◌
 use Rattle.obs_matroid.specs.Lists.{In, IsDistinct}
 use Rattle.obs_matroid.specs.Assignments.{branches}
 use Rattle.obs_matroid.specs.Slots.{pairs_of}
-use Rattle.obs_forest.specs.Holding.{Holding}
-use Rattle.obs_assign.specs.Assigned.{Assigned, pairs, IsWhole}
+use Rattle.obs_forest.specs.Forest.{Forest}
+use Rattle.obs_assign.specs.Assignment.{Assignment, pairs, IsWhole}
 
 -- what is seen of the arrays, of which the first places are in use
-abbrev pub seen : ℕ → List (Option ℕ) → List Bool → ℕ → Holding → Assigned
+abbrev pub seen : ℕ → List (Option ℕ) → List Bool → ℕ → Forest → Assignment
 seen meters slots frozen turns forest =
     record { slots = take meters slots; frozen = take meters frozen; turns = turns; forest = forest; most_meters = length slots }
 
@@ -33,7 +33,7 @@ pub record Lengths : Type 0 where
   pub search : ℕ
 
 -- the arrays have room for what the assignment was made for
-pub record HasArrays (a : Assigned) (meters : ℕ) (n : Lengths) : Type 0 where
+pub record HasArrays (a : Assignment) (meters : ℕ) (n : Lengths) : Type 0 where
   pub few : a.most_meters < 2 ^ 32
   pub meters_low : meters ≤ a.most_meters
   pub frozen : n.frozen ≡ a.most_meters
@@ -43,7 +43,7 @@ pub record HasArrays (a : Assigned) (meters : ℕ) (n : Lengths) : Type 0 where
   pub search : n.search ≡ a.forest.most_vertices
 
 -- the pairs are counted, and found by their branch, and their branches are listed
-pub record IsKept (a : Assigned) (meters count : ℕ) (owners : List (Option ℕ)) (list : List ℕ) (n : Lengths) : Type 0 where
+pub record IsKept (a : Assignment) (meters count : ℕ) (owners : List (Option ℕ)) (list : List ℕ) (n : Lengths) : Type 0 where
   pub whole : IsWhole a
   pub arrays : HasArrays a meters n
   pub count_is : count ≡ length (pairs a)

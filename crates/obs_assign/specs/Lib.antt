@@ -1,4 +1,4 @@
-pub mod Assigned
+pub mod Assignment
 pub mod Moves
 pub mod Pins
 pub mod Still

@@ -1,7 +1,7 @@
 -- Moves of an assignment, and its turns.
 use Rattle.std.specs.Prelude.{◌≡◌, ◌≢◌, ℕ, ◌+◌, ◌<◌, false, min, Option, Some, None, List, [], ◌∷◌, All, AllPairs, length, slice_index_or, slice_set}
 use Rattle.obs_assign.specs.declared.Move.{Move}
-use Rattle.obs_assign.specs.Assigned.{Assigned, branch_at, is_frozen}
+use Rattle.obs_assign.specs.Assignment.{Assignment, branch_at, is_frozen}
 
 -- the slots after the moves, one after the other: each meter has its new branch in place of the one that it had
 abbrev pub moved : List Move → List (Option ℕ) → List (Option ℕ)
@@ -15,7 +15,7 @@ HandsOn slots before (x ∷ path) = (slice_index_or slots x.meter None ≡ befor
 
 -- the first of the moves gives a pair to a meter that has none, the others move meters that have pairs and aren't
 -- frozen, and all these meters are different
-pub record IsPath (a : Assigned) (first : Move) (rest : List Move) : Type 0 where
+pub record IsPath (a : Assignment) (first : Move) (rest : List Move) : Type 0 where
   pub low : All (λ (x : Move). x.meter < length a.slots) (first ∷ rest)
   pub bare : branch_at a first.meter ≡ None
   pub paired : All (λ (x : Move). branch_at a x.meter ≢ None) rest
@@ -23,7 +23,7 @@ pub record IsPath (a : Assigned) (first : Move) (rest : List Move) : Type 0 wher
   pub different : AllPairs (λ (x y : Move). x.meter ≢ y.meter) (first ∷ rest)
 
 -- the moves of a path, which isn't empty
-abbrev pub ArePath : Assigned → List Move → Type 0
+abbrev pub ArePath : Assignment → List Move → Type 0
 ArePath a [] = ⊥
 ArePath a (first ∷ rest) = IsPath a first rest
 

@@ -3,14 +3,14 @@ use Rattle.std.specs.Prelude.{◌≡◌, ◌⊎◌, ℕ, Bool, true, false, Opti
 use Rattle.obs_graph.specs.declared.Ends.{Ends}
 use Rattle.obs_matroid.specs.Assignments.{others}
 use Rattle.obs_meter.specs.Spanned.{ends_at, joined_at}
-use Rattle.obs_assign.specs.Assigned.{Assigned, branch_at, frozen_branches, is_frozen, pairs}
+use Rattle.obs_assign.specs.Assignment.{Assignment, branch_at, frozen_branches, is_frozen, pairs}
 
 -- whether the branches at these positions join the two ends of e
 abbrev pub joins : List (Option Ends) → List ℕ → ℕ → Bool
 joins ends positions e = joined_at ends positions (ends_at ends e).0 (ends_at ends e).1
 
 -- m may be pinned to e: it isn't frozen, no frozen meter has e, and the frozen branches don't join the ends of e
-pub record MayPin (a : Assigned) (ends : List (Option Ends)) (m e : ℕ) : Type 0 where
+pub record MayPin (a : Assignment) (ends : List (Option Ends)) (m e : ℕ) : Type 0 where
   pub thawed : is_frozen a m ≡ false
   pub free : (x : ℕ) → is_frozen a x ≡ true → branch_at a x ≡ Some e → ⊥
   pub apart : joins ends (frozen_branches a) e ≡ false
@@ -21,7 +21,7 @@ pinned_slots slots m e x = slice_set (slice_set slots x None) m (Some e)
 
 -- after m was pinned to e: the pair of m and e stands in place of the one that m had, and the meter x has no pair any
 -- more. x isn't frozen, and it is another meter than m only where the branches of the meters but m join the ends of e
-pub record IsPinnedAt (a : Assigned) (ends : List (Option Ends)) (m e : ℕ) (after : List (Option ℕ)) (x : ℕ) : Type 0 where
+pub record IsPinnedAt (a : Assignment) (ends : List (Option Ends)) (m e : ℕ) (after : List (Option ℕ)) (x : ℕ) : Type 0 where
   pub low : x < length a.slots
   pub thawed : is_frozen a x ≡ false
   pub needed : (x ≡ m) ⊎ (joins ends (others (pairs a) m) e ≡ true)

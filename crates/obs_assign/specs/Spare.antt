@@ -4,7 +4,7 @@ use Rattle.obs_graph.specs.declared.Ends.{Ends}
 use Rattle.obs_matroid.specs.Lists.{other_than}
 use Rattle.obs_matroid.specs.Assignments.{others, part}
 use Rattle.obs_matroid.specs.Slots.{pairs_of}
-use Rattle.obs_assign.specs.Assigned.{has_flag}
+use Rattle.obs_assign.specs.Assignment.{has_flag}
 use Rattle.obs_assign.specs.Pins.{joins}
 
 -- x has one of the branches and isn't frozen, and it is another meter than m only where m has none of them

@@ -5,7 +5,7 @@ use Rattle.obs_matroid.specs.Lists.{In}
 use Rattle.obs_matroid.specs.Assignments.{Pair, branches}
 use Rattle.obs_meter.specs.declared.Touch.{Touch}
 use Rattle.obs_meter.specs.Touches.{touch_at}
-use Rattle.obs_forest.specs.Holding.{has_position}
+use Rattle.obs_forest.specs.Forest.{has_position}
 use Rattle.obs_assign.specs.Pins.{joins}
 
 -- whether the meter of the pair touches its branch

@@ -3,7 +3,7 @@ ghost use Rattle.std.specs.Prelude.{◌≡◌, ◌<◌, ◌≤◌, ◌^◌, ℕ,
 ghost use Rattle.obs_graph.specs.Positions.{IsForestAt};
 ghost use Rattle.obs_matroid.specs.Assignments.{branches};
 ghost use Rattle.obs_matroid.specs.Slots.{pairs_of};
-ghost use Rattle.obs_forest.specs.Holding.{taken, StandsOver};
+ghost use Rattle.obs_forest.specs.Forest.{taken, StandsOver};
 ghost use Rattle.obs_assign.specs.Kept.{IsInverse, IsListed, SlotsApart};
 
 use crate::Move;

@@ -3,7 +3,7 @@ ghost use Rattle.std.specs.Prelude.{◌≡◌, ◌≢◌, ◌+◌, ◌<◌, ◌�
 ghost use Rattle.obs_graph.specs.declared.Ends.{Ends};
 ghost use Rattle.obs_graph.specs.Joined.{AreMergedBy, InRange, IsMerging, is_joined, rank, renamed};
 ghost use Rattle.obs_graph.specs.Positions.{AreBranches, IsForestAt};
-ghost use Rattle.obs_graph.specs.Shape.{Shape};
+ghost use Rattle.obs_graph.specs.Graph.{Graph};
 ghost use Rattle.obs_matroid.specs.Assignments.{Pair, branches, others};
 ghost use Rattle.obs_matroid.specs.Lists.{In};
 ghost use Rattle.obs_matroid.specs.Slots.{pairs_of};
@@ -12,7 +12,7 @@ ghost use Rattle.obs_meter.specs.Assignments.{IsAssignmentAt, bound_at};
 ghost use Rattle.obs_meter.specs.Spanned.{rank_at};
 ghost use Rattle.obs_meter.specs.Touches.{every_item, touch_at};
 ghost use Rattle.obs_assign.specs.declared.Move.{Move};
-ghost use Rattle.obs_assign.specs.Assigned.{Assigned, IsWhole, StandsOver, branch_at, pairs};
+ghost use Rattle.obs_assign.specs.Assignment.{Assignment, IsWhole, StandsOver, branch_at, pairs};
 ghost use Rattle.obs_assign.specs.Moves.{ArePath, moved};
 ghost use Rattle.obs_assign.specs.Pins.{IsPinnedAt, joins};
 ghost use Rattle.obs_assign.specs.Still.{AreRetained, still};
@@ -26,39 +26,42 @@ pub fn weak_bound()
 
 /// The pairs of an assignment that stands over a graph and meters are an assignment of these meters.
 pub fn standing_is_assignment()
-    ensures assignment { (a : Assigned) (g : Shape) (touches : List Touch) → IsWhole a → StandsOver a g touches →
+    ensures assignment { (a : Assignment) (g : Graph) (touches : List Touch) → IsWhole a →
+        StandsOver a g touches →
         IsAssignmentAt g.ends touches (every_item touches) (pairs a) }
 {}
 
 /// A meter may take a branch that it touches where the branches of the other meters don't join its ends.
 pub fn one_move()
-    ensures assignment { (a : Assigned) (g : Shape) (touches : List Touch) (m e : ℕ) →
-        AreBranches g.vertices g.ends → IsWhole a → StandsOver a g touches → m < length a.slots →
+    ensures assignment { (a : Assignment) (g : Graph) (touches : List Touch) (m e : ℕ) →
+        AreBranches g.vertices g.ends → IsWhole a →
+        StandsOver a g touches → m < length a.slots →
         In e (touch_at g.ends touches m) → joins g.ends (others (pairs a) m) e ≡ false →
         IsAssignmentAt g.ends touches (every_item touches) (pairs_of (slice_set a.slots m (Some e))) }
 {}
 
 /// No branch has two meters.
 pub fn one_owner()
-    ensures one { (a : Assigned) (m k e : ℕ) → IsWhole a → branch_at a m ≡ Some e → branch_at a k ≡ Some e → m ≡ k }
+    ensures one { (a : Assignment) (m k e : ℕ) → IsWhole a → branch_at a m ≡ Some e → branch_at a k ≡ Some e →
+        m ≡ k }
 {}
 
 /// After the moves of a path each meter of the path has the branch of its move, and every other meter has what it had.
 pub fn after_moves()
-    ensures taken { (a : Assigned) (path : List Move) (x : Move) → ArePath a path → In x path →
+    ensures taken { (a : Assignment) (path : List Move) (x : Move) → ArePath a path → In x path →
         slice_index_or (moved path a.slots) x.meter None ≡ Some x.branch }
-    ensures kept { (a : Assigned) (path : List Move) (m : ℕ) → ((x : Move) → In x path → x.meter ≢ m) →
+    ensures kept { (a : Assignment) (path : List Move) (m : ℕ) → ((x : Move) → In x path → x.meter ≢ m) →
         slice_index_or (moved path a.slots) m None ≡ branch_at a m }
 {}
 
 /// After a pin of m to e the meter m has e, the meter x that gave up its pair has none where it is another one than m,
 /// and every other meter has what it had.
 pub fn after_pin()
-    ensures taken { (a : Assigned) (ends : List (Option Ends)) (m e x : ℕ) (after : List (Option ℕ)) →
+    ensures taken { (a : Assignment) (ends : List (Option Ends)) (m e x : ℕ) (after : List (Option ℕ)) →
         IsPinnedAt a ends m e after x → m < length a.slots → slice_index_or after m None ≡ Some e }
-    ensures given_up { (a : Assigned) (ends : List (Option Ends)) (m e x : ℕ) (after : List (Option ℕ)) →
+    ensures given_up { (a : Assignment) (ends : List (Option Ends)) (m e x : ℕ) (after : List (Option ℕ)) →
         IsPinnedAt a ends m e after x → x ≢ m → slice_index_or after x None ≡ None }
-    ensures kept { (a : Assigned) (ends : List (Option Ends)) (m e x k : ℕ) (after : List (Option ℕ)) →
+    ensures kept { (a : Assignment) (ends : List (Option Ends)) (m e x k : ℕ) (after : List (Option ℕ)) →
         IsPinnedAt a ends m e after x → m < length a.slots → k ≢ m → k ≢ x →
         slice_index_or after k None ≡ branch_at a k }
 {}

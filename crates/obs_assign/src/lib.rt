@@ -8,6 +8,7 @@ pub struct Move {
     pub branch: u32,
 }
 
+mod assignment;
 mod hold;
 pub mod laws;
 mod lose;
@@ -18,8 +19,7 @@ mod spare;
 mod steps;
 #[cfg(test)]
 mod tests;
-mod whole;
 
+pub use assignment::Assignment;
 pub use memory::NoMemory;
 pub use steps::Steps;
-pub use whole::Assignment;

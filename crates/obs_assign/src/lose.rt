@@ -4,7 +4,7 @@ ghost use Rattle.obs_graph.specs.Positions.{IsForestAt};
 ghost use Rattle.obs_matroid.specs.Assignments.{branches};
 ghost use Rattle.obs_matroid.specs.Lists.{In, IsDistinct};
 ghost use Rattle.obs_matroid.specs.Slots.{pairs_of};
-ghost use Rattle.obs_forest.specs.Holding.{taken, StandsOver};
+ghost use Rattle.obs_forest.specs.Forest.{taken, StandsOver};
 ghost use Rattle.obs_assign.specs.Kept.{IsInverse, IsListed};
 
 use obs_forest::Forest;

@@ -8,7 +8,7 @@ use Rattle.std.proofs.lemmas.List.FromFn.{length-range_with_len}
 use Rattle.obs_matroid.proofs.Lists.{In-filter, In-filter_from, length-within}
 use Rattle.obs_meter.specs.declared.Touch.{Touch}
 use Rattle.obs_meter.specs.declared.Touch.TheVariants.{Nothing}
-use Rattle.obs_meter.specs.Spanned.{hub_of}
+use Rattle.obs_meter.specs.Spanned.{common_vertex}
 use Rattle.obs_meter.specs.Touches.{is_live, live_items, touched}
 use Rattle.obs_meter.proofs.Assigned.{live_items-distinct}
 use Rattle.obs_case.specs.Tables.{IsValid, Tables}
@@ -25,7 +25,7 @@ module _ (t : Tables) (c m : ℕ) where
   touch = get_or (case_meters t) m Nothing
 
   abbrev here : ℕ
-  here = vertex_component (case_components t) (hub_of (case_branches t) touch)
+  here = vertex_component (case_components t) (common_vertex (case_branches t) touch)
 
   -- what a test on the component says
   told : m < length t.meters → component_of_item (network_of t) m ≡ cond (nat_lt 0 (length (touched (case_branches t) touch))) (Some here) None

@@ -18,8 +18,8 @@ use Rattle.std.proofs.lemmas.List.{length-map}
 use Rattle.std.specs.Str.{bytes_eq}
 use Rattle.obs_case.specs.Tables.{has_name, place_of, position_of}
 use Rattle.obs_case.proofs.NameLemmas.{place-there, position-some}
-use Rattle.obs_switch.specs.Held.{Labelled}
-use Rattle.obs_network.specs.Network.{NetworkOf, network_of}
+use Rattle.obs_switch.specs.Held.{Buses}
+use Rattle.obs_network.specs.Network.{Network, network_of}
 use Rattle.obs_network.proofs.OfCase.{length-case_buses}
 use Rattle.obs_cert.specs.Scopes.{has}
 
@@ -57,11 +57,11 @@ pub member : (t : Tables) (u : ℕ) → u < length t.nodes
     → (0 < length (members_of (case_buses t) (get_or (case_buses t) u 0))) × (get_or (members_of (case_buses t) (get_or (case_buses t) u 0)) 0 0 ≡ case_first_node t u)
 member t u l = rw (buses_of-at (length t.nodes) (closed_links t.switches) u l) (first_member (length t.nodes) (closed_links t.switches) u l)
 
-pub buses_long : (t : Tables) (n : NetworkOf) (b : Labelled) → n ≡ network_of t → b ≡ n.buses → length b.buses ≡ length t.nodes
-buses_long t n b is same = ap (λ (l : Labelled). length l.buses) (same ∙ ap (λ (m : NetworkOf). m.buses) is) ∙ length-case_buses t
+pub buses_long : (t : Tables) (n : Network) (b : Buses) → n ≡ network_of t → b ≡ n.buses → length b.buses ≡ length t.nodes
+buses_long t n b is same = ap (λ (l : Buses). length l.buses) (same ∙ ap (λ (m : Network). m.buses) is) ∙ length-case_buses t
 
-pub buses_are : (t : Tables) (n : NetworkOf) (b : Labelled) → n ≡ network_of t → b ≡ n.buses → b.buses ≡ case_buses t
-buses_are t n b is same = ap (λ (l : Labelled). l.buses) (same ∙ ap (λ (m : NetworkOf). m.buses) is)
+pub buses_are : (t : Tables) (n : Network) (b : Buses) → n ≡ network_of t → b ≡ n.buses → b.buses ≡ case_buses t
+buses_are t n b is same = ap (λ (l : Buses). l.buses) (same ∙ ap (λ (m : Network). m.buses) is)
 
 -- the first member is read off the bus of a node
 pub read_member : (t : Tables) (u : ℕ) (buses members : List ℕ) (bus : ℕ) → u < length t.nodes → buses ≡ case_buses t → bus ≡ get_or buses u 0 → members ≡ members_of buses bus

@@ -23,7 +23,7 @@ use Rattle.obs_meter.proofs.Assigned.{forest_at-from_independent}
 use Rattle.obs_meter.proofs.Instance.{IsMatroid-graph}
 use Rattle.obs_network.specs.Components.{is_energised}
 use Rattle.obs_network.specs.Network.{case_branches, case_component_count, case_components, case_energised, case_first_buses, case_offered}
-use Rattle.obs_network.specs.Observable.{is_fed}
+use Rattle.obs_network.specs.Observable.{is_energised_component}
 use Rattle.obs_network.specs.Switched.{case_bus_count, case_buses, case_first_node}
 use Rattle.obs_network.proofs.OfCase.{case_branches-are}
 use Rattle.obs_cert.specs.declared.flaw.FlawCode.{FlawCode}
@@ -76,7 +76,7 @@ no_flaw t at (claim ∷ claims) = (
 )
 
 -- the component that a name stands for
-fed_below : (t : Tables) (c : ℕ) → is_fed t c ≡ true → c < case_component_count t
+fed_below : (t : Tables) (c : ℕ) → is_energised_component t c ≡ true → c < case_component_count t
 unfolding case_energised
 fed_below t c fed =
     elim (cases_lt c (length (case_energised t))) [

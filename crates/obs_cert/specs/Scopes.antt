@@ -7,7 +7,7 @@ use Rattle.obs_meter.specs.Touches.{every_item, is_live, touch_at}
 use Rattle.obs_network.specs.Components.{need_of}
 use Rattle.obs_network.specs.Located.{component_of_item}
 use Rattle.obs_network.specs.Network.{case_branches, case_components, case_first_buses, case_offered, case_sizes, network_of}
-use Rattle.obs_network.specs.Observable.{is_fed}
+use Rattle.obs_network.specs.Observable.{is_energised_component}
 use Rattle.obs_network.specs.Switched.{case_buses, case_first_node}
 
 -- whether a number is in a list
@@ -66,7 +66,7 @@ node_component t u = slice_index (case_components t) (slice_index (case_buses t)
 abbrev pub names_at : Tables → ℕ → Bool
 names_at t u =
     (case_first_node t u == u)
-    && ((slice_index (case_first_buses t) (node_component t u) == slice_index (case_buses t) u) && is_fed t (node_component t u))
+    && ((slice_index (case_first_buses t) (node_component t u) == slice_index (case_buses t) u) && is_energised_component t (node_component t u))
 
 -- whether a name is that of an energised component; the component that it stands for, and what that needs
 abbrev pub names_component : Tables → List ℕ → Bool

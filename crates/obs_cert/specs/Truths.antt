@@ -3,7 +3,7 @@ use Rattle.std.specs.Prelude.{◌≡◌, ◌↔◌, ℕ, ◌<◌, true, List, []
 use Rattle.obs_case.specs.Tables.{IsValid, Tables, node_names}
 use Rattle.obs_matroid.specs.Lists.{In}
 use Rattle.obs_network.specs.Network.{case_component_count, case_first_buses}
-use Rattle.obs_network.specs.Observable.{IsObservable, is_fed}
+use Rattle.obs_network.specs.Observable.{IsObservable, is_energised_component}
 use Rattle.obs_network.specs.Switched.{case_buses, case_first_node}
 use Rattle.obs_cert.specs.Claims.{BoundClaim, Claim, TreeClaim, bound, tree}
 use Rattle.obs_cert.specs.Flaws.{Holds, first_flaw}
@@ -17,7 +17,7 @@ NoFlawWhereAllHold =
 -- an energised component has this name: it is that of the first node of its first bus
 pub record IsNameOf (t : Tables) (c : ℕ) (name : List ℕ) : Type 0 where
   pub there : c < case_component_count t
-  pub fed : is_fed t c ≡ true
+  pub fed : is_energised_component t c ≡ true
   pub node : ℕ
   pub low : node < length t.nodes
   pub named : slice_index_or (node_names t) node [] ≡ name

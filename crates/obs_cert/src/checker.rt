@@ -26,10 +26,10 @@ pub struct Checker {
 
 impl Model for Checker {
     ghost use Rattle.std.specs.Prelude.{◌≡◌, ◌+◌, length};
-    ghost use Rattle.obs_network.specs.Network.{NetworkOf};
+    ghost use Rattle.obs_network.specs.Network.{Network};
     ghost use Rattle.obs_cert.specs.Ready.{HasRoom};
 
-    ghost Value = { NetworkOf };
+    ghost Value = { Network };
 
     ghost view = { λ c. c.network };
 

@@ -14,7 +14,7 @@ use Rattle.obs_case.specs.Tables.{IsValid, Tables, are_different, has_name, node
 use Rattle.obs_case.proofs.NameLemmas.{bytes_eq-itself, different-parts, same_bytes}
 use Rattle.obs_network.specs.Components.{component_of, components_of, first_bus, first_buses_of, is_first_bus, need_of}
 use Rattle.obs_network.specs.Network.{case_component_count, case_components, case_first_buses, case_live, case_sizes}
-use Rattle.obs_network.specs.Observable.{is_fed}
+use Rattle.obs_network.specs.Observable.{is_energised_component}
 use Rattle.obs_network.specs.Switched.{case_bus_count, case_buses, case_first_node, closed_links}
 use Rattle.obs_network.proofs.Marked.{first_bus_at}
 use Rattle.obs_network.proofs.Numbered.{component_at, components_of-at}
@@ -98,16 +98,16 @@ module _ (t : Tables) (v : IsValid t) (c : ℕ) (l : c < case_component_count t)
   component_named = ap (node_component t) component_place ∙ (first_of_component t c l).1.component
 
   -- which it names where this is energised
-  pub component_names : is_fed t c ≡ true → names_component t (component_name t c) ≡ true
+  pub component_names : is_energised_component t c ≡ true → names_component t (component_name t c) ≡ true
   component_names fed =
       let f = first_of_component t c l in
       let u = f.0 in
       let own : (case_first_node t u == u) ≡ true = eq-eqb (case_first_node t u) u f.1.own in
       let bus : (slice_index (case_first_buses t) (node_component t u) == slice_index (case_buses t) u) ≡ true =
       eq-eqb (slice_index (case_first_buses t) (node_component t u)) (slice_index (case_buses t) u) (ap (λ (k : ℕ). slice_index (case_first_buses t) k) f.1.component ∙ f.1.bus) in
-      let on : is_fed t (node_component t u) ≡ true = ap (is_fed t) f.1.component ∙ fed in
+      let on : is_energised_component t (node_component t u) ≡ true = ap (is_energised_component t) f.1.component ∙ fed in
       ap (names_at t) component_place
-      ∙ and_from (case_first_node t u == u) _ own (and_from (slice_index (case_first_buses t) (node_component t u) == slice_index (case_buses t) u) (is_fed t (node_component t u)) bus on)
+      ∙ and_from (case_first_node t u == u) _ own (and_from (slice_index (case_first_buses t) (node_component t u) == slice_index (case_buses t) u) (is_energised_component t (node_component t u)) bus on)
 
   -- and it needs what the component needs
   pub component_need : named_need t (component_name t c) ≡ need_of (case_sizes t) c

@@ -8,7 +8,7 @@ use Rattle.obs_meter.specs.Touches.{live_items}
 use Rattle.obs_meter.proofs.Assigned.{live_items-distinct}
 use Rattle.obs_exchange.specs.Laws.{noncritical_in}
 use Rattle.obs_exchange.proofs.AtGraph.{live-from_live_items}
-use Rattle.obs_placement.specs.Placed.{Lacking, lack_of, loose_items}
+use Rattle.obs_placement.specs.Placed.{ShortfallValue, shortfall_of, redundant_items}
 use Rattle.obs_placement.specs.Placed.Placed.{shortfall as short_of}
 use Rattle.obs_placement.proofs.Going.{live_low}
 use Rattle.obs_network.specs.Network.{case_branches, case_needed, case_offered}
@@ -25,7 +25,7 @@ use Rattle.obs_claimed.proofs.ClauseTests.{all_inside_scope, has-filter, once}
 
 module _ (t : Tables) where
   abbrev loose : List ℕ
-  loose = loose_items (case_bus_count t) (case_branches t) (case_offered t)
+  loose = redundant_items (case_bus_count t) (case_branches t) (case_offered t)
 
   abbrev live : List ℕ
   live = live_items (case_branches t) (case_offered t)
@@ -48,19 +48,19 @@ module _ (t : Tables) where
   loose_low m i = live_low (case_branches t) (case_offered t) m (loose_live m i)
 
 -- the clauses of a shortfall, one after the other
-no_flaw : (t : Tables) (l : Lacking) (list : List ℕ) → items_of t (named_items t l.inside) ≡ list → unknown_item t (named_items t l.inside) ≡ false → not_inside (is_live_item t) list ≡ false → twice list ≡ false
+no_flaw : (t : Tables) (l : ShortfallValue) (list : List ℕ) → items_of t (named_items t l.inside) ≡ list → unknown_item t (named_items t l.inside) ≡ false → not_inside (is_live_item t) list ≡ false → twice list ≡ false
     → rank_of_items t list ≡ l.rank → outside_of t (is_live_item t) list ≡ l.outside → l.rank + l.outside < case_needed t → Holds t (shortfall (lack_claim t l))
 no_flaw t l list is known inside different rank outside low =
     rw (known, is, inside, different, eq-eqb (rank_of_items t list) l.rank rank, eq-eqb (outside_of t (is_live_item t) list) l.outside outside, lt-ltb (l.rank + l.outside) (case_needed t) low) refl
 
-pub lack_holds : (t : Tables) (l : Lacking) → IsValid t → case_placement t ≡ short_of l
+pub lack_holds : (t : Tables) (l : ShortfallValue) → IsValid t → case_placement t ≡ short_of l
     → ((list : List ℕ) → ((m : ℕ) → In m list → m < length (case_offered t)) → (items_of t (named_items t list) ≡ list) × (unknown_item t (named_items t list) ≡ false))
     → Holds t (shortfall (lack_claim t l))
 lack_holds t l v e names =
     let is = lack_is t l e in
-    let whole = lack_of (case_bus_count t) (case_branches t) (case_offered t) (case_needed t) in
+    let whole = shortfall_of (case_bus_count t) (case_branches t) (case_offered t) (case_needed t) in
     let named = names (loose t) (loose_low t) in
     let low = (shortfalls_refute t l v e).0 in
-    subst (λ (x : Lacking). Holds t (shortfall (lack_claim t x))) is
+    subst (λ (x : ShortfallValue). Holds t (shortfall (lack_claim t x))) is
     (no_flaw t whole (loose t) named.0 named.1 (all_inside_scope (is_live_item t) (loose t) (loose_live t)) (once (loose t) (loose_distinct t)) refl (loose_outside t)
-    (subst (λ (x : Lacking). x.rank + x.outside < case_needed t) (sym is) low))
+    (subst (λ (x : ShortfallValue). x.rank + x.outside < case_needed t) (sym is) low))

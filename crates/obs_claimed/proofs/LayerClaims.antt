@@ -14,7 +14,7 @@ use Rattle.obs_meter.proofs.Assigned.{every_item-distinct}
 use Rattle.obs_assign.proofs.Standing.{In-every}
 use Rattle.obs_exchange.proofs.AtGraph.{In-live, live-from_live_items}
 use Rattle.obs_placement.specs.declared.plans.Layer.{Layer as PlacedLayer}
-use Rattle.obs_placement.specs.Layers.{own_items, own_outside}
+use Rattle.obs_placement.specs.Layers.{layer_items, layer_outside}
 use Rattle.obs_placement.specs.Order.{price_of}
 use Rattle.obs_placement.specs.Shown.{bare_layer}
 use Rattle.obs_placement.specs.Taking.{scope_of as placed_scope}
@@ -78,7 +78,7 @@ module _ (t : Tables) (v : IsValid t) where
   own_inside to list h = all_inside_scope (is_below t to) list (λ m i. own_below t to m ((h m).0 i))
 
   abbrev owned : ℕ → List ℕ
-  owned to = own_items (case_bus_count t) (case_branches t) (case_offered t) (price_of (length t.meters) (prices_of t.candidates)) to
+  owned to = layer_items (case_bus_count t) (case_branches t) (case_offered t) (price_of (length t.meters) (prices_of t.candidates)) to
 
   touched_within : (xs ys : List ℕ) → ((m : ℕ) → In m xs → In m ys) → g.rank (flat_map (touches_of t) xs) ≤ g.rank (flat_map (touches_of t) ys)
   touched_within xs ys h = rank-within g (laws t v) (flat_map (touches_of t) xs) (flat_map (touches_of t) ys) (λ e i.
@@ -95,7 +95,7 @@ module _ (t : Tables) (v : IsValid t) where
 
   -- and as many of the items below its end are outside
   own_counted : (to : ℕ) (list : List ℕ) → 0 < to → HasOwn to list
-      → outside_of t (is_below t to) list ≡ own_outside (case_bus_count t) (case_branches t) (case_offered t) (price_of (length t.meters) (prices_of t.candidates)) to
+      → outside_of t (is_below t to) list ≡ layer_outside (case_bus_count t) (case_branches t) (case_offered t) (price_of (length t.meters) (prices_of t.candidates)) to
   own_counted to list l h =
       let S = scope_of t (is_below t to) in
       let B = placed_scope (case_branches t) (case_offered t) (price t) to in

@@ -8,9 +8,9 @@ use Rattle.obs_matroid.specs.Lists.{In}
 use Rattle.obs_matroid.proofs.Lists.{In-append_cases, In-filter_from}
 use Rattle.obs_meter.specs.Touches.{every_item}
 use Rattle.obs_placement.specs.declared.plans.Layer.{Layer as PlacedLayer}
-use Rattle.obs_placement.specs.Layers.{added_items, inside_of, layers_of, own_outside, own_rank}
+use Rattle.obs_placement.specs.Layers.{added_items, inside_of, layers_of, layer_outside, layer_rank}
 use Rattle.obs_placement.specs.Order.{price_of}
-use Rattle.obs_placement.specs.Taking.{is_own}
+use Rattle.obs_placement.specs.Taking.{is_listed_at}
 use Rattle.obs_placement.proofs.Going.{live_low}
 use Rattle.obs_network.specs.Network.{case_branches, case_offered}
 use Rattle.obs_network.specs.Switched.{case_bus_count}
@@ -25,7 +25,7 @@ module _ (t : Tables) where
 
   -- whether an item is below a price and isn't critical there
   abbrev pub own : ℕ → ℕ → Bool
-  own to m = is_own (case_bus_count t) (case_branches t) (case_offered t) (price_of (length t.meters) (prices_of t.candidates)) to m
+  own to m = is_listed_at (case_bus_count t) (case_branches t) (case_offered t) (price_of (length t.meters) (prices_of t.candidates)) to m
 
   -- the items that a layer adds
   abbrev pub added : ℕ → ℕ → List ℕ
@@ -42,8 +42,8 @@ module _ (t : Tables) where
   layer_claim f to list = record {
     from = f;
     to = to;
-    rank = own_rank (case_bus_count t) (case_branches t) (case_offered t) (price_of (length t.meters) (prices_of t.candidates)) to;
-    outside = own_outside (case_bus_count t) (case_branches t) (case_offered t) (price_of (length t.meters) (prices_of t.candidates)) to;
+    rank = layer_rank (case_bus_count t) (case_branches t) (case_offered t) (price_of (length t.meters) (prices_of t.candidates)) to;
+    outside = layer_outside (case_bus_count t) (case_branches t) (case_offered t) (price_of (length t.meters) (prices_of t.candidates)) to;
     inside = named_items t list;
   }
 

@@ -17,7 +17,7 @@ use Rattle.obs_network.proofs.Sums.{range_distinct}
 use Rattle.obs_placement.specs.Answer.{chosen_of, is_chosen}
 use Rattle.obs_placement.specs.Layers.{prices_above}
 use Rattle.obs_placement.specs.Order.{price_of}
-use Rattle.obs_placement.specs.Placed.{Placed, Planned, plan_of}
+use Rattle.obs_placement.specs.Placed.{Placed, PlanValue, plan_of}
 use Rattle.obs_placement.specs.Placed.Placed.{cheapest, shortfall as short_of}
 use Rattle.obs_placement.specs.Shown.{bare_layer}
 use Rattle.obs_placement.proofs.Growing.{AreRising, prices_rising}
@@ -91,7 +91,7 @@ module _ (t : Tables) (v : IsValid t) where
       let prices = prices_of t.candidates in
       IsDistinct-filter (λ j. is_chosen (case_bus_count t) (case_branches t) (case_offered t) (price_of (length t.meters) prices) (length t.meters + j)) (range_with_len 0 (length prices)) (range_distinct 0 (length prices))
 
-  abbrev whole : Planned
+  abbrev whole : PlanValue
   whole = plan_of (case_bus_count t) (case_branches t) (case_offered t) (length t.meters) (prices_of t.candidates)
 
   -- the layers of the plan as they are claimed
@@ -194,10 +194,10 @@ module _ (t : Tables) (v : IsValid t) where
               (sum_is (case_needed t) claim.layers ∙ ap (layers_sum (case_needed t)) layers_bare ∙ layers_add_up t whole v is)));
         }
 
-  pub plan_holds : (p : Planned) → case_placement t ≡ cheapest p → Holds t (cost (plan_claim t p (case_placed_pairs t)))
+  pub plan_holds : (p : PlanValue) → case_placement t ≡ cheapest p → Holds t (cost (plan_claim t p (case_placed_pairs t)))
   plan_holds p e =
       let same = plan_is t p e in
-      subst (λ (q : Planned). Holds t (cost (plan_claim t q (case_placed_pairs t)))) same
+      subst (λ (q : PlanValue). Holds t (cost (plan_claim t q (case_placed_pairs t)))) same
       (none_flawed t (plan_claim t whole (case_placed_pairs t)) (plan_has_no_flaw (e ∙ ap cheapest (sym same))))
 
 pub placements_hold : PlacementsHold

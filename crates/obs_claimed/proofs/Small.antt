@@ -21,8 +21,8 @@ use Rattle.obs_placement.specs.Answer.{chosen_of, cost_of, is_chosen}
 use Rattle.obs_placement.specs.Layers.{added_items, is_price_of, layers_of, prices_above}
 use Rattle.obs_placement.specs.Limits.{most_price}
 use Rattle.obs_placement.specs.Order.{price_of}
-use Rattle.obs_placement.specs.Placed.{lack_of, plan_of}
-use Rattle.obs_placement.specs.Taking.{is_below, is_own}
+use Rattle.obs_placement.specs.Placed.{shortfall_of, plan_of}
+use Rattle.obs_placement.specs.Taking.{is_below, is_listed_at}
 use Rattle.obs_network.specs.Network.{case_branches, case_meters, case_offered}
 use Rattle.obs_network.specs.Observable.{case_live_meters}
 use Rattle.obs_network.specs.Switched.{case_bus_count}
@@ -90,9 +90,9 @@ pub record IsSmallLayer (l : Layer) : Type 0 where
 
 -- those of all layers, where few vertices and items are given
 module _ (n : ℕ) (ends : List (Option Ends)) (touches : List Touch) (price : ℕ → ℕ) (vertices : IsSmall n) (items : IsSmall (length touches)) where
-  own_outside_few : (t : ℕ) → length (filter (λ m. not (is_own n ends touches price t m)) (in_scope ends touches (is_below price t))) ≤ length touches
+  own_outside_few : (t : ℕ) → length (filter (λ m. not (is_listed_at n ends touches price t m)) (in_scope ends touches (is_below price t))) ≤ length touches
   own_outside_few t =
-      let outer = filter_few (λ m. not (is_own n ends touches price t m)) (in_scope ends touches (is_below price t)) in
+      let outer = filter_few (λ m. not (is_listed_at n ends touches price t m)) (in_scope ends touches (is_below price t)) in
       let scope = filter_few (is_below price t) (live_items ends touches) in
       omega (arith, outer, scope, live_few ends touches)
 
@@ -101,7 +101,7 @@ module _ (n : ℕ) (ends : List (Option Ends)) (touches : List Touch) (price : �
   layers_small f u (t ∷ ts) low each l (inl e) = rw e (record {
     from = low;
     to = each t (inl refl);
-    rank = let few = rank_few n ends (flat_map (touch_at ends touches) (filter (is_own n ends touches price t) (in_scope ends touches (is_below price t)))) in omega (arith, few, vertices);
+    rank = let few = rank_few n ends (flat_map (touch_at ends touches) (filter (is_listed_at n ends touches price t) (in_scope ends touches (is_below price t)))) in omega (arith, few, vertices);
     outside = omega (arith, own_outside_few t, items);
   })
   layers_small f u (t ∷ ts) low each l (inr i) =
@@ -130,12 +130,12 @@ module _ (t : Tables) (v : IsValid t) where
       (λ x i. let low = filtered_below (is_price_of prices chosen) 1 (cost_of prices chosen - 0) x i in omega (arith, low, cost_few))
 
   -- and those of a shortfall
-  pub lack_rank_small : (needed : ℕ) → IsSmall (lack_of (case_bus_count t) (case_branches t) (case_offered t) needed).rank
+  pub lack_rank_small : (needed : ℕ) → IsSmall (shortfall_of (case_bus_count t) (case_branches t) (case_offered t) needed).rank
   lack_rank_small needed =
-      let few = rank_few (case_bus_count t) (case_branches t) (flat_map (touch_at (case_branches t) (case_offered t)) (lack_of (case_bus_count t) (case_branches t) (case_offered t) needed).inside) in
+      let few = rank_few (case_bus_count t) (case_branches t) (flat_map (touch_at (case_branches t) (case_offered t)) (shortfall_of (case_bus_count t) (case_branches t) (case_offered t) needed).inside) in
       omega (arith, few, few_buses t v)
 
-  pub lack_outside_small : (needed : ℕ) → IsSmall (lack_of (case_bus_count t) (case_branches t) (case_offered t) needed).outside
+  pub lack_outside_small : (needed : ℕ) → IsSmall (shortfall_of (case_bus_count t) (case_branches t) (case_offered t) needed).outside
   lack_outside_small needed =
       let live = live_items (case_branches t) (case_offered t) in
       let few = filter_few (λ m. not (noncritical_in (case_bus_count t) (case_branches t) (case_offered t) live m)) live in

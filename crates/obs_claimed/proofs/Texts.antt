@@ -9,7 +9,7 @@ use Rattle.obs_matroid.proofs.Lists.{In-filter_from}
 use Rattle.obs_meter.specs.Assignments.{rho_at}
 use Rattle.obs_meter.specs.Touches.{live_items}
 use Rattle.obs_placement.specs.declared.plans.Layer.{Layer as PlacedLayer}
-use Rattle.obs_placement.specs.Placed.{Lacking, Planned, lack_of, plan_of}
+use Rattle.obs_placement.specs.Placed.{ShortfallValue, PlanValue, shortfall_of, plan_of}
 use Rattle.obs_placement.specs.Placed.Placed.{cheapest, shortfall as short_of}
 use Rattle.obs_network.specs.Network.{case_branches, case_needed, case_offered}
 use Rattle.obs_network.specs.Switched.{case_bus_count}
@@ -72,7 +72,7 @@ module _ (t : Tables) (v : IsValid t) where
       (layers_lines inside low l.upto layers (λ k i. small k (inr i)))
 
   -- a plan
-  plan_lines : (p : Planned) (pairs : List NumberPair) → IsSmall p.cost → ((k : ℕ) → In k p.chosen → k < length t.candidates) → AreWithin t pairs
+  plan_lines : (p : PlanValue) (pairs : List NumberPair) → IsSmall p.cost → ((k : ℕ) → In k p.chosen → k < length t.candidates) → AreWithin t pairs
       → ((m : ℕ) → In m p.inside → m < item_count t) → ((l : PlacedLayer) → In l p.layers → IsSmallLayer l)
       → AreLines (placement_text t (cheapest p) pairs) (claim_lines (placement_claim t (cheapest p) pairs))
   plan_lines p pairs small chosen within inside layers =
@@ -86,7 +86,7 @@ module _ (t : Tables) (v : IsValid t) where
       subst (AreLines (placement_text t (cheapest p) pairs)) (append_assoc (cost_line p.cost ∷ of_chosen) of_pairs of_layers) whole
 
   -- a shortfall
-  lack_lines : (b : Lacking) (pairs : List NumberPair) → IsSmall b.rank → IsSmall b.outside → ((m : ℕ) → In m b.inside → m < item_count t)
+  lack_lines : (b : ShortfallValue) (pairs : List NumberPair) → IsSmall b.rank → IsSmall b.outside → ((m : ℕ) → In m b.inside → m < item_count t)
       → AreLines (placement_text t (short_of b) pairs) (claim_lines (placement_claim t (short_of b) pairs))
   lack_lines b pairs rank outside inside =
       lines_then (shortfall_text b.rank b.outside) (flat_map (inside_text t) b.inside) (shortfall_line b.rank b.outside ∷ []) (map inside_line (named_items t b.inside))
@@ -113,7 +113,7 @@ bounds_are_lines t c v l =
     (inside_lines t v inside (bound_meters_low t c))
 
 -- a placement by cases, with pairs that are at hand
-placed_by : (t : Tables) (pairs : List NumberPair) (short : Bool) (lack : Lacking) (plan : Planned)
+placed_by : (t : Tables) (pairs : List NumberPair) (short : Bool) (lack : ShortfallValue) (plan : PlanValue)
     → AreLines (placement_text t (short_of lack) pairs) (claim_lines (placement_claim t (short_of lack) pairs))
     → AreLines (placement_text t (cheapest plan) pairs) (claim_lines (placement_claim t (cheapest plan) pairs))
     → AreLines (placement_text t (cond short (short_of lack) (cheapest plan)) pairs) (claim_lines (placement_claim t (cond short (short_of lack) (cheapest plan)) pairs))
@@ -128,7 +128,7 @@ placements_are_lines t v =
     let touches = case_offered t in
     let pairs = case_placed_pairs t in
     let plan = plan_of n ends touches (length t.meters) (prices_of t.candidates) in
-    let lack = lack_of n ends touches (case_needed t) in
+    let lack = shortfall_of n ends touches (case_needed t) in
     placed_by t pairs (nat_lt (rho_at n ends touches (live_items ends touches)) (case_needed t)) lack plan
     (lack_lines t v lack pairs (lack_rank_small t v (case_needed t)) (lack_outside_small t v (case_needed t)) (lack_inside_low t (case_needed t)))
     (plan_lines t v plan pairs (cost_small t v) (plan_chosen_low t) (placed_pairs_within t v) (plan_inside_low t) (plan_layers_small t v))

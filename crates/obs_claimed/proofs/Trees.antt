@@ -7,7 +7,7 @@ use Rattle.obs_matroid.specs.Assignments.{Pair as NumberPair, branches, items}
 use Rattle.obs_matroid.proofs.Pairs.{In-branches, In-items_from}
 use Rattle.obs_meter.specs.Assignments.{IsAssignmentAt}
 use Rattle.obs_network.specs.Network.{case_branches, case_component_count, case_meters, case_offered}
-use Rattle.obs_network.specs.Observable.{IsObservable, is_fed}
+use Rattle.obs_network.specs.Observable.{IsObservable, is_energised_component}
 use Rattle.obs_cert.specs.Claims.{TreeClaim, tree}
 use Rattle.obs_cert.specs.Flaws.{Holds, cycle, not_inside, not_touched, paired_twice, tree_flaw, twice, unknown_pair, wrong_length}
 use Rattle.obs_cert.specs.Numbered.{items_of, paired_items, pairs_of}
@@ -59,7 +59,7 @@ module _ (t : Tables) (v : IsValid t) (c : ℕ) where
       let w = In-items_from (tree_pairs t c) m i in
       subst (λ (x : ℕ). is_meter_in t c x ≡ true) (sym w.2) (component_meter t c w.0.0 (assigns.of_items w.0 w.1)).1
 
-  pub tree_holds : c < case_component_count t → is_fed t c ≡ true → IsObservable t c → Holds t (tree (component_tree t c))
+  pub tree_holds : c < case_component_count t → is_energised_component t c ≡ true → IsObservable t c → Holds t (tree (component_tree t c))
   unfolding component_tree
   tree_holds l fed o =
       let is = component_named t v c l in

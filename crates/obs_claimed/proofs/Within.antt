@@ -23,7 +23,7 @@ use Rattle.obs_first.proofs.Ranges.{range_from}
 use Rattle.obs_placement.specs.Answer.{chosen_of, is_chosen}
 use Rattle.obs_placement.specs.Layers.{added_items, inside_of, prices_above}
 use Rattle.obs_placement.specs.Order.{price_of}
-use Rattle.obs_placement.specs.Placed.{Placed, lack_of, plan_of}
+use Rattle.obs_placement.specs.Placed.{Placed, shortfall_of, plan_of}
 use Rattle.obs_placement.specs.Placed.Placed.{cheapest, shortfall}
 use Rattle.obs_network.specs.Network.{case_branches, case_component_count, case_meters, case_offered}
 use Rattle.obs_network.specs.Observable.{case_live_meters}
@@ -129,7 +129,7 @@ module _ (t : Tables) where
       let low = inside_low (case_bus_count t) (case_branches t) (case_offered t) (price_of (length t.meters) prices) 0 (prices_above prices chosen 0) m i in
       omega (arith, low, length-case_offered t)
 
-  pub lack_inside_low : (needed m : ℕ) → In m (lack_of (case_bus_count t) (case_branches t) (case_offered t) needed).inside → m < item_count t
+  pub lack_inside_low : (needed m : ℕ) → In m (shortfall_of (case_bus_count t) (case_branches t) (case_offered t) needed).inside → m < item_count t
   lack_inside_low needed m i =
       let live = live_items (case_branches t) (case_offered t) in
       let own = (In-filter_from (noncritical_in (case_bus_count t) (case_branches t) (case_offered t) live) m live i).0 in

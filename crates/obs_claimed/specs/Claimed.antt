@@ -3,7 +3,7 @@ use Rattle.std.specs.Prelude.{ℕ, ◌-◌, List, [], ◌∷◌, length, map, dr
 use Rattle.obs_case.specs.Tables.{Tables}
 use Rattle.obs_matroid.specs.Assignments.{Pair as NumberPair}
 use Rattle.obs_placement.specs.declared.plans.Layer.{Layer as PlacedLayer}
-use Rattle.obs_placement.specs.Placed.{Lacking, Placed, Planned}
+use Rattle.obs_placement.specs.Placed.{ShortfallValue, Placed, PlanValue}
 use Rattle.obs_placement.specs.Placed.Placed.{cheapest, shortfall as short_of}
 use Rattle.obs_cert.specs.Claims.{BoundClaim, Claim, CostClaim, Item, Layer, Pair, ShortfallClaim, TreeClaim, meter, candidate, cost, shortfall}
 use Rattle.obs_report.specs.Items.{branch_name, candidate_name, is_meter, meter_name}
@@ -43,7 +43,7 @@ named_layers t inside u (l ∷ ls) =
     ∷ named_layers t inside l.upto ls
 
 -- a plan with its pairs
-abbrev pub plan_claim : Tables → Planned → List NumberPair → CostClaim
+abbrev pub plan_claim : Tables → PlanValue → List NumberPair → CostClaim
 plan_claim t p pairs = record {
   number = p.cost;
   chosen = map (candidate_name t) p.chosen;
@@ -52,7 +52,7 @@ plan_claim t p pairs = record {
 }
 
 -- a shortfall
-abbrev pub lack_claim : Tables → Lacking → ShortfallClaim
+abbrev pub lack_claim : Tables → ShortfallValue → ShortfallClaim
 lack_claim t lack = record { rank = lack.rank; outside = lack.outside; inside = named_items t lack.inside }
 
 -- a placement with its pairs

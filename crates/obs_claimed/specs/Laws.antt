@@ -3,7 +3,7 @@ use Rattle.std.specs.Prelude.{◌≡◌, ℕ, ◌<◌, true, List, [], ◌∷◌
 use Rattle.obs_text.specs.Lines.{lines_of}
 use Rattle.obs_case.specs.Tables.{IsValid, Tables}
 use Rattle.obs_network.specs.Network.{case_component_count}
-use Rattle.obs_network.specs.Observable.{IsObservable, is_fed}
+use Rattle.obs_network.specs.Observable.{IsObservable, is_energised_component}
 use Rattle.obs_cert.specs.Certificate.{claim_lines}
 use Rattle.obs_cert.specs.Claims.{tree, bound}
 use Rattle.obs_cert.specs.Flaws.{Holds}
@@ -18,12 +18,12 @@ use Rattle.obs_claimed.specs.Claimed.{component_bound, component_tree, placement
 
 -- the tree of an energised component that is observable is a claim that holds
 abbrev pub TreesHold : Type 0
-TreesHold = (t : Tables) (c : ℕ) → IsValid t → c < case_component_count t → is_fed t c ≡ true → IsObservable t c →
+TreesHold = (t : Tables) (c : ℕ) → IsValid t → c < case_component_count t → is_energised_component t c ≡ true → IsObservable t c →
     Holds t (tree (component_tree t c))
 
 -- the bound of one that isn't is a claim that holds
 abbrev pub BoundsHold : Type 0
-BoundsHold = (t : Tables) (c : ℕ) → IsValid t → c < case_component_count t → is_fed t c ≡ true → (IsObservable t c → ⊥) →
+BoundsHold = (t : Tables) (c : ℕ) → IsValid t → c < case_component_count t → is_energised_component t c ≡ true → (IsObservable t c → ⊥) →
     Holds t (bound (component_bound t c))
 
 -- and so is the placement

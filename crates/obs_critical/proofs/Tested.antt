@@ -10,7 +10,7 @@ use Rattle.obs_meter.specs.declared.Touch.{Touch}
 use Rattle.obs_meter.specs.Assignments.{IsAssignmentAt}
 use Rattle.obs_meter.specs.Touches.{every_item, is_live, touch_at}
 use Rattle.obs_meter.proofs.Assigned.{forest_at-from_independent}
-use Rattle.obs_assign.specs.Assigned.{Assigned, branch_at, has_flag, is_frozen}
+use Rattle.obs_assign.specs.Assignment.{Assignment, branch_at, has_flag, is_frozen}
 use Rattle.obs_assign.specs.Pins.{joins}
 use Rattle.obs_exchange.specs.declared.Sources.TheVariants.{All as AllSources}
 use Rattle.obs_exchange.specs.Closed.{IsLeastClosedAt}
@@ -65,7 +65,7 @@ flow_needed slots passes e f = elim (cases_Bool (passes 2)) [
   | inr n ↦ rw (own_nothing slots passes e f n) refl
 ]
 
-pub flows_closed : (a : Assigned) → a.slots ≡ path_slots → ((m : ℕ) → is_frozen a m ≡ false) → IsLeastClosedAt path_ends path_touches AllSources a flows
+pub flows_closed : (a : Assignment) → a.slots ≡ path_slots → ((m : ℕ) → is_frozen a m ≡ false) → IsLeastClosedAt path_ends path_touches AllSources a flows
 flows_closed a e thawed = record {
   closed = record {
     live = live;
@@ -121,6 +121,6 @@ pub two_pairs_at : (ends : List (Option Ends)) (touches : List Touch) (slots : L
     → IsAssignmentAt ends touches (every_item touches) (pairs_of (set slots 2 (Some 1)))
 two_pairs_at ends touches slots e t s = rw (e, t, s) two_pairs
 
-pub flows_closed_at : (ends : List (Option Ends)) (touches : List Touch) (a : Assigned) → ends ≡ path_ends → touches ≡ path_touches → a.slots ≡ path_slots → ((m : ℕ) → is_frozen a m ≡ false)
+pub flows_closed_at : (ends : List (Option Ends)) (touches : List Touch) (a : Assignment) → ends ≡ path_ends → touches ≡ path_touches → a.slots ≡ path_slots → ((m : ℕ) → is_frozen a m ≡ false)
     → IsLeastClosedAt ends touches AllSources a flows
 flows_closed_at ends touches a e t s thawed = rw (e, t) (flows_closed a s thawed)

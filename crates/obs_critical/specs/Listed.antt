@@ -1,12 +1,12 @@
 -- Lists of critical meters.
 use Rattle.std.specs.Prelude.{ℕ, ◌&&◌, Bool, List, is_some, not}
-use Rattle.obs_assign.specs.Assigned.{Assigned, branch_at}
+use Rattle.obs_assign.specs.Assignment.{Assignment, branch_at}
 
 -- the meters that were found last, and for how many there is room
-pub record Listing : Type 0 where
+pub record CriticalWork : Type 0 where
   pub list : List ℕ
   pub most_meters : ℕ
 
 -- whether the meter has a pair and the marks don't have it
-abbrev pub is_unmarked_pair : Assigned → (ℕ → Bool) → ℕ → Bool
+abbrev pub is_unmarked_pair : Assignment → (ℕ → Bool) → ℕ → Bool
 is_unmarked_pair a marks m = is_some (branch_at a m) && not (marks m)

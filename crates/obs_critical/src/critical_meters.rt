@@ -1,7 +1,7 @@
 // The critical meters.
 ghost use Rattle.std.specs.Prelude.{◌≡◌, ◌<◌, ◌≤◌, ℕ, [], false, filter, length, take, IfOk};
 ghost use Rattle.obs_meter.specs.Touches.{AreInRange, every_item};
-ghost use Rattle.obs_assign.specs.Assigned.{StandsOver, has_flag, is_frozen};
+ghost use Rattle.obs_assign.specs.Assignment.{StandsOver, has_flag, is_frozen};
 ghost use Rattle.obs_exchange.specs.declared.Sources.TheVariants.{All};
 ghost use Rattle.obs_exchange.specs.Closed.{IsLeastClosedAt};
 ghost use Rattle.obs_exchange.specs.Critical.{critical_meters};
@@ -24,9 +24,9 @@ pub struct CriticalWork {
 
 impl Model for CriticalWork {
     ghost use Rattle.std.specs.Prelude.{◌≤◌, length, take};
-    ghost use Rattle.obs_critical.specs.Listed.{Listing};
+    ghost use Rattle.obs_critical.specs.Listed.{CriticalWork};
 
-    ghost Value = { Listing };
+    ghost Value = { CriticalWork };
 
     ghost view = { λ w. record { list = take w.count w.list.items; most_meters = length w.list.items } };
 

@@ -1,6 +1,6 @@
 // The critical meter of a path of three branches.
 ghost use Rattle.std.specs.Prelude.{◌≡◌, ◌<◌, ℕ, false};
-ghost use Rattle.obs_assign.specs.Assigned.{Fits, StandsOver, is_frozen};
+ghost use Rattle.obs_assign.specs.Assignment.{Fits, StandsOver, is_frozen};
 ghost use Rattle.obs_critical.specs.Tested.{path_ends, path_slots, path_touches};
 
 use crate::{CriticalWork, critical};

@@ -5,7 +5,7 @@ use Rattle.std.proofs.lemmas.List.{length-take-le}
 use Rattle.std.proofs.lemmas.List.Filters.{length-filter_both}
 use Rattle.std.proofs.lemmas.List.FromFn.{length-range_with_len}
 use Rattle.std.proofs.lemmas.List.Sums.{count_by-le-length, length-filter}
-use Rattle.obs_graph.specs.Shape.{Shape}
+use Rattle.obs_graph.specs.Graph.{Graph}
 use Rattle.obs_case.specs.Tables.{IsValid, Tables}
 use Rattle.obs_matroid.specs.Assignments.{Pair, items, part}
 use Rattle.obs_matroid.specs.Lists.{In}
@@ -13,11 +13,11 @@ use Rattle.obs_matroid.proofs.Bounds.{length-items}
 use Rattle.obs_matroid.proofs.Exchange.{items-part}
 use Rattle.obs_matroid.proofs.Lists.{In-filter, In-filter_from, IsDistinct-filter, clash, filter_same, length-within}
 use Rattle.obs_matroid.proofs.Slots.{IsDistinct-slots}
-use Rattle.obs_meter.specs.Held.{Items}
+use Rattle.obs_meter.specs.Held.{Meters}
 use Rattle.obs_meter.specs.Touches.{every_item, is_live}
 use Rattle.obs_meter.proofs.Assigned.{every-to_live, live-to_every, live_items-distinct}
 use Rattle.obs_meter.proofs.Touched.{live-from_In}
-use Rattle.obs_assign.specs.Assigned.{Assigned, IsWhole, StandsOver, branch_at, has_flag, pairs}
+use Rattle.obs_assign.specs.Assignment.{Assignment, IsWhole, StandsOver, branch_at, has_flag, pairs}
 use Rattle.obs_assign.proofs.Slotted.{item_slot, slot_item}
 use Rattle.obs_exchange.specs.declared.Sources.TheVariants.{All as AllSources}
 use Rattle.obs_exchange.specs.Critical.{critical_meters}
@@ -49,7 +49,7 @@ is_some-from (Some e) t = (e, refl)
 is_some-from None t = clash t refl
 
 -- the meters of a component that have a pair are as many as its pairs
-module _ (t : Tables) (v : IsValid t) (a : Assigned) (h : AreLongest t a) where
+module _ (t : Tables) (v : IsValid t) (a : Assignment) (h : AreLongest t a) where
   closed_for : (S : ℕ → Bool) × IsClosedFor t (pairs a) S
   closed_for = let s = least t v a h in (s.0, record { assigns = IsAssignment-live (case_bus_count t) a (network_of t).graph (case_meters t) h.whole h.stands; least = s.1 })
 
@@ -119,7 +119,7 @@ outside_bound t c = length-filter_both (λ m. not (is_critical_meter t m)) (is_c
     twice false = refl
 
 -- what a search that found no pair more reached are the live meters that aren't critical
-pub marks_of_closed : (t : Tables) → IsValid t → (a : Assigned) → AreLongest t a → (flags : List Bool) → HasClosed (case_branches t) (case_meters t) AllSources a a flags → AreMarks t flags
+pub marks_of_closed : (t : Tables) → IsValid t → (a : Assignment) → AreLongest t a → (flags : List Bool) → HasClosed (case_branches t) (case_meters t) AllSources a a flags → AreMarks t flags
 marks_of_closed t v a h flags k = record {
   one_each = k.flags;
   mark = mark_from t v (pairs a) (has_flag flags) (record {
@@ -129,23 +129,23 @@ marks_of_closed t v a h flags k = record {
 }
 
 -- the answers over the parts of the network are those of the case
-pub critical_of_network : (t : Tables) (g : Shape) (ms : Items) → g ≡ (network_of t).graph → ms ≡ (network_of t).meters → critical_meters g.vertices g.ends ms.touches ≡ case_critical_meters t
+pub critical_of_network : (t : Tables) (g : Graph) (ms : Meters) → g ≡ (network_of t).graph → ms ≡ (network_of t).meters → critical_meters g.vertices g.ends ms.touches ≡ case_critical_meters t
 unfolding case_critical_meters
 critical_of_network t g ms gg mm =
-    ap (λ (x : Shape). critical_meters x.vertices x.ends ms.touches) gg ∙ ap (λ (i : Items). critical_meters (case_bus_count t) (case_branches t) i.touches) mm
+    ap (λ (x : Graph). critical_meters x.vertices x.ends ms.touches) gg ∙ ap (λ (i : Meters). critical_meters (case_bus_count t) (case_branches t) i.touches) mm
 
-pub first_of_network : (t : Tables) (g : Shape) (ms : Items) → g ≡ (network_of t).graph → ms ≡ (network_of t).meters → first_pairs g.vertices g.ends ms.touches ≡ case_first_pairs t
+pub first_of_network : (t : Tables) (g : Graph) (ms : Meters) → g ≡ (network_of t).graph → ms ≡ (network_of t).meters → first_pairs g.vertices g.ends ms.touches ≡ case_first_pairs t
 unfolding case_first_pairs
 first_of_network t g ms gg mm =
-    ap (λ (x : Shape). first_pairs x.vertices x.ends ms.touches) gg ∙ ap (λ (i : Items). first_pairs (case_bus_count t) (case_branches t) i.touches) mm
+    ap (λ (x : Graph). first_pairs x.vertices x.ends ms.touches) gg ∙ ap (λ (i : Meters). first_pairs (case_bus_count t) (case_branches t) i.touches) mm
 
-pub islands_of_network : (t : Tables) (g : Shape) (ms : Items) → g ≡ (network_of t).graph → ms ≡ (network_of t).meters → islands_of g.vertices g.ends ms.touches ≡ case_islands t
+pub islands_of_network : (t : Tables) (g : Graph) (ms : Meters) → g ≡ (network_of t).graph → ms ≡ (network_of t).meters → islands_of g.vertices g.ends ms.touches ≡ case_islands t
 unfolding case_islands
 islands_of_network t g ms gg mm =
-    ap (λ (x : Shape). islands_of x.vertices x.ends ms.touches) gg ∙ ap (λ (i : Items). islands_of (case_bus_count t) (case_branches t) i.touches) mm
+    ap (λ (x : Graph). islands_of x.vertices x.ends ms.touches) gg ∙ ap (λ (i : Meters). islands_of (case_bus_count t) (case_branches t) i.touches) mm
 
 -- the first assignment is a longest one
-pub IsLongest-first : (t : Tables) → IsValid t → (a : Assigned) → StandsOver a (network_of t).graph (case_meters t) → IsWhole a → IsThawed a → pairs a ≡ case_first_pairs t → AreLongest t a
+pub IsLongest-first : (t : Tables) → IsValid t → (a : Assignment) → StandsOver a (network_of t).graph (case_meters t) → IsWhole a → IsThawed a → pairs a ≡ case_first_pairs t → AreLongest t a
 unfolding case_first_pairs
 IsLongest-first t v a stands whole thawed same =
     let n = case_bus_count t in
@@ -182,7 +182,7 @@ pub record IsMeasured (t : Tables) (c n listed count : ℕ) : Type 0 where
   pub enough : n - listed ≤ count
   pub rank : count - (n - listed) ≡ bound_rank t c
 
-pub measured : (t : Tables) → IsValid t → (a : Assigned) → AreLongest t a → (marks : List Bool) → AreMarks t marks → (c : ℕ) (meters list : List ℕ) (listed count : ℕ)
+pub measured : (t : Tables) → IsValid t → (a : Assignment) → AreLongest t a → (marks : List Bool) → AreMarks t marks → (c : ℕ) (meters list : List ℕ) (listed count : ℕ)
     → meters ≡ live_meters_of (network_of t) c → listed ≤ length list → take listed list ≡ filter (has_flag marks) meters
     → count ≡ length (filter (λ m. is_some (branch_at a m)) meters) → IsMeasured t c (length meters) listed count
 measured t v a h marks k c meters list listed count same room lists counts =
@@ -200,8 +200,8 @@ measured t v a h marks k c meters list listed count same room lists counts =
     }
 
 -- the marks of a closed set over the parts of the network
-pub marks_of_network : (t : Tables) → IsValid t → (a : Assigned) → AreLongest t a → (flags : List Bool) (g : Shape) (ms : Items) → g ≡ (network_of t).graph → ms ≡ (network_of t).meters
+pub marks_of_network : (t : Tables) → IsValid t → (a : Assignment) → AreLongest t a → (flags : List Bool) (g : Graph) (ms : Meters) → g ≡ (network_of t).graph → ms ≡ (network_of t).meters
     → HasClosed g.ends ms.touches AllSources a a flags → AreMarks t flags
 marks_of_network t v a h flags g ms gg mm k =
     marks_of_closed t v a h flags
-    (subst (λ (x : Shape). HasClosed x.ends (case_meters t) AllSources a a flags) gg (subst (λ (i : Items). HasClosed g.ends i.touches AllSources a a flags) mm k))
+    (subst (λ (x : Graph). HasClosed x.ends (case_meters t) AllSources a a flags) gg (subst (λ (i : Meters). HasClosed g.ends i.touches AllSources a a flags) mm k))

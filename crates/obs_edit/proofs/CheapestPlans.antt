@@ -13,7 +13,7 @@ use Rattle.obs_meter.specs.Assignments.{IsRhoAt, rho_at}
 use Rattle.obs_meter.specs.Touches.{is_live, live_items}
 use Rattle.obs_meter.proofs.Assigned.{live_items-distinct, rho_at-is}
 use Rattle.obs_placement.specs.Laws.{DoAsMuch, answer_at, live_meters}
-use Rattle.obs_placement.specs.Placed.{Lacking, Planned}
+use Rattle.obs_placement.specs.Placed.{ShortfallValue, PlanValue}
 use Rattle.obs_placement.specs.Placed.Placed.{cheapest}
 use Rattle.obs_placement.specs.Shown.{bare_layer}
 use Rattle.obs_placement.proofs.Costed.{layers_are_shown, layers_show_the_cost}
@@ -77,28 +77,28 @@ plans_complete t p v e =
     let at : map (λ k. m + k) (plan t).chosen ≡ answer_at n ends touches m prices = positions_are n ends touches m prices (size t v) in
     let does = chosen_enough n ends touches m (case_needed t) prices (ok t v) (reaches t v is.0) in
     let cost : (plan t).cost ≡ price_together t (chosen_items t (plan t)) = cost_is n ends touches m prices (size t v) ∙ ap (λ (X : List ℕ). price_together t X) (sym at) in
-    subst (λ (q : Planned). CompletesCase t (chosen_items t q) × (q.cost ≡ price_together t (chosen_items t q))) is.1
+    subst (λ (q : PlanValue). CompletesCase t (chosen_items t q) × (q.cost ≡ price_together t (chosen_items t q))) is.1
     (subst (λ (X : List ℕ). CompletesCase t X) (sym at) (completes t (answer_at n ends touches m prices) does), cost)
 
 pub plans_are_cheapest : PlansAreCheapest
 unfolding plan
 plans_are_cheapest t p X v e c =
     let is = planned t p e in
-    subst (λ (q : Planned). q.cost ≤ price_together t X) is.1
+    subst (λ (q : PlanValue). q.cost ≤ price_together t X) is.1
     (none_for_less (case_bus_count t) (case_branches t) (case_offered t) (length t.meters) (case_needed t) (prices_of t.candidates) X (ok t v) (size t v) (reaches t v is.0) c)
 
 pub layers_add_up : LayersAddUp
 unfolding plan
 layers_add_up t p v e =
     let is = planned t p e in
-    subst (λ (q : Planned). layers_sum (case_needed t) (map bare_layer q.layers) ≡ q.cost) is.1
+    subst (λ (q : PlanValue). layers_sum (case_needed t) (map bare_layer q.layers) ≡ q.cost) is.1
     (layers_show_the_cost (case_bus_count t) (case_branches t) (case_offered t) (length t.meters) (case_needed t) (prices_of t.candidates) (ok t v) (size t v) (reaches t v is.0))
 
 pub layers_are_bounds : LayersAreBounds
 unfolding plan
 layers_are_bounds t p v e =
     let is = planned t p e in
-    subst (λ (q : Planned). RunOn 0 (map bare_layer q.layers) × ((l : Layer) → In l (map bare_layer q.layers) → IsBoundOf t l × (l.rank + l.outside < case_needed t))) is.1
+    subst (λ (q : PlanValue). RunOn 0 (map bare_layer q.layers) × ((l : Layer) → In l (map bare_layer q.layers) → IsBoundOf t l × (l.rank + l.outside < case_needed t))) is.1
     (layers_are_shown (case_bus_count t) (case_branches t) (case_offered t) (length t.meters) (case_needed t) (prices_of t.candidates) (ok t v) (size t v) (reaches t v is.0))
 
 pub layers_bound_costs : LayersBoundCosts
@@ -118,7 +118,7 @@ shortfalls_refute t l v e =
     let is = lacking t l e in
     let sum = bound_reached n ends touches (case_needed t) (ok t v) in
     let low : (lack t).rank + (lack t).outside < case_needed t = omega (arith, sum, below _ _ is.0) in
-    subst (λ (b : Lacking). (b.rank + b.outside < case_needed t) × ((X : List ℕ) → CompletesCase t X → ⊥)) is.1
+    subst (λ (b : ShortfallValue). (b.rank + b.outside < case_needed t) × ((X : List ℕ) → CompletesCase t X → ⊥)) is.1
     (low, λ X c. bound_refutes n ends touches (length t.meters) (case_needed t) X (ok t v) low c)
   where
     below : (a b : ℕ) → nat_lt a b ≡ true → a < b

@@ -14,7 +14,7 @@ use Rattle.obs_meter.specs.Spanned.{graph_matroid}
 use Rattle.obs_meter.specs.Touches.{touch_at}
 use Rattle.obs_meter.proofs.Assigned.{from_matroid, live_items-distinct, to_matroid}
 use Rattle.obs_meter.proofs.Instance.{IsMatroid-graph}
-use Rattle.obs_assign.specs.Assigned.{Assigned, pairs}
+use Rattle.obs_assign.specs.Assignment.{Assignment, pairs}
 use Rattle.obs_exchange.proofs.AtGraph.{IsAssignment-live}
 use Rattle.obs_network.specs.Switched.{case_bus_count}
 use Rattle.obs_network.specs.Components.{need_of}
@@ -25,7 +25,7 @@ use Rattle.obs_network.proofs.Observed.{few_in, pairs_in}
 use Rattle.obs_network.proofs.OfCase.{case_branches-are}
 use Rattle.obs_edit.specs.Sessions.{AreLongest}
 
-module _ (t : Tables) (v : IsValid t) (a : Assigned) (h : AreLongest t a) where
+module _ (t : Tables) (v : IsValid t) (a : Assignment) (h : AreLongest t a) where
   pub live_pairs : IsAssignmentAt (case_branches t) (case_meters t) (case_live_meters t) (pairs a)
   live_pairs =
       from_matroid (case_bus_count t) (case_branches t) (case_meters t) (case_live_meters t) (pairs a) (IsAssignment-live (case_bus_count t) a (network_of t).graph (case_meters t) h.whole h.stands)

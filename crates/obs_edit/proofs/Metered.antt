@@ -9,7 +9,7 @@ use Rattle.obs_case.specs.Flags.{changed_at, with_meter_inservice}
 use Rattle.obs_case.specs.Tables.{IsValid, Tables}
 use Rattle.obs_case.proofs.RowLemmas.{length-changed}
 use Rattle.obs_graph.specs.Positions.{IsForestAt}
-use Rattle.obs_graph.specs.Shape.{Shape}
+use Rattle.obs_graph.specs.Graph.{Graph}
 use Rattle.obs_matroid.specs.Lists.{In, IsDistinct, other_than}
 use Rattle.obs_matroid.specs.Assignments.{Pair, branches, items, part}
 use Rattle.obs_matroid.proofs.Lists.{length-within, other_ne, other_true}
@@ -23,7 +23,7 @@ use Rattle.obs_network.specs.Network.{case_branches, case_components, case_compo
 use Rattle.obs_network.specs.Touching.{meter_touch, touch_of}
 use Rattle.obs_network.proofs.Edited.{branches-with_meter}
 use Rattle.obs_network.proofs.OfCase.{case_branches-are}
-use Rattle.obs_assign.specs.Assigned.{Assigned, StandsOver, branch_at}
+use Rattle.obs_assign.specs.Assignment.{Assignment, StandsOver, branch_at}
 use Rattle.obs_edit.specs.Longest.{IsMost}
 use Rattle.obs_edit.proofs.OfNetwork.{length-case_meters}
 use Rattle.obs_edit.proofs.Retained.{assigns-within}
@@ -169,22 +169,22 @@ pub no_branch : (e : ℕ) → None ≡ Some e → ⊥
 no_branch e is = cc
 
 -- pairs stand where a meter went that has none
-pub stands-lost : (t : Tables) (at : ℕ) (a : Assigned) → branch_at a at ≡ None → StandsOver a (network_of t).graph (case_meters t)
+pub stands-lost : (t : Tables) (at : ℕ) (a : Assignment) → branch_at a at ≡ None → StandsOver a (network_of t).graph (case_meters t)
     → StandsOver a (network_of (with_meter_inservice t at false)).graph (case_meters (with_meter_inservice t at false))
 stands-lost t at a bare s =
     let T = case_meters (with_meter_inservice t at false) in
-    subst (λ (g : Shape). StandsOver a g T) (sym (same_graph t at false)) (record {
+    subst (λ (g : Graph). StandsOver a g T) (sym (same_graph t at false)) (record {
       forest = s.forest;
       meters = same_count t at false ∙ s.meters;
       touched = λ m e is. subst (λ xs. In e xs) (sym (same_touch t at false m (λ k. no_branch e (sym bare ∙ (ap (λ x. branch_at a x) (sym k) ∙ is))))) (s.touched m e is);
     })
 
 -- pairs stand where a meter came back
-pub stands-regained : (t : Tables) (at : ℕ) (a : Assigned) → StandsOver a (network_of t).graph (case_meters t)
+pub stands-regained : (t : Tables) (at : ℕ) (a : Assignment) → StandsOver a (network_of t).graph (case_meters t)
     → StandsOver a (network_of (with_meter_inservice t at true)).graph (case_meters (with_meter_inservice t at true))
 stands-regained t at a s =
     let T = case_meters (with_meter_inservice t at true) in
-    subst (λ (g : Shape). StandsOver a g T) (sym (same_graph t at true)) (record {
+    subst (λ (g : Graph). StandsOver a g T) (sym (same_graph t at true)) (record {
       forest = s.forest;
       meters = same_count t at true ∙ s.meters;
       touched = λ m e is. touched_after t at m e (s.touched m e is);

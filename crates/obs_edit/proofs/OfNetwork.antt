@@ -1,17 +1,17 @@
 -- What is read off the network of a case, and the room for it.
 use Rattle.std.proofs.Common.{◌≡◌, ℕ, ◌≤◌, length, sym, ap, ◌∙◌, subst, arith}
 use Rattle.std.proofs.lemmas.List.{length-map}
-use Rattle.obs_graph.specs.Shape.{Shape}
+use Rattle.obs_graph.specs.Graph.{Graph}
 use Rattle.obs_case.specs.Tables.{IsValid, Tables}
-use Rattle.obs_meter.specs.Held.{Items}
+use Rattle.obs_meter.specs.Held.{Meters}
 use Rattle.obs_meter.specs.Sizes.{HasRoomFor, Sizes}
 use Rattle.obs_meter.specs.Touches.{every_item}
-use Rattle.obs_assign.specs.Assigned.{Assigned, Fits}
-use Rattle.obs_exchange.specs.Found.{Working}
+use Rattle.obs_assign.specs.Assignment.{Assignment, Fits}
+use Rattle.obs_exchange.specs.Found.{Work}
 use Rattle.obs_network.specs.Switched.{case_buses}
 use Rattle.obs_network.specs.Components.{need_of}
 use Rattle.obs_network.specs.Touching.{meter_touch}
-use Rattle.obs_network.specs.Network.{NetworkOf, case_branches, case_component_count, case_meters, case_needed, case_sizes, network_of}
+use Rattle.obs_network.specs.Network.{Network, case_branches, case_component_count, case_meters, case_needed, case_sizes, network_of}
 use Rattle.obs_network.proofs.OfCase.{case_bus_count-le, length-case_branches, length-case_first_buses}
 use Rattle.obs_network.proofs.Observed.{most_pairs}
 use Rattle.obs_edit.specs.Longest.{IsLongest, IsMost}
@@ -25,46 +25,46 @@ pub few_meters : (t : Tables) → IsValid t → length (case_meters t) ≤ 20000
 few_meters t v = let few = v.meters.few in omega (arith, few, length-map t.meters (λ row. row.name), length-case_meters t)
 
 -- how many components there are
-pub count_of : (n : NetworkOf) (t : Tables) → n ≡ network_of t → length n.components.first_buses ≡ case_component_count t
-count_of n t same = ap (λ (x : NetworkOf). length x.components.first_buses) same ∙ length-case_first_buses t
+pub count_of : (n : Network) (t : Tables) → n ≡ network_of t → length n.components.first_buses ≡ case_component_count t
+count_of n t same = ap (λ (x : Network). length x.components.first_buses) same ∙ length-case_first_buses t
 
-pub need_from : (n : NetworkOf) (t : Tables) (c : ℕ) → n ≡ network_of t → need_of n.components.sizes c ≡ need_of (case_sizes t) c
-need_from n t c same = ap (λ (x : NetworkOf). need_of x.components.sizes c) same
+pub need_from : (n : Network) (t : Tables) (c : ℕ) → n ≡ network_of t → need_of n.components.sizes c ≡ need_of (case_sizes t) c
+need_from n t c same = ap (λ (x : Network). need_of x.components.sizes c) same
 
-pub fits_case : (t : Tables) (a : Assigned) (w : Working) → HasRoom t a w → Fits a (network_of t).graph (case_meters t)
+pub fits_case : (t : Tables) (a : Assignment) (w : Work) → HasRoom t a w → Fits a (network_of t).graph (case_meters t)
 fits_case t a w r = record {
   meters = let p = r.pair_meters in omega (arith, p, length-case_meters t);
   vertices = let p = r.pair_vertices in omega (arith, p, case_bus_count-le t);
   branches = let p = r.pair_branches in omega (arith, p, length-case_branches t);
 }
 
-pub fits_network : (n : NetworkOf) (t : Tables) (g : Shape) (i : Items) (a : Assigned) (w : Working) → n ≡ network_of t → g ≡ n.graph → i ≡ n.meters → HasRoom t a w → Fits a g i.touches
+pub fits_network : (n : Network) (t : Tables) (g : Graph) (i : Meters) (a : Assignment) (w : Work) → n ≡ network_of t → g ≡ n.graph → i ≡ n.meters → HasRoom t a w → Fits a g i.touches
 fits_network n t g i a w same graph meters r =
-    let gs : g ≡ (network_of t).graph = graph ∙ ap (λ (x : NetworkOf). x.graph) same in
-    let is : i ≡ (network_of t).meters = meters ∙ ap (λ (x : NetworkOf). x.meters) same in
-    subst (λ (h : Shape). Fits a h i.touches) (sym gs) (subst (λ (j : Items). Fits a (network_of t).graph j.touches) (sym is) (fits_case t a w r))
+    let gs : g ≡ (network_of t).graph = graph ∙ ap (λ (x : Network). x.graph) same in
+    let is : i ≡ (network_of t).meters = meters ∙ ap (λ (x : Network). x.meters) same in
+    subst (λ (h : Graph). Fits a h i.touches) (sym gs) (subst (λ (j : Meters). Fits a (network_of t).graph j.touches) (sym is) (fits_case t a w r))
 
 -- the needed number bounds the pairs
-pub most_of_network : (n : NetworkOf) (t : Tables) (g : Shape) (i : Items) (k : ℕ) → IsValid t → n ≡ network_of t → g ≡ n.graph → i ≡ n.meters → k ≡ n.needed → IsMost g.ends i.touches k
+pub most_of_network : (n : Network) (t : Tables) (g : Graph) (i : Meters) (k : ℕ) → IsValid t → n ≡ network_of t → g ≡ n.graph → i ≡ n.meters → k ≡ n.needed → IsMost g.ends i.touches k
 most_of_network n t g i k v same graph meters needed =
-    let gs : g ≡ (network_of t).graph = graph ∙ ap (λ (x : NetworkOf). x.graph) same in
-    let is : i ≡ (network_of t).meters = meters ∙ ap (λ (x : NetworkOf). x.meters) same in
-    let ks : k ≡ case_needed t = needed ∙ ap (λ (x : NetworkOf). x.needed) same in
+    let gs : g ≡ (network_of t).graph = graph ∙ ap (λ (x : Network). x.graph) same in
+    let is : i ≡ (network_of t).meters = meters ∙ ap (λ (x : Network). x.meters) same in
+    let ks : k ≡ case_needed t = needed ∙ ap (λ (x : Network). x.needed) same in
     let most : IsMost (case_branches t) (case_meters t) (case_needed t) = λ B x. most_pairs t v (case_meters t) (every_item (case_meters t)) B x in
-    subst (λ (h : Shape). IsMost h.ends i.touches k) (sym gs)
-    (subst (λ (j : Items). IsMost (case_branches t) j.touches k) (sym is) (subst (λ (x : ℕ). IsMost (case_branches t) (case_meters t) x) (sym ks) most))
+    subst (λ (h : Graph). IsMost h.ends i.touches k) (sym gs)
+    (subst (λ (j : Meters). IsMost (case_branches t) j.touches k) (sym is) (subst (λ (x : ℕ). IsMost (case_branches t) (case_meters t) x) (sym ks) most))
 
 -- what is the longest over the graph and the meters of the network is so over those of the case
-pub IsLongest-of_network : (n : NetworkOf) (t : Tables) (g : Shape) (i : Items) (a : Assigned) → n ≡ network_of t → g ≡ n.graph → i ≡ n.meters → IsLongest g i.touches a → AreLongest t a
+pub IsLongest-of_network : (n : Network) (t : Tables) (g : Graph) (i : Meters) (a : Assignment) → n ≡ network_of t → g ≡ n.graph → i ≡ n.meters → IsLongest g i.touches a → AreLongest t a
 IsLongest-of_network n t g i a same graph meters h =
-    let gs : g ≡ (network_of t).graph = graph ∙ ap (λ (x : NetworkOf). x.graph) same in
-    let is : i ≡ (network_of t).meters = meters ∙ ap (λ (x : NetworkOf). x.meters) same in
-    subst (λ (h : Shape). IsLongest h (case_meters t) a) gs (subst (λ (j : Items). IsLongest g j.touches a) is h)
+    let gs : g ≡ (network_of t).graph = graph ∙ ap (λ (x : Network). x.graph) same in
+    let is : i ≡ (network_of t).meters = meters ∙ ap (λ (x : Network). x.meters) same in
+    subst (λ (h : Graph). IsLongest h (case_meters t) a) gs (subst (λ (j : Meters). IsLongest g j.touches a) is h)
 
 -- what was made for the rows of a case has room for its network
-pub room_of_rows : (t : Tables) (s : Sizes) (g : Shape) (ms : Items) → g ≡ (network_of t).graph → ms ≡ (network_of t).meters → s ≡ case_rows t → HasRoomFor s g ms.touches
+pub room_of_rows : (t : Tables) (s : Sizes) (g : Graph) (ms : Meters) → g ≡ (network_of t).graph → ms ≡ (network_of t).meters → s ≡ case_rows t → HasRoomFor s g ms.touches
 room_of_rows t s g ms gg mm e = record {
-  meters = let r = ap (λ (x : Sizes). x.meters) e in let m = ap (λ (i : Items). length i.touches) mm in omega (arith, r, m, length-case_meters t);
-  branches = let r = ap (λ (x : Sizes). x.branches) e in let b = ap (λ (x : Shape). length x.ends) gg in omega (arith, r, b, length-case_branches t);
-  vertices = let r = ap (λ (x : Sizes). x.vertices) e in let v = ap (λ (x : Shape). x.vertices) gg in omega (arith, r, v, case_bus_count-le t);
+  meters = let r = ap (λ (x : Sizes). x.meters) e in let m = ap (λ (i : Meters). length i.touches) mm in omega (arith, r, m, length-case_meters t);
+  branches = let r = ap (λ (x : Sizes). x.branches) e in let b = ap (λ (x : Graph). length x.ends) gg in omega (arith, r, b, length-case_branches t);
+  vertices = let r = ap (λ (x : Sizes). x.vertices) e in let v = ap (λ (x : Graph). x.vertices) gg in omega (arith, r, v, case_bus_count-le t);
 }

@@ -14,14 +14,14 @@ use Rattle.obs_matroid.proofs.Pairs.{In-items_from}
 use Rattle.obs_meter.specs.declared.Touch.{Touch}
 use Rattle.obs_meter.specs.Assignments.{IsAssignmentAt, rho_at}
 use Rattle.obs_meter.specs.Touches.{every_item, live_items}
-use Rattle.obs_forest.specs.Holding.{has_position}
+use Rattle.obs_forest.specs.Forest.{has_position}
 use Rattle.obs_assign.proofs.Standing.{In-every}
 use Rattle.obs_first.specs.First.{IsFirstAt, first_pairs}
 use Rattle.obs_first.proofs.Lawful.{IsNotAfter-filter, first_pairs-is}
 use Rattle.obs_first.proofs.Ranges.{range_from, range_rising}
 use Rattle.obs_placement.specs.Answer.{chosen_of, is_chosen}
 use Rattle.obs_placement.specs.Order.{price_of}
-use Rattle.obs_placement.specs.Placed.{Placed, Planned, lack_of, placement_of, plan_of}
+use Rattle.obs_placement.specs.Placed.{Placed, PlanValue, shortfall_of, placement_of, plan_of}
 use Rattle.obs_placement.specs.Placed.Placed.{cheapest, shortfall}
 use Rattle.obs_edit.specs.Planned.{PlanPairsAreFirst, pairs_in, placed_pairs, planned_items, touches_of}
 use Rattle.obs_edit.proofs.Planned.{has-listed, length-touches_of, listed-has, listed-touch, touch-listed}
@@ -143,12 +143,12 @@ is_plan (cheapest plan) = true
 is_plan (shortfall lack) = false
 
 -- a plan has the chosen candidates
-plan_has_chosen : (n : ℕ) (ends : List (Option Ends)) (touches : List Touch) (meters needed : ℕ) (prices : List ℕ) (plan : Planned)
+plan_has_chosen : (n : ℕ) (ends : List (Option Ends)) (touches : List Touch) (meters needed : ℕ) (prices : List ℕ) (plan : PlanValue)
     → placement_of n ends touches meters prices needed ≡ cheapest plan → plan.chosen ≡ chosen_of n ends touches meters prices
 unfolding chosen_in is_plan
 plan_has_chosen n ends touches meters needed prices plan h =
     let short = nat_lt (rho_at n ends touches (live_items ends touches)) needed in
-    let lack = shortfall (lack_of n ends touches needed) in
+    let lack = shortfall (shortfall_of n ends touches needed) in
     let whole = cheapest (plan_of n ends touches meters prices) in
     elim (cases_Bool short) [
       | inl t ↦ clash refl (ap is_plan (sym h ∙ cond-true short lack whole t))

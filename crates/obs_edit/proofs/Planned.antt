@@ -6,16 +6,16 @@ use Rattle.std.proofs.lemmas.Bool.{cases_Bool, cases_eq, cases_lt, cond-false, c
 use Rattle.std.proofs.lemmas.List.{append-nil, get_or-set_other, get_or-set_same, get_or_default, get_or_past, length-set, map-append, same_lists, take_more}
 use Rattle.std.proofs.lemmas.List.FromFn.{get_or-map-range_with_len, length-map-range_with_len}
 use Rattle.obs_graph.specs.declared.Ends.{Ends}
-use Rattle.obs_graph.specs.Shape.{Shape}
+use Rattle.obs_graph.specs.Graph.{Graph}
 use Rattle.obs_matroid.specs.Lists.{In}
 use Rattle.obs_matroid.proofs.Contained.{Contains-from_In, In-from_Contains}
 use Rattle.obs_meter.specs.declared.Touch.{Touch}
 use Rattle.obs_meter.specs.declared.Touch.TheVariants.{Nothing}
 use Rattle.obs_meter.specs.Sizes.{HasRoomFor, Sizes}
 use Rattle.obs_meter.specs.Touches.{AreInRange, IsInRange, touch_at, touched}
-use Rattle.obs_forest.specs.Holding.{has_position}
+use Rattle.obs_forest.specs.Forest.{has_position}
 use Rattle.obs_forest.proofs.Held.{contains-has_position, has_position-contains}
-use Rattle.obs_assign.specs.Assigned.{Assigned, Fits, StandsOver}
+use Rattle.obs_assign.specs.Assignment.{Assignment, Fits, StandsOver}
 use Rattle.obs_first.proofs.Ranges.{range_from, range_in}
 use Rattle.obs_edit.specs.Planned.{planned_items, touches_of}
 
@@ -83,14 +83,14 @@ module _ (touches : List Touch) (listed : List ℕ) where
   listed-touch ends m e j i = subst (λ (x : Touch). In e (touched ends x)) (sym (touches_of-in m j)) i
 
   -- what stands over the touches of the listed items stands over all
-  pub stands-all : (g : Shape) (a : Assigned) → StandsOver a g (touches_of touches listed) → StandsOver a g touches
+  pub stands-all : (g : Graph) (a : Assignment) → StandsOver a g (touches_of touches listed) → StandsOver a g touches
   stands-all g a s = record {
     forest = s.forest;
     meters = sym length-touches_of ∙ s.meters;
     touched = λ m e h. (touch-listed g.ends m e (s.touched m e h)).1;
   }
 
-  pub in_range-listed : (g : Shape) → AreInRange g touches → AreInRange g (touches_of touches listed)
+  pub in_range-listed : (g : Graph) → AreInRange g touches → AreInRange g (touches_of touches listed)
   in_range-listed g h i d l =
       let low : i < length touches = omega (arith, length-touches_of, l) in
       let there = get_or_default (touches_of touches listed) i d Nothing l ∙ touches_of-at i in
@@ -99,10 +99,10 @@ module _ (touches : List Touch) (listed : List ℕ) where
         | inr f ↦ subst (IsInRange g) (sym (there ∙ cond-false (has_position listed i) (get_or touches i Nothing) Nothing f)) tt
       ]
 
-  pub room-listed : (g : Shape) (s : Sizes) → HasRoomFor s g touches → HasRoomFor s g (touches_of touches listed)
+  pub room-listed : (g : Graph) (s : Sizes) → HasRoomFor s g touches → HasRoomFor s g (touches_of touches listed)
   room-listed g s r = record { meters = let m = r.meters in omega (arith, length-touches_of, m); branches = r.branches; vertices = r.vertices }
 
-  pub fits-listed : (g : Shape) (a : Assigned) → Fits a g touches → Fits a g (touches_of touches listed)
+  pub fits-listed : (g : Graph) (a : Assignment) → Fits a g touches → Fits a g (touches_of touches listed)
   fits-listed g a f = record { meters = let m = f.meters in omega (arith, length-touches_of, m); vertices = f.vertices; branches = f.branches }
 
 -- one item more

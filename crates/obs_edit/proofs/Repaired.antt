@@ -7,26 +7,26 @@ use Rattle.std.proofs.lemmas.List.{length-map}
 use Rattle.obs_case.specs.Flags.{with_branch_inservice, with_closed, with_meter_inservice}
 use Rattle.obs_case.specs.Tables.{IsValid, Tables}
 use Rattle.obs_graph.specs.Positions.{IsForestAt}
-use Rattle.obs_graph.specs.Shape.{Shape}
-use Rattle.obs_forest.specs.Holding.{StandsOver as ForestStandsOver}
+use Rattle.obs_graph.specs.Graph.{Graph}
+use Rattle.obs_forest.specs.Forest.{StandsOver as ForestStandsOver}
 use Rattle.obs_matroid.specs.Lists.{In, IsDistinct}
 use Rattle.obs_matroid.specs.Assignments.{Pair, branches, items}
 use Rattle.obs_matroid.proofs.Lists.{length-within}
 use Rattle.obs_matroid.proofs.Pairs.{In-items, In-items_from, IsDistinct-filter_items, items_within}
 use Rattle.obs_matroid.proofs.Slots.{IsDistinct-slots, slot_at, slot_from}
 use Rattle.obs_meter.specs.declared.Touch.{Touch}
-use Rattle.obs_meter.specs.Held.{Items}
+use Rattle.obs_meter.specs.Held.{Meters}
 use Rattle.obs_meter.specs.Assignments.{IsAssignmentAt}
 use Rattle.obs_meter.specs.Spanned.{rank_at}
 use Rattle.obs_meter.specs.Touches.{every_item, touch_at}
 use Rattle.obs_meter.proofs.Assigned.{every-to_live}
-use Rattle.obs_assign.specs.Assigned.{Assigned, IsWhole, StandsOver, branch_at, pairs}
+use Rattle.obs_assign.specs.Assignment.{Assignment, IsWhole, StandsOver, branch_at, pairs}
 use Rattle.obs_assign.specs.Still.{AreRetained, is_still, still}
 use Rattle.obs_assign.proofs.Keeping.{slot_without}
 use Rattle.obs_assign.proofs.Standing.{IsAssignmentAt-standing, length-retained, still_at, still_from}
 use Rattle.obs_exchange.specs.Lengthened.{HasLengthened}
 use Rattle.obs_network.specs.Switched.{case_bus_count}
-use Rattle.obs_network.specs.Network.{NetworkOf, Rows, case_branches, case_meters, case_needed, network_of}
+use Rattle.obs_network.specs.Network.{Network, Rows, case_branches, case_meters, case_needed, network_of}
 use Rattle.obs_network.specs.Edited.{ArePresent}
 use Rattle.obs_network.proofs.Edited.{branches-with_meter}
 use Rattle.obs_network.proofs.KeptForests.{forest_closed, forest_opened, forest_rank, forest_with_branch, forest_with_meter}
@@ -60,16 +60,16 @@ ranked-edited t (edit.Meter at inservice) v after L f here =
     omega (arith, r)
 
 -- the standing pairs have different meters
-apart-standing : (t : Tables) (a : Assigned) → IsDistinct (items (standing t a))
+apart-standing : (t : Tables) (a : Assignment) → IsDistinct (items (standing t a))
 apart-standing t a = IsDistinct-filter_items (is_still (case_branches t) (case_meters t)) (pairs a) (IsDistinct-slots a.slots)
 
-pub few_standing : (t : Tables) (a : Assigned) → length (standing t a) ≤ length (pairs a) + 1
+pub few_standing : (t : Tables) (a : Assignment) → length (standing t a) ≤ length (pairs a) + 1
 few_standing t a =
     let l = length-within (items (standing t a)) (items (pairs a)) (apart-standing t a) (items_within (standing t a) (pairs a) (λ p i. (still_from (case_branches t) (case_meters t) (pairs a) p i).0)) in
     omega (arith, l, length-map (standing t a) (λ (p : Pair). p.0), length-map (pairs a) (λ (p : Pair). p.0))
 
 -- what is kept, from the pairs that stand and their numbers
-pub AreKept-by : (t : Tables) (e : Edit) (a b : Assigned) → b.turns ≡ a.turns → ((p : Pair) → In p (pairs b) → In p (standing t a)) → length (standing t a) ≤ length (pairs b) + 1
+pub AreKept-by : (t : Tables) (e : Edit) (a b : Assignment) → b.turns ≡ a.turns → ((p : Pair) → In p (pairs b) → In p (standing t a)) → length (standing t a) ≤ length (pairs b) + 1
     → CostsOwnPair e a b → AreKept t e a b
 AreKept-by t e a b turns within all_but_one own =
     let one = lost_one (standing t a) (pairs b) (apart-standing t a) (IsDistinct-slots b.slots) within all_but_one in
@@ -84,43 +84,43 @@ AreKept-by t e a b turns within all_but_one own =
     }
 
 -- the pairs before an edit, and the network after it
-module _ (n : NetworkOf) (t : Tables) (e : Edit) (a : Assigned) (v : IsValid t) (b : IsBefore t e a) (net : n ≡ network_of t) (g : Shape) (is_graph : g ≡ n.graph) (ms : Items) (are_meters : ms ≡ n.meters) where
+module _ (n : Network) (t : Tables) (e : Edit) (a : Assignment) (v : IsValid t) (b : IsBefore t e a) (net : n ≡ network_of t) (g : Graph) (is_graph : g ≡ n.graph) (ms : Meters) (are_meters : ms ≡ n.meters) where
   stood : StandsOver a (network_of b.before).graph (case_meters b.before)
   stood = b.longest.stands
 
   graph_now : g ≡ (network_of t).graph
-  graph_now = is_graph ∙ ap (λ (x : NetworkOf). x.graph) net
+  graph_now = is_graph ∙ ap (λ (x : Network). x.graph) net
 
   meters_now : ms ≡ (network_of t).meters
-  meters_now = are_meters ∙ ap (λ (x : NetworkOf). x.meters) net
+  meters_now = are_meters ∙ ap (λ (x : Network). x.meters) net
 
   meters_before : length (case_meters t) ≡ length (case_meters b.before)
   meters_before =
       length-case_meters t ∙ (ap (λ (x : Tables). length x.meters) b.same ∙ (ap (λ (r : Rows). r.meters) (rows-edited b.before e) ∙ sym (length-case_meters b.before)))
 
   pub as_many_meters : length ms.touches ≡ length a.slots
-  as_many_meters = ap (λ (i : Items). length i.touches) meters_now ∙ (meters_before ∙ stood.meters)
+  as_many_meters = ap (λ (i : Meters). length i.touches) meters_now ∙ (meters_before ∙ stood.meters)
 
   pub as_many_positions : length g.ends ≡ length a.forest.held
   as_many_positions =
-      ap (λ (s : Shape). length s.ends) graph_now
+      ap (λ (s : Graph). length s.ends) graph_now
       ∙ (length-case_branches t ∙ (ap (λ (x : Tables). length x.branches) b.same ∙ (ap (λ (r : Rows). r.branches) (rows-edited b.before e) ∙ (sym (length-case_branches b.before) ∙ stood.forest.positions))))
 
   pub fits_vertices : length t.nodes ≤ a.forest.most_vertices → g.vertices ≤ a.forest.most_vertices
-  fits_vertices room = let same = ap (λ (x : Shape). x.vertices) graph_now in omega (arith, room, same, case_bus_count-le t)
+  fits_vertices room = let same = ap (λ (x : Graph). x.vertices) graph_now in omega (arith, room, same, case_bus_count-le t)
 
   old_assignment : IsAssignmentAt (case_branches b.before) (case_meters b.before) (every_item (case_meters b.before)) (pairs a)
   old_assignment = IsAssignmentAt-standing a (network_of b.before).graph (case_meters b.before) b.longest.whole stood
 
   -- the pairs that are retained
-  pub kept-retained : (c : Assigned) → AreRetained g.ends ms.touches (pairs a) (pairs c) → c.turns ≡ a.turns → StandsOver c g ms.touches → IsWhole c → CostsOwnPair e a c → AreKept t e a c
+  pub kept-retained : (c : Assignment) → AreRetained g.ends ms.touches (pairs a) (pairs c) → c.turns ≡ a.turns → StandsOver c g ms.touches → IsWhole c → CostsOwnPair e a c → AreKept t e a c
   kept-retained c retained turns stands whole own =
       let ends = case_branches t in
       let touches = case_meters t in
       let same : AreRetained ends touches (pairs a) (pairs c) =
-      subst (λ (s : Shape). AreRetained s.ends touches (pairs a) (pairs c)) graph_now (subst (λ (i : Items). AreRetained g.ends i.touches (pairs a) (pairs c)) meters_now retained) in
+      subst (λ (s : Graph). AreRetained s.ends touches (pairs a) (pairs c)) graph_now (subst (λ (i : Meters). AreRetained g.ends i.touches (pairs a) (pairs c)) meters_now retained) in
       let standing_now : StandsOver c (network_of t).graph touches =
-      subst (λ (s : Shape). StandsOver c s touches) graph_now (subst (λ (i : Items). StandsOver c g i.touches) meters_now stands) in
+      subst (λ (s : Graph). StandsOver c s touches) graph_now (subst (λ (i : Meters). StandsOver c g i.touches) meters_now stands) in
       let forest_now = (IsAssignmentAt-standing c (network_of t).graph touches whole standing_now).forest in
       let rank = length-retained (case_bus_count t) ends touches (pairs a) (pairs c) (case_branches-are t v) forest_now same in
       let L = branches (still ends touches (pairs a)) in
@@ -146,13 +146,13 @@ module _ (n : NetworkOf) (t : Tables) (e : Edit) (a : Assigned) (v : IsValid t) 
     graph_before = graph_now ∙ (ap (λ (x : Tables). (network_of x).graph) tables_now ∙ same_graph b.before at inservice)
 
     pub forest_stands : ForestStandsOver a.forest g
-    forest_stands = subst (λ (s : Shape). ForestStandsOver a.forest s) (sym graph_before) stood.forest
+    forest_stands = subst (λ (s : Graph). ForestStandsOver a.forest s) (sym graph_before) stood.forest
 
     pub stands_before : StandsOver a g (case_meters b.before)
-    stands_before = subst (λ (s : Shape). StandsOver a s (case_meters b.before)) (sym graph_before) stood
+    stands_before = subst (λ (s : Graph). StandsOver a s (case_meters b.before)) (sym graph_before) stood
 
     -- the touches after are those of the tables after
-    from_tables : (c : Assigned) → StandsOver c (network_of (with_meter_inservice b.before at inservice)).graph (case_meters (with_meter_inservice b.before at inservice))
+    from_tables : (c : Assignment) → StandsOver c (network_of (with_meter_inservice b.before at inservice)).graph (case_meters (with_meter_inservice b.before at inservice))
         → StandsOver c (network_of t).graph (case_meters t)
     from_tables c s = subst (λ (x : Tables). StandsOver c (network_of x).graph (case_meters x)) (sym tables_now) s
 
@@ -183,14 +183,14 @@ module _ (n : NetworkOf) (t : Tables) (e : Edit) (a : Assigned) (v : IsValid t) 
         (subst (λ (x : Edit). CostsOwnPair x a a) (sym is) (omega arith, λ n. refl))
 
     -- one that has a pair: it is dropped
-    module _ (c : Assigned) (dropped : c.slots ≡ set a.slots at None) where
+    module _ (c : Assignment) (dropped : c.slots ≡ set a.slots at None) where
       bare_now : at < length a.slots → branch_at c at ≡ None
       bare_now low = ap (λ (s : List (Option ℕ)). get_or s at None) dropped ∙ get_or-set_same a.slots at None None low
 
       pub stands-dropped : ((touches : List Touch) → StandsOver a g touches → StandsOver c g touches) → StandsOver c (network_of t).graph (case_meters t)
       stands-dropped keeps =
           from_tables at false is c
-          (stands-lost b.before at c (bare_now (low_meter at false is)) (subst (λ (s : Shape). StandsOver c s (case_meters b.before)) (graph_before at false is) (keeps (case_meters b.before) (stands_before at false is))))
+          (stands-lost b.before at c (bare_now (low_meter at false is)) (subst (λ (s : Graph). StandsOver c s (case_meters b.before)) (graph_before at false is) (keeps (case_meters b.before) (stands_before at false is))))
 
       other_slot : (p : Pair) → In p (pairs c) → (p.0 ≡ at → ⊥) × (get_or a.slots p.0 None ≡ Some p.1)
       other_slot p i = slot_without a.slots at p.0 p.1 (ap (λ (s : List (Option ℕ)). get_or s p.0 None) (sym dropped) ∙ slot_from c.slots p i)
@@ -253,13 +253,13 @@ module _ (n : NetworkOf) (t : Tables) (e : Edit) (a : Assigned) (v : IsValid t) 
 
   pub bound_now : (had needed most : ℕ) → had ≡ length (pairs a) → needed ≡ n.needed → most ≡ most_pairs e had needed → IsMost g.ends ms.touches most
   bound_now had needed most h d m =
-      let s : needed ≡ case_needed t = d ∙ ap (λ (x : NetworkOf). x.needed) net in
+      let s : needed ≡ case_needed t = d ∙ ap (λ (x : Network). x.needed) net in
       let k : most ≡ most_pairs e (length (pairs a)) (case_needed t) = m ∙ (ap (λ x. most_pairs e x needed) h ∙ ap (λ x. most_pairs e (length (pairs a)) x) s) in
-      subst (λ (x : Shape). IsMost x.ends ms.touches most) (sym graph_now)
-      (subst (λ (x : Items). IsMost (case_branches t) x.touches most) (sym meters_now) (subst (λ (x : ℕ). IsMost (case_branches t) (case_meters t) x) (sym k) (bound_by e refl)))
+      subst (λ (x : Graph). IsMost x.ends ms.touches most) (sym graph_now)
+      (subst (λ (x : Meters). IsMost (case_branches t) x.touches most) (sym meters_now) (subst (λ (x : ℕ). IsMost (case_branches t) (case_meters t) x) (sym k) (bound_by e refl)))
 
 -- the pairs that are kept, and the searches after them
-pub IsRepaired-by : (t : Tables) (e : Edit) (a b c : Assigned) (searches : ℕ) → AreKept t e a b → HasLengthened b c searches → IsRepaired t a c (length (pairs c)) searches
+pub IsRepaired-by : (t : Tables) (e : Edit) (a b c : Assignment) (searches : ℕ) → AreKept t e a b → HasLengthened b c searches → IsRepaired t a c (length (pairs c)) searches
 IsRepaired-by t e a b c searches k h =
     let few_kept = k.few in
     let but_one = k.all_but_one in
@@ -276,5 +276,5 @@ IsRepaired-by t e a b c searches k h =
       turns_searched = omega (arith, turned, found, grown);
       lost = k.lost;
       all_but_one = λ p i ne. h.keeps p.0 (λ none. no_branch p.1 (sym none ∙ slot_from b.slots p (k.kept p i ne)));
-      unsearched = λ none p i. k.within p (subst (λ (x : Assigned). In p (pairs x)) (h.none none) i);
+      unsearched = λ none p i. k.within p (subst (λ (x : Assignment). In p (pairs x)) (h.none none) i);
     }

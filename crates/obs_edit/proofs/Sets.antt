@@ -10,12 +10,12 @@ use Rattle.obs_case.specs.declared.rows.Meter.{Meter}
 use Rattle.obs_case.specs.declared.rows.Switch.{Switch}
 use Rattle.obs_case.specs.Tables.{Tables, branch_names, meter_names, position_of, switch_names}
 use Rattle.obs_matroid.proofs.Slots.{slot_from}
-use Rattle.obs_assign.specs.Assigned.{Assigned, StandsOver, pairs}
+use Rattle.obs_assign.specs.Assignment.{Assignment, StandsOver, pairs}
 use Rattle.obs_assign.proofs.Standing.{still_at}
-use Rattle.obs_critical.specs.Listed.{Listing}
-use Rattle.obs_exchange.specs.Found.{Working}
+use Rattle.obs_critical.specs.Listed.{CriticalWork}
+use Rattle.obs_exchange.specs.Found.{Work}
 use Rattle.obs_exchange.specs.Lengthened.{HasLengthened}
-use Rattle.obs_islands.specs.Islanding.{Islanding}
+use Rattle.obs_islands.specs.IslandWork.{IslandWork}
 use Rattle.obs_network.specs.Network.{Rows, case_branches, case_meters, network_of, rows_of}
 use Rattle.obs_meter.specs.Sizes.{Sizes}
 use Rattle.obs_edit.proofs.Metered.{no_branch}
@@ -34,23 +34,23 @@ use Rattle.obs_edit.specs.Edits.{HasRow, IsEdited, IsRepaired, TakesOne, edited,
 use Rattle.obs_edit.specs.Lines.{edit_at, is_place, meaning_of, meant_by, meant_of, refusal_of}
 use Rattle.obs_edit.specs.Planned.{Planning, offered_rows, prices_of}
 use Rattle.obs_edit.specs.Repairing.{CostsOwnPair}
-use Rattle.obs_edit.specs.Sessions.{AreAnswers, BoundOf, HasRoom, HasRoomToAnswer, IsPlacing, Kept, case_rows}
+use Rattle.obs_edit.specs.Sessions.{AreAnswers, BoundOf, HasRoom, HasRoomToAnswer, IsPlacing, Session, case_rows}
 use Rattle.obs_edit.proofs.Flagged.{rows-edited, same_candidates}
 use Rattle.obs_edit.proofs.Repaired.{AreKept-by, IsRepaired-by, few_standing}
 
 -- nothing is given up where nothing changes
-costs_nothing : (e : Edit) (a : Assigned) → CostsOwnPair e a a
+costs_nothing : (e : Edit) (a : Assignment) → CostsOwnPair e a a
 costs_nothing (edit.Switch at closed) a = tt
 costs_nothing (edit.Branch at inservice) a = tt
 costs_nothing (edit.Meter at false) a = (omega arith, λ n. refl)
 costs_nothing (edit.Meter at true) a = refl
 
-pub takes_none : (e : Edit) (a : Assigned) (searches : ℕ) → searches ≡ 0 → TakesOne e a a searches
+pub takes_none : (e : Edit) (a : Assignment) (searches : ℕ) → searches ≡ 0 → TakesOne e a a searches
 takes_none (edit.Switch at closed) a searches none = tt
 takes_none (edit.Branch at inservice) a searches none = tt
 takes_none (edit.Meter at inservice) a searches none = (omega (arith, none), omega arith)
 
-no_search : (a : Assigned) → HasLengthened a a 0
+no_search : (a : Assignment) → HasLengthened a a 0
 no_search a = record {
   keeps = λ m n. n;
   frozen = refl;
@@ -63,7 +63,7 @@ no_search a = record {
 }
 
 -- pairs that stand are repaired without a search
-pub repaired-same : (t : Tables) (e : Edit) (a : Assigned) (rank searches : ℕ) → StandsOver a (network_of t).graph (case_meters t) → rank ≡ length (pairs a) → searches ≡ 0 → IsRepaired t a a rank searches
+pub repaired-same : (t : Tables) (e : Edit) (a : Assignment) (rank searches : ℕ) → StandsOver a (network_of t).graph (case_meters t) → rank ≡ length (pairs a) → searches ≡ 0 → IsRepaired t a a rank searches
 repaired-same t e a rank searches stands is none =
     let kept = AreKept-by t e a a refl (λ p i. still_at (case_branches t) (case_meters t) (pairs a) p i (stands.touched p.0 p.1 (slot_from a.slots p i))) (few_standing t a) (costs_nothing e a) in
     subst (λ r. IsRepaired t a a r searches) (sym is) (subst (λ s. IsRepaired t a a (length (pairs a)) s) (sym none) (IsRepaired-by t e a a a 0 kept (no_search a)))
@@ -83,7 +83,7 @@ unfolding offered_sizes_of
 offered_sizes t u rows = ap offered_sizes_of rows
 
 -- the room is that for as many rows
-pub room-edited : (t : Tables) (e : Edit) (a : Assigned) (w : Working) → HasRoom t a w → HasRoom (edited t e) a w
+pub room-edited : (t : Tables) (e : Edit) (a : Assignment) (w : Work) → HasRoom t a w → HasRoom (edited t e) a w
 room-edited t e a w r =
     let rows = sym (rows-edited t e) in
     record {
@@ -93,7 +93,7 @@ room-edited t e a w r =
       work = r.work ∙ sizes t (edited t e) rows;
     }
 
-pub answer_room-edited : (t : Tables) (e : Edit) (flags : List Bool) (listing : Listing) (found : Islanding) (list : List ℕ) (listed : ℕ)
+pub answer_room-edited : (t : Tables) (e : Edit) (flags : List Bool) (listing : CriticalWork) (found : IslandWork) (list : List ℕ) (listed : ℕ)
     → HasRoomToAnswer t flags listing found list listed → HasRoomToAnswer (edited t e) flags listing found list listed
 answer_room-edited t e flags listing found list listed r =
     let meters = ap (λ (x : Rows). x.meters) (sym (rows-edited t e)) in
@@ -106,7 +106,7 @@ answer_room-edited t e flags listing found list listed r =
     }
 
 -- where nothing is said to be at hand there is nothing to say
-pub no_answers : (t : Tables) (a : Assigned) (flags : List Bool) (listing : Listing) (found : Islanding) (measured : BoundOf) (hand : AtHand) → hand ≡ nothing_at_hand
+pub no_answers : (t : Tables) (a : Assignment) (flags : List Bool) (listing : CriticalWork) (found : IslandWork) (measured : BoundOf) (hand : AtHand) → hand ≡ nothing_at_hand
     → AreAnswers t a flags listing found measured hand
 no_answers t a flags listing found measured hand none = record {
   first = λ h. absurd (false≢true (sym (ap (λ (x : AtHand). x.first) none) ∙ h));
@@ -117,10 +117,10 @@ no_answers t a flags listing found measured hand none = record {
 }
 
 -- the placing of a session after an edit
-pub placing-edited : (k : Kept) (e : Edit) (after : Kept) (said : Applied) (p : Planning) → IsEdited k e after said → IsPlacing k.tables k.at_hand.placed p → IsPlacing after.tables after.at_hand.placed p
+pub placing-edited : (k : Session) (e : Edit) (after : Session) (said : Applied) (p : Planning) → IsEdited k e after said → IsPlacing k.tables k.at_hand.placed p → IsPlacing after.tables after.at_hand.placed p
 placing-edited k e after said p h was =
     elim h.flag [
-      | inl same ↦ subst (λ (x : Kept). IsPlacing x.tables x.at_hand.placed p) (sym same.0) was
+      | inl same ↦ subst (λ (x : Session). IsPlacing x.tables x.at_hand.placed p) (sym same.0) was
       | inr new ↦
           let none = ap (λ (x : AtHand). x.placed) new.1 in
           record {

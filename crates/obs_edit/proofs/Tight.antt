@@ -52,9 +52,9 @@ module _ (g : Matroid) (laws : IsMatroid g) (touch : ℕ → List ℕ) (kind of 
         (λ p i. let u = In-part_from (is_of of K) A p i in In-filter (is_of of K) p.0 M (a.of_items p u.0) u.1);
     long = refl;
     none_longer = λ B b.
-        let own_items : (p : Pair) → In p B → In p.0 M × (is_of of K p.0 ≡ true) = λ p i. In-filter_from (is_of of K) p.0 M (b.of_items p i) in
-        let all : part (is_of of K) B ≡ B = filter_all (λ (p : Pair). is_of of K p.0) B (λ p i. (own_items p i).1) in
-        let most = part_most K B (IsAssignment-items g laws touch (filter (is_of of K) M) M B b (λ p i. (own_items p i).0)) in
+        let layer_items : (p : Pair) → In p B → In p.0 M × (is_of of K p.0 ≡ true) = λ p i. In-filter_from (is_of of K) p.0 M (b.of_items p i) in
+        let all : part (is_of of K) B ≡ B = filter_all (λ (p : Pair). is_of of K p.0) B (λ p i. (layer_items p i).1) in
+        let most = part_most K B (IsAssignment-items g laws touch (filter (is_of of K) M) M B b (λ p i. (layer_items p i).0)) in
         subst (λ (x : List Pair). length x ≤ length (part (is_of of K) A)) all most;
   }
 

@@ -12,7 +12,7 @@ use Rattle.obs_islands.specs.Firsts.{islands_of}
 use Rattle.obs_network.specs.Switched.{case_bus_count}
 use Rattle.obs_network.specs.Components.{need_of}
 use Rattle.obs_network.specs.Network.{case_branches, case_component_count, case_meters, case_sizes}
-use Rattle.obs_network.specs.Observable.{case_live_meters, is_fed, item_component}
+use Rattle.obs_network.specs.Observable.{case_live_meters, is_energised_component, item_component}
 
 -- the greatest length of an assignment of some meters of a case
 abbrev pub rank_of_meters : Tables → List ℕ → ℕ
@@ -44,7 +44,7 @@ component_rank t c = rank_of_meters t (component_meters t c)
 
 -- whether a component is energised and can't have the pairs that it needs
 unfoldable pub is_short : Tables → ℕ → Bool
-is_short t c = is_fed t c && not (component_rank t c == need_of (case_sizes t) c)
+is_short t c = is_energised_component t c && not (component_rank t c == need_of (case_sizes t) c)
 
 -- the energised components that can't, in their order
 unfoldable pub short_components : Tables → List ℕ

@@ -4,7 +4,7 @@ use Rattle.obs_case.specs.Flags.{with_branch_inservice, with_closed, with_meter_
 use Rattle.obs_case.specs.Tables.{Tables}
 use Rattle.obs_matroid.specs.Assignments.{Pair}
 use Rattle.obs_matroid.specs.Lists.{In}
-use Rattle.obs_assign.specs.Assigned.{Assigned, branch_at, pairs}
+use Rattle.obs_assign.specs.Assignment.{Assignment, branch_at, pairs}
 use Rattle.obs_assign.specs.Still.{still}
 use Rattle.obs_network.specs.Network.{case_branches, case_meters, case_needed}
 use Rattle.obs_edit.specs.declared.edit.Applied.{Applied}
@@ -12,7 +12,7 @@ use Rattle.obs_edit.specs.declared.edit.Edit.{Edit}
 use Rattle.obs_edit.specs.declared.edit.Edit.TheVariants.{Switch, Branch, Meter}
 use Rattle.obs_edit.specs.declared.hand.AtHand.{AtHand}
 use Rattle.obs_edit.specs.Answers.{case_rank}
-use Rattle.obs_edit.specs.Sessions.{IsRankOf, Kept}
+use Rattle.obs_edit.specs.Sessions.{IsRankOf, Session}
 
 -- the tables after an edit: one flag of one row is set
 abbrev pub edited : Tables → Edit → Tables
@@ -27,11 +27,11 @@ HasRow t (Branch at inservice) = at < length t.branches
 HasRow t (Meter at inservice) = at < length t.meters
 
 -- the standing pairs: of the pairs kept before, those whose meter touches their branch in the network of a case
-abbrev pub standing : Tables → Assigned → List Pair
+abbrev pub standing : Tables → Assignment → List Pair
 standing t before = still (case_branches t) (case_meters t) (pairs before)
 
 -- the pairs kept before were repaired for a case of this rank by so many searches
-pub record IsRepaired (t : Tables) (before after : Assigned) (rank searches : ℕ) : Type 0 where
+pub record IsRepaired (t : Tables) (before after : Assignment) (rank searches : ℕ) : Type 0 where
   -- one search for each pair that is missed, and at most two more
   pub most : searches + length (standing t before) ≤ 2 + rank
   pub least : rank ≤ searches + length (standing t before)
@@ -46,7 +46,7 @@ pub record IsRepaired (t : Tables) (before after : Assigned) (rank searches : �
   pub unsearched : searches ≡ 0 → (p : Pair) → In p (pairs after) → In p (standing t before)
 
 -- an edit of a meter takes one search at the most
-abbrev pub TakesOne : Edit → Assigned → Assigned → ℕ → Type 0
+abbrev pub TakesOne : Edit → Assignment → Assignment → ℕ → Type 0
 TakesOne (Switch at closed) before after searches = Unit {0}
 TakesOne (Branch at inservice) before after searches = Unit {0}
 TakesOne (Meter at inservice) before after searches = (searches ≤ 1) × (after.turns ≤ before.turns + 1)
@@ -56,7 +56,7 @@ abbrev pub nothing_at_hand : AtHand
 nothing_at_hand = record { first = false; critical = false; islands = false; bound = None; placed = false }
 
 -- a session became this one by an edit, of which this is said
-pub record IsEdited (before : Kept) (edit : Edit) (after : Kept) (said : Applied) : Type 0 where
+pub record IsEdited (before : Session) (edit : Edit) (after : Session) (said : Applied) : Type 0 where
   -- the one flag is set
   pub tables : after.tables ≡ edited before.tables edit
   pub offered : after.offered ≡ before.offered

@@ -15,7 +15,7 @@ use Rattle.obs_edit.specs.declared.edit.Meant.TheVariants.{Edits, Asks}
 use Rattle.obs_edit.specs.declared.edit.Refusal.{Refusal}
 use Rattle.obs_edit.specs.declared.edit.Refusal.TheVariants.{UnknownCommand, LineTooLong, BadName, WordMissing, UnknownSwitch, UnknownBranch, UnknownMeter, NoCandidates}
 use Rattle.obs_edit.specs.Edits.{IsEdited}
-use Rattle.obs_edit.specs.Sessions.{Kept}
+use Rattle.obs_edit.specs.Sessions.{Session}
 
 -- the refusal of a line that is no command
 abbrev pub refusal_of : LineFault → Refusal
@@ -60,7 +60,7 @@ abbrev pub meant_of : Tables → Bool → List ℕ → Result Meant Refusal
 meant_of t offered line = meant_by t offered (command_of line)
 
 -- a session became this one by a line that is no refused one: an edit is done, and an ask changes nothing
-abbrev pub IsDone : Kept → List ℕ → Kept → Done → Type 0
+abbrev pub IsDone : Session → List ℕ → Session → Done → Type 0
 IsDone before line after (Edited said) =
     (edit : Edit) × (meant_of before.tables before.offered line ≡ Ok (Edits edit)) × IsEdited before edit after said
 IsDone before line after (Asked ask) = (meant_of before.tables before.offered line ≡ Ok (Asks ask)) × (after ≡ before)

@@ -1,12 +1,12 @@
 -- Assignments of which there is no longer one.
 use Rattle.std.specs.Prelude.{ℕ, ◌≤◌, Option, List, length}
 use Rattle.obs_graph.specs.declared.Ends.{Ends}
-use Rattle.obs_graph.specs.Shape.{Shape}
+use Rattle.obs_graph.specs.Graph.{Graph}
 use Rattle.obs_matroid.specs.Assignments.{Pair}
 use Rattle.obs_meter.specs.declared.Touch.{Touch}
 use Rattle.obs_meter.specs.Assignments.{IsAssignmentAt, IsRhoAt}
 use Rattle.obs_meter.specs.Touches.{every_item, live_items}
-use Rattle.obs_assign.specs.Assigned.{Assigned, IsWhole, StandsOver, pairs}
+use Rattle.obs_assign.specs.Assignment.{Assignment, IsWhole, StandsOver, pairs}
 use Rattle.obs_exchange.specs.Laws.{IsThawed}
 
 -- no assignment has more pairs
@@ -14,7 +14,7 @@ abbrev pub IsMost : List (Option Ends) → List Touch → ℕ → Type 0
 IsMost ends touches most = (B : List Pair) → IsAssignmentAt ends touches (every_item touches) B → length B ≤ most
 
 -- the pairs stand over the graph and the meters, nothing is frozen, and there are as many as there can be
-pub record IsLongest (g : Shape) (touches : List Touch) (a : Assigned) : Type 0 where
+pub record IsLongest (g : Graph) (touches : List Touch) (a : Assignment) : Type 0 where
   pub stands : StandsOver a g touches
   pub whole : IsWhole a
   pub thawed : IsThawed a

@@ -9,7 +9,7 @@ use Rattle.obs_meter.specs.Touches.{touch_at}
 use Rattle.obs_first.specs.First.{IsFirstAt}
 use Rattle.obs_placement.specs.Laws.{live_candidates, live_meters}
 use Rattle.obs_placement.specs.Order.{price_of}
-use Rattle.obs_placement.specs.Placed.{Lacking, Planned}
+use Rattle.obs_placement.specs.Placed.{ShortfallValue, PlanValue}
 use Rattle.obs_placement.specs.Placed.Placed.{cheapest, shortfall}
 use Rattle.obs_placement.specs.Shown.{Completes, bare_layer}
 use Rattle.obs_network.specs.Switched.{case_bus_count}
@@ -26,7 +26,7 @@ abbrev pub price_together : Tables → List ℕ → ℕ
 price_together t X = sum_by (price_of (length t.meters) (prices_of t.candidates)) X
 
 -- the items that a plan chooses
-abbrev pub chosen_items : Tables → Planned → List ℕ
+abbrev pub chosen_items : Tables → PlanValue → List ℕ
 chosen_items t plan = map (λ k. length t.meters + k) plan.chosen
 
 -- the numbers of a layer are those of the bound of a list of items below its end
@@ -38,23 +38,23 @@ IsBoundOf t l =
 
 -- the chosen candidates of a plan complete the meters, and cost what it says
 abbrev pub PlansComplete : Type 0
-PlansComplete = (t : Tables) (plan : Planned) → IsValid t → case_placement t ≡ cheapest plan →
+PlansComplete = (t : Tables) (plan : PlanValue) → IsValid t → case_placement t ≡ cheapest plan →
     CompletesCase t (chosen_items t plan) × (plan.cost ≡ price_together t (chosen_items t plan))
 
 -- no candidates that complete the meters cost less
 abbrev pub PlansAreCheapest : Type 0
-PlansAreCheapest = (t : Tables) (plan : Planned) (X : List ℕ) → IsValid t → case_placement t ≡ cheapest plan →
+PlansAreCheapest = (t : Tables) (plan : PlanValue) (X : List ℕ) → IsValid t → case_placement t ≡ cheapest plan →
     CompletesCase t X → plan.cost ≤ price_together t X
 
 -- the pairs of a plan are the first assignment of the meters and then its chosen candidates
 abbrev pub PlansHaveFirstPairs : Type 0
-PlansHaveFirstPairs = (t : Tables) (plan : Planned) → IsValid t → case_placement t ≡ cheapest plan →
+PlansHaveFirstPairs = (t : Tables) (plan : PlanValue) → IsValid t → case_placement t ≡ cheapest plan →
     IsFirstAt (case_branches t) (case_offered t) (planned_items (length t.meters) plan.chosen) (case_placed_pairs t)
 
 -- the layers of a plan run on from 0. The numbers of each are those of the bound of a list of items, the live meters and the live
 -- candidates that cost less than where the layer ends; and they add up to less than the case needs
 abbrev pub LayersAreBounds : Type 0
-LayersAreBounds = (t : Tables) (plan : Planned) → IsValid t → case_placement t ≡ cheapest plan →
+LayersAreBounds = (t : Tables) (plan : PlanValue) → IsValid t → case_placement t ≡ cheapest plan →
     RunOn 0 (map bare_layer plan.layers)
     × ((l : Layer) → In l (map bare_layer plan.layers) → IsBoundOf t l × (l.rank + l.outside < case_needed t))
 
@@ -65,10 +65,10 @@ LayersBoundCosts = (t : Tables) (layers : List Layer) (X : List ℕ) → IsValid
 
 -- what the layers of a plan show adds up to its cost
 abbrev pub LayersAddUp : Type 0
-LayersAddUp = (t : Tables) (plan : Planned) → IsValid t → case_placement t ≡ cheapest plan →
+LayersAddUp = (t : Tables) (plan : PlanValue) → IsValid t → case_placement t ≡ cheapest plan →
     layers_sum (case_needed t) (map bare_layer plan.layers) ≡ plan.cost
 
 -- the two numbers of a shortfall add up to less than the case needs, and no candidates complete the meters
 abbrev pub ShortfallsRefute : Type 0
-ShortfallsRefute = (t : Tables) (lack : Lacking) → IsValid t → case_placement t ≡ shortfall lack →
+ShortfallsRefute = (t : Tables) (lack : ShortfallValue) → IsValid t → case_placement t ≡ shortfall lack →
     (lack.rank + lack.outside < case_needed t) × ((X : List ℕ) → CompletesCase t X → ⊥)

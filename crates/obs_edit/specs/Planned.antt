@@ -10,12 +10,12 @@ use Rattle.obs_meter.specs.declared.Touch.{Touch}
 use Rattle.obs_meter.specs.declared.Touch.TheVariants.{Nothing}
 use Rattle.obs_meter.specs.Sizes.{Sizes}
 use Rattle.obs_meter.specs.Touches.{every_item}
-use Rattle.obs_forest.specs.Holding.{has_position}
-use Rattle.obs_assign.specs.Assigned.{Assigned}
+use Rattle.obs_forest.specs.Forest.{has_position}
+use Rattle.obs_assign.specs.Assignment.{Assignment}
 use Rattle.obs_first.specs.First.{IsFirstAt, first_pairs}
 use Rattle.obs_placement.specs.Answer.{chosen_of}
 use Rattle.obs_placement.specs.Choosing.{no_pairs, nothing_placed}
-use Rattle.obs_placement.specs.Placed.{Placed, Planned, placement_of}
+use Rattle.obs_placement.specs.Placed.{Placed, PlanValue, placement_of}
 use Rattle.obs_placement.specs.Placed.Placed.{cheapest, shortfall}
 use Rattle.obs_network.specs.Switched.{case_bus_count}
 use Rattle.obs_network.specs.Network.{case_branches, case_needed, case_offered}
@@ -42,7 +42,7 @@ placed_pairs n ends touches meters prices needed =
 
 -- they are, for a plan, the first assignment of the meters and then the chosen candidates, over what is offered
 abbrev pub PlanPairsAreFirst : Type 0
-PlanPairsAreFirst = (n : ℕ) (ends : List (Option Ends)) (touches : List Touch) (meters needed : ℕ) (prices : List ℕ) (plan : Planned)
+PlanPairsAreFirst = (n : ℕ) (ends : List (Option Ends)) (touches : List Touch) (meters needed : ℕ) (prices : List ℕ) (plan : PlanValue)
     → AreBranches n ends → length touches ≡ meters + length prices → placement_of n ends touches meters prices needed ≡ cheapest plan
     → IsFirstAt ends touches (planned_items meters plan.chosen) (placed_pairs n ends touches meters prices needed)
 
@@ -65,7 +65,7 @@ offered_rows t = record { meters = length t.meters + length t.candidates; branch
 
 -- what the pairs of a placement are kept in: those that were found last, and the sizes that it was made for
 pub record Paired : Type 0 where
-  pub pairs : Assigned
+  pub pairs : Assignment
   pub sizes : Sizes
 
 -- as it is made
@@ -76,7 +76,7 @@ new_paired s = record { pairs = no_pairs s; sizes = s }
 -- made for, where candidates count as meters
 pub record Planning : Type 0 where
   pub placed : Placed
-  pub pairs : Assigned
+  pub pairs : Assignment
   pub prices : List ℕ
   pub sizes : Sizes
 

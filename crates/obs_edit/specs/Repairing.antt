@@ -3,15 +3,15 @@ use Rattle.std.specs.Prelude.{ℕ, ◌≡◌, ◌≢◌, ◌+◌, ◌≤◌, tru
 use Rattle.obs_case.specs.Tables.{IsValid, Tables}
 use Rattle.obs_matroid.specs.Assignments.{Pair}
 use Rattle.obs_matroid.specs.Lists.{In}
-use Rattle.obs_assign.specs.Assigned.{Assigned, branch_at, pairs}
-use Rattle.obs_network.specs.Network.{NetworkOf, network_of}
+use Rattle.obs_assign.specs.Assignment.{Assignment, branch_at, pairs}
+use Rattle.obs_network.specs.Network.{Network, network_of}
 use Rattle.obs_edit.specs.declared.edit.Edit.{Edit}
 use Rattle.obs_edit.specs.declared.edit.Edit.TheVariants.{Switch, Branch, Meter}
 use Rattle.obs_edit.specs.Edits.{HasRow, edited, standing}
 use Rattle.obs_edit.specs.Sessions.{AreLongest}
 
 -- the edit makes this case of one for which the pairs are longest
-pub record IsBefore (t : Tables) (edit : Edit) (a : Assigned) : Type 0 where
+pub record IsBefore (t : Tables) (edit : Edit) (a : Assignment) : Type 0 where
   pub before : Tables
   pub valid : IsValid before
   pub row : HasRow before edit
@@ -19,7 +19,7 @@ pub record IsBefore (t : Tables) (edit : Edit) (a : Assigned) : Type 0 where
   pub longest : AreLongest before a
 
 -- a network is that of a case of which the edit makes this one
-pub record IsNetworkBefore (n : NetworkOf) (edit : Edit) (t : Tables) : Type 0 where
+pub record IsNetworkBefore (n : Network) (edit : Edit) (t : Tables) : Type 0 where
   pub before : Tables
   pub row : HasRow before edit
   pub network : n ≡ network_of before
@@ -33,7 +33,7 @@ most_pairs (Meter at false) had needed = had
 most_pairs (Meter at true) had needed = if nat_lt had needed then had + 1 else had
 
 -- an edit of a meter costs the pair of a meter that goes, and no other
-abbrev pub CostsOwnPair : Edit → Assigned → Assigned → Type 0
+abbrev pub CostsOwnPair : Edit → Assignment → Assignment → Type 0
 CostsOwnPair (Switch at closed) before after = Unit {0}
 CostsOwnPair (Branch at inservice) before after = Unit {0}
 CostsOwnPair (Meter at false) before after =
@@ -41,7 +41,7 @@ CostsOwnPair (Meter at false) before after =
 CostsOwnPair (Meter at true) before after = after ≡ before
 
 -- the standing pairs are kept, but perhaps one, and no others
-pub record AreKept (t : Tables) (edit : Edit) (before after : Assigned) : Type 0 where
+pub record AreKept (t : Tables) (edit : Edit) (before after : Assignment) : Type 0 where
   pub turns : after.turns ≡ before.turns
   pub within : (p : Pair) → In p (pairs after) → In p (standing t before)
   pub few : length (pairs after) ≤ length (standing t before)

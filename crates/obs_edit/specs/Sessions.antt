@@ -2,10 +2,10 @@
 use Rattle.std.specs.Prelude.{◌≡◌, ℕ, ◌≤◌, Bool, true, false, not, Some, List, length, slice_index_or}
 use Rattle.obs_case.specs.Tables.{Tables}
 use Rattle.obs_matroid.specs.Lists.{In}
-use Rattle.obs_assign.specs.Assigned.{Assigned, StandsOver, pairs}
-use Rattle.obs_exchange.specs.Found.{Working}
-use Rattle.obs_critical.specs.Listed.{Listing}
-use Rattle.obs_islands.specs.Islanding.{Islanding}
+use Rattle.obs_assign.specs.Assignment.{Assignment, StandsOver, pairs}
+use Rattle.obs_exchange.specs.Found.{Work}
+use Rattle.obs_critical.specs.Listed.{CriticalWork}
+use Rattle.obs_islands.specs.IslandWork.{IslandWork}
 use Rattle.obs_meter.specs.Assignments.{IsRhoAt}
 use Rattle.obs_meter.specs.Sizes.{Sizes}
 use Rattle.obs_network.specs.Network.{case_branches, case_meters, case_offered, network_of}
@@ -16,10 +16,10 @@ use Rattle.obs_edit.specs.Planned.{Planning, case_placed_pairs, case_placement, 
 use Rattle.obs_edit.specs.declared.hand.AtHand.{AtHand}
 
 -- a session: the present case, whether it was begun with candidates, the kept pairs, and what is at hand
-pub record Kept : Type 0 where
+pub record Session : Type 0 where
   pub tables : Tables
   pub offered : Bool
-  pub pairs : Assigned
+  pub pairs : Assignment
   pub at_hand : AtHand
 
 -- the rank of a case: the greatest number of pairs of its live meters
@@ -27,7 +27,7 @@ abbrev pub IsRankOf : Tables → ℕ → Type 0
 IsRankOf t r = IsRhoAt (case_branches t) (case_meters t) (case_live_meters t) r
 
 -- the pairs are a longest assignment over the network of a case, and nothing is frozen
-abbrev pub AreLongest : Tables → Assigned → Type 0
+abbrev pub AreLongest : Tables → Assignment → Type 0
 AreLongest t a = IsLongest (network_of t).graph (case_meters t) a
 
 -- the numbers of rows of a case as sizes of a work value. Opened switches make more buses, so the nodes count and not the buses
@@ -35,7 +35,7 @@ abbrev pub case_rows : Tables → Sizes
 case_rows t = record { meters = length t.meters; branches = length t.branches; vertices = length t.nodes }
 
 -- there is room for every case with as many rows
-pub record HasRoom (t : Tables) (a : Assigned) (w : Working) : Type 0 where
+pub record HasRoom (t : Tables) (a : Assignment) (w : Work) : Type 0 where
   pub pair_meters : a.most_meters ≡ length t.meters
   pub pair_branches : a.forest.most_branches ≡ length t.branches
   pub pair_vertices : a.forest.most_vertices ≡ length t.nodes
@@ -57,7 +57,7 @@ abbrev pub case_bound : Tables → ℕ → BoundOf
 case_bound t c = record { inside = bound_meters t c; rank = bound_rank t c; outside = bound_outside t c }
 
 -- there is room for the answers to a case: flags and lists of meters, and islands
-pub record HasRoomToAnswer (t : Tables) (flags : List Bool) (listing : Listing) (found : Islanding) (list : List ℕ) (listed : ℕ) : Type 0 where
+pub record HasRoomToAnswer (t : Tables) (flags : List Bool) (listing : CriticalWork) (found : IslandWork) (list : List ℕ) (listed : ℕ) : Type 0 where
   pub flags_len : length flags ≡ length t.meters
   pub listing_room : listing.most_meters ≡ length t.meters
   pub islands_room : found.sizes ≡ case_rows t
@@ -65,7 +65,7 @@ pub record HasRoomToAnswer (t : Tables) (flags : List Bool) (listing : Listing) 
   pub within : listed ≤ length list
 
 -- what is said to be at hand is the answer to the case
-pub record AreAnswers (t : Tables) (a : Assigned) (flags : List Bool) (listing : Listing) (found : Islanding) (measured : BoundOf) (hand : AtHand) : Type 0 where
+pub record AreAnswers (t : Tables) (a : Assignment) (flags : List Bool) (listing : CriticalWork) (found : IslandWork) (measured : BoundOf) (hand : AtHand) : Type 0 where
   pub first : hand.first ≡ true → pairs a ≡ case_first_pairs t
   pub marks : hand.critical ≡ true → AreMarks t flags
   pub critical : hand.critical ≡ true → listing.list ≡ case_critical_meters t

@@ -1,9 +1,9 @@
 // A case with the answers to it that are at hand.
 ghost use Rattle.std.specs.Prelude.{◌≡◌, ◌+◌, ◌<◌, ◌↔◌, true, false, Some, None, IfOk, IsTrue, length};
-ghost use Rattle.obs_assign.specs.Assigned.{StandsOver, pairs};
+ghost use Rattle.obs_assign.specs.Assignment.{StandsOver, pairs};
 ghost use Rattle.obs_network.specs.Components.{need_of};
 ghost use Rattle.obs_network.specs.Network.{case_component_count, case_meters, case_needed, case_sizes, network_of};
-ghost use Rattle.obs_network.specs.Observable.{IsObservable, is_fed};
+ghost use Rattle.obs_network.specs.Observable.{IsObservable, is_energised_component};
 ghost use Rattle.obs_edit.specs.Answers.{bound_meters, bound_outside, bound_rank, case_critical_meters, case_first_pairs, case_islands, case_rank};
 ghost use Rattle.obs_edit.specs.Edits.{HasRow, IsEdited};
 ghost use Rattle.obs_edit.specs.Sessions.{AreLongest, IsRankOf};
@@ -45,9 +45,9 @@ pub(crate) struct Analysis {
 impl Model for Analysis {
     ghost use Rattle.std.specs.Prelude.{◌≡◌, take};
     ghost use Rattle.obs_network.specs.Network.{network_of};
-    ghost use Rattle.obs_edit.specs.Sessions.{AreAnswers, AreLongest, HasRoom, HasRoomToAnswer, Kept};
+    ghost use Rattle.obs_edit.specs.Sessions.{AreAnswers, AreLongest, HasRoom, HasRoomToAnswer, Session};
 
-    ghost Value = { Kept };
+    ghost Value = { Session };
 
     ghost view = { λ s. record {
       tables = s.case;
@@ -199,7 +199,7 @@ impl Analysis {
     /// Whether an energised component of the present case is observable.
     pub(crate) fn observable(&self, c: u32) -> bool
         requires component { c < case_component_count self.now.tables }
-        requires energised { is_fed self.now.tables c ≡ true }
+        requires energised { is_energised_component self.now.tables c ≡ true }
         ensures observable { IsTrue result ↔ IsObservable self.now.tables c }
     {
         has_enough(&self.case, &self.network, &self.held.pairs, c)

@@ -2,7 +2,7 @@
 ghost use Rattle.std.specs.Prelude.{◌≡◌, ◌+◌, ◌<◌, ◌≤◌, All, IfOk, length};
 ghost use Rattle.obs_meter.specs.Sizes.{HasRoomFor};
 ghost use Rattle.obs_meter.specs.Touches.{AreInRange};
-ghost use Rattle.obs_assign.specs.Assigned.{Fits, HasRoomOf, StandsOver, pairs as pairs_at};
+ghost use Rattle.obs_assign.specs.Assignment.{Fits, HasRoomOf, StandsOver, pairs as pairs_at};
 ghost use Rattle.obs_first.specs.First.{first_pairs};
 ghost use Rattle.obs_edit.specs.Planned.{new_paired, pairs_in, planned_items, touches_of};
 

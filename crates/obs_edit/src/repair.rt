@@ -1,6 +1,6 @@
 // The kept pairs after an edit: those that stand are kept, and searches make them longest again.
 ghost use Rattle.std.specs.Prelude.{◌≡◌, ◌≢◌, ◌+◌, ◌≤◌, ℕ, false, None, MatchBool, length};
-ghost use Rattle.obs_assign.specs.Assigned.{HasRoomOf, IsWhole, StandsOver, branch_at, pairs as pairs_at};
+ghost use Rattle.obs_assign.specs.Assignment.{HasRoomOf, IsWhole, StandsOver, branch_at, pairs as pairs_at};
 ghost use Rattle.obs_exchange.specs.Laws.{IsThawed};
 ghost use Rattle.obs_network.specs.Network.{case_meters, network_of};
 ghost use Rattle.obs_edit.specs.declared.edit.Edit.TheVariants.{Meter};

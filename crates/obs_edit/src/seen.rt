@@ -1,11 +1,11 @@
 //! The asks of a session:
 //! each finds its answer, where it isn't at hand, and lends it with the present case and its network.
 ghost use Rattle.std.specs.Prelude.{◌≡◌, ◌<◌, true};
-ghost use Rattle.obs_assign.specs.Assigned.{StandsOver, pairs};
+ghost use Rattle.obs_assign.specs.Assignment.{StandsOver, pairs};
 ghost use Rattle.obs_placement.specs.Placed.{placed_of};
 ghost use Rattle.obs_network.specs.Components.{need_of};
 ghost use Rattle.obs_network.specs.Network.{case_component_count, case_meters, case_offered, case_sizes, network_of};
-ghost use Rattle.obs_network.specs.Observable.{IsObservable, is_fed};
+ghost use Rattle.obs_network.specs.Observable.{IsObservable, is_energised_component};
 ghost use Rattle.obs_edit.specs.Answers.{bound_meters, bound_outside, bound_rank, case_critical_meters, case_first_pairs, case_islands};
 ghost use Rattle.obs_edit.specs.Planned.{case_placed_pairs, case_placement};
 
@@ -53,7 +53,7 @@ impl Session {
     /// critical, the rank of what they touch, the number of its other live meters, and its need.
     pub fn bound<L: Ledger>(&mut self, c: u32, steps: &mut Steps<L>) -> Seen<'_, Bound<'_>>
         requires component { c < case_component_count self.old.tables }
-        requires energised { is_fed self.old.tables c ≡ true }
+        requires energised { is_energised_component self.old.tables c ≡ true }
         requires short { IsObservable self.old.tables c → ⊥ }
         ensures case { result.case.now ≡ self.old.tables }
         ensures network { result.network.now ≡ network_of self.old.tables }

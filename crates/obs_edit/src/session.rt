@@ -1,10 +1,10 @@
 //! A session.
 ghost use Rattle.std.specs.Prelude.{◌≡◌, ◌+◌, ◌<◌, ◌↔◌, true, Some, Err, IfErr, IfOk, OnErr, IsTrue};
-ghost use Rattle.obs_assign.specs.Assigned.{StandsOver, pairs};
+ghost use Rattle.obs_assign.specs.Assignment.{StandsOver, pairs};
 ghost use Rattle.obs_placement.specs.Placed.{placed_of};
 ghost use Rattle.obs_network.specs.Components.{need_of};
 ghost use Rattle.obs_network.specs.Network.{case_component_count, case_meters, case_needed, case_offered, case_sizes, network_of};
-ghost use Rattle.obs_network.specs.Observable.{IsObservable, is_fed};
+ghost use Rattle.obs_network.specs.Observable.{IsObservable, is_energised_component};
 ghost use Rattle.obs_edit.specs.Answers.{bound_meters, bound_outside, bound_rank, case_critical_meters, case_first_pairs, case_islands, case_rank};
 ghost use Rattle.obs_edit.specs.Edits.{HasRow, IsEdited};
 ghost use Rattle.obs_edit.specs.Lines.{IsDone, meant_of, searches_of};
@@ -37,9 +37,9 @@ pub struct Session {
 }
 
 impl Model for Session {
-    ghost use Rattle.obs_edit.specs.Sessions.{IsPlacing, Kept};
+    ghost use Rattle.obs_edit.specs.Sessions.{IsPlacing, Session};
 
-    ghost Value = { Kept };
+    ghost Value = { Session };
 
     ghost view = { λ s. s.analysis };
 
@@ -105,7 +105,7 @@ impl Session {
     /// Whether an energised component of the present case is observable.
     pub fn observable(&self, c: u32) -> bool
         requires component { c < case_component_count self.now.tables }
-        requires energised { is_fed self.now.tables c ≡ true }
+        requires energised { is_energised_component self.now.tables c ≡ true }
         ensures observable { IsTrue result ↔ IsObservable self.now.tables c }
     {
         self.analysis.observable(c)

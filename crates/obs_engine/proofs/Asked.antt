@@ -14,10 +14,10 @@ use Rattle.obs_network.specs.Components.{need_of}
 use Rattle.obs_islands.specs.Firsts.{island_first}
 use Rattle.obs_islands.specs.Islands.{every_vertex}
 use Rattle.obs_islands.proofs.Firsts.{first_in, partition}
-use Rattle.obs_network.specs.Network.{NetworkOf, case_branches, case_component_count, case_meters, case_sizes, network_of}
+use Rattle.obs_network.specs.Network.{Network, case_branches, case_component_count, case_meters, case_sizes, network_of}
 use Rattle.obs_network.specs.Switched.{case_bus_count}
 use Rattle.obs_network.proofs.OfCase.{case_branches-are}
-use Rattle.obs_network.specs.Observable.{IsObservable, is_fed}
+use Rattle.obs_network.specs.Observable.{IsObservable, is_energised_component}
 use Rattle.obs_report.specs.Counts.{counts_text}
 use Rattle.obs_report.specs.Islands.{islands_text}
 use Rattle.obs_report.specs.Meters.{bound_text, critical_text}
@@ -51,11 +51,11 @@ bound_is t c rank outside inside i r o =
     ap (λ (x : List ℕ). bound_text t c x rank outside) i ∙ (ap (λ (x : ℕ). bound_text t c (bound_meters t c) x outside) r ∙ ap (λ (x : ℕ). bound_text t c (bound_meters t c) (bound_rank t c) x) o)
 
 -- the claim on a component that isn't energised, is observable, or isn't
-pub claim_dead : (trees bounds : Bool) (t : Tables) (c : ℕ) → is_fed t c ≡ false → component_claim trees bounds t c ≡ []
+pub claim_dead : (trees bounds : Bool) (t : Tables) (c : ℕ) → is_energised_component t c ≡ false → component_claim trees bounds t c ≡ []
 unfolding component_claim
 claim_dead trees bounds t c dead = rw dead refl
 
-module _ (trees bounds : Bool) (t : Tables) (v : IsValid t) (c : ℕ) (low : c < case_component_count t) (fed : is_fed t c ≡ true) where
+module _ (trees bounds : Bool) (t : Tables) (v : IsValid t) (c : ℕ) (low : c < case_component_count t) (fed : is_energised_component t c ≡ true) where
   pub claim_observable : IsObservable t c → component_claim trees bounds t c ≡ text_if trees (tree_claim t c)
   unfolding component_claim
   claim_observable o = let e = eq-eqb (component_rank t c) (need_of (case_sizes t) c) (observable-to t v c low o) in rw (fed, e) refl
@@ -99,9 +99,9 @@ pub appends_as : {T E : Type 0} {a b : Option (List ℕ)} {f k : ℕ} {p q : ℕ
 appends_as {a = a} {b = b} {f = f} {k = k} {p = p} {q = q} {r = r} e h = subst (λ (text : List ℕ). AppendsAt a b f k p q r text) e h
 
 -- the parts of answers, from what is at hand
-pub counts_are : (t : Tables) (n : NetworkOf) (rank : ℕ) → n ≡ network_of t → rank ≡ case_rank t → counts_text n rank ≡ block_text Counts t
+pub counts_are : (t : Tables) (n : Network) (rank : ℕ) → n ≡ network_of t → rank ≡ case_rank t → counts_text n rank ≡ block_text Counts t
 unfolding block_text
-counts_are t n rank same r = ap (λ (x : NetworkOf). counts_text x rank) same ∙ ap (counts_text (network_of t)) r
+counts_are t n rank same r = ap (λ (x : Network). counts_text x rank) same ∙ ap (counts_text (network_of t)) r
 
 pub islands_are : (t : Tables) (islands : List ℕ) → islands ≡ case_islands t → islands_text t islands ≡ block_text Islands t
 unfolding block_text
@@ -130,12 +130,12 @@ blocks_around t blocks k d low =
     ∙ ap (λ (all : List Block). blocks_text all t) (take-append-drop k blocks)))
 
 -- each bus has an island, whose first bus isn't above it
-pub islands_few : (t : Tables) (islands : List ℕ) (n : NetworkOf) → n ≡ network_of t → islands ≡ case_islands t → length islands ≡ n.graph.vertices
+pub islands_few : (t : Tables) (islands : List ℕ) (n : Network) → n ≡ network_of t → islands ≡ case_islands t → length islands ≡ n.graph.vertices
 unfolding case_islands
 islands_few t islands n same e =
     ap (λ (xs : List ℕ). length xs) e
     ∙ (length-map (every_vertex (case_bus_count t)) (island_first (case_bus_count t) (case_branches t) (case_meters t))
-    ∙ (length-range_with_len 0 (case_bus_count t) ∙ ap (λ (x : NetworkOf). x.graph.vertices) (sym same)))
+    ∙ (length-range_with_len 0 (case_bus_count t) ∙ ap (λ (x : Network). x.graph.vertices) (sym same)))
 
 pub islands_low : (t : Tables) → IsValid t → (islands : List ℕ) → islands ≡ case_islands t → (bus : ℕ) → bus < length islands → slice_index islands bus ≤ bus
 unfolding case_islands

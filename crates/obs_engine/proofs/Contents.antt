@@ -11,8 +11,8 @@ use Rattle.obs_matroid.specs.Lists.{In}
 use Rattle.obs_text.specs.Faults.{Fault, fault_of, too_long}
 use Rattle.obs_text.specs.Limits.{most_file_bytes}
 use Rattle.obs_engine.specs.declared.taken.Taken.{Taken}
-use Rattle.obs_engine.specs.declared.taken.Untaken.{Untaken}
-use Rattle.obs_engine.specs.declared.taken.Untaken.TheVariants.{Refused, Read, NoMemory}
+use Rattle.obs_engine.specs.declared.taken.CaseError.{CaseError}
+use Rattle.obs_engine.specs.declared.taken.CaseError.TheVariants.{Refused, Read, NoMemory}
 use Rattle.obs_text.specs.declared.faults.InputFault.{InputFault}
 use Rattle.obs_case.specs.Tables.{Tables}
 use Rattle.obs_ieee_cdf.specs.Faults.{cdf_fault}
@@ -33,7 +33,7 @@ use Rattle.obs_engine.specs.declared.words.Form.{Form}
 use Rattle.obs_engine.specs.declared.words.Form.TheVariants.{Topology, Report, Place, Session, SessionWith, Verify, VerifyWith, Trial}
 use Rattle.obs_engine.specs.Files.{case_in, case_in_files, case_with_tables, first_too_long, is_too_long, parsed, switching_case, unless_fault}
 use Rattle.obs_engine.specs.Forms.{AreTold, ReadFailed}
-use Rattle.obs_engine.specs.Taken.{AreContents, IsNext, IsOfFiles, IsTaken, IsUntaken, bytes_of}
+use Rattle.obs_engine.specs.Taken.{AreContents, IsNext, IsOfFiles, IsTaken, IsCaseError, bytes_of}
 use Rattle.obs_engine.specs.Words.{case_parts, case_words, parts_of, words_of, words_with}
 use Rattle.obs_engine.proofs.Taking.{Fits}
 
@@ -165,7 +165,7 @@ module _ (parts : List (List ℕ)) (words : List ℕ) (content : ℕ → Option 
       )
 
 -- an error that ends the reading
-pub contents_not_taken : (parts : List (List ℕ)) (file : ℕ → List ℕ) (words : List ℕ) (why : Untaken) (r : Result (Vec (Vec ℕ Global) Global) Untaken) → IsErrAnd r (λ e. e ≡ why)
+pub contents_not_taken : (parts : List (List ℕ)) (file : ℕ → List ℕ) (words : List ℕ) (why : CaseError) (r : Result (Vec (Vec ℕ Global) Global) CaseError) → IsErrAnd r (λ e. e ≡ why)
     → ((fault : InputFault) → why ≡ Refused fault → first_too_long parts file words ≡ Some (fault_of fault)) → AreContents parts file words r
 contents_not_taken parts file words why (Ok x) e h = absurd e
 contents_not_taken parts file words why (Err (Refused fault)) e h = h fault (sym e)
@@ -173,12 +173,12 @@ contents_not_taken parts file words why (Err Read) e h = tt
 contents_not_taken parts file words why (Err NoMemory) e h = tt
 
 -- no case is taken from such files
-pub case_not_taken : (form : Form) (file : ℕ → List ℕ) (why : Untaken) (r : Result Taken Untaken) → IsErrAnd r (λ e. e ≡ why)
+pub case_not_taken : (form : Form) (file : ℕ → List ℕ) (why : CaseError) (r : Result Taken CaseError) → IsErrAnd r (λ e. e ≡ why)
     → AreContents (parts_of form) file (words_of form) (Err why) → IsOfFiles form file r
 case_not_taken form file why (Ok x) e h = absurd e
-case_not_taken form file why (Err x) e h = subst (λ (u : Untaken). IsUntaken (case_in_files form file) u) (sym e) (by why h)
+case_not_taken form file why (Err x) e h = subst (λ (u : CaseError). IsCaseError (case_in_files form file) u) (sym e) (by why h)
   where
-    by : (w : Untaken) → AreContents (parts_of form) file (words_of form) (Err w) → IsUntaken (case_in_files form file) w
+    by : (w : CaseError) → AreContents (parts_of form) file (words_of form) (Err w) → IsCaseError (case_in_files form file) w
     by (Refused fault) f = ap (λ (o : Option Fault). unless_fault o (parsed form file)) f
     by Read f = tt
     by NoMemory f = tt
@@ -200,7 +200,7 @@ module _ (contents : List (Vec ℕ Global)) (file : ℕ → List ℕ) (first n :
   handed k x a is same low = same ∙ (ap (λ (v : Vec ℕ Global). v.items) is ∙ content_at contents file first n k x told count low)
 
 -- the two files of `topology`
-topology_at : (contents : List (Vec ℕ Global)) (file : ℕ → List ℕ) (x y : Vec ℕ Global) (a b : List ℕ) (r : Result Tables Untaken)
+topology_at : (contents : List (Vec ℕ Global)) (file : ℕ → List ℕ) (x y : Vec ℕ Global) (a b : List ℕ) (r : Result Tables CaseError)
     → x ≡ get_or contents 0 x → y ≡ get_or contents 1 y → a ≡ x.items → b ≡ y.items → IsTaken (switching_case a b) r
     → length contents ≡ 2 → bytes_of contents ≡ map file (words_of Topology) → IsTaken (parsed Topology file) r
 unfolding parsed
@@ -211,7 +211,7 @@ topology_at contents file x y a b r xi yi ax by taken count told =
     let two : b ≡ file 2 = handed contents file 1 2 front some 1 y b yi by (omega arith) in
     subst (λ (u : List ℕ). IsTaken (switching_case u (file 2)) r) one (subst (λ (u : List ℕ). IsTaken (switching_case a u) r) two taken)
 
-pub topology_taken : (form : Form) (contents : List (Vec ℕ Global)) (file : ℕ → List ℕ) (x y : Vec ℕ Global) (a b : List ℕ) (r : Result Tables Untaken) → form ≡ Topology
+pub topology_taken : (form : Form) (contents : List (Vec ℕ Global)) (file : ℕ → List ℕ) (x y : Vec ℕ Global) (a b : List ℕ) (r : Result Tables CaseError) → form ≡ Topology
     → x ≡ get_or contents 0 x → y ≡ get_or contents 1 y → a ≡ x.items → b ≡ y.items → IsTaken (switching_case a b) r
     → length contents ≡ length (words_of form) → bytes_of contents ≡ map file (words_of form) → IsTaken (parsed form file) r
 topology_taken form contents file x y a b r e xi yi ax by taken =
@@ -227,13 +227,13 @@ module _ (contents : List (Vec ℕ Global)) (file : ℕ → List ℕ) (x y : Vec
       let two : b ≡ file 3 = handed contents file 2 2 front some 1 y b yi by (omega arith) in
       subst (λ (u : List ℕ). P u (file 3)) one (subst (λ (u : List ℕ). P a u) two taken)
 
-  pub cdf_taken : (from : CaseForm) (candidates : Option (List ℕ)) (r : Result Tables Untaken) → from ≡ Cdf → IsTaken (case_with_tables cdf_fault b candidates (cdf_of a)) r
+  pub cdf_taken : (from : CaseForm) (candidates : Option (List ℕ)) (r : Result Tables CaseError) → from ≡ Cdf → IsTaken (case_with_tables cdf_fault b candidates (cdf_of a)) r
       → length (case_parts from) ≤ length contents → take (length (case_parts from)) (bytes_of contents) ≡ map file (range_with_len 2 (length (case_parts from))) → IsTaken (case_in from candidates file) r
   cdf_taken from candidates r e taken =
       subst (λ (f : CaseForm). length (case_parts f) ≤ length contents → take (length (case_parts f)) (bytes_of contents) ≡ map file (range_with_len 2 (length (case_parts f))) → IsTaken (case_in f candidates file) r) (sym e)
       (two_at (λ u v. IsTaken (case_with_tables cdf_fault v candidates (cdf_of u)) r) taken)
 
-  pub mat_taken : (from : CaseForm) (candidates : Option (List ℕ)) (r : Result Tables Untaken) → from ≡ Matpower → IsTaken (case_with_tables mat_fault b candidates (mat_of a)) r
+  pub mat_taken : (from : CaseForm) (candidates : Option (List ℕ)) (r : Result Tables CaseError) → from ≡ Matpower → IsTaken (case_with_tables mat_fault b candidates (mat_of a)) r
       → length (case_parts from) ≤ length contents → take (length (case_parts from)) (bytes_of contents) ≡ map file (range_with_len 2 (length (case_parts from))) → IsTaken (case_in from candidates file) r
   mat_taken from candidates r e taken =
       subst (λ (f : CaseForm). length (case_parts f) ≤ length contents → take (length (case_parts f)) (bytes_of contents) ≡ map file (range_with_len 2 (length (case_parts f))) → IsTaken (case_in f candidates file) r) (sym e)
@@ -245,7 +245,7 @@ at_seam (x ∷ xs) y ys zero e = absurd cc
 at_seam (x ∷ xs) y ys (suc n) e = at_seam xs y ys n (cc e)
 
 -- the files of a case, and behind them those of candidates and of a certificate
-module _ (contents : List (Vec ℕ Global)) (file : ℕ → List ℕ) (r : Result Tables Untaken) (from : CaseForm) where
+module _ (contents : List (Vec ℕ Global)) (file : ℕ → List ℕ) (r : Result Tables CaseError) (from : CaseForm) where
   abbrev IsRead : Option (List ℕ) → Type 0
   IsRead candidates = take (length (case_parts from)) (bytes_of contents) ≡ map file (range_with_len 2 (length (case_parts from))) → IsTaken (case_in from candidates file) r
 
@@ -346,11 +346,11 @@ module _ (contents : List (Vec ℕ Global)) (file : ℕ → List ℕ) (r : Resul
       subst (λ (f : Form). length contents ≡ length (words_of f) → bytes_of contents ≡ map file (words_of f) → IsTaken (parsed f file) r) (sym e) (verify_with_at x a xi ax read)
 
 -- a generated case
-trial_at : (rows seed : ℕ) (file : ℕ → List ℕ) (r : Result Tables Untaken) → IsTaken (Ok (trial_of rows seed)) r → IsTaken (parsed (Trial rows seed) file) r
+trial_at : (rows seed : ℕ) (file : ℕ → List ℕ) (r : Result Tables CaseError) → IsTaken (Ok (trial_of rows seed)) r → IsTaken (parsed (Trial rows seed) file) r
 unfolding parsed
 trial_at rows seed file r taken = taken
 
-pub trial_taken : (form : Form) (rows seed : ℕ) (file : ℕ → List ℕ) (r : Result Tables Untaken) → form ≡ Trial rows seed → IsTaken (Ok (trial_of rows seed)) r → IsTaken (parsed form file) r
+pub trial_taken : (form : Form) (rows seed : ℕ) (file : ℕ → List ℕ) (r : Result Tables CaseError) → form ≡ Trial rows seed → IsTaken (Ok (trial_of rows seed)) r → IsTaken (parsed form file) r
 trial_taken form rows seed file r e taken = subst (λ (f : Form). IsTaken (parsed f file) r) (sym e) (trial_at rows seed file r taken)
 
 -- the first fault of a MATPOWER file

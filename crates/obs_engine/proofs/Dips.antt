@@ -6,7 +6,7 @@ use Rattle.std.proofs.lemmas.Bool.{cases_Bool, cases_eq}
 use Rattle.std.proofs.lemmas.Bool.Decides.{nat_tests}
 use Rattle.obs_case.specs.Flags.{with_meter_inservice}
 use Rattle.obs_case.specs.Tables.{Tables}
-use Rattle.obs_graph.specs.Shape.{Shape}
+use Rattle.obs_graph.specs.Graph.{Graph}
 use Rattle.obs_matroid.specs.Assignments.{Pair}
 use Rattle.obs_matroid.specs.Lists.{In, other_than, without}
 use Rattle.obs_matroid.specs.Matroid.{Matroid}
@@ -106,7 +106,7 @@ module _ (t : Tables) (at : ℕ) where
   rank_lost : case_rank lost ≡ rho_of joins touch (without at (case_live_meters t))
   unfolding case_rank
   rank_lost =
-      ap (λ (g : Shape). rho_of (graph_matroid g.vertices g.ends) (touch_at g.ends (case_meters lost)) (live_items g.ends (case_meters lost))) (same_graph t at false)
+      ap (λ (g : Graph). rho_of (graph_matroid g.vertices g.ends) (touch_at g.ends (case_meters lost)) (live_items g.ends (case_meters lost))) (same_graph t at false)
       ∙ (ap (λ (M : List ℕ). rho_of joins (touch_at (case_branches t) (case_meters lost)) M) live_lost
       ∙ rho_same joins (touch_at (case_branches t) (case_meters lost)) touch (without at (case_live_meters t))
       (λ x i. same_touch t at false x (other_ne at x (In-filter_from (other_than at) x (case_live_meters t) i).1)))

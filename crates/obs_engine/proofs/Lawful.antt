@@ -15,7 +15,7 @@ use Rattle.obs_exchange.proofs.Lawful.{critical_at-exactly}
 use Rattle.obs_network.specs.Switched.{case_bus_count}
 use Rattle.obs_network.specs.Components.{need_of}
 use Rattle.obs_network.specs.Network.{case_branches, case_component_count, case_meters, case_needed, case_sizes}
-use Rattle.obs_network.specs.Observable.{IsObservable, IsObservableCase, branch_component, case_live_meters, is_fed, item_component}
+use Rattle.obs_network.specs.Observable.{IsObservable, IsObservableCase, branch_component, case_live_meters, is_energised_component, item_component}
 use Rattle.obs_network.proofs.Marked.{filtered_below}
 use Rattle.obs_network.proofs.Observed.{observed_by_rho}
 use Rattle.obs_network.proofs.OfCase.{case_branches-are}
@@ -85,16 +85,16 @@ short_unobserved t v = (
   ]),
 )
 
-short_parts : (t : Tables) (c : ℕ) → is_short t c ≡ true → (is_fed t c ≡ true) × (component_rank t c ≢ need_of (case_sizes t) c)
+short_parts : (t : Tables) (c : ℕ) → is_short t c ≡ true → (is_energised_component t c ≡ true) × (component_rank t c ≢ need_of (case_sizes t) c)
 unfolding is_short
 short_parts t c s =
-    let u = and_parts (is_fed t c) (not (component_rank t c == need_of (case_sizes t) c)) s in
+    let u = and_parts (is_energised_component t c) (not (component_rank t c == need_of (case_sizes t) c)) s in
     (u.0, λ e. clash u.1 (ap not (eq-eqb (component_rank t c) (need_of (case_sizes t) c) e)))
 
-short_from : (t : Tables) (c : ℕ) → is_fed t c ≡ true → component_rank t c ≢ need_of (case_sizes t) c → is_short t c ≡ true
+short_from : (t : Tables) (c : ℕ) → is_energised_component t c ≡ true → component_rank t c ≢ need_of (case_sizes t) c → is_short t c ≡ true
 unfolding is_short
 short_from t c fed n =
-    and_from (is_fed t c) (not (component_rank t c == need_of (case_sizes t) c)) fed (ap not (ne_eqb (component_rank t c) (need_of (case_sizes t) c) n))
+    and_from (is_energised_component t c) (not (component_rank t c == need_of (case_sizes t) c)) fed (ap not (ne_eqb (component_rank t c) (need_of (case_sizes t) c) n))
 
 short_at : (t : Tables) (c : ℕ) → In c (short_components t) → (c < case_component_count t) × (is_short t c ≡ true)
 unfolding short_components
@@ -109,7 +109,7 @@ unfolding component_meters
 components_distinct t c = IsDistinct-filter (is_meter_of t c) (case_live_meters t) (live_items-distinct (case_branches t) (case_meters t))
 
 module _ (t : Tables) (v : IsValid t) (c : ℕ) where
-  pub shown_short : In c (short_components t) ↔ ((c < case_component_count t) × (is_fed t c ≡ true) × (IsObservable t c → ⊥))
+  pub shown_short : In c (short_components t) ↔ ((c < case_component_count t) × (is_energised_component t c ≡ true) × (IsObservable t c → ⊥))
   shown_short = (
     (λ i. let u = short_at t c i in let w = short_parts t c u.1 in (u.0, w.0, λ o. w.1 (observable-to t v c u.0 o))),
     (λ h. short_in t c h.0 (short_from t c h.1 (λ e. h.2 (observable-from t v c e)))),

@@ -12,8 +12,8 @@ use Rattle.obs_exchange.specs.Critical.{critical_at}
 use Rattle.obs_network.specs.Switched.{case_bus_count, case_buses}
 use Rattle.obs_network.specs.Touching.{meter_touch}
 use Rattle.obs_network.specs.Components.{need_of}
-use Rattle.obs_network.specs.Network.{NetworkOf, case_branches, case_component_count, case_meters, case_needed, case_sizes, network_of}
-use Rattle.obs_network.specs.Observable.{case_live_meters, is_fed}
+use Rattle.obs_network.specs.Network.{Network, case_branches, case_component_count, case_meters, case_needed, case_sizes, network_of}
+use Rattle.obs_network.specs.Observable.{case_live_meters, is_energised_component}
 use Rattle.obs_network.proofs.Marked.{filtered_below}
 use Rattle.obs_network.proofs.OfCase.{length-case_first_buses}
 use Rattle.obs_engine.specs.declared.status.Status.TheVariants.{Done, Short}
@@ -21,21 +21,21 @@ use Rattle.obs_edit.specs.Answers.{bound_meters, case_critical_meters, case_rank
 use Rattle.obs_engine.specs.Asks.{report_status}
 
 -- how many components there are
-pub count_of : (n : NetworkOf) (t : Tables) → n ≡ network_of t → length n.components.first_buses ≡ case_component_count t
-count_of n t same = ap (λ (x : NetworkOf). length x.components.first_buses) same ∙ length-case_first_buses t
+pub count_of : (n : Network) (t : Tables) → n ≡ network_of t → length n.components.first_buses ≡ case_component_count t
+count_of n t same = ap (λ (x : Network). length x.components.first_buses) same ∙ length-case_first_buses t
 
-pub fed_of : (n : NetworkOf) (t : Tables) (c : ℕ) → n ≡ network_of t → slice_index_or n.components.energised c false ≡ is_fed t c
-fed_of n t c same = ap (λ (x : NetworkOf). slice_index_or x.components.energised c false) same
+pub fed_of : (n : Network) (t : Tables) (c : ℕ) → n ≡ network_of t → slice_index_or n.components.energised c false ≡ is_energised_component t c
+fed_of n t c same = ap (λ (x : Network). slice_index_or x.components.energised c false) same
 
-pub need_from : (n : NetworkOf) (t : Tables) (c : ℕ) → n ≡ network_of t → need_of n.components.sizes c ≡ need_of (case_sizes t) c
-need_from n t c same = ap (λ (x : NetworkOf). need_of x.components.sizes c) same
+pub need_from : (n : Network) (t : Tables) (c : ℕ) → n ≡ network_of t → need_of n.components.sizes c ≡ need_of (case_sizes t) c
+need_from n t c same = ap (λ (x : Network). need_of x.components.sizes c) same
 
 -- whether a component falls short
-pub short_fed : (t : Tables) (c rank need : ℕ) → is_fed t c ≡ true → rank ≡ component_rank t c → need ≡ need_of (case_sizes t) c → not (eqb rank need) ≡ is_short t c
+pub short_fed : (t : Tables) (c rank need : ℕ) → is_energised_component t c ≡ true → rank ≡ component_rank t c → need ≡ need_of (case_sizes t) c → not (eqb rank need) ≡ is_short t c
 unfolding is_short
 short_fed t c rank need fed r n = rw (r, n, fed) refl
 
-pub short_dead : (t : Tables) (c : ℕ) (b : Bool) → is_fed t c ≡ false → b ≡ false → b ≡ is_short t c
+pub short_dead : (t : Tables) (c : ℕ) (b : Bool) → is_energised_component t c ≡ false → b ≡ false → b ≡ is_short t c
 unfolding is_short
 short_dead t c b dead e = rw (e, dead) refl
 

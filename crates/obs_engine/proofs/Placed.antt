@@ -17,7 +17,7 @@ use Rattle.obs_exchange.specs.Laws.{noncritical_in}
 use Rattle.obs_placement.specs.Answer.{is_chosen}
 use Rattle.obs_placement.specs.Layers.{added_items, inside_of, layers_of, prices_above}
 use Rattle.obs_placement.specs.Order.{price_of}
-use Rattle.obs_placement.specs.Placed.{Placed, loose_items, lack_of, plan_of}
+use Rattle.obs_placement.specs.Placed.{Placed, redundant_items, shortfall_of, plan_of}
 use Rattle.obs_placement.specs.Placed.Placed.{cheapest, shortfall}
 use Rattle.obs_network.specs.Switched.{case_bus_count}
 use Rattle.obs_network.specs.Network.{case_branches, case_needed, case_offered}
@@ -61,10 +61,10 @@ plan_within t n ends =
       counts_of n ends touches price (length plan.inside) 0 0 (prices_above prices plan.chosen 0) (omega arith),
     )
 
-lack_within : (t : Tables) (n : ℕ) (ends : List (Option Ends)) (needed : ℕ) → IsWithin t (shortfall (lack_of n ends (case_offered t) needed))
+lack_within : (t : Tables) (n : ℕ) (ends : List (Option Ends)) (needed : ℕ) → IsWithin t (shortfall (shortfall_of n ends (case_offered t) needed))
 lack_within t n ends needed =
     let touches = case_offered t in
-    All-from_In (λ m. m < item_count t) (loose_items n ends touches)
+    All-from_In (λ m. m < item_count t) (redundant_items n ends touches)
     (λ m i.
     let live = (In-filter_from (noncritical_in n ends touches (live_items ends touches)) m (live_items ends touches) i).0 in
     let low = filtered_below (is_live ends touches) 0 (length touches) m live in

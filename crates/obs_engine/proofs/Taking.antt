@@ -2,8 +2,8 @@
 use Rattle.std.proofs.Common.{◌≡◌, ◌∙◌, ap, ℕ, List, Option, Some, Result, Ok, Err, sym, subst, false, inl, inr}
 use Rattle.std.proofs.lemmas.Bool.{cases_eq}
 use Rattle.std.specs.Prelude.{IsErrAnd, IsErrOf}
-use Rattle.obs_engine.specs.declared.taken.Untaken.{Untaken}
-use Rattle.obs_engine.specs.declared.taken.Untaken.TheVariants.{Read}
+use Rattle.obs_engine.specs.declared.taken.CaseError.{CaseError}
+use Rattle.obs_engine.specs.declared.taken.CaseError.TheVariants.{Read}
 use Rattle.obs_engine.specs.Files.{is_too_long}
 
 -- what was taken isn't a failed read
@@ -11,16 +11,16 @@ pub ok_not_read : {T : Type 0} (x : T) → Ok x ≡ Err Read → ⊥
 ok_not_read x e = absurd cc
 
 -- why nothing was taken, where reading failed
-pub read_is : {T : Type 0} (why : Untaken) → IsErrOf {T = T} (Err why) Read → why ≡ Read
+pub read_is : {T : Type 0} (why : CaseError) → IsErrOf {T = T} (Err why) Read → why ≡ Read
 read_is why e = cc
 
 -- a read didn't fail where what wasn't taken is no failed read
-pub not_read : {T U : Type 0} (why : Untaken) (r : Result U Untaken) → IsErrAnd r (λ e. e ≡ why) → (r ≡ Err Read → ⊥) → IsErrOf {T = T} (Err why) Read → ⊥
+pub not_read : {T U : Type 0} (why : CaseError) (r : Result U CaseError) → IsErrAnd r (λ e. e ≡ why) → (r ≡ Err Read → ⊥) → IsErrOf {T = T} (Err why) Read → ⊥
 not_read {T = T} {U = U} why (Ok x) e not h = absurd e
 not_read {T = T} {U = U} why (Err x) e not h = not (ap Err (e ∙ read_is {T = T} why h))
 
 -- and did where it is one
-pub is_read : {T U : Type 0} (why : Untaken) (r : Result U Untaken) → IsErrAnd r (λ e. e ≡ why) → r ≡ Err Read → IsErrOf {T = T} (Err why) Read
+pub is_read : {T U : Type 0} (why : CaseError) (r : Result U CaseError) → IsErrAnd r (λ e. e ≡ why) → r ≡ Err Read → IsErrOf {T = T} (Err why) Read
 is_read {T = T} {U = U} why (Ok x) e h = absurd e
 is_read {T = T} {U = U} why (Err x) e h = ap Err (sym e ∙ read_is {T = U} x h)
 

@@ -9,12 +9,12 @@ use Rattle.obs_case.specs.declared.rows.Meter.{Meter}
 use Rattle.obs_case.specs.Flags.{changed_at, with_meter_inservice}
 use Rattle.obs_case.specs.Tables.{Tables}
 use Rattle.obs_case.proofs.RowLemmas.{length-changed}
-use Rattle.obs_assign.specs.Assigned.{Assigned, pairs}
+use Rattle.obs_assign.specs.Assignment.{Assignment, pairs}
 use Rattle.obs_assign.specs.Still.{is_still}
-use Rattle.obs_network.specs.Network.{NetworkOf, case_branches, case_meters, network_of}
+use Rattle.obs_network.specs.Network.{Network, case_branches, case_meters, network_of}
 use Rattle.obs_network.specs.Switched.{case_bus_count}
 use Rattle.obs_report.specs.Counts.{counts_text}
-use Rattle.obs_report.specs.Islands.{is_fed_bus}
+use Rattle.obs_report.specs.Islands.{is_energised_bus}
 use Rattle.obs_report.specs.Totals.{totals_text, trial_line}
 use Rattle.obs_edit.specs.Answers.{case_rank}
 use Rattle.obs_edit.specs.Edits.{IsRepaired}
@@ -98,10 +98,10 @@ module _ (p : ℕ → Bool) (n : ℕ) where
       omega (arith, c, none)
 
 -- a bus is energised where the component is that stands at it
-pub fed : (t : Tables) (n : NetworkOf) → n ≡ network_of t → (bus c : ℕ) → c ≡ slice_index n.components.of_buses bus → slice_index_or n.components.energised c false ≡ is_fed_bus t bus
+pub fed : (t : Tables) (n : Network) → n ≡ network_of t → (bus c : ℕ) → c ≡ slice_index n.components.of_buses bus → slice_index_or n.components.energised c false ≡ is_energised_bus t bus
 fed t n same bus c at =
     ap (λ (x : ℕ). slice_index_or n.components.energised x false) at
-    ∙ ap (λ (x : NetworkOf). slice_index_or x.components.energised (slice_index x.components.of_buses bus) false) same
+    ∙ ap (λ (x : Network). slice_index_or x.components.energised (slice_index x.components.of_buses bus) false) same
 
 pub islands_are_counted : (t : Tables) → length (filter (is_first_of_island t) (range_with_len 0 (case_bus_count t))) ≡ island_count t
 unfolding island_count
@@ -144,7 +144,7 @@ dips_few t =
     omega (arith, few, length-range_with_len 0 (length t.meters))
 
 -- where the rank was lower, a meter that comes back takes a search
-pub turn_searched : (u w : Tables) (kept after : Assigned) (low rank searches : ℕ) → AreLongest u kept → IsRankOf u low → IsRepaired w kept after rank searches → low < rank → 1 ≤ searches
+pub turn_searched : (u w : Tables) (kept after : Assignment) (low rank searches : ℕ) → AreLongest u kept → IsRankOf u low → IsRepaired w kept after rank searches → low < rank → 1 ≤ searches
 turn_searched u w kept after low rank searches longest is_low repaired below =
     let best = longest.longest in
     let few = is_low.none_longer best.longest best.assigns in
@@ -154,8 +154,8 @@ turn_searched u w kept after low rank searches longest is_low repaired below =
     omega (arith, few, long, standing_few, least, below)
 
 -- the counts of the network that is at hand
-pub counts_now : (t : Tables) (n : NetworkOf) (rank : ℕ) → n ≡ network_of t → rank ≡ case_rank t → counts_text n rank ≡ counts_text (network_of t) (case_rank t)
-counts_now t n rank same r = ap (λ (x : NetworkOf). counts_text x rank) same ∙ ap (counts_text (network_of t)) r
+pub counts_now : (t : Tables) (n : Network) (rank : ℕ) → n ≡ network_of t → rank ≡ case_rank t → counts_text n rank ≡ counts_text (network_of t) (case_rank t)
+counts_now t n rank same r = ap (λ (x : Network). counts_text x rank) same ∙ ap (counts_text (network_of t)) r
 
 -- the text of what was found
 pub trial_is : (rows seed : ℕ) (t u : Tables) (islands dips searches : ℕ) → u ≡ t → islands ≡ island_count t → dips ≡ dips_of t

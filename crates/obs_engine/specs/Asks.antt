@@ -6,7 +6,7 @@ use Rattle.obs_placement.specs.Placed.{Placed}
 use Rattle.obs_placement.specs.Placed.Placed.{cheapest, shortfall}
 use Rattle.obs_network.specs.Components.{need_of}
 use Rattle.obs_network.specs.Network.{case_component_count, case_needed, case_sizes, network_of}
-use Rattle.obs_network.specs.Observable.{is_fed}
+use Rattle.obs_network.specs.Observable.{is_energised_component}
 use Rattle.obs_report.specs.Counts.{counts_text}
 use Rattle.obs_report.specs.Islands.{islands_text}
 use Rattle.obs_report.specs.Lines.{last_line}
@@ -39,7 +39,7 @@ text_if b text = if b then text else []
 -- bounds are; nothing on a component that isn't energised
 unfoldable pub component_claim : Bool → Bool → Tables → ℕ → List ℕ
 component_claim trees bounds t c =
-    if is_fed t c
+    if is_energised_component t c
     then (if component_rank t c == need_of (case_sizes t) c then text_if trees (tree_claim t c) else text_if bounds (bound_claim t c))
     else []
 

@@ -6,7 +6,7 @@ use Rattle.obs_case.specs.Tables.{Tables}
 use Rattle.obs_network.specs.Network.{network_of}
 use Rattle.obs_network.specs.Switched.{case_bus_count}
 use Rattle.obs_report.specs.Counts.{counts_text}
-use Rattle.obs_report.specs.Islands.{is_fed_bus}
+use Rattle.obs_report.specs.Islands.{is_energised_bus}
 use Rattle.obs_report.specs.Totals.{totals_text, trial_line}
 use Rattle.obs_edit.specs.declared.edit.Edit.TheVariants.{Meter}
 use Rattle.obs_edit.specs.Answers.{case_islands, case_rank}
@@ -20,7 +20,7 @@ AreInService t = All (λ (row : Row). row.inservice ≡ true) t.meters
 
 -- whether a bus is energised and the first bus of its island
 abbrev pub is_first_of_island : Tables → ℕ → Bool
-is_first_of_island t bus = is_fed_bus t bus && (slice_index (case_islands t) bus == bus)
+is_first_of_island t bus = is_energised_bus t bus && (slice_index (case_islands t) bus == bus)
 
 -- how many islands the energised buses of a case have
 unfoldable pub island_count : Tables → ℕ

@@ -14,7 +14,7 @@ ghost use Rattle.obs_engine.specs.Taken.{IsOfFiles, IsTaken, bytes_of};
 ghost use Rattle.obs_engine.specs.Words.{case_parts, file_words, takes_certificate, words_of};
 
 use crate::files::take_files;
-use crate::taken::{Taken, Untaken};
+use crate::taken::{CaseError, Taken};
 use crate::words::{CaseForm, Form, file_words, parts};
 use obs_case::Case;
 use obs_case_csv::{Table, TableEnd, read_table, read_tables};
@@ -25,20 +25,20 @@ use obs_text::InputFault;
 use std::alloc::Global;
 
 // The case that the bytes of the two tables are.
-fn read_switching(alloc: Global, nodes: &[u8], switches: &[u8]) -> Result<Case, Untaken>
+fn read_switching(alloc: Global, nodes: &[u8], switches: &[u8]) -> Result<Case, CaseError>
     ensures read { IsTaken (switching_case nodes.now switches.now) result }
-    ensures no_read { IsErrOf result Untaken.Read → ⊥ }
+    ensures no_read { IsErrOf result CaseError.Read → ⊥ }
 {
     let mut case = Case::new(alloc);
     match read_table(alloc, &mut case, Table::Nodes, nodes) {
         Ok(()) => {}
-        Err(TableEnd::Fault(fault)) => return Err(Untaken::Refused(InputFault::from(fault))),
-        Err(TableEnd::NoMemory) => return Err(Untaken::NoMemory),
+        Err(TableEnd::Fault(fault)) => return Err(CaseError::Refused(InputFault::from(fault))),
+        Err(TableEnd::NoMemory) => return Err(CaseError::NoMemory),
     }
     match read_table(alloc, &mut case, Table::Switches, switches) {
         Ok(()) => Ok(case),
-        Err(TableEnd::Fault(fault)) => Err(Untaken::Refused(InputFault::from(fault))),
-        Err(TableEnd::NoMemory) => Err(Untaken::NoMemory),
+        Err(TableEnd::Fault(fault)) => Err(CaseError::Refused(InputFault::from(fault))),
+        Err(TableEnd::NoMemory) => Err(CaseError::NoMemory),
     }
 }
 
@@ -50,15 +50,15 @@ fn read_csv(
     branches: &[u8],
     meters: &[u8],
     candidates: Option<&[u8]>,
-) -> Result<Case, Untaken>
+) -> Result<Case, CaseError>
     ensures read { IsTaken (case_of_tables (tables_in nodes.now switches.now branches.now meters.now
         (option_map (λ bytes. bytes.now) candidates.entry))) result }
-    ensures no_read { IsErrOf result Untaken.Read → ⊥ }
+    ensures no_read { IsErrOf result CaseError.Read → ⊥ }
 {
     match read_tables(alloc, nodes, switches, branches, meters, candidates) {
         Ok(case) => Ok(case),
-        Err(TableEnd::Fault(fault)) => Err(Untaken::Refused(InputFault::from(fault))),
-        Err(TableEnd::NoMemory) => Err(Untaken::NoMemory),
+        Err(TableEnd::Fault(fault)) => Err(CaseError::Refused(InputFault::from(fault))),
+        Err(TableEnd::NoMemory) => Err(CaseError::NoMemory),
     }
 }
 
@@ -69,17 +69,17 @@ fn read_cdf_tables(
     cdf: &[u8],
     meters: &[u8],
     candidates: Option<&[u8]>,
-) -> Result<Case, Untaken>
+) -> Result<Case, CaseError>
     requires few { length cdf.now ≤ most_file_bytes }
     ensures read { IsTaken (case_with_tables cdf_fault meters.now (option_map (λ bytes. bytes.now) candidates.entry)
         (cdf_of cdf.now)) result }
-    ensures no_read { IsErrOf result Untaken.Read → ⊥ }
+    ensures no_read { IsErrOf result CaseError.Read → ⊥ }
 {
     match read_cdf(alloc, cdf, meters, candidates) {
         Ok(case) => Ok(case),
-        Err(CdfEnd::Cdf(fault)) => Err(Untaken::Refused(InputFault::from(fault))),
-        Err(CdfEnd::Table(fault)) => Err(Untaken::Refused(InputFault::from(fault))),
-        Err(CdfEnd::NoMemory) => Err(Untaken::NoMemory),
+        Err(CdfEnd::Cdf(fault)) => Err(CaseError::Refused(InputFault::from(fault))),
+        Err(CdfEnd::Table(fault)) => Err(CaseError::Refused(InputFault::from(fault))),
+        Err(CdfEnd::NoMemory) => Err(CaseError::NoMemory),
     }
 }
 
@@ -89,17 +89,17 @@ fn read_matpower_tables(
     matpower: &[u8],
     meters: &[u8],
     candidates: Option<&[u8]>,
-) -> Result<Case, Untaken>
+) -> Result<Case, CaseError>
     requires few { length matpower.now ≤ most_file_bytes }
     ensures read { IsTaken (case_with_tables mat_fault meters.now (option_map (λ bytes. bytes.now) candidates.entry)
         (mat_of matpower.now)) result }
-    ensures no_read { IsErrOf result Untaken.Read → ⊥ }
+    ensures no_read { IsErrOf result CaseError.Read → ⊥ }
 {
     match read_matpower(alloc, matpower, meters, candidates) {
         Ok(case) => Ok(case),
-        Err(MatEnd::Mat(fault)) => Err(Untaken::Refused(InputFault::from(fault))),
-        Err(MatEnd::Table(fault)) => Err(Untaken::Refused(InputFault::from(fault))),
-        Err(MatEnd::NoMemory) => Err(Untaken::NoMemory),
+        Err(MatEnd::Mat(fault)) => Err(CaseError::Refused(InputFault::from(fault))),
+        Err(MatEnd::Table(fault)) => Err(CaseError::Refused(InputFault::from(fault))),
+        Err(MatEnd::NoMemory) => Err(CaseError::NoMemory),
     }
 }
 
@@ -109,14 +109,14 @@ fn read_case(
     from: CaseForm,
     contents: &[Vec<u8>],
     candidates: Option<&[u8]>,
-) -> Result<Case, Untaken>
+) -> Result<Case, CaseError>
     requires count { length (case_parts from) ≤ length contents.now }
     requires short { All (λ bytes. vec_len bytes ≤ most_file_bytes) contents.now }
     ensures read { (file : ℕ → List ℕ)
         → take (length (case_parts from)) (bytes_of contents.now)
         ≡ map file (range_with_len 2 (length (case_parts from)))
         → IsTaken (case_in from (option_map (λ bytes. bytes.now) candidates.entry) file) result }
-    ensures no_read { IsErrOf result Untaken.Read → ⊥ }
+    ensures no_read { IsErrOf result CaseError.Read → ⊥ }
 {
     match from {
         CaseForm::Csv => read_csv(
@@ -135,27 +135,27 @@ fn read_case(
 }
 
 // A generated case.
-fn generate(alloc: Global, rows: u32, seed: u64) -> Result<Case, Untaken>
+fn generate(alloc: Global, rows: u32, seed: u64) -> Result<Case, CaseError>
     requires low { 1 ≤ rows }
     requires high { rows ≤ 100 }
     ensures generated { IsTaken (Ok (trial_of rows seed)) result }
-    ensures no_read { IsErrOf result Untaken.Read → ⊥ }
+    ensures no_read { IsErrOf result CaseError.Read → ⊥ }
 {
     match obs_trial::make(alloc, rows, seed) {
         Ok(case) => Ok(case),
-        Err(_) => Err(Untaken::NoMemory),
+        Err(_) => Err(CaseError::NoMemory),
     }
 }
 
 // The case that the contents of a form's files are.
-fn read_form(alloc: Global, form: Form, contents: &[Vec<u8>]) -> Result<Case, Untaken>
+fn read_form(alloc: Global, form: Form, contents: &[Vec<u8>]) -> Result<Case, CaseError>
     requires rows { HasRows form }
     requires count { length contents.now ≡ length (words_of form) }
     requires short { All (λ bytes. vec_len bytes ≤ most_file_bytes) contents.now }
     ensures read { (file : ℕ → List ℕ)
         → bytes_of contents.now ≡ map file (words_of form)
         → IsTaken (parsed form file) result }
-    ensures no_read { IsErrOf result Untaken.Read → ⊥ }
+    ensures no_read { IsErrOf result CaseError.Read → ⊥ }
 {
     match form {
         Form::Topology => read_switching(alloc, &contents[0], &contents[1]),
@@ -210,15 +210,17 @@ pub(crate) fn take_case<F: Files>(
     alloc: Global,
     files: &mut F,
     form: Form,
-) -> Result<Taken, Untaken>
+) -> Result<Taken, CaseError>
     requires rows { HasRows form }
     ensures stated { (file : ℕ → List ℕ) → AreFiles (Some form) (F.content files.old) file
         → IsOfFiles form file result }
     ensures short { IfOk result (λ taken. vec_len taken.certificate ≤ most_file_bytes) }
-    ensures read { IsErrOf result Untaken.Read
+    ensures read { IsErrOf result CaseError.Read
         → ReadFailed (file_words (Some form)) (F.content files.old) (F.faults files.old) (F.faults files.new) }
-    ensures quiet { (IsErrOf result Untaken.Read → ⊥) → (w : ℕ) → F.faults files.new w ≡ F.faults files.old w }
-    ensures steady { ((w : ℕ) → IsFileWord (Some form) w → F.steady files.old w) → IsErrOf result Untaken.Read → ⊥ }
+    ensures quiet { (IsErrOf result CaseError.Read → ⊥) →
+        (w : ℕ) → F.faults files.new w ≡ F.faults files.old w }
+    ensures steady { ((w : ℕ) → IsFileWord (Some form) w → F.steady files.old w) →
+        IsErrOf result CaseError.Read → ⊥ }
 {
     let contents = take_files(alloc, files, file_words(form), parts(form))?;
     let case = read_form(alloc, form, &contents)?;

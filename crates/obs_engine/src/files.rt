@@ -6,7 +6,7 @@ ghost use Rattle.obs_text.specs.Limits.{most_file_bytes};
 ghost use Rattle.obs_engine.specs.Forms.{AreTold, ReadFailed};
 ghost use Rattle.obs_engine.specs.Taken.{AreContents, IsFile, IsNext, bytes_of};
 
-use crate::taken::Untaken;
+use crate::taken::CaseError;
 use obs_io::{Files, ReadEnd, read_all};
 use obs_text::{InputFault, MOST_FILE_BYTES};
 use std::alloc::Global;
@@ -17,23 +17,24 @@ pub(crate) fn take_file<F: Files>(
     files: &mut F,
     word: usize,
     part: &'static [u8],
-) -> Result<Vec<u8>, Untaken>
+) -> Result<Vec<u8>, CaseError>
     requires word { word < 16 }
     ensures stated { (bytes : List ℕ) → F.content files.old word ≡ Some bytes → IsFile part.now bytes result }
     ensures short { IfOk result (λ bytes. vec_len bytes ≤ most_file_bytes) }
     ensures same { (w : ℕ) → F.content files.new w ≡ F.content files.old w }
     ensures later { F.faults files.old word ≤ F.faults files.new word }
-    ensures read { IsErrOf result Untaken.Read → Rose (F.faults files.old word) (F.faults files.new word) }
-    ensures quiet { (IsErrOf result Untaken.Read → ⊥) → (w : ℕ) → F.faults files.new w ≡ F.faults files.old w }
+    ensures read { IsErrOf result CaseError.Read → Rose (F.faults files.old word) (F.faults files.new word) }
+    ensures quiet { (IsErrOf result CaseError.Read → ⊥) →
+        (w : ℕ) → F.faults files.new w ≡ F.faults files.old w }
     ensures others { (w : ℕ) → w ≢ word → F.faults files.new w ≡ F.faults files.old w }
     ensures steady { (w : ℕ) → F.steady files.old w → F.steady files.new w }
-    ensures succeeds { F.steady files.old word → IsErrOf result Untaken.Read → ⊥ }
+    ensures succeeds { F.steady files.old word → IsErrOf result CaseError.Read → ⊥ }
 {
     match read_all(alloc, files, word, MOST_FILE_BYTES as u64) {
         Ok(bytes) => Ok(bytes),
-        Err(ReadEnd::TooLong) => Err(Untaken::Refused(InputFault::too_long(part))),
-        Err(ReadEnd::Failed) => Err(Untaken::Read),
-        Err(ReadEnd::NoMemory) => Err(Untaken::NoMemory),
+        Err(ReadEnd::TooLong) => Err(CaseError::Refused(InputFault::too_long(part))),
+        Err(ReadEnd::Failed) => Err(CaseError::Read),
+        Err(ReadEnd::NoMemory) => Err(CaseError::NoMemory),
     }
 }
 
@@ -44,7 +45,7 @@ fn take_next<F: Files>(
     word: usize,
     part: &'static [u8],
     contents: &mut Vec<Vec<u8>>,
-) -> Result<(), Untaken>
+) -> Result<(), CaseError>
     requires word { word < 16 }
     requires short { All (λ bytes. vec_len bytes ≤ most_file_bytes) contents.old.items }
     ensures stated { (content : List ℕ) → F.content files.old word ≡ Some content
@@ -52,16 +53,17 @@ fn take_next<F: Files>(
     ensures short { All (λ bytes. vec_len bytes ≤ most_file_bytes) contents.new.items }
     ensures count { IsOk result → length contents.new.items ≡ length contents.old.items + 1 }
     ensures same { (w : ℕ) → F.content files.new w ≡ F.content files.old w }
-    ensures read { IsErrOf result Untaken.Read → Rose (F.faults files.old word) (F.faults files.new word) }
-    ensures quiet { (IsErrOf result Untaken.Read → ⊥) → (w : ℕ) → F.faults files.new w ≡ F.faults files.old w }
+    ensures read { IsErrOf result CaseError.Read → Rose (F.faults files.old word) (F.faults files.new word) }
+    ensures quiet { (IsErrOf result CaseError.Read → ⊥) →
+        (w : ℕ) → F.faults files.new w ≡ F.faults files.old w }
     ensures others { (w : ℕ) → w ≢ word → F.faults files.new w ≡ F.faults files.old w }
     ensures steady { (w : ℕ) → F.steady files.old w → F.steady files.new w }
-    ensures succeeds { F.steady files.old word → IsErrOf result Untaken.Read → ⊥ }
+    ensures succeeds { F.steady files.old word → IsErrOf result CaseError.Read → ⊥ }
 {
     let bytes = take_file(alloc, files, word, part)?;
     match contents.push(bytes) {
         Ok(()) => Ok(()),
-        Err(_) => Err(Untaken::NoMemory),
+        Err(_) => Err(CaseError::NoMemory),
     }
 }
 
@@ -72,17 +74,18 @@ pub(crate) fn take_files<F: Files>(
     files: &mut F,
     words: &[usize],
     parts: &[&'static [u8]],
-) -> Result<Vec<Vec<u8>>, Untaken>
+) -> Result<Vec<Vec<u8>>, CaseError>
     requires words { All (λ w. w < 16) words.now }
     requires parts { length parts.now ≡ length words.now }
     ensures stated { (file : ℕ → List ℕ) → AreTold (F.content files.old) file words.now
         → AreContents (map (λ part. part.now) parts.now) file words.now result }
     ensures short { IfOk result (λ contents. All (λ bytes. vec_len bytes ≤ most_file_bytes) contents.items) }
     ensures count { IfOk result (λ contents. vec_len contents ≡ length words.now) }
-    ensures read { IsErrOf result Untaken.Read
+    ensures read { IsErrOf result CaseError.Read
         → ReadFailed words.now (F.content files.old) (F.faults files.old) (F.faults files.new) }
-    ensures quiet { (IsErrOf result Untaken.Read → ⊥) → (w : ℕ) → F.faults files.new w ≡ F.faults files.old w }
-    ensures steady { ((w : ℕ) → In w words.now → F.steady files.old w) → IsErrOf result Untaken.Read → ⊥ }
+    ensures quiet { (IsErrOf result CaseError.Read → ⊥) →
+        (w : ℕ) → F.faults files.new w ≡ F.faults files.old w }
+    ensures steady { ((w : ℕ) → In w words.now → F.steady files.old w) → IsErrOf result CaseError.Read → ⊥ }
 {
     let mut contents = Vec::new(alloc);
     for k in 0..words.len() {

@@ -7,7 +7,7 @@ ghost use Rattle.obs_meter.specs.Assignments.{IsAssignmentAt, IsRhoAt};
 ghost use Rattle.obs_exchange.specs.Critical.{IsCriticalAt};
 ghost use Rattle.obs_network.specs.Components.{need_of};
 ghost use Rattle.obs_network.specs.Network.{case_branches, case_component_count, case_meters, case_needed, case_sizes};
-ghost use Rattle.obs_network.specs.Observable.{IsObservable, IsObservableCase, branch_component, case_live_meters, is_fed};
+ghost use Rattle.obs_network.specs.Observable.{IsObservable, IsObservableCase, branch_component, case_live_meters, is_energised_component};
 ghost use Rattle.obs_cert.specs.Claims.{Claim};
 ghost use Rattle.obs_cert.specs.Read.{claims_of};
 ghost use Rattle.obs_engine.specs.Verify.{AllHold, verify_reply};
@@ -78,7 +78,8 @@ pub fn verdict_is_observability()
 /// A report has a bound for exactly those energised components that aren't observable.
 pub fn short_components_are_unobservable()
     ensures exactly { (t : Tables) → IsValid t → (c : ℕ) →
-        In c (short_components t) ↔ ((c < case_component_count t) × (is_fed t c ≡ true) × (IsObservable t c → ⊥)) }
+        In c (short_components t)
+        ↔ ((c < case_component_count t) × (is_energised_component t c ≡ true) × (IsObservable t c → ⊥)) }
 {}
 
 /// The two numbers of a bound add up to less than the component needs: to the greatest length that an assignment of its

@@ -4,10 +4,10 @@ ghost use Rattle.obs_case.specs.Tables.{Tables};
 ghost use Rattle.obs_io.specs.Causes.{Rose};
 ghost use Rattle.obs_text.specs.Faults.{fault_of};
 ghost use Rattle.obs_engine.specs.Replies.{EndsWith, IsRefused, IsReplied, Reply, fault_reply, usage_reply};
-ghost use Rattle.obs_engine.specs.Taken.{IsUntaken};
+ghost use Rattle.obs_engine.specs.Taken.{IsCaseError};
 
 use crate::status::Status;
-use crate::taken::Untaken;
+use crate::taken::CaseError;
 use obs_io::{Failed, Sink, write_all};
 use obs_report::print_fault;
 use obs_text::InputFault;
@@ -40,24 +40,24 @@ pub(crate) fn refuse<W: Sink>(output: &mut W, fault: InputFault) -> Status
 }
 
 /// Answers files from which nothing was taken. After a failed read, and for want of memory, nothing is written.
-pub(crate) fn refuse_files<W: Sink>(output: &mut W, why: Untaken) -> Status
-    ensures ends { (stated : Result Tables Reply) (reply : Reply) → IsUntaken stated why → IsRefused stated reply
+pub(crate) fn refuse_files<W: Sink>(output: &mut W, why: CaseError) -> Status
+    ensures ends { (stated : Result Tables Reply) (reply : Reply) → IsCaseError stated why → IsRefused stated reply
         → EndsWith reply result (W.written output.old) (W.written output.new) }
     ensures statuses { (result ≡ Status.InputFault) ⊎ (result ≡ Status.ReadFault)
         ⊎ (result ≡ Status.WriteFault) ⊎ (result ≡ Status.NoMemory) }
-    ensures read { result ≡ Status.ReadFault → why ≡ Untaken.Read }
-    ensures unanswered { why ≡ Untaken.Read → result ≡ Status.ReadFault }
+    ensures read { result ≡ Status.ReadFault → why ≡ CaseError.Read }
+    ensures unanswered { why ≡ CaseError.Read → result ≡ Status.ReadFault }
     ensures write { result ≡ Status.WriteFault → Rose (W.faults output.old) (W.faults output.new) }
     ensures quiet { result ≢ Status.WriteFault → W.faults output.new ≡ W.faults output.old }
     ensures memory { result ≡ Status.NoMemory → W.written output.new ≡ W.written output.old }
     ensures unread { result ≡ Status.ReadFault → W.written output.new ≡ W.written output.old }
     ensures room { (stated : Result Tables Reply) (reply : Reply) (rest : ℕ)
-        → IsUntaken stated why → IsRefused stated reply
+        → IsCaseError stated why → IsRefused stated reply
         → W.has_room output.old (length reply.text + rest) → result ≢ Status.WriteFault }
 {
     match why {
-        Untaken::Refused(fault) => refuse(output, fault),
-        Untaken::Read => Status::ReadFault,
-        Untaken::NoMemory => Status::NoMemory,
+        CaseError::Refused(fault) => refuse(output, fault),
+        CaseError::Read => Status::ReadFault,
+        CaseError::NoMemory => Status::NoMemory,
     }
 }

@@ -13,7 +13,7 @@ pub(crate) struct Taken {
 
 /// Why nothing was taken from files.
 #[derive(Clone, Copy, Debug)]
-pub(crate) enum Untaken {
+pub(crate) enum CaseError {
     /// They have this fault, which is the first one.
     Refused(InputFault),
     /// A read failed.

@@ -3,7 +3,7 @@ use Rattle.std.proofs.Common.{◌≡◌, ℕ, ◌<◌, Bool, true, false, Option
 use Rattle.std.proofs.lemmas.Bool.{cases_lt, and_parts, and_from}
 use Rattle.std.proofs.lemmas.List.{get_or_past}
 use Rattle.obs_graph.specs.declared.Ends.{Ends}
-use Rattle.obs_graph.specs.Shape.{Shape}
+use Rattle.obs_graph.specs.Graph.{Graph}
 use Rattle.obs_matroid.specs.Lists.{In}
 use Rattle.obs_matroid.specs.Assignments.{Pair, items, branches, part, IsAssignment}
 use Rattle.obs_matroid.specs.Closed.{IsClosed, HoldsSources, IsLeastClosed, every, none}
@@ -16,7 +16,7 @@ use Rattle.obs_meter.specs.Spanned.{graph_matroid}
 use Rattle.obs_meter.specs.Touches.{every_item, is_live, live_items, touch_at}
 use Rattle.obs_meter.proofs.Assigned.{every-to_live, to_matroid}
 use Rattle.obs_meter.proofs.Touched.{live-from_In}
-use Rattle.obs_assign.specs.Assigned.{Assigned, IsWhole, StandsOver, branch_at, is_frozen, pairs}
+use Rattle.obs_assign.specs.Assignment.{Assignment, IsWhole, StandsOver, branch_at, is_frozen, pairs}
 use Rattle.obs_assign.proofs.Slotted.{item_slot, none_some, slot_item}
 use Rattle.obs_assign.proofs.Standing.{In-every, IsAssignmentAt-standing}
 use Rattle.obs_exchange.specs.declared.Sources.TheVariants.{All}
@@ -36,22 +36,22 @@ pub live-from_live_items : (ends : List (Option Ends)) (touches : List Touch) (m
 live-from_live_items ends touches m i = (In-filter_from (is_live ends touches) m (every_item touches) i).1
 
 -- a meter that is not among the items of the pairs has no branch, and the other way round
-pub bare-from_out : (a : Assigned) (m : ℕ) → (In m (items (pairs a)) → ⊥) → branch_at a m ≡ None
+pub bare-from_out : (a : Assignment) (m : ℕ) → (In m (items (pairs a)) → ⊥) → branch_at a m ≡ None
 bare-from_out a m out = elim (cases_Option (branch_at a m)) [ inl n ↦ n | inr s ↦ absurd (out (slot_item a.slots m s.0 s.1)) ]
 
-pub out-from_bare : (a : Assigned) (m : ℕ) → branch_at a m ≡ None → In m (items (pairs a)) → ⊥
+pub out-from_bare : (a : Assignment) (m : ℕ) → branch_at a m ≡ None → In m (items (pairs a)) → ⊥
 out-from_bare a m n i = let s = item_slot a.slots m i in none_some s.0 (sym n ∙ s.1)
 
 -- an assignment that stands is one of the live meters over the matroid
-pub IsAssignment-live : (n : ℕ) (a : Assigned) (g : Shape) (touches : List Touch) → IsWhole a → StandsOver a g touches → IsAssignment (graph_matroid n g.ends) (touch_at g.ends touches) (live_items g.ends touches) (pairs a)
+pub IsAssignment-live : (n : ℕ) (a : Assignment) (g : Graph) (touches : List Touch) → IsWhole a → StandsOver a g touches → IsAssignment (graph_matroid n g.ends) (touch_at g.ends touches) (live_items g.ends touches) (pairs a)
 IsAssignment-live n a g touches w s =
     to_matroid n g.ends touches (live_items g.ends touches) (pairs a) (every-to_live g.ends touches (pairs a) (IsAssignmentAt-standing a g touches w s))
 
 -- the meters with pairs touch their branches, so they are live
-pub live-from_pair : (a : Assigned) (g : Shape) (touches : List Touch) (p : Pair) → StandsOver a g touches → In p (pairs a) → is_live g.ends touches p.0 ≡ true
+pub live-from_pair : (a : Assignment) (g : Graph) (touches : List Touch) (p : Pair) → StandsOver a g touches → In p (pairs a) → is_live g.ends touches p.0 ≡ true
 live-from_pair a g touches p s i = live-from_In g.ends touches p.0 p.1 (s.touched p.0 p.1 (slot_from a.slots p i))
 
-module _ (n : ℕ) (a : Assigned) (g : Shape) (touches : List Touch) (stands : StandsOver a g touches) where
+module _ (n : ℕ) (a : Assignment) (g : Graph) (touches : List Touch) (stands : StandsOver a g touches) where
   -- a closed set of live meters is closed over the matroid
   pub IsClosed-to_matroid : (M : List ℕ) (S : ℕ → Bool) → IsClosedAt g.ends touches a S → IsClosed (graph_matroid n g.ends) (touch_at g.ends touches) M (is_frozen a) (pairs a) S
   IsClosed-to_matroid M S c = record { spanned = λ m e i t j. c.joined m e t j }

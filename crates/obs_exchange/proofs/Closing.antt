@@ -5,7 +5,7 @@ use Rattle.std.proofs.lemmas.Bool.{cases_lt, cases_Bool, eqb-true, and_parts, an
 use Rattle.std.proofs.lemmas.List.{get_or_past, get_or-take, length-take-le}
 use Rattle.obs_graph.specs.declared.Ends.{Ends}
 use Rattle.obs_graph.specs.Positions.{AreBranches}
-use Rattle.obs_graph.specs.Shape.{Shape}
+use Rattle.obs_graph.specs.Graph.{Graph}
 use Rattle.obs_graph.proofs.Counts.{count_below-le-n}
 use Rattle.obs_matroid.specs.Lists.{In}
 use Rattle.obs_matroid.specs.Assignments.{Pair, items, others}
@@ -20,7 +20,7 @@ use Rattle.obs_meter.proofs.Assigned.{to_matroid}
 use Rattle.obs_meter.proofs.Instance.{IsMatroid-graph}
 use Rattle.obs_meter.proofs.Touched.{live-from_In}
 use Rattle.obs_assign.specs.declared.Move.{Move}
-use Rattle.obs_assign.specs.Assigned.{Assigned, IsWhole, StandsOver, branch_at, has_flag, is_frozen, pairs}
+use Rattle.obs_assign.specs.Assignment.{Assignment, IsWhole, StandsOver, branch_at, has_flag, is_frozen, pairs}
 use Rattle.obs_assign.specs.Pins.{joins}
 use Rattle.obs_assign.proofs.Slotted.{item_slot, none_some, slot_item}
 use Rattle.obs_assign.proofs.Standing.{In-every, IsAssignmentAt-standing}
@@ -37,15 +37,15 @@ abbrev pub source_test : List (Option Ends) → List Touch → Sources → ℕ �
 source_test ends touches All m = is_live ends touches m
 source_test ends touches (One k) m = (m == k) && is_live ends touches m
 
-pub source_passes : (ends : List (Option Ends)) (touches : List Touch) (from : Sources) (a : Assigned) (m : ℕ) → IsSource ends touches from a m → source_test ends touches from m ≡ true
+pub source_passes : (ends : List (Option Ends)) (touches : List Touch) (from : Sources) (a : Assignment) (m : ℕ) → IsSource ends touches from a m → source_test ends touches from m ≡ true
 source_passes ends touches All a m s = s.0
 source_passes ends touches (One k) a m s = and_from (m == k) (is_live ends touches m) (eq-eqb m k s.0) s.1
 
-pub source_from : (ends : List (Option Ends)) (touches : List Touch) (from : Sources) (a : Assigned) (m : ℕ) → source_test ends touches from m ≡ true → branch_at a m ≡ None → IsSource ends touches from a m
+pub source_from : (ends : List (Option Ends)) (touches : List Touch) (from : Sources) (a : Assignment) (m : ℕ) → source_test ends touches from m ≡ true → branch_at a m ≡ None → IsSource ends touches from a m
 source_from ends touches All a m t b = (t, b)
 source_from ends touches (One k) a m t b = let p = and_parts (m == k) (is_live ends touches m) t in (eqb-true m k p.0, p.1, b)
 
-pub source_live : (ends : List (Option Ends)) (touches : List Touch) (from : Sources) (a : Assigned) (m : ℕ) → IsSource ends touches from a m → is_live ends touches m ≡ true
+pub source_live : (ends : List (Option Ends)) (touches : List Touch) (from : Sources) (a : Assignment) (m : ℕ) → IsSource ends touches from a m → is_live ends touches m ≡ true
 source_live ends touches All a m s = s.0
 source_live ends touches (One k) a m s = s.1
 
@@ -53,10 +53,10 @@ slot_none : (o : Option ℕ) → ((e : ℕ) → o ≡ Some e → ⊥) → o ≡ 
 slot_none None h = refl
 slot_none (Some e) h = absurd (h e refl)
 
-pub bare_slot : (a : Assigned) (m : ℕ) → (In m (items (pairs a)) → ⊥) → branch_at a m ≡ None
+pub bare_slot : (a : Assignment) (m : ℕ) → (In m (items (pairs a)) → ⊥) → branch_at a m ≡ None
 bare_slot a m out = slot_none (branch_at a m) (λ e h. out (slot_item a.slots m e h))
 
-pub bare_item : (a : Assigned) (m : ℕ) → branch_at a m ≡ None → In m (items (pairs a)) → ⊥
+pub bare_item : (a : Assignment) (m : ℕ) → branch_at a m ≡ None → In m (items (pairs a)) → ⊥
 bare_item a m b i = let h = item_slot a.slots m i in none_some h.0 (sym b ∙ h.1)
 
 -- a live meter is one of the list
@@ -70,7 +70,7 @@ live_low ends touches m t = elim (cases_lt m (length touches)) [
     none_live ends touches m l t = let e = get_or_past touches m Nothing l in cc (rw e at t)
 
 -- the sources that were looked at are all
-pub all_marked : (ends : List (Option Ends)) (touches : List Touch) (from : Sources) (a : Assigned) (marks : List Bool)
+pub all_marked : (ends : List (Option Ends)) (touches : List Touch) (from : Sources) (a : Assignment) (marks : List Bool)
     → AreMarked ends touches from a marks (first_of from) (end_of from (length touches)) → HoldsSourcesAt ends touches from a (has_flag marks)
 all_marked ends touches All a marks h m s = h m (omega arith) (live_low ends touches m s.0) s
 all_marked ends touches (One k) a marks h m s = let e = s.0 in h m (omega (arith, e)) (omega (arith, e)) s
@@ -118,7 +118,7 @@ pub from_led : (parents : List (Option Move)) (x : ℕ) → root_at parents x �
 unfolding root_at
 from_led parents x t = is_led (parent_at parents x) t
 
-module _ (g : Shape) (touches : List Touch) (from : Sources) (a : Assigned)
+module _ (g : Graph) (touches : List Touch) (from : Sources) (a : Assignment)
     (marks : List Bool) (parents : List (Option Move)) (queue : List ℕ) (tail head : ℕ) (walked : List Bool)
     (s : IsSearching g.ends touches from a marks parents queue tail head walked) where
   -- the entries of the queue are meters
@@ -163,7 +163,7 @@ module _ (g : Shape) (touches : List Touch) (from : Sources) (a : Assigned)
         live-from_In g.ends touches x b.0 (stands.touched x b.0 b.1)
   ]
 
-module _ (g : Shape) (touches : List Touch) (from : Sources) (a : Assigned) (ok : AreBranches g.vertices g.ends) (whole : IsWhole a) (stands : StandsOver a g touches) where
+module _ (g : Graph) (touches : List Touch) (from : Sources) (a : Assignment) (ok : AreBranches g.vertices g.ends) (whole : IsWhole a) (stands : StandsOver a g touches) where
   to_closed : (S : ℕ → Bool) → IsClosedAt g.ends touches a S → IsClosed (graph_matroid g.vertices g.ends) (touch_at g.ends touches) (every_item touches) (is_frozen a) (pairs a) S
   to_closed S c = record { spanned = λ m e i t k. c.joined m e t k }
 
@@ -215,7 +215,7 @@ module _ (g : Shape) (touches : List Touch) (from : Sources) (a : Assigned) (ok 
         subst (λ S. IsLeastClosedAt g.ends touches from a S) same least_marked
 
 -- the flags of a closed search
-pub HasClosed-flags : (g : Shape) (touches : List Touch) (from : Sources) (a : Assigned) → AreBranches g.vertices g.ends → IsWhole a → StandsOver a g touches
+pub HasClosed-flags : (g : Graph) (touches : List Touch) (from : Sources) (a : Assignment) → AreBranches g.vertices g.ends → IsWhole a → StandsOver a g touches
     → (marks : List Bool) (n : ℕ) → n ≡ length touches → length touches ≤ length marks
     → IsLeastClosedAt g.ends touches from a (has_flag (take (length touches) marks)) → HasClosed g.ends touches from a a (take n marks)
 HasClosed-flags g touches from a ok whole stands marks n is l least =

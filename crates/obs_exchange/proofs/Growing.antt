@@ -3,7 +3,7 @@ use Rattle.std.proofs.Common.{◌≡◌, ℕ, ◌+◌, ◌<◌, false, Option, S
 use Rattle.std.proofs.lemmas.List.{get_or-set_other, get_or-set_same}
 use Rattle.obs_graph.specs.declared.Ends.{Ends}
 use Rattle.obs_graph.specs.Positions.{AreBranches}
-use Rattle.obs_graph.specs.Shape.{Shape}
+use Rattle.obs_graph.specs.Graph.{Graph}
 use Rattle.obs_matroid.specs.Lists.{In, other_than}
 use Rattle.obs_matroid.specs.Assignments.{branches, others, part}
 use Rattle.obs_matroid.proofs.Contained.{In-from_All}
@@ -12,7 +12,7 @@ use Rattle.obs_matroid.proofs.Pairs.{In-part_from, branches_within}
 use Rattle.obs_meter.specs.declared.Touch.{Touch}
 use Rattle.obs_meter.specs.Spanned.{ends_at}
 use Rattle.obs_assign.specs.declared.Move.{Move}
-use Rattle.obs_assign.specs.Assigned.{Assigned, IsWhole, StandsOver, branch_at, is_frozen, pairs}
+use Rattle.obs_assign.specs.Assignment.{Assignment, IsWhole, StandsOver, branch_at, is_frozen, pairs}
 use Rattle.obs_assign.specs.Moves.{ArePath, moved, turned}
 use Rattle.obs_assign.proofs.Free.{ArePath-one, IsAssignmentAt-free}
 use Rattle.obs_assign.proofs.Moving.{moved-some}
@@ -33,7 +33,7 @@ has_some : (o : Option ℕ) → (o ≡ None → ⊥) → (e : ℕ) × (o ≡ Som
 has_some None n = absurd (n refl)
 has_some (Some e) n = (e, refl)
 
-module _ (ends : List (Option Ends)) (touches : List Touch) (from : Sources) (a b : Assigned) (whole : IsWhole a) where
+module _ (ends : List (Option Ends)) (touches : List Touch) (from : Sources) (a b : Assignment) (whole : IsWhole a) where
   -- the moves give a source a pair, and no meter loses its own
   pub HasGrown-path : (path : List Move) (m : ℕ) → m ≡ (get_or path 0 (record { meter = 0; branch = 0 })).meter → ArePath a path → BeginsAtSource ends touches from a path
       → b.slots ≡ moved path a.slots → b.frozen ≡ a.frozen → length (pairs b) ≡ length (pairs a) + 1 → b.turns ≡ turned a.turns → HasGrown ends touches from a b m
@@ -59,7 +59,7 @@ module _ (ends : List (Option Ends)) (touches : List Touch) (from : Sources) (a 
       low y i = In-from_All (λ (z : Move). z.meter < length a.slots) (x ∷ path) p.low y i
 
 -- a source takes a free branch
-pub IsReady-one : (a : Assigned) (g : Shape) (touches : List Touch) (from : Sources) (x : Move) → AreBranches g.vertices g.ends → IsWhole a → StandsOver a g touches → x.meter < length touches
+pub IsReady-one : (a : Assignment) (g : Graph) (touches : List Touch) (from : Sources) (x : Move) → AreBranches g.vertices g.ends → IsWhole a → StandsOver a g touches → x.meter < length touches
     → IsSource g.ends touches from a x.meter → IsFreeFor g.ends touches a x.meter x.branch → IsReady g.ends touches from a (x ∷ [])
 IsReady-one a g touches from x ok whole stands low source free =
     let l : x.meter < length a.slots = let s = stands.meters in omega (arith, s, low) in

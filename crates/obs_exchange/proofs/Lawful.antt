@@ -4,7 +4,7 @@ use Rattle.std.specs.Prelude.{filter}
 use Rattle.std.proofs.lemmas.Bool.{and_from, and_parts, cases_Bool, not-true}
 use Rattle.obs_graph.specs.declared.Ends.{Ends}
 use Rattle.obs_graph.specs.Positions.{AreBranches}
-use Rattle.obs_graph.specs.Shape.{Shape}
+use Rattle.obs_graph.specs.Graph.{Graph}
 use Rattle.obs_matroid.specs.Lists.{In, IsDistinct, without}
 use Rattle.obs_matroid.specs.Assignments.{Pair, items, part}
 use Rattle.obs_matroid.specs.Closed.{Extends}
@@ -25,7 +25,7 @@ use Rattle.obs_meter.specs.Spanned.{graph_matroid}
 use Rattle.obs_meter.specs.Touches.{every_item, is_live, live_items, touch_at}
 use Rattle.obs_meter.proofs.Assigned.{every-to_live, live_items-distinct, rho-from_matroid, rho-to_matroid, to_matroid}
 use Rattle.obs_meter.proofs.Instance.{IsMatroid-graph}
-use Rattle.obs_assign.specs.Assigned.{Assigned, IsWhole, StandsOver, branch_at, is_frozen, pairs}
+use Rattle.obs_assign.specs.Assignment.{Assignment, IsWhole, StandsOver, branch_at, is_frozen, pairs}
 use Rattle.obs_assign.proofs.Slotted.{item_slot, none_some, slot_item}
 use Rattle.obs_assign.proofs.Standing.{IsAssignmentAt-standing}
 use Rattle.obs_exchange.specs.declared.Found.{Found}
@@ -81,7 +81,7 @@ module _ (n : ℕ) (ends : List (Option Ends)) (touches : List Touch) (ok : AreB
           (tight_outside (graph_matroid n ends) (IsMatroid-graph n ends ok) (touch_at ends touches) M J d (rho-to_matroid n ends touches M (bound_at n ends touches J M) t) m i f)))
     ]
 
-module _ (a : Assigned) (g : Shape) (touches : List Touch) (S : ℕ → Bool) (h : HasClosedSet a g touches S) where
+module _ (a : Assignment) (g : Graph) (touches : List Touch) (S : ℕ → Bool) (h : HasClosedSet a g touches S) where
   -- no assignment that has the frozen pairs is longer
   pub frozen_longest : (B : List Pair) → IsAssignmentAt g.ends touches (every_item touches) B → Extends (is_frozen a) (pairs a) B → length B ≤ length (pairs a)
   frozen_longest B b e =
@@ -161,7 +161,7 @@ module _ (a : Assigned) (g : Shape) (touches : List Touch) (S : ℕ → Bool) (h
           (IsAssignment-live n a g touches h.whole h.stands) c.closed c.holds B (to_matroid n g.ends touches M B (every-to_live g.ends touches B b))
 
 -- an assignment that has grown adds a source
-pub AddsSource-grown : (a b : Assigned) (g : Shape) (touches : List Touch) (from : Sources) (m : ℕ) → IsWhole b → StandsOver b g touches → HasGrown g.ends touches from a b m → AddsSource g.ends touches from a (pairs b)
+pub AddsSource-grown : (a b : Assignment) (g : Graph) (touches : List Touch) (from : Sources) (m : ℕ) → IsWhole b → StandsOver b g touches → HasGrown g.ends touches from a b m → AddsSource g.ends touches from a (pairs b)
 AddsSource-grown a b g touches from m whole stands h = record {
   assigns = IsAssignmentAt-standing b g touches whole stands;
   extends = λ p i f. slot_at b.slots p.0 p.1 (h.frozen_pairs p.0 f ∙ slot_from a.slots p i);
@@ -174,7 +174,7 @@ AddsSource-grown a b g touches from m whole stands h = record {
     paired : (x : ℕ) → branch_at b x ≢ None → In x (items (pairs b))
     paired x n = elim (cases_Option (branch_at b x)) [ inl e ↦ absurd (n e) | inr s ↦ slot_item b.slots x s.0 s.1 ]
 
-pub Closed-exactly : (a b : Assigned) (g : Shape) (touches : List Touch) (from : Sources) (flags : List Bool) (answer : Found) → IsWhole b → StandsOver b g touches → IsFound g.ends touches from a b flags answer
+pub Closed-exactly : (a b : Assignment) (g : Graph) (touches : List Touch) (from : Sources) (flags : List Bool) (answer : Found) → IsWhole b → StandsOver b g touches → IsFound g.ends touches from a b flags answer
     → (answer ≡ Closed) ↔ ((B : List Pair) → AddsSource g.ends touches from a B → ⊥)
 Closed-exactly a b g touches from flags (Grown m) whole stands h =
     ((λ e. absurd (cc e)), (λ out. absurd (out (pairs b) (AddsSource-grown a b g touches from m whole stands h))))

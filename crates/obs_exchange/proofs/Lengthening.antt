@@ -3,7 +3,7 @@ use Rattle.std.proofs.Common.{◌≡◌, ◌≢◌, ℕ, zero, suc, ◌+◌, ◌
 use Rattle.std.proofs.lemmas.Bool.{cases_Bool}
 use Rattle.std.specs.Prelude.{MatchBool}
 use Rattle.obs_graph.specs.Positions.{AreBranches, ends_of}
-use Rattle.obs_graph.specs.Shape.{Shape}
+use Rattle.obs_graph.specs.Graph.{Graph}
 use Rattle.obs_graph.specs.Joined.{rank}
 use Rattle.obs_graph.specs.declared.Ends.{Ends}
 use Rattle.obs_graph.proofs.Ranks.{rank-below, rank-le-n}
@@ -15,7 +15,7 @@ use Rattle.obs_meter.specs.Spanned.{graph_matroid}
 use Rattle.obs_meter.proofs.Instance.{IsMatroid-graph}
 use Rattle.obs_meter.specs.declared.Touch.{Touch}
 use Rattle.obs_meter.specs.Sizes.{HasRoomFor, Sizes}
-use Rattle.obs_assign.specs.Assigned.{Assigned, HasRoomOf, IsWhole, StandsOver, branch_at, has_flag, is_frozen, pairs}
+use Rattle.obs_assign.specs.Assignment.{Assignment, HasRoomOf, IsWhole, StandsOver, branch_at, has_flag, is_frozen, pairs}
 use Rattle.obs_assign.specs.Moves.{turned}
 use Rattle.obs_exchange.specs.declared.Sources.TheVariants.{All}
 use Rattle.obs_exchange.specs.Found.{HasClosed, HasGrown}
@@ -24,15 +24,15 @@ use Rattle.obs_exchange.specs.Lengthened.{HasLengthened}
 use Rattle.obs_exchange.proofs.AtGraph.{IsAssignment-live}
 
 -- the same room twice over
-pub rooms : (a b c : Assigned) → HasRoomOf a b → HasRoomOf b c → HasRoomOf a c
+pub rooms : (a b c : Assignment) → HasRoomOf a b → HasRoomOf b c → HasRoomOf a c
 rooms a b c h k = record { meters = k.meters ∙ h.meters; vertices = k.vertices ∙ h.vertices; branches = k.branches ∙ h.branches }
 
 -- there is still room where the sizes are the same
-pub room_again : (g : Shape) (touches : List Touch) (s t : Sizes) → t ≡ s → HasRoomFor s g touches → HasRoomFor t g touches
+pub room_again : (g : Graph) (touches : List Touch) (s t : Sizes) → t ≡ s → HasRoomFor s g touches → HasRoomFor t g touches
 room_again g touches s t e r = subst (λ (x : Sizes). HasRoomFor x g touches) (sym e) r
 
 -- between two searches, which began with the assignment a: each one found a pair
-pub record IsLengthening (g : Shape) (touches : List Touch) (a b : Assigned) (searches : ℕ) : Type 0 where
+pub record IsLengthening (g : Graph) (touches : List Touch) (a b : Assignment) (searches : ℕ) : Type 0 where
   pub stands : StandsOver b g touches
   pub keeps : (m : ℕ) → branch_at a m ≢ None → branch_at b m ≢ None
   pub frozen : b.frozen ≡ a.frozen
@@ -43,7 +43,7 @@ pub record IsLengthening (g : Shape) (touches : List Touch) (a b : Assigned) (se
   pub none : searches ≡ 0 → b ≡ a
   pub same_room : HasRoomOf a b
 
-pub Lengthening-begun : (g : Shape) (touches : List Touch) (a : Assigned) → StandsOver a g touches → IsLengthening g touches a a 0
+pub Lengthening-begun : (g : Graph) (touches : List Touch) (a : Assignment) → StandsOver a g touches → IsLengthening g touches a a 0
 Lengthening-begun g touches a stands = record {
   stands = stands;
   keeps = λ m some. some;
@@ -59,7 +59,7 @@ Lengthening-begun g touches a stands = record {
 turned-rises : (t : ℕ) → t < 2 ^ 64 → (t ≤ turned t) × (turned t ≤ t + 1)
 turned-rises t low = (grind arith, grind arith)
 
-module _ (g : Shape) (touches : List Touch) (a b c : Assigned) (searches : ℕ) (h : IsLengthening g touches a b searches) where
+module _ (g : Graph) (touches : List Touch) (a b c : Assignment) (searches : ℕ) (h : IsLengthening g touches a b searches) where
   -- one search more found a pair
   pub Lengthening-more : b.turns < 2 ^ 64 → StandsOver c g touches → HasRoomOf b c → (m : ℕ) → HasGrown g.ends touches All b c m → IsLengthening g touches a c (searches + 1)
   Lengthening-more low stands room m k =
@@ -78,7 +78,7 @@ module _ (g : Shape) (touches : List Touch) (a b c : Assigned) (searches : ℕ) 
 
   -- one search more found a closed set
   pub Lengthened-closed : (flags : List Bool) → HasClosed g.ends touches All b c flags → HasLengthened a c (searches + 1)
-  Lengthened-closed flags k = subst (λ (d : Assigned). HasLengthened a d (searches + 1)) (sym k.same) (record {
+  Lengthened-closed flags k = subst (λ (d : Assignment). HasLengthened a d (searches + 1)) (sym k.same) (record {
     keeps = h.keeps;
     frozen = h.frozen;
     frozen_pairs = h.frozen_pairs;
@@ -102,15 +102,15 @@ module _ (g : Shape) (touches : List Touch) (a b c : Assigned) (searches : ℕ) 
   }
 
 -- a search that changed nothing left a closed set of what is there
-pub Closed-again : (g : Shape) (touches : List Touch) (b c : Assigned) (flags : List Bool) → HasClosed g.ends touches All b c flags → HasClosed g.ends touches All c c flags
-Closed-again g touches b c flags k = subst (λ (d : Assigned). HasClosed g.ends touches All d c flags) (sym k.same) k
+pub Closed-again : (g : Graph) (touches : List Touch) (b c : Assignment) (flags : List Bool) → HasClosed g.ends touches All b c flags → HasClosed g.ends touches All c c flags
+Closed-again g touches b c flags k = subst (λ (d : Assignment). HasClosed g.ends touches All d c flags) (sym k.same) k
 
 -- what is frozen afterwards was frozen before
-pub thawed-lengthened : (a b : Assigned) (searches : ℕ) → HasLengthened a b searches → IsThawed a → IsThawed b
+pub thawed-lengthened : (a b : Assignment) (searches : ℕ) → HasLengthened a b searches → IsThawed a → IsThawed b
 thawed-lengthened a b searches h thawed m = ap (λ (f : List Bool). has_flag f m) h.frozen ∙ thawed m
 
 -- without a pair nothing is frozen
-pub bare-thawed : (a : Assigned) → IsWhole a → pairs a ≡ [] → IsThawed a
+pub bare-thawed : (a : Assignment) → IsWhole a → pairs a ≡ [] → IsThawed a
 bare-thawed a whole none m =
     elim (cases_Bool (is_frozen a m)) [
       | inr f ↦ f
@@ -118,12 +118,12 @@ bare-thawed a whole none m =
     ]
 
 -- the closed set with what is true of the pairs
-pub closed_set : (g : Shape) (touches : List Touch) (a : Assigned) (flags : List Bool) → AreBranches g.vertices g.ends → IsWhole a → StandsOver a g touches
+pub closed_set : (g : Graph) (touches : List Touch) (a : Assignment) (flags : List Bool) → AreBranches g.vertices g.ends → IsWhole a → StandsOver a g touches
     → HasClosed g.ends touches All a a flags → HasClosedSet a g touches (has_flag flags)
 closed_set g touches a flags ok whole stands k = record { branches = ok; whole = whole; stands = stands; least = k.least }
 
 -- fewer pairs than vertices, where there are any
-pub pairs-below_vertices : (g : Shape) (touches : List Touch) (a : Assigned) → AreBranches g.vertices g.ends → IsWhole a → StandsOver a g touches → length (pairs a) ≤ g.vertices - 1
+pub pairs-below_vertices : (g : Graph) (touches : List Touch) (a : Assignment) → AreBranches g.vertices g.ends → IsWhole a → StandsOver a g touches → length (pairs a) ≤ g.vertices - 1
 pairs-below_vertices g touches a ok whole stands =
     let n = g.vertices in
     let mat = graph_matroid n g.ends in
@@ -138,7 +138,7 @@ pairs-below_vertices g touches a ok whole stands =
     rank-few (suc n) es = omega (arith, rank-below n es)
 
 -- no network has 4294967295 pairs: asked for so many, the searches end with a closed set
-pub closed_at_last : (g : Shape) (touches : List Touch) (a : Assigned) (flags : List Bool) (closed : Bool) → AreBranches g.vertices g.ends → IsWhole a → StandsOver a g touches → g.vertices ≤ 4294967295
+pub closed_at_last : (g : Graph) (touches : List Touch) (a : Assignment) (flags : List Bool) (closed : Bool) → AreBranches g.vertices g.ends → IsWhole a → StandsOver a g touches → g.vertices ≤ 4294967295
     → MatchBool closed (HasClosed g.ends touches All a a flags) (4294967295 ≤ length (pairs a)) → HasClosed g.ends touches All a a flags
 closed_at_last g touches a flags true ok whole stands low k = k
 closed_at_last g touches a flags false ok whole stands low k = let few = pairs-below_vertices g touches a ok whole stands in absurd (omega (arith, few, low, k))

@@ -12,7 +12,7 @@ use Rattle.obs_matroid.proofs.Exchange.{part_out}
 use Rattle.obs_meter.specs.declared.Touch.{Touch}
 use Rattle.obs_meter.specs.Touches.{touch_at}
 use Rattle.obs_assign.specs.declared.Move.{Move}
-use Rattle.obs_assign.specs.Assigned.{Assigned, has_flag, is_frozen, pairs}
+use Rattle.obs_assign.specs.Assignment.{Assignment, has_flag, is_frozen, pairs}
 use Rattle.obs_assign.specs.Pins.{joins}
 use Rattle.obs_exchange.specs.declared.Sources.{Sources}
 use Rattle.obs_exchange.specs.Closed.{IsSource}
@@ -64,7 +64,7 @@ has_pair ends A x e t f = elim (cases_In x (items A)) [
   | inr out ↦ clash t (subst (λ (B : List Pair). joins ends (branches B) e ≡ false) (part_out x A out) f)
 ]
 
-module _ (ends : List (Option Ends)) (touches : List Touch) (from : Sources) (a : Assigned)
+module _ (ends : List (Option Ends)) (touches : List Touch) (from : Sources) (a : Assignment)
     (marks : List Bool) (parents : List (Option Move)) (queue : List ℕ) (tail head : ℕ) (walked : List Bool)
     (s : IsSearching ends touches from a marks parents queue tail head walked) where
   -- what is needed of a branch of the meter at the head, for it to lead to x
@@ -265,7 +265,7 @@ module _ (ends : List (Option Ends)) (touches : List Touch) (from : Sources) (a 
       IsSearching-push = subst (λ t. IsSearching ends touches from a (set marks x true) (set parents x o) (set queue tail x) t head walked) (sym (add-one tail)) IsSearching-suc
 
 -- a meter that the visited one leads to
-module _ (ends : List (Option Ends)) (touches : List Touch) (from : Sources) (a : Assigned)
+module _ (ends : List (Option Ends)) (touches : List Touch) (from : Sources) (a : Assignment)
     (marks : List Bool) (parents : List (Option Move)) (queue : List ℕ) (tail head : ℕ) (walked : List Bool) where
   module _ (x : ℕ) (p : Move) (v : IsVisiting ends touches from a marks parents queue tail head walked p.meter) where
     pub visiting_room : x < length touches → has_flag marks x ≡ false → tail < length queue

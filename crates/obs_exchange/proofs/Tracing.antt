@@ -2,7 +2,7 @@
 use Rattle.std.proofs.Common.{◌≡◌, ◌≢◌, ℕ, zero, suc, ◌+◌, ◌<◌, ◌≤◌, Bool, true, false, Option, Some, None, List, [], ◌∷◌, length, get_or, set, drop, map, refl, sym, ap, ◌∙◌, subst, inl, inr, ◌⊎◌, arith, length-set}
 use Rattle.std.specs.Prelude.{AllPairs}
 use Rattle.obs_graph.specs.Positions.{AreBranches}
-use Rattle.obs_graph.specs.Shape.{Shape}
+use Rattle.obs_graph.specs.Graph.{Graph}
 use Rattle.obs_matroid.specs.Lists.{In, IsDistinct, other_than}
 use Rattle.obs_matroid.specs.Assignments.{Pair, items}
 use Rattle.obs_matroid.specs.Exchange.{put, put_all}
@@ -21,7 +21,7 @@ use Rattle.obs_meter.specs.Touches.{every_item, touch_at}
 use Rattle.obs_meter.proofs.Assigned.{from_matroid, to_matroid}
 use Rattle.obs_meter.proofs.Instance.{IsMatroid-graph}
 use Rattle.obs_assign.specs.declared.Move.{Move}
-use Rattle.obs_assign.specs.Assigned.{Assigned, IsWhole, StandsOver, branch_at, has_flag, is_frozen, pairs}
+use Rattle.obs_assign.specs.Assignment.{Assignment, IsWhole, StandsOver, branch_at, has_flag, is_frozen, pairs}
 use Rattle.obs_assign.specs.Moves.{IsPath, moved}
 use Rattle.obs_assign.proofs.Moving.{moved_pairs, pair_of}
 use Rattle.obs_assign.proofs.Slotted.{item_slot, none_some}
@@ -129,7 +129,7 @@ drop_set (y ∷ path) (suc k) x l = drop_set path k x (omega (arith, l))
 pub drop_last : (path : List Move) (k : ℕ) (x : Move) → suc k ≡ length path → drop k (set path k x) ≡ x ∷ []
 drop_last path k x l = drop_set path k x (omega (arith, l)) ∙ ap (λ xs. x ∷ xs) (drop_past path (suc k) (omega (arith, l)))
 
-module _ (g : Shape) (touches : List Touch) (from : Sources) (a : Assigned)
+module _ (g : Graph) (touches : List Touch) (from : Sources) (a : Assignment)
     (marks : List Bool) (parents : List (Option Move)) (queue : List ℕ) (tail : ℕ) (walked : List Bool) (last : Move) where
   -- the moves back from x, by the parents
   pub way : ℕ → ℕ → List Pair

@@ -10,20 +10,20 @@ use Rattle.obs_matroid.proofs.Lists.{clash}
 use Rattle.obs_meter.specs.declared.Touch.{Touch}
 use Rattle.obs_meter.specs.Touches.{touch_at}
 use Rattle.obs_assign.specs.declared.Move.{Move}
-use Rattle.obs_assign.specs.Assigned.{Assigned, has_flag}
+use Rattle.obs_assign.specs.Assignment.{Assignment, has_flag}
 use Rattle.obs_exchange.specs.declared.Sources.{Sources}
 use Rattle.obs_exchange.specs.Searching.{AreStarred, IsSearching, IsVisiting, Keeps}
 use Rattle.obs_exchange.proofs.Queued.{flag-from}
 
 -- the first k branches of the visited meter were walked
-pub record IsTouching (ends : List (Option Ends)) (touches : List Touch) (from : Sources) (a : Assigned) (before before_walked : List Bool)
+pub record IsTouching (ends : List (Option Ends)) (touches : List Touch) (from : Sources) (a : Assignment) (before before_walked : List Bool)
     (marks : List Bool) (parents : List (Option Move)) (queue : List ℕ) (tail head : ℕ) (walked : List Bool) (m : ℕ) (touched : List ℕ) (k : ℕ) : Type 0 where
   pub visiting : IsVisiting ends touches from a marks parents queue tail head walked m
   pub done : (i : ℕ) → i < k → has_flag walked (get_or touched i 0) ≡ true
   pub keeps : Keeps before marks
   pub keeps_walked : Keeps before_walked walked
 
-module _ (ends : List (Option Ends)) (touches : List Touch) (from : Sources) (a : Assigned) (before before_walked : List Bool)
+module _ (ends : List (Option Ends)) (touches : List Touch) (from : Sources) (a : Assignment) (before before_walked : List Bool)
     (marks : List Bool) (parents : List (Option Move)) (queue : List ℕ) (tail head : ℕ) (walked : List Bool) (m : ℕ) (touched : List ℕ) (k : ℕ)
     (t : IsTouching ends touches from a before before_walked marks parents queue tail head walked m touched k) where
   pub Touching-more : (new_marks : List Bool) (new_parents : List (Option Move)) (new_queue : List ℕ) (new_tail : ℕ) (new_walked : List Bool)
@@ -58,7 +58,7 @@ flag_cleared (suc n) zero = refl
 flag_cleared (suc n) (suc k) = flag_cleared n k
 
 -- nothing is marked, and nothing waits
-pub IsSearching-none : (ends : List (Option Ends)) (touches : List Touch) (from : Sources) (a : Assigned) (marks : List Bool) (parents : List (Option Move)) (queue : List ℕ) (walked : List Bool)
+pub IsSearching-none : (ends : List (Option Ends)) (touches : List Touch) (from : Sources) (a : Assignment) (marks : List Bool) (parents : List (Option Move)) (queue : List ℕ) (walked : List Bool)
     → length touches ≤ length marks → length touches ≤ length parents → length touches ≤ length queue
     → ((k : ℕ) → has_flag marks k ≡ false) → ((k : ℕ) → has_flag walked k ≡ false) → IsSearching ends touches from a marks parents queue 0 0 walked
 IsSearching-none ends touches from a marks parents queue walked lm lp lq none none_walked = record {

@@ -7,7 +7,7 @@ use Rattle.obs_graph.specs.declared.Ends.{Ends}
 use Rattle.obs_graph.specs.Joined.{first_joined, is_joined}
 use Rattle.obs_graph.specs.Positions.{ends_of, present}
 use Rattle.obs_graph.specs.Search.{IsPart}
-use Rattle.obs_graph.specs.Shape.{Shape}
+use Rattle.obs_graph.specs.Graph.{Graph}
 use Rattle.obs_graph.proofs.AtPositions.{contains-ends_of, ends_of-contains}
 use Rattle.obs_graph.proofs.Forests.{same_first-among}
 use Rattle.obs_graph.proofs.IsJoined.{same-from_true, apart-from_false, false-from_apart}
@@ -27,7 +27,7 @@ use Rattle.obs_forest.specs.Cycle.{without}
 use Rattle.obs_forest.proofs.Attaching.{without-some}
 use Rattle.obs_forest.proofs.Without.{other_present}
 use Rattle.obs_assign.specs.declared.Move.{Move}
-use Rattle.obs_assign.specs.Assigned.{Assigned, IsWhole, StandsOver, branch_at, has_flag, is_frozen, pairs}
+use Rattle.obs_assign.specs.Assignment.{Assignment, IsWhole, StandsOver, branch_at, has_flag, is_frozen, pairs}
 use Rattle.obs_assign.specs.Pins.{joins}
 use Rattle.obs_assign.proofs.Paths.{apart-pairs, apart_ends, ends_are, held_at, joined-pairs, joins-from}
 use Rattle.obs_assign.proofs.Slotted.{branch_slot, item_slot, slot_branch, slots_apart, some_same}
@@ -36,7 +36,7 @@ use Rattle.obs_exchange.specs.Closed.{IsSource}
 use Rattle.obs_exchange.specs.Searching.{IsNeededOf, IsParent, IsSearching, IsVisiting, IsWalked, parent_at, place_in}
 use Rattle.obs_exchange.proofs.Queued.{eqb_false, flag-kept, flag-from}
 
-module _ (ends : List (Option Ends)) (touches : List Touch) (from : Sources) (a : Assigned)
+module _ (ends : List (Option Ends)) (touches : List Touch) (from : Sources) (a : Assignment)
     (marks : List Bool) (parents : List (Option Move)) (queue : List ℕ) (tail head : ℕ) (walked : List Bool) where
   -- the flag of a walked branch is set
   pub IsSearching-walked : (e : ℕ) → IsSearching ends touches from a marks parents queue tail head walked → e < length walked → IsWalked ends a marks e
@@ -100,7 +100,7 @@ module _ (ends : List (Option Ends)) (touches : List Touch) (from : Sources) (a 
       parent_of : (y : ℕ) (q : Move) → has_flag marks y ≡ true → parent_at parents y ≡ Some q → IsParent ends touches a marks (place_in queue tail) head y q
       parent_of y q t e = subst (λ r. MatchOption r (IsSource ends touches from a y) (λ p. IsParent ends touches a marks (place_in queue tail) head y p)) e (v.searching.origins y t)
 
-module _ (a : Assigned) (g : Shape) (touches : List Touch) (whole : IsWhole a) (stands : StandsOver a g touches) where
+module _ (a : Assignment) (g : Graph) (touches : List Touch) (whole : IsWhole a) (stands : StandsOver a g touches) where
   in_others : (x y e : ℕ) → branch_at a y ≡ Some e → (y ≡ x → ⊥) → In e (others (pairs a) x)
   in_others x y e h n = In-branches (part (other_than x) (pairs a)) (y, e) (In-part (other_than x) (pairs a) (y, e) (slot_at a.slots y e h) (other_true x y n))
 
@@ -163,7 +163,7 @@ module _ (a : Assigned) (g : Shape) (touches : List Touch) (whole : IsWhole a) (
     }
 
 -- whether a branch is free, by the pieces of its ends
-pub free_is : (a : Assigned) (ends : List (Option Ends)) (e : ℕ) (u : Ends) (p q : ℕ) → IsWhole a → IsPart a.forest.held ends → get_or ends e None ≡ Some u
+pub free_is : (a : Assignment) (ends : List (Option Ends)) (e : ℕ) (u : Ends) (p q : ℕ) → IsWhole a → IsPart a.forest.held ends → get_or ends e None ≡ Some u
     → p ≡ first_joined (present a.forest.held) u.a → q ≡ first_joined (present a.forest.held) u.b → joins ends (branches (pairs a)) e ≡ not (not (p == q))
 free_is a ends e u p q whole part is ps qs = elim (cases_eq (first_joined (present a.forest.held) u.a) (first_joined (present a.forest.held) u.b)) [
   | inl s ↦ joins-from ends (branches (pairs a)) e u is (joined-pairs ends a.slots a.forest.held part whole.paired.holds u.a u.b s)

@@ -8,7 +8,7 @@ use Rattle.obs_meter.specs.declared.Touch.{Touch}
 use Rattle.obs_meter.specs.Assignments.{IsAssignmentAt}
 use Rattle.obs_meter.specs.Sizes.{Sizes}
 use Rattle.obs_meter.specs.Touches.{every_item}
-use Rattle.obs_assign.specs.Assigned.{Assigned, branch_at, has_flag, is_frozen, pairs}
+use Rattle.obs_assign.specs.Assignment.{Assignment, branch_at, has_flag, is_frozen, pairs}
 use Rattle.obs_assign.specs.Moves.{turned}
 use Rattle.obs_exchange.specs.declared.Found.{Found}
 use Rattle.obs_exchange.specs.declared.Found.TheVariants.{Grown, Closed}
@@ -17,12 +17,12 @@ use Rattle.obs_exchange.specs.declared.Sources.TheVariants.{All, One}
 use Rattle.obs_exchange.specs.Closed.{IsLeastClosedAt, IsSource}
 
 -- the one meter that is asked for is one that has no pair
-abbrev pub CanBegin : Sources → Assigned → Type 0
+abbrev pub CanBegin : Sources → Assignment → Type 0
 CanBegin All a = Unit {0}
 CanBegin (One m) a = (m < length a.slots) × (branch_at a m ≡ None)
 
 -- a grew to b by one pair: the source m has a pair now, no meter lost its pair, and the frozen pairs are as before
-pub record HasGrown (ends : List (Option Ends)) (touches : List Touch) (from : Sources) (a b : Assigned) (m : ℕ) : Type 0 where
+pub record HasGrown (ends : List (Option Ends)) (touches : List Touch) (from : Sources) (a b : Assignment) (m : ℕ) : Type 0 where
   pub source : IsSource ends touches from a m
   pub gains : branch_at b m ≢ None
   pub keeps : (x : ℕ) → branch_at a x ≢ None → branch_at b x ≢ None
@@ -32,7 +32,7 @@ pub record HasGrown (ends : List (Option Ends)) (touches : List Touch) (from : S
   pub turns : b.turns ≡ turned a.turns
 
 -- an assignment B of the meters extends the frozen pairs of a, gives each meter that has a pair in a a branch, and adds a source
-pub record AddsSource (ends : List (Option Ends)) (touches : List Touch) (from : Sources) (a : Assigned) (B : List Pair) : Type 0 where
+pub record AddsSource (ends : List (Option Ends)) (touches : List Touch) (from : Sources) (a : Assignment) (B : List Pair) : Type 0 where
   pub assigns : IsAssignmentAt ends touches (every_item touches) B
   pub extends : Extends (is_frozen a) (pairs a) B
   pub keeps : (x : ℕ) → In x (items (pairs a)) → In x (items B)
@@ -41,18 +41,18 @@ pub record AddsSource (ends : List (Option Ends)) (touches : List Touch) (from :
   pub adds : In source (items B)
 
 -- a is unchanged in b, the flags mark the least closed set that holds the live sources, and no assignment adds a source
-pub record HasClosed (ends : List (Option Ends)) (touches : List Touch) (from : Sources) (a b : Assigned) (reached : List Bool) : Type 0 where
+pub record HasClosed (ends : List (Option Ends)) (touches : List Touch) (from : Sources) (a b : Assignment) (reached : List Bool) : Type 0 where
   pub same : b ≡ a
   pub flags : length reached ≡ length touches
   pub least : IsLeastClosedAt ends touches from a (has_flag reached)
   pub none : (B : List Pair) → AddsSource ends touches from a B → ⊥
 
 -- the answer of a search that found a and left b, and whose flags mark what it reached
-abbrev pub IsFound : List (Option Ends) → List Touch → Sources → Assigned → Assigned → List Bool → Found → Type 0
+abbrev pub IsFound : List (Option Ends) → List Touch → Sources → Assignment → Assignment → List Bool → Found → Type 0
 IsFound ends touches from a b flags (Grown m) = HasGrown ends touches from a b m
 IsFound ends touches from a b flags Closed = HasClosed ends touches from a b flags
 
 -- what a work value is seen as: a flag for each meter that the last closed search reached, and the sizes that it was made for
-pub record Working : Type 0 where
+pub record Work : Type 0 where
   pub reached : List Bool
   pub sizes : Sizes

@@ -2,25 +2,25 @@
 use Rattle.std.specs.Prelude.{◌≡◌, ◌↔◌, ℕ, ◌==◌, Bool, true, false, not, Option, List, filter}
 use Rattle.obs_graph.specs.declared.Ends.{Ends}
 use Rattle.obs_graph.specs.Positions.{AreBranches}
-use Rattle.obs_graph.specs.Shape.{Shape}
+use Rattle.obs_graph.specs.Graph.{Graph}
 use Rattle.obs_matroid.specs.Lists.{In}
 use Rattle.obs_matroid.specs.Values.{is_critical}
 use Rattle.obs_meter.specs.declared.Touch.{Touch}
 use Rattle.obs_meter.specs.Spanned.{graph_matroid}
 use Rattle.obs_meter.specs.Touches.{touch_at}
-use Rattle.obs_assign.specs.Assigned.{Assigned, IsWhole, StandsOver, is_frozen}
+use Rattle.obs_assign.specs.Assignment.{Assignment, IsWhole, StandsOver, is_frozen}
 use Rattle.obs_assign.specs.Pins.{joins}
 use Rattle.obs_exchange.specs.declared.Sources.TheVariants.{All}
 use Rattle.obs_exchange.specs.Closed.{IsLeastClosedAt}
 use Rattle.obs_exchange.specs.Critical.{IsCriticalAt}
 
 -- nothing is frozen
-abbrev pub IsThawed : Assigned → Type 0
+abbrev pub IsThawed : Assignment → Type 0
 IsThawed a = (m : ℕ) → is_frozen a m ≡ false
 
 -- the assignment stands over the graph and the meters, and S is its least closed set from all live sources: what a search
 -- from all of them leaves that finds no pair more
-pub record HasClosedSet (a : Assigned) (g : Shape) (touches : List Touch) (S : ℕ → Bool) : Type 0 where
+pub record HasClosedSet (a : Assignment) (g : Graph) (touches : List Touch) (S : ℕ → Bool) : Type 0 where
   pub branches : AreBranches g.vertices g.ends
   pub whole : IsWhole a
   pub stands : StandsOver a g touches

@@ -12,7 +12,7 @@ use Rattle.obs_meter.specs.declared.Touch.{Touch}
 use Rattle.obs_meter.specs.Assignments.{IsAssignmentAt}
 use Rattle.obs_meter.specs.Touches.{every_item, touch_at}
 use Rattle.obs_assign.specs.declared.Move.{Move}
-use Rattle.obs_assign.specs.Assigned.{Assigned, has_flag, is_frozen, pairs}
+use Rattle.obs_assign.specs.Assignment.{Assignment, has_flag, is_frozen, pairs}
 use Rattle.obs_assign.specs.Moves.{ArePath, moved}
 use Rattle.obs_assign.specs.Pins.{joins}
 use Rattle.obs_exchange.specs.declared.Sources.{Sources}
@@ -38,7 +38,7 @@ abbrev pub parent_at : List (Option Move) → ℕ → Option Move
 parent_at parents x = slice_index_or parents x None
 
 -- the branches of all pairs join the ends of e, and those of the pairs without x's do not
-pub record IsNeededOf (ends : List (Option Ends)) (a : Assigned) (x e : ℕ) : Type 0 where
+pub record IsNeededOf (ends : List (Option Ends)) (a : Assignment) (x e : ℕ) : Type 0 where
   pub joined : joins ends (branches (pairs a)) e ≡ true
   pub apart : joins ends (others (pairs a) x) e ≡ false
 
@@ -48,7 +48,7 @@ Keeps before after = (k : ℕ) → has_flag before k ≡ true → has_flag after
 
 -- the parent p of x: a marked meter before x in the queue and not behind the head, with a branch that it touches and
 -- that needs x's pair
-pub record IsParent (ends : List (Option Ends)) (touches : List Touch) (a : Assigned) (marks : List Bool) (place : ℕ → ℕ) (head x : ℕ) (p : Move) : Type 0 where
+pub record IsParent (ends : List (Option Ends)) (touches : List Touch) (a : Assignment) (marks : List Bool) (place : ℕ → ℕ) (head x : ℕ) (p : Move) : Type 0 where
   pub marked : has_flag marks p.meter ≡ true
   pub before : place p.meter < place x
   pub near : place p.meter ≤ head
@@ -56,13 +56,13 @@ pub record IsParent (ends : List (Option Ends)) (touches : List Touch) (a : Assi
   pub needed : IsNeededOf ends a x p.branch
 
 -- the branch was walked: the branches of the pairs join its ends, and each meter whose pair it needs is marked or frozen
-pub record IsWalked (ends : List (Option Ends)) (a : Assigned) (marks : List Bool) (e : ℕ) : Type 0 where
+pub record IsWalked (ends : List (Option Ends)) (a : Assignment) (marks : List Bool) (e : ℕ) : Type 0 where
   pub joined : joins ends (branches (pairs a)) e ≡ true
   pub marked : (x : ℕ) → In x (items (pairs a)) → joins ends (others (pairs a) x) e ≡ false → is_frozen a x ≡ false → has_flag marks x ≡ true
 
 -- while a search runs: the queue has the marked meters, each once, and its entries before the head have walked all branches
 -- that they touch
-pub record IsSearching (ends : List (Option Ends)) (touches : List Touch) (from : Sources) (a : Assigned)
+pub record IsSearching (ends : List (Option Ends)) (touches : List Touch) (from : Sources) (a : Assignment)
     (marks : List Bool) (parents : List (Option Move)) (queue : List ℕ) (tail head : ℕ) (walked : List Bool) : Type 0 where
   pub marks_len : length touches ≤ length marks
   pub parents_len : length touches ≤ length parents
@@ -83,7 +83,7 @@ pub record IsSearching (ends : List (Option Ends)) (touches : List Touch) (from 
   pub looked : (k e : ℕ) → k < head → In e (touch_at ends touches (slice_index queue k)) → has_flag walked e ≡ true
 
 -- while the meter m at the head looks at its branches
-pub record IsVisiting (ends : List (Option Ends)) (touches : List Touch) (from : Sources) (a : Assigned)
+pub record IsVisiting (ends : List (Option Ends)) (touches : List Touch) (from : Sources) (a : Assignment)
     (marks : List Bool) (parents : List (Option Move)) (queue : List ℕ) (tail head : ℕ) (walked : List Bool) (m : ℕ) : Type 0 where
   pub searching : IsSearching ends touches from a marks parents queue tail head walked
   pub below : head < tail
@@ -94,16 +94,16 @@ abbrev pub AreStarred : List (Option Ends) → List Bool → List Bool → Type 
 AreStarred ends stars walked = (v : ℕ) → has_flag stars v ≡ true → (e : ℕ) → In e (branches_at ends v) → has_flag walked e ≡ true
 
 -- the sources from one meter on, below a limit, are marked
-abbrev pub AreMarked : List (Option Ends) → List Touch → Sources → Assigned → List Bool → ℕ → ℕ → Type 0
+abbrev pub AreMarked : List (Option Ends) → List Touch → Sources → Assignment → List Bool → ℕ → ℕ → Type 0
 AreMarked ends touches from a marks first limit = (m : ℕ) → first ≤ m → m < limit → IsSource ends touches from a m → has_flag marks m ≡ true
 
 -- the meter may take the branch, which it touches: the branches of the pairs do not join its ends
-pub record IsFreeFor (ends : List (Option Ends)) (touches : List Touch) (a : Assigned) (m e : ℕ) : Type 0 where
+pub record IsFreeFor (ends : List (Option Ends)) (touches : List Touch) (a : Assignment) (m e : ℕ) : Type 0 where
   pub touched : In e (touch_at ends touches m)
   pub apart : joins ends (branches (pairs a)) e ≡ false
 
 -- the search came upon a free branch of a marked meter
-pub record IsEnd (ends : List (Option Ends)) (touches : List Touch) (from : Sources) (a : Assigned)
+pub record IsEnd (ends : List (Option Ends)) (touches : List Touch) (from : Sources) (a : Assignment)
     (marks : List Bool) (parents : List (Option Move)) (queue : List ℕ) (tail : ℕ) (walked : List Bool) (x : Move) : Type 0 where
   pub head : ℕ
   pub searching : IsSearching ends touches from a marks parents queue tail head walked
@@ -111,12 +111,12 @@ pub record IsEnd (ends : List (Option Ends)) (touches : List Touch) (from : Sour
   pub free : IsFreeFor ends touches a x.meter x.branch
 
 -- the meter of the first move of a path is a source
-abbrev pub BeginsAtSource : List (Option Ends) → List Touch → Sources → Assigned → List Move → Type 0
+abbrev pub BeginsAtSource : List (Option Ends) → List Touch → Sources → Assignment → List Move → Type 0
 BeginsAtSource ends touches from a [] = ⊥
 BeginsAtSource ends touches from a (x ∷ path) = IsSource ends touches from a x.meter
 
 -- the moves may be put in, and give a source a pair
-pub record IsReady (ends : List (Option Ends)) (touches : List Touch) (from : Sources) (a : Assigned) (path : List Move) : Type 0 where
+pub record IsReady (ends : List (Option Ends)) (touches : List Touch) (from : Sources) (a : Assignment) (path : List Move) : Type 0 where
   pub are_path : ArePath a path
   pub begins : BeginsAtSource ends touches from a path
   pub assigns : IsAssignmentAt ends touches (every_item touches) (pairs_of (moved path a.slots))

@@ -1,7 +1,7 @@
 // The sources, one after the other.
 ghost use Rattle.std.specs.Prelude.{◌≡◌, ◌<◌, ◌≤◌, true, MatchOption, None, Some, length};
 ghost use Rattle.obs_meter.specs.Touches.{AreInRange};
-ghost use Rattle.obs_assign.specs.Assigned.{IsWhole, StandsOver, has_flag};
+ghost use Rattle.obs_assign.specs.Assignment.{IsWhole, StandsOver, has_flag};
 ghost use Rattle.obs_exchange.specs.Closed.{IsSource};
 ghost use Rattle.obs_exchange.specs.Classes.{AreClasses};
 ghost use Rattle.obs_exchange.specs.Searching.{AreMarked, AreStarred, IsEnd, IsSearching, Keeps, end_of, first_of};

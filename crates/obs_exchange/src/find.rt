@@ -2,7 +2,7 @@
 ghost use Rattle.std.specs.Prelude.{◌≡◌, ◌+◌, ◌<◌, ◌≤◌, Bool, List, ℕ, false, IfSome, MatchOption, None, Some, length, drop, replicate, slice_index, take};
 ghost use Rattle.obs_graph.specs.Positions.{AreBranches};
 ghost use Rattle.obs_meter.specs.Touches.{AreInRange};
-ghost use Rattle.obs_assign.specs.Assigned.{HasRoomOf, IsWhole, StandsOver, has_flag};
+ghost use Rattle.obs_assign.specs.Assignment.{HasRoomOf, IsWhole, StandsOver, has_flag};
 ghost use Rattle.obs_exchange.specs.Closed.{IsLeastClosedAt, IsSource};
 ghost use Rattle.obs_exchange.specs.Found.{IsFound};
 ghost use Rattle.obs_exchange.specs.Searching.{IsEnd, IsFreeFor, IsReady, end_of, first_of};

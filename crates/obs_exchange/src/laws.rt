@@ -2,7 +2,7 @@
 ghost use Rattle.std.specs.Prelude.{◌≡◌, ◌≢◌, ◌↔◌, ◌≤◌, ℕ, Bool, true, false, Option, List, filter, length};
 ghost use Rattle.obs_graph.specs.declared.Ends.{Ends};
 ghost use Rattle.obs_graph.specs.Positions.{AreBranches};
-ghost use Rattle.obs_graph.specs.Shape.{Shape};
+ghost use Rattle.obs_graph.specs.Graph.{Graph};
 ghost use Rattle.obs_matroid.specs.Assignments.{Pair, part};
 ghost use Rattle.obs_matroid.specs.Closed.{Extends};
 ghost use Rattle.obs_matroid.specs.Components.{is_of};
@@ -10,7 +10,7 @@ ghost use Rattle.obs_matroid.specs.Lists.{In, IsDistinct};
 ghost use Rattle.obs_meter.specs.declared.Touch.{Touch};
 ghost use Rattle.obs_meter.specs.Assignments.{IsAssignmentAt, IsRhoAt, bound_at};
 ghost use Rattle.obs_meter.specs.Touches.{every_item, is_live, live_items};
-ghost use Rattle.obs_assign.specs.Assigned.{Assigned, IsWhole, StandsOver, is_frozen, pairs};
+ghost use Rattle.obs_assign.specs.Assignment.{Assignment, IsWhole, StandsOver, is_frozen, pairs};
 ghost use Rattle.obs_exchange.specs.declared.Found.{Found};
 ghost use Rattle.obs_exchange.specs.declared.Sources.{Sources};
 ghost use Rattle.obs_exchange.specs.Critical.{IsCriticalAt, critical_at};
@@ -40,10 +40,10 @@ pub fn least_tight()
 /// Where a search from all sources ends with a closed set and nothing is frozen, the pairs are as many as they can be,
 /// and the closed set holds just the live meters that aren't critical.
 pub fn closed_is_longest()
-    ensures longest { (a : Assigned) (g : Shape) (touches : List Touch) (S : ℕ → Bool) →
+    ensures longest { (a : Assignment) (g : Graph) (touches : List Touch) (S : ℕ → Bool) →
         HasClosedSet a g touches S → IsThawed a →
         IsRhoAt g.ends touches (live_items g.ends touches) (length (pairs a)) }
-    ensures noncritical { (a : Assigned) (g : Shape) (touches : List Touch) (S : ℕ → Bool) →
+    ensures noncritical { (a : Assignment) (g : Graph) (touches : List Touch) (S : ℕ → Bool) →
         HasClosedSet a g touches S → IsThawed a → (m : ℕ) →
         (S m ≡ true) ↔ ((is_live g.ends touches m ≡ true) × (critical_at g.vertices g.ends touches m ≡ false)) }
 {}
@@ -51,15 +51,17 @@ pub fn closed_is_longest()
 /// Then the bound of the closed set is the number of pairs, over the live meters and over those of each component, and
 /// no assignment has more pairs of meters of a component. `kind` is the component of a branch and `of` that of a meter.
 pub fn closed_is_tight()
-    ensures whole { (a : Assigned) (g : Shape) (touches : List Touch) (S : ℕ → Bool) →
+    ensures whole { (a : Assignment) (g : Graph) (touches : List Touch) (S : ℕ → Bool) →
         HasClosedSet a g touches S → IsThawed a →
         bound_at g.vertices g.ends touches S (live_items g.ends touches) ≡ length (pairs a) }
-    ensures component { (a : Assigned) (g : Shape) (touches : List Touch) (S : ℕ → Bool) (kind of : ℕ → ℕ) →
+    ensures component { (a : Assignment) (g : Graph) (touches : List Touch)
+        (S : ℕ → Bool) (kind of : ℕ → ℕ) →
         HasClosedSet a g touches S → IsThawed a →
         JoinsWithinKinds g.ends kind → TouchesOneKind g.ends touches kind of → (K : ℕ) →
         bound_at g.vertices g.ends touches S (filter (is_of of K) (live_items g.ends touches))
         ≡ length (part (is_of of K) (pairs a)) }
-    ensures none_longer { (a : Assigned) (g : Shape) (touches : List Touch) (S : ℕ → Bool) (kind of : ℕ → ℕ) →
+    ensures none_longer { (a : Assignment) (g : Graph) (touches : List Touch)
+        (S : ℕ → Bool) (kind of : ℕ → ℕ) →
         HasClosedSet a g touches S → IsThawed a →
         JoinsWithinKinds g.ends kind → TouchesOneKind g.ends touches kind of → (K : ℕ) (B : List Pair) →
         IsAssignmentAt g.ends touches (every_item touches) B →
@@ -68,7 +70,8 @@ pub fn closed_is_tight()
 
 /// Where some pairs are frozen, no assignment that has these is longer.
 pub fn closed_with_frozen()
-    ensures none_longer { (a : Assigned) (g : Shape) (touches : List Touch) (S : ℕ → Bool) →
+    ensures none_longer { (a : Assignment) (g : Graph) (touches : List Touch)
+        (S : ℕ → Bool) →
         HasClosedSet a g touches S → (B : List Pair) →
         IsAssignmentAt g.ends touches (every_item touches) B → Extends (is_frozen a) (pairs a) B →
         length B ≤ length (pairs a) }
@@ -76,10 +79,10 @@ pub fn closed_with_frozen()
 
 /// An assignment that has grown adds a source: so a search finds no pair more exactly where no assignment adds one.
 pub fn grown_adds_source()
-    ensures adds { (a b : Assigned) (g : Shape) (touches : List Touch) (from : Sources) (m : ℕ) →
+    ensures adds { (a b : Assignment) (g : Graph) (touches : List Touch) (from : Sources) (m : ℕ) →
         IsWhole b → StandsOver b g touches → HasGrown g.ends touches from a b m →
         AddsSource g.ends touches from a (pairs b) }
-    ensures closed { (a b : Assigned) (g : Shape) (touches : List Touch) (from : Sources)
+    ensures closed { (a b : Assignment) (g : Graph) (touches : List Touch) (from : Sources)
         (flags : List Bool) (answer : Found) →
         IsWhole b → StandsOver b g touches → IsFound g.ends touches from a b flags answer →
         (answer ≡ Found.Closed) ↔ ((B : List Pair) → AddsSource g.ends touches from a B → ⊥) }

@@ -2,7 +2,7 @@
 ghost use Rattle.std.specs.Prelude.{◌≡◌, ◌↔◌, ◌+◌, ◌<◌, ◌≤◌, true, false, IsTrue, None, Some, length, slice_set};
 ghost use Rattle.obs_matroid.specs.Lists.{In};
 ghost use Rattle.obs_meter.specs.Touches.{AreInRange, touch_at};
-ghost use Rattle.obs_assign.specs.Assigned.{StandsOver, has_flag, is_frozen};
+ghost use Rattle.obs_assign.specs.Assignment.{StandsOver, has_flag, is_frozen};
 ghost use Rattle.obs_exchange.specs.Closed.{IsSource};
 ghost use Rattle.obs_exchange.specs.Searching.{IsNeededOf, IsVisiting, Keeps, end_of, first_of};
 

@@ -2,7 +2,7 @@
 ghost use Rattle.std.specs.Prelude.{◌≡◌, ◌+◌, ◌-◌, ◌<◌, ◌≤◌, true, length, MatchBool};
 ghost use Rattle.obs_meter.specs.Sizes.{HasRoomFor};
 ghost use Rattle.obs_meter.specs.Touches.{AreInRange};
-ghost use Rattle.obs_assign.specs.Assigned.{HasRoomOf, IsWhole, StandsOver, pairs};
+ghost use Rattle.obs_assign.specs.Assignment.{HasRoomOf, IsWhole, StandsOver, pairs};
 ghost use Rattle.obs_exchange.specs.declared.Sources.TheVariants.{All};
 ghost use Rattle.obs_exchange.specs.Found.{HasClosed};
 ghost use Rattle.obs_exchange.specs.Lengthened.{HasLengthened};

@@ -2,7 +2,7 @@
 ghost use Rattle.std.specs.Prelude.{◌≡◌, ◌<◌, length};
 ghost use Rattle.obs_meter.specs.Sizes.{HasRoomFor};
 ghost use Rattle.obs_meter.specs.Touches.{AreInRange};
-ghost use Rattle.obs_assign.specs.Assigned.{StandsOver};
+ghost use Rattle.obs_assign.specs.Assignment.{StandsOver};
 
 use crate::{Found, Sources, Work, search};
 use obs_assign::{Assignment, Steps};

@@ -2,7 +2,7 @@
 ghost use Rattle.std.specs.Prelude.{◌≡◌, ◌+◌, ◌<◌, ◌≤◌, ℕ, true, false, IsTrue, MatchOption, None, Some, length};
 ghost use Rattle.obs_matroid.specs.Lists.{In};
 ghost use Rattle.obs_meter.specs.Touches.{AreInRange, touch_at};
-ghost use Rattle.obs_assign.specs.Assigned.{IsWhole, StandsOver, has_flag};
+ghost use Rattle.obs_assign.specs.Assignment.{IsWhole, StandsOver, has_flag};
 ghost use Rattle.obs_exchange.specs.Classes.{AreClasses};
 ghost use Rattle.obs_exchange.specs.Searching.{AreStarred, IsEnd, IsFreeFor, IsSearching, IsVisiting, Keeps};
 

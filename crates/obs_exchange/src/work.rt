@@ -2,7 +2,7 @@
 ghost use Rattle.std.specs.Prelude.{◌≡◌, ◌+◌, ◌<◌, [], length, IfOk};
 ghost use Rattle.obs_meter.specs.Sizes.{HasRoomFor};
 ghost use Rattle.obs_meter.specs.Touches.{AreInRange};
-ghost use Rattle.obs_assign.specs.Assigned.{HasRoomOf, IsWhole, StandsOver};
+ghost use Rattle.obs_assign.specs.Assignment.{HasRoomOf, IsWhole, StandsOver};
 ghost use Rattle.obs_exchange.specs.Found.{CanBegin, IsFound};
 
 use crate::blanks::{Blanks, number};
@@ -39,9 +39,9 @@ pub struct Work {
 impl Model for Work {
     ghost use Rattle.std.specs.Prelude.{◌≡◌, ◌≤◌, ◌<◌, length, take};
     ghost use Rattle.obs_exchange.specs.Blank.{AreBlank};
-    ghost use Rattle.obs_exchange.specs.Found.{Working};
+    ghost use Rattle.obs_exchange.specs.Found.{Work};
 
-    ghost Value = { Working };
+    ghost Value = { Work };
 
     ghost view = { λ w.
         record {

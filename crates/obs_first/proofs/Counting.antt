@@ -2,7 +2,7 @@
 -- meters have none.
 use Rattle.std.proofs.Common.{◌≡◌, ℕ, zero, suc, ◌+◌, ◌<◌, ◌≤◌, Bool, true, false, not, Some, None, List, [], ◌∷◌, length, get_or, set, refl, sym, ap, ◌∙◌, inl, inr, arith, replicate, get_or-set_same, get_or-set_other}
 use Rattle.std.proofs.lemmas.Bool.{cases_Bool, cases_eq}
-use Rattle.obs_graph.specs.Shape.{Shape}
+use Rattle.obs_graph.specs.Graph.{Graph}
 use Rattle.obs_matroid.specs.Lists.{In, IsDistinct}
 use Rattle.obs_matroid.specs.Assignments.{Pair, items, part}
 use Rattle.obs_matroid.proofs.Lists.{clash, In_same, length-within}
@@ -11,7 +11,7 @@ use Rattle.obs_matroid.proofs.Order.{length-same}
 use Rattle.obs_matroid.proofs.Pairs.{In-items, In-items_from, In-part, In-part_from, IsDistinct-part}
 use Rattle.obs_matroid.proofs.Slots.{IsDistinct-slots, pair_from_parts, slot_at, slot_from}
 use Rattle.obs_meter.specs.declared.Touch.{Touch}
-use Rattle.obs_assign.specs.Assigned.{Assigned, IsWhole, StandsOver, has_flag, is_frozen, pairs}
+use Rattle.obs_assign.specs.Assignment.{Assignment, IsWhole, StandsOver, has_flag, is_frozen, pairs}
 use Rattle.obs_first.specs.Deciding.{IsDecided, KeepsFrozen, frozen_pairs}
 use Rattle.obs_first.proofs.Frozen.{frozen_same}
 use Rattle.obs_first.proofs.Deciding.{Decided-none}
@@ -22,37 +22,37 @@ flags_clear zero x = refl
 flags_clear (suc n) zero = refl
 flags_clear (suc n) (suc x) = flags_clear n x
 
-frozen_distinct : (a : Assigned) → IsDistinct (items (frozen_pairs a))
+frozen_distinct : (a : Assignment) → IsDistinct (items (frozen_pairs a))
 frozen_distinct a = IsDistinct-part (is_frozen a) (pairs a) (IsDistinct-slots a.slots)
 
 -- a frozen pair stays one
-frozen_stays : (a c : Assigned) → KeepsFrozen a c → (p : Pair) → In p (frozen_pairs a) → is_frozen c p.0 ≡ true → In p (frozen_pairs c)
+frozen_stays : (a c : Assignment) → KeepsFrozen a c → (p : Pair) → In p (frozen_pairs a) → is_frozen c p.0 ≡ true → In p (frozen_pairs c)
 frozen_stays a c keeps p i t =
     let u = In-part_from (is_frozen a) (pairs a) p i in
     In-part (is_frozen c) (pairs c) p (slot_at c.slots p.0 p.1 (keeps p.0 u.1 ∙ slot_from a.slots p u.0)) t
 
 -- and was one
-frozen_was : (a c : Assigned) → KeepsFrozen a c → (p : Pair) → In p (frozen_pairs c) → is_frozen a p.0 ≡ true → In p (frozen_pairs a)
+frozen_was : (a c : Assignment) → KeepsFrozen a c → (p : Pair) → In p (frozen_pairs c) → is_frozen a p.0 ≡ true → In p (frozen_pairs a)
 frozen_was a c keeps p i t =
     let u = In-part_from (is_frozen c) (pairs c) p i in
     In-part (is_frozen a) (pairs a) p (slot_at a.slots p.0 p.1 (sym (keeps p.0 t) ∙ slot_from c.slots p u.0)) t
 
 -- where the same are frozen, they are as many
-pub count_same : (a c : Assigned) → c.frozen ≡ a.frozen → KeepsFrozen a c → length (frozen_pairs c) ≡ length (frozen_pairs a)
+pub count_same : (a c : Assignment) → c.frozen ≡ a.frozen → KeepsFrozen a c → length (frozen_pairs c) ≡ length (frozen_pairs a)
 count_same a c e keeps = length-same (frozen_pairs c) (frozen_pairs a) (frozen_distinct c) (frozen_distinct a) (λ p. (
   (λ i. frozen_was a c keeps p i (sym (frozen_same a c e p.0) ∙ (In-part_from (is_frozen c) (pairs c) p i).1)),
   (λ i. frozen_stays a c keeps p i (frozen_same a c e p.0 ∙ (In-part_from (is_frozen a) (pairs a) p i).1)),
 ))
 
 -- the next meter to decide isn't frozen
-pub next_thawed : (g : Shape) (touches : List Touch) (a : Assigned) (m long : ℕ) → IsDecided g.ends touches a m long → is_frozen a m ≡ false
+pub next_thawed : (g : Graph) (touches : List Touch) (a : Assignment) (m long : ℕ) → IsDecided g.ends touches a m long → is_frozen a m ≡ false
 next_thawed g touches a m long d = elim (cases_Bool (is_frozen a m)) [
   | inl t ↦ let u = ((d.frozen m).0 t).0 in absurd (omega (arith, u))
   | inr f ↦ f
 ]
 
 -- where one more takes a branch, one more
-pub count_taken : (a c : Assigned) (m e : ℕ) → m < length a.frozen → is_frozen a m ≡ false → get_or c.slots m None ≡ Some e → c.frozen ≡ set a.frozen m true → KeepsFrozen a c
+pub count_taken : (a c : Assignment) (m e : ℕ) → m < length a.frozen → is_frozen a m ≡ false → get_or c.slots m None ≡ Some e → c.frozen ≡ set a.frozen m true → KeepsFrozen a c
     → length (frozen_pairs c) ≡ length (frozen_pairs a) + 1
 count_taken a c m e low thawed has frozen keeps =
     let at : (x : ℕ) → is_frozen c x ≡ has_flag (set a.frozen m true) x = λ x. ap (λ (f : List Bool). has_flag f x) frozen in
@@ -76,7 +76,7 @@ count_taken a c m e low thawed has frozen keeps =
     omega (arith, n)
 
 -- where they are all the pairs, each meter that has a pair is frozen
-all_frozen : (a : Assigned) → length (pairs a) ≤ length (frozen_pairs a) → (p : Pair) → In p (pairs a) → is_frozen a p.0 ≡ true
+all_frozen : (a : Assignment) → length (pairs a) ≤ length (frozen_pairs a) → (p : Pair) → In p (pairs a) → is_frozen a p.0 ≡ true
 all_frozen a l p i = elim (cases_Bool (is_frozen a p.0)) [
   | inl t ↦ t
   | inr f ↦
@@ -89,7 +89,7 @@ all_frozen a l p i = elim (cases_Bool (is_frozen a p.0)) [
     some_there (x ∷ A) q j e = absurd (omega (arith, e))
 
 -- then each further meter has none
-pub Decided-full : (g : Shape) (touches : List Touch) (a : Assigned) (m long : ℕ) → IsDecided g.ends touches a m long → IsWhole a → StandsOver a g touches → long ≤ length (frozen_pairs a)
+pub Decided-full : (g : Graph) (touches : List Touch) (a : Assignment) (m long : ℕ) → IsDecided g.ends touches a m long → IsWhole a → StandsOver a g touches → long ≤ length (frozen_pairs a)
     → IsDecided g.ends touches a (m + 1) long
 Decided-full g touches a m long d whole stands l =
     let e = d.length_is in
@@ -112,7 +112,7 @@ Decided-full g touches a m long d whole stands l =
     refl
 
 -- where nothing is frozen, none
-pub count_none : (a : Assigned) → ((x : ℕ) → is_frozen a x ≡ false) → length (frozen_pairs a) ≡ 0
+pub count_none : (a : Assignment) → ((x : ℕ) → is_frozen a x ≡ false) → length (frozen_pairs a) ≡ 0
 count_none a thawed = none_there (frozen_pairs a) (λ p i. let u = In-part_from (is_frozen a) (pairs a) p i in clash u.1 (thawed p.0))
   where
     none_there : (A : List Pair) → ((p : Pair) → In p A → ⊥) → length A ≡ 0

@@ -3,7 +3,7 @@ use Rattle.std.proofs.Common.{◌≡◌, ℕ, ◌+◌, ◌<◌, ◌≤◌, Bool,
 use Rattle.std.specs.Prelude.{MatchBool}
 use Rattle.std.specs.List.{range_with_len}
 use Rattle.std.proofs.lemmas.Bool.{cases_eq}
-use Rattle.obs_graph.specs.Shape.{Shape}
+use Rattle.obs_graph.specs.Graph.{Graph}
 use Rattle.obs_matroid.specs.Lists.{In}
 use Rattle.obs_matroid.specs.Matroid.{Matroid}
 use Rattle.obs_matroid.specs.Assignments.{Pair, items, IsAssignment}
@@ -19,7 +19,7 @@ use Rattle.obs_meter.specs.Spanned.{graph_matroid}
 use Rattle.obs_meter.specs.Touches.{every_item, touch_at}
 use Rattle.obs_meter.proofs.Assigned.{from_matroid, to_matroid}
 use Rattle.obs_meter.proofs.Touched.{touch-rising}
-use Rattle.obs_assign.specs.Assigned.{Assigned, IsWhole, StandsOver, has_flag, is_frozen, pairs}
+use Rattle.obs_assign.specs.Assignment.{Assignment, IsWhole, StandsOver, has_flag, is_frozen, pairs}
 use Rattle.obs_assign.proofs.Slotted.{item_slot, slot_item}
 use Rattle.obs_assign.proofs.Standing.{IsAssignmentAt-standing}
 use Rattle.obs_first.specs.Deciding.{HasFrozenOf, HasRefused, IsDecided, KeepsFrozen, NoneSoLong}
@@ -27,22 +27,22 @@ use Rattle.obs_first.proofs.Frozen.{Extends-kept, HasFrozenOf-kept, HasFrozenOf-
 use Rattle.obs_first.proofs.Ranges.{In-take_lower, In-take_more, below_from, below_in, range_more}
 
 -- no assignment so long that has the frozen pairs of a gives one of the branches to m
-abbrev pub AreRefused : Shape → List Touch → Assigned → ℕ → ℕ → List ℕ → Type 0
+abbrev pub AreRefused : Graph → List Touch → Assignment → ℕ → ℕ → List ℕ → Type 0
 AreRefused g touches a m long tried = (e : ℕ) → In e tried → (B : List Pair) → HasFrozenOf g.ends touches a B → In (m, e) B → length B < long
 
 -- while the meter m of a is decided, and b is what a has become
-pub record IsTrying (g : Shape) (touches : List Touch) (a b : Assigned) (m long : ℕ) (tried : List ℕ) : Type 0 where
+pub record IsTrying (g : Graph) (touches : List Touch) (a b : Assignment) (m long : ℕ) (tried : List ℕ) : Type 0 where
   pub stands : StandsOver b g touches
   pub whole : IsWhole b
   pub frozen : b.frozen ≡ a.frozen
   pub keeps : KeepsFrozen a b
   pub refused : AreRefused g touches a m long tried
 
-pub Trying-begun : (g : Shape) (touches : List Touch) (a : Assigned) (m long : ℕ) → StandsOver a g touches → IsWhole a → IsTrying g touches a a m long []
+pub Trying-begun : (g : Graph) (touches : List Touch) (a : Assignment) (m long : ℕ) → StandsOver a g touches → IsWhole a → IsTrying g touches a a m long []
 Trying-begun g touches a m long s w = record { stands = s; whole = w; frozen = refl; keeps = λ x f. refl; refused = λ e i. absurd i }
 
 -- one more branch is refused
-pub Trying-more : (g : Shape) (touches : List Touch) (a b c : Assigned) (m long : ℕ) (xs : List ℕ) (k d : ℕ) → IsTrying g touches a b m long (take k xs) → k < length xs
+pub Trying-more : (g : Graph) (touches : List Touch) (a b c : Assignment) (m long : ℕ) (xs : List ℕ) (k d : ℕ) → IsTrying g touches a b m long (take k xs) → k < length xs
     → HasRefused g.ends touches b c m (get_or xs k d) long → KeepsFrozen b c → StandsOver c g touches → IsWhole c → IsTrying g touches a c m long (take (k + 1) xs)
 Trying-more g touches a b c m long xs k d h low r keeps s w = record {
   stands = s;
@@ -56,7 +56,7 @@ Trying-more g touches a b c m long xs k d h low r keeps s w = record {
 }
 
 -- or is known to be refused
-pub Trying-passed : (g : Shape) (touches : List Touch) (a b : Assigned) (m long : ℕ) (xs : List ℕ) (k d : ℕ) → IsTrying g touches a b m long (take k xs) → k < length xs
+pub Trying-passed : (g : Graph) (touches : List Touch) (a b : Assignment) (m long : ℕ) (xs : List ℕ) (k d : ℕ) → IsTrying g touches a b m long (take k xs) → k < length xs
     → ((B : List Pair) → HasFrozenOf g.ends touches a B → In (m, get_or xs k d) B → length B < long) → IsTrying g touches a b m long (take (k + 1) xs)
 Trying-passed g touches a b m long xs k d h low r = record {
   stands = h.stands;
@@ -70,14 +70,14 @@ Trying-passed g touches a b m long xs k d h low r = record {
 }
 
 -- the pairs of a have the frozen ones that b has kept, so b grows to their number
-pub regrown_long : (g : Shape) (touches : List Touch) (a b : Assigned) (long : ℕ) → IsWhole a → StandsOver a g touches → length (pairs a) ≡ long → b.frozen ≡ a.frozen → KeepsFrozen a b
+pub regrown_long : (g : Graph) (touches : List Touch) (a b : Assignment) (long : ℕ) → IsWhole a → StandsOver a g touches → length (pairs a) ≡ long → b.frozen ≡ a.frozen → KeepsFrozen a b
     → (grown : Bool) (after : ℕ) → MatchBool grown (long ≤ after) (NoneSoLong g.ends touches b long) → long ≤ after
 regrown_long g touches a b long w s l e k true after more = more
 regrown_long g touches a b long w s l e k false after none =
     let n = none (pairs a) (HasFrozenOf-kept g.ends touches a b (pairs a) e k (HasFrozenOf-pairs a a g touches w s (λ x f. refl))) in
     absurd (omega (arith, n, l))
 
-module _ (g : Shape) (touches : List Touch) (a : Assigned) (m long : ℕ) (d : IsDecided g.ends touches a m long)
+module _ (g : Graph) (touches : List Touch) (a : Assignment) (m long : ℕ) (d : IsDecided g.ends touches a m long)
     (whole : IsWhole a) (stands : StandsOver a g touches) where
   mat : Matroid
   mat = graph_matroid g.vertices g.ends
@@ -109,7 +109,7 @@ module _ (g : Shape) (touches : List Touch) (a : Assigned) (m long : ℕ) (d : I
       let k = d.length_is in
       omega (arith, n, l, k)
 
-  module _ (c : Assigned) (whole_c : IsWhole c) (stands_c : StandsOver c g touches) (keeps : KeepsFrozen a c) (longer : long ≤ length (pairs c)) where
+  module _ (c : Assignment) (whole_c : IsWhole c) (stands_c : StandsOver c g touches) (keeps : KeepsFrozen a c) (longer : long ≤ length (pairs c)) where
     assigns_c : IsAssignment mat (touch_at g.ends touches) (every_item touches) (pairs c)
     unfolding mat
     assigns_c = to_matroid g.vertices g.ends touches (every_item touches) (pairs c) (IsAssignmentAt-standing c g touches whole_c stands_c)

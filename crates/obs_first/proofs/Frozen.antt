@@ -3,12 +3,12 @@ use Rattle.std.proofs.Common.{◌≡◌, ℕ, ◌<◌, ◌≤◌, Bool, true, fa
 use Rattle.std.specs.Prelude.{MatchBool}
 use Rattle.obs_graph.specs.declared.Ends.{Ends}
 use Rattle.obs_graph.specs.Positions.{AreBranches}
-use Rattle.obs_graph.specs.Shape.{Shape}
+use Rattle.obs_graph.specs.Graph.{Graph}
 use Rattle.obs_matroid.specs.Assignments.{Pair}
 use Rattle.obs_matroid.specs.Closed.{Extends}
 use Rattle.obs_matroid.proofs.Slots.{slot_at, slot_from}
 use Rattle.obs_meter.specs.declared.Touch.{Touch}
-use Rattle.obs_assign.specs.Assigned.{Assigned, IsWhole, StandsOver, has_flag, is_frozen, pairs}
+use Rattle.obs_assign.specs.Assignment.{Assignment, IsWhole, StandsOver, has_flag, is_frozen, pairs}
 use Rattle.obs_assign.proofs.Standing.{IsAssignmentAt-standing}
 use Rattle.obs_exchange.specs.declared.Sources.TheVariants.{All}
 use Rattle.obs_exchange.specs.Found.{HasClosed}
@@ -18,18 +18,18 @@ use Rattle.obs_exchange.proofs.Lengthening.{closed_set}
 use Rattle.obs_first.specs.Deciding.{HasFrozenOf, KeepsFrozen, NoneSoLong}
 
 -- what is frozen in b is frozen in a
-pub frozen_same : (a b : Assigned) → b.frozen ≡ a.frozen → (x : ℕ) → is_frozen b x ≡ is_frozen a x
+pub frozen_same : (a b : Assignment) → b.frozen ≡ a.frozen → (x : ℕ) → is_frozen b x ≡ is_frozen a x
 frozen_same a b e x = ap (λ (f : List Bool). has_flag f x) e
 
-pub KeepsFrozen-on : (a b c : Assigned) → b.frozen ≡ a.frozen → KeepsFrozen a b → KeepsFrozen b c → KeepsFrozen a c
+pub KeepsFrozen-on : (a b c : Assignment) → b.frozen ≡ a.frozen → KeepsFrozen a b → KeepsFrozen b c → KeepsFrozen a c
 KeepsFrozen-on a b c e h k x f = k x (frozen_same a b e x ∙ f) ∙ h x f
 
 -- the frozen pairs of a are pairs of b
-pub Extends-kept : (a b : Assigned) → KeepsFrozen a b → Extends (is_frozen a) (pairs a) (pairs b)
+pub Extends-kept : (a b : Assignment) → KeepsFrozen a b → Extends (is_frozen a) (pairs a) (pairs b)
 Extends-kept a b k p i f = slot_at b.slots p.0 p.1 (k p.0 f ∙ slot_from a.slots p i)
 
 -- and the other way round
-pub HasFrozenOf-kept : (ends : List (Option Ends)) (touches : List Touch) (a b : Assigned) (B : List Pair) → b.frozen ≡ a.frozen → KeepsFrozen a b → HasFrozenOf ends touches a B → HasFrozenOf ends touches b B
+pub HasFrozenOf-kept : (ends : List (Option Ends)) (touches : List Touch) (a b : Assignment) (B : List Pair) → b.frozen ≡ a.frozen → KeepsFrozen a b → HasFrozenOf ends touches a B → HasFrozenOf ends touches b B
 HasFrozenOf-kept ends touches a b B e k h = record {
   assigns = h.assigns;
   extends = λ p i f.
@@ -37,11 +37,11 @@ HasFrozenOf-kept ends touches a b B e k h = record {
       h.extends p (slot_at a.slots p.0 p.1 (sym (k p.0 g) ∙ slot_from b.slots p i)) g;
 }
 
-pub HasFrozenOf-pairs : (a b : Assigned) (g : Shape) (touches : List Touch) → IsWhole b → StandsOver b g touches → KeepsFrozen a b → HasFrozenOf g.ends touches a (pairs b)
+pub HasFrozenOf-pairs : (a b : Assignment) (g : Graph) (touches : List Touch) → IsWhole b → StandsOver b g touches → KeepsFrozen a b → HasFrozenOf g.ends touches a (pairs b)
 HasFrozenOf-pairs a b g touches w s k = record { assigns = IsAssignmentAt-standing b g touches w s; extends = Extends-kept a b k }
 
 -- the searches ended with as many pairs as were asked for, or none is so long that has the frozen pairs
-pub Regrown-ended : (g : Shape) (touches : List Touch) (a b : Assigned) (searches : ℕ) (flags : List Bool) (long : ℕ) → AreBranches g.vertices g.ends → IsWhole b → StandsOver b g touches
+pub Regrown-ended : (g : Graph) (touches : List Touch) (a b : Assignment) (searches : ℕ) (flags : List Bool) (long : ℕ) → AreBranches g.vertices g.ends → IsWhole b → StandsOver b g touches
     → HasLengthened a b searches → (closed : Bool) → MatchBool closed (HasClosed g.ends touches All b b flags) (long ≤ length (pairs b)) → (closed ≡ true → length (pairs b) < long)
     → MatchBool (not closed) (long ≤ length (pairs b)) (NoneSoLong g.ends touches a long)
 Regrown-ended g touches a b searches flags long ok whole stands h false enough short = enough

@@ -5,7 +5,7 @@ use Rattle.std.specs.List.{range_with_len}
 use Rattle.std.proofs.lemmas.Bool.{cases_Bool}
 use Rattle.obs_graph.specs.declared.Ends.{Ends}
 use Rattle.obs_graph.specs.Positions.{AreBranches}
-use Rattle.obs_graph.specs.Shape.{Shape}
+use Rattle.obs_graph.specs.Graph.{Graph}
 use Rattle.obs_matroid.specs.Lists.{In}
 use Rattle.obs_matroid.specs.Assignments.{Pair}
 use Rattle.obs_matroid.specs.First.{IsFirst, IsNotAfter, branch_at}
@@ -20,7 +20,7 @@ use Rattle.obs_meter.specs.Touches.{every_item, is_live, live_items, touch_at}
 use Rattle.obs_meter.proofs.Assigned.{every-to_live, every_item-distinct, from_matroid, live-to_every, rho-live-to_every, to_matroid}
 use Rattle.obs_meter.proofs.Instance.{IsMatroid-graph}
 use Rattle.obs_meter.proofs.Touched.{live-from_In, touch-rising}
-use Rattle.obs_assign.specs.Assigned.{Assigned, IsWhole, StandsOver, is_frozen, pairs}
+use Rattle.obs_assign.specs.Assignment.{Assignment, IsWhole, StandsOver, is_frozen, pairs}
 use Rattle.obs_assign.proofs.Standing.{IsAssignmentAt-standing}
 use Rattle.obs_first.specs.First.{IsFirstAt, first_pairs}
 use Rattle.obs_first.specs.Deciding.{IsDecided}
@@ -81,7 +81,7 @@ module _ (n : ℕ) (ends : List (Option Ends)) (touches : List Touch) (ok : AreB
   first_pairs-unique A a = first_unique (graph_matroid n ends) (touch_at ends touches) (every_item touches) A (first_pairs n ends touches)
       (first-to_matroid n ends touches (every_item touches) A a) (first-to_matroid n ends touches (every_item touches) (first_pairs n ends touches) first_pairs-is)
 
-module _ (g : Shape) (touches : List Touch) (a : Assigned) (long : ℕ) where
+module _ (g : Graph) (touches : List Touch) (a : Assignment) (long : ℕ) where
   -- no meter is decided yet
   pub Decided-begun : IsRhoAt g.ends touches (live_items g.ends touches) long → length (pairs a) ≡ long → ((x : ℕ) → is_frozen a x ≡ false) → IsDecided g.ends touches a 0 long
   Decided-begun r l thawed = record {

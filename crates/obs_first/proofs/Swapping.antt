@@ -5,7 +5,7 @@ use Rattle.std.specs.List.{range_with_len}
 use Rattle.std.proofs.lemmas.Bool.{cases_eq, ne_eqb}
 use Rattle.obs_graph.specs.declared.Ends.{Ends}
 use Rattle.obs_graph.specs.Positions.{IsForestAt}
-use Rattle.obs_graph.specs.Shape.{Shape}
+use Rattle.obs_graph.specs.Graph.{Graph}
 use Rattle.obs_matroid.specs.Lists.{In, IsDistinct}
 use Rattle.obs_matroid.specs.Assignments.{Pair, branches, items}
 use Rattle.obs_matroid.specs.First.{IsBefore, IsNotAfter, branch_at}
@@ -16,7 +16,7 @@ use Rattle.obs_matroid.proofs.Slots.{slot_from}
 use Rattle.obs_meter.specs.declared.Touch.{Touch}
 use Rattle.obs_meter.specs.Assignments.{IsAssignmentAt}
 use Rattle.obs_meter.specs.Touches.{every_item, touch_at, touched}
-use Rattle.obs_assign.specs.Assigned.{Assigned, pairs}
+use Rattle.obs_assign.specs.Assignment.{Assignment, pairs}
 use Rattle.obs_first.specs.Deciding.{HasFrozenOf, IsDecided, IsPassed}
 use Rattle.obs_first.proofs.Ranges.{below_from, below_in, range_more, range_parts}
 
@@ -157,7 +157,7 @@ module _ (k m : ℕ) where
   swapped_at B x e i = In-map swap_pair (x, e) B i
 
 -- a branch that would be lower at a meter before is refused
-pub refused_passed : (g : Shape) (touches : List Touch) (a : Assigned) (m long y : ℕ) → IsDecided g.ends touches a m long → m < length touches → IsPassed touches a m y
+pub refused_passed : (g : Graph) (touches : List Touch) (a : Assignment) (m long y : ℕ) → IsDecided g.ends touches a m long → m < length touches → IsPassed touches a m y
     → (B : List Pair) → HasFrozenOf g.ends touches a B → In (m, y) B → length B < long
 refused_passed g touches a m long y d low p B h i =
     let k = p.before in

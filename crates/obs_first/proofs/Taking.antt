@@ -3,7 +3,7 @@ use Rattle.std.proofs.Common.{◌≡◌, ℕ, ◌<◌, Bool, true, false, Option
 use Rattle.std.proofs.lemmas.Bool.{cases_Bool}
 use Rattle.std.proofs.lemmas.List.{set-get_or}
 use Rattle.obs_graph.specs.Positions.{AreBranches}
-use Rattle.obs_graph.specs.Shape.{Shape}
+use Rattle.obs_graph.specs.Graph.{Graph}
 use Rattle.obs_matroid.specs.Lists.{In}
 use Rattle.obs_matroid.specs.Assignments.{Pair, part}
 use Rattle.obs_matroid.proofs.Lists.{clash, In_same}
@@ -15,13 +15,13 @@ use Rattle.obs_meter.specs.Spanned.{graph_matroid}
 use Rattle.obs_meter.specs.Touches.{every_item, touch_at}
 use Rattle.obs_meter.proofs.Assigned.{to_matroid}
 use Rattle.obs_meter.proofs.Instance.{IsMatroid-graph}
-use Rattle.obs_assign.specs.Assigned.{Assigned, frozen_branches, has_flag, is_frozen, pairs}
+use Rattle.obs_assign.specs.Assignment.{Assignment, frozen_branches, has_flag, is_frozen, pairs}
 use Rattle.obs_assign.specs.Pins.{IsPinnedAt, MayPin, joins}
 use Rattle.obs_assign.proofs.Paths.{joins-own}
 use Rattle.obs_assign.proofs.Pinning.{pinned-from}
 use Rattle.obs_first.specs.Deciding.{HasFrozenOf, HasRefused, NoneSoLong}
 
-module _ (g : Shape) (touches : List Touch) (ok : AreBranches g.vertices g.ends) (a : Assigned) (m e : ℕ) (thawed : is_frozen a m ≡ false) where
+module _ (g : Graph) (touches : List Touch) (ok : AreBranches g.vertices g.ends) (a : Assignment) (m e : ℕ) (thawed : is_frozen a m ≡ false) where
   -- where the branch may not be pinned, the frozen branches join its ends
   frozen_join : (MayPin a g.ends m e → ⊥) → joins g.ends (frozen_branches a) e ≡ true
   frozen_join out = elim (cases_Bool (joins g.ends (frozen_branches a) e)) [
@@ -41,7 +41,7 @@ module _ (g : Shape) (touches : List Touch) (ok : AreBranches g.vertices g.ends)
         (to_matroid g.vertices g.ends touches (every_item touches) B b.assigns) b.extends thawed (frozen_join out) i);
   }
 
-  module _ (b : Assigned) (low : m < length a.slots) (x : ℕ) (p : IsPinnedAt a g.ends m e b.slots x) (frozen : b.frozen ≡ set a.frozen m true) where
+  module _ (b : Assignment) (low : m < length a.slots) (x : ℕ) (p : IsPinnedAt a g.ends m e b.slots x) (frozen : b.frozen ≡ set a.frozen m true) where
     at_other : (y : ℕ) → (y ≡ m → ⊥) → is_frozen b y ≡ is_frozen a y
     at_other y n = ap (λ (f : List Bool). has_flag f y) frozen ∙ get_or-set_other a.frozen m y true false n
 
@@ -57,7 +57,7 @@ module _ (g : Shape) (touches : List Touch) (ok : AreBranches g.vertices g.ends)
     }
 
     -- where that is too short, the pair is dropped again
-    pub HasRefused-dropped : (c d : Assigned) → c.frozen ≡ b.frozen → d.frozen ≡ set c.frozen m false → (long : ℕ) → NoneSoLong g.ends touches b long → HasRefused g.ends touches a d m e long
+    pub HasRefused-dropped : (c d : Assignment) → c.frozen ≡ b.frozen → d.frozen ≡ set c.frozen m false → (long : ℕ) → NoneSoLong g.ends touches b long → HasRefused g.ends touches a d m e long
     HasRefused-dropped c d same thaws long none = record {
       frozen =
           thaws ∙ (ap (λ (f : List Bool). set f m false) (same ∙ frozen)

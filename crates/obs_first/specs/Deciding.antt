@@ -10,38 +10,38 @@ use Rattle.obs_meter.specs.declared.Touch.{Touch}
 use Rattle.obs_meter.specs.declared.Touch.TheVariants.{Nothing}
 use Rattle.obs_meter.specs.Assignments.{IsAssignmentAt}
 use Rattle.obs_meter.specs.Touches.{every_item}
-use Rattle.obs_assign.specs.Assigned.{Assigned, branch_at, is_frozen, pairs}
+use Rattle.obs_assign.specs.Assignment.{Assignment, branch_at, is_frozen, pairs}
 
 -- B is an assignment of the meters that has the frozen pairs of a
-pub record HasFrozenOf (ends : List (Option Ends)) (touches : List Touch) (a : Assigned) (B : List Pair) : Type 0 where
+pub record HasFrozenOf (ends : List (Option Ends)) (touches : List Touch) (a : Assignment) (B : List Pair) : Type 0 where
   pub assigns : IsAssignmentAt ends touches (every_item touches) B
   pub extends : Extends (is_frozen a) (pairs a) B
 
 -- the pairs whose meter is frozen
-abbrev pub frozen_pairs : Assigned → List Pair
+abbrev pub frozen_pairs : Assignment → List Pair
 frozen_pairs a = part (is_frozen a) (pairs a)
 
 -- the frozen meters of a have in b the branches that they have in a
-abbrev pub KeepsFrozen : Assigned → Assigned → Type 0
+abbrev pub KeepsFrozen : Assignment → Assignment → Type 0
 KeepsFrozen a b = (x : ℕ) → is_frozen a x ≡ true → branch_at b x ≡ branch_at a x
 
 -- no assignment that has the frozen pairs of a is so long
-abbrev pub NoneSoLong : List (Option Ends) → List Touch → Assigned → ℕ → Type 0
+abbrev pub NoneSoLong : List (Option Ends) → List Touch → Assignment → ℕ → Type 0
 NoneSoLong ends touches a long = (B : List Pair) → HasFrozenOf ends touches a B → length B < long
 
 -- the meter m took e in b, where it is frozen as those of a are, and the pairs are as many as they are to be
-pub record HasTaken (a b : Assigned) (m e long : ℕ) : Type 0 where
+pub record HasTaken (a b : Assignment) (m e long : ℕ) : Type 0 where
   pub has : branch_at b m ≡ Some e
   pub frozen : b.frozen ≡ slice_set a.frozen m true
   pub long_enough : long ≤ length (pairs b)
 
 -- the frozen meters are as before, and no assignment that has their pairs and the pair of m and e is so long
-pub record HasRefused (ends : List (Option Ends)) (touches : List Touch) (a b : Assigned) (m e long : ℕ) : Type 0 where
+pub record HasRefused (ends : List (Option Ends)) (touches : List Touch) (a b : Assignment) (m e long : ℕ) : Type 0 where
   pub frozen : b.frozen ≡ a.frozen
   pub none : (B : List Pair) → HasFrozenOf ends touches a B → In (m, e) B → length B < long
 
 -- a meter before m touches the same, and has a higher branch than y, or none
-pub record IsPassed (touches : List Touch) (a : Assigned) (m y : ℕ) : Type 0 where
+pub record IsPassed (touches : List Touch) (a : Assignment) (m y : ℕ) : Type 0 where
   pub before : ℕ
   pub lower : before < m
   pub same : slice_index_or touches before Nothing ≡ slice_index_or touches m Nothing
@@ -49,7 +49,7 @@ pub record IsPassed (touches : List Touch) (a : Assigned) (m y : ℕ) : Type 0 w
 
 -- the first i meters are decided: the pairs are as many as they can be, no assignment of that number comes before them by
 -- these meters, and of these just those that have a pair are frozen
-pub record IsDecided (ends : List (Option Ends)) (touches : List Touch) (a : Assigned) (i long : ℕ) : Type 0 where
+pub record IsDecided (ends : List (Option Ends)) (touches : List Touch) (a : Assignment) (i long : ℕ) : Type 0 where
   pub length_is : length (pairs a) ≡ long
   pub longest : (B : List Pair) → IsAssignmentAt ends touches (every_item touches) B → length B ≤ long
   pub least : (B : List Pair) → IsAssignmentAt ends touches (every_item touches) B → length B ≡ long → IsNotAfter (range_with_len 0 i) (pairs a) B

@@ -4,7 +4,7 @@ ghost use Rattle.obs_matroid.specs.Lists.{In};
 ghost use Rattle.obs_meter.specs.declared.Touch.TheVariants.{Nothing};
 ghost use Rattle.obs_meter.specs.Sizes.{HasRoomFor};
 ghost use Rattle.obs_meter.specs.Touches.{AreInRange, touch_at};
-ghost use Rattle.obs_assign.specs.Assigned.{HasRoomOf, IsWhole, StandsOver, is_frozen, pairs};
+ghost use Rattle.obs_assign.specs.Assignment.{HasRoomOf, IsWhole, StandsOver, is_frozen, pairs};
 ghost use Rattle.obs_first.specs.Deciding.{HasRefused, HasTaken, IsDecided, IsPassed, KeepsFrozen, NoneSoLong, frozen_pairs};
 
 use obs_assign::{Assignment, Steps};

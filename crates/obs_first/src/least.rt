@@ -3,7 +3,7 @@ ghost use Rattle.std.specs.Prelude.{◌≡◌, false, length, replicate};
 ghost use Rattle.obs_meter.specs.Assignments.{IsRhoAt};
 ghost use Rattle.obs_meter.specs.Sizes.{HasRoomFor};
 ghost use Rattle.obs_meter.specs.Touches.{AreInRange, live_items};
-ghost use Rattle.obs_assign.specs.Assigned.{HasRoomOf, IsWhole, StandsOver, pairs};
+ghost use Rattle.obs_assign.specs.Assignment.{HasRoomOf, IsWhole, StandsOver, pairs};
 ghost use Rattle.obs_exchange.specs.Laws.{IsThawed};
 ghost use Rattle.obs_first.specs.First.{first_pairs};
 

@@ -3,7 +3,7 @@ ghost use Rattle.std.specs.Prelude.{◌≡◌, ◌<◌, length, IsTrue};
 ghost use Rattle.obs_meter.specs.Assignments.{IsRhoAt};
 ghost use Rattle.obs_meter.specs.Sizes.{HasRoomFor};
 ghost use Rattle.obs_meter.specs.Touches.{AreInRange, live_items};
-ghost use Rattle.obs_assign.specs.Assigned.{StandsOver, pairs};
+ghost use Rattle.obs_assign.specs.Assignment.{StandsOver, pairs};
 
 use crate::first;
 use obs_assign::{Assignment, Steps};

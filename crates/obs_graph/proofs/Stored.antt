@@ -3,7 +3,7 @@ use Rattle.std.proofs.Common.{◌≡◌, ℕ, suc, ◌*◌, ◌^◌, ◌<◌, �
 use Rattle.std.proofs.lemmas.List.{length-take, drop_all, append-nil, take_all}
 use Rattle.obs_graph.specs.declared.Ends.{Ends}
 use Rattle.obs_graph.specs.Positions.{part_start}
-use Rattle.obs_graph.specs.Shape.{IsStored}
+use Rattle.obs_graph.specs.Graph.{IsStored}
 use Rattle.obs_graph.proofs.FlatParts.{part_start-le}
 
 -- a part ends within the array

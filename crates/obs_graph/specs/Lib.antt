@@ -1,4 +1,4 @@
 pub mod Joined
 pub mod Positions
-pub mod Shape
+pub mod Graph
 pub mod Search

@@ -8,6 +8,7 @@ pub struct Ends {
     pub b: u32,
 }
 
+mod graph;
 pub mod laws;
 mod memory;
 pub mod parts;
@@ -15,8 +16,7 @@ mod rank;
 pub mod search;
 #[cfg(test)]
 mod tests;
-mod whole;
 
+pub use graph::Graph;
 pub use memory::NoMemory;
 pub use rank::GraphWork;
-pub use whole::Graph;

@@ -7,7 +7,7 @@ use Rattle.std.proofs.lemmas.List.{get_or_default}
 use Rattle.std.proofs.lemmas.List.Folds.{Any-from_list_any, list_any_at}
 use Rattle.obs_graph.specs.declared.Ends.{Ends}
 use Rattle.obs_graph.specs.Positions.{has_end}
-use Rattle.obs_graph.specs.Shape.{Shape}
+use Rattle.obs_graph.specs.Graph.{Graph}
 use Rattle.obs_matroid.proofs.Contained.{All-from_In, In-from_All}
 use Rattle.obs_matroid.proofs.Lists.{clash, In-map_from}
 use Rattle.obs_meter.specs.declared.Touch.{Touch}
@@ -88,20 +88,20 @@ fewer_stars crossed (Star v ∷ ts) t =
       | inr n ↦ let h = fewer_stars crossed ts (rw n at t) in rw n (omega (arith, h))
     ]
 
-kept_in_range : (g : Shape) (crossed : ℕ → Bool) (t : Touch) → IsInRange g t → IsInRange g (kept crossed t)
+kept_in_range : (g : Graph) (crossed : ℕ → Bool) (t : Touch) → IsInRange g t → IsInRange g (kept crossed t)
 kept_in_range g crossed t h = elim (cases_Bool (straddles crossed t)) [ inl y ↦ rw y tt | inr n ↦ rw n h ]
 
 -- what remains is in range
-pub remaining_in_range : (g : Shape) (crossed : ℕ → Bool) (touches : List Touch) → AreInRange g touches → AreInRange g (remaining crossed touches)
+pub remaining_in_range : (g : Graph) (crossed : ℕ → Bool) (touches : List Touch) → AreInRange g touches → AreInRange g (remaining crossed touches)
 remaining_in_range g crossed touches h =
     All-from_In (IsInRange g) (remaining crossed touches) (λ t i. let p = In-map_from (kept crossed) t touches i in
     rw p.2 (kept_in_range g crossed p.0 (In-from_All (IsInRange g) touches h p.0 p.1)))
 
-star_below : (g : Shape) (n : ℕ) (t : Touch) → n ≡ g.vertices → IsInRange g t → IsStarBelow n t
+star_below : (g : Graph) (n : ℕ) (t : Touch) → n ≡ g.vertices → IsInRange g t → IsStarBelow n t
 star_below g n Nothing e h = tt
 star_below g n (Edge p) e h = tt
 star_below g n (Star v) e h = omega (arith, e, h)
 
 -- stars in range are below the number of vertices
-pub stars_below : (g : Shape) (n : ℕ) (touches : List Touch) → n ≡ g.vertices → AreInRange g touches → All (IsStarBelow n) touches
+pub stars_below : (g : Graph) (n : ℕ) (touches : List Touch) → n ≡ g.vertices → AreInRange g touches → All (IsStarBelow n) touches
 stars_below g n touches e h = All-from_In (IsStarBelow n) touches (λ t i. star_below g n t e (In-from_All (IsInRange g) touches h t i))

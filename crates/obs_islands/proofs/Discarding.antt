@@ -8,7 +8,7 @@ use Rattle.std.proofs.lemmas.List.FromFn.{fill_by_all}
 use Rattle.obs_graph.specs.declared.Ends.{Ends}
 use Rattle.obs_graph.specs.Joined.{first_joined}
 use Rattle.obs_graph.specs.Positions.{branches_at, present}
-use Rattle.obs_graph.specs.Shape.{Shape, itself_of}
+use Rattle.obs_graph.specs.Graph.{Graph, itself_of}
 use Rattle.obs_graph.proofs.AtVertex.{at_vertex, has_end-at_vertex}
 use Rattle.obs_graph.proofs.First.{first_joined-first_joined, first_joined-le}
 use Rattle.obs_graph.proofs.Present.{branch_at}
@@ -23,12 +23,12 @@ use Rattle.obs_matroid.proofs.Lists.{clash, In-filter_from, In_same}
 use Rattle.obs_matroid.proofs.Pairs.{In-part_from, branches_within}
 use Rattle.obs_meter.specs.declared.Touch.{Touch}
 use Rattle.obs_meter.specs.declared.Touch.TheVariants.{Nothing, Edge, Star}
-use Rattle.obs_meter.specs.Spanned.{ends_at, graph_matroid, hub_of, joined_at, rank_at}
+use Rattle.obs_meter.specs.Spanned.{ends_at, graph_matroid, common_vertex, joined_at, rank_at}
 use Rattle.obs_meter.specs.Touches.{is_live, live_items, touch_at, touched}
 use Rattle.obs_meter.proofs.Assigned.{from_matroid, live_items-distinct}
 use Rattle.obs_meter.proofs.Instance.{IsJoining-graph, IsMatroid-graph}
 use Rattle.obs_meter.proofs.Touched.{touched-hub}
-use Rattle.obs_assign.specs.Assigned.{Assigned, branch_at as slot_of, is_frozen, pairs}
+use Rattle.obs_assign.specs.Assignment.{Assignment, branch_at as slot_of, is_frozen, pairs}
 use Rattle.obs_assign.specs.Pins.{joins}
 use Rattle.obs_assign.proofs.Paths.{apart-pairs, joined-pairs}
 use Rattle.obs_assign.proofs.Slotted.{slot_branch}
@@ -49,7 +49,7 @@ abbrev pub IsUsedOf : List Touch → List Touch → Type 0
 IsUsedOf ts us = (m : ℕ) → (get_or us m Nothing ≡ get_or ts m Nothing) ⊎ (get_or us m Nothing ≡ Nothing)
 
 -- no live item that lies inside a set that is spanned from inside was discarded
-abbrev pub HoldsAll : Shape → List Touch → List Touch → Type 0
+abbrev pub HoldsAll : Graph → List Touch → List Touch → Type 0
 HoldsAll g ts us =
     HoldsInside (ends_at g.ends) (graph_matroid g.vertices g.ends) (touch_at g.ends ts) (every_vertex g.vertices) (live_items g.ends ts) (live_items g.ends us)
 
@@ -66,7 +66,7 @@ itself_is None e p i = absurd i
 itself_is (Some x) e p (inl i) = i
 itself_is (Some x) e p (inr i) = absurd i
 
-module _ (g : Shape) (ts us : List Touch) (used : IsUsedOf ts us) where
+module _ (g : Graph) (ts us : List Touch) (used : IsUsedOf ts us) where
   -- a live item touches what it touched at first
   used_touch : (m : ℕ) → In m (live_items g.ends us) → touch_at g.ends us m ≡ touch_at g.ends ts m
   used_touch m i = elim (used m) [
@@ -77,7 +77,7 @@ module _ (g : Shape) (ts us : List Touch) (used : IsUsedOf ts us) where
   used_live : (m : ℕ) → In m (live_items g.ends us) → In m (live_items g.ends ts)
   used_live m i = In-live g.ends ts m (rw (← used_touch m i) (live-from_live_items g.ends us m i))
 
-  module _ (a : Assigned) (S : ℕ → Bool) (closed : HasClosedSet a g us S) (thawed : IsThawed a) where
+  module _ (a : Assignment) (S : ℕ → Bool) (closed : HasClosedSet a g us S) (thawed : IsThawed a) where
     assigns : IsAssignment (graph_matroid g.vertices g.ends) (touch_at g.ends ts) (live_items g.ends us) (pairs a)
     assigns = assignment_same (graph_matroid g.vertices g.ends) (touch_at g.ends us) (touch_at g.ends ts) (live_items g.ends us) used_touch (pairs a)
         (IsAssignment-live g.vertices a g us closed.whole closed.stands)
@@ -157,7 +157,7 @@ module _ (g : Shape) (ts us : List Touch) (used : IsUsedOf ts us) where
           in_one_piece = λ m u v i.
               joined_at_hub (ends_at g.ends) (joined_at g.ends) (rank_at g.vertices g.ends) (IsJoining-graph g.ends) (IsMatroid-graph g.vertices g.ends closed.branches) (touch_at g.ends ts) (every_vertex g.vertices) (live_items g.ends ts)
               (vertices-distinct g.vertices) (live_items-distinct g.ends ts) (λ m e i j. ends_low g.vertices g.ends ts closed.branches m e j)
-              (pairs a) m (hub_of g.ends (get_or ts m Nothing)) (λ e k. touched-hub g.ends (get_or ts m Nothing) e k)
+              (pairs a) m (common_vertex g.ends (get_or ts m Nothing)) (λ e k. touched-hub g.ends (get_or ts m Nothing) e k)
               (λ e k. touch_joined m e i (subst (λ (xs : List ℕ). In e xs) (sym (used_touch m i)) k) (get_or us m Nothing) refl) u v;
         }
 

@@ -23,7 +23,7 @@ use Rattle.obs_meter.specs.Touches.{live_items, touch_at}
 use Rattle.obs_meter.proofs.Assigned.{live_items-distinct}
 use Rattle.obs_meter.proofs.Instance.{IsJoining-graph, IsMatroid-graph}
 use Rattle.obs_meter.proofs.Touched.{touched-present}
-use Rattle.obs_forest.specs.Holding.{has_position}
+use Rattle.obs_forest.specs.Forest.{has_position}
 use Rattle.obs_islands.specs.Firsts.{in_one_island, is_spanned, island_first}
 use Rattle.obs_islands.specs.Islands.{IsFirstIn, IsIslandAt, IsOnlyIslandOf, every_vertex}
 use Rattle.obs_islands.proofs.Parts.{In-from_has, In-vertices, find_vertex, has-from_In, some_part-from, some_part-of, vertices-distinct}

@@ -2,13 +2,13 @@
 use Rattle.std.proofs.Common.{◌≡◌, ℕ, ◌<◌, List, length, get_or, refl, ap, ◌∙◌, inl, inr, Bool, true, arith}
 use Rattle.std.specs.List.{list_any}
 use Rattle.std.proofs.lemmas.List.{length-map}
-use Rattle.obs_graph.specs.Shape.{Shape}
+use Rattle.obs_graph.specs.Graph.{Graph}
 use Rattle.obs_meter.specs.declared.Touch.{Touch}
 use Rattle.obs_meter.specs.declared.Touch.TheVariants.{Nothing}
 use Rattle.obs_meter.specs.Sizes.{HasRoomFor}
 use Rattle.obs_meter.specs.Touches.{AreInRange}
-use Rattle.obs_assign.specs.Assigned.{Assigned, HasRoomOf, StandsOver}
-use Rattle.obs_exchange.specs.Found.{Working}
+use Rattle.obs_assign.specs.Assignment.{Assignment, HasRoomOf, StandsOver}
+use Rattle.obs_exchange.specs.Found.{Work}
 use Rattle.obs_exchange.specs.Laws.{HasClosedSet, IsThawed}
 use Rattle.obs_exchange.proofs.Lengthening.{room_again, rooms}
 use Rattle.obs_islands.specs.Rounds.{AreFirsts, is_crossed, kept, remaining, straddles}
@@ -16,7 +16,7 @@ use Rattle.obs_islands.proofs.Crossing.{fewer_stars, kept_cases, remaining_at, r
 use Rattle.obs_islands.proofs.Discarding.{HoldsAll, IsUsedOf, round_holds}
 
 -- of the items ts those of us are still used; first and start are the assignment and the arrays as they were at first
-pub record IsSettling (g : Shape) (ts us : List Touch) (first : Assigned) (start : Working) (a : Assigned) (w : Working) : Type 0 where
+pub record IsSettling (g : Graph) (ts us : List Touch) (first : Assignment) (start : Work) (a : Assignment) (w : Work) : Type 0 where
   pub stands : StandsOver a g us
   pub in_range : AreInRange g us
   pub room : HasRoomFor w.sizes g us
@@ -27,7 +27,7 @@ pub record IsSettling (g : Shape) (ts us : List Touch) (first : Assigned) (start
   pub same_room : HasRoomOf first a
   pub same_sizes : w.sizes ≡ start.sizes
 
-pub Settling-begun : (g : Shape) (ts : List Touch) (a : Assigned) (w : Working) → StandsOver a g ts → AreInRange g ts → HasRoomFor w.sizes g ts → IsThawed a
+pub Settling-begun : (g : Graph) (ts : List Touch) (a : Assignment) (w : Work) → StandsOver a g ts → AreInRange g ts → HasRoomFor w.sizes g ts → IsThawed a
     → IsSettling g ts ts a w a w
 Settling-begun g ts a w stands in_range room thawed = record {
   stands = stands;
@@ -47,10 +47,10 @@ still_used ts us crossed used m = elim (kept_cases crossed (get_or us m Nothing)
   | inl k ↦ elim (used m) [ inl e ↦ inl (remaining_at crossed us m ∙ (k ∙ e)) | inr e ↦ inr (remaining_at crossed us m ∙ (k ∙ e)) ]
 ]
 
-room_less : (g : Shape) (us vs : List Touch) (w : Working) → length vs ≡ length us → HasRoomFor w.sizes g us → HasRoomFor w.sizes g vs
+room_less : (g : Graph) (us vs : List Touch) (w : Work) → length vs ≡ length us → HasRoomFor w.sizes g us → HasRoomFor w.sizes g vs
 room_less g us vs w e r = record { meters = let m = r.meters in omega (arith, e, m); branches = r.branches; vertices = r.vertices }
 
-module _ (g : Shape) (ts us vs : List Touch) (first : Assigned) (start : Working) (a b c : Assigned) (w x : Working) (S : ℕ → Bool) (firsts : List ℕ)
+module _ (g : Graph) (ts us vs : List Touch) (first : Assignment) (start : Work) (a b c : Assignment) (w x : Work) (S : ℕ → Bool) (firsts : List ℕ)
     (h : IsSettling g ts us first start a w) (closed : HasClosedSet b g us S) (thawed : IsThawed b) (named : AreFirsts g.vertices b.forest.held firsts)
     (remains : vs ≡ remaining (is_crossed g.ends firsts) us) (room : HasRoomOf a b) (size : x.sizes ≡ w.sizes) where
   pub remain-length : length vs ≡ length us

@@ -21,7 +21,7 @@ use Rattle.obs_meter.specs.Touches.{live_items, touch_at}
 use Rattle.obs_meter.proofs.Assigned.{from_matroid, live_items-distinct, rho_at-is, to_matroid}
 use Rattle.obs_meter.proofs.Instance.{IsJoining-graph}
 use Rattle.obs_meter.proofs.Touched.{touched-present}
-use Rattle.obs_forest.specs.Holding.{has_position}
+use Rattle.obs_forest.specs.Forest.{has_position}
 use Rattle.obs_islands.specs.Firsts.{is_spanned, lies_inside}
 use Rattle.obs_islands.specs.Islands.{IsSpannedAt, every_vertex}
 use Rattle.obs_islands.proofs.Parts.{In-from_has, In-vertices, has-from_In, length-part, vertices-distinct}

@@ -7,7 +7,7 @@ use Rattle.obs_meter.specs.declared.Touch.{Touch}
 use Rattle.obs_meter.specs.Assignments.{rho_at}
 use Rattle.obs_meter.specs.Spanned.{ends_at}
 use Rattle.obs_meter.specs.Touches.{live_items, touch_at}
-use Rattle.obs_forest.specs.Holding.{has_position}
+use Rattle.obs_forest.specs.Forest.{has_position}
 use Rattle.obs_islands.specs.Islands.{every_vertex}
 
 -- whether some part of the list, in its order, passes the test

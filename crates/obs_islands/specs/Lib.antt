@@ -1,4 +1,4 @@
 pub mod Islands
 pub mod Firsts
-pub mod Islanding
+pub mod IslandWork
 pub mod Rounds

@@ -2,7 +2,7 @@
 ghost use Rattle.std.specs.Prelude.{◌≡◌, ◌<◌, ◌≤◌, All, length};
 ghost use Rattle.std.specs.List.{list_any};
 ghost use Rattle.obs_meter.specs.Touches.{AreInRange};
-ghost use Rattle.obs_assign.specs.Assigned.{has_flag};
+ghost use Rattle.obs_assign.specs.Assignment.{has_flag};
 ghost use Rattle.obs_islands.specs.Rounds.{IsStarBelow, is_crossed, remaining, straddles};
 
 use crate::pieces::mark_crossed;

@@ -1,7 +1,7 @@
 // The pieces of a forest, and the vertices at which a branch lies between two of them.
 ghost use Rattle.std.specs.Prelude.{◌≡◌, ◌<◌, ◌^◌, ◌||◌, ◌&&◌, ℕ, IfSome, false, length, slice_index_or};
 ghost use Rattle.obs_graph.specs.Positions.{has_end};
-ghost use Rattle.obs_assign.specs.Assigned.{has_flag};
+ghost use Rattle.obs_assign.specs.Assignment.{has_flag};
 ghost use Rattle.obs_islands.specs.Rounds.{AreFirsts, is_between, is_crossed};
 
 use obs_forest::Forest;

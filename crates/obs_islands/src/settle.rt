@@ -3,7 +3,7 @@ ghost use Rattle.std.specs.Prelude.{◌≡◌, ◌≤◌, length, take};
 ghost use Rattle.std.specs.List.{list_any};
 ghost use Rattle.obs_meter.specs.Sizes.{HasRoomFor};
 ghost use Rattle.obs_meter.specs.Touches.{AreInRange};
-ghost use Rattle.obs_assign.specs.Assigned.{Fits, HasRoomOf, StandsOver, has_flag};
+ghost use Rattle.obs_assign.specs.Assignment.{Fits, HasRoomOf, StandsOver, has_flag};
 ghost use Rattle.obs_exchange.specs.Laws.{HasClosedSet, IsThawed};
 ghost use Rattle.obs_islands.specs.Firsts.{islands_of};
 ghost use Rattle.obs_islands.specs.Rounds.{AreFirsts, is_crossed, remaining, straddles};

@@ -30,9 +30,9 @@ pub struct IslandWork {
 
 impl Model for IslandWork {
     ghost use Rattle.std.specs.Prelude.{◌≡◌, ◌≤◌, length, take};
-    ghost use Rattle.obs_islands.specs.Islanding.{Islanding};
+    ghost use Rattle.obs_islands.specs.IslandWork.{IslandWork};
 
-    ghost Value = { Islanding };
+    ghost Value = { IslandWork };
 
     ghost view = { λ w. record { firsts = take w.vertices w.firsts.items; sizes = w.search.sizes } };
 

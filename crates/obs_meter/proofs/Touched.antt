@@ -6,14 +6,14 @@ use Rattle.std.proofs.lemmas.Bool.Decides.{nat_tests}
 use Rattle.std.proofs.lemmas.List.{get_or_past}
 use Rattle.obs_graph.specs.declared.Ends.{Ends}
 use Rattle.obs_graph.specs.Positions.{branches_at, has_end}
-use Rattle.obs_graph.specs.Shape.{itself_of}
+use Rattle.obs_graph.specs.Graph.{itself_of}
 use Rattle.obs_graph.proofs.AtVertex.{positions_from_rise, has_end-at_vertex, end_at}
 use Rattle.obs_matroid.specs.Lists.{In, IsRising}
 use Rattle.obs_matroid.proofs.Contained.{Contains-from_In, All-from_In}
 use Rattle.obs_meter.specs.declared.Touch.{Touch}
 use Rattle.obs_meter.specs.declared.Touch.TheVariants.{Nothing, Edge, Star}
 use Rattle.obs_meter.specs.Touches.{touched, touch_at, is_live}
-use Rattle.obs_meter.specs.Spanned.{both_ends, ends_at, hub_of}
+use Rattle.obs_meter.specs.Spanned.{both_ends, ends_at, common_vertex}
 
 itself_rising : (o : Option Ends) (e : ℕ) → AllPairs ◌<◌ (itself_of o e)
 itself_rising None e = λ i j d l m. absurd (omega (arith, m))
@@ -45,7 +45,7 @@ end_there v None t = absurd (cc t)
 end_there v (Some x) t = end_at v x t
 
 -- a touched branch has an end at the hub
-pub touched-hub : (ends : List (Option Ends)) (t : Touch) (e : ℕ) → In e (touched ends t) → ((ends_at ends e).0 ≡ hub_of ends t) ⊎ ((ends_at ends e).1 ≡ hub_of ends t)
+pub touched-hub : (ends : List (Option Ends)) (t : Touch) (e : ℕ) → In e (touched ends t) → ((ends_at ends e).0 ≡ common_vertex ends t) ⊎ ((ends_at ends e).1 ≡ common_vertex ends t)
 touched-hub ends Nothing e i = absurd i
 touched-hub ends (Edge p) e i = let h = itself_in (slice_index_or ends p None) p e i in inl (ap (λ x. (ends_at ends x).0) h.0)
 touched-hub ends (Star v) e i = end_there v (slice_index_or ends e None) (has_end-at_vertex ends v e (Contains-from_In e (branches_at ends v) i))

@@ -30,7 +30,7 @@ abbrev pub graph_matroid : ℕ → List (Option Ends) → Matroid
 graph_matroid n ends = graphic (ends_at ends) (joined_at ends) (rank_at n ends)
 
 -- a vertex at which all branches lie that are touched so
-abbrev pub hub_of : List (Option Ends) → Touch → ℕ
-hub_of ends Nothing = 0
-hub_of ends (Edge e) = (ends_at ends e).0
-hub_of ends (Star v) = v
+abbrev pub common_vertex : List (Option Ends) → Touch → ℕ
+common_vertex ends Nothing = 0
+common_vertex ends (Edge e) = (ends_at ends e).0
+common_vertex ends (Star v) = v

@@ -3,7 +3,7 @@ use Rattle.std.specs.Prelude.{ℕ, ◌<◌, Bool, nat_lt, Option, None, List, []
 use Rattle.std.specs.List.{range_with_len}
 use Rattle.obs_graph.specs.declared.Ends.{Ends}
 use Rattle.obs_graph.specs.Positions.{branches_at}
-use Rattle.obs_graph.specs.Shape.{Shape, itself_of}
+use Rattle.obs_graph.specs.Graph.{Graph, itself_of}
 use Rattle.obs_meter.specs.declared.Touch.{Touch}
 use Rattle.obs_meter.specs.declared.Touch.TheVariants.{Nothing, Edge, Star}
 
@@ -18,13 +18,13 @@ abbrev pub touch_at : List (Option Ends) → List Touch → ℕ → List ℕ
 touch_at ends touches m = touched ends (slice_index_or touches m Nothing)
 
 -- the position or the vertex is one of the graph's
-abbrev pub IsInRange : Shape → Touch → Type 0
+abbrev pub IsInRange : Graph → Touch → Type 0
 IsInRange g Nothing = Unit {0}
 IsInRange g (Edge e) = e < length g.ends
 IsInRange g (Star v) = v < g.vertices
 
 -- the same for each item
-abbrev pub AreInRange : Shape → List Touch → Type 0
+abbrev pub AreInRange : Graph → List Touch → Type 0
 AreInRange g touches = All (IsInRange g) touches
 
 -- whether the item m touches a branch

@@ -8,7 +8,7 @@ ghost use Rattle.obs_matroid.specs.Assignments.{IsAssignment, IsRho, Pair};
 ghost use Rattle.obs_matroid.specs.Bounds.{bound};
 ghost use Rattle.obs_meter.specs.declared.Touch.{Touch};
 ghost use Rattle.obs_meter.specs.Touches.{every_item, live_items, touch_at, touched};
-ghost use Rattle.obs_meter.specs.Spanned.{ends_at, graph_matroid, hub_of};
+ghost use Rattle.obs_meter.specs.Spanned.{ends_at, graph_matroid, common_vertex};
 ghost use Rattle.obs_meter.specs.Assignments.{IsAssignmentAt, IsRhoAt, bound_at, rho_at};
 
 /// The branches that an item touches rise and are present, and all of them lie at one vertex.
@@ -17,7 +17,8 @@ pub fn touched_branches()
     ensures present { (ends : List (Option Ends)) (t : Touch) →
         All (λ e. IsSome (slice_index_or ends e None)) (touched ends t) }
     ensures hub { (ends : List (Option Ends)) (t : Touch) →
-        All (λ e. ((ends_at ends e).0 ≡ hub_of ends t) ⊎ ((ends_at ends e).1 ≡ hub_of ends t)) (touched ends t) }
+        All (λ e. ((ends_at ends e).0 ≡ common_vertex ends t) ⊎ ((ends_at ends e).1 ≡ common_vertex ends t))
+        (touched ends t) }
 {}
 
 /// What the branches of a graph join is a matroid, and forests are its independent lists.

@@ -1,4 +1,4 @@
-// Items with what each of them touches.
+// Meters with what each of them touches.
 ghost use Rattle.std.specs.Prelude.{◌≡◌, ◌<◌, ◌≤◌, [], length, All, IfOk, slice_index_or, take};
 ghost use Rattle.obs_meter.specs.Touches.{IsInRange, is_live, touch_at};
 
@@ -8,7 +8,7 @@ use obs_graph::Graph;
 use std::alloc::Global;
 use std::marker::Model;
 
-/// What each item touches, such as the meters of a network. Items are numbered from 0.
+/// What each item touches, such as the meters of a network. Meters are numbered from 0.
 #[derive(Drop)]
 pub struct Meters {
     count: usize,
@@ -17,9 +17,9 @@ pub struct Meters {
 
 impl Model for Meters {
     ghost use Rattle.std.specs.Prelude.{◌≤◌, ◌<◌, ◌^◌, length, take};
-    ghost use Rattle.obs_meter.specs.Held.{Items};
+    ghost use Rattle.obs_meter.specs.Held.{Meters};
 
-    ghost Value = { Items };
+    ghost Value = { Meters };
 
     ghost view = { λ m. record { touches = take m.count m.touches.items; most = length m.touches.items } };
 

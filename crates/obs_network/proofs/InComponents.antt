@@ -21,7 +21,7 @@ use Rattle.obs_meter.proofs.Touched.{touched-hub}
 use Rattle.obs_network.specs.Switched.{case_bus_count}
 use Rattle.obs_network.specs.Components.{if_energised, is_first_bus}
 use Rattle.obs_network.specs.Network.{case_branches, case_component_count, case_components, case_energised, case_live}
-use Rattle.obs_network.specs.Observable.{branch_component, is_fed, item_component}
+use Rattle.obs_network.specs.Observable.{branch_component, is_energised_component, item_component}
 use Rattle.obs_network.proofs.Numbered.{component_of-below}
 use Rattle.obs_network.proofs.OfCase.{case_live-branches}
 use Rattle.obs_network.proofs.OfLaws.{case_component-at}
@@ -47,7 +47,7 @@ live_from components energised (Some y) x h =
     ]
 
 pub present_is : (t : Tables) (e : ℕ) (x : Ends) → get_or (case_branches t) e None ≡ Some x
-    → (get_or (case_live t) e None ≡ Some x) × (is_fed t (get_or (case_components t) x.a 0) ≡ true)
+    → (get_or (case_live t) e None ≡ Some x) × (is_energised_component t (get_or (case_components t) x.a 0) ≡ true)
 present_is t e x h = live_from (case_components t) (case_energised t) (get_or (case_live t) e None) x (sym (get_or-energised t e) ∙ h)
 
 -- both ends of a live branch are buses of one component
@@ -79,12 +79,12 @@ touched_component t v touches m e i =
     let of : ℕ → ℕ = λ u. get_or (case_components t) u 0 in
     elim (touched-hub (case_branches t) (slice_index_or touches m Nothing) e i) [ inl h ↦ ap of h | inr h ↦ ends_component t v e ∙ ap of h ]
 
-fed_of : (t : Tables) (e : ℕ) (o : Option Ends) → get_or (case_branches t) e None ≡ o → IsSome o → is_fed t (get_or (case_components t) (both_ends o).0 0) ≡ true
+fed_of : (t : Tables) (e : ℕ) (o : Option Ends) → get_or (case_branches t) e None ≡ o → IsSome o → is_energised_component t (get_or (case_components t) (both_ends o).0 0) ≡ true
 fed_of t e None h s = absurd (cc s)
 fed_of t e (Some x) h s = (present_is t e x h).1
 
 -- a branch that is present is of an energised component
-pub present_fed : (t : Tables) (e : ℕ) → IsSome (slice_index_or (case_branches t) e None) → is_fed t (branch_component t e) ≡ true
+pub present_fed : (t : Tables) (e : ℕ) → IsSome (slice_index_or (case_branches t) e None) → is_energised_component t (branch_component t e) ≡ true
 present_fed t e s = fed_of t e (get_or (case_branches t) e None) refl s
 
 below_of : (t : Tables) → IsValid t → (e : ℕ) (o : Option Ends) → get_or (case_branches t) e None ≡ o → IsSome o → ((both_ends o).0 < case_bus_count t) × ((both_ends o).1 < case_bus_count t)

@@ -6,21 +6,21 @@ use Rattle.std.proofs.lemmas.Bool.{cases_Bool, cases_eq, cases_lt, eq-eqb, eqb-t
 use Rattle.std.proofs.lemmas.List.{get_or-map, get_or_append_left, get_or_past, length-map}
 use Rattle.obs_graph.specs.declared.Ends.{Ends}
 use Rattle.obs_graph.specs.Positions.{positions_from}
-use Rattle.obs_graph.specs.Shape.{Shape}
+use Rattle.obs_graph.specs.Graph.{Graph}
 use Rattle.obs_case.specs.Tables.{Tables, IsValid}
 use Rattle.obs_matroid.specs.Lists.{In, IsRising}
 use Rattle.obs_matroid.proofs.Contained.{All-from_In}
 use Rattle.obs_matroid.proofs.Lists.{In-filter, In-filter_from}
 use Rattle.obs_meter.specs.declared.Touch.{Touch}
 use Rattle.obs_meter.specs.declared.Touch.TheVariants.{Nothing}
-use Rattle.obs_meter.specs.Held.{Items}
-use Rattle.obs_meter.specs.Spanned.{both_ends, hub_of}
+use Rattle.obs_meter.specs.Held.{Meters}
+use Rattle.obs_meter.specs.Spanned.{both_ends, common_vertex}
 use Rattle.obs_meter.specs.Touches.{every_item, is_live, live_items, touch_at, touched}
 use Rattle.obs_meter.proofs.Touched.{live-from_In, touched-present}
 use Rattle.obs_switch.specs.Groups.{items_with}
-use Rattle.obs_network.specs.Network.{Grouped, NetworkOf, case_branches, case_component_count, case_components, case_meters, case_offered, network_of}
+use Rattle.obs_network.specs.Network.{Components, Network, case_branches, case_component_count, case_components, case_meters, case_offered, network_of}
 use Rattle.obs_network.specs.Located.{component_of_branch, component_of_item, ends_component, is_meter_in, live_meters_of, touch_component, vertex_component}
-use Rattle.obs_network.specs.Observable.{branch_component, case_live_meters, is_fed, item_component}
+use Rattle.obs_network.specs.Observable.{branch_component, case_live_meters, is_energised_component, item_component}
 use Rattle.obs_network.specs.Switched.{case_buses}
 use Rattle.obs_network.specs.Touching.{candidate_touch, meter_touch, meter_touches}
 use Rattle.obs_network.specs.Kept.{list_of, lists_of}
@@ -52,14 +52,14 @@ in_list count c home true l = refl
 in_list count c home false l = ne_eqb count c (λ e. absurd (omega (arith, e, l)))
 
 -- the list of a component has its live meters
-pub listed_meters : (components : Grouped) (graph : Shape) (meters : Items) (c : ℕ) → c < length components.first_buses
+pub listed_meters : (components : Components) (graph : Graph) (meters : Meters) (c : ℕ) → c < length components.first_buses
     → items_with (lists_of components graph meters) c
-    ≡ filter (λ m. vertex_component components.of_buses (hub_of graph.ends (slice_index_or meters.touches m Nothing)) == c) (live_items graph.ends meters.touches)
+    ≡ filter (λ m. vertex_component components.of_buses (common_vertex graph.ends (slice_index_or meters.touches m Nothing)) == c) (live_items graph.ends meters.touches)
 listed_meters components graph meters c l =
     let count = length components.first_buses in
     let touches = meters.touches in
     let list : Touch → ℕ = λ touch. list_of count (touch_component components.of_buses graph.ends touch) in
-    let home : ℕ → ℕ = λ m. vertex_component components.of_buses (hub_of graph.ends (slice_index_or touches m Nothing)) in
+    let home : ℕ → ℕ = λ m. vertex_component components.of_buses (common_vertex graph.ends (slice_index_or touches m Nothing)) in
     let live : ℕ → Bool = is_live graph.ends touches in
     let same = length-map touches list in
     let at : (k : ℕ) → k < length (map list touches) → (get_or (map list touches) k 0 == c) ≡ (live (0 + k) && (home (0 + k) == c)) =
@@ -68,7 +68,7 @@ listed_meters components graph meters c l =
     rw e (ap (λ (x : ℕ). x == c) (get_or-map list touches k Nothing 0 (omega (arith, low, same))) ∙ in_list count c (home k) (live k) l) in
     passing (λ m. home m == c) live c (map list touches) 0 at ∙ ap (λ (n : ℕ). filter (λ m. home m == c) (filter live (range_with_len 0 n))) same
 
-pub live_meters-below : (n : NetworkOf) (c : ℕ) → All (λ m. m < length n.meters.touches) (live_meters_of n c)
+pub live_meters-below : (n : Network) (c : ℕ) → All (λ m. m < length n.meters.touches) (live_meters_of n c)
 live_meters-below n c =
     All-from_In (λ m. m < length n.meters.touches) (live_meters_of n c)
     (λ m i. let low = filtered_below (is_live n.graph.ends n.meters.touches) 0 (length n.meters.touches) m (In-filter_from (is_meter_in n c) m (live_items n.graph.ends n.meters.touches) i).0 in omega (arith, low))
@@ -90,15 +90,15 @@ rising_filter p (x ∷ xs) r =
       | inr e ↦ rw e (rising_filter p xs r.1)
     ]
 
-pub live_meters-rising : (n : NetworkOf) (c : ℕ) → IsRising (live_meters_of n c)
+pub live_meters-rising : (n : Network) (c : ℕ) → IsRising (live_meters_of n c)
 live_meters-rising n c =
     rising_filter (is_meter_in n c) (live_items n.graph.ends n.meters.touches)
     (rising_filter (is_live n.graph.ends n.meters.touches) (every_item n.meters.touches) (range_rising 0 (length n.meters.touches)))
 
-pub one_list : (n : NetworkOf) (c d m : ℕ) → In m (live_meters_of n c) → In m (live_meters_of n d) → c ≡ d
+pub one_list : (n : Network) (c d m : ℕ) → In m (live_meters_of n c) → In m (live_meters_of n d) → c ≡ d
 one_list n c d m i j =
     let live = live_items n.graph.ends n.meters.touches in
-    let home = vertex_component n.components.of_buses (hub_of n.graph.ends (slice_index_or n.meters.touches m Nothing)) in
+    let home = vertex_component n.components.of_buses (common_vertex n.graph.ends (slice_index_or n.meters.touches m Nothing)) in
     sym (eqb-true home c (In-filter_from (is_meter_in n c) m live i).1) ∙ eqb-true home d (In-filter_from (is_meter_in n d) m live j).1
 
 some_branch : (L : List ℕ) → nat_lt 0 (length L) ≡ true → (e : ℕ) × In e L
@@ -176,12 +176,12 @@ fed_from t v e c None h same = absurd (cc same)
 fed_from t v e c (Some x) h same = refl
 
 -- a component with a branch is energised
-pub component_with_branch : (t : Tables) → IsValid t → (e c : ℕ) → component_of_branch (network_of t) e ≡ Some c → (c < case_component_count t) × (is_fed t c ≡ true)
+pub component_with_branch : (t : Tables) → IsValid t → (e c : ℕ) → component_of_branch (network_of t) e ≡ Some c → (c < case_component_count t) × (is_energised_component t c ≡ true)
 component_with_branch t v e c h =
     let there : IsSome (slice_index_or (case_branches t) e None) = fed_from t v e c (get_or (case_branches t) e None) refl h in
     let same : branch_component t e ≡ c = same_some (branch_component t e) c (sym (branch_in t e there) ∙ h) in
     let low = branch_component-below t v e there in
-    (omega (arith, low, same), sym (ap (is_fed t) same) ∙ present_fed t e there)
+    (omega (arith, low, same), sym (ap (is_energised_component t) same) ∙ present_fed t e there)
 
 -- an item lies in the component of what it touches
 pub item_in : (t : Tables) → IsValid t → (m e : ℕ) → In e (touch_at (case_branches t) (case_offered t) m) → component_of_item (network_of t) m ≡ component_of_branch (network_of t) e

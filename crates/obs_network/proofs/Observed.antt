@@ -27,7 +27,7 @@ use Rattle.obs_meter.proofs.Touched.{touched-present}
 use Rattle.obs_network.specs.Switched.{case_bus_count}
 use Rattle.obs_network.specs.Components.{component_of, need_of}
 use Rattle.obs_network.specs.Network.{case_branches, case_component_count, case_components, case_live, case_meters, case_needed, case_sizes}
-use Rattle.obs_network.specs.Observable.{IsObservable, IsObservableCase, branch_component, case_live_meters, is_fed, item_component}
+use Rattle.obs_network.specs.Observable.{IsObservable, IsObservableCase, branch_component, case_live_meters, is_energised_component, item_component}
 use Rattle.obs_network.proofs.Numbered.{component_at}
 use Rattle.obs_network.proofs.Grouping.{sizes_of-at}
 use Rattle.obs_network.proofs.OfCase.{case_branches-are}
@@ -110,19 +110,19 @@ module _ (t : Tables) (v : IsValid t) where
 
   -- what a component adds to the needed number
   need_at : ℕ → ℕ
-  need_at c = cond (is_fed t c) (need_of (case_sizes t) c) 0
+  need_at c = cond (is_energised_component t c) (need_of (case_sizes t) c) 0
 
   few_at : (touches : List Touch) (M : List ℕ) (A : List Pair) → IsAssignmentAt (case_branches t) touches M A → (c : ℕ) → c < case_component_count t → length (pairs_in t c A) ≤ need_at c
   unfolding need_at
   few_at touches M A a c l =
-      elim (cases_Bool (is_fed t c)) [
+      elim (cases_Bool (is_energised_component t c)) [
         | inl fed ↦ rw fed (few_in touches M A a c l)
         | inr dead ↦
             let none = nothing_in (pairs_in t c A)
             (λ p i.
             let u = In-filter_from (λ (q : Pair). branch_component t q.1 == c) p A i in
             let own = eqb-true (branch_component t p.1) c u.1 in
-            absurd (cc (sym (ap (is_fed t) own) ∙ present_fed t p.1 (pair_present touches M A a p u.0), dead))) in
+            absurd (cc (sym (ap (is_energised_component t) own) ∙ present_fed t p.1 (pair_present touches M A a p u.0), dead))) in
             omega (arith, none)
       ]
 
@@ -144,7 +144,7 @@ module _ (t : Tables) (v : IsValid t) where
       let touches = case_meters t in
       let M = case_live_meters t in
       let same = sum_below-same (λ k. length (pairs_in t k A)) need_at (case_component_count t) (few_at touches M A a) (sym (split_pairs touches M A a) ∙ long) c l in
-      record { pairs = A; assigns = a; enough = same ∙ cond-true (is_fed t c) (need_of (case_sizes t) c) 0 fed }
+      record { pairs = A; assigns = a; enough = same ∙ cond-true (is_energised_component t c) (need_of (case_sizes t) c) 0 fed }
 
   -- independent branches of different components are independent together
   alone : (k e : ℕ) (L K : List ℕ) → branch_component t e ≡ k → ((x : ℕ) → In x K → branch_component t x ≡ k → ⊥)
@@ -178,7 +178,7 @@ module _ (t : Tables) (v : IsValid t) where
     below : (p : Pair) → In p built → branch_component t p.1 < k
     long : length built ≡ sum_below need_at k
 
-  join : (k : ℕ) → is_fed t k ≡ true → IsObservable t k → Built k → Built (suc k)
+  join : (k : ℕ) → is_energised_component t k ≡ true → IsObservable t k → Built k → Built (suc k)
   unfolding need_at
   join k fed o b =
       let n = case_bus_count t in
@@ -215,16 +215,16 @@ module _ (t : Tables) (v : IsValid t) where
           independent = subst (λ (xs : List ℕ). IsIndependent (graph_matroid n ends) xs) (sym (map-append (λ (p : Pair). p.1) P b.built)) all;
         });
         below = λ p i. elim (cases p i) [ inl h ↦ omega (arith, kind p h) | inr h ↦ let low = b.below p h in omega (arith, low) ];
-        long = length-append P b.built ∙ omega (arith, o.enough, b.long, cond-true (is_fed t k) (need_of (case_sizes t) k) 0 fed);
+        long = length-append P b.built ∙ omega (arith, o.enough, b.long, cond-true (is_energised_component t k) (need_of (case_sizes t) k) 0 fed);
       }
 
-  skip : (k : ℕ) → is_fed t k ≡ false → Built k → Built (suc k)
+  skip : (k : ℕ) → is_energised_component t k ≡ false → Built k → Built (suc k)
   unfolding need_at
   skip k dead b = record {
     built = b.built;
     assigns = b.assigns;
     below = λ p i. let low = b.below p i in omega (arith, low);
-    long = omega (arith, b.long, cond-false (is_fed t k) (need_of (case_sizes t) k) 0 dead);
+    long = omega (arith, b.long, cond-false (is_energised_component t k) (need_of (case_sizes t) k) 0 dead);
   }
 
   build : IsObservableCase t → (k : ℕ) → k ≤ case_component_count t → Built k
@@ -241,7 +241,7 @@ module _ (t : Tables) (v : IsValid t) where
   }
   build o (suc k) l =
       let before = build o k (omega arith) in
-      elim (cases_Bool (is_fed t k)) [ inl fed ↦ join k fed (o k (omega arith) fed) before | inr dead ↦ skip k dead before ]
+      elim (cases_Bool (is_energised_component t k)) [ inl fed ↦ join k fed (o k (omega arith) fed) before | inr dead ↦ skip k dead before ]
 
   pub rho_from_observed : IsObservableCase t → IsRhoAt (case_branches t) (case_meters t) (case_live_meters t) (case_needed t)
   unfolding case_needed need_at

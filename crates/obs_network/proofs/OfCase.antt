@@ -7,7 +7,7 @@ use Rattle.std.proofs.lemmas.List.Elements.{All-append, All-cons, All-head, All-
 use Rattle.std.proofs.lemmas.List.FromFn.{length-map-range_with_len}
 use Rattle.obs_graph.specs.declared.Ends.{Ends}
 use Rattle.obs_graph.specs.Positions.{AreBranches, present}
-use Rattle.obs_graph.specs.Shape.{Shape}
+use Rattle.obs_graph.specs.Graph.{Graph}
 use Rattle.obs_switch.specs.Buses.{LinksBelow, bus_of}
 use Rattle.obs_switch.proofs.FirstNodes.{buses_of-at, bus_of-below, bus_count-le}
 use Rattle.obs_case.specs.declared.rows.Branch.{Branch}
@@ -23,7 +23,7 @@ use Rattle.obs_network.specs.Components.{component_of, if_energised, need_of}
 use Rattle.obs_network.specs.Touching.{candidate_touch, meter_touch, meter_touches, touch_of}
 use Rattle.obs_network.proofs.Marked.{length-first_buses_of}
 use Rattle.obs_network.proofs.Numbered.{component_count-le}
-use Rattle.obs_network.specs.Network.{case_branches, case_component_count, case_components, case_first_buses, case_energised, case_live, case_meters, case_offered, case_sizes, NetworkOf, network_of}
+use Rattle.obs_network.specs.Network.{case_branches, case_component_count, case_components, case_first_buses, case_energised, case_live, case_meters, case_offered, case_sizes, Network, network_of}
 
 -- closed switches join nodes of the case
 closed-below : (n : ℕ) (switches : List Switch) → All (λ row. (row.from < n) × (row.to < n)) switches → LinksBelow n (closed_links switches)
@@ -114,24 +114,24 @@ pub candidates-at_nodes : (t : Tables) → IsValid t → All (λ row. row.kind �
 candidates-at_nodes t v = λ k d l. at_node t (get_or t.candidates k d).kind (get_or t.candidates k d).at (v.candidate_places k d l)
 
 -- the graph of a case, whatever it has room for
-IsOf : Tables → Shape → Type 0
+IsOf : Tables → Graph → Type 0
 IsOf t g = (g.vertices ≡ case_bus_count t) × (g.ends ≡ case_branches t)
 
-touch_in_range : (t : Tables) (g : Shape) → IsOf t g → (kind : Kind) (at : ℕ) → at < places t kind → IsInRange g (touch_of (case_buses t) kind at)
+touch_in_range : (t : Tables) (g : Graph) → IsOf t g → (kind : Kind) (at : ℕ) → at < places t kind → IsInRange g (touch_of (case_buses t) kind at)
 unfolding IsOf
 touch_in_range t g is Flow at l = omega (arith, l, ap (λ (x : List (Option Ends)). length x) is.1, length-case_branches t)
 touch_in_range t g is Injection at l = let b = case_bus-below t at l in rw is.0 b
 touch_in_range t g is Zero at l = let b = case_bus-below t at l in rw is.0 b
 
-meter_in_range : (t : Tables) (g : Shape) → IsOf t g → (row : Meter) → row.at < places t row.kind → IsInRange g (meter_touch (case_buses t) row)
+meter_in_range : (t : Tables) (g : Graph) → IsOf t g → (row : Meter) → row.at < places t row.kind → IsInRange g (meter_touch (case_buses t) row)
 meter_in_range t g is row l = elim (cases_Bool row.inservice) [ inl e ↦ rw e (touch_in_range t g is row.kind row.at l) | inr e ↦ rw e tt ]
 
-pub meters-in_range : (t : Tables) → IsValid t → (g : Shape) → g.vertices ≡ case_bus_count t → g.ends ≡ case_branches t → AreInRange g (case_meters t)
+pub meters-in_range : (t : Tables) → IsValid t → (g : Graph) → g.vertices ≡ case_bus_count t → g.ends ≡ case_branches t → AreInRange g (case_meters t)
 unfolding case_meters IsOf
 meters-in_range t v g a b =
     All-map (IsInRange g) (meter_touch (case_buses t)) t.meters (λ k d l. meter_in_range t g (a, b) (get_or t.meters k d) (v.meter_places k d l))
 
-pub offered-in_range : (t : Tables) → IsValid t → (g : Shape) → g.vertices ≡ case_bus_count t → g.ends ≡ case_branches t → AreInRange g (case_offered t)
+pub offered-in_range : (t : Tables) → IsValid t → (g : Graph) → g.vertices ≡ case_bus_count t → g.ends ≡ case_branches t → AreInRange g (case_offered t)
 unfolding case_offered IsOf case_meters
 offered-in_range t v g a b =
     All-append (IsInRange g) (meter_touches (case_buses t) t.meters) (map (candidate_touch (case_buses t)) t.candidates) (meters-in_range t v g a b)
@@ -166,8 +166,8 @@ pub few_meters : (t : Tables) → IsValid t → length t.meters ≤ most_rows
 few_meters t v = let few = v.meters.few in omega (arith, few, length-map t.meters (λ row. row.name))
 
 -- a network that is that of a case has as many components
-pub count_of : (n : NetworkOf) (t : Tables) → n ≡ network_of t → length n.components.first_buses ≡ case_component_count t
-count_of n t same = ap (λ (x : NetworkOf). length x.components.first_buses) same ∙ length-case_first_buses t
+pub count_of : (n : Network) (t : Tables) → n ≡ network_of t → length n.components.first_buses ≡ case_component_count t
+count_of n t same = ap (λ (x : Network). length x.components.first_buses) same ∙ length-case_first_buses t
 
-pub need_from : (n : NetworkOf) (t : Tables) (c : ℕ) → n ≡ network_of t → need_of n.components.sizes c ≡ need_of (case_sizes t) c
-need_from n t c same = ap (λ (x : NetworkOf). need_of x.components.sizes c) same
+pub need_from : (n : Network) (t : Tables) (c : ℕ) → n ≡ network_of t → need_of n.components.sizes c ≡ need_of (case_sizes t) c
+need_from n t c same = ap (λ (x : Network). need_of x.components.sizes c) same

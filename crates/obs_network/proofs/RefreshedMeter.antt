@@ -11,9 +11,9 @@ use Rattle.obs_meter.specs.declared.Touch.{Touch}
 use Rattle.obs_meter.specs.declared.Touch.TheVariants.{Nothing}
 use Rattle.obs_network.specs.Switched.{case_bus_count, case_buses}
 use Rattle.obs_network.specs.Touching.{meter_touch}
-use Rattle.obs_network.specs.Network.{Grouped, NetworkOf, case_branches, case_component_count, case_components, case_energised, case_first_buses, case_live, case_meters, case_needed, case_offered, case_sizes, network_of}
-use Rattle.obs_graph.specs.Shape.{Shape}
-use Rattle.obs_meter.specs.Held.{Items}
+use Rattle.obs_network.specs.Network.{Components, Network, case_branches, case_component_count, case_components, case_energised, case_first_buses, case_live, case_meters, case_needed, case_offered, case_sizes, network_of}
+use Rattle.obs_graph.specs.Graph.{Graph}
+use Rattle.obs_meter.specs.Held.{Meters}
 use Rattle.obs_network.specs.Kept.{list_of, lists_of}
 use Rattle.obs_network.specs.Located.{touch_component}
 use Rattle.obs_network.specs.Edited.{IsBeforeMeter}
@@ -23,14 +23,14 @@ use Rattle.obs_network.proofs.OfLaws.{length-changed_at, rows-with_meter}
 use Rattle.obs_network.proofs.Whole.{items_are, network_is}
 
 -- the network with one item's touch changed
-abbrev pub with_touch : NetworkOf → ℕ → Touch → NetworkOf
+abbrev pub with_touch : Network → ℕ → Touch → Network
 with_touch n m touch = record n {
   meters = record n.meters { touches = set n.meters.touches m touch };
   offered = record n.offered { touches = set n.offered.touches m touch };
 }
 
 -- the network before is that after, but for one touch
-pub record AreAfter (n : NetworkOf) (after : Tables) (m : ℕ) : Type 0 where
+pub record AreAfter (n : Network) (after : Tables) (m : ℕ) : Type 0 where
   pub item : m < length n.meters.touches
   pub item_offered : m < length n.offered.touches
   pub few : length n.meters.touches ≤ n.meters.most
@@ -88,22 +88,22 @@ module _ (t : Tables) (m : ℕ) (inservice : Bool) (low : m < length (with_meter
     whole = whole;
   }
 
-pub meter_edited : (n : NetworkOf) (m : ℕ) (after : Tables) → IsBeforeMeter n m after → m < length after.meters → AreAfter n after m
+pub meter_edited : (n : Network) (m : ℕ) (after : Tables) → IsBeforeMeter n m after → m < length after.meters → AreAfter n after m
 meter_edited n m changed before low =
     let t = before.tables in
     let w = with_meter_inservice t m before.inservice in
     let base = are_after t m before.inservice (subst (λ (x : Tables). m < length x.meters) before.edited low) in
-    subst (λ (x : Tables). AreAfter n x m) (sym before.edited) (subst (λ (x : NetworkOf). AreAfter x w m) (sym before.network) base)
+    subst (λ (x : Tables). AreAfter n x m) (sym before.edited) (subst (λ (x : Network). AreAfter x w m) (sym before.network) base)
 
 -- the lists of meters, where one of them moved to the list of what it touches now
-pub lists-set : (components : Grouped) (graph : Shape) (meters after : Items) (m : ℕ) (touch kind : Touch) → m < length meters.touches → after ≡ record meters { touches = set meters.touches m touch } → kind ≡ get_or after.touches m Nothing
+pub lists-set : (components : Components) (graph : Graph) (meters after : Meters) (m : ℕ) (touch kind : Touch) → m < length meters.touches → after ≡ record meters { touches = set meters.touches m touch } → kind ≡ get_or after.touches m Nothing
     → (old new : List ℕ) → old ≡ lists_of components graph meters → new ≡ set old m (list_of (length components.first_buses) (touch_component components.of_buses graph.ends kind)) → new ≡ lists_of components graph after
 lists-set components graph meters after m touch kind low is is_kind old new was made =
     let list : Touch → ℕ = λ t. list_of (length components.first_buses) (touch_component components.of_buses graph.ends t) in
-    let same : kind ≡ touch = is_kind ∙ ap (λ (i : Items). get_or i.touches m Nothing) is ∙ get_or-set_same meters.touches m touch Nothing low in
-    made ∙ ap (λ k. set old m (list k)) same ∙ ap (λ l. set l m (list touch)) was ∙ sym (map-set list meters.touches m touch) ∙ ap (λ (i : Items). lists_of components graph i) (sym is)
+    let same : kind ≡ touch = is_kind ∙ ap (λ (i : Meters). get_or i.touches m Nothing) is ∙ get_or-set_same meters.touches m touch Nothing low in
+    made ∙ ap (λ k. set old m (list k)) same ∙ ap (λ l. set l m (list touch)) was ∙ sym (map-set list meters.touches m touch) ∙ ap (λ (i : Meters). lists_of components graph i) (sym is)
 
-pub length-lists_of : (components : Grouped) (graph : Shape) (meters : Items) → length (lists_of components graph meters) ≡ length meters.touches
+pub length-lists_of : (components : Components) (graph : Graph) (meters : Meters) → length (lists_of components graph meters) ≡ length meters.touches
 length-lists_of components graph meters = length-map meters.touches (λ t. list_of (length components.first_buses) (touch_component components.of_buses graph.ends t))
 
 -- what all items touch, where the meters are the first of them and one of these touches something else

@@ -5,7 +5,7 @@ use Rattle.obs_graph.specs.Joined.{IsMerging, renamed_one}
 use Rattle.obs_case.specs.Flags.{with_meter_inservice}
 use Rattle.obs_case.specs.Tables.{Tables}
 use Rattle.obs_network.specs.Switched.{case_bus_count, case_buses}
-use Rattle.obs_network.specs.Network.{NetworkOf, case_branches, network_of}
+use Rattle.obs_network.specs.Network.{Network, case_branches, network_of}
 
 -- all these positions have present branches
 abbrev pub ArePresent : List (Option Ends) → List ℕ → Type 0
@@ -32,7 +32,7 @@ pub record AreMerged (t after : Tables) : Type 0 where
   pub ends : AreRenamed name (case_branches t) (case_branches after)
 
 -- a network is that of the tables before the flag of this meter was set
-pub record IsBeforeMeter (n : NetworkOf) (m : ℕ) (after : Tables) : Type 0 where
+pub record IsBeforeMeter (n : Network) (m : ℕ) (after : Tables) : Type 0 where
   pub tables : Tables
   pub inservice : Bool
   pub network : n ≡ network_of tables

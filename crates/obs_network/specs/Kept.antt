@@ -2,14 +2,14 @@
 use Rattle.std.specs.Prelude.{ℕ, suc, ◌≡◌, ◌<◌, ◌≤◌, ◌^◌, All, Bool, Option, Some, None, List, length, map, slice_index, take}
 use Rattle.obs_graph.specs.declared.Ends.{Ends}
 use Rattle.obs_graph.specs.Search.{State, room_of}
-use Rattle.obs_graph.specs.Shape.{Shape}
+use Rattle.obs_graph.specs.Graph.{Graph}
 use Rattle.obs_switch.specs.declared.link.Link.{Link}
 use Rattle.obs_switch.specs.Groups.{AreGroups}
-use Rattle.obs_switch.specs.Held.{Labelled}
+use Rattle.obs_switch.specs.Held.{Buses}
 use Rattle.obs_meter.specs.declared.Touch.{Touch}
-use Rattle.obs_meter.specs.Held.{Items}
+use Rattle.obs_meter.specs.Held.{Meters}
 use Rattle.obs_meter.specs.Touches.{AreInRange}
-use Rattle.obs_network.specs.Network.{Grouped}
+use Rattle.obs_network.specs.Network.{Components}
 use Rattle.obs_network.specs.Located.{touch_component}
 
 -- the arrays of components, of which the first entries are in use
@@ -31,7 +31,7 @@ list_of count None = count
 list_of count (Some c) = c
 
 -- the list of each meter
-abbrev pub lists_of : Grouped → Shape → Items → List ℕ
+abbrev pub lists_of : Components → Graph → Meters → List ℕ
 lists_of components graph meters =
     map (λ touch. list_of (length components.first_buses) (touch_component components.of_buses graph.ends touch))
     meters.touches
@@ -55,7 +55,7 @@ pub record AreListed (meters components most_components : ℕ) (lists members st
 
 -- the parts of a network agree, and each has the room that it needs
 pub record AreParts (links : List Link) (live kept : List (Option Ends)) (touches : List Touch) (search : State)
-    (buses : Labelled) (components : Grouped) (graph : Shape) (meters offered : Items) (listed : Listed) : Type 0 where
+    (buses : Buses) (components : Components) (graph : Graph) (meters offered : Meters) (listed : Listed) : Type 0 where
   pub buses_room : buses.most_nodes ≡ components.most_buses
   pub vertices_room : graph.most_vertices ≡ components.most_buses
   pub branches_room : graph.most_branches ≡ length live

@@ -2,11 +2,11 @@
 use Rattle.std.specs.Prelude.{ℕ, ◌+◌, Bool, Option, List, length}
 use Rattle.obs_graph.specs.declared.Ends.{Ends}
 use Rattle.obs_graph.specs.Positions.{present}
-use Rattle.obs_graph.specs.Shape.{Shape}
-use Rattle.obs_switch.specs.Held.{Labelled}
+use Rattle.obs_graph.specs.Graph.{Graph}
+use Rattle.obs_switch.specs.Held.{Buses}
 use Rattle.obs_case.specs.Tables.{Tables}
 use Rattle.obs_meter.specs.declared.Touch.{Touch}
-use Rattle.obs_meter.specs.Held.{Items}
+use Rattle.obs_meter.specs.Held.{Meters}
 use Rattle.obs_network.specs.Switched.{case_bus_count, case_buses}
 use Rattle.obs_network.specs.Live.{live_branches}
 use Rattle.obs_network.specs.Components.{component_count, components_of, energised_branches, energised_of, first_buses_of, needed_of, sizes_of}
@@ -64,7 +64,7 @@ abbrev pub rows_of : Tables → Rows
 rows_of t = record { nodes = length t.nodes; switches = length t.switches; branches = length t.branches; meters = length t.meters; candidates = length t.candidates }
 
 -- components: that of each bus, and of each component its first bus, its size and whether it is energised; and for how many buses there is room
-pub record Grouped : Type 0 where
+pub record Components : Type 0 where
   pub of_buses : List ℕ
   pub first_buses : List ℕ
   pub sizes : List ℕ
@@ -72,17 +72,17 @@ pub record Grouped : Type 0 where
   pub most_buses : ℕ
 
 -- a network, with the numbers of rows that it was made for
-pub record NetworkOf : Type 0 where
+pub record Network : Type 0 where
   pub rows : Rows
-  pub buses : Labelled
-  pub components : Grouped
-  pub graph : Shape
-  pub meters : Items
-  pub offered : Items
+  pub buses : Buses
+  pub components : Components
+  pub graph : Graph
+  pub meters : Meters
+  pub offered : Meters
   pub needed : ℕ
 
 -- the network that a case determines: its vertices are the buses, and its branches the live branches of energised components
-abbrev pub network_of : Tables → NetworkOf
+abbrev pub network_of : Tables → Network
 network_of t = record {
   rows = rows_of t;
   buses = record { buses = case_buses t; count = case_bus_count t; most_nodes = length t.nodes };

@@ -5,7 +5,7 @@ use Rattle.obs_matroid.specs.Assignments.{Pair}
 use Rattle.obs_meter.specs.declared.Touch.{Touch}
 use Rattle.obs_meter.specs.declared.Touch.TheVariants.{Nothing}
 use Rattle.obs_meter.specs.Assignments.{IsAssignmentAt}
-use Rattle.obs_meter.specs.Spanned.{ends_at, hub_of}
+use Rattle.obs_meter.specs.Spanned.{ends_at, common_vertex}
 use Rattle.obs_meter.specs.Touches.{live_items}
 use Rattle.obs_network.specs.Components.{need_of}
 use Rattle.obs_network.specs.Network.{case_branches, case_component_count, case_components, case_energised, case_meters, case_sizes}
@@ -16,15 +16,15 @@ branch_component t e = slice_index (case_components t) (ends_at (case_branches t
 
 -- the component in which all branches lie that an item touches
 abbrev pub item_component : Tables → List Touch → ℕ → ℕ
-item_component t touches m = slice_index (case_components t) (hub_of (case_branches t) (slice_index_or touches m Nothing))
+item_component t touches m = slice_index (case_components t) (common_vertex (case_branches t) (slice_index_or touches m Nothing))
 
 -- the meters of a case that touch a branch
 abbrev pub case_live_meters : Tables → List ℕ
 case_live_meters t = live_items (case_branches t) (case_meters t)
 
 -- whether a component is energised
-abbrev pub is_fed : Tables → ℕ → Bool
-is_fed t c = slice_index_or (case_energised t) c false
+abbrev pub is_energised_component : Tables → ℕ → Bool
+is_energised_component t c = slice_index_or (case_energised t) c false
 
 -- a component is observable: an assignment of live meters has as many pairs with branches in it as it needs
 pub record IsObservable (t : Tables) (c : ℕ) : Type 0 where
@@ -34,4 +34,4 @@ pub record IsObservable (t : Tables) (c : ℕ) : Type 0 where
 
 -- a case is observable: each of its energised components is
 abbrev pub IsObservableCase : Tables → Type 0
-IsObservableCase t = (c : ℕ) → c < case_component_count t → is_fed t c ≡ true → IsObservable t c
+IsObservableCase t = (c : ℕ) → c < case_component_count t → is_energised_component t c ≡ true → IsObservable t c

@@ -27,10 +27,10 @@ pub(crate) struct Components {
 
 impl Model for Components {
     ghost use Rattle.std.specs.Prelude.{length, take};
-    ghost use Rattle.obs_network.specs.Network.{Grouped};
+    ghost use Rattle.obs_network.specs.Network.{Components};
     ghost use Rattle.obs_network.specs.Kept.{AreGrouped};
 
-    ghost Value = { Grouped };
+    ghost Value = { Components };
 
     ghost view = { λ c. record {
       of_buses = take c.buses c.numbers.items;

@@ -20,9 +20,9 @@ ghost use Rattle.obs_meter.specs.Touches.{AreInRange, touch_at};
 ghost use Rattle.obs_network.specs.Switched.{case_bus_count};
 ghost use Rattle.obs_network.specs.Components.{AreOneComponent, component_count, component_of, components_of, first_bus, first_buses_of, is_energised, need_of, needed_of, sizes_of, source_nodes};
 ghost use Rattle.obs_network.specs.Located.{component_of_branch, component_of_item, live_meters_of};
-ghost use Rattle.obs_network.specs.Network.{NetworkOf, case_branches, case_component_count, case_components, case_live, case_meters, case_needed, case_offered, case_sizes, network_of, rows_of};
+ghost use Rattle.obs_network.specs.Network.{Network, case_branches, case_component_count, case_components, case_live, case_meters, case_needed, case_offered, case_sizes, network_of, rows_of};
 ghost use Rattle.obs_network.specs.Edited.{AreKept, AreMerged, ArePresent};
-ghost use Rattle.obs_network.specs.Observable.{IsObservableCase, branch_component, case_live_meters, is_fed, item_component};
+ghost use Rattle.obs_network.specs.Observable.{IsObservableCase, branch_component, case_live_meters, is_energised_component, item_component};
 
 /// Two nodes have one bus exactly where the closed switches, as branches between nodes, join them.
 pub fn bus_is_what_switches_join()
@@ -103,7 +103,7 @@ pub fn observable_by_rank()
 /// A case without an energised component is observable.
 pub fn nothing_fed_is_observable()
     ensures observable { (t : Tables) →
-        ((c : ℕ) → c < case_component_count t → is_fed t c ≡ false) → IsObservableCase t }
+        ((c : ℕ) → c < case_component_count t → is_energised_component t c ≡ false) → IsObservableCase t }
 {}
 
 /// A new flag leaves the numbers of rows.
@@ -178,7 +178,7 @@ pub fn components_of_branches()
     ensures absent { (t : Tables) (e : ℕ) → slice_index_or (case_branches t) e None ≡ None →
         component_of_branch (network_of t) e ≡ None }
     ensures energised { (t : Tables) → IsValid t → (e c : ℕ) → component_of_branch (network_of t) e ≡ Some c →
-        (c < case_component_count t) × (is_fed t c ≡ true) }
+        (c < case_component_count t) × (is_energised_component t c ≡ true) }
 {}
 
 /// An item lies in the component of each branch that it touches, and in none where it touches nothing. A meter is the
@@ -199,9 +199,9 @@ pub fn live_meters_by_component()
         In m (live_meters_of (network_of t) c)
         ↔ (e : ℕ) × In e (touch_at (case_branches t) (case_meters t) m)
         × (component_of_branch (network_of t) e ≡ Some c) }
-    ensures rising { (n : NetworkOf) (c : ℕ) → IsRising (live_meters_of n c) }
+    ensures rising { (n : Network) (c : ℕ) → IsRising (live_meters_of n c) }
     ensures some_list { (t : Tables) → IsValid t → (m : ℕ) → In m (case_live_meters t) →
         (c : ℕ) × (c < case_component_count t) × In m (live_meters_of (network_of t) c) }
-    ensures one_list { (n : NetworkOf) (c d m : ℕ) →
+    ensures one_list { (n : Network) (c d m : ℕ) →
         In m (live_meters_of n c) → In m (live_meters_of n d) → c ≡ d }
 {}

@@ -44,10 +44,10 @@ pub struct Network {
 
 impl Model for Network {
     ghost use Rattle.std.specs.Prelude.{◌-◌, length};
-    ghost use Rattle.obs_network.specs.Network.{NetworkOf};
+    ghost use Rattle.obs_network.specs.Network.{Network};
     ghost use Rattle.obs_network.specs.Kept.{AreParts};
 
-    ghost Value = { NetworkOf };
+    ghost Value = { Network };
 
     ghost view = { λ n. record {
       rows = record {

@@ -4,11 +4,11 @@ use Rattle.std.specs.Prelude.{filter}
 use Rattle.std.specs.List.{range_with_len}
 use Rattle.std.proofs.lemmas.Bool.{cases_Bool, cases_lt, le-ltb, lt-ltb}
 use Rattle.std.proofs.lemmas.List.{append-nil, length-set, take_more_set}
-use Rattle.obs_graph.specs.Shape.{Shape}
+use Rattle.obs_graph.specs.Graph.{Graph}
 use Rattle.obs_matroid.proofs.Lists.{filter_same, length-split}
 use Rattle.obs_meter.specs.declared.Touch.{Touch}
 use Rattle.obs_placement.specs.Layers.{added_items, count_known, is_added}
-use Rattle.obs_placement.specs.Taking.{AreKnown, is_own, never, since_at}
+use Rattle.obs_placement.specs.Taking.{AreKnown, is_listed_at, never, since_at}
 use Rattle.obs_placement.proofs.Listing.{later, later_next}
 
 module _ (since : List ℕ) where
@@ -99,16 +99,16 @@ and_swap a b = elim (cases_Bool a) [
   | inr x ↦ rw x (elim (cases_Bool b) [ inl y ↦ rw y refl | inr y ↦ rw y refl ])
 ]
 
-module _ (g : Shape) (touches : List Touch) (price : ℕ → ℕ) (since : List ℕ) (f t : ℕ) (known : AreKnown g touches price since) (count : length since ≡ length touches) (low : f ≤ never) (high : t ≤ never) where
+module _ (g : Graph) (touches : List Touch) (price : ℕ → ℕ) (since : List ℕ) (f t : ℕ) (known : AreKnown g touches price since) (count : length since ≡ length touches) (low : f ≤ never) (high : t ≤ never) where
   -- what is listed for a layer is what it adds
   pub added_same : filter (is_added since f t) (range_with_len 0 (length since)) ≡ added_items g.vertices g.ends touches price f t
   added_same =
       ap (λ k. filter (is_added since f t) (range_with_len 0 k)) count
-      ∙ filter_same (is_added since f t) (λ m. is_own g.vertices g.ends touches price t m && not (is_own g.vertices g.ends touches price f m)) (range_with_len 0 (length touches))
+      ∙ filter_same (is_added since f t) (λ m. is_listed_at g.vertices g.ends touches price t m && not (is_listed_at g.vertices g.ends touches price f m)) (range_with_len 0 (length touches))
       (λ m i.
       ap (λ b. not b && ltb (since_at since m) t) (known f m low)
-      ∙ (ap (λ b. not (is_own g.vertices g.ends touches price f m) && b) (known t m high)
-      ∙ and_swap (not (is_own g.vertices g.ends touches price f m)) (is_own g.vertices g.ends touches price t m)))
+      ∙ (ap (λ b. not (is_listed_at g.vertices g.ends touches price f m) && b) (known t m high)
+      ∙ and_swap (not (is_listed_at g.vertices g.ends touches price f m)) (is_listed_at g.vertices g.ends touches price t m)))
 
   pub added_count : f ≤ t → (upto : ℕ) → upto ≡ count_known since f → count_known since t ≡ upto + length (added_items g.vertices g.ends touches price f t)
   added_count l upto e = let s = known_split since f t l in let k = ap length added_same in omega (arith, s, k, e)

@@ -24,10 +24,10 @@ use Rattle.obs_exchange.specs.Laws.{noncritical_in}
 use Rattle.obs_exchange.proofs.AtGraph.{In-live}
 use Rattle.obs_placement.specs.Answer.{chosen_of, cost_of, earlier_items, is_chosen}
 use Rattle.obs_placement.specs.Laws.{live_candidates, live_meters}
-use Rattle.obs_placement.specs.Layers.{added_items, is_price_of, layers_of, own_outside, own_rank, prices_above}
+use Rattle.obs_placement.specs.Layers.{added_items, is_price_of, layers_of, layer_outside, layer_rank, prices_above}
 use Rattle.obs_placement.specs.Order.{price_of}
 use Rattle.obs_placement.specs.Shown.{bare_layer, bare_layers}
-use Rattle.obs_placement.specs.Taking.{is_below, is_own, scope_of}
+use Rattle.obs_placement.specs.Taking.{is_below, is_listed_at, scope_of}
 use Rattle.obs_placement.proofs.Going.{live_low}
 use Rattle.obs_placement.proofs.Growing.{AreRising, prices_rising, scope_distinct, scope_from}
 use Rattle.obs_placement.proofs.Lawful.{es, xs, answer, apart, base, in_order, order_price, same_length, sorted_from, sorted_in, sorted_sum}
@@ -87,7 +87,7 @@ module _ (n : ℕ) (ends : List (Option Ends)) (touches : List Touch) (price : �
       )
 
   layer_at : (f u : ℕ) (ts : List ℕ) (l : Layer) → In l (bare f u ts)
-      → (t : ℕ) × In t ts × (k : ℕ) × (l ≡ record { from = k; to = t; rank = own_rank n ends touches price t; outside = own_outside n ends touches price t })
+      → (t : ℕ) × In t ts × (k : ℕ) × (l ≡ record { from = k; to = t; rank = layer_rank n ends touches price t; outside = layer_outside n ends touches price t })
   layer_at f u [] l i = absurd i
   layer_at f u (t ∷ ts) l (inl e) = (t, inl refl, f, e)
   layer_at f u (t ∷ ts) l (inr i) = let r = layer_at t (u + length (added_items n ends touches price f t)) ts l i in (r.0, inr r.1, r.2, r.3)
@@ -114,24 +114,24 @@ module _ (n : ℕ) (ends : List (Option Ends)) (touches : List Touch) (meters : 
       ∙ (filter-append (is_below price t) metered candidates ∙ ap (λ ys. ys ++ below price t candidates) free)
 
   -- the bound of the own items is the greatest length of the items below the price
-  tight_scope : (t : ℕ) → IsRho (graph_matroid n ends) (touch_at ends touches) (scope_of ends touches price t) (own_rank n ends touches price t + own_outside n ends touches price t)
+  tight_scope : (t : ℕ) → IsRho (graph_matroid n ends) (touch_at ends touches) (scope_of ends touches price t) (layer_rank n ends touches price t + layer_outside n ends touches price t)
   tight_scope t =
       let mat = graph_matroid n ends in
       let touch = touch_at ends touches in
       let S = scope_of ends touches price t in
-      let same : (m : ℕ) → In m S → noncritical_in n ends touches S m ≡ is_own n ends touches price t m = λ m i. let q = scope_from n ends touches ok price t m i in rw (q.0, q.1) refl in
-      let a = ap (λ ys. rank_at n ends (flat_map touch ys)) (filter_same (noncritical_in n ends touches S) (is_own n ends touches price t) S same) in
-      let b = ap length (filter_same (λ m. not (noncritical_in n ends touches S m)) (λ m. not (is_own n ends touches price t m)) S (λ m i. ap not (same m i))) in
-      let e : bound mat touch (λ m. not (is_critical mat touch S m)) S ≡ own_rank n ends touches price t + own_outside n ends touches price t =
-      ap (λ k. k + length (filter (λ m. not (noncritical_in n ends touches S m)) S)) a ∙ ap (λ k. own_rank n ends touches price t + k) b in
+      let same : (m : ℕ) → In m S → noncritical_in n ends touches S m ≡ is_listed_at n ends touches price t m = λ m i. let q = scope_from n ends touches ok price t m i in rw (q.0, q.1) refl in
+      let a = ap (λ ys. rank_at n ends (flat_map touch ys)) (filter_same (noncritical_in n ends touches S) (is_listed_at n ends touches price t) S same) in
+      let b = ap length (filter_same (λ m. not (noncritical_in n ends touches S m)) (λ m. not (is_listed_at n ends touches price t m)) S (λ m i. ap not (same m i))) in
+      let e : bound mat touch (λ m. not (is_critical mat touch S m)) S ≡ layer_rank n ends touches price t + layer_outside n ends touches price t =
+      ap (λ k. k + length (filter (λ m. not (noncritical_in n ends touches S m)) S)) a ∙ ap (λ k. layer_rank n ends touches price t + k) b in
       subst (λ (r : ℕ). IsRho mat touch S r) e (noncritical_tight mat (IsMatroid-graph n ends ok) touch S (scope_distinct n ends touches ok price t))
 
-  tight_ordered : (t : ℕ) → 0 < t → IsRho (graph_matroid n ends) (touch_at ends touches) (metered ++ below price t ordered) (own_rank n ends touches price t + own_outside n ends touches price t)
+  tight_ordered : (t : ℕ) → 0 < t → IsRho (graph_matroid n ends) (touch_at ends touches) (metered ++ below price t ordered) (layer_rank n ends touches price t + layer_outside n ends touches price t)
   tight_ordered t l =
       let B = below price t candidates in
       let C = below price t ordered in
       let e = scope_parts t l in
-      IsRho-same (graph_matroid n ends) (IsMatroid-graph n ends ok) (touch_at ends touches) (scope_of ends touches price t) (metered ++ C) (own_rank n ends touches price t + own_outside n ends touches price t)
+      IsRho-same (graph_matroid n ends) (IsMatroid-graph n ends ok) (touch_at ends touches) (scope_of ends touches price t) (metered ++ C) (layer_rank n ends touches price t + layer_outside n ends touches price t)
       (λ x i. elim (In-append_cases x metered B (subst (λ (ys : List ℕ). In x ys) e i)) [
         | inl j ↦ In-append_left x metered C j
         | inr j ↦ let u = In-filter_from (λ c. nat_lt (price c) t) x candidates j in In-append_right x metered C (In-filter (λ c. nat_lt (price c) t) x ordered (sorted_in price candidates x u.0) u.1)
@@ -143,12 +143,12 @@ module _ (n : ℕ) (ends : List (Option Ends)) (touches : List Touch) (meters : 
       (tight_scope t)
 
   shown_scope : (k t : ℕ) → 0 < t
-      → IsShown (graph_matroid n ends) (touch_at ends touches) price metered candidates (record { from = k; to = t; rank = own_rank n ends touches price t; outside = own_outside n ends touches price t })
+      → IsShown (graph_matroid n ends) (touch_at ends touches) price metered candidates (record { from = k; to = t; rank = layer_rank n ends touches price t; outside = layer_outside n ends touches price t })
   shown_scope k t l =
       let e = scope_parts t l in record {
-        marks = is_own n ends touches price t;
-        rank_is = ap (λ ys. rank_at n ends (flat_map (touch_at ends touches) (filter (is_own n ends touches price t) ys))) (sym e);
-        outside_is = ap (λ ys. length (filter (λ m. not (is_own n ends touches price t m)) ys)) (sym e);
+        marks = is_listed_at n ends touches price t;
+        rank_is = ap (λ ys. rank_at n ends (flat_map (touch_at ends touches) (filter (is_listed_at n ends touches price t) ys))) (sym e);
+        outside_is = ap (λ ys. length (filter (λ m. not (is_listed_at n ends touches price t m)) ys)) (sym e);
       }
 
   module _ (needed : ℕ) (size : length touches ≡ meters + length prices) (all : IsRhoAt ends touches (live_items ends touches) needed) where

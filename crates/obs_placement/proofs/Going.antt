@@ -7,7 +7,7 @@ use Rattle.std.proofs.lemmas.Bool.Decides.{nat_tests}
 use Rattle.std.proofs.lemmas.List.{length-set, get_or_past}
 use Rattle.obs_graph.specs.declared.Ends.{Ends}
 use Rattle.obs_graph.specs.Positions.{AreBranches}
-use Rattle.obs_graph.specs.Shape.{Shape}
+use Rattle.obs_graph.specs.Graph.{Graph}
 use Rattle.obs_matroid.specs.Lists.{In, IsDistinct}
 use Rattle.obs_matroid.specs.Matroid.{IsIndependent, IsMatroid}
 use Rattle.obs_matroid.specs.Assignments.{Pair, items, branches, IsAssignment}
@@ -20,11 +20,11 @@ use Rattle.obs_meter.specs.Spanned.{graph_matroid}
 use Rattle.obs_meter.specs.Touches.{is_live, live_items, touch_at}
 use Rattle.obs_meter.proofs.Assigned.{live_items-distinct}
 use Rattle.obs_meter.proofs.Instance.{IsMatroid-graph}
-use Rattle.obs_assign.specs.Assigned.{Assigned, has_flag, pairs}
+use Rattle.obs_assign.specs.Assignment.{Assignment, has_flag, pairs}
 use Rattle.obs_exchange.proofs.AtGraph.{In-live, live-from_live_items}
 use Rattle.obs_placement.specs.Answer.{earlier_items, is_chosen}
 use Rattle.obs_placement.specs.Order.{IsOrder, is_earlier, item_at}
-use Rattle.obs_placement.specs.Taking.{AreAdded, AreFirst, AreHeld, AreTaken, IsStanding, IsTakenAt, IsUnderWay, is_below, is_known, is_own, never, scope_of, since_at}
+use Rattle.obs_placement.specs.Taking.{AreAdded, AreFirst, AreHeld, AreTaken, IsStanding, IsTakenAt, IsUnderWay, is_below, is_known, is_listed_at, never, scope_of, since_at}
 use Rattle.obs_placement.proofs.Taken.{IsTaken-same}
 
 pub earlier_cheap : (p q a b : ℕ) → (ltb p q || (eqb p q && ltb a b)) ≡ true → p ≤ q
@@ -43,15 +43,15 @@ not_below : (s t : ℕ) → ltb s t ≡ false → t ≤ s
 not_below s t f = elim (cases_lt s t) [ inl l ↦ clash (lt-ltb s t l) f | inr l ↦ l ]
 
 -- an idle item is not chosen
-pub idle_chosen : (g : Shape) (touches : List Touch) (price : ℕ → ℕ) (c : ℕ) → is_live g.ends touches c ≡ false → is_chosen g.vertices g.ends touches price c ≡ false
+pub idle_chosen : (g : Graph) (touches : List Touch) (price : ℕ → ℕ) (c : ℕ) → is_live g.ends touches c ≡ false → is_chosen g.vertices g.ends touches price c ≡ false
 idle_chosen g touches price c f = rw f refl
 
-module _ (g : Shape) (touches : List Touch) (price : ℕ → ℕ) (keys : List (ℕ × ℕ)) (ok : AreBranches g.vertices g.ends) (order : IsOrder price (length touches) keys) where
+module _ (g : Graph) (touches : List Touch) (price : ℕ → ℕ) (keys : List (ℕ × ℕ)) (ok : AreBranches g.vertices g.ends) (order : IsOrder price (length touches) keys) where
   mat_laws : IsMatroid (graph_matroid g.vertices g.ends)
   mat_laws = IsMatroid-graph g.vertices g.ends ok
 
   -- what is known, at a list of items below a price
-  known_own : (t : ℕ) (a : Assigned) (since : List ℕ) → IsTakenAt g touches (scope_of g.ends touches price t) a since → (m : ℕ) → is_known since m ≡ is_own g.vertices g.ends touches price t m
+  known_own : (t : ℕ) (a : Assignment) (since : List ℕ) → IsTakenAt g touches (scope_of g.ends touches price t) a since → (m : ℕ) → is_known since m ≡ is_listed_at g.vertices g.ends touches price t m
   known_own t a since h m =
       let live = is_live g.ends touches m in
       let below = is_below price t m in
@@ -82,7 +82,7 @@ module _ (g : Shape) (touches : List Touch) (price : ℕ → ℕ) (keys : List (
       earlier_not_both (price (item_at keys k)) (price (item_at keys k)) (item_at keys k) (item_at keys k) s s
 
   -- after the last item
-  pub AreTaken-ended : (i : ℕ) (a : Assigned) (since : List ℕ) (raised : List Bool) → length touches ≤ i → IsUnderWay g touches price keys i a since raised → AreTaken g touches price a since raised
+  pub AreTaken-ended : (i : ℕ) (a : Assignment) (since : List ℕ) (raised : List Bool) → length touches ≤ i → IsUnderWay g touches price keys i a since raised → AreTaken g touches price a since raised
   AreTaken-ended i a since raised end w = record {
     taken = w.taken (live_items g.ends touches) (record {
       distinct = live_items-distinct g.ends touches;
@@ -94,7 +94,7 @@ module _ (g : Shape) (touches : List Touch) (price : ℕ → ℕ) (keys : List (
     known = λ t m l. w.known t m l (λ k u v. absurd (omega (arith, u, v, end)));
   }
 
-  module _ (i : ℕ) (a : Assigned) (since : List ℕ) (raised : List Bool) (low : i < length touches) (w : IsUnderWay g touches price keys i a since raised) where
+  module _ (i : ℕ) (a : Assignment) (since : List ℕ) (raised : List Bool) (low : i < length touches) (w : IsUnderWay g touches price keys i a since raised) where
     abbrev pub next_item : ℕ
     next_item = item_at keys i
 
@@ -127,7 +127,7 @@ module _ (g : Shape) (touches : List Touch) (price : ℕ → ℕ) (keys : List (
     pub earlier_taken : IsTakenAt g touches (earlier_items g.ends touches price next_item) a since
     earlier_taken = w.taken (earlier_items g.ends touches price next_item) earlier_first
 
-    pub live_taken : (b : Assigned) (after : List ℕ) → is_live g.ends touches next_item ≡ true → IsTakenAt g touches (next_item ∷ earlier_items g.ends touches price next_item) b after
+    pub live_taken : (b : Assignment) (after : List ℕ) → is_live g.ends touches next_item ≡ true → IsTakenAt g touches (next_item ∷ earlier_items g.ends touches price next_item) b after
         → (N : List ℕ) → AreFirst g.ends touches keys (i + 1) N → IsTakenAt g touches N b after
     live_taken b after live t N f =
         let E = earlier_items g.ends touches price next_item in
@@ -161,7 +161,7 @@ module _ (g : Shape) (touches : List Touch) (price : ℕ → ℕ) (keys : List (
       all = λ k l t. f.all k (omega (arith, l)) t;
     })
 
-    module _ (b : Assigned) (after : List ℕ) (flags : List Bool) (p : ℕ) (cheap : p < never) (is_price : p ≡ price next_item) (counted : length after ≡ length touches) (flagged : length flags ≡ length touches)
+    module _ (b : Assignment) (after : List ℕ) (flags : List Bool) (p : ℕ) (cheap : p < never) (is_price : p ≡ price next_item) (counted : length after ≡ length touches) (flagged : length flags ≡ length touches)
         (stand : IsStanding g touches b) (hold : AreHeld g touches price b) (taken : (N : List ℕ) → AreFirst g.ends touches keys (i + 1) N → IsTakenAt g touches N b after)
         (added : AreAdded p since after) (mine : has_flag flags next_item ≡ is_chosen g.vertices g.ends touches price next_item)
         (theirs : (m : ℕ) → (m ≡ next_item → ⊥) → has_flag flags m ≡ has_flag raised m) where
@@ -206,7 +206,7 @@ module _ (g : Shape) (touches : List Touch) (price : ℕ → ℕ) (keys : List (
       }
 
       known_after_item : (t m : ℕ) → t ≤ never → ((k : ℕ) → i + 1 ≤ k → k < length touches → t ≤ price (item_at keys k))
-          → nat_lt (since_at after m) t ≡ is_own g.vertices g.ends touches price t m
+          → nat_lt (since_at after m) t ≡ is_listed_at g.vertices g.ends touches price t m
       known_after_item t m tl h = elim (cases_lt (price next_item) t) [
         | inl l ↦
             let same : nat_lt (since_at after m) t ≡ is_known after m = elim (cases_Bool (is_known after m)) [
@@ -242,7 +242,7 @@ module _ (g : Shape) (touches : List Touch) (price : ℕ → ℕ) (keys : List (
       }
 
     -- a live item is taken, and an idle one
-    pub live_step : (b : Assigned) (after : List ℕ) (p : ℕ) (r : Bool) → p < never → p ≡ price next_item → length after ≡ length since → IsStanding g touches b → AreHeld g touches price b
+    pub live_step : (b : Assignment) (after : List ℕ) (p : ℕ) (r : Bool) → p < never → p ≡ price next_item → length after ≡ length since → IsStanding g touches b → AreHeld g touches price b
         → IsTakenAt g touches (next_item ∷ earlier_items g.ends touches price next_item) b after → AreAdded p since after
         → r ≡ is_chosen g.vertices g.ends touches price next_item → is_live g.ends touches next_item ≡ true
         → IsUnderWay g touches price keys (i + 1) b after (set raised next_item r)
@@ -261,7 +261,7 @@ pub cheap_items : (price : ℕ → ℕ) (n : ℕ) (keys : List (ℕ × ℕ)) →
 cheap_items price n keys order cheap k l = let e = order.priced k l in let b = cheap (item_at keys k) in omega (arith, e, b)
 
 -- nothing is taken yet
-pub IsUnderWay-begun : (g : Shape) (touches : List Touch) (price : ℕ → ℕ) (keys : List (ℕ × ℕ)) (ok : AreBranches g.vertices g.ends) (a : Assigned) (since : List ℕ) (raised : List Bool)
+pub IsUnderWay-begun : (g : Graph) (touches : List Touch) (price : ℕ → ℕ) (keys : List (ℕ × ℕ)) (ok : AreBranches g.vertices g.ends) (a : Assignment) (since : List ℕ) (raised : List Bool)
     → length since ≡ length touches → length raised ≡ length touches → ((m : ℕ) → since_at since m ≡ never) → ((m : ℕ) → has_flag raised m ≡ false)
     → IsStanding g touches a → pairs a ≡ [] → IsOrder price (length touches) keys → IsUnderWay g touches price keys 0 a since raised
 IsUnderWay-begun g touches price keys ok a since raised sc rc s f stand bare order = record {
@@ -298,8 +298,8 @@ IsUnderWay-begun g touches price keys ok a since raised sc rc s f stand bare ord
     no_pair N first [] b = omega arith
     no_pair N first (p ∷ B) b = absurd (nothing N first p.0 (b.of_items p (inl refl)))
 
-    not_own : (t m : ℕ) → ((k : ℕ) → 0 ≤ k → k < length touches → t ≤ price (item_at keys k)) → is_own g.vertices g.ends touches price t m ≡ false
-    not_own t m h = elim (cases_Bool (is_own g.vertices g.ends touches price t m)) [
+    not_own : (t m : ℕ) → ((k : ℕ) → 0 ≤ k → k < length touches → t ≤ price (item_at keys k)) → is_listed_at g.vertices g.ends touches price t m ≡ false
+    not_own t m h = elim (cases_Bool (is_listed_at g.vertices g.ends touches price t m)) [
       | inr f ↦ f
       | inl y ↦
           let live = is_live g.ends touches m in

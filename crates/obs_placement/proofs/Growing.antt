@@ -22,10 +22,10 @@ use Rattle.obs_exchange.specs.Laws.{noncritical_in}
 use Rattle.obs_exchange.proofs.AtGraph.{In-live, live-from_live_items}
 use Rattle.obs_placement.specs.declared.plans.Layer.{Layer}
 use Rattle.obs_placement.specs.Answer.{chosen_of, cost_of}
-use Rattle.obs_placement.specs.Layers.{added_items, inside_of, is_price_of, layers_of, own_items, prices_above}
+use Rattle.obs_placement.specs.Layers.{added_items, inside_of, is_price_of, layers_of, layer_items, prices_above}
 use Rattle.obs_placement.specs.Order.{price_of}
 use Rattle.obs_placement.specs.Placed.{plan_of}
-use Rattle.obs_placement.specs.Taking.{is_below, is_own, scope_of}
+use Rattle.obs_placement.specs.Taking.{is_below, is_listed_at, scope_of}
 use Rattle.obs_placement.proofs.Going.{live_low}
 
 -- rising numbers, all above f
@@ -45,7 +45,7 @@ prices_rising prices ks f = rising_filter (λ t. is_price_of prices ks t) (cost_
 
 module _ (n : ℕ) (ends : List (Option Ends)) (touches : List Touch) (ok : AreBranches n ends) (price : ℕ → ℕ) where
   abbrev own : ℕ → ℕ → Bool
-  own t m = is_own n ends touches price t m
+  own t m = is_listed_at n ends touches price t m
 
   abbrev scope : ℕ → List ℕ
   scope t = scope_of ends touches price t
@@ -83,7 +83,7 @@ module _ (n : ℕ) (ends : List (Option Ends)) (touches : List Touch) (ok : AreB
             (not-true (is_critical mat touch (scope f) m) p.1)
       ])
 
-  pub own_in : (t m : ℕ) → In m (own_items n ends touches price t) ↔ (own t m ≡ true)
+  pub own_in : (t m : ℕ) → In m (layer_items n ends touches price t) ↔ (own t m ≡ true)
   own_in t m = (
     (λ i. (In-filter_from (own t) m (scope t) i).1),
     (λ y. In-filter (own t) m (scope t) (own_parts t m y).0 y),
@@ -126,20 +126,20 @@ module _ (n : ℕ) (ends : List (Option Ends)) (touches : List Touch) (ok : AreB
   none_own m y = let p = (scope_from 0 m (own_parts 0 m y).0).1 in clash p (le-ltb (price m) 0 (omega arith))
 
   pub lists_first : (ts : List ℕ) → AreRising 0 ts → (l : Layer) → In l (layers_of n ends touches price 0 0 ts) → (m : ℕ)
-      → In m (take l.upto (inside_of n ends touches price 0 ts)) ↔ In m (own_items n ends touches price l.to)
+      → In m (take l.upto (inside_of n ends touches price 0 ts)) ↔ In m (layer_items n ends touches price l.to)
   lists_first ts r l i m =
       let u = firsts 0 0 ts [] refl (λ x. ((λ j. absurd j), (λ y. absurd (none_own x y)))) r l i m in
       let v = own_in l.to m in ((λ j. v.1 (u.0 j)), (λ j. u.1 (v.0 j)))
 
 pub lists_come_first : (n : ℕ) (ends : List (Option Ends)) (touches : List Touch) (meters : ℕ) (prices : List ℕ) → AreBranches n ends
     → (l : Layer) → In l ((plan_of n ends touches meters prices).layers) → (m : ℕ)
-    → In m (take l.upto ((plan_of n ends touches meters prices).inside)) ↔ In m (own_items n ends touches (price_of meters prices) l.to)
+    → In m (take l.upto ((plan_of n ends touches meters prices).inside)) ↔ In m (layer_items n ends touches (price_of meters prices) l.to)
 lists_come_first n ends touches meters prices ok =
     let ks = chosen_of n ends touches meters prices in
     lists_first n ends touches ok (price_of meters prices) (prices_above prices ks 0) (prices_rising prices ks 0)
 
 pub lists_grow : (n : ℕ) (ends : List (Option Ends)) (touches : List Touch) (meters : ℕ) (prices : List ℕ) → AreBranches n ends → (f t : ℕ) → f ≤ t
-    → (m : ℕ) → In m (own_items n ends touches (price_of meters prices) f) → In m (own_items n ends touches (price_of meters prices) t)
+    → (m : ℕ) → In m (layer_items n ends touches (price_of meters prices) f) → In m (layer_items n ends touches (price_of meters prices) t)
 lists_grow n ends touches meters prices ok f t l m i =
     let price = price_of meters prices in
     (own_in n ends touches ok price t m).1 (own_grows n ends touches ok price f t l m ((own_in n ends touches ok price f m).0 i))

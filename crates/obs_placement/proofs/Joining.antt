@@ -5,7 +5,7 @@ use Rattle.std.proofs.lemmas.Bool.{cases_Bool, cases_eq, cases_lt, lt-ltb, ne_eq
 use Rattle.std.proofs.lemmas.List.{get_or_past, get_or-replicate, get_or_default, length-replicate, length-set, take_more}
 use Rattle.obs_graph.specs.declared.Ends.{Ends}
 use Rattle.obs_graph.specs.Search.{IsPart, State}
-use Rattle.obs_graph.specs.Shape.{Shape}
+use Rattle.obs_graph.specs.Graph.{Graph}
 use Rattle.obs_graph.proofs.Present.{none_some}
 use Rattle.obs_matroid.specs.Lists.{In}
 use Rattle.obs_matroid.proofs.Lists.{In-append_cases}
@@ -27,7 +27,7 @@ none_held n p e P h = absurd (none_some e (sym (none_at n p) ∙ h))
 pub none_part : (ends : List (Option Ends)) (n : ℕ) → IsPart (replicate n None) ends
 none_part ends n p e h = none_held n p e (get_or ends p None ≡ Some e) h
 
-pub AreOfKnown-none : (g : Shape) (touches : List Touch) (since : List ℕ) (n : ℕ) (held : List (Option Ends)) → n ≡ length g.ends → held ≡ replicate n None → AreOfKnown g touches since held
+pub AreOfKnown-none : (g : Graph) (touches : List Touch) (since : List ℕ) (n : ℕ) (held : List (Option Ends)) → n ≡ length g.ends → held ≡ replicate n None → AreOfKnown g touches since held
 AreOfKnown-none g touches since n held c is = rw is (record {
   count = length-replicate n None ∙ c;
   part = none_part g.ends n;
@@ -35,7 +35,7 @@ AreOfKnown-none g touches since n held c is = rw is (record {
 })
 
 -- one branch more is held, that a known item touches
-pub AreOfKnown-set : (g : Shape) (touches : List Touch) (since : List ℕ) (held : List (Option Ends)) (m p : ℕ) (x : Option Ends) → p < length g.ends → x ≡ get_or g.ends p x
+pub AreOfKnown-set : (g : Graph) (touches : List Touch) (since : List ℕ) (held : List (Option Ends)) (m p : ℕ) (x : Option Ends) → p < length g.ends → x ≡ get_or g.ends p x
     → is_known since m ≡ true → In p (touch_at g.ends touches m) → AreOfKnown g touches since held → AreOfKnown g touches since (set held p x)
 AreOfKnown-set g touches since held m p x l is k i h = record {
   count = length-set held p x ∙ h.count;
@@ -55,7 +55,7 @@ AreOfKnown-set g touches since held m p x l is k i h = record {
     here = get_or-set_same held p x None (let c = h.count in omega (arith, c, l))
 
 -- known items stay known
-pub AreOfKnown-more : (g : Shape) (touches : List Touch) (p : ℕ) (before after : List ℕ) (held : List (Option Ends)) → p < never → AreAdded p before after
+pub AreOfKnown-more : (g : Graph) (touches : List Touch) (p : ℕ) (before after : List ℕ) (held : List (Option Ends)) → p < never → AreAdded p before after
     → AreOfKnown g touches before held → AreOfKnown g touches after held
 AreOfKnown-more g touches p before after held low added h = record {
   count = h.count;
@@ -70,7 +70,7 @@ AreOfKnown-more g touches p before after held low added h = record {
     ]
 
 -- and what their branches joined is still what those of known items join
-pub IsJoinedByKnown-more : (g : Shape) (touches : List Touch) (p : ℕ) (before after : List ℕ) (joined : State) → p < never → AreAdded p before after
+pub IsJoinedByKnown-more : (g : Graph) (touches : List Touch) (p : ℕ) (before after : List ℕ) (joined : State) → p < never → AreAdded p before after
     → IsJoinedByKnown g touches before joined → IsJoinedByKnown g touches after joined
 IsJoinedByKnown-more g touches p before after joined low added j = record {
   held = j.held;

@@ -13,33 +13,33 @@ use Rattle.obs_exchange.specs.Laws.{noncritical_in}
 use Rattle.obs_exchange.proofs.AtGraph.{live-from_live_items}
 use Rattle.obs_placement.specs.declared.plans.Layer.{Layer}
 use Rattle.obs_placement.specs.Answer.{chosen_of, cost_of}
-use Rattle.obs_placement.specs.Layers.{inside_of, layers_of, own_items, own_outside, own_rank, prices_above}
+use Rattle.obs_placement.specs.Layers.{inside_of, layers_of, layer_items, layer_outside, layer_rank, prices_above}
 use Rattle.obs_placement.specs.Order.{price_of}
-use Rattle.obs_placement.specs.Placed.{cheapest, shortfall, loose_items, placement_of}
-use Rattle.obs_placement.specs.Taking.{is_below, is_own, never, scope_of}
+use Rattle.obs_placement.specs.Placed.{cheapest, shortfall, redundant_items, placement_of}
+use Rattle.obs_placement.specs.Taking.{is_below, is_listed_at, never, scope_of}
 
 module _ (n : ℕ) (ends : List (Option Ends)) (touches : List Touch) (price : ℕ → ℕ) (cheap : (m : ℕ) → price m < never) where
   all_below : scope_of ends touches price never ≡ live_items ends touches
   all_below = filter_all (is_below price never) (live_items ends touches) (λ m i. lt-ltb (price m) never (cheap m))
 
-  own_all : (m : ℕ) → In m (live_items ends touches) → is_own n ends touches price never m ≡ noncritical_in n ends touches (live_items ends touches) m
+  own_all : (m : ℕ) → In m (live_items ends touches) → is_listed_at n ends touches price never m ≡ noncritical_in n ends touches (live_items ends touches) m
   own_all m i = rw (live-from_live_items ends touches m i, lt-ltb (price m) never (cheap m)) (ap (λ M. noncritical_in n ends touches M m) all_below)
 
-  lack_items : own_items n ends touches price never ≡ loose_items n ends touches
-  lack_items = ap (filter (is_own n ends touches price never)) all_below
-      ∙ filter_same (is_own n ends touches price never) (noncritical_in n ends touches (live_items ends touches)) (live_items ends touches) own_all
+  lack_items : layer_items n ends touches price never ≡ redundant_items n ends touches
+  lack_items = ap (filter (is_listed_at n ends touches price never)) all_below
+      ∙ filter_same (is_listed_at n ends touches price never) (noncritical_in n ends touches (live_items ends touches)) (live_items ends touches) own_all
 
-  lack_rank : own_rank n ends touches price never ≡ rank_at n ends (flat_map (touch_at ends touches) (loose_items n ends touches))
+  lack_rank : layer_rank n ends touches price never ≡ rank_at n ends (flat_map (touch_at ends touches) (redundant_items n ends touches))
   lack_rank = ap (λ xs. rank_at n ends (flat_map (touch_at ends touches) xs)) lack_items
 
-  lack_outside : own_outside n ends touches price never ≡ length (filter (λ m. not (noncritical_in n ends touches (live_items ends touches) m)) (live_items ends touches))
-  lack_outside = ap length (ap (filter (λ m. not (is_own n ends touches price never m))) all_below
-      ∙ filter_same (λ m. not (is_own n ends touches price never m)) (λ m. not (noncritical_in n ends touches (live_items ends touches) m)) (live_items ends touches) (λ m i. ap not (own_all m i)))
+  lack_outside : layer_outside n ends touches price never ≡ length (filter (λ m. not (noncritical_in n ends touches (live_items ends touches) m)) (live_items ends touches))
+  lack_outside = ap length (ap (filter (λ m. not (is_listed_at n ends touches price never m))) all_below
+      ∙ filter_same (λ m. not (is_listed_at n ends touches price never m)) (λ m. not (noncritical_in n ends touches (live_items ends touches) m)) (live_items ends touches) (λ m i. ap not (own_all m i)))
 
 module _ (n : ℕ) (ends : List (Option Ends)) (touches : List Touch) (meters : ℕ) (prices : List ℕ) (needed : ℕ) where
   pub placed_short : ((m : ℕ) → price_of meters prices m < never) → rho_at n ends touches (live_items ends touches) < needed → (inside : List ℕ) (rank outside : ℕ)
-      → inside ≡ own_items n ends touches (price_of meters prices) never → rank ≡ own_rank n ends touches (price_of meters prices) never
-      → outside ≡ own_outside n ends touches (price_of meters prices) never
+      → inside ≡ layer_items n ends touches (price_of meters prices) never → rank ≡ layer_rank n ends touches (price_of meters prices) never
+      → outside ≡ layer_outside n ends touches (price_of meters prices) never
       → shortfall (record { inside = inside; rank = rank; outside = outside; needed = needed }) ≡ placement_of n ends touches meters prices needed
   placed_short cheap low inside rank outside i r o =
       let price = price_of meters prices in

@@ -5,7 +5,7 @@ use Rattle.std.specs.List.{range_with_len}
 use Rattle.std.proofs.lemmas.Bool.{and_parts, cases_Bool, cases_eq, cases_lt, le-ltb, lt-ltb}
 use Rattle.std.proofs.lemmas.List.Sums.{sum_by-cons}
 use Rattle.std.proofs.lemmas.List.{append-nil, get_or-replicate, get_or_past, length-replicate, take_more_set}
-use Rattle.obs_graph.specs.Shape.{Shape}
+use Rattle.obs_graph.specs.Graph.{Graph}
 use Rattle.obs_graph.specs.Positions.{AreBranches}
 use Rattle.obs_matroid.specs.Lists.{In}
 use Rattle.obs_matroid.specs.Assignments.{Pair, items}
@@ -20,7 +20,7 @@ use Rattle.obs_meter.specs.Spanned.{graph_matroid}
 use Rattle.obs_meter.specs.Touches.{is_live, live_items, touch_at}
 use Rattle.obs_meter.proofs.Assigned.{live_items-distinct}
 use Rattle.obs_meter.proofs.Instance.{IsMatroid-graph}
-use Rattle.obs_assign.specs.Assigned.{Assigned, IsWhole, StandsOver, has_flag, is_frozen, pairs}
+use Rattle.obs_assign.specs.Assignment.{Assignment, IsWhole, StandsOver, has_flag, is_frozen, pairs}
 use Rattle.obs_placement.specs.Answer.{chosen_of, cost_of, earlier_items, is_chosen}
 use Rattle.obs_placement.specs.Choosing.{HavePairsOnly}
 use Rattle.obs_placement.specs.Limits.{most_price}
@@ -100,7 +100,7 @@ cheap_price meters prices h m = elim (cases_lt m meters) [
   ])
 ]
 
-pub cleared_standing : (g : Shape) (touches : List Touch) (a : Assigned) → StandsOver a g touches → IsWhole a → pairs a ≡ [] → IsStanding g touches a
+pub cleared_standing : (g : Graph) (touches : List Touch) (a : Assignment) → StandsOver a g touches → IsWhole a → pairs a ≡ [] → IsStanding g touches a
 cleared_standing g touches a s w e = record {
   stands = s;
   whole = w;
@@ -134,7 +134,7 @@ range_in (suc n) a x l u = elim (cases_eq x a) [ inl e ↦ inl e | inr k ↦ inr
 pub in_range : (k n : ℕ) → In k (range_with_len 0 n) → k < n
 in_range k n i = let l = in_range_from n 0 k i in omega (arith, l)
 
-module _ (g : Shape) (touches : List Touch) (meters : ℕ) (prices : List ℕ) (a : Assigned) (since : List ℕ) (raised : List Bool) (ok : AreBranches g.vertices g.ends)
+module _ (g : Graph) (touches : List Touch) (meters : ℕ) (prices : List ℕ) (a : Assignment) (since : List ℕ) (raised : List Bool) (ok : AreBranches g.vertices g.ends)
     (t : AreTaken g touches (price_of meters prices) a since raised) (count : length touches ≡ meters + length prices) where
   pub chosen_list : filter (is_raised raised meters) (range_with_len 0 (length prices)) ≡ chosen_of g.vertices g.ends touches meters prices
   chosen_list = filter_same (is_raised raised meters) (λ k. is_chosen g.vertices g.ends touches (price_of meters prices) (meters + k)) (range_with_len 0 (length prices))

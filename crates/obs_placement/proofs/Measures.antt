@@ -3,7 +3,7 @@ use Rattle.std.proofs.Common.{◌≡◌, ℕ, ◌+◌, ◌≤◌, ◌<◌, Bool,
 use Rattle.std.specs.Prelude.{filter, flat_map}
 use Rattle.std.proofs.lemmas.Bool.{cases_eq}
 use Rattle.std.proofs.lemmas.List.{get_or_default, length-set}
-use Rattle.obs_graph.specs.Shape.{Shape}
+use Rattle.obs_graph.specs.Graph.{Graph}
 use Rattle.obs_matroid.specs.Lists.{In}
 use Rattle.obs_matroid.proofs.Lists.{In-filter_from, filter_same}
 use Rattle.obs_meter.specs.declared.Touch.{Touch}
@@ -12,8 +12,8 @@ use Rattle.obs_meter.specs.Touches.{live_items, touch_at}
 use Rattle.obs_exchange.proofs.AtGraph.{live-from_live_items}
 use Rattle.obs_rankcut.specs.Bounds.{in_scope, listed, listed_rank, unlisted}
 use Rattle.obs_rankcut.specs.Flags.{marked}
-use Rattle.obs_placement.specs.Layers.{own_items, own_outside, own_rank}
-use Rattle.obs_placement.specs.Taking.{AreKnown, is_below, is_own, never, since_at}
+use Rattle.obs_placement.specs.Layers.{layer_items, layer_outside, layer_rank}
+use Rattle.obs_placement.specs.Taking.{AreKnown, is_below, is_listed_at, never, since_at}
 use Rattle.obs_placement.proofs.Going.{live_low}
 
 -- the first i of n flags are those of a test
@@ -33,7 +33,7 @@ AreTested-more P n i b flags l e h = let c = h.count in record {
 pub since_same : (since : List ℕ) (m t d : ℕ) → m < length since → ltb (get_or since m d) t ≡ ltb (since_at since m) t
 since_same since m t d l = ap (λ (s : ℕ). ltb s t) (get_or_default since m d never l)
 
-module _ (g : Shape) (touches : List Touch) (price : ℕ → ℕ) (since : List ℕ) (t : ℕ) (marks scope : List Bool) (known : AreKnown g touches price since) (high : t ≤ never)
+module _ (g : Graph) (touches : List Touch) (price : ℕ → ℕ) (since : List ℕ) (t : ℕ) (marks scope : List Bool) (known : AreKnown g touches price since) (high : t ≤ never)
     (marks_are : (m : ℕ) → m < length touches → marked marks m ≡ ltb (since_at since m) t) (scope_is : (m : ℕ) → m < length touches → marked scope m ≡ is_below price t m) where
   low : (m : ℕ) → In m (live_items g.ends touches) → m < length touches
   low m i = live_low g.ends touches m (live-from_live_items g.ends touches m i)
@@ -41,16 +41,16 @@ module _ (g : Shape) (touches : List Touch) (price : ℕ → ℕ) (since : List 
   scope_same : in_scope g.ends touches (marked scope) ≡ in_scope g.ends touches (is_below price t)
   scope_same = filter_same (marked scope) (is_below price t) (live_items g.ends touches) (λ m i. scope_is m (low m i))
 
-  own_same : (m : ℕ) → In m (in_scope g.ends touches (is_below price t)) → marked marks m ≡ is_own g.vertices g.ends touches price t m
+  own_same : (m : ℕ) → In m (in_scope g.ends touches (is_below price t)) → marked marks m ≡ is_listed_at g.vertices g.ends touches price t m
   own_same m i = marks_are m (low m (In-filter_from (is_below price t) m (live_items g.ends touches) i).0) ∙ known t m high
 
-  pub measured_items : listed g.ends touches (marked marks) (marked scope) ≡ own_items g.vertices g.ends touches price t
-  measured_items = ap (filter (marked marks)) scope_same ∙ filter_same (marked marks) (is_own g.vertices g.ends touches price t) (in_scope g.ends touches (is_below price t)) own_same
+  pub measured_items : listed g.ends touches (marked marks) (marked scope) ≡ layer_items g.vertices g.ends touches price t
+  measured_items = ap (filter (marked marks)) scope_same ∙ filter_same (marked marks) (is_listed_at g.vertices g.ends touches price t) (in_scope g.ends touches (is_below price t)) own_same
 
-  pub measured_rank : listed_rank g.vertices g.ends touches (marked marks) (marked scope) ≡ own_rank g.vertices g.ends touches price t
+  pub measured_rank : listed_rank g.vertices g.ends touches (marked marks) (marked scope) ≡ layer_rank g.vertices g.ends touches price t
   measured_rank = ap (λ xs. rank_at g.vertices g.ends (flat_map (touch_at g.ends touches) xs)) measured_items
 
-  pub measured_outside : length (unlisted g.ends touches (marked marks) (marked scope)) ≡ own_outside g.vertices g.ends touches price t
+  pub measured_outside : length (unlisted g.ends touches (marked marks) (marked scope)) ≡ layer_outside g.vertices g.ends touches price t
   measured_outside = ap length (
       ap (filter (λ m. not (marked marks m))) scope_same
-      ∙ filter_same (λ m. not (marked marks m)) (λ m. not (is_own g.vertices g.ends touches price t m)) (in_scope g.ends touches (is_below price t)) (λ m i. ap not (own_same m i)))
+      ∙ filter_same (λ m. not (marked marks m)) (λ m. not (is_listed_at g.vertices g.ends touches price t m)) (in_scope g.ends touches (is_below price t)) (λ m i. ap not (own_same m i)))

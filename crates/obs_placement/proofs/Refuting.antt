@@ -24,27 +24,27 @@ use Rattle.obs_exchange.proofs.AtGraph.{In-live}
 use Rattle.obs_placement.specs.Answer.{chosen_of, cost_of}
 use Rattle.obs_placement.specs.Laws.{DoAsMuch, live_candidates, live_meters}
 use Rattle.obs_placement.specs.Order.{price_of}
-use Rattle.obs_placement.specs.Placed.{lack_of}
+use Rattle.obs_placement.specs.Placed.{shortfall_of}
 use Rattle.obs_placement.specs.Shown.{Completes}
 use Rattle.obs_placement.proofs.Lawful.{layers_bound}
 use Rattle.obs_placement.proofs.Positions.{cost_least}
 
 bound_longest : (n : ℕ) (ends : List (Option Ends)) (touches : List Touch) (needed : ℕ) → AreBranches n ends
-    → IsRho (graph_matroid n ends) (touch_at ends touches) (live_items ends touches) ((lack_of n ends touches needed).rank + (lack_of n ends touches needed).outside)
+    → IsRho (graph_matroid n ends) (touch_at ends touches) (live_items ends touches) ((shortfall_of n ends touches needed).rank + (shortfall_of n ends touches needed).outside)
 bound_longest n ends touches needed ok = noncritical_tight (graph_matroid n ends) (IsMatroid-graph n ends ok) (touch_at ends touches) (live_items ends touches) (live_items-distinct ends touches)
 
 pub bound_reached : (n : ℕ) (ends : List (Option Ends)) (touches : List Touch) (needed : ℕ) → AreBranches n ends
-    → (lack_of n ends touches needed).rank + (lack_of n ends touches needed).outside ≡ rho_at n ends touches (live_items ends touches)
+    → (shortfall_of n ends touches needed).rank + (shortfall_of n ends touches needed).outside ≡ rho_at n ends touches (live_items ends touches)
 bound_reached n ends touches needed ok =
     let mat = graph_matroid n ends in
     let touch = touch_at ends touches in
     let M = live_items ends touches in
-    let b = lack_of n ends touches needed in
+    let b = shortfall_of n ends touches needed in
     rho_same mat touch M (b.rank + b.outside) (rho_of mat touch M) (bound_longest n ends touches needed ok)
     (rho_of_is mat (IsMatroid-graph n ends ok) touch M (live_items-distinct ends touches))
 
 pub bound_refutes : (n : ℕ) (ends : List (Option Ends)) (touches : List Touch) (meters needed : ℕ) (X : List ℕ) → AreBranches n ends
-    → (lack_of n ends touches needed).rank + (lack_of n ends touches needed).outside < needed → Completes ends touches meters needed X → ⊥
+    → (shortfall_of n ends touches needed).rank + (shortfall_of n ends touches needed).outside < needed → Completes ends touches meters needed X → ⊥
 bound_refutes n ends touches meters needed X ok low c =
     let N = live_meters ends touches meters ++ filter (is_live ends touches) X in
     let r = rho-to_matroid n ends touches N needed c.reached in

@@ -6,7 +6,7 @@ use Rattle.std.proofs.lemmas.Bool.Decides.{nat_tests}
 use Rattle.obs_graph.specs.declared.Ends.{Ends}
 use Rattle.obs_graph.specs.Joined.{first_joined, is_joined}
 use Rattle.obs_graph.specs.Positions.{AreBranches, ends_of, present}
-use Rattle.obs_graph.specs.Shape.{Shape}
+use Rattle.obs_graph.specs.Graph.{Graph}
 use Rattle.obs_graph.proofs.Chains.{same_first-more}
 use Rattle.obs_graph.proofs.IsJoined.{same-from_true, true-from_same}
 use Rattle.obs_graph.proofs.Present.{present_contains}
@@ -24,7 +24,7 @@ use Rattle.obs_meter.specs.declared.Touch.{Touch}
 use Rattle.obs_meter.specs.Spanned.{both_ends, graph_matroid}
 use Rattle.obs_meter.specs.Touches.{is_live, live_items, touch_at}
 use Rattle.obs_meter.proofs.Instance.{IsMatroid-graph}
-use Rattle.obs_assign.specs.Assigned.{Assigned, branch_at, has_flag, is_frozen, pairs}
+use Rattle.obs_assign.specs.Assignment.{Assignment, branch_at, has_flag, is_frozen, pairs}
 use Rattle.obs_exchange.specs.declared.Sources.TheVariants.{One}
 use Rattle.obs_exchange.specs.Closed.{IsClosedAt, IsLeastClosedAt}
 use Rattle.obs_exchange.specs.Found.{AddsSource, HasClosed, HasGrown}
@@ -54,7 +54,7 @@ raising_by g laws touch M c r s d p q =
     let b = rho_same g touch (c ∷ M) s (rho_of g touch (c ∷ M)) q (rho_of_is g laws touch (c ∷ M) d) in
     rw (a, b) refl
 
-module _ (a : Assigned) (g : Shape) (touches : List Touch) (ok : AreBranches g.vertices g.ends) (standing : IsStanding g touches a) (N : List ℕ) (c : ℕ)
+module _ (a : Assignment) (g : Graph) (touches : List Touch) (ok : AreBranches g.vertices g.ends) (standing : IsStanding g touches a) (N : List ℕ) (c : ℕ)
     (S : ℕ → Bool) (taken : IsTaken (graph_matroid g.vertices g.ends) (touch_at g.ends touches) N (pairs a) S)
     (lives : (x : ℕ) → In x N → is_live g.ends touches x ≡ true) (out : In c N → ⊥) (live : is_live g.ends touches c ≡ true) where
   abbrev pub mat : Matroid
@@ -144,7 +144,7 @@ module _ (a : Assigned) (g : Shape) (touches : List Touch) (ok : AreBranches g.v
         (joined_rho mat (IsMatroid-graph g.vertices g.ends ok) (touch_at g.ends touches) N c (pairs a) S taken out joins_own)
         ∙ le-ltb (length (pairs a)) (length (pairs a)) (omega arith)
 
-  module _ (b : Assigned) (m : ℕ) (later : IsStanding g touches b) (h : HasGrown g.ends touches (One c) a b m) where
+  module _ (b : Assignment) (m : ℕ) (later : IsStanding g touches b) (h : HasGrown g.ends touches (One c) a b m) where
     added : AddsSource g.ends touches (One c) a (pairs b)
     added = AddsSource-grown a b g touches (One c) m later.whole later.stands h
 
@@ -193,7 +193,7 @@ known_after reached price before after low e b m = rw (e m) (core (reached m) (s
     ]
 
 -- the closed answer of a search from one item, with the mark after it
-pub passed_at : (a b : Assigned) (g : Shape) (touches : List Touch) (ok : AreBranches g.vertices g.ends) (standing : IsStanding g touches a) (price : ℕ → ℕ) (c p : ℕ)
+pub passed_at : (a b : Assignment) (g : Graph) (touches : List Touch) (ok : AreBranches g.vertices g.ends) (standing : IsStanding g touches a) (price : ℕ → ℕ) (c p : ℕ)
     (before after : List ℕ) (reached : List Bool) → is_live g.ends touches c ≡ true → p < never → ((m : ℕ) → since_at before m ≤ never)
     → IsTakenAt g touches (earlier_items g.ends touches price c) a before → HasClosed g.ends touches (One c) a b reached
     → ((m : ℕ) → since_at after m ≡ since_after (has_flag reached m) p (since_at before m))
@@ -203,12 +203,12 @@ passed_at a b g touches ok standing price c p before after reached live low fits
     let mat = graph_matroid g.vertices g.ends in
     let known = known_after (has_flag reached) p before after low marked fits in
     let t = passed_taken a g touches ok standing N c (is_known before) taken (earlier-live g.ends touches price c) (earlier-out g.ends touches price c) live (has_flag reached) closed.least in
-    subst (λ (x : Assigned). IsTakenAt g touches (c ∷ N) x after) (sym closed.same)
+    subst (λ (x : Assignment). IsTakenAt g touches (c ∷ N) x after) (sym closed.same)
     (IsTaken-same mat (IsMatroid-graph g.vertices g.ends ok) (touch_at g.ends touches) (c ∷ N) (c ∷ N) (pairs a) (λ m. is_known before m || has_flag reached m) (is_known after)
     t.distinct (λ x i. i) (λ x i. i) known t)
 
 -- a live item is chosen where it raises the greatest length
-pub chosen_by : (g : Shape) (touches : List Touch) (price : ℕ → ℕ) (c : ℕ) (r : Bool) → is_live g.ends touches c ≡ true
+pub chosen_by : (g : Graph) (touches : List Touch) (price : ℕ → ℕ) (c : ℕ) (r : Bool) → is_live g.ends touches c ≡ true
     → is_raising (graph_matroid g.vertices g.ends) (touch_at g.ends touches) (earlier_items g.ends touches price c) c ≡ r → r ≡ is_chosen g.vertices g.ends touches price c
 chosen_by g touches price c r live e = sym (rw live e)
 
@@ -220,7 +220,7 @@ known_with before c p m l low = elim (cases_eq m c) [
 ]
 
 -- a live item whose branches' ends are joined by held ones, with its price after it
-pub joined_at : (a : Assigned) (g : Shape) (touches : List Touch) (ok : AreBranches g.vertices g.ends) (standing : IsStanding g touches a) (price : ℕ → ℕ) (c p : ℕ)
+pub joined_at : (a : Assignment) (g : Graph) (touches : List Touch) (ok : AreBranches g.vertices g.ends) (standing : IsStanding g touches a) (price : ℕ → ℕ) (c p : ℕ)
     (before : List ℕ) (held : List (Option Ends)) → is_live g.ends touches c ≡ true → p < never → c < length before
     → IsTakenAt g touches (earlier_items g.ends touches price c) a before → AreOfKnown g touches before held → JoinTouched held g.ends touches c
     → IsTakenAt g touches (c ∷ earlier_items g.ends touches price c) a (set before c p)
@@ -232,7 +232,7 @@ joined_at a g touches ok standing price c p before held live low l taken of join
     t.distinct (λ x i. i) (λ x i. i) (λ m. known_with before c p m l low) t
 
 -- an item that is taken next isn't known yet
-pub joined_added : (a : Assigned) (g : Shape) (touches : List Touch) (price : ℕ → ℕ) (c p : ℕ) (before : List ℕ) → c < length before → ((m : ℕ) → since_at before m ≤ never)
+pub joined_added : (a : Assignment) (g : Graph) (touches : List Touch) (price : ℕ → ℕ) (c p : ℕ) (before : List ℕ) → c < length before → ((m : ℕ) → since_at before m ≤ never)
     → IsTakenAt g touches (earlier_items g.ends touches price c) a before → AreAdded p before (set before c p)
 joined_added a g touches price c p before l b taken m = elim (cases_eq m c) [
   | inl e ↦ inr (ap (since_at before) e ∙ never_yet, ap (since_at (set before c p)) e ∙ get_or-set_same before c p never l)

@@ -7,7 +7,7 @@ use Rattle.obs_meter.specs.Touches.{every_item}
 use Rattle.obs_rankcut.specs.Bounds.{listed, listed_rank, unlisted}
 use Rattle.obs_placement.specs.declared.plans.Layer.{Layer}
 use Rattle.obs_placement.specs.Answer.{cost_of}
-use Rattle.obs_placement.specs.Taking.{is_below, is_own, since_at}
+use Rattle.obs_placement.specs.Taking.{is_below, is_listed_at, since_at}
 
 -- whether t is the price of one of the candidates at these positions
 abbrev pub is_price_of : List ℕ → List ℕ → ℕ → Bool
@@ -18,29 +18,29 @@ abbrev pub prices_above : List ℕ → List ℕ → ℕ → List ℕ
 prices_above prices ks f = filter (is_price_of prices ks) (range_with_len (f + 1) (cost_of prices ks - f))
 
 -- the list of the layer that ends at the price t: of the live items below it those that aren't critical among them; the graph has n vertices
-abbrev pub own_items : ℕ → List (Option Ends) → List Touch → (ℕ → ℕ) → ℕ → List ℕ
-own_items n ends touches price t = listed ends touches (is_own n ends touches price t) (is_below price t)
+abbrev pub layer_items : ℕ → List (Option Ends) → List Touch → (ℕ → ℕ) → ℕ → List ℕ
+layer_items n ends touches price t = listed ends touches (is_listed_at n ends touches price t) (is_below price t)
 
 -- the rank of the branches that they touch
-abbrev pub own_rank : ℕ → List (Option Ends) → List Touch → (ℕ → ℕ) → ℕ → ℕ
-own_rank n ends touches price t = listed_rank n ends touches (is_own n ends touches price t) (is_below price t)
+abbrev pub layer_rank : ℕ → List (Option Ends) → List Touch → (ℕ → ℕ) → ℕ → ℕ
+layer_rank n ends touches price t = listed_rank n ends touches (is_listed_at n ends touches price t) (is_below price t)
 
 -- how many other live items are below the price
-abbrev pub own_outside : ℕ → List (Option Ends) → List Touch → (ℕ → ℕ) → ℕ → ℕ
-own_outside n ends touches price t = length (unlisted ends touches (is_own n ends touches price t) (is_below price t))
+abbrev pub layer_outside : ℕ → List (Option Ends) → List Touch → (ℕ → ℕ) → ℕ → ℕ
+layer_outside n ends touches price t = length (unlisted ends touches (is_listed_at n ends touches price t) (is_below price t))
 
 -- the items of the list that ends at t that aren't in the one that ends at f
 abbrev pub added_items : ℕ → List (Option Ends) → List Touch → (ℕ → ℕ) → ℕ → ℕ → List ℕ
 added_items n ends touches price f t =
-    filter (λ m. is_own n ends touches price t m && not (is_own n ends touches price f m)) (every_item touches)
+    filter (λ m. is_listed_at n ends touches price t m && not (is_listed_at n ends touches price f m)) (every_item touches)
 
 -- the layer from f to t, where u items are listed before it
 abbrev pub layer_of : ℕ → List (Option Ends) → List Touch → (ℕ → ℕ) → ℕ → ℕ → ℕ → Layer
 layer_of n ends touches price f t u = record {
   from = f;
   to = t;
-  rank = own_rank n ends touches price t;
-  outside = own_outside n ends touches price t;
+  rank = layer_rank n ends touches price t;
+  outside = layer_outside n ends touches price t;
   upto = u + length (added_items n ends touches price f t);
 }
 

@@ -15,14 +15,14 @@ use Rattle.obs_placement.specs.Layers.{inside_of, layers_of, prices_above}
 use Rattle.obs_placement.specs.Order.{price_of}
 
 -- the chosen positions, what they cost, the layers, and what these list
-pub record Planned : Type 0 where
+pub record PlanValue : Type 0 where
   pub chosen : List ℕ
   pub cost : ℕ
   pub layers : List Layer
   pub inside : List ℕ
 
 -- the items that the bound lists, the rank of what they touch, the number of the other live items, and the needed number
-pub record Lacking : Type 0 where
+pub record ShortfallValue : Type 0 where
   pub inside : List ℕ
   pub rank : ℕ
   pub outside : ℕ
@@ -30,8 +30,8 @@ pub record Lacking : Type 0 where
 
 -- a plan, or what shows a shortfall
 pub data Placed : Type 0 where
-  cheapest : Planned → Placed
-  shortfall : Lacking → Placed
+  cheapest : PlanValue → Placed
+  shortfall : ShortfallValue → Placed
 
 -- what a placement says
 abbrev pub placed_of : Placement → Placed
@@ -39,7 +39,7 @@ placed_of (Cheapest p) = cheapest (record { chosen = p.chosen.now; cost = p.cost
 placed_of (Shortfall b) = shortfall (record { inside = b.inside.now; rank = b.rank; outside = b.outside; needed = b.needed })
 
 -- the plan; the graph has n vertices
-abbrev pub plan_of : ℕ → List (Option Ends) → List Touch → ℕ → List ℕ → Planned
+abbrev pub plan_of : ℕ → List (Option Ends) → List Touch → ℕ → List ℕ → PlanValue
 plan_of n ends touches meters prices = record {
   chosen = chosen_of n ends touches meters prices;
   cost = cost_of prices (chosen_of n ends touches meters prices);
@@ -48,14 +48,14 @@ plan_of n ends touches meters prices = record {
 }
 
 -- the live items that aren't critical in all live items
-abbrev pub loose_items : ℕ → List (Option Ends) → List Touch → List ℕ
-loose_items n ends touches = filter (noncritical_in n ends touches (live_items ends touches)) (live_items ends touches)
+abbrev pub redundant_items : ℕ → List (Option Ends) → List Touch → List ℕ
+redundant_items n ends touches = filter (noncritical_in n ends touches (live_items ends touches)) (live_items ends touches)
 
 -- the bound of these over all live items
-abbrev pub lack_of : ℕ → List (Option Ends) → List Touch → ℕ → Lacking
-lack_of n ends touches needed = record {
-  inside = loose_items n ends touches;
-  rank = rank_at n ends (flat_map (touch_at ends touches) (loose_items n ends touches));
+abbrev pub shortfall_of : ℕ → List (Option Ends) → List Touch → ℕ → ShortfallValue
+shortfall_of n ends touches needed = record {
+  inside = redundant_items n ends touches;
+  rank = rank_at n ends (flat_map (touch_at ends touches) (redundant_items n ends touches));
   outside = length (filter (λ m. not (noncritical_in n ends touches (live_items ends touches) m)) (live_items ends touches));
   needed = needed;
 }
@@ -63,7 +63,7 @@ lack_of n ends touches needed = record {
 -- the shortfall exactly where the greatest length of all that is offered is below the needed number, and else the plan
 abbrev pub placement_of : ℕ → List (Option Ends) → List Touch → ℕ → List ℕ → ℕ → Placed
 placement_of n ends touches meters prices needed =
-    if nat_lt (rho_at n ends touches (live_items ends touches)) needed then shortfall (lack_of n ends touches needed)
+    if nat_lt (rho_at n ends touches (live_items ends touches)) needed then shortfall (shortfall_of n ends touches needed)
     else cheapest (plan_of n ends touches meters prices)
 
 -- what was laid out in these arrays: the chosen positions, the list of the bound that was measured last, the layers, and what they list

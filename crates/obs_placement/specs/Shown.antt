@@ -12,9 +12,9 @@ use Rattle.obs_meter.specs.Touches.{is_live, live_items, touch_at}
 use Rattle.obs_placement.specs.declared.plans.Layer.{Layer as PlanLayer}
 use Rattle.obs_placement.specs.Answer.{chosen_of, cost_of}
 use Rattle.obs_placement.specs.Laws.{live_candidates, live_meters}
-use Rattle.obs_placement.specs.Layers.{own_items}
+use Rattle.obs_placement.specs.Layers.{layer_items}
 use Rattle.obs_placement.specs.Order.{price_of}
-use Rattle.obs_placement.specs.Placed.{lack_of, plan_of}
+use Rattle.obs_placement.specs.Placed.{shortfall_of, plan_of}
 
 -- a layer of a plan as the laws of layers speak of it
 abbrev pub bare_layer : PlanLayer → Layer
@@ -43,12 +43,12 @@ LayersAreShown = (n : ℕ) (ends : List (Option Ends)) (touches : List Touch) (m
 abbrev pub ListsComeFirst : Type 0
 ListsComeFirst = (n : ℕ) (ends : List (Option Ends)) (touches : List Touch) (meters : ℕ) (prices : List ℕ) → AreBranches n ends
     → (l : PlanLayer) → In l ((plan_of n ends touches meters prices).layers) → (m : ℕ)
-    → In m (take l.upto ((plan_of n ends touches meters prices).inside)) ↔ In m (own_items n ends touches (price_of meters prices) l.to)
+    → In m (take l.upto ((plan_of n ends touches meters prices).inside)) ↔ In m (layer_items n ends touches (price_of meters prices) l.to)
 
 -- the list of a layer holds that of each layer below it
 abbrev pub ListsGrow : Type 0
 ListsGrow = (n : ℕ) (ends : List (Option Ends)) (touches : List Touch) (meters : ℕ) (prices : List ℕ) → AreBranches n ends → (f t : ℕ) → f ≤ t
-    → (m : ℕ) → In m (own_items n ends touches (price_of meters prices) f) → In m (own_items n ends touches (price_of meters prices) t)
+    → (m : ℕ) → In m (layer_items n ends touches (price_of meters prices) f) → In m (layer_items n ends touches (price_of meters prices) t)
 
 -- the items of X are candidates, and the needed number is the greatest length of the live meters and the live ones of X
 pub record Completes (ends : List (Option Ends)) (touches : List Touch) (meters needed : ℕ) (X : List ℕ) : Type 0 where
@@ -64,12 +64,12 @@ NoneCompletesForLess = (n : ℕ) (ends : List (Option Ends)) (touches : List Tou
 -- the bound of a shortfall is the greatest length of all that is offered
 abbrev pub BoundIsReached : Type 0
 BoundIsReached = (n : ℕ) (ends : List (Option Ends)) (touches : List Touch) (needed : ℕ) → AreBranches n ends
-    → (lack_of n ends touches needed).rank + (lack_of n ends touches needed).outside ≡ rho_at n ends touches (live_items ends touches)
+    → (shortfall_of n ends touches needed).rank + (shortfall_of n ends touches needed).outside ≡ rho_at n ends touches (live_items ends touches)
 
 -- no candidates bring the meters above it, so none complete them where it is below the needed number
 abbrev pub BoundRefutes : Type 0
 BoundRefutes = (n : ℕ) (ends : List (Option Ends)) (touches : List Touch) (meters needed : ℕ) (X : List ℕ) → AreBranches n ends
-    → (lack_of n ends touches needed).rank + (lack_of n ends touches needed).outside < needed → Completes ends touches meters needed X → ⊥
+    → (shortfall_of n ends touches needed).rank + (shortfall_of n ends touches needed).outside < needed → Completes ends touches meters needed X → ⊥
 
 -- candidates that complete the meters cost at least what layers show
 abbrev pub CompletingCostsWhatLayersShow : Type 0

@@ -1,7 +1,7 @@
 -- Where the taking of items stands.
 use Rattle.std.specs.Prelude.{◌≡◌, ◌⊎◌, ℕ, ◌+◌, ◌≤◌, ◌<◌, ◌==◌, ◌&&◌, Bool, true, false, ◌↔◌, if◌then◌else◌, nat_lt, Option, List, length, slice_index_or}
 use Rattle.obs_graph.specs.declared.Ends.{Ends}
-use Rattle.obs_graph.specs.Shape.{Shape}
+use Rattle.obs_graph.specs.Graph.{Graph}
 use Rattle.obs_matroid.specs.Lists.{In, IsDistinct}
 use Rattle.obs_matroid.specs.Matroid.{Matroid}
 use Rattle.obs_matroid.specs.Assignments.{Pair, items, IsAssignment}
@@ -9,7 +9,7 @@ use Rattle.obs_matroid.specs.Critical.{IsCritical}
 use Rattle.obs_meter.specs.declared.Touch.{Touch}
 use Rattle.obs_meter.specs.Spanned.{graph_matroid}
 use Rattle.obs_meter.specs.Touches.{is_live, live_items, touch_at}
-use Rattle.obs_assign.specs.Assigned.{Assigned, IsWhole, StandsOver, has_flag, is_frozen, pairs}
+use Rattle.obs_assign.specs.Assignment.{Assignment, IsWhole, StandsOver, has_flag, is_frozen, pairs}
 use Rattle.obs_exchange.specs.Laws.{noncritical_in}
 use Rattle.obs_rankcut.specs.Bounds.{in_scope}
 use Rattle.obs_placement.specs.Answer.{is_chosen}
@@ -36,11 +36,11 @@ pub record IsTaken (g : Matroid) (touch : ℕ → List ℕ) (N : List ℕ) (A : 
   pub within : (m : ℕ) → S m ≡ true → In m N
 
 -- the items of N are taken, over a graph: the pairs of a are a longest assignment of them, and those known not to be critical in N aren't
-abbrev pub IsTakenAt : Shape → List Touch → List ℕ → Assigned → List ℕ → Type 0
+abbrev pub IsTakenAt : Graph → List Touch → List ℕ → Assignment → List ℕ → Type 0
 IsTakenAt g touches N a since = IsTaken (graph_matroid g.vertices g.ends) (touch_at g.ends touches) N (pairs a) (is_known since)
 
 -- the pairs stand, and nothing is frozen
-pub record IsStanding (g : Shape) (touches : List Touch) (a : Assigned) : Type 0 where
+pub record IsStanding (g : Graph) (touches : List Touch) (a : Assignment) : Type 0 where
   pub stands : StandsOver a g touches
   pub whole : IsWhole a
   pub thawed : (m : ℕ) → is_frozen a m ≡ false
@@ -50,7 +50,7 @@ abbrev pub since_after : Bool → ℕ → ℕ → ℕ
 since_after reached price s = if reached && (s == never) then price else s
 
 -- each item with a pair is chosen
-abbrev pub AreHeld : Shape → List Touch → (ℕ → ℕ) → Assigned → Type 0
+abbrev pub AreHeld : Graph → List Touch → (ℕ → ℕ) → Assignment → Type 0
 AreHeld g touches price a = (m : ℕ) → In m (items (pairs a)) → is_chosen g.vertices g.ends touches price m ≡ true
 
 -- of the items that weren't known some are known from this price on now
@@ -67,8 +67,8 @@ abbrev pub scope_of : List (Option Ends) → List Touch → (ℕ → ℕ) → �
 scope_of ends touches price t = in_scope ends touches (is_below price t)
 
 -- whether m is one of them and isn't critical in them; the graph has n vertices
-abbrev pub is_own : ℕ → List (Option Ends) → List Touch → (ℕ → ℕ) → ℕ → ℕ → Bool
-is_own n ends touches price t m =
+abbrev pub is_listed_at : ℕ → List (Option Ends) → List Touch → (ℕ → ℕ) → ℕ → ℕ → Bool
+is_listed_at n ends touches price t m =
     (is_live ends touches m && is_below price t m) && noncritical_in n ends touches (scope_of ends touches price t) m
 
 -- the list has just the live ones of the items at the first i places
@@ -78,7 +78,7 @@ pub record AreFirst (ends : List (Option Ends)) (touches : List Touch) (keys : L
   pub all : (k : ℕ) → k < i → is_live ends touches (item_at keys k) ≡ true → In (item_at keys k) N
 
 -- the items at the first i places are taken
-pub record IsUnderWay (g : Shape) (touches : List Touch) (price : ℕ → ℕ) (keys : List (ℕ × ℕ)) (i : ℕ) (a : Assigned) (since : List ℕ) (raised : List Bool) : Type 0 where
+pub record IsUnderWay (g : Graph) (touches : List Touch) (price : ℕ → ℕ) (keys : List (ℕ × ℕ)) (i : ℕ) (a : Assignment) (since : List ℕ) (raised : List Bool) : Type 0 where
   pub since_count : length since ≡ length touches
   pub raised_count : length raised ≡ length touches
   pub bounded : (m : ℕ) → since_at since m ≤ never
@@ -89,14 +89,14 @@ pub record IsUnderWay (g : Shape) (touches : List Touch) (price : ℕ → ℕ) (
   pub untouched : (k : ℕ) → i ≤ k → k < length touches → has_flag raised (item_at keys k) ≡ false
   pub reached : (m : ℕ) → is_known since m ≡ true → (k : ℕ) × (k < i) × (since_at since m ≡ price (item_at keys k))
   pub known : (t m : ℕ) → t ≤ never → ((k : ℕ) → i ≤ k → k < length touches → t ≤ price (item_at keys k))
-      → nat_lt (since_at since m) t ≡ is_own g.vertices g.ends touches price t m
+      → nat_lt (since_at since m) t ≡ is_listed_at g.vertices g.ends touches price t m
 
 -- the price is kept from which on each item isn't critical: those with one below t are the own items of t
-abbrev pub AreKnown : Shape → List Touch → (ℕ → ℕ) → List ℕ → Type 0
-AreKnown g touches price since = (t m : ℕ) → t ≤ never → nat_lt (since_at since m) t ≡ is_own g.vertices g.ends touches price t m
+abbrev pub AreKnown : Graph → List Touch → (ℕ → ℕ) → List ℕ → Type 0
+AreKnown g touches price since = (t m : ℕ) → t ≤ never → nat_lt (since_at since m) t ≡ is_listed_at g.vertices g.ends touches price t m
 
 -- all items are taken: the chosen ones are raised, they alone have pairs, and from which price on each isn't critical is known
-pub record AreTaken (g : Shape) (touches : List Touch) (price : ℕ → ℕ) (a : Assigned) (since : List ℕ) (raised : List Bool) : Type 0 where
+pub record AreTaken (g : Graph) (touches : List Touch) (price : ℕ → ℕ) (a : Assignment) (since : List ℕ) (raised : List Bool) : Type 0 where
   pub taken : IsTakenAt g touches (live_items g.ends touches) a since
   pub chosen : (m : ℕ) → m < length touches → has_flag raised m ≡ is_chosen g.vertices g.ends touches price m
   pub held : AreHeld g touches price a

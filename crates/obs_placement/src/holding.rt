@@ -3,7 +3,7 @@
 ghost use Rattle.std.specs.Prelude.{◌≡◌, ◌<◌, ◌≤◌, ℕ, IsTrue, List, None, Option, length, replicate, true};
 ghost use Rattle.obs_graph.specs.Search.{IsRooted, room_of};
 ghost use Rattle.obs_meter.specs.Touches.{AreInRange};
-ghost use Rattle.obs_assign.specs.Assigned.{has_flag};
+ghost use Rattle.obs_assign.specs.Assignment.{has_flag};
 ghost use Rattle.obs_placement.specs.Holding.{AreOfKnown, IsJoinedByKnown, JoinEnds, JoinTouched};
 ghost use Rattle.obs_placement.specs.Taking.{is_known, never, since_after, since_at};
 

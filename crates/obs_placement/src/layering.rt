@@ -3,7 +3,7 @@ ghost use Rattle.std.specs.Prelude.{◌≡◌, ◌+◌, ◌<◌, ◌≤◌, ◌+
 ghost use Rattle.std.specs.List.{range_with_len};
 ghost use Rattle.obs_meter.specs.Sizes.{HasRoomFor};
 ghost use Rattle.obs_meter.specs.Touches.{AreInRange};
-ghost use Rattle.obs_assign.specs.Assigned.{has_flag};
+ghost use Rattle.obs_assign.specs.Assignment.{has_flag};
 ghost use Rattle.obs_placement.specs.Answer.{chosen_of, is_chosen};
 ghost use Rattle.obs_placement.specs.Layers.{added_items, count_known, inside_of, is_added, layer_of, layers_of, prices_above};
 ghost use Rattle.obs_placement.specs.Order.{IsOrder, price_of};
@@ -47,7 +47,7 @@ fn list_added(since: &[u64], from: u64, to: u64, inside: &mut [u32], upto: usize
 
 /// Lays out the layer from one price to another, where so many layers and so many items are listed before it. Says how
 /// many items are listed then.
-fn lay_one(
+fn add_layer(
     g: &Graph,
     offered: &Meters,
     meters: u32,
@@ -107,7 +107,7 @@ pub struct Counts {
 }
 
 /// Lays out all layers: one for each different price above 0 of the chosen candidates, in the order of the items.
-pub fn lay_all(
+pub fn add_layers(
     g: &Graph,
     offered: &Meters,
     meters: u32,
@@ -153,7 +153,7 @@ pub fn lay_all(
     for k in 0..keys.len() {
         let (price, c) = keys[k];
         if last < price && raised[c as usize] {
-            upto = lay_one(
+            upto = add_layer(
                 g, offered, meters, prices, since, last, price, marks, scope, cut, layers, count,
                 inside, upto,
             );

@@ -3,7 +3,7 @@ ghost use Rattle.std.specs.Prelude.{◌≡◌, ◌+◌, ◌<◌, ◌≤◌, ◌^
 ghost use Rattle.obs_meter.specs.Sizes.{HasRoomFor};
 ghost use Rattle.obs_meter.specs.Touches.{AreInRange};
 ghost use Rattle.obs_rankcut.specs.Flags.{marked};
-ghost use Rattle.obs_placement.specs.Layers.{own_items, own_outside, own_rank};
+ghost use Rattle.obs_placement.specs.Layers.{layer_items, layer_outside, layer_rank};
 ghost use Rattle.obs_placement.specs.Order.{price_of};
 ghost use Rattle.obs_placement.specs.Taking.{AreKnown, is_below, since_at};
 
@@ -55,11 +55,11 @@ pub fn measure_own(
     requires scope { length scope.old ≡ length offered.now.touches }
     requires room { HasRoomFor cut.old.sizes g.now offered.now.touches }
     requires known { AreKnown g.now offered.now.touches (price_of meters prices.now) since.now }
-    ensures inside { cut.new.inside ≡ own_items g.now.vertices g.now.ends offered.now.touches
+    ensures inside { cut.new.inside ≡ layer_items g.now.vertices g.now.ends offered.now.touches
         (price_of meters prices.now) to }
-    ensures rank { result.rank ≡ own_rank g.now.vertices g.now.ends offered.now.touches
+    ensures rank { result.rank ≡ layer_rank g.now.vertices g.now.ends offered.now.touches
         (price_of meters prices.now) to }
-    ensures outside { result.outside ≡ own_outside g.now.vertices g.now.ends offered.now.touches
+    ensures outside { result.outside ≡ layer_outside g.now.vertices g.now.ends offered.now.touches
         (price_of meters prices.now) to }
     ensures marks { length marks.new ≡ length marks.old }
     ensures scope { length scope.new ≡ length scope.old }

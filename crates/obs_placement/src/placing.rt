@@ -4,8 +4,8 @@ ghost use Rattle.obs_graph.specs.Search.{room_of};
 ghost use Rattle.obs_meter.specs.Assignments.{rho_at};
 ghost use Rattle.obs_meter.specs.Sizes.{HasRoomFor};
 ghost use Rattle.obs_meter.specs.Touches.{AreInRange, live_items};
-ghost use Rattle.obs_assign.specs.Assigned.{Fits, HasRoomOf};
-ghost use Rattle.obs_assign.specs.Assigned.{pairs as pairs_at};
+ghost use Rattle.obs_assign.specs.Assignment.{Fits, HasRoomOf};
+ghost use Rattle.obs_assign.specs.Assignment.{pairs as pairs_at};
 ghost use Rattle.obs_placement.specs.Limits.{most_candidates, most_price};
 ghost use Rattle.obs_placement.specs.Answer.{chosen_of};
 ghost use Rattle.obs_placement.specs.Choosing.{HavePairsOnly};
@@ -14,7 +14,7 @@ ghost use Rattle.obs_placement.specs.Placed.{laid_in, placement_of};
 ghost use Rattle.obs_placement.specs.Taking.{AreKnown, IsStanding};
 
 use crate::choosing::choose_in;
-use crate::layering::lay_all;
+use crate::layering::add_layers;
 use crate::measuring::measure_own;
 use crate::plans::Layer;
 use crate::taking::NEVER;
@@ -113,7 +113,7 @@ fn place_in<L: Ledger>(
             inside: 0,
         }
     } else {
-        let counts = lay_all(
+        let counts = add_layers(
             g, offered, meters, prices, keys, raised, since, marks, scope, cut, layers, inside,
         );
         Laid {

@@ -4,7 +4,7 @@ ghost use Rattle.std.specs.Prelude.{◌≡◌, ◌<◌, ◌≤◌, ◌∷◌, �
 ghost use Rattle.obs_graph.specs.Search.{room_of};
 ghost use Rattle.obs_meter.specs.Sizes.{HasRoomFor};
 ghost use Rattle.obs_meter.specs.Touches.{AreInRange, is_live};
-ghost use Rattle.obs_assign.specs.Assigned.{HasRoomOf, pairs};
+ghost use Rattle.obs_assign.specs.Assignment.{HasRoomOf, pairs};
 ghost use Rattle.obs_placement.specs.Answer.{earlier_items, is_chosen};
 ghost use Rattle.obs_placement.specs.Holding.{AreOfKnown, IsJoinedByKnown};
 ghost use Rattle.obs_placement.specs.Order.{IsOrder, price_of};

@@ -3,7 +3,7 @@ ghost use Rattle.std.specs.Prelude.{◌≡◌, ◌+◌, ◌≤◌, All, IfOk, le
 ghost use Rattle.obs_meter.specs.Assignments.{rho_at};
 ghost use Rattle.obs_meter.specs.Sizes.{HasRoomFor};
 ghost use Rattle.obs_meter.specs.Touches.{AreInRange, live_items};
-ghost use Rattle.obs_assign.specs.Assigned.{pairs as pairs_at};
+ghost use Rattle.obs_assign.specs.Assignment.{pairs as pairs_at};
 ghost use Rattle.obs_placement.specs.Limits.{most_candidates, most_price};
 ghost use Rattle.obs_placement.specs.Answer.{chosen_of};
 ghost use Rattle.obs_placement.specs.Choosing.{HavePairsOnly, new_placing};
@@ -65,10 +65,10 @@ pub struct PlaceWork {
 
 impl Model for PlaceWork {
     ghost use Rattle.std.specs.Prelude.{◌≡◌, ◌≤◌, length, take};
-    ghost use Rattle.obs_placement.specs.Choosing.{Placing};
+    ghost use Rattle.obs_placement.specs.Choosing.{PlaceWork};
     ghost use Rattle.obs_placement.specs.Placed.{laid_in};
 
-    ghost Value = { Placing };
+    ghost Value = { PlaceWork };
 
     ghost view = { λ w. record {
       placed = laid_in w.laid w.list.items w.cut.inside w.layers.items w.inside.items;

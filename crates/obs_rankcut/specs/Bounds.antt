@@ -22,6 +22,6 @@ abbrev pub listed_rank : ℕ → List (Option Ends) → List Touch → (ℕ → 
 listed_rank n ends touches marks scope = rank_at n ends (flat_map (touch_at ends touches) (listed ends touches marks scope))
 
 -- what a work value is seen as: the list that was measured last, and the sizes that it was made for
-pub record Measuring : Type 0 where
+pub record CutWork : Type 0 where
   pub inside : List ℕ
   pub sizes : Sizes

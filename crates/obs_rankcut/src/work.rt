@@ -25,9 +25,9 @@ pub struct CutWork {
 
 impl Model for CutWork {
     ghost use Rattle.std.specs.Prelude.{◌≡◌, ◌≤◌, length, take};
-    ghost use Rattle.obs_rankcut.specs.Bounds.{Measuring};
+    ghost use Rattle.obs_rankcut.specs.Bounds.{CutWork};
 
-    ghost Value = { Measuring };
+    ghost Value = { CutWork };
 
     ghost view = { λ w. record {
       inside = take w.count w.list.items;

@@ -4,14 +4,14 @@ use Rattle.std.specs.Prelude.{IfSome, IsSome, slice_index_or, ◌==◌}
 use Rattle.std.specs.List.{flat_map, range_with_len}
 use Rattle.std.proofs.lemmas.Bool.{cases_Bool}
 use Rattle.obs_case.specs.Tables.{Tables, IsValid}
-use Rattle.obs_graph.specs.Shape.{Shape}
+use Rattle.obs_graph.specs.Graph.{Graph}
 use Rattle.obs_matroid.specs.Assignments.{Pair}
 use Rattle.obs_matroid.specs.Slots.{pairs_from, pairs_of}
 use Rattle.obs_meter.specs.declared.Touch.{Touch}
 use Rattle.obs_meter.specs.declared.Touch.TheVariants.{Nothing}
 use Rattle.obs_meter.specs.Touches.{is_live}
 use Rattle.obs_meter.proofs.Touched.{below_from_some, live-from_In, touched-present}
-use Rattle.obs_assign.specs.Assigned.{Assigned, StandsOver, branch_at}
+use Rattle.obs_assign.specs.Assignment.{Assignment, StandsOver, branch_at}
 use Rattle.obs_network.specs.Network.{case_branches, case_meters, network_of}
 use Rattle.obs_network.specs.Located.{is_meter_in, live_meters_of}
 use Rattle.obs_network.proofs.InComponents.{touched_component}
@@ -24,7 +24,7 @@ pub branch_low : (t : Tables) (e : ℕ) → IsSome (slice_index_or (case_branche
 branch_low t e s = omega (arith, below_from_some (case_branches t) e s, length-case_branches t)
 
 -- the branch of a pair is present
-pub held_present : (a : Assigned) (g : Shape) (touches : List Touch) → StandsOver a g touches → (m : ℕ) → IfSome (branch_at a m) (λ e. IsSome (slice_index_or g.ends e None))
+pub held_present : (a : Assignment) (g : Graph) (touches : List Touch) → StandsOver a g touches → (m : ℕ) → IfSome (branch_at a m) (λ e. IsSome (slice_index_or g.ends e None))
 held_present a g touches s m = by (branch_at a m) refl
   where
     by : (o : Option ℕ) → branch_at a m ≡ o → IfSome o (λ e. IsSome (slice_index_or g.ends e None))
@@ -32,7 +32,7 @@ held_present a g touches s m = by (branch_at a m) refl
     by (Some e) h = touched-present g.ends (slice_index_or touches m Nothing) e (s.touched m e h)
 
 -- the branch of a pair has a row in the table
-pub held_low : (t : Tables) (a : Assigned) (touches : List Touch) → StandsOver a (network_of t).graph touches → (m : ℕ) → IfSome (branch_at a m) (λ e. e < length t.branches)
+pub held_low : (t : Tables) (a : Assignment) (touches : List Touch) → StandsOver a (network_of t).graph touches → (m : ℕ) → IfSome (branch_at a m) (λ e. e < length t.branches)
 held_low t a touches s m = by (branch_at a m) (held_present a (network_of t).graph touches s m)
   where
     by : (o : Option ℕ) → IfSome o (λ e. IsSome (slice_index_or (case_branches t) e None)) → IfSome o (λ e. e < length t.branches)
@@ -40,7 +40,7 @@ held_low t a touches s m = by (branch_at a m) (held_present a (network_of t).gra
     by (Some e) h = branch_low t e h
 
 -- the lines of a meter's pair, where it has one
-abbrev pub slot_lines : Tables → Assigned → ℕ → List ℕ
+abbrev pub slot_lines : Tables → Assignment → ℕ → List ℕ
 slot_lines t a m = flat_map (pair_line t) (pairs_from m (branch_at a m ∷ []))
 
 -- the lines of the pairs that pass a test are those of the items that pass it, whatever is said of items without a branch
@@ -77,7 +77,7 @@ module _ (f : Pair → List ℕ) (q : Pair → Bool) (live r : ℕ → Bool) (at
       ∙ ap (λ (n : ℕ). flat_map f (filter q (pairs_from n slots))) (add-one i))
 
 -- the pairs that lie in a component are those of its live meters
-pub tree_pairs : (t : Tables) → IsValid t → (a : Assigned) → StandsOver a (network_of t).graph (case_meters t) → (c : ℕ)
+pub tree_pairs : (t : Tables) → IsValid t → (a : Assignment) → StandsOver a (network_of t).graph (case_meters t) → (c : ℕ)
     → flat_map (slot_lines t a) (live_meters_of (network_of t) c) ≡ pair_lines t c (pairs_of a.slots)
 tree_pairs t v a stands c =
     let at : (k : ℕ) → branch_at a (0 + k) ≡ get_or a.slots k None = λ k. let e : 0 + k ≡ k = omega arith in ap (branch_at a) e in

@@ -4,7 +4,7 @@ use Rattle.std.specs.List.{flat_map}
 use Rattle.obs_case.specs.Tables.{Tables}
 use Rattle.obs_matroid.specs.Assignments.{Pair}
 use Rattle.obs_placement.specs.declared.plans.Layer.{Layer}
-use Rattle.obs_placement.specs.Placed.{Lacking, Placed, Planned, cheapest, shortfall}
+use Rattle.obs_placement.specs.Placed.{ShortfallValue, Placed, PlanValue, cheapest, shortfall}
 use Rattle.obs_report.specs.Items.{candidate_name, inside_line, item_count, pair_line}
 use Rattle.obs_report.specs.Lines.{line_of}
 
@@ -33,12 +33,12 @@ layers_text t inside u [] = []
 layers_text t inside u (l ∷ ls) = (layer_line l ++ listed_between t inside u l.upto) ++ layers_text t inside l.upto ls
 
 -- a plan, with the pairs of meters and candidates
-abbrev pub plan_text : Tables → Planned → List Pair → List ℕ
+abbrev pub plan_text : Tables → PlanValue → List Pair → List ℕ
 plan_text t p pairs =
     ((cost_line p.cost ++ flat_map (chosen_line t) p.chosen) ++ flat_map (pair_line t) pairs) ++ layers_text t p.inside 0 p.layers
 
 -- a shortfall, with the items that its bound lists
-abbrev pub shortfall_text : Tables → Lacking → List ℕ
+abbrev pub shortfall_text : Tables → ShortfallValue → List ℕ
 shortfall_text t b = shortfall_line b.rank b.outside ++ flat_map (inside_line t) b.inside
 
 -- a placement; a shortfall has no pairs

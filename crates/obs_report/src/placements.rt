@@ -2,7 +2,7 @@
 ghost use Rattle.std.specs.Prelude.{◌≡◌, ◌<◌, ◌≤◌, ◌++◌, All, length};
 ghost use Rattle.std.specs.List.{flat_map};
 ghost use Rattle.obs_matroid.specs.Slots.{pairs_of};
-ghost use Rattle.obs_assign.specs.Assigned.{StandsOver};
+ghost use Rattle.obs_assign.specs.Assignment.{StandsOver};
 ghost use Rattle.obs_network.specs.Network.{case_offered, network_of};
 ghost use Rattle.obs_placement.specs.Placed.{placed_of};
 ghost use Rattle.obs_report.specs.Items.{inside_line, item_count, pair_line};

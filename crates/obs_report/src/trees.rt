@@ -2,7 +2,7 @@
 ghost use Rattle.std.specs.Prelude.{◌≡◌, ◌<◌, All, [], ◌∷◌, length};
 ghost use Rattle.std.specs.List.{flat_map};
 ghost use Rattle.obs_matroid.specs.Slots.{pairs_from, pairs_of};
-ghost use Rattle.obs_assign.specs.Assigned.{StandsOver, branch_at};
+ghost use Rattle.obs_assign.specs.Assignment.{StandsOver, branch_at};
 ghost use Rattle.obs_network.specs.Network.{case_meters, network_of};
 ghost use Rattle.obs_report.specs.Items.{pair_line};
 ghost use Rattle.obs_report.specs.Printed.{Appends, Prints};

@@ -3,7 +3,7 @@ use Rattle.std.specs.Prelude.{ℕ, ◌≡◌, ◌<◌, ◌≤◌, ◌^◌, suc, 
 use Rattle.obs_switch.specs.Groups.{AreGroups}
 
 -- the bus of each node, how many buses there are, and for how many nodes there is room
-pub record Labelled : Type 0 where
+pub record Buses : Type 0 where
   pub buses : List ℕ
   pub count : ℕ
   pub most_nodes : ℕ

@@ -1,8 +1,8 @@
 //! Buses: the classes of nodes that closed switches join.
 #![tactic(auto)]
 
+mod buses;
 pub mod group;
-mod labels;
 pub mod laws;
 mod link;
 mod number;
@@ -12,5 +12,5 @@ mod sweep;
 #[cfg(test)]
 mod tests;
 
-pub use labels::{Buses, NoMemory};
+pub use buses::{Buses, NoMemory};
 pub use link::Link;

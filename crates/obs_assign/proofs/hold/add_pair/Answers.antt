@@ -3,7 +3,7 @@ use Rattle.std.proofs.lemmas.List.{length-take-le}
 use Rattle.obs_graph.specs.declared.Ends.{Ends}
 use Rattle.obs_matroid.specs.Assignments.{branches}
 use Rattle.obs_matroid.specs.Slots.{pairs_of}
-use Rattle.obs_forest.specs.Holding.{Holding, taken}
+use Rattle.obs_forest.specs.Forest.{Forest, taken}
 use Rattle.obs_assign.proofs.Listed.{IsAdded-made, taken-same}
 use Rattle.obs_assign.proofs.hold.add_pair.Goals as goal
 
@@ -91,5 +91,5 @@ returns-clause-forest c =
     r.meters r.meter r.bare r.room r.owners r.count r.inverse r.listed r.forest in
     let list = take (c.args.count + 1) (set c.args.list.now c.args.count c.args.x.branch) in
     let new = take c.args.meters (set c.args.slots.now c.args.x.meter (Some c.args.x.branch)) in
-    c.refill_from.ensures.whole ∙ ap (λ (h : List (Option Ends)). let f : Holding = record { vertices = c.args.g.now.vertices; held = h; most_vertices = c.args.forest.now.most_vertices; most_branches = c.args.forest.now.most_branches } in f)
+    c.refill_from.ensures.whole ∙ ap (λ (h : List (Option Ends)). let f : Forest = record { vertices = c.args.g.now.vertices; held = h; most_vertices = c.args.forest.now.most_vertices; most_branches = c.args.forest.now.most_branches } in f)
     (taken-same c.args.g.now.ends list (branches (pairs_of new)) a.listed.exactly)

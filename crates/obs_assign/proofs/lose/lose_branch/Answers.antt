@@ -3,7 +3,7 @@ use Rattle.std.proofs.lemmas.List.{get_or-take, length-take-le}
 use Rattle.obs_graph.specs.declared.Ends.{Ends}
 use Rattle.obs_matroid.specs.Assignments.{branches}
 use Rattle.obs_matroid.specs.Slots.{pairs_of}
-use Rattle.obs_forest.specs.Holding.{Holding}
+use Rattle.obs_forest.specs.Forest.{Forest}
 use Rattle.obs_assign.proofs.Listed.{taken-same}
 use Rattle.obs_assign.proofs.Losing.{IsLosable, IsLost, losable, IsLost-made}
 use Rattle.obs_assign.proofs.Slotted.{branch_low, length-pairs_of}
@@ -70,5 +70,5 @@ returns-clause-forest c =
     let l = lost (goal.at.returns-clause-forest c).After-unlist (may (goal.at.returns-clause-forest c).Start) in
     let list = take (c.args.count - 1) c.unlist.new.list in
     let new = take c.args.meters (set c.args.slots.now c.args.m None) in
-    c.refill_without.ensures.whole ∙ ap (λ (h : List (Option Ends)). let f : Holding = record { vertices = c.args.g.now.vertices; held = h; most_vertices = c.args.forest.now.most_vertices; most_branches = c.args.forest.now.most_branches } in f)
+    c.refill_without.ensures.whole ∙ ap (λ (h : List (Option Ends)). let f : Forest = record { vertices = c.args.g.now.vertices; held = h; most_vertices = c.args.forest.now.most_vertices; most_branches = c.args.forest.now.most_branches } in f)
     (taken-same c.args.g.now.ends list (branches (pairs_of new)) l.listed.exactly)

@@ -1,7 +1,7 @@
 use Rattle.std.proofs.Common.{take, ◌∙◌}
 use Rattle.obs_matroid.specs.Assignments.{branches}
 use Rattle.obs_matroid.specs.Slots.{pairs_of}
-use Rattle.obs_forest.specs.Holding.{taken}
+use Rattle.obs_forest.specs.Forest.{taken}
 use Rattle.obs_assign.proofs.Listed.{taken-same}
 use Rattle.obs_assign.proofs.Losing.{held_over}
 use Rattle.obs_assign.proofs.lose.lose_pair.Goals as goal

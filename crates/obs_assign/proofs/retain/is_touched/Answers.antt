@@ -3,7 +3,7 @@ use Rattle.std.proofs.lemmas.List.{get_or_default}
 use Rattle.obs_graph.specs.Positions.{has_end}
 use Rattle.obs_meter.specs.declared.Touch.{Touch}
 use Rattle.obs_meter.specs.Touches.{touched}
-use Rattle.obs_forest.specs.Holding.{has_position}
+use Rattle.obs_forest.specs.Forest.{has_position}
 use Rattle.obs_assign.proofs.Choosing.{star_position}
 use Rattle.obs_assign.proofs.retain.is_touched.Goals as goal
 

@@ -7,7 +7,7 @@ use Rattle.obs_matroid.specs.Assignments.{branches}
 use Rattle.obs_matroid.specs.Lists.{In}
 use Rattle.obs_matroid.specs.Slots.{pairs_of}
 use Rattle.obs_matroid.proofs.Lists.{clash}
-use Rattle.obs_forest.specs.Holding.{Holding, StandsOver, taken}
+use Rattle.obs_forest.specs.Forest.{Forest, StandsOver, taken}
 use Rattle.obs_assign.specs.Kept.{IsInverse, IsListed}
 use Rattle.obs_assign.specs.Pins.{pinned_slots}
 use Rattle.obs_assign.proofs.Handing.{apart-inverse, count-same}
@@ -85,7 +85,7 @@ add_pair-requires-clause-bare c = by_option (get_or c.lose_pair-less.new.slots c
 
 pub add_pair-requires-clause-stands : goal.add_pair-requires-clause-stands
 add_pair-requires-clause-stands c =
-    subst (λ (h : Holding). StandsOver h c.args.g.now) (sym c.lose_pair-less.ensures.forest)
+    subst (λ (h : Forest). StandsOver h c.args.g.now) (sym c.lose_pair-less.ensures.forest)
     (StandsOver-taken c.args.forest.now c.args.g.now (branches (pairs_of (take c.args.meters c.lose_pair-less.new.slots))))
 
 pub add_pair-requires-clause-forest : goal.add_pair-requires-clause-forest

@@ -3,7 +3,7 @@ use Rattle.std.proofs.Math.Seq.{take-set-lt}
 use Rattle.obs_graph.specs.Positions.{IsForestAt}
 use Rattle.obs_matroid.specs.Assignments.{branches}
 use Rattle.obs_matroid.specs.Slots.{pairs_of}
-use Rattle.obs_forest.specs.Holding.{Holding, StandsOver}
+use Rattle.obs_forest.specs.Forest.{Forest, StandsOver}
 use Rattle.obs_assign.specs.Pins.{pinned_slots}
 use Rattle.obs_assign.proofs.Changes.{forest_dropped}
 use Rattle.obs_assign.proofs.Keeping.{StandsOver-taken, slot_without}
@@ -17,7 +17,7 @@ first c = ap (take c.args.meters) c.lose_pair-less.ensures.lost ∙ take-set-lt 
 
 pub put_pin-requires-clause-stands : goal.put_pin-requires-clause-stands
 put_pin-requires-clause-stands c =
-    subst (λ (h : Holding). StandsOver h c.args.g.now) (sym c.lose_pair-less.ensures.forest)
+    subst (λ (h : Forest). StandsOver h c.args.g.now) (sym c.lose_pair-less.ensures.forest)
     (StandsOver-taken c.args.forest.now c.args.g.now (branches (pairs_of (take c.args.meters c.lose_pair-less.new.slots))))
 
 pub put_pin-requires-clause-before : goal.put_pin-requires-clause-before

@@ -1,7 +1,7 @@
 use Rattle.std.proofs.Common.{◌≡◌, ◌<◌, ℕ, suc, Option, Some, None, List, [], ◌∷◌, length, replicate, set, false, refl, sym, ap, ◌∙◌, subst, inl, inr, rules, arith}
 use Rattle.obs_graph.specs.declared.Ends.{Ends}
 use Rattle.obs_graph.specs.Positions.{AreBranches}
-use Rattle.obs_graph.specs.Shape.{Shape}
+use Rattle.obs_graph.specs.Graph.{Graph}
 use Rattle.obs_matroid.specs.Lists.{In}
 use Rattle.obs_matroid.specs.Assignments.{Pair, others}
 use Rattle.obs_matroid.specs.Slots.{pairs_from, pairs_of}
@@ -9,7 +9,7 @@ use Rattle.obs_meter.specs.declared.Touch.{Touch}
 use Rattle.obs_meter.specs.declared.Touch.TheVariants.{Edge, Star}
 use Rattle.obs_meter.specs.Assignments.{IsAssignmentAt}
 use Rattle.obs_meter.specs.Touches.{every_item, touch_at}
-use Rattle.obs_assign.specs.Assigned.{Assigned, IsWhole, StandsOver, pairs}
+use Rattle.obs_assign.specs.Assignment.{Assignment, IsWhole, StandsOver, pairs}
 use Rattle.obs_assign.specs.Pins.{joins}
 use Rattle.obs_assign.proofs.Free.{IsAssignmentAt-free}
 use Rattle.obs_assign.proofs.tests.grow.Goals as goal
@@ -23,7 +23,7 @@ abbrev touches : List Touch
 touches = Edge 0 ∷ Edge 0 ∷ Star 1 ∷ []
 
 -- a meter that the pairs leave free takes a branch
-free_here : (a : Assigned) (g : Shape) (T : List Touch) (A : List Pair) (m e : ℕ) → g.vertices ≡ 4 → g.ends ≡ path → T ≡ touches → IsWhole a → StandsOver a g T
+free_here : (a : Assignment) (g : Graph) (T : List Touch) (A : List Pair) (m e : ℕ) → g.vertices ≡ 4 → g.ends ≡ path → T ≡ touches → IsWhole a → StandsOver a g T
     → pairs a ≡ A → m < 3 → In e (touch_at path touches m) → joins path (others A m) e ≡ false
     → IsAssignmentAt g.ends T (every_item T) (pairs_of (set a.slots m (Some e)))
 free_here a g T A m e four shape are whole stands pairs_are low touched apart =

@@ -4,7 +4,7 @@ use Rattle.obs_cert.specs.Numbered.{items_of}
 use Rattle.obs_cert.specs.Scopes.{is_meter_in, scope_of}
 use Rattle.obs_cert.specs.Walked.{parts_in}
 use Rattle.obs_network.specs.Located.{live_meters_of}
-use Rattle.obs_network.specs.Network.{NetworkOf}
+use Rattle.obs_network.specs.Network.{Network}
 use Rattle.obs_cert.proofs.ClaimLemmas.{bound_rest, not_false}
 use Rattle.obs_cert.proofs.ComponentLemmas.{rows_few, scope_few, scope_same}
 use Rattle.obs_cert.proofs.OutsideLemmas.{meters_of_items}
@@ -13,7 +13,7 @@ use Rattle.obs_cert.proofs.claims.bound.Goals.{After-live_meters}
 
 many : (c : After-live_meters) → length c.live_meters.result.now ≡ length (scope_of c.args.case.now (is_meter_in c.args.case.now c.in-Some.named.component))
 many c =
-    ap length c.live_meters.ensures.meters ∙ ap (λ (n : NetworkOf). length (live_meters_of n c.in-Some.named.component)) c.requires.of_case
+    ap length c.live_meters.ensures.meters ∙ ap (λ (n : Network). length (live_meters_of n c.in-Some.named.component)) c.requires.of_case
     ∙ scope_same c.args.case.now c.in-Some.named.component
 
 pub overflow_cast-scope : goal.overflow_cast-scope

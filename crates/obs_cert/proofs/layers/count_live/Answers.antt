@@ -1,6 +1,6 @@
 use Rattle.std.proofs.Common.{◌≡◌, length, sym, ap, ◌∙◌, arith}
-use Rattle.obs_meter.specs.Held.{Items}
-use Rattle.obs_network.specs.Network.{NetworkOf, case_offered}
+use Rattle.obs_meter.specs.Held.{Meters}
+use Rattle.obs_network.specs.Network.{Network, case_offered}
 use Rattle.obs_cert.specs.Scopes.{is_live_item}
 use Rattle.obs_cert.proofs.CountingLemmas.{counted, counting_more, counting_none, counting_same}
 use Rattle.obs_cert.proofs.layers.count_live.Goals as goal
@@ -20,5 +20,5 @@ loop-m-preserved c =
 pub returns : goal.returns
 returns c =
     let t = c.args.case.now in
-    let e : length c.offered.result.now.touches ≡ length (case_offered t) = ap (λ (i : Items). length i.touches) (c.offered.ensures.offered ∙ ap (λ (n : NetworkOf). n.offered) c.requires.of_case) in
+    let e : length c.offered.result.now.touches ≡ length (case_offered t) = ap (λ (i : Meters). length i.touches) (c.offered.ensures.offered ∙ ap (λ (n : Network). n.offered) c.requires.of_case) in
     record { count = counted (is_live_item t) c.loop-m.m (length (case_offered t)) c.loop-m.count (omega (arith, e, c.count-m-end.ensures.count, c.loop-m-test.false, c.loop-m.auto.m-end)) c.loop-m.invariant }

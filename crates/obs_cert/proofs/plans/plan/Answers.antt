@@ -5,7 +5,7 @@ use Rattle.obs_cert.specs.Ready.{IsReady}
 use Rattle.obs_cert.specs.Flaws.{all_inside, layers_clauses, not_touched, paired_twice, twice, outside_of_plan, twice_in_plan, unknown_in_plan}
 use Rattle.obs_cert.specs.Numbered.{chosen_items, items_of, pairs_of}
 use Rattle.obs_cert.specs.Walked.{cost_of, parts_in}
-use Rattle.obs_network.specs.Network.{NetworkOf, case_needed, network_of}
+use Rattle.obs_network.specs.Network.{Network, case_needed, network_of}
 use Rattle.obs_cert.specs.Flaws.{first_true, forest_clauses}
 use Rattle.obs_cert.proofs.ClaimLemmas.{plan_layers, plan_outside, plan_rest, plan_touched, plan_twice, ready_plan, three_same}
 use Rattle.obs_cert.proofs.plans.plan.Goals as goal
@@ -42,8 +42,8 @@ ready c =
     (a.auto.marks ∙ ap length c.deref_mut.ensures.value) (b.auto.paired ∙ ap length c.deref_mut-2.ensures.value) (d.auto.marks ∙ ap length c.deref_mut-4.ensures.value) (b.auto.taken ∙ ap length c.deref_mut-3.ensures.value)
     a.ensures.below b.ensures.below_items d.ensures.below b.ensures.below_branches
 
-need_is : (t : Tables) (n : NetworkOf) (k : ℕ) → n ≡ network_of t → k ≡ n.needed → case_needed t ≡ k
-need_is t n k is same = sym (same ∙ ap (λ (m : NetworkOf). m.needed) is)
+need_is : (t : Tables) (n : Network) (k : ℕ) → n ≡ network_of t → k ≡ n.needed → case_needed t ≡ k
+need_is t n k is same = sym (same ∙ ap (λ (m : Network). m.needed) is)
 
 pub returns-then-has_outside_item-clause-flaw : goal.returns-then-has_outside_item-clause-flaw
 returns-then-has_outside_item-clause-flaw c =

@@ -1,5 +1,5 @@
 use Rattle.std.proofs.Common.{◌<◌, ℕ, Bool, length, sym, ◌∙◌, arith}
-use Rattle.obs_assign.specs.Assigned.{has_flag}
+use Rattle.obs_assign.specs.Assignment.{has_flag}
 use Rattle.obs_critical.specs.Listed.{is_unmarked_pair}
 use Rattle.obs_critical.proofs.Passing.{Passed-listed, Passed-over}
 use Rattle.obs_critical.proofs.critical_meters.list_unmarked.Goals as goal

@@ -1,5 +1,5 @@
 use Rattle.std.proofs.Common.{◌∙◌, ℕ, Option, Some, List, set, ap}
-use Rattle.obs_assign.specs.Assigned.{Assigned}
+use Rattle.obs_assign.specs.Assignment.{Assignment}
 use Rattle.obs_critical.proofs.Tested.{no_pair_yet, one_pair_at, two_pairs_at}
 use Rattle.obs_critical.proofs.tests.make_pairs.Goals as goal
 
@@ -17,5 +17,5 @@ augment-requires-2-clause-assignment g c =
 pub returns-clause-slots : goal.returns-clause-slots
 returns-clause-slots g c =
     let none = no_pair_yet c.args.ms.now.touches c.clear.new.self.slots c.requires.touches c.clear.ensures.stands.meters c.clear.ensures.no_pair in
-    ap (λ (a : Assigned). a.slots) c.unpin_all.ensures.thawed
+    ap (λ (a : Assignment). a.slots) c.unpin_all.ensures.thawed
     ∙ (c.augment-2.ensures.moved ∙ ap (λ (s : List (Option ℕ)). set s 2 (Some 1)) (c.augment.ensures.moved ∙ ap (λ (s : List (Option ℕ)). set s 0 (Some 0)) none))

@@ -1,8 +1,8 @@
 use Rattle.std.proofs.Common.{◌≡◌, ◌≤◌, ℕ, List, length, filter, ap, ◌∙◌, arith}
 use Rattle.obs_case.specs.Tables.{Tables}
-use Rattle.obs_assign.specs.Assigned.{has_flag}
+use Rattle.obs_assign.specs.Assignment.{has_flag}
 use Rattle.obs_network.specs.Located.{live_meters_of}
-use Rattle.obs_network.specs.Network.{NetworkOf, network_of}
+use Rattle.obs_network.specs.Network.{Network, network_of}
 use Rattle.obs_edit.proofs.Answered.{few_in_component, marked_bound, measured}
 use Rattle.obs_edit.proofs.OfNetwork.{count_of, few_meters, length-case_meters}
 use Rattle.obs_edit.proofs.asks.find_bound.Goals as goal
@@ -12,8 +12,8 @@ live_meters-meters-requires c = record {
   component = let low = c.requires.component in let n = count_of c.args.network.now c.args.case.now c.requires.network in omega (arith, low, n);
 }
 
-few : (n : NetworkOf) (t : Tables) (c : ℕ) (meters : List ℕ) → n ≡ network_of t → meters ≡ live_meters_of n c → length meters ≤ length t.meters
-few n t c meters same is = let e = ap (λ (xs : List ℕ). length xs) (is ∙ ap (λ (x : NetworkOf). live_meters_of x c) same) in omega (arith, e, few_in_component t c)
+few : (n : Network) (t : Tables) (c : ℕ) (meters : List ℕ) → n ≡ network_of t → meters ≡ live_meters_of n c → length meters ≤ length t.meters
+few n t c meters same is = let e = ap (λ (xs : List ℕ). length xs) (is ∙ ap (λ (x : Network). live_meters_of x c) same) in omega (arith, e, few_in_component t c)
 
 pub list_marked-listed-requires-clause-room : goal.list_marked-listed-requires-clause-room
 list_marked-listed-requires-clause-room c =
@@ -43,13 +43,13 @@ overflow_sub-rank c =
     let f = few c.args.network.now c.args.case.now c.args.c c.live_meters-meters.result.now c.requires.network c.live_meters-meters.ensures.meters in
     let l = c.list_marked-listed in
     (measured c.args.case.now c.nodes-nodes.ensures.valid c.args.pairs.now c.requires.longest c.args.marks.now c.requires.marks c.args.c c.live_meters-meters.result.now l.new.list l.result c.count_paired.result
-    (c.live_meters-meters.ensures.meters ∙ ap (λ (n : NetworkOf). live_meters_of n c.args.c) c.requires.network) (room l.result (length c.live_meters-meters.result.now) (length c.args.case.now.meters) (length c.args.inside.now) (length l.new.list) l.ensures.few f c.requires.inside l.auto.list) l.ensures.listed c.count_paired.ensures.count).enough
+    (c.live_meters-meters.ensures.meters ∙ ap (λ (n : Network). live_meters_of n c.args.c) c.requires.network) (room l.result (length c.live_meters-meters.result.now) (length c.args.case.now.meters) (length c.args.inside.now) (length l.new.list) l.ensures.few f c.requires.inside l.auto.list) l.ensures.listed c.count_paired.ensures.count).enough
 
 pub returns : goal.returns
 returns c =
     let l = c.list_marked-listed in
     let f = few c.args.network.now c.args.case.now c.args.c c.live_meters-meters.result.now c.requires.network c.live_meters-meters.ensures.meters in
-    let same = c.live_meters-meters.ensures.meters ∙ ap (λ (n : NetworkOf). live_meters_of n c.args.c) c.requires.network in
+    let same = c.live_meters-meters.ensures.meters ∙ ap (λ (n : Network). live_meters_of n c.args.c) c.requires.network in
     let m = measured c.args.case.now c.nodes-nodes.ensures.valid c.args.pairs.now c.requires.longest c.args.marks.now c.requires.marks c.args.c c.live_meters-meters.result.now l.new.list l.result c.count_paired.result
     same (room l.result (length c.live_meters-meters.result.now) (length c.args.case.now.meters) (length c.args.inside.now) (length l.new.list) l.ensures.few f c.requires.inside l.auto.list) l.ensures.listed c.count_paired.ensures.count in
     record {

@@ -1,21 +1,21 @@
 use Rattle.std.proofs.Common.{◌∙◌, ap, subst}
-use Rattle.obs_graph.specs.Shape.{Shape}
-use Rattle.obs_assign.specs.Assigned.{StandsOver}
-use Rattle.obs_meter.specs.Held.{Items}
-use Rattle.obs_network.specs.Network.{NetworkOf, case_meters}
+use Rattle.obs_graph.specs.Graph.{Graph}
+use Rattle.obs_assign.specs.Assignment.{StandsOver}
+use Rattle.obs_meter.specs.Held.{Meters}
+use Rattle.obs_network.specs.Network.{Network, case_meters}
 use Rattle.obs_edit.proofs.Answered.{IsLongest-first, first_of_network}
 use Rattle.obs_edit.proofs.asks.find_first.Goals as goal
 
 pub returns-clause-first : goal.returns-clause-first
 returns-clause-first g c =
     c.first.ensures.first
-    ∙ first_of_network c.args.case.now c.graph-g.result.now c.meters.result.now (c.graph-g.ensures.graph ∙ ap (λ (n : NetworkOf). n.graph) c.requires.network) (c.meters.ensures.meters ∙ ap (λ (n : NetworkOf). n.meters) c.requires.network)
+    ∙ first_of_network c.args.case.now c.graph-g.result.now c.meters.result.now (c.graph-g.ensures.graph ∙ ap (λ (n : Network). n.graph) c.requires.network) (c.meters.ensures.meters ∙ ap (λ (n : Network). n.meters) c.requires.network)
 
 pub returns-clause-longest : goal.returns-clause-longest
 returns-clause-longest g c =
     let t = c.args.case.now in
-    let gg = c.graph-g.ensures.graph ∙ ap (λ (n : NetworkOf). n.graph) c.requires.network in
-    let mm = c.meters.ensures.meters ∙ ap (λ (n : NetworkOf). n.meters) c.requires.network in
+    let gg = c.graph-g.ensures.graph ∙ ap (λ (n : Network). n.graph) c.requires.network in
+    let mm = c.meters.ensures.meters ∙ ap (λ (n : Network). n.meters) c.requires.network in
     let a = c.first.new.a in
-    let stands = subst (λ (x : Shape). StandsOver a x (case_meters t)) gg (subst (λ (i : Items). StandsOver a c.graph-g.result.now i.touches) mm c.first.ensures.stands) in
+    let stands = subst (λ (x : Graph). StandsOver a x (case_meters t)) gg (subst (λ (i : Meters). StandsOver a c.graph-g.result.now i.touches) mm c.first.ensures.stands) in
     IsLongest-first t c.nodes-nodes.ensures.valid a stands c.first.ensures.whole c.first.ensures.thawed (c.first.ensures.first ∙ first_of_network t c.graph-g.result.now c.meters.result.now gg mm)

@@ -1,8 +1,8 @@
 use Rattle.std.proofs.Common.{◌∙◌, ap, filter, length, List, ℕ, arith}
 use Rattle.std.specs.Prelude.{is_some}
-use Rattle.obs_assign.specs.Assigned.{branch_at}
+use Rattle.obs_assign.specs.Assignment.{branch_at}
 use Rattle.obs_network.specs.Located.{live_meters_of}
-use Rattle.obs_network.specs.Network.{NetworkOf}
+use Rattle.obs_network.specs.Network.{Network}
 use Rattle.obs_edit.proofs.Answered.{count_of_pairs, few_in_component}
 use Rattle.obs_edit.proofs.Enough.{enough_observable}
 use Rattle.obs_edit.proofs.OfNetwork.{count_of, few_meters, length-case_meters, need_from}
@@ -15,7 +15,7 @@ live_meters-requires c = record {
 
 pub count_paired-requires-clause-few : goal.count_paired-requires-clause-few
 count_paired-requires-clause-few c =
-    let e = ap (λ (xs : List ℕ). length xs) (c.live_meters.ensures.meters ∙ ap (λ (n : NetworkOf). live_meters_of n c.args.c) c.requires.network) in
+    let e = ap (λ (xs : List ℕ). length xs) (c.live_meters.ensures.meters ∙ ap (λ (n : Network). live_meters_of n c.args.c) c.requires.network) in
     let f = few_in_component c.args.case.now c.args.c in
     let m = few_meters c.args.case.now c.nodes-nodes.ensures.valid in
     let l = length-case_meters c.args.case.now in
@@ -29,7 +29,7 @@ need-requires c = record {
 pub returns : goal.returns
 returns c =
     let t = c.args.case.now in
-    let same = c.live_meters.ensures.meters ∙ ap (λ (n : NetworkOf). live_meters_of n c.args.c) c.requires.network in
+    let same = c.live_meters.ensures.meters ∙ ap (λ (n : Network). live_meters_of n c.args.c) c.requires.network in
     let count = count_of_pairs t c.nodes-nodes.ensures.valid c.args.a.now c.requires.longest c.args.c c.count_paired.result
     (c.count_paired.ensures.count ∙ ap (λ (xs : List ℕ). length (filter (λ m. is_some (branch_at c.args.a.now m)) xs)) same) in
     record {

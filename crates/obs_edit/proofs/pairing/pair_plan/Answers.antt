@@ -1,7 +1,7 @@
 use Rattle.std.proofs.Common.{sym, subst}
 use Rattle.obs_meter.specs.Sizes.{HasRoomFor}
 use Rattle.obs_meter.specs.Touches.{AreInRange}
-use Rattle.obs_assign.specs.Assigned.{Fits, StandsOver}
+use Rattle.obs_assign.specs.Assignment.{Fits, StandsOver}
 use Rattle.obs_edit.specs.Planned.{planned_items}
 use Rattle.obs_edit.proofs.Planned.{fits-listed, in_range-listed, room-listed, stands-all}
 use Rattle.obs_edit.proofs.pairing.pair_plan.Goals as goal

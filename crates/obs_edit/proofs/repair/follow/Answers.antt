@@ -1,6 +1,6 @@
 use Rattle.std.proofs.Common.{◌<◌, length, sym, ap, ◌∙◌, subst}
 use Rattle.obs_case.specs.Tables.{Tables}
-use Rattle.obs_network.specs.Network.{NetworkOf, Rows, network_of, rows_of}
+use Rattle.obs_network.specs.Network.{Network, Rows, network_of, rows_of}
 use Rattle.obs_edit.specs.declared.edit.Edit.{Edit}
 use Rattle.obs_edit.specs.Edits.{HasRow, edited}
 use Rattle.obs_edit.proofs.Flagged.{rows-edited}
@@ -23,11 +23,11 @@ refresh_branches-requires c =
     let is = c.in-Branch.is in
     let same = b.same ∙ ap (edited b.before) is in
     record {
-      rows = ap (λ (n : NetworkOf). n.rows) b.network ∙ sym (ap rows_of b.same ∙ rows-edited b.before c.args.edit);
-      buses = ap (λ (n : NetworkOf). n.buses) b.network ∙ sym (ap (λ (t : Tables). (network_of t).buses) same);
+      rows = ap (λ (n : Network). n.rows) b.network ∙ sym (ap rows_of b.same ∙ rows-edited b.before c.args.edit);
+      buses = ap (λ (n : Network). n.buses) b.network ∙ sym (ap (λ (t : Tables). (network_of t).buses) same);
     }
 
 pub refresh-requires : goal.refresh-requires
 refresh-requires c =
     let b = c.requires.before in
-    record { rows = ap (λ (n : NetworkOf). n.rows) b.network ∙ sym (ap rows_of b.same ∙ rows-edited b.before c.args.edit) }
+    record { rows = ap (λ (n : Network). n.rows) b.network ∙ sym (ap rows_of b.same ∙ rows-edited b.before c.args.edit) }

@@ -3,7 +3,7 @@ use Rattle.std.proofs.Math.Seq.{drop-cons}
 use Rattle.std.proofs.lemmas.List.{get_or-map, length-map}
 use Rattle.obs_matroid.proofs.Contained.{In-get_or}
 use Rattle.obs_text.specs.Faults.{fault_of}
-use Rattle.obs_engine.specs.declared.taken.Untaken.{Untaken}
+use Rattle.obs_engine.specs.declared.taken.CaseError.{CaseError}
 use Rattle.obs_engine.specs.Taken.{IsNext, bytes_of}
 use Rattle.obs_engine.proofs.Contents.{contents_not_taken, reading_failed, reading_goes_on, reading_refused}
 use Rattle.obs_engine.proofs.Taking.{is_read, ok_not_read}
@@ -21,7 +21,7 @@ returns-in_err-take_next-clause-stated g c = λ file told.
     contents_not_taken (map now parts) file words why c.from_residual.result c.from_residual.ensures.1
     (λ fault e. reading_refused (map now parts) words _ _ _ c.loop-k.invariant (get_or words k 0) (get_or (map now parts) k [])
     (drop-cons words k 0 c.loop-k-test.true) (drop-cons (map now parts) k [] low) (fault_of fault)
-    (λ bytes is. subst (λ (w : Untaken). IsNext (get_or (map now parts) k []) bytes (bytes_of c.loop-k.contents.items) (bytes_of c.take_next.new.contents.items) (Err w)) e
+    (λ bytes is. subst (λ (w : CaseError). IsNext (get_or (map now parts) k []) bytes (bytes_of c.loop-k.contents.items) (bytes_of c.take_next.new.contents.items) (Err w)) e
     (subst (λ (p : List ℕ). IsNext p bytes (bytes_of c.loop-k.contents.items) (bytes_of c.take_next.new.contents.items) (Err why)) (sym (get_or-map now parts k _ [] (omega (arith, c.loop-k-test.true, c.requires.parts))))
     (c.in_err-take_next.ensures.stated bytes is)))
     file told)

@@ -1,6 +1,6 @@
 use Rattle.std.proofs.Common.{◌≡◌, ◌∙◌, ◌+◌, ◌<◌, ◌≤◌, ap, arith, subst, sym, ℕ}
-use Rattle.obs_switch.specs.Held.{Labelled}
-use Rattle.obs_network.specs.Network.{NetworkOf}
+use Rattle.obs_switch.specs.Held.{Buses}
+use Rattle.obs_network.specs.Network.{Network}
 use Rattle.obs_network.specs.Switched.{case_bus_count}
 use Rattle.obs_engine.specs.Trials.{is_first_of_island}
 use Rattle.obs_engine.proofs.Turned.{AreCounted, counted_all, counted_no, counted_none, counted_yes, islands_are_counted}
@@ -9,7 +9,7 @@ use Rattle.obs_engine.proofs.trial.count_islands.Goals.{After-count-bus-end, the
 
 -- so many buses are gone through
 counted : (c : After-count-bus-end) → c.count-bus-end.result ≡ case_bus_count c.args.session.now.tables
-counted c = c.count-bus-end.ensures.count ∙ (ap (λ (b : Labelled). b.count) c.buses.ensures.buses ∙ ap (λ (n : NetworkOf). n.buses.count) c.network.ensures.network)
+counted c = c.count-bus-end.ensures.count ∙ (ap (λ (b : Buses). b.count) c.buses.ensures.buses ∙ ap (λ (n : Network). n.buses.count) c.network.ensures.network)
 
 pub loop-bus-init : goal.loop-bus-init
 loop-bus-init c = counted_none (is_first_of_island c.args.session.now.tables) (case_bus_count c.args.session.now.tables)

@@ -1,5 +1,5 @@
 use Rattle.std.proofs.Common.{◌≡◌, ◌+◌, ◌-◌, ◌≤◌, length}
-use Rattle.obs_assign.specs.Assigned.{pairs}
+use Rattle.obs_assign.specs.Assignment.{pairs}
 use Rattle.obs_exchange.proofs.Lengthening.{IsLengthening}
 use Rattle.obs_exchange.proofs.repeated.lengthen.Given as goal
 

@@ -1,4 +1,4 @@
-use Rattle.obs_assign.specs.Assigned.{StandsOver}
+use Rattle.obs_assign.specs.Assignment.{StandsOver}
 use Rattle.obs_meter.specs.Sizes.{HasRoomFor}
 use Rattle.obs_exchange.proofs.tests.grow_all.Given as goal
 

@@ -1,5 +1,5 @@
 use Rattle.std.proofs.Common.{◌≡◌, take}
-use Rattle.obs_assign.specs.Assigned.{HasRoomOf}
+use Rattle.obs_assign.specs.Assignment.{HasRoomOf}
 use Rattle.obs_meter.specs.Sizes.{HasRoomFor}
 use Rattle.obs_meter.specs.Touches.{touch_at}
 use Rattle.obs_first.proofs.Deciding.{IsTrying}

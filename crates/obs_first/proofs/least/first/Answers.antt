@@ -1,7 +1,7 @@
 use Rattle.std.proofs.Common.{rules, ◌≡◌, ◌∙◌, ℕ, false, length, sym, ap, subst, arith}
 use Rattle.obs_meter.specs.Assignments.{IsRhoAt}
 use Rattle.obs_meter.specs.Touches.{live_items}
-use Rattle.obs_assign.specs.Assigned.{Assigned, has_flag, pairs}
+use Rattle.obs_assign.specs.Assignment.{Assignment, has_flag, pairs}
 use Rattle.obs_first.proofs.Counting.{count_none, flags_clear}
 use Rattle.obs_first.proofs.Lawful.{Decided-all, Decided-begun}
 use Rattle.obs_first.proofs.least.first.Goals as goal
@@ -10,8 +10,8 @@ pub loop-m-init : goal.loop-m-init
 loop-m-init g c =
     let old = c.args.a.now in
     let new = c.thaw-rank.new.a in
-    let same : length (pairs new) ≡ length (pairs old) = ap (λ (a : Assigned). length (pairs a)) c.thaw-rank.ensures.thawed in
-    let thawed : (x : ℕ) → has_flag new.frozen x ≡ false = λ x. ap (λ (a : Assigned). has_flag a.frozen x) c.thaw-rank.ensures.thawed ∙ flags_clear (length old.frozen) x in
+    let same : length (pairs new) ≡ length (pairs old) = ap (λ (a : Assignment). length (pairs a)) c.thaw-rank.ensures.thawed in
+    let thawed : (x : ℕ) → has_flag new.frozen x ≡ false = λ x. ap (λ (a : Assignment). has_flag a.frozen x) c.thaw-rank.ensures.thawed ∙ flags_clear (length old.frozen) x in
     record {
       decided = Decided-begun c.args.g.now c.args.ms.now.touches new c.thaw-rank.result
           (subst (λ r. IsRhoAt c.args.g.now.ends c.args.ms.now.touches (live_items c.args.g.now.ends c.args.ms.now.touches) r) (sym (c.thaw-rank.ensures.length ∙ same)) c.requires.longest)
@@ -30,5 +30,5 @@ returns-clause-first g c =
     let e = c.count-m-end.ensures.count in
     let up = l.auto.m-end in
     let down = c.loop-m-test.false in
-    ap (λ (a : Assigned). pairs a) c.thaw.ensures.thawed
+    ap (λ (a : Assignment). pairs a) c.thaw.ensures.thawed
     ∙ Decided-all c.args.g.now c.args.ms.now.touches l.a c.thaw-rank.result c.vertices.ensures.branches l.invariant.whole l.invariant.stands l.m (omega arith) l.invariant.decided

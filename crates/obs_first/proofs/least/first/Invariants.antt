@@ -1,5 +1,5 @@
 use Rattle.std.proofs.Common.{◌≡◌, length}
-use Rattle.obs_assign.specs.Assigned.{HasRoomOf, IsWhole, StandsOver}
+use Rattle.obs_assign.specs.Assignment.{HasRoomOf, IsWhole, StandsOver}
 use Rattle.obs_meter.specs.Sizes.{HasRoomFor}
 use Rattle.obs_first.specs.Deciding.{IsDecided, frozen_pairs}
 use Rattle.obs_first.proofs.least.first.Given as goal

@@ -1,4 +1,4 @@
-use Rattle.obs_assign.specs.Assigned.{IsWhole, StandsOver}
+use Rattle.obs_assign.specs.Assignment.{IsWhole, StandsOver}
 use Rattle.obs_meter.specs.Sizes.{HasRoomFor}
 use Rattle.obs_exchange.specs.Laws.{IsThawed}
 use Rattle.obs_first.proofs.tests.make_longest.Given as goal

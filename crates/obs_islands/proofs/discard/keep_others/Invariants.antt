@@ -1,6 +1,6 @@
 use Rattle.std.proofs.Common.{◌≡◌, take}
 use Rattle.std.specs.List.{list_any}
-use Rattle.obs_assign.specs.Assigned.{has_flag}
+use Rattle.obs_assign.specs.Assignment.{has_flag}
 use Rattle.obs_islands.specs.Rounds.{remaining, straddles}
 use Rattle.obs_islands.proofs.discard.keep_others.Given as goal
 

@@ -1,7 +1,7 @@
 use Rattle.std.proofs.Common.{◌≡◌, ◌&&◌, ℕ, take}
 use Rattle.std.specs.List.{list_any}
 use Rattle.obs_graph.specs.Positions.{has_end}
-use Rattle.obs_assign.specs.Assigned.{has_flag}
+use Rattle.obs_assign.specs.Assignment.{has_flag}
 use Rattle.obs_islands.specs.Rounds.{is_between}
 use Rattle.obs_islands.proofs.pieces.mark_crossed.Given as goal
 

@@ -2,7 +2,7 @@ use Rattle.std.proofs.Common.{◌≡◌, ◌⊎◌, None}
 use Rattle.std.specs.Prelude.{IsSome, slice_index_or}
 use Rattle.obs_matroid.proofs.Contained.{All-from_In}
 use Rattle.obs_meter.specs.Touches.{touched}
-use Rattle.obs_meter.specs.Spanned.{ends_at, hub_of}
+use Rattle.obs_meter.specs.Spanned.{ends_at, common_vertex}
 use Rattle.obs_meter.proofs.Touched.{touched-rising, touched-present, touched-hub}
 use Rattle.obs_meter.proofs.laws.touched_branches.Goals as goal
 
@@ -13,4 +13,4 @@ pub returns-clause-present : goal.returns-clause-present
 returns-clause-present c = λ ends t. All-from_In (λ e. IsSome (slice_index_or ends e None)) (touched ends t) (touched-present ends t)
 
 pub returns-clause-hub : goal.returns-clause-hub
-returns-clause-hub c = λ ends t. All-from_In (λ e. ((ends_at ends e).0 ≡ hub_of ends t) ⊎ ((ends_at ends e).1 ≡ hub_of ends t)) (touched ends t) (touched-hub ends t)
+returns-clause-hub c = λ ends t. All-from_In (λ e. ((ends_at ends e).0 ≡ common_vertex ends t) ⊎ ((ends_at ends e).1 ≡ common_vertex ends t)) (touched ends t) (touched-hub ends t)

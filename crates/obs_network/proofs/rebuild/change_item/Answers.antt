@@ -2,7 +2,7 @@ use Rattle.std.proofs.Common.{◌≡◌, ◌∙◌, List, set, ap, length-set, g
 use Rattle.std.specs.Prelude.{slice_index_or}
 use Rattle.obs_meter.specs.declared.Touch.{Touch}
 use Rattle.obs_meter.specs.declared.Touch.TheVariants.{Nothing}
-use Rattle.obs_meter.specs.Held.{Items}
+use Rattle.obs_meter.specs.Held.{Meters}
 use Rattle.obs_network.specs.Network.{case_meters}
 use Rattle.obs_network.specs.Touching.{meter_touch}
 use Rattle.obs_network.proofs.OfCase.{length-case_buses}
@@ -28,34 +28,34 @@ touch_is c =
 -- the items after: each list with the meter's touch in it
 meters_is : (c : After-renew-2) → c.renew.new.items ≡ record c.args.meters.now { touches = set c.args.meters.now.touches c.args.m c.touch_of_meter.result }
 meters_is c =
-    c.renew.ensures.whole ∙ ap (λ (l : List Touch). let i : Items = record { touches = l; most = c.args.meters.now.most } in i)
+    c.renew.ensures.whole ∙ ap (λ (l : List Touch). let i : Meters = record { touches = l; most = c.args.meters.now.most } in i)
     (meters-set c.args.touches.now c.args.offered.now.touches c.args.meters.now.touches c.args.m c.touch_of_meter.result c.requires.kept c.requires.front c.requires.meters c.requires.offered)
 
 offered_is : (c : After-renew-2) → c.renew-2.new.items ≡ record c.args.offered.now { touches = set c.args.offered.now.touches c.args.m c.touch_of_meter.result }
 offered_is c =
-    c.renew-2.ensures.whole ∙ ap (λ (l : List Touch). let i : Items = record { touches = l; most = c.args.offered.now.most } in i)
+    c.renew-2.ensures.whole ∙ ap (λ (l : List Touch). let i : Meters = record { touches = l; most = c.args.offered.now.most } in i)
     (offered-set c.args.touches.now c.args.offered.now.touches c.args.meters.now.touches c.args.m c.touch_of_meter.result c.requires.kept c.requires.front c.requires.meters c.requires.offered)
 
 pub returns-clause-meters : goal.returns-clause-meters
 returns-clause-meters c =
     meters_is (goal.at.returns-clause-meters c).After-renew-2
-    ∙ ap (λ (t : Touch). let i : Items = record { touches = set c.args.meters.now.touches c.args.m t; most = c.args.meters.now.most } in i) (touch_is (goal.at.returns-clause-meters c).After-touch_of_meter)
+    ∙ ap (λ (t : Touch). let i : Meters = record { touches = set c.args.meters.now.touches c.args.m t; most = c.args.meters.now.most } in i) (touch_is (goal.at.returns-clause-meters c).After-touch_of_meter)
 
 pub returns-clause-offered : goal.returns-clause-offered
 returns-clause-offered c =
     offered_is (goal.at.returns-clause-offered c).After-renew-2
-    ∙ ap (λ (t : Touch). let i : Items = record { touches = set c.args.offered.now.touches c.args.m t; most = c.args.offered.now.most } in i) (touch_is (goal.at.returns-clause-offered c).After-touch_of_meter)
+    ∙ ap (λ (t : Touch). let i : Meters = record { touches = set c.args.offered.now.touches c.args.m t; most = c.args.offered.now.most } in i) (touch_is (goal.at.returns-clause-offered c).After-touch_of_meter)
 
 pub returns-clause-kept : goal.returns-clause-kept
 returns-clause-kept c =
-    let o = ap (λ (i : Items). i.touches) (offered_is (goal.at.returns-clause-kept c).After-renew-2) in
+    let o = ap (λ (i : Meters). i.touches) (offered_is (goal.at.returns-clause-kept c).After-renew-2) in
     rw (o, length-set c.args.offered.now.touches c.args.m c.touch_of_meter.result)
     (offered-set c.args.touches.now c.args.offered.now.touches c.args.meters.now.touches c.args.m c.touch_of_meter.result c.requires.kept c.requires.front c.requires.meters c.requires.offered)
 
 pub returns-clause-front : goal.returns-clause-front
 returns-clause-front c =
     let a = (goal.at.returns-clause-front c).After-renew-2 in
-    let n = ap (λ (i : Items). i.touches) (meters_is a) in
-    let o = ap (λ (i : Items). i.touches) (offered_is a) in
+    let n = ap (λ (i : Meters). i.touches) (meters_is a) in
+    let o = ap (λ (i : Meters). i.touches) (offered_is a) in
     rw (n, o, length-set c.args.meters.now.touches c.args.m c.touch_of_meter.result)
     (front-set c.args.touches.now c.args.offered.now.touches c.args.meters.now.touches c.args.m c.touch_of_meter.result c.requires.kept c.requires.front c.requires.meters c.requires.offered)

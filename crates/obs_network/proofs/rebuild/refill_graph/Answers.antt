@@ -1,5 +1,5 @@
 use Rattle.std.proofs.Common.{ap, ◌∙◌, refl}
-use Rattle.obs_graph.specs.Shape.{Shape}
+use Rattle.obs_graph.specs.Graph.{Graph}
 use Rattle.obs_network.specs.Network.{case_branches}
 use Rattle.obs_network.proofs.OfCase.{case_branches-are, case_live-ends}
 use Rattle.obs_network.proofs.rebuild.refill_graph.Goals as goal
@@ -17,5 +17,5 @@ refill-requires-clause-branches c =
 pub returns-clause-ends : goal.returns-clause-ends
 unfolding case_branches
 returns-clause-ends c =
-    ap (λ (g : Shape). g.ends) c.refill.ensures.whole
+    ap (λ (g : Graph). g.ends) c.refill.ensures.whole
     ∙ rw (c.write_energised.ensures.kept, c.numbers.ensures.numbers, c.marks.ensures.marks, c.requires.of_buses, c.requires.energised, c.requires.live) refl

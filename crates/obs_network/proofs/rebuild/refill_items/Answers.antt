@@ -1,5 +1,5 @@
 use Rattle.std.proofs.Common.{ap, ◌∙◌, refl}
-use Rattle.obs_meter.specs.Held.{Items}
+use Rattle.obs_meter.specs.Held.{Meters}
 use Rattle.obs_network.specs.Network.{case_meters, case_offered}
 use Rattle.obs_network.proofs.OfCase.{length-case_buses, meters-at_nodes, candidates-at_nodes}
 use Rattle.obs_network.proofs.rebuild.refill_items.Goals as goal
@@ -17,10 +17,10 @@ write_candidates-requires-clause-places c =
 pub returns-clause-meters : goal.returns-clause-meters
 unfolding case_meters
 returns-clause-meters c =
-    ap (λ (i : Items). i.touches) c.refill.ensures.whole ∙ (c.write_meters.ensures.touches ∙ rw (c.meters-2.ensures.rows, c.requires.buses) refl)
+    ap (λ (i : Meters). i.touches) c.refill.ensures.whole ∙ (c.write_meters.ensures.touches ∙ rw (c.meters-2.ensures.rows, c.requires.buses) refl)
 
 pub returns-clause-offered : goal.returns-clause-offered
 unfolding case_offered
 returns-clause-offered c =
-    ap (λ (i : Items). i.touches) c.refill-2.ensures.whole
+    ap (λ (i : Meters). i.touches) c.refill-2.ensures.whole
     ∙ rw (c.write_meters.ensures.touches, c.write_candidates.ensures.touches, c.meters-2.ensures.rows, c.candidates.ensures.rows, c.requires.buses) refl

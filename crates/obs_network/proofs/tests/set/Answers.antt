@@ -3,13 +3,13 @@ use Rattle.std.specs.Str.{bytes_eq}
 use Rattle.std.proofs.lemmas.List.{length-map}
 use Rattle.std.proofs.lemmas.List.Quantifiers.{position-Some}
 use Rattle.obs_case.specs.Tables.{meter_names}
-use Rattle.obs_network.specs.Network.{NetworkOf, Rows, rows_of}
+use Rattle.obs_network.specs.Network.{Network, Rows, rows_of}
 use Rattle.obs_network.proofs.OfLaws.{rows-with_branch, rows-with_closed, rows-with_meter}
 use Rattle.obs_network.proofs.tests.set.Goals as goal
 
 pub refresh-requires : goal.refresh-requires
 refresh-requires c = record {
-  rows = ap (λ (n : NetworkOf). n.rows) c.requires.network ∙ sym (ap rows_of c.set_switch.ensures.set ∙ rows-with_closed c.args.case.now c.in-Some.at c.args.on);
+  rows = ap (λ (n : Network). n.rows) c.requires.network ∙ sym (ap rows_of c.set_switch.ensures.set ∙ rows-with_closed c.args.case.now c.in-Some.at c.args.on);
 }
 
 pub refresh_meter-requires-clause-meter : goal.refresh_meter-requires-clause-meter
@@ -21,4 +21,4 @@ refresh_meter-requires-clause-meter c =
 
 pub refresh_branches-requires-clause-rows : goal.refresh_branches-requires-clause-rows
 refresh_branches-requires-clause-rows c =
-    ap (λ (n : NetworkOf). n.rows) c.requires.network ∙ sym (ap rows_of c.set_branch.ensures.set ∙ rows-with_branch c.args.case.now c.in-Some-find_branch.at c.args.on)
+    ap (λ (n : Network). n.rows) c.requires.network ∙ sym (ap rows_of c.set_branch.ensures.set ∙ rows-with_branch c.args.case.now c.in-Some-find_branch.at c.args.on)

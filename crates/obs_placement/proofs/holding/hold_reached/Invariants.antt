@@ -1,5 +1,5 @@
 use Rattle.std.proofs.Common.{◌≤◌}
-use Rattle.obs_assign.specs.Assigned.{has_flag}
+use Rattle.obs_assign.specs.Assignment.{has_flag}
 use Rattle.obs_placement.specs.Holding.{AreOfKnown}
 use Rattle.obs_placement.proofs.Stepped.{AreMarked}
 use Rattle.obs_placement.proofs.holding.hold_reached.Given as goal

@@ -1,4 +1,4 @@
-use Rattle.obs_assign.specs.Assigned.{has_flag}
+use Rattle.obs_assign.specs.Assignment.{has_flag}
 use Rattle.obs_placement.proofs.Joining.{AreAdded-marked, IsJoinedByKnown-more}
 use Rattle.obs_placement.proofs.holding.keep.Goals as goal
 

@@ -1,5 +1,5 @@
 use Rattle.std.proofs.Common.{ap, sym, subst, ◌∙◌, arith, true, false, Bool, List}
-use Rattle.obs_assign.specs.Assigned.{Assigned, has_flag}
+use Rattle.obs_assign.specs.Assignment.{Assignment, has_flag}
 use Rattle.obs_placement.specs.Answer.{earlier_items}
 use Rattle.obs_placement.specs.Order.{price_of}
 use Rattle.obs_placement.specs.Taking.{AreHeld, is_known}
@@ -72,4 +72,4 @@ returns-in-Grown-clause-held g c =
 
 pub returns-in-Closed-clause-held : goal.returns-in-Closed-clause-held
 returns-in-Closed-clause-held g c =
-    subst (λ (b : Assigned). AreHeld c.args.g.now c.args.offered.now.touches (price_of c.args.meters c.args.prices.now) b) (sym c.in-Closed.ensures.found.same) c.requires.held
+    subst (λ (b : Assignment). AreHeld c.args.g.now c.args.offered.now.touches (price_of c.args.meters c.args.prices.now) b) (sym c.in-Closed.ensures.found.same) c.requires.held

@@ -1,6 +1,6 @@
 use Rattle.std.proofs.Common.{◌≡◌}
 use Rattle.obs_graph.specs.Search.{room_of}
-use Rattle.obs_assign.specs.Assigned.{HasRoomOf}
+use Rattle.obs_assign.specs.Assignment.{HasRoomOf}
 use Rattle.obs_placement.specs.Holding.{AreOfKnown, IsJoinedByKnown}
 use Rattle.obs_placement.specs.Order.{price_of}
 use Rattle.obs_placement.specs.Taking.{IsUnderWay}

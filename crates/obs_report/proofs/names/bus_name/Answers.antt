@@ -1,7 +1,7 @@
 use Rattle.std.proofs.Common.{◌≡◌, ◌<◌, ◌∙◌, length, get_or, ap, sym, subst, arith}
 use Rattle.obs_switch.specs.Buses.{members_of}
-use Rattle.obs_switch.specs.Held.{Labelled}
-use Rattle.obs_network.specs.Network.{NetworkOf}
+use Rattle.obs_switch.specs.Held.{Buses}
+use Rattle.obs_network.specs.Network.{Network}
 use Rattle.obs_network.specs.Switched.{case_bus_count, case_buses}
 use Rattle.obs_report.proofs.Named.{first_of_bus}
 use Rattle.obs_report.proofs.names.bus_name.Goals as goal
@@ -9,10 +9,10 @@ use Rattle.obs_report.proofs.names.bus_name.Goals.{After-members}
 
 -- the bus is one of the case, and its members are those of the case
 bus_below : (c : After-members) → c.args.bus < case_bus_count c.args.case.now
-bus_below c = subst (λ (n : NetworkOf). c.args.bus < n.buses.count) c.requires.network c.requires.bus
+bus_below c = subst (λ (n : Network). c.args.bus < n.buses.count) c.requires.network c.requires.bus
 
 members : (c : After-members) → c.members.result.now ≡ members_of (case_buses c.args.case.now) c.args.bus
-members c = c.members.ensures.members ∙ ap (λ bs. members_of bs c.args.bus) (ap (λ (b : Labelled). b.buses) c.buses.ensures.buses ∙ ap (λ (n : NetworkOf). n.buses.buses) c.requires.network)
+members c = c.members.ensures.members ∙ ap (λ bs. members_of bs c.args.bus) (ap (λ (b : Buses). b.buses) c.buses.ensures.buses ∙ ap (λ (n : Network). n.buses.buses) c.requires.network)
 
 pub first_of-requires : goal.first_of-requires
 first_of-requires c =

@@ -1,6 +1,6 @@
 use Rattle.std.proofs.Common.{ap, arith}
 use Rattle.obs_network.specs.Network.{case_component_count}
-use Rattle.obs_edit.specs.Sessions.{Kept}
+use Rattle.obs_edit.specs.Sessions.{Session}
 use Rattle.obs_edit.proofs.OfNetwork.{count_of}
 use Rattle.obs_edit.proofs.analysis.Analysis.found_bound.Goals as goal
 
@@ -9,6 +9,6 @@ need-requires c = record {
   component =
       let low = c.requires.component in
       let n = count_of c.self.inside.network c.self.inside.case c.self.invariant.network in
-      let same = ap (λ (k : Kept). case_component_count k.tables) c.self.view_is in
+      let same = ap (λ (k : Session). case_component_count k.tables) c.self.view_is in
       omega (arith, low, n, same);
 }

@@ -1,22 +1,22 @@
 use Rattle.std.proofs.Common.{inl, ◌≡◌, refl, sym, subst}
 use Rattle.std.specs.Prelude.{take}
 use Rattle.obs_case.specs.Tables.{Tables}
-use Rattle.obs_assign.specs.Assigned.{StandsOver}
+use Rattle.obs_assign.specs.Assignment.{StandsOver}
 use Rattle.obs_network.specs.Network.{case_meters, network_of}
 use Rattle.obs_edit.specs.Edits.{HasRow, edited}
-use Rattle.obs_edit.specs.Sessions.{HasRoom, HasRoomToAnswer, Kept}
+use Rattle.obs_edit.specs.Sessions.{HasRoom, HasRoomToAnswer, Session}
 use Rattle.obs_edit.proofs.Sets.{answer_room-edited, no_answers, repaired-same, room-edited, takes_none}
 use Rattle.obs_edit.proofs.analysis.Analysis.set.Goals as goal
 
 pub returns-then-is_set-clause-edited : goal.returns-then-is_set-clause-edited
 returns-then-is_set-clause-edited g c = record {
-  tables = subst (λ (k : Kept). k.tables ≡ edited k.tables c.args.edit) c.self.view_is (sym c.if-is_set.ensures.set);
+  tables = subst (λ (k : Session). k.tables ≡ edited k.tables c.args.edit) c.self.view_is (sym c.if-is_set.ensures.set);
   offered = refl;
   rank = c.applied.ensures.rank;
   computed = c.applied.ensures.computed;
   needed = c.applied.ensures.needed;
   repaired = repaired-same c.args.self.now.tables c.args.edit c.args.self.now.pairs c.applied.result.rank c.applied.result.searches
-      (subst (λ (k : Kept). StandsOver k.pairs (network_of k.tables).graph (case_meters k.tables)) c.self.view_is c.self.invariant.longest.stands) c.applied.ensures.length c.applied.ensures.searches;
+      (subst (λ (k : Session). StandsOver k.pairs (network_of k.tables).graph (case_meters k.tables)) c.self.view_is c.self.invariant.longest.stands) c.applied.ensures.length c.applied.ensures.searches;
   meter = takes_none c.args.edit c.args.self.now.pairs c.applied.result.searches c.applied.ensures.searches;
   without_pair = λ at is none. (c.applied.ensures.searches, refl);
   flag = inl (refl, c.applied.ensures.searches);
@@ -26,7 +26,7 @@ pub follow-requires : goal.follow-requires
 follow-requires g c = record {
   before = record {
     before = c.self.inside.case;
-    row = subst (λ (k : Kept). HasRow k.tables c.args.edit) (sym c.self.view_is) c.requires.row;
+    row = subst (λ (k : Session). HasRow k.tables c.args.edit) (sym c.self.view_is) c.requires.row;
     network = c.self.invariant.network;
     same = c.set_flag.ensures.edited;
   };
@@ -36,7 +36,7 @@ pub repair-searches-requires-clause-before : goal.repair-searches-requires-claus
 repair-searches-requires-clause-before g c = record {
   before = c.self.inside.case;
   valid = c.nodes-nodes.ensures.valid;
-  row = subst (λ (k : Kept). HasRow k.tables c.args.edit) (sym c.self.view_is) c.requires.row;
+  row = subst (λ (k : Session). HasRow k.tables c.args.edit) (sym c.self.view_is) c.requires.row;
   same = c.set_flag.ensures.edited;
   longest = c.self.invariant.longest;
 }

@@ -1,10 +1,10 @@
 use Rattle.std.proofs.Common.{◌∙◌, ap}
 use Rattle.obs_edit.specs.Answers.{case_rank}
-use Rattle.obs_edit.specs.Sessions.{Kept}
+use Rattle.obs_edit.specs.Sessions.{Session}
 use Rattle.obs_edit.proofs.Answered.{rank_of_longest}
 use Rattle.obs_edit.proofs.analysis.Analysis.state.Goals as goal
 
 pub returns-clause-computed : goal.returns-clause-computed
 returns-clause-computed c =
     c.length.ensures.length
-    ∙ (rank_of_longest c.self.inside.case c.nodes-nodes.ensures.valid c.self.inside.held.pairs c.self.invariant.longest ∙ ap (λ (k : Kept). case_rank k.tables) c.self.view_is)
+    ∙ (rank_of_longest c.self.inside.case c.nodes-nodes.ensures.valid c.self.inside.held.pairs c.self.invariant.longest ∙ ap (λ (k : Session). case_rank k.tables) c.self.view_is)

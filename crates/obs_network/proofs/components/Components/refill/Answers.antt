@@ -1,6 +1,6 @@
 use Rattle.std.proofs.Common.{length, ap, arith}
 use Rattle.obs_graph.specs.Positions.{present}
-use Rattle.obs_network.specs.Network.{Grouped}
+use Rattle.obs_network.specs.Network.{Components}
 use Rattle.obs_network.proofs.Grouping.{grouped_whole, written_back}
 use Rattle.obs_network.proofs.components.Components.refill.Goals as goal
 
@@ -12,7 +12,7 @@ invariant_of-self c =
     let n = length c.args.firsts.now in
     let small = v.small in
     let room = c.requires.room in
-    let most = ap (λ (g : Grouped). g.most_buses) c.self.view_is in
+    let most = ap (λ (g : Components). g.most_buses) c.self.view_is in
     let first_len = v.first_len in
     let sizes_len = v.sizes_len in
     let energised_len = v.energised_len in

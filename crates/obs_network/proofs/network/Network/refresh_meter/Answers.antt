@@ -1,11 +1,11 @@
 use Rattle.std.proofs.Common.{◌≡◌, ◌∙◌, ℕ, sym, ap, ◌<◌, ◌≤◌, length, get_or, set, take, subst, arith}
 use Rattle.obs_meter.specs.declared.Touch.TheVariants.{Nothing}
 use Rattle.std.proofs.lemmas.List.Elements.{All-get_or}
-use Rattle.obs_meter.specs.Held.{Items}
+use Rattle.obs_meter.specs.Held.{Meters}
 use Rattle.obs_meter.specs.Touches.{IsInRange}
 use Rattle.obs_case.specs.Tables.{Tables}
 use Rattle.obs_network.specs.contracts.network.Network.{the_view}
-use Rattle.obs_network.specs.Network.{NetworkOf, case_meters, case_offered}
+use Rattle.obs_network.specs.Network.{Network, case_meters, case_offered}
 use Rattle.obs_network.proofs.Grouping.{written_back}
 use Rattle.obs_network.proofs.OfCase.{length-case_meters, meters-in_range, offered-in_range}
 use Rattle.obs_network.proofs.RefreshedMeter.{AreAfter, length-lists_of, lists-set, meter_edited, with_touch}
@@ -15,15 +15,15 @@ pub change_item-requires : goal.change_item-requires
 change_item-requires c =
     let f = meter_edited c.args.self.now c.args.m c.args.case.now c.requires.before c.requires.meter in
     let is = c.self.view_is in
-    let few = subst (λ (x : NetworkOf). length x.meters.touches ≤ x.meters.most) (sym is) f.few in
-    let few_offered = subst (λ (x : NetworkOf). length x.offered.touches ≤ x.offered.most) (sym is) f.few_offered in
+    let few = subst (λ (x : Network). length x.meters.touches ≤ x.meters.most) (sym is) f.few in
+    let few_offered = subst (λ (x : Network). length x.offered.touches ≤ x.offered.most) (sym is) f.few_offered in
     let room = c.self.invariant.touches_len in
     let same = ap length c.deref_mut.ensures.value in
     record {
-      buses = ap (λ (x : NetworkOf). x.buses.buses) is ∙ f.buses;
+      buses = ap (λ (x : Network). x.buses.buses) is ∙ f.buses;
       meter = c.requires.meter;
-      meters = subst (λ (x : NetworkOf). c.args.m < length x.meters.touches) (sym is) f.item;
-      offered = subst (λ (x : NetworkOf). c.args.m < length x.offered.touches) (sym is) f.item_offered;
+      meters = subst (λ (x : Network). c.args.m < length x.meters.touches) (sym is) f.item;
+      offered = subst (λ (x : Network). c.args.m < length x.offered.touches) (sym is) f.item_offered;
       few = few;
       few_offered = few_offered;
       room_offered = omega (arith, few_offered, room, same);
@@ -32,11 +32,11 @@ change_item-requires c =
     }
 
 -- what the meters and the items touch after
-of_meters : (n : NetworkOf) (m : ℕ) (after : Tables) (s : NetworkOf) → s ≡ n → AreAfter n after m → (i : Items) → i ≡ record s.meters { touches = set s.meters.touches m (get_or (case_meters after) m Nothing) } → i.touches ≡ case_meters after
-of_meters n m after s is f i e = ap (λ (x : Items). x.touches) e ∙ ap (λ (x : NetworkOf). set x.meters.touches m (get_or (case_meters after) m Nothing)) is ∙ f.meters
+of_meters : (n : Network) (m : ℕ) (after : Tables) (s : Network) → s ≡ n → AreAfter n after m → (i : Meters) → i ≡ record s.meters { touches = set s.meters.touches m (get_or (case_meters after) m Nothing) } → i.touches ≡ case_meters after
+of_meters n m after s is f i e = ap (λ (x : Meters). x.touches) e ∙ ap (λ (x : Network). set x.meters.touches m (get_or (case_meters after) m Nothing)) is ∙ f.meters
 
-of_offered : (n : NetworkOf) (m : ℕ) (after : Tables) (s : NetworkOf) → s ≡ n → AreAfter n after m → (i : Items) → i ≡ record s.offered { touches = set s.offered.touches m (get_or (case_meters after) m Nothing) } → i.touches ≡ case_offered after
-of_offered n m after s is f i e = ap (λ (x : Items). x.touches) e ∙ ap (λ (x : NetworkOf). set x.offered.touches m (get_or (case_meters after) m Nothing)) is ∙ f.offered
+of_offered : (n : Network) (m : ℕ) (after : Tables) (s : Network) → s ≡ n → AreAfter n after m → (i : Meters) → i ≡ record s.offered { touches = set s.offered.touches m (get_or (case_meters after) m Nothing) } → i.touches ≡ case_offered after
+of_offered n m after s is f i e = ap (λ (x : Meters). x.touches) e ∙ ap (λ (x : Network). set x.offered.touches m (get_or (case_meters after) m Nothing)) is ∙ f.offered
 
 pub kind-touch-requires : goal.kind-touch-requires
 kind-touch-requires c =
@@ -47,7 +47,7 @@ kind-touch-requires c =
 pub set-requires-clause-meter : goal.set-requires-clause-meter
 set-requires-clause-meter c =
     let f = meter_edited c.args.self.now c.args.m c.args.case.now c.requires.before c.requires.meter in
-    let item = subst (λ (x : NetworkOf). c.args.m < length x.meters.touches) (sym c.self.view_is) f.item in
+    let item = subst (λ (x : Network). c.args.m < length x.meters.touches) (sym c.self.view_is) f.item in
     omega (arith, item, ap length c.self.invariant.lists, length-lists_of c.self.inside.components c.self.inside.graph c.self.inside.meters)
 
 pub set-requires-clause-in_range : goal.set-requires-clause-in_range
@@ -56,7 +56,7 @@ set-requires-clause-in_range c =
     let is = c.self.view_is in
     let g = c.self.inside.graph in
     let touches = of_meters c.args.self.now c.args.m c.args.case.now (the_view c.self.inside) is f c.change_item.new.meters c.change_item.ensures.meters in
-    let all = meters-in_range c.args.case.now c.nodes-nodes.ensures.valid g (ap (λ (x : NetworkOf). x.graph.vertices) is ∙ f.vertices) (ap (λ (x : NetworkOf). x.graph.ends) is ∙ f.ends) in
+    let all = meters-in_range c.args.case.now c.nodes-nodes.ensures.valid g (ap (λ (x : Network). x.graph.vertices) is ∙ f.vertices) (ap (λ (x : Network). x.graph.ends) is ∙ f.ends) in
     let low : c.args.m < length (case_meters c.args.case.now) = omega (arith, c.requires.meter, length-case_meters c.args.case.now) in
     subst (IsInRange g) (sym (c.kind-touch.ensures.kind ∙ ap (λ l. get_or l c.args.m Nothing) touches)) (All-get_or (IsInRange g) (case_meters c.args.case.now) c.args.m Nothing low all)
 
@@ -66,12 +66,12 @@ invariant_of-self c =
     let is = c.self.view_is in
     let v = c.self.invariant in
     let g = c.self.inside.graph in
-    let vertices = ap (λ (x : NetworkOf). x.graph.vertices) is ∙ f.vertices in
-    let ends = ap (λ (x : NetworkOf). x.graph.ends) is ∙ f.ends in
+    let vertices = ap (λ (x : Network). x.graph.vertices) is ∙ f.vertices in
+    let ends = ap (λ (x : Network). x.graph.ends) is ∙ f.ends in
     let items = c.change_item.ensures in
     let listed = c.set.ensures in
-    let most = ap (λ (i : Items). i.most) items.meters in
-    let most_offered = ap (λ (i : Items). i.most) items.offered in
+    let most = ap (λ (i : Meters). i.most) items.meters in
+    let most_offered = ap (λ (i : Meters). i.most) items.offered in
     let as_long = items.same_room ∙ ap length c.deref_mut.ensures.value in
     let back = written_back c.self.inside.touches.len c.change_item.new.touches c.self.inside.touches.items as_long (omega arith) in
     record {
@@ -90,7 +90,7 @@ invariant_of-self c =
       listed_components = omega (arith, v.listed_components, listed.most_components);
       listed_count = listed.components ∙ v.listed_count;
       lists = lists-set c.self.inside.components g c.self.inside.meters c.change_item.new.meters c.args.m (get_or (case_meters c.args.case.now) c.args.m Nothing) c.kind-touch.result
-          (subst (λ (x : NetworkOf). c.args.m < length x.meters.touches) (sym is) f.item) items.meters c.kind-touch.ensures.kind c.self.inside.live_meters.lists c.set.new.self.lists v.lists listed.lists;
+          (subst (λ (x : Network). c.args.m < length x.meters.touches) (sym is) f.item) items.meters c.kind-touch.ensures.kind c.self.inside.live_meters.lists c.set.new.self.lists v.lists listed.lists;
       touches_are = ap (take (length c.change_item.new.offered.touches)) back ∙ items.kept;
       front = items.front;
     }
@@ -100,4 +100,4 @@ returns c =
     let f = meter_edited c.args.self.now c.args.m c.args.case.now c.requires.before c.requires.meter in
     let items = c.change_item.ensures in
     let touch = get_or (case_meters c.args.case.now) c.args.m Nothing in
-    record { whole = rw (items.meters, items.offered) (ap (λ (x : NetworkOf). with_touch x c.args.m touch) c.self.view_is ∙ f.whole) }
+    record { whole = rw (items.meters, items.offered) (ap (λ (x : Network). with_touch x c.args.m touch) c.self.view_is ∙ f.whole) }

@@ -1,7 +1,7 @@
 use Rattle.std.proofs.Common.{◌∙◌, sym, refl, ap, length, take, arith}
 use Rattle.std.proofs.lemmas.List.{take_all}
-use Rattle.obs_switch.specs.Held.{Labelled}
-use Rattle.obs_network.specs.Network.{NetworkOf, Rows, case_needed}
+use Rattle.obs_switch.specs.Held.{Buses}
+use Rattle.obs_network.specs.Network.{Network, Rows, case_needed}
 use Rattle.obs_network.proofs.Grouping.{written_back}
 use Rattle.obs_network.proofs.OfCase.{case_bus_count-le, case_component_count-le, few_nodes, length-case_components, length-case_first_buses, length-case_meters, meters-in_range, offered-in_range}
 use Rattle.obs_network.proofs.Whole.{labelled_is, grouped_is, shape_is, items_are, rows_are, network_is}
@@ -9,32 +9,32 @@ use Rattle.obs_network.proofs.network.Network.remake.Goals as goal
 
 pub relabel_unless-requires-clause-kept : goal.relabel_unless-requires-clause-kept
 relabel_unless-requires-clause-kept c = λ stay.
-    let same = ap (λ (n : NetworkOf). n.buses) c.self.view_is ∙ c.requires.buses stay in
-    (ap (λ (b : Labelled). b.buses) same, ap (λ (b : Labelled). b.count) same)
+    let same = ap (λ (n : Network). n.buses) c.self.view_is ∙ c.requires.buses stay in
+    (ap (λ (b : Buses). b.buses) same, ap (λ (b : Buses). b.count) same)
 
 pub find_components-requires-clause-vertices : goal.find_components-requires-clause-vertices
 find_components-requires-clause-vertices c =
-    let rows = ap (λ (n : NetworkOf). n.rows) c.self.view_is ∙ c.requires.rows in
+    let rows = ap (λ (n : Network). n.rows) c.self.view_is ∙ c.requires.rows in
     let nodes = ap (λ (r : Rows). r.nodes) rows in
     let room = c.self.invariant.vertices_room in
     omega (arith, nodes, room, case_bus_count-le c.args.case.now)
 
 pub find_components-requires-clause-room : goal.find_components-requires-clause-room
 find_components-requires-clause-room c =
-    let rows = ap (λ (n : NetworkOf). n.rows) c.self.view_is ∙ c.requires.rows in
+    let rows = ap (λ (n : Network). n.rows) c.self.view_is ∙ c.requires.rows in
     let nodes = ap (λ (r : Rows). r.nodes) rows in
     omega (arith, nodes, case_bus_count-le c.args.case.now)
 
 pub find_components-requires-clause-search_room : goal.find_components-requires-clause-search_room
 find_components-requires-clause-search_room c =
-    let rows = ap (λ (n : NetworkOf). n.rows) c.self.view_is ∙ c.requires.rows in
+    let rows = ap (λ (n : Network). n.rows) c.self.view_is ∙ c.requires.rows in
     let nodes = ap (λ (r : Rows). r.nodes) rows in
     let room = c.self.invariant.search_room in
     omega (arith, nodes, room, case_bus_count-le c.args.case.now)
 
 pub refill_graph-requires-clause-vertices : goal.refill_graph-requires-clause-vertices
 refill_graph-requires-clause-vertices c =
-    let rows = ap (λ (n : NetworkOf). n.rows) c.self.view_is ∙ c.requires.rows in
+    let rows = ap (λ (n : Network). n.rows) c.self.view_is ∙ c.requires.rows in
     let nodes = ap (λ (r : Rows). r.nodes) rows in
     let room = c.self.invariant.vertices_room in
     omega (arith, nodes, room, c.find_components.ensures.most_vertices, case_bus_count-le c.args.case.now)
@@ -49,7 +49,7 @@ refill-requires-clause-in_range c =
 
 pub refill-requires-clause-meters : goal.refill-requires-clause-meters
 refill-requires-clause-meters c =
-    let rows = ap (λ (n : NetworkOf). n.rows) c.self.view_is ∙ c.requires.rows in
+    let rows = ap (λ (n : Network). n.rows) c.self.view_is ∙ c.requires.rows in
     let meters = ap (λ (r : Rows). r.meters) rows in
     let room = c.self.invariant.listed_meters in
     omega (arith, meters, room, ap length c.refill_items.ensures.meters, length-case_meters c.args.case.now)
@@ -57,14 +57,14 @@ refill-requires-clause-meters c =
 pub refill-requires-clause-components : goal.refill-requires-clause-components
 refill-requires-clause-components c =
     let t = c.args.case.now in
-    let rows = ap (λ (n : NetworkOf). n.rows) c.self.view_is ∙ c.requires.rows in
+    let rows = ap (λ (n : Network). n.rows) c.self.view_is ∙ c.requires.rows in
     let nodes = ap (λ (r : Rows). r.nodes) rows in
     let room = c.self.invariant.listed_components in
     omega (arith, nodes, room, ap length c.find_components.ensures.first_buses, length-case_first_buses t, case_component_count-le t, case_bus_count-le t)
 
 pub needed-self-inside-requires : goal.needed-self-inside-requires
 needed-self-inside-requires c =
-    let rows = ap (λ (n : NetworkOf). n.rows) c.self.view_is ∙ c.requires.rows in
+    let rows = ap (λ (n : Network). n.rows) c.self.view_is ∙ c.requires.rows in
     let nodes = ap (λ (r : Rows). r.nodes) rows in
     record { few = omega (arith, nodes, c.find_components.ensures.room, few_nodes c.args.case.now c.nodes-nodes.ensures.valid) }
 
@@ -117,7 +117,7 @@ returns c =
     let found = c.find_components.ensures in
     let kept = c.refill_graph.ensures in
     let items = c.refill_items.ensures in
-    let rows = ap (λ (n : NetworkOf). n.rows) c.self.view_is ∙ c.requires.rows in
+    let rows = ap (λ (n : Network). n.rows) c.self.view_is ∙ c.requires.rows in
     let nodes = ap (λ (r : Rows). r.nodes) rows in
     let branches = ap (λ (r : Rows). r.branches) rows in
     let meters = ap (λ (r : Rows). r.meters) rows in

@@ -1,0 +1,350 @@
+// The kept assignment.
+ghost use Rattle.std.specs.Prelude.{◌≡◌, ◌≢◌, ◌↔◌, ◌+◌, ◌<◌, ◌≤◌, ℕ, Some, None, List, [], length, replicate, false, true, IfOk, IfSome, IfNone, IsSome, IsTrue, slice_index_or, slice_set};
+ghost use Rattle.obs_matroid.specs.Lists.{In};
+ghost use Rattle.obs_matroid.specs.Slots.{pairs_of};
+ghost use Rattle.obs_meter.specs.declared.Touch.{Touch};
+ghost use Rattle.obs_meter.specs.Assignments.{IsAssignmentAt};
+ghost use Rattle.obs_meter.specs.Touches.{every_item, touch_at};
+ghost use Rattle.obs_forest.specs.Forest.{StandsOver as ForestStandsOver};
+ghost use Rattle.obs_assign.specs.Assignment.{Fits, HasRoomOf, IsWhole, StandsOver, branch_at, is_frozen, pairs};
+ghost use Rattle.obs_assign.specs.Moves.{ArePath, moved, turned};
+ghost use Rattle.obs_assign.specs.Pins.{IsPinnedAt, MayPin};
+ghost use Rattle.obs_assign.specs.Still.{AreRetained};
+
+use crate::Move;
+use crate::hold::{clear_flags, empty, hold_pairs};
+use crate::lose::lose_pair;
+use crate::memory::NoMemory;
+use crate::path::take_path;
+use crate::retain::retain;
+use crate::spare::{spare_for, take_pin};
+use crate::steps::{Steps, turn};
+use obs_forest::Forest;
+use obs_graph::search::Search;
+use obs_graph::{Ends, Graph};
+use obs_meter::Meters;
+use std::alloc::Global;
+use std::marker::Model;
+use std::sync::ledger::Ledger;
+
+/// Pairs of a meter and a branch that it touches, with different meters, whose branches are a forest. Some pairs are
+/// frozen: their meters keep them until they are thawed. It means something only beside a graph and meters over which
+/// it stands.
+#[derive(Drop)]
+pub struct Assignment {
+    meters: usize,
+    count: u32,
+    turns: u64,
+    slots: Vec<Option<u32>>,
+    frozen: Vec<bool>,
+    owners: Vec<Option<u32>>,
+    list: Vec<u32>,
+    path: Vec<u32>,
+    candidates: Vec<Option<Ends>>,
+    search: Search,
+    forest: Forest,
+}
+
+impl Model for Assignment {
+    ghost use Rattle.std.specs.Prelude.{length, take};
+    ghost use Rattle.obs_graph.specs.Search.{room_of};
+    ghost use Rattle.obs_assign.specs.Assignment.{Assignment};
+    ghost use Rattle.obs_assign.specs.Kept.{seen, IsKept};
+
+    ghost Value = { Assignment };
+
+    ghost view = { λ a. seen a.meters a.slots.items a.frozen.items a.turns a.forest };
+
+    ghost invariant = { λ a.
+        IsKept (seen a.meters a.slots.items a.frozen.items a.turns a.forest) a.meters a.count a.owners.items
+        (take a.count a.list.items)
+        (record {
+          frozen = length a.frozen.items;
+          list = length a.list.items;
+          path = length a.path.items;
+          candidates = length a.candidates.items;
+          search = room_of a.search;
+        }) };
+}
+
+impl Assignment {
+    /// No pair over no meter, with room for so many.
+    pub fn make(
+        alloc: Global,
+        most_meters: u32,
+        most_branches: u32,
+        most_vertices: u32,
+    ) -> Result<Assignment, NoMemory>
+        ensures empty { IfOk result (λ a. a ≡ record {
+          slots = [];
+          frozen = [];
+          turns = 0;
+          forest = record { vertices = 0; held = []; most_vertices = most_vertices; most_branches = most_branches };
+          most_meters = most_meters;
+        }) }
+    {
+        let slots = vec![in alloc; None; most_meters as usize]?;
+        let frozen = vec![in alloc; false; most_meters as usize]?;
+        let mut owners = vec![in alloc; None; most_branches as usize]?;
+        empty(&mut owners);
+        let list = vec![in alloc; 0; most_meters as usize]?;
+        let path = vec![in alloc; 0; most_vertices as usize]?;
+        let candidates = vec![in alloc; None; most_branches as usize]?;
+        let search = Search::make(alloc, most_vertices)?;
+        let forest = Forest::make(alloc, most_vertices, most_branches)?;
+        Ok(Assignment {
+            meters: 0,
+            count: 0,
+            turns: 0,
+            slots,
+            frozen,
+            owners,
+            list,
+            path,
+            candidates,
+            search,
+            forest,
+        })
+    }
+
+    /// Leaves no pair, over this graph and these meters.
+    pub fn clear(&mut self, g: &Graph, ms: &Meters)
+        requires room { Fits self.old g.now ms.now.touches }
+        ensures no_pair { pairs self.new ≡ [] }
+        ensures turns { self.new.turns ≡ self.old.turns }
+        ensures stands { StandsOver self.new g.now ms.now.touches }
+        ensures whole { IsWhole self.new }
+        ensures same_room { HasRoomOf self.old self.new }
+    {
+        self.meters = ms.count() as usize;
+        empty(&mut self.slots);
+        clear_flags(&mut self.frozen);
+        self.count = hold_pairs(
+            g,
+            self.meters,
+            &self.slots,
+            &mut self.owners,
+            &mut self.list,
+            &mut self.forest,
+        );
+    }
+
+    /// The number of pairs.
+    pub fn length(&self) -> u32
+        ensures length { result ≡ length (pairs self.now) }
+        ensures whole { IsWhole self.now }
+    {
+        self.count
+    }
+
+    /// The branch of the meter, or None where it has no pair.
+    pub fn branch_of(&self, m: u32) -> Option<u32>
+        requires m { m < length self.now.slots }
+        ensures branch { result ≡ branch_at self.now m }
+    {
+        self.slots[m as usize]
+    }
+
+    /// The meter that has the branch, or None where none has it.
+    pub fn meter_of(&self, e: u32) -> Option<u32>
+        requires e { e < length self.now.forest.held }
+        ensures meter { IfSome result (λ m. branch_at self.now m ≡ Some e) }
+        ensures none { IfNone result ((m : ℕ) → branch_at self.now m ≢ Some e) }
+        ensures low { IfSome result (λ m. m < length self.now.slots) }
+    {
+        self.owners[e as usize]
+    }
+
+    /// The branches of the pairs as a forest.
+    pub fn forest(&self) -> &Forest
+        ensures forest { result.now ≡ self.now.forest }
+        ensures whole { IsWhole self.now }
+    {
+        &self.forest
+    }
+
+    /// Whether the meter is frozen.
+    pub fn frozen(&self, m: u32) -> bool
+        requires m { m < length self.now.slots }
+        ensures frozen { result ≡ is_frozen self.now m }
+    {
+        self.frozen[m as usize]
+    }
+
+    /// How many calls of `augment` and `pin` there were. It stands at the last value of a u64 rather than begin anew.
+    pub fn turns(&self) -> u64
+        ensures turns { result ≡ self.now.turns }
+    {
+        self.turns
+    }
+
+    /// Thaws all meters, and keeps the pairs.
+    pub fn unpin_all(&mut self)
+        ensures thawed { self.new ≡ record self.old { frozen = replicate (length self.old.frozen) false } }
+    {
+        clear_flags(&mut self.frozen);
+    }
+
+    /// Puts the moves of a path in, and ticks once.
+    pub fn augment<L: Ledger>(
+        &mut self,
+        g: &Graph,
+        ms: &Meters,
+        path: &[Move],
+        steps: &mut Steps<L>,
+    )
+        requires stands { StandsOver self.old g.now ms.now.touches }
+        requires path { ArePath self.old path.now }
+        requires assignment { IsAssignmentAt g.now.ends ms.now.touches (every_item ms.now.touches)
+            (pairs_of (moved path.now self.old.slots)) }
+        ensures moved { self.new.slots ≡ moved path.now self.old.slots }
+        ensures frozen { self.new.frozen ≡ self.old.frozen }
+        ensures longer { length (pairs self.new) ≡ length (pairs self.old) + 1 }
+        ensures turns { self.new.turns ≡ turned self.old.turns }
+        ensures tick { steps.new ≡ steps.old + 1 }
+        ensures stands { StandsOver self.new g.now ms.now.touches }
+        ensures whole { IsWhole self.new }
+        ensures same_room { HasRoomOf self.old self.new }
+    {
+        let _ = ms;
+        self.count = take_path(
+            g,
+            self.meters,
+            &mut self.slots,
+            &mut self.owners,
+            &mut self.list,
+            &mut self.forest,
+            self.count,
+            path,
+        );
+        self.turns = turn(self.turns, steps);
+    }
+
+    /// Takes the pair of the meter away, where it has one, and thaws it.
+    pub fn drop_pair(&mut self, g: &Graph, m: u32)
+        requires stands { ForestStandsOver self.old.forest g.now }
+        requires m { m < length self.old.slots }
+        ensures dropped { self.new.slots ≡ slice_set self.old.slots m None }
+        ensures thawed { self.new.frozen ≡ slice_set self.old.frozen m false }
+        ensures turns { self.new.turns ≡ self.old.turns }
+        ensures forest { ForestStandsOver self.new.forest g.now }
+        ensures stands { (touches : List Touch) → StandsOver self.old g.now touches
+            → StandsOver self.new g.now touches }
+        ensures whole { IsWhole self.new }
+        ensures same_room { HasRoomOf self.old self.new }
+    {
+        self.frozen[m as usize] = false;
+        self.count = lose_pair(
+            g,
+            self.meters,
+            &mut self.slots,
+            &mut self.owners,
+            &mut self.list,
+            &mut self.forest,
+            self.count,
+            m,
+        );
+    }
+
+    /// Whether `pin` may be called for m and e, a present branch: whether m isn't frozen, no frozen meter has e, and
+    /// the frozen branches don't join the ends of e.
+    pub fn may_pin(&mut self, g: &Graph, m: u32, e: u32) -> bool
+        requires stands { ForestStandsOver self.old.forest g.now }
+        requires m { m < length self.old.slots }
+        requires present { IsSome (slice_index_or g.now.ends e None) }
+        ensures may { IsTrue result ↔ MayPin self.old g.now.ends m e }
+        ensures same { self.new ≡ self.old }
+    {
+        if self.frozen[m as usize] {
+            return false;
+        }
+        let spare = spare_for(
+            g,
+            &self.forest,
+            &self.slots[..self.meters],
+            &self.owners,
+            &self.frozen[..self.meters],
+            &mut self.path,
+            m,
+            e,
+        );
+        spare.is_some()
+    }
+
+    /// Makes m and e a frozen pair, and ticks once. Any other pair of m or of e is given up, and else at most one,
+    /// which isn't frozen.
+    pub fn pin<L: Ledger>(&mut self, g: &Graph, ms: &Meters, m: u32, e: u32, steps: &mut Steps<L>)
+        requires stands { StandsOver self.old g.now ms.now.touches }
+        requires m { m < length self.old.slots }
+        requires touched { In e (touch_at g.now.ends ms.now.touches m) }
+        requires may { MayPin self.old g.now.ends m e }
+        ensures pinned { (x : ℕ) × IsPinnedAt self.old g.now.ends m e self.new.slots x }
+        ensures frozen { self.new.frozen ≡ slice_set self.old.frozen m true }
+        ensures bound { length (pairs self.new) ≤ length (pairs self.old) + 1 }
+        ensures turns { self.new.turns ≡ turned self.old.turns }
+        ensures tick { steps.new ≡ steps.old + 1 }
+        ensures stands { StandsOver self.new g.now ms.now.touches }
+        ensures whole { IsWhole self.new }
+        ensures same_room { HasRoomOf self.old self.new }
+    {
+        let _ = ms;
+        let _ = g.vertices();
+        let x = spare_for(
+            g,
+            &self.forest,
+            &self.slots[..self.meters],
+            &self.owners,
+            &self.frozen[..self.meters],
+            &mut self.path,
+            m,
+            e,
+        )
+        .unwrap();
+        self.count = take_pin(
+            g,
+            self.meters,
+            &mut self.slots,
+            &mut self.owners,
+            &mut self.list,
+            &mut self.forest,
+            self.count,
+            Move {
+                meter: m,
+                branch: e,
+            },
+            x,
+        );
+        self.frozen[m as usize] = true;
+        self.turns = turn(self.turns, steps);
+    }
+
+    /// Carries the pairs over to a new network, of as many meters and positions, and thaws all. Gives up each pair
+    /// whose meter doesn't touch its branch any more, and of the others only such whose branch closes a cycle with
+    /// those that are kept. Says how many are kept.
+    pub fn retain_touching(&mut self, g: &Graph, ms: &Meters) -> u32
+        requires meters { length ms.now.touches ≡ length self.old.slots }
+        requires positions { length g.now.ends ≡ length self.old.forest.held }
+        requires vertices { g.now.vertices ≤ self.old.forest.most_vertices }
+        ensures count { result ≡ length (pairs self.new) }
+        ensures retained { AreRetained g.now.ends ms.now.touches (pairs self.old) (pairs self.new) }
+        ensures thawed { (m : ℕ) → is_frozen self.new m ≡ false }
+        ensures turns { self.new.turns ≡ self.old.turns }
+        ensures stands { StandsOver self.new g.now ms.now.touches }
+        ensures whole { IsWhole self.new }
+        ensures same_room { HasRoomOf self.old self.new }
+    {
+        clear_flags(&mut self.frozen);
+        self.count = retain(
+            g,
+            ms,
+            self.meters,
+            &mut self.slots,
+            &mut self.owners,
+            &mut self.list,
+            &mut self.candidates,
+            &mut self.search,
+            &mut self.forest,
+        );
+        self.count
+    }
+}
