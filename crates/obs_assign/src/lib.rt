@@ -17,8 +17,6 @@ mod path;
 mod retain;
 mod spare;
 mod steps;
-#[cfg(test)]
-mod tests;
 
 pub use assignment::Assignment;
 pub use memory::NoMemory;

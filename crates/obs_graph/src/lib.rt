@@ -14,8 +14,6 @@ mod memory;
 pub mod parts;
 mod rank;
 pub mod search;
-#[cfg(test)]
-mod tests;
 
 pub use graph::Graph;
 pub use memory::NoMemory;

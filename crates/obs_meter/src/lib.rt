@@ -12,8 +12,6 @@ pub enum Touch {
 pub mod laws;
 mod memory;
 mod meters;
-#[cfg(test)]
-mod tests;
 
 pub use memory::NoMemory;
 pub use meters::Meters;

@@ -1,6 +1,8 @@
 //! The network of a case.
 #![tactic(auto)]
 
+#[cfg(test)]
+mod buses_tests;
 mod components;
 #[cfg(test)]
 mod flag_tests;

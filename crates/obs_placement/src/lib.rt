@@ -2,6 +2,8 @@
 //! the bound which shows that all candidates together fall short.
 #![tactic(auto)]
 
+#[cfg(test)]
+mod bound_tests;
 mod choosing;
 mod holding;
 pub mod laws;

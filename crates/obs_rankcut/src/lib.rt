@@ -5,8 +5,6 @@ mod bounds;
 mod listing;
 mod memory;
 mod scoped;
-#[cfg(test)]
-mod tests;
 mod work;
 
 pub use bounds::Bound;

@@ -9,8 +9,6 @@ mod number;
 mod rebuild;
 pub mod regroup;
 mod sweep;
-#[cfg(test)]
-mod tests;
 
 pub use buses::{Buses, NoMemory};
 pub use link::Link;

@@ -1,7 +1,7 @@
 // That calls succeed, and assignments of worked cases.
 ghost use Rattle.std.specs.Prelude.{◌≡◌, ◌+◌, ◌^◌, ◌<◌, ◌≤◌, length};
 
-use crate::{Assignment, Move, Steps};
+use obs_assign::{Assignment, Move, Steps};
 use obs_graph::{Ends, Graph};
 use obs_meter::{Meters, Touch};
 use std::alloc::Global;

@@ -2,7 +2,7 @@
 ghost use Rattle.std.specs.Prelude.{◌≡◌, ◌+◌, ◌<◌, ◌≤◌, IfOk, vec_len};
 ghost use Rattle.obs_graph.specs.Positions.{AreBranches};
 
-use crate::{Ends, Graph, GraphWork, NoMemory};
+use obs_graph::{Ends, Graph, GraphWork, NoMemory};
 use std::alloc::Global;
 use std::test::Fail;
 

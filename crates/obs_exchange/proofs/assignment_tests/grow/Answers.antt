@@ -12,7 +12,7 @@ use Rattle.obs_meter.specs.Touches.{every_item, touch_at}
 use Rattle.obs_assign.specs.Assignment.{Assignment, IsWhole, StandsOver, pairs}
 use Rattle.obs_assign.specs.Pins.{joins}
 use Rattle.obs_assign.proofs.Free.{IsAssignmentAt-free}
-use Rattle.obs_assign.proofs.tests.grow.Goals as goal
+use Rattle.obs_exchange.proofs.assignment_tests.grow.Goals as goal
 
 -- the branches of the path
 abbrev path : List (Option Ends)

@@ -1,5 +1,5 @@
 // Bounds over a path of three branches.
-use crate::{CutWork, bound, measure};
+use obs_rankcut::{CutWork, bound, measure};
 use obs_graph::{Ends, Graph};
 use obs_meter::{Meters, Touch};
 use std::test::Fail;

@@ -2,7 +2,7 @@
 ghost use Rattle.std.specs.Prelude.{◌≤◌};
 ghost use Rattle.obs_switch.specs.Buses.{LinksBelow};
 
-use crate::{Buses, Link};
+use obs_switch::{Buses, Link};
 use std::process::Abort;
 use std::test::Fail;
 

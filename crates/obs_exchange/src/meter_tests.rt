@@ -1,5 +1,5 @@
 // What the meters of a path touch.
-use crate::{Meters, Touch};
+use obs_meter::{Meters, Touch};
 use obs_graph::{Ends, Graph};
 use std::test::Fail;
 
