@@ -1,5 +1,5 @@
 -- The first fault of bytes, by the lines before it.
-use Rattle.std.proofs.Common.{◌≡◌, ℕ, ◌+◌, Bool, true, false, List, [], ◌∷◌, ◌++◌, length, map, Option, Some, None, Result, Ok, Err, refl, sym, ap, ◌∙◌, subst, inl, inr, append_assoc, append-nil, length-append, arith}
+use Rattle.std.proofs.Common.{◌≡◌, ℕ, ◌+◌, true, false, List, [], ◌∷◌, ◌++◌, length, map, Option, Some, None, Result, Ok, Err, refl, sym, ap, ◌∙◌, subst, inl, inr, append_assoc, append-nil, length-append, arith}
 use Rattle.std.proofs.lemmas.Bool.{cases_Bool}
 use Rattle.std.proofs.lemmas.List.{map-append}
 use Rattle.obs_text.specs.Lines.{lines_of}
@@ -15,9 +15,7 @@ use Rattle.obs_cert.specs.Read.{claims_in, onto_lines, read_from, then_read}
 use Rattle.obs_cert.specs.Words.{Line, end_line, line_of}
 use Rattle.obs_cert.proofs.LawLemmas.{step-ok}
 use Rattle.obs_cert.proofs.OrderLemmas.{InOrder, OnSome, claims_in_order, parts_in_order}
-
-clash : {P : Type 0} {b : Bool} → b ≡ true → b ≡ false → P
-clash t f = cc
+use Rattle.obs_matroid.proofs.Lists.{clash}
 
 -- an answer has one fault
 same_code : (x y : CertCode) (r : Result (Line × Place) CertCode) → r ≡ Err x → r ≡ Err y → x ≡ y

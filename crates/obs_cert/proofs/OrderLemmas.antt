@@ -1,5 +1,5 @@
 -- Lines in their places, and the claims that they are.
-use Rattle.std.proofs.Common.{◌≡◌, ℕ, Bool, true, false, List, [], ◌∷◌, ◌++◌, map, Option, Some, None, refl, sym, ap, ◌∙◌, subst, append_assoc}
+use Rattle.std.proofs.Common.{◌≡◌, ℕ, true, false, List, [], ◌∷◌, ◌++◌, map, Option, Some, None, refl, sym, ap, ◌∙◌, subst, append_assoc}
 use Rattle.obs_cert.specs.declared.place.Place.{Place}
 use Rattle.obs_cert.specs.declared.place.Place.TheVariants.{Start, Tree, Bound, Cost, Pairs, Layer, Shortfall, End}
 use Rattle.obs_cert.specs.Certificate.{certificate_lines, claim_lines, joined, layer_lines}
@@ -8,9 +8,7 @@ use Rattle.obs_cert.specs.Claims as claims
 use Rattle.obs_cert.specs.Places.{is_over, layer_after, place_after}
 use Rattle.obs_cert.specs.Read.{onto_parts, parts_of}
 use Rattle.obs_cert.specs.Words.{Line, tree_line, bound_line, cost_line, shortfall_line, pair_line, chosen_line, layer_line, inside_line, end_line}
-
-clash : {P : Type 0} {b : Bool} → b ≡ true → b ≡ false → P
-clash t f = cc
+use Rattle.obs_matroid.proofs.Lists.{clash}
 
 abbrev pub OnSome : Option Place → (Place → Type 0) → Type 0
 OnSome None P = ⊥

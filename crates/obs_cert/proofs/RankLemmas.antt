@@ -1,12 +1,12 @@
 -- The rank of branches that were put onto one another.
-use Rattle.std.proofs.Common.{◌≡◌, ℕ, zero, suc, ◌<◌, ◌≤◌, Bool, false, not, Option, Some, None, ◌⊎◌, inl, inr, List, [], ◌∷◌, ◌++◌, length, take, get_or, refl, sym, ap, ◌∙◌, arith}
+use Rattle.std.proofs.Common.{◌≡◌, ℕ, zero, suc, ◌<◌, ◌≤◌, Bool, false, not, Option, None, ◌⊎◌, inl, inr, List, [], ◌∷◌, ◌++◌, length, take, get_or, refl, sym, ap, ◌∙◌, arith}
 use Rattle.std.specs.List.{Contains, cons_option}
 use Rattle.std.proofs.lemmas.Bool.{cases_lt, eq-eqb}
 use Rattle.obs_graph.specs.declared.Ends.{Ends}
 use Rattle.obs_graph.specs.Joined.{count_below, first_joined, merged, rank}
 use Rattle.obs_graph.specs.Positions.{AreBranches, ends_of}
 use Rattle.obs_graph.proofs.AtPositions.{ends_of-contains}
-use Rattle.obs_graph.proofs.Chains.{Contains-here, Contains-there, Contains-cases}
+use Rattle.obs_graph.proofs.Chains.{Contains-here, Contains-there}
 use Rattle.obs_graph.proofs.Counts.{count_below-no}
 use Rattle.obs_graph.proofs.First.{first_joined-le, merged-other}
 use Rattle.obs_graph.proofs.Forests.{rank-among}
@@ -14,22 +14,11 @@ use Rattle.obs_graph.proofs.Present.{branch_at, some_is_in}
 use Rattle.obs_graph.proofs.Ranks.{is_moved, rank_is}
 use Rattle.obs_cert.specs.Joins.{AreJoined, onto}
 use Rattle.obs_cert.proofs.JoinLemmas.{IsJoining, count_is}
+use Rattle.obs_rankcut.proofs.Ranked.{cons_cases, cons_here, cons_there}
 
 pub onto-append : (ends : List (Option Ends)) (xs ys : List ℕ) (es : List Ends) → onto ends (xs ++ ys) es ≡ onto ends ys (onto ends xs es)
 onto-append ends [] ys es = refl
 onto-append ends (x ∷ xs) ys es = onto-append ends xs ys (cons_option (get_or ends x None) es)
-
-cons_there : (o : Option Ends) (es : List Ends) (e : Ends) → Contains es e → Contains (cons_option o es) e
-cons_there None es e h = h
-cons_there (Some d) es e h = Contains-there d e es h
-
-cons_cases : (o : Option Ends) (es : List Ends) (e : Ends) → Contains (cons_option o es) e → (o ≡ Some e) ⊎ Contains es e
-cons_cases None es e h = inr h
-cons_cases (Some d) es e h = elim (Contains-cases d e es h) [ inl y ↦ inl (ap Some y) | inr k ↦ inr k ]
-
-cons_here : (o : Option Ends) (es : List Ends) (e : Ends) → o ≡ Some e → Contains (cons_option o es) e
-cons_here None es e is = absurd (cc is)
-cons_here (Some d) es e is = let same : e ≡ d = cc is in rw same (Contains-here d es)
 
 -- what is put onto branches has those and the others
 onto_keeps : (ends : List (Option Ends)) (ps : List ℕ) (es : List Ends) (e : Ends) → Contains es e → Contains (onto ends ps es) e

@@ -34,7 +34,7 @@ use Rattle.obs_edit.proofs.Priced.{cheap_prices, few_prices}
 use Rattle.obs_claimed.proofs.Words.{IsSmall}
 
 -- what passes a test is no longer than the list
-filter_few : {X : Type 0} (p : X → Bool) (xs : List X) → length (filter p xs) ≤ length xs
+pub filter_few : {X : Type 0} (p : X → Bool) (xs : List X) → length (filter p xs) ≤ length xs
 filter_few p xs = omega (arith, length-split p xs)
 
 -- a rank is no higher than the number of vertices

@@ -107,7 +107,7 @@ placed_pairs_within t v =
 
 -- what is listed over some touches
 module _ (n : ℕ) (ends : List (Option Ends)) (touches : List Touch) (price : ℕ → ℕ) where
-  inside_low : (f : ℕ) (ts : List ℕ) (m : ℕ) → In m (inside_of n ends touches price f ts) → m < length touches
+  pub inside_low : (f : ℕ) (ts : List ℕ) (m : ℕ) → In m (inside_of n ends touches price f ts) → m < length touches
   inside_low f [] m i = absurd i
   inside_low f (t ∷ ts) m i = elim (In-append_cases m (added_items n ends touches price f t) (inside_of n ends touches price t ts) i) [
     | inl here ↦ (let low = filtered_below _ 0 (length touches) m here in omega (arith, low))

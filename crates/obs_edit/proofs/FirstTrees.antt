@@ -1,9 +1,8 @@
 -- The pairs of the first assignment in a component: the first assignment of its meters, and where it is observable a tree of it.
-use Rattle.std.proofs.Common.{Bool, ◌≡◌, ℕ, suc, ◌<◌, true, List, [], ◌∷◌, length, map, filter, get_or, refl, sym, ap, ◌∙◌, subst, inl, inr, arith}
-use Rattle.std.specs.Prelude.{slice_index, ◌==◌}
+use Rattle.std.proofs.Common.{Bool, ◌≡◌, ℕ, ◌<◌, true, List, [], ◌∷◌, length, filter, get_or, refl, sym, ap, ◌∙◌, subst, inl, inr, arith}
+use Rattle.std.specs.Prelude.{◌==◌}
 use Rattle.std.specs.List.{range_with_len}
 use Rattle.std.proofs.lemmas.Bool.{cases_Bool, eq-eqb, eqb-true}
-use Rattle.std.proofs.lemmas.List.Sums.{length-filter}
 use Rattle.obs_graph.specs.Positions.{present}
 use Rattle.obs_case.specs.Tables.{IsValid, Tables}
 use Rattle.obs_matroid.specs.Lists.{In, IsDistinct, IsRising}
@@ -29,17 +28,17 @@ use Rattle.obs_network.specs.Switched.{case_bus_count}
 use Rattle.obs_network.specs.Components.{component_of, need_of}
 use Rattle.obs_network.specs.Network.{case_branches, case_component_count, case_components, case_live, case_meters, case_sizes}
 use Rattle.obs_network.specs.Observable.{IsObservable, branch_component, case_live_meters, item_component}
-use Rattle.obs_network.proofs.Grouping.{sizes_of-at}
 use Rattle.obs_network.proofs.InComponents.{ends_component, kinds_sum, present_below, touched_component}
-use Rattle.obs_network.proofs.Observed.{buses_of_component, is_of}
+use Rattle.obs_network.proofs.Observed.{buses_of_component, is_of, size_is}
 use Rattle.obs_network.proofs.OfCase.{case_branches-are}
 use Rattle.obs_network.proofs.OfLaws.{case_component-at}
 use Rattle.obs_network.proofs.Sums.{range_distinct, range_in}
 use Rattle.obs_edit.specs.Answers.{case_first_pairs, component_meters, component_rank, is_meter_of}
 use Rattle.obs_edit.specs.Laws.{TreesAreFirst, TreesAreWhole, TreesSpan, TreesStandAlone, is_bus_of, tree_pairs}
 use Rattle.obs_edit.proofs.FirstParts.{first_in_component}
-use Rattle.obs_edit.proofs.PlanFirst.{IsRising-filter}
+use Rattle.obs_network.proofs.Listed.{rising_filter}
 use Rattle.obs_edit.proofs.Tight.{case_matroid, case_touch, observable-to}
+use Rattle.obs_islands.proofs.Spanning.{some_in}
 
 -- some of the pairs rise, where all do
 IsRising-filter_items : (f : Pair → Bool) (A : List Pair) → IsRising (items A) → IsRising (items (filter f A))
@@ -79,8 +78,8 @@ module _ (t : Tables) (v : IsValid t) (c : ℕ) where
   meters_rise : IsRising (component_meters t c)
   unfolding component_meters
   meters_rise =
-      IsRising-filter (is_meter_of t c) (case_live_meters t)
-      (IsRising-filter (is_live (case_branches t) (case_meters t)) (every_item (case_meters t)) (range_rising 0 (length (case_meters t))))
+      rising_filter (is_meter_of t c) (case_live_meters t)
+      (rising_filter (is_live (case_branches t) (case_meters t)) (every_item (case_meters t)) (range_rising 0 (length (case_meters t))))
 
   tree_rises : IsRising (items (tree_pairs t c))
   unfolding case_first_pairs
@@ -107,22 +106,6 @@ module _ (t : Tables) (v : IsValid t) (c : ℕ) where
 
   pub tree_whole : c < case_component_count t → IsObservable t c → length (tree_pairs t c) ≡ need_of (case_sizes t) c
   tree_whole l o = tree_rank ∙ observable-to t v c l o
-
-count_by-map : (f : ℕ → ℕ) (c : ℕ) (xs : List ℕ) → length (filter (λ x. x == c) (map f xs)) ≡ length (filter (λ u. f u == c) xs)
-count_by-map f c [] = refl
-count_by-map f c (x ∷ xs) = elim (cases_Bool (f x == c)) [ inl e ↦ rw e (ap suc (count_by-map f c xs)) | inr e ↦ rw e (count_by-map f c xs) ]
-
-pub some_in : (x : ℕ) (xs : List ℕ) → In x xs → 0 < length xs
-some_in x [] i = absurd i
-some_in x (y ∷ ys) i = omega arith
-
--- the buses of a component are as many as its size
-pub size_is : (t : Tables) (c : ℕ) → c < case_component_count t → slice_index (case_sizes t) c ≡ length (buses_of_component t c)
-unfolding case_sizes case_components
-size_is t c l =
-    let f : ℕ → ℕ = component_of (present (case_live t)) in
-    let xs = range_with_len 0 (case_bus_count t) in
-    sizes_of-at (case_component_count t) (map f xs) c 0 l ∙ (sym (length-filter (λ x. x == c) (map f xs)) ∙ count_by-map f c xs)
 
 module _ (t : Tables) (v : IsValid t) (c : ℕ) where
   bus_in : (u : ℕ) → u < case_bus_count t → get_or (case_components t) u 0 ≡ c → In u (buses_of_component t c)

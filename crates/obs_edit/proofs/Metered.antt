@@ -22,10 +22,9 @@ use Rattle.obs_network.specs.Switched.{case_bus_count, case_buses}
 use Rattle.obs_network.specs.Network.{case_branches, case_components, case_component_count, case_energised, case_live, case_meters, network_of}
 use Rattle.obs_network.specs.Touching.{meter_touch, touch_of}
 use Rattle.obs_network.proofs.Edited.{branches-with_meter}
-use Rattle.obs_network.proofs.OfCase.{case_branches-are}
+use Rattle.obs_network.proofs.OfCase.{case_branches-are, length-case_meters}
 use Rattle.obs_assign.specs.Assignment.{Assignment, StandsOver, branch_at}
 use Rattle.obs_edit.specs.Longest.{IsMost}
-use Rattle.obs_edit.proofs.OfNetwork.{length-case_meters}
 use Rattle.obs_edit.proofs.Retained.{assigns-within}
 
 abbrev flagged : Bool → Meter → Meter

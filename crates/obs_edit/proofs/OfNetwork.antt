@@ -8,28 +8,14 @@ use Rattle.obs_meter.specs.Sizes.{HasRoomFor, Sizes}
 use Rattle.obs_meter.specs.Touches.{every_item}
 use Rattle.obs_assign.specs.Assignment.{Assignment, Fits}
 use Rattle.obs_exchange.specs.Found.{Work}
-use Rattle.obs_network.specs.Switched.{case_buses}
-use Rattle.obs_network.specs.Components.{need_of}
-use Rattle.obs_network.specs.Touching.{meter_touch}
-use Rattle.obs_network.specs.Network.{Network, case_branches, case_component_count, case_meters, case_needed, case_sizes, network_of}
-use Rattle.obs_network.proofs.OfCase.{case_bus_count-le, length-case_branches, length-case_first_buses}
+use Rattle.obs_network.specs.Network.{Network, case_branches, case_meters, case_needed, network_of}
+use Rattle.obs_network.proofs.OfCase.{case_bus_count-le, length-case_branches, length-case_meters}
 use Rattle.obs_network.proofs.Observed.{most_pairs}
 use Rattle.obs_edit.specs.Longest.{IsLongest, IsMost}
 use Rattle.obs_edit.specs.Sessions.{AreLongest, HasRoom, case_rows}
 
-pub length-case_meters : (t : Tables) → length (case_meters t) ≡ length t.meters
-unfolding case_meters
-length-case_meters t = length-map t.meters (meter_touch (case_buses t))
-
 pub few_meters : (t : Tables) → IsValid t → length (case_meters t) ≤ 20000
 few_meters t v = let few = v.meters.few in omega (arith, few, length-map t.meters (λ row. row.name), length-case_meters t)
-
--- how many components there are
-pub count_of : (n : Network) (t : Tables) → n ≡ network_of t → length n.components.first_buses ≡ case_component_count t
-count_of n t same = ap (λ (x : Network). length x.components.first_buses) same ∙ length-case_first_buses t
-
-pub need_from : (n : Network) (t : Tables) (c : ℕ) → n ≡ network_of t → need_of n.components.sizes c ≡ need_of (case_sizes t) c
-need_from n t c same = ap (λ (x : Network). need_of x.components.sizes c) same
 
 pub fits_case : (t : Tables) (a : Assignment) (w : Work) → HasRoom t a w → Fits a (network_of t).graph (case_meters t)
 fits_case t a w r = record {

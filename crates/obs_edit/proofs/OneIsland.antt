@@ -16,19 +16,19 @@ use Rattle.obs_meter.proofs.Assigned.{from_matroid, to_matroid}
 use Rattle.obs_meter.proofs.Instance.{IsJoining-graph, IsMatroid-graph}
 use Rattle.obs_islands.specs.Islands.{IsSpannedAt, every_vertex}
 use Rattle.obs_islands.proofs.Parts.{In-vertices, vertex_low, vertices-distinct}
-use Rattle.obs_islands.proofs.Spanning.{ends_low}
+use Rattle.obs_islands.proofs.Spanning.{ends_low, some_in}
 use Rattle.obs_network.specs.Switched.{case_bus_count}
 use Rattle.obs_network.specs.Components.{need_of}
 use Rattle.obs_network.specs.Network.{case_branches, case_component_count, case_components, case_live, case_meters, case_sizes}
 use Rattle.obs_network.specs.Observable.{IsObservable, branch_component, case_live_meters, item_component}
 use Rattle.obs_network.proofs.InComponents.{ends_component, touched_component}
 use Rattle.obs_network.proofs.Numbered.{component_at}
-use Rattle.obs_network.proofs.Observed.{is_of}
+use Rattle.obs_network.proofs.Observed.{is_of, size_is}
 use Rattle.obs_network.proofs.OfCase.{case_branches-are}
 use Rattle.obs_network.proofs.OfLaws.{case_component-at}
 use Rattle.obs_edit.specs.Answers.{case_first_pairs, component_meters, is_meter_of}
 use Rattle.obs_edit.specs.Laws.{IsIslandOf, IslandsLieInComponents, ObservableIsIsland, is_bus_of, tree_pairs}
-use Rattle.obs_edit.proofs.FirstTrees.{size_is, some_in, tree_first, tree_whole}
+use Rattle.obs_edit.proofs.FirstTrees.{tree_first, tree_whole}
 use Rattle.obs_edit.proofs.Tight.{case_matroid, case_touch}
 
 module _ (t : Tables) (v : IsValid t) where

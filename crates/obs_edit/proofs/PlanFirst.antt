@@ -25,6 +25,7 @@ use Rattle.obs_placement.specs.Placed.{Placed, PlanValue, shortfall_of, placemen
 use Rattle.obs_placement.specs.Placed.Placed.{cheapest, shortfall}
 use Rattle.obs_edit.specs.Planned.{PlanPairsAreFirst, pairs_in, placed_pairs, planned_items, touches_of}
 use Rattle.obs_edit.proofs.Planned.{has-listed, length-touches_of, listed-has, listed-touch, touch-listed}
+use Rattle.obs_network.proofs.Listed.{rising_filter}
 
 -- a rising list is what the test for it leaves of a range that holds it
 filter-listed : (n a : ℕ) (listed : List ℕ) → IsRising listed → ((m : ℕ) → In m listed → (a ≤ m) × (m < a + n)) → filter (has_position listed) (range_with_len a n) ≡ listed
@@ -87,13 +88,6 @@ module _ (ends : List (Option Ends)) (touches : List Touch) (listed : List ℕ) 
               (IsNotAfter-filter (has_position listed) (every_item (touches_of touches listed)) A B (λ x f. (others_have_none A whole x f, others_have_none B b x f)) (a.least B (of_listed B b) l));
         }
 
-pub IsRising-filter : (p : ℕ → Bool) (xs : List ℕ) → IsRising xs → IsRising (filter p xs)
-IsRising-filter p [] r = tt
-IsRising-filter p (x ∷ xs) r = elim (cases_Bool (p x)) [
-  | inl t ↦ rw t ((λ y i. r.0 y (In-filter_from p y xs i).0), IsRising-filter p xs r.1)
-  | inr f ↦ rw f (IsRising-filter p xs r.1)
-]
-
 IsRising-after : (meters : ℕ) (xs : List ℕ) → IsRising xs → IsRising (map (λ k. meters + k) xs)
 IsRising-after meters [] r = tt
 IsRising-after meters (x ∷ xs) r = ((λ y i. let f = In-map_from (λ k. meters + k) y xs i in let l = r.0 f.0 f.1 in let e = f.2 in omega (arith, l, e)), IsRising-after meters xs r.1)
@@ -113,7 +107,7 @@ module _ (n : ℕ) (ends : List (Option Ends)) (touches : List Touch) (meters : 
   unfolding chosen
   items_rise =
       IsRising-append (range_with_len 0 meters) (map (λ k. meters + k) chosen) (range_rising 0 meters)
-      (IsRising-after meters chosen (IsRising-filter (λ k. is_chosen n ends touches (price_of meters prices) (meters + k)) (range_with_len 0 (length prices)) (range_rising 0 (length prices))))
+      (IsRising-after meters chosen (rising_filter (λ k. is_chosen n ends touches (price_of meters prices) (meters + k)) (range_with_len 0 (length prices)) (range_rising 0 (length prices))))
       (λ x y i j. let r = range_from 0 meters x i in let f = In-map_from (λ k. meters + k) y chosen j in let e = f.2 in omega (arith, r.1, e))
 
   chosen_low : (k : ℕ) → In k (chosen_of n ends touches meters prices) → k < length prices

@@ -31,7 +31,7 @@ use Rattle.obs_network.specs.Edited.{ArePresent}
 use Rattle.obs_network.proofs.Edited.{branches-with_meter}
 use Rattle.obs_network.proofs.KeptForests.{forest_closed, forest_opened, forest_rank, forest_with_branch, forest_with_meter}
 use Rattle.obs_network.proofs.Observed.{most_pairs as most_needed}
-use Rattle.obs_network.proofs.OfCase.{case_branches-are, case_bus_count-le, length-case_branches}
+use Rattle.obs_network.proofs.OfCase.{case_branches-are, case_bus_count-le, length-case_branches, length-case_meters}
 use Rattle.obs_edit.specs.declared.edit.Edit.{Edit}
 use Rattle.obs_edit.specs.declared.edit.Edit.TheVariants as edit
 use Rattle.obs_edit.specs.Edits.{HasRow, IsRepaired, edited, standing}
@@ -39,7 +39,6 @@ use Rattle.obs_edit.specs.Longest.{IsMost}
 use Rattle.obs_edit.specs.Repairing.{AreKept, CostsOwnPair, IsBefore, most_pairs}
 use Rattle.obs_edit.proofs.Flagged.{rows-edited}
 use Rattle.obs_edit.proofs.Metered.{most-lost, most-regained, no_branch, same_graph, stands-lost, stands-regained, touched_before}
-use Rattle.obs_edit.proofs.OfNetwork.{length-case_meters}
 use Rattle.obs_edit.proofs.Retained.{few, forest-still, lost_one, present-still}
 
 not_below : (a b : ℕ) → nat_lt a b ≡ false → b ≤ a

@@ -20,7 +20,7 @@ use Rattle.obs_network.specs.Observable.{case_live_meters}
 use Rattle.obs_network.specs.Switched.{case_bus_count}
 use Rattle.obs_edit.specs.Answers.{case_critical_meters, case_rank}
 use Rattle.obs_edit.proofs.Metered.{none_touched, same_count, same_graph, same_touch}
-use Rattle.obs_edit.proofs.OfNetwork.{length-case_meters}
+use Rattle.obs_network.proofs.OfCase.{length-case_meters}
 use Rattle.obs_engine.specs.Trials.{dip_meters, dips_of, is_dip}
 
 -- two tests that agree leave the same

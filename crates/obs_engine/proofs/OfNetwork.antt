@@ -1,5 +1,5 @@
 -- What is read off the network of a case.
-use Rattle.std.proofs.Common.{◌≡◌, ◌≢◌, ℕ, ◌<◌, ◌≤◌, Bool, true, false, not, All, length, refl, ap, ◌∙◌, eqb, arith}
+use Rattle.std.proofs.Common.{◌≡◌, ◌≢◌, ℕ, ◌<◌, ◌≤◌, Bool, true, false, not, All, length, refl, ap, eqb, arith}
 use Rattle.std.specs.Prelude.{slice_index_or}
 use Rattle.std.proofs.lemmas.Bool.{eq-eqb, ne_eqb}
 use Rattle.std.proofs.lemmas.List.{length-map}
@@ -9,26 +9,18 @@ use Rattle.obs_matroid.proofs.Contained.{All-from_In}
 use Rattle.obs_matroid.proofs.Lists.{In-filter_from}
 use Rattle.obs_meter.specs.Touches.{is_live}
 use Rattle.obs_exchange.specs.Critical.{critical_at}
-use Rattle.obs_network.specs.Switched.{case_bus_count, case_buses}
-use Rattle.obs_network.specs.Touching.{meter_touch}
+use Rattle.obs_network.specs.Switched.{case_bus_count}
 use Rattle.obs_network.specs.Components.{need_of}
-use Rattle.obs_network.specs.Network.{Network, case_branches, case_component_count, case_meters, case_needed, case_sizes, network_of}
+use Rattle.obs_network.specs.Network.{Network, case_branches, case_meters, case_needed, case_sizes, network_of}
 use Rattle.obs_network.specs.Observable.{case_live_meters, is_energised_component}
 use Rattle.obs_network.proofs.Marked.{filtered_below}
-use Rattle.obs_network.proofs.OfCase.{length-case_first_buses}
 use Rattle.obs_engine.specs.declared.status.Status.TheVariants.{Done, Short}
 use Rattle.obs_edit.specs.Answers.{bound_meters, case_critical_meters, case_rank, component_meters, component_rank, is_critical_meter, is_meter_of, is_short}
 use Rattle.obs_engine.specs.Asks.{report_status}
-
--- how many components there are
-pub count_of : (n : Network) (t : Tables) → n ≡ network_of t → length n.components.first_buses ≡ case_component_count t
-count_of n t same = ap (λ (x : Network). length x.components.first_buses) same ∙ length-case_first_buses t
+use Rattle.obs_network.proofs.OfCase.{length-case_meters}
 
 pub fed_of : (n : Network) (t : Tables) (c : ℕ) → n ≡ network_of t → slice_index_or n.components.energised c false ≡ is_energised_component t c
 fed_of n t c same = ap (λ (x : Network). slice_index_or x.components.energised c false) same
-
-pub need_from : (n : Network) (t : Tables) (c : ℕ) → n ≡ network_of t → need_of n.components.sizes c ≡ need_of (case_sizes t) c
-need_from n t c same = ap (λ (x : Network). need_of x.components.sizes c) same
 
 -- whether a component falls short
 pub short_fed : (t : Tables) (c rank need : ℕ) → is_energised_component t c ≡ true → rank ≡ component_rank t c → need ≡ need_of (case_sizes t) c → not (eqb rank need) ≡ is_short t c
@@ -47,11 +39,6 @@ verdict_done t e = rw (eq-eqb (case_rank t) (case_needed t) e) refl
 pub verdict_short : (t : Tables) → case_rank t ≢ case_needed t → Short ≡ report_status t
 unfolding report_status
 verdict_short t e = rw (ne_eqb (case_rank t) (case_needed t) e) refl
-
--- listed meters are meters
-pub length-case_meters : (t : Tables) → length (case_meters t) ≡ length t.meters
-unfolding case_meters
-length-case_meters t = length-map t.meters (meter_touch (case_buses t))
 
 pub few_meters : (t : Tables) → IsValid t → length t.meters ≤ 20000
 few_meters t v = let few = v.meters.few in omega (arith, few, length-map t.meters (λ row. row.name))

@@ -9,7 +9,7 @@ use Rattle.obs_case.specs.Tables.{Tables}
 use Rattle.obs_matroid.specs.Assignments.{Pair}
 use Rattle.obs_matroid.specs.Lists.{In}
 use Rattle.obs_matroid.proofs.Contained.{All-from_In}
-use Rattle.obs_matroid.proofs.Lists.{In-append_cases, In-filter_from}
+use Rattle.obs_matroid.proofs.Lists.{In-filter_from}
 use Rattle.obs_meter.specs.declared.Touch.{Touch}
 use Rattle.obs_meter.specs.Touches.{is_live, live_items}
 use Rattle.obs_meter.specs.Assignments.{rho_at}
@@ -28,17 +28,10 @@ use Rattle.obs_report.specs.Placements.{AreCountsOf, IsWithin, placement_text}
 use Rattle.obs_edit.specs.Planned.{case_placed_pairs, case_placement, prices_of}
 use Rattle.obs_engine.specs.declared.blocks.Block.TheVariants.{Placement}
 use Rattle.obs_engine.specs.Asks.{block_text}
+use Rattle.obs_claimed.proofs.Within.{inside_low}
 
 -- over these touches
 module _ (n : ℕ) (ends : List (Option Ends)) (touches : List Touch) (price : ℕ → ℕ) where
-  -- listed items are items
-  inside_low : (f : ℕ) (ts : List ℕ) (m : ℕ) → In m (inside_of n ends touches price f ts) → m < length touches
-  inside_low f [] m i = elim i [ ]
-  inside_low f (t ∷ ts) m i = elim (In-append_cases m (added_items n ends touches price f t) (inside_of n ends touches price t ts) i) [
-    | inl here ↦ let low = filtered_below _ 0 (length touches) m here in omega (arith, low)
-    | inr later ↦ inside_low t ts m later
-  ]
-
   -- the counts of the layers are those of what they list
   counts_of : (all f u : ℕ) (ts : List ℕ) → u + length (inside_of n ends touches price f ts) ≤ all → AreCountsOf all u (layers_of n ends touches price f u ts)
   counts_of all f u [] l = tt

@@ -20,6 +20,7 @@ use Rattle.obs_edit.specs.Answers.{case_rank}
 use Rattle.obs_edit.specs.Edits.{IsRepaired}
 use Rattle.obs_edit.specs.Sessions.{AreLongest, IsRankOf}
 use Rattle.obs_engine.specs.Trials.{AreInService, dip_meters, dips_of, edits_of, is_dip, is_first_of_island, island_count, trial_text}
+use Rattle.obs_claimed.proofs.Small.{filter_few}
 
 module _ (p : ℕ → Bool) where
   -- how many numbers from i on and below n pass
@@ -126,21 +127,11 @@ regained_case t at h = ap (λ (rows : List Meter). record t { meters = rows }) (
 pub rows_lost : (t : Tables) (at : ℕ) → length (with_meter_inservice t at false).meters ≡ length t.meters
 rows_lost t at = length-changed (λ (row : Meter). record row { inservice = false }) t.meters at
 
--- those of some pairs that pass are no more than the pairs
-passed_few : {X : Type 0} (p : X → Bool) (xs : List X) → length (filter p xs) ≤ length xs
-passed_few p [] = omega arith
-passed_few p (x ∷ xs) =
-    let rest = passed_few p xs in
-    elim (cases_Bool (p x)) [
-      | inl t ↦ rw t (omega (arith, rest))
-      | inr f ↦ rw f (omega (arith, rest))
-    ]
-
 -- so there are at most as many dips as edits
 pub dips_few : (t : Tables) → dips_of t ≤ edits_of t
 unfolding dip_meters
 dips_few t =
-    let few = passed_few (is_dip t) (range_with_len 0 (length t.meters)) in
+    let few = filter_few (is_dip t) (range_with_len 0 (length t.meters)) in
     omega (arith, few, length-range_with_len 0 (length t.meters))
 
 -- where the rank was lower, a meter that comes back takes a search
@@ -149,7 +140,7 @@ turn_searched u w kept after low rank searches longest is_low repaired below =
     let best = longest.longest in
     let few = is_low.none_longer best.longest best.assigns in
     let long = best.long in
-    let standing_few = passed_few (is_still (case_branches w) (case_meters w)) (pairs kept) in
+    let standing_few = filter_few (is_still (case_branches w) (case_meters w)) (pairs kept) in
     let least = repaired.least in
     omega (arith, few, long, standing_few, least, below)
 

@@ -1,6 +1,6 @@
 // What the meters of a path touch.
-use obs_meter::{Meters, Touch};
 use obs_graph::{Ends, Graph};
+use obs_meter::{Meters, Touch};
 use std::test::Fail;
 
 #[test]

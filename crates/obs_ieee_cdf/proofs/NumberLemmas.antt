@@ -1,28 +1,23 @@
 -- Numbers of buses and branches, and the names that they make.
 use Rattle.std.proofs.Common.{◌≡◌, ℕ, suc, ◌+◌, ◌^◌, ◌<◌, ◌≤◌, Bool, true, false, not, ◌&&◌, ◌||◌, cond, eqb, leb, ltb, List, [], ◌∷◌, ◌++◌, length, map, decimal, Option, Some, None, refl, sym, ap, ◌∙◌, subst, inl, inr, arith, rules}
 use Rattle.std.proofs.lemmas.Bool.{and_from, and_parts, cases_Bool, eqb-true, false≢true, le-leb, leb-true, ne_eqb, lt-ltb}
-use Rattle.std.proofs.lemmas.Bool.Decides.{Decides-eqb, Decides-like, nat_tests, same_from_decides}
 use Rattle.std.proofs.lemmas.List.{length-map, map-append}
 use Rattle.std.proofs.lemmas.Map.Steps.{length-le_from_distinct_below}
 use Rattle.std.proofs.lemmas.Map.Keys.{IsDistinct-push}
-use Rattle.std.proofs.lemmas.Fmt.{decimal_injective, decimal_nonempty, digits_decimal, length-decimal-le}
-use Rattle.std.proofs.lemmas.Str.Parse.{IsNumeralModel, digits_value_short, numerals_by_fold, tells_all_ascii_digits}
-use Rattle.std.specs.Char.{is_ascii_digit}
-use Rattle.std.specs.Cmp.Lexicographic.{bytes_decides}
+use Rattle.std.proofs.lemmas.Fmt.{decimal_nonempty, digits_decimal}
+use Rattle.std.proofs.lemmas.Str.Parse.{digits_value_short}
 use Rattle.std.specs.Cmp.{nat_eq_equiv}
 use Rattle.std.specs.List.{AllByRecursion, IsDistinct, list_all, list_any, position_or_len}
 use Rattle.std.specs.Str.{all_ascii_digits, bytes_eq}
 use Rattle.obs_text.specs.Names.{is_name, is_name_byte}
 use Rattle.obs_text.specs.Numbers.{is_whole, value_after, whole_of}
+use Rattle.obs_text.proofs.DecimalLemmas.{digits-name, length-decimal, numerals, same_name}
 use Rattle.obs_case.specs.Tables.{has_name, node_names, place_of}
 use Rattle.obs_case.specs.declared.rows.Branch.{Branch}
 use Rattle.obs_case.specs.declared.rows.Node.{Node}
 use Rattle.obs_ieee_cdf.specs.Reading.{AreBuses, AreNamed}
 use Rattle.obs_ieee_cdf.specs.Fields.{number_of}
 use Rattle.obs_ieee_cdf.specs.Rows.{Bus, branch_name, has_bus, node_of_bus, place_of_bus, tables_of_rows}
-
-numerals : IsNumeralModel (λ ds. all_ascii_digits ds ≡ true) (value_after 0)
-numerals = numerals_by_fold _ tells_all_ascii_digits value_after (search rules)
 
 -- what a gate lets through
 gate : {A : Type 0} (pass : Bool) (value : Option A) (x : A) → cond pass value None ≡ Some x → (pass ≡ true) × (value ≡ Some x)
@@ -40,23 +35,10 @@ number_of-lt field n is =
     let value : value_after 0 field ≡ n = cc in
     omega (arith, small, value)
 
--- a digit may stand in a name
-digit-name : (d : ℕ) → is_ascii_digit d ≡ true → is_name_byte d ≡ true
-digit-name d is = grind (arith, nat_tests)
-
-digits-name : (ds : List ℕ) → all_ascii_digits ds ≡ true → list_all is_name_byte ds ≡ true
-digits-name [] all = refl
-digits-name (d ∷ ds) all =
-    let parts = and_parts (is_ascii_digit d) (all_ascii_digits ds) all in
-    and_from (is_name_byte d) (list_all is_name_byte ds) (digit-name d parts.0) (digits-name ds parts.1)
-
 short_name : (bytes : List ℕ) → 0 < length bytes → length bytes ≤ 64 → list_all is_name_byte bytes ≡ true → is_name bytes ≡ true
 short_name bytes some few all =
     and_from (ltb 0 (length bytes) && leb (length bytes) 64) (list_all is_name_byte bytes)
     (and_from (ltb 0 (length bytes)) (leb (length bytes) 64) (lt-ltb 0 (length bytes) some) (le-leb (length bytes) 64 few)) all
-
-pub length-decimal : (n : ℕ) → n < 2 ^ 64 → length (decimal n) ≤ 20
-length-decimal n small = length-decimal-le 20 n (omega arith) (omega arith) small
 
 pub is_name-decimal : (n : ℕ) → n < 2 ^ 64 → is_name (decimal n) ≡ true
 is_name-decimal n small =
@@ -67,13 +49,6 @@ pub is_name-branch : (n : ℕ) → n < 2 ^ 64 → is_name (branch_name n) ≡ tr
 is_name-branch n small =
     let few = length-decimal n small in
     short_name (branch_name n) (omega arith) (omega (arith, few)) (digits-name (decimal n) (digits_decimal numerals n small))
-
--- two numbers have one name exactly where they are one
-pub same_name : (m n : ℕ) → m < 2 ^ 64 → n < 2 ^ 64 → bytes_eq (decimal n) (decimal m) ≡ eqb m n
-same_name m n small below =
-    same_from_decides {P = m ≡ n} (bytes_eq (decimal n) (decimal m)) (eqb m n)
-    (Decides-like {P = decimal n ≡ decimal m} {Q = m ≡ n} (bytes_eq (decimal n) (decimal m)) (λ e. sym (decimal_injective n m below small e)) (λ e. ap decimal (sym e)) (bytes_decides (decimal n) (decimal m)))
-    (Decides-eqb m n)
 
 -- tests that agree on each element of a list give one answer
 module _ {A B : Type 0} (p : A → Bool) (q : B → Bool) (f : B → A) where

@@ -15,7 +15,8 @@ use Rattle.obs_ieee_cdf.specs.Case.{AreBranchLines, AreBusLines, AreLines, IsEnd
 use Rattle.obs_ieee_cdf.specs.Fields.{bus_field, tap_field, z_field}
 use Rattle.obs_ieee_cdf.specs.Reading.{AreBuses, AreNamed}
 use Rattle.obs_ieee_cdf.specs.Rows.{Bus, branch_name, branch_rows, bus_rows, has_bus, node_of_bus, tables_of_rows}
-use Rattle.obs_ieee_cdf.proofs.NumberLemmas.{has_name-bus, is_name-branch, is_name-decimal, length-buses, number_of-lt, same_name}
+use Rattle.obs_text.proofs.DecimalLemmas.{same_name}
+use Rattle.obs_ieee_cdf.proofs.NumberLemmas.{has_name-bus, is_name-branch, is_name-decimal, length-buses, number_of-lt}
 
 -- ---- nodes
 

@@ -35,7 +35,7 @@ from_all p [] t x i = absurd i
 from_all p (y ∷ ys) t x (inl e) = let u = and_parts (p y) (list_all p ys) t in rw e u.0
 from_all p (y ∷ ys) t x (inr i) = let u = and_parts (p y) (list_all p ys) t in from_all p ys u.1 x i
 
-some_in : (x : ℕ) (xs : List ℕ) → In x xs → 0 < length xs
+pub some_in : (x : ℕ) (xs : List ℕ) → In x xs → 0 < length xs
 some_in x [] i = absurd i
 some_in x (y ∷ ys) i = omega arith
 

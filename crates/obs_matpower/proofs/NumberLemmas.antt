@@ -3,23 +3,21 @@ use Rattle.std.proofs.Common.{◌≡◌, ℕ, ◌-◌, ◌^◌, ◌<◌, Bool, t
 use Rattle.std.proofs.lemmas.Bool.{and_parts, leb-true}
 use Rattle.std.proofs.lemmas.List.{map-append}
 use Rattle.std.proofs.lemmas.Map.Keys.{IsDistinct-push}
-use Rattle.std.proofs.lemmas.Str.Parse.{IsNumeralModel, digits_value_short, numerals_by_fold, tells_all_ascii_digits}
+use Rattle.std.proofs.lemmas.Str.Parse.{digits_value_short}
 use Rattle.std.specs.Cmp.{nat_eq_equiv}
 use Rattle.std.specs.List.{AllByRecursion, IsDistinct, after_first, before_first, list_all, list_any, position_or_len, slice_get}
 use Rattle.std.specs.Option.{option_and_then}
 use Rattle.std.specs.Str.{all_ascii_digits, bytes_eq}
 use Rattle.obs_text.specs.Numbers.{is_whole, value_after, whole_of}
+use Rattle.obs_text.proofs.DecimalLemmas.{numerals, same_name}
 use Rattle.obs_case.specs.Tables.{has_name, node_names, place_of}
 use Rattle.obs_case.specs.declared.rows.Branch.{Branch}
 use Rattle.obs_case.specs.declared.rows.Node.{Node}
 use Rattle.obs_ieee_cdf.specs.Rows.{Bus, has_bus, node_of_bus, place_of_bus, tables_of_rows}
-use Rattle.obs_ieee_cdf.proofs.NumberLemmas.{all_push, list_any-same, position_or_len-same, same_name, symmetric}
+use Rattle.obs_ieee_cdf.proofs.NumberLemmas.{all_push, list_any-same, position_or_len-same, symmetric}
 use Rattle.obs_matpower.specs.Fields.{is_point, is_zero, number_in, number_of}
 use Rattle.obs_matpower.specs.Reading.{AreBuses}
 use Rattle.obs_matpower.specs.Rows.{values_of}
-
-numerals : IsNumeralModel (λ ds. all_ascii_digits ds ≡ true) (value_after 0)
-numerals = numerals_by_fold _ tells_all_ascii_digits value_after (search rules)
 
 -- what a gate lets through
 gate : {A : Type 0} (pass : Bool) (value : Option A) (x : A) → cond pass value None ≡ Some x → (pass ≡ true) × (value ≡ Some x)

@@ -1,8 +1,8 @@
 -- The lists of live meters, and the components of branches and items.
-use Rattle.std.proofs.Common.{◌≡◌, ◌↔◌, ℕ, zero, suc, ◌+◌, ◌<◌, ◌≤◌, inl, inr, Bool, true, false, ◌&&◌, Option, Some, None, List, [], ◌∷◌, length, filter, map, get_or, refl, sym, ap, ◌∙◌, subst, arith}
+use Rattle.std.proofs.Common.{◌≡◌, ◌↔◌, ℕ, zero, suc, ◌+◌, ◌<◌, inl, inr, Bool, true, false, ◌&&◌, Option, Some, None, List, [], ◌∷◌, length, filter, map, get_or, refl, sym, ap, ◌∙◌, subst, arith}
 use Rattle.std.specs.Prelude.{All, IsSome, nat_lt, slice_index, slice_index_or, ◌==◌, if◌then◌else◌}
 use Rattle.std.specs.List.{range_with_len}
-use Rattle.std.proofs.lemmas.Bool.{cases_Bool, cases_eq, cases_lt, eq-eqb, eqb-true, ne_eqb}
+use Rattle.std.proofs.lemmas.Bool.{cases_Bool, cases_lt, eq-eqb, eqb-true, ne_eqb}
 use Rattle.std.proofs.lemmas.List.{get_or-map, get_or_append_left, get_or_past, length-map}
 use Rattle.obs_graph.specs.declared.Ends.{Ends}
 use Rattle.obs_graph.specs.Positions.{positions_from}
@@ -26,6 +26,7 @@ use Rattle.obs_network.specs.Touching.{candidate_touch, meter_touch, meter_touch
 use Rattle.obs_network.specs.Kept.{list_of, lists_of}
 use Rattle.obs_network.proofs.InComponents.{branch_component-below, live_ends-same, present_fed, present_is, touched_component}
 use Rattle.obs_network.proofs.Marked.{filtered_below}
+use Rattle.obs_network.proofs.Sums.{range_in}
 
 -- the positions of a key are the numbers that pass two tests, where just these have the key
 passing : (p q : ℕ → Bool) (key : ℕ) (keys : List ℕ) (i : ℕ) → ((k : ℕ) → k < length keys → (get_or keys k 0 == key) ≡ (q (i + k) && p (i + k)))
@@ -82,7 +83,7 @@ range_rising a (suc n) = (λ y i. above (a + 1) n y i (omega arith), range_risin
     above b (suc n) y (inl e) l = omega (arith, e, l)
     above b (suc n) y (inr i) l = above (b + 1) n y i (omega (arith, l))
 
-rising_filter : (p : ℕ → Bool) (xs : List ℕ) → IsRising xs → IsRising (filter p xs)
+pub rising_filter : (p : ℕ → Bool) (xs : List ℕ) → IsRising xs → IsRising (filter p xs)
 rising_filter p [] r = tt
 rising_filter p (x ∷ xs) r =
     elim (cases_Bool (p x)) [
@@ -107,10 +108,6 @@ some_branch (e ∷ L) t = (e, inl refl)
 
 live_of : (t : Tables) (m : ℕ) → In m (case_live_meters t) → is_live (case_branches t) (case_meters t) m ≡ true
 live_of t m i = (In-filter_from (is_live (case_branches t) (case_meters t)) m (every_item (case_meters t)) i).1
-
-range_in : (a n x : ℕ) → a ≤ x → x < a + n → In x (range_with_len a n)
-range_in a zero x low high = absurd (omega (arith, low, high))
-range_in a (suc n) x low high = elim (cases_eq x a) [ inl e ↦ inl e | inr ne ↦ inr (range_in (a + 1) n x (omega (arith, low, ne)) (omega (arith, high))) ]
 
 live_in : (t : Tables) (m : ℕ) → is_live (case_branches t) (case_meters t) m ≡ true → In m (case_live_meters t)
 live_in t m live =

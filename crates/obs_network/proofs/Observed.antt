@@ -46,7 +46,8 @@ count_by-map : (f : ℕ → ℕ) (c : ℕ) (xs : List ℕ) → length (filter (�
 count_by-map f c [] = refl
 count_by-map f c (x ∷ xs) = elim (cases_Bool (f x == c)) [ inl e ↦ rw e (ap suc (count_by-map f c xs)) | inr e ↦ rw e (count_by-map f c xs) ]
 
-size_is : (t : Tables) (c : ℕ) → c < case_component_count t → slice_index (case_sizes t) c ≡ length (buses_of_component t c)
+-- they are as many as its size
+pub size_is : (t : Tables) (c : ℕ) → c < case_component_count t → slice_index (case_sizes t) c ≡ length (buses_of_component t c)
 unfolding case_sizes case_components
 size_is t c l =
     let f : ℕ → ℕ = component_of (present (case_live t)) in

@@ -1,7 +1,7 @@
 // Bounds over a path of three branches.
-use obs_rankcut::{CutWork, bound, measure};
 use obs_graph::{Ends, Graph};
 use obs_meter::{Meters, Touch};
+use obs_rankcut::{CutWork, bound, measure};
 use std::test::Fail;
 
 const PATH: [Option<Ends>; 3] = [

@@ -13,15 +13,15 @@ use Rattle.obs_meter.specs.Spanned.{rank_at}
 use Rattle.obs_rankcut.specs.Flags.{marked}
 use Rattle.obs_rankcut.specs.Marks.{MarksJust}
 
-cons_there : (o : Option Ends) (es : List Ends) (e : Ends) → Contains es e → Contains (cons_option o es) e
+pub cons_there : (o : Option Ends) (es : List Ends) (e : Ends) → Contains es e → Contains (cons_option o es) e
 cons_there None es e h = h
 cons_there (Some d) es e h = Contains-there d e es h
 
-cons_here : (o : Option Ends) (es : List Ends) (e : Ends) → o ≡ Some e → Contains (cons_option o es) e
+pub cons_here : (o : Option Ends) (es : List Ends) (e : Ends) → o ≡ Some e → Contains (cons_option o es) e
 cons_here None es e is = absurd (cc is)
 cons_here (Some d) es e is = let same : e ≡ d = cc is in rw same (Contains-here d es)
 
-cons_cases : (o : Option Ends) (es : List Ends) (e : Ends) → Contains (cons_option o es) e → (o ≡ Some e) ⊎ Contains es e
+pub cons_cases : (o : Option Ends) (es : List Ends) (e : Ends) → Contains (cons_option o es) e → (o ≡ Some e) ⊎ Contains es e
 cons_cases None es e h = inr h
 cons_cases (Some d) es e h = elim (Contains-cases d e es h) [ inl y ↦ inl (ap Some y) | inr k ↦ inr k ]
 

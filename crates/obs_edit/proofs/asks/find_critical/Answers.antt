@@ -4,7 +4,7 @@ use Rattle.obs_meter.specs.Held.{Meters}
 use Rattle.obs_network.specs.Network.{Network}
 use Rattle.obs_edit.specs.Sessions.{AreLongest, AreMarks}
 use Rattle.obs_edit.proofs.Answered.{critical_of_network, marks_of_network}
-use Rattle.obs_edit.proofs.OfNetwork.{length-case_meters}
+use Rattle.obs_network.proofs.OfCase.{length-case_meters}
 use Rattle.obs_edit.proofs.asks.find_critical.Goals as goal
 
 pub copy_from_slice-requires : goal.copy_from_slice-requires

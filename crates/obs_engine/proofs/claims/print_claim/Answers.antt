@@ -3,7 +3,8 @@ use Rattle.obs_case.specs.Tables.{IsValid, Tables}
 use Rattle.obs_network.specs.Observable.{is_energised_component}
 use Rattle.obs_engine.specs.Asks.{bound_claim, text_if, tree_claim}
 use Rattle.obs_engine.proofs.Asked.{appends_as, appends_nothing, claim_dead, claim_observable, claim_short}
-use Rattle.obs_engine.proofs.OfNetwork.{count_of, fed_of}
+use Rattle.obs_network.proofs.OfCase.{count_of}
+use Rattle.obs_engine.proofs.OfNetwork.{fed_of}
 use Rattle.obs_engine.proofs.claims.print_claim.Goals as goal
 
 pub energised-requires : goal.energised-requires

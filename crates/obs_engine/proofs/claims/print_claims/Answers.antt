@@ -6,7 +6,7 @@ use Rattle.obs_network.specs.Network.{case_component_count}
 use Rattle.obs_report.proofs.Printing.{failed_call, then_call}
 use Rattle.obs_engine.specs.Asks.{component_claim}
 use Rattle.obs_engine.proofs.Asked.{appends_as, claims_are, texts_around, texts_below, texts_more}
-use Rattle.obs_engine.proofs.OfNetwork.{count_of}
+use Rattle.obs_network.proofs.OfCase.{count_of}
 use Rattle.obs_engine.proofs.claims.print_claims.Goals as goal
 
 pub print_claim-requires : goal.print_claim-requires

@@ -4,7 +4,8 @@ use Rattle.obs_network.specs.Network.{case_component_count}
 use Rattle.obs_report.specs.Meters.{bound_text}
 use Rattle.obs_engine.specs.Asks.{bound_claim}
 use Rattle.obs_engine.proofs.Asked.{appends_as, bound_is}
-use Rattle.obs_engine.proofs.OfNetwork.{bound_below, count_of}
+use Rattle.obs_network.proofs.OfCase.{count_of}
+use Rattle.obs_engine.proofs.OfNetwork.{bound_below}
 use Rattle.obs_engine.proofs.claims.print_component_bound.Goals as goal
 
 pub print_bound-requires-clause-component : goal.print_bound-requires-clause-component

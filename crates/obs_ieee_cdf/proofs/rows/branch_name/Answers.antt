@@ -1,7 +1,7 @@
 use Rattle.std.proofs.Common.{◌≡◌, ℕ, ◌+◌, ◌-◌, ◌<◌, List, [], ◌∷◌, ◌++◌, length, take, set, refl, ap, ◌∙◌, arith}
 use Rattle.std.proofs.Math.ListN.{length-set}
 use Rattle.std.proofs.lemmas.Slice.{take-put_mid}
-use Rattle.obs_ieee_cdf.proofs.NumberLemmas.{length-decimal}
+use Rattle.obs_text.proofs.DecimalLemmas.{length-decimal}
 use Rattle.obs_ieee_cdf.proofs.rows.branch_name.Goals as goal
 
 -- a list whose first item is set begins with it
