@@ -6,8 +6,6 @@ mod limits;
 mod name;
 mod rows;
 mod table;
-#[cfg(test)]
-mod tests;
 
 pub use case::Case;
 pub use limits::{MOST_PRICE, MOST_ROWS};

@@ -29,8 +29,3 @@ pub use checker::Checker;
 pub use fault::{CertCode, CertEnd, CertFault};
 pub use flaw::{Flaw, FlawCode};
 pub use memory::NoMemory;
-
-#[cfg(test)]
-mod tests;
-#[cfg(test)]
-mod verdicts;

@@ -8,6 +8,8 @@ mod cases;
 #[cfg(test)]
 mod cdf_tests;
 #[cfg(test)]
+mod cert_tests;
+#[cfg(test)]
 mod certificate_tests;
 mod claims;
 mod command;
@@ -16,6 +18,8 @@ mod edit_tests;
 #[cfg(test)]
 mod failure_tests;
 mod files;
+#[cfg(test)]
+mod full_tests;
 #[cfg(test)]
 mod grids;
 mod input;
@@ -42,6 +46,8 @@ mod topology;
 mod trial;
 #[cfg(test)]
 mod trial_tests;
+#[cfg(test)]
+mod verdicts;
 mod verify;
 #[cfg(test)]
 mod verify_tests;

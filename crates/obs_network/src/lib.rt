@@ -1,13 +1,7 @@
 //! The network of a case.
 #![tactic(auto)]
 
-#[cfg(test)]
-mod buses_tests;
 mod components;
-#[cfg(test)]
-mod flag_tests;
-#[cfg(test)]
-mod full_tests;
 pub mod laws;
 mod live;
 mod live_meters;
@@ -17,8 +11,6 @@ mod memory;
 mod network;
 mod rebuild;
 mod switched;
-#[cfg(test)]
-mod tests;
 mod touching;
 
 pub use memory::NoMemory;

@@ -2,8 +2,6 @@
 //! the bound which shows that all candidates together fall short.
 #![tactic(auto)]
 
-#[cfg(test)]
-mod bound_tests;
 mod choosing;
 mod holding;
 pub mod laws;
@@ -14,8 +12,6 @@ mod order;
 mod placing;
 mod plans;
 mod taking;
-#[cfg(test)]
-mod tests;
 mod work;
 
 pub use memory::NoMemory;

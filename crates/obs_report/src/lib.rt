@@ -10,8 +10,6 @@ mod meters;
 mod names;
 mod nodes;
 mod placements;
-#[cfg(test)]
-mod tests;
 mod totals;
 mod trees;
 mod words;

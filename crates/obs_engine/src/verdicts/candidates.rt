@@ -1,7 +1,7 @@
 // Claims on candidates, and what the checker says of them.
-use crate::FlawCode;
 use crate::verdicts::{Verdict, case_of, flaw, path, verdict_on};
 use obs_case::Case;
+use obs_cert::FlawCode;
 use std::alloc::Global;
 
 #[test]

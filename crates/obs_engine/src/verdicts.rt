@@ -5,8 +5,8 @@ ghost use Rattle.obs_text.specs.Names.{is_name};
 mod candidates;
 mod components;
 
-use crate::{CertCode, CertEnd, CertFault, Checker, FlawCode, read_cert};
 use obs_case::{Case, Kind};
+use obs_cert::{CertCode, CertEnd, CertFault, Checker, FlawCode, read_cert};
 use obs_text::name_of;
 use std::alloc::Global;
 use std::process::Abort;

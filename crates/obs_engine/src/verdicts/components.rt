@@ -1,6 +1,6 @@
 // Claims on components, and what the checker says of them.
 use crate::verdicts::{Verdict, case_of, flaw, path, ring, unread, verdict_on};
-use crate::{CertCode, FlawCode};
+use obs_cert::{CertCode, FlawCode};
 
 #[test]
 fn trees(rt: HostRuntime) {

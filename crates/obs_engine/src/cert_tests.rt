@@ -1,7 +1,7 @@
+// Certificates: which bytes are one, and the first fault of those that are none.
 ghost use Rattle.std.specs.Prelude.{◌≤◌, length};
 
-use crate::line::{Item, Line, read_line};
-use crate::{CertCode, CertEnd, CertFault, read_cert};
+use obs_cert::{CertCode, CertEnd, CertFault, read_cert};
 use obs_text::InputFault;
 use std::alloc::Global;
 use std::test::Fail;
@@ -138,34 +138,6 @@ fn ends(rt: HostRuntime) {
         (b"x\nend\nend\n".as_slice(), 1, CertCode::BadLine),
     ] {
         assert!(rt; count(rt.alloc(), bytes) == refused(line, code));
-    }
-}
-
-#[test]
-fn lines_of_each_kind(rt: HostRuntime) {
-    let f1 = b"f1".as_slice();
-    let branch = b"L 1".as_slice();
-    for (bytes, line) in [
-        (b"tree\tf1".as_slice(), Line::Tree(f1)),
-        (b"bound\tf1\t2\t3".as_slice(), Line::Bound(f1, 2, 3)),
-        (
-            b"cost\t9999999999999999999".as_slice(),
-            Line::Cost(9_999_999_999_999_999_999),
-        ),
-        (b"shortfall\t2\t3".as_slice(), Line::Shortfall(2, 3)),
-        (
-            b"pair\tcandidate\tf1\tL 1".as_slice(),
-            Line::Pair(Item::Candidate(f1), branch),
-        ),
-        (b"chosen\tf1".as_slice(), Line::Chosen(f1)),
-        (b"layer\t1\t2\t3\t4".as_slice(), Line::Layer(1, 2, 3, 4)),
-        (
-            b"inside\tmeter\tf1".as_slice(),
-            Line::Inside(Item::Meter(f1)),
-        ),
-        (b"end".as_slice(), Line::End),
-    ] {
-        assert!(rt; read_line(bytes) == Some(line));
     }
 }
 

@@ -1,6 +1,6 @@
 // The network of a case whose five tables are full.
-use crate::{Network, NoMemory, buses_of_case};
 use obs_case::{Case, Kind};
+use obs_network::{Network, NoMemory, buses_of_case};
 use obs_text::{Digits, name_of};
 use std::alloc::Global;
 use std::process::Abort;
