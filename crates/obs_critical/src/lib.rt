@@ -3,8 +3,6 @@
 
 mod critical_meters;
 mod memory;
-#[cfg(test)]
-mod tests;
 
 pub use critical_meters::{CriticalWork, critical, find_critical};
 pub use memory::NoMemory;

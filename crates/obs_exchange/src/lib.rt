@@ -22,28 +22,16 @@ pub struct Lengthened {
     pub closed: bool,
 }
 
-#[cfg(test)]
-mod assignment_tests;
 mod begin;
 mod blanks;
 mod exchange;
 mod find;
-#[cfg(test)]
-mod forest_tests;
 mod free;
-#[cfg(test)]
-mod graph_tests;
 pub mod laws;
 mod memory;
-#[cfg(test)]
-mod mesh_tests;
-#[cfg(test)]
-mod meter_tests;
 mod pass;
 mod queue;
 mod repeated;
-#[cfg(test)]
-mod tests;
 mod tops;
 mod visit;
 mod walk;

@@ -4,7 +4,5 @@
 mod decide;
 pub mod laws;
 mod least;
-#[cfg(test)]
-mod tests;
 
 pub use least::first;

@@ -6,8 +6,6 @@ pub mod laws;
 mod memory;
 mod pieces;
 mod settle;
-#[cfg(test)]
-mod tests;
 mod work;
 
 pub use memory::NoMemory;
