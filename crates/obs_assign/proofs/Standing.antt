@@ -1,7 +1,5 @@
 -- An assignment that stands over a graph and meters, and its laws.
-use Rattle.std.proofs.Common.{◌≡◌, ℕ, zero, suc, ◌+◌, ◌<◌, ◌≤◌, Bool, Option, List, length, inl, inr, arith}
-use Rattle.std.specs.List.{range_with_len}
-use Rattle.std.proofs.lemmas.Bool.{cases_eq}
+use Rattle.std.proofs.Common.{◌≡◌, ℕ, ◌<◌, ◌≤◌, Bool, Option, List, length, arith}
 use Rattle.obs_graph.specs.declared.Ends.{Ends}
 use Rattle.obs_graph.specs.Positions.{AreBranches, IsForestAt}
 use Rattle.obs_graph.specs.Graph.{Graph}
@@ -13,6 +11,7 @@ use Rattle.obs_matroid.proofs.Pairs.{In-branches_from, branches_within}
 use Rattle.obs_matroid.proofs.Ranks.{rank-independent, rank-within}
 use Rattle.obs_matroid.proofs.Bounds.{length-branches, weak_bound}
 use Rattle.obs_matroid.proofs.Slots.{slot_from, IsDistinct-slots}
+use Rattle.obs_matroid.proofs.Ranges.{below_in}
 use Rattle.obs_meter.specs.declared.Touch.{Touch}
 use Rattle.obs_meter.specs.Touches.{every_item, touch_at}
 use Rattle.obs_meter.specs.Assignments.{IsAssignmentAt, bound_at}
@@ -24,12 +23,8 @@ use Rattle.obs_assign.specs.Assignment.{Assignment, IsWhole, StandsOver, pairs}
 use Rattle.obs_assign.specs.Still.{AreRetained, is_still, still}
 use Rattle.obs_assign.proofs.Slotted.{IsForestAt-over, slot_low}
 
-In-range : (n a x : ℕ) → a ≤ x → x < a + n → In x (range_with_len a n)
-In-range zero a x l h = absurd (omega arith)
-In-range (suc n) a x l h = elim (cases_eq x a) [ inl y ↦ inl y | inr k ↦ inr (In-range n (a + 1) x (omega arith) (omega arith)) ]
-
 pub In-every : (touches : List Touch) (m : ℕ) → m < length touches → In m (every_item touches)
-In-every touches m l = In-range (length touches) 0 m (omega arith) (omega arith)
+In-every touches m l = below_in (length touches) m l
 
 -- an assignment that stands is one of the meters
 pub IsAssignmentAt-standing : (a : Assignment) (g : Graph) (touches : List Touch) → IsWhole a → StandsOver a g touches → IsAssignmentAt g.ends touches (every_item touches) (pairs a)

@@ -219,68 +219,123 @@ module _ (nodes switches branches meters : List ℕ) where
   candidates_among None t u xs f are = are
   candidates_among (Some bytes) t u xs f are = are-map (IsCandidate t) (IsCandidate u) Candidates bytes xs f are
 
-  -- what is read is a case
-  pub case-read : (candidates : Option (List ℕ)) (t : Tables) → tables_in nodes switches branches meters candidates ≡ Ok t → IsCase nodes switches branches meters candidates t
-  case-read candidates t e =
-      let r1 = then_read Nodes nodes (Ok no_rows) in
-      let r2 = then_read Switches switches r1 in
-      let r3 = then_read Branches branches r2 in
-      let r4 = then_read Meters meters r3 in
-      let b5 = ok_before_given candidates r4 t e in
-      let b4 = ok_before Meters meters r3 b5.0 b5.1 in
-      let b3 = ok_before Branches branches r2 b4.0 b4.1 in
-      let b2 = ok_before Switches switches r1 b3.0 b3.1 in
-      let n = then-forward Nodes (λ (r : Node). r.name) (λ v. v.nodes) put_nodes IsNode node_made nodes_table no_rows nodes refl b2.0 b2.1 in
-      let s =
-      then-forward Switches (λ (r : Switch). r.name) (λ v. v.switches) put_switches IsSwitch switch_made switches_table (with_one n.0) switches refl b3.0
-      (subst (λ v. then_read Switches switches (Ok v) ≡ Ok b3.0) n.1 b2.2) in
-      let b =
-      then-forward Branches (λ (r : Branch). r.name) (λ v. v.branches) put_branches IsBranch branch_made branches_table (with_two n.0 s.0) branches refl b4.0
-      (subst (λ v. then_read Branches branches (Ok v) ≡ Ok b4.0) s.1 b3.2) in
-      let m =
-      then-forward Meters (λ (r : Meter). r.name) (λ v. v.meters) put_meters IsMeter meter_made meters_table (with_three n.0 s.0 b.0) meters refl b5.0
-      (subst (λ v. then_read Meters meters (Ok v) ≡ Ok b5.0) b.1 b4.2) in
-      let c = candidates_forward candidates (with_four n.0 s.0 b.0 m.0) t refl (subst (λ v. then_read_given Candidates candidates (Ok v) ≡ Ok t) m.1 b5.2) in
-      subst (IsCase nodes switches branches meters candidates) (sym c.1) (whole n.0 s.0 b.0 m.0 c.0 candidates n.2 n.3 s.2 s.3 b.2 b.3 m.2 m.3 c.2 c.3)
-    where
-      whole : (ns : List Node) (ss : List Switch) (bs : List Branch) (ms : List Meter) (cs : List Candidate) (candidates : Option (List ℕ))
+  -- rows of five tables, each read with those before it, are a case
+  whole : (ns : List Node) (ss : List Switch) (bs : List Branch) (ms : List Meter) (cs : List Candidate) (candidates : Option (List ℕ))
+      → AreRows (IsNode no_rows) Nodes nodes ns → IsNamed (map (λ (r : Node). r.name) ns)
+      → AreRows (IsSwitch (with_one ns)) Switches switches ss → IsNamed (map (λ (r : Switch). r.name) ss)
+      → AreRows (IsBranch (with_two ns ss)) Branches branches bs → IsNamed (map (λ (r : Branch). r.name) bs)
+      → AreRows (IsMeter (with_three ns ss bs)) Meters meters ms → IsNamed (map (λ (r : Meter). r.name) ms)
+      → AreRowsGiven (IsCandidate (with_four ns ss bs ms)) Candidates candidates cs → IsNamed (map (λ (r : Candidate). r.name) cs)
+      → IsCase nodes switches branches meters candidates (put_candidates (with_four ns ss bs ms) cs)
+  whole ns ss bs ms cs candidates n nn s sn b bn m mn c cn =
+      let t = put_candidates (with_four ns ss bs ms) cs in
+      let prices = candidates_prices candidates (with_four ns ss bs ms) cs c in
+      record {
+        valid =
+            record {
+              nodes = nn;
+              switches = sn;
+              branches = bn;
+              meters = mn;
+              candidates = cn;
+              switch_ends =
+                  each-all (IsSwitch (with_one ns) s.header) (λ r. (r.from < length ns) × (r.to < length ns))
+                  (λ row r i. (within_rows (λ (r : Node). r.name) ns (field_under s.header row (codes "from")) r.from i.from, within_rows (λ (r : Node). r.name) ns (field_under s.header row (codes "to")) r.to i.to))
+                  s.records ss s.each;
+              branch_ends =
+                  each-all (IsBranch (with_two ns ss) b.header) (λ r. (r.from < length ns) × (r.to < length ns))
+                  (λ row r i. (within_rows (λ (r : Node). r.name) ns (field_under b.header row (codes "from")) r.from i.from, within_rows (λ (r : Node). r.name) ns (field_under b.header row (codes "to")) r.to i.to))
+                  b.records bs b.each;
+              meter_places =
+                  each-all (IsMeter (with_three ns ss bs) m.header) (λ r. r.at < places t r.kind) (λ row r i. within_places (with_three ns ss bs) r.kind (field_under m.header row (codes "at")) r.at i.at)
+                  m.records ms m.each;
+              candidate_places = prices.0;
+              prices = prices.1;
+            };
+        nodes_are = are-map (IsNode no_rows) (IsNode t) Nodes nodes ns (λ header row x i. record { name = i.name; source = i.source }) n;
+        switches_are = are-map (IsSwitch (with_one ns)) (IsSwitch t) Switches switches ss (λ header row x i. record { name = i.name; from = i.from; to = i.to; closed = i.closed }) s;
+        branches_are = are-map (IsBranch (with_two ns ss)) (IsBranch t) Branches branches bs (λ header row x i. record { name = i.name; from = i.from; to = i.to; inservice = i.inservice }) b;
+        meters_are = are-map (IsMeter (with_three ns ss bs)) (IsMeter t) Meters meters ms (λ header row x i. record { name = i.name; kind = i.kind; at = i.at; inservice = i.inservice }) m;
+        candidates_are = candidates_among candidates (with_four ns ss bs ms) t cs (λ header row x i. record { name = i.name; kind = i.kind; at = i.at; price = i.price }) c;
+      }
+
+  -- what is read is a case: what each table has, given what those before it have
+  module _ (candidates : Option (List ℕ)) (t : Tables) where
+    candidates_read : (ns : List Node) (ss : List Switch) (bs : List Branch) (ms : List Meter)
+        → AreRows (IsNode no_rows) Nodes nodes ns → IsNamed (map (λ (r : Node). r.name) ns)
+        → AreRows (IsSwitch (with_one ns)) Switches switches ss → IsNamed (map (λ (r : Switch). r.name) ss)
+        → AreRows (IsBranch (with_two ns ss)) Branches branches bs → IsNamed (map (λ (r : Branch). r.name) bs)
+        → AreRows (IsMeter (with_three ns ss bs)) Meters meters ms → IsNamed (map (λ (r : Meter). r.name) ms)
+        → then_read_given Candidates candidates (Ok (with_four ns ss bs ms)) ≡ Ok t → IsCase nodes switches branches meters candidates t
+    candidates_read ns ss bs ms n nn s sn b bn m mn e = last (candidates_forward candidates (with_four ns ss bs ms) t refl e)
+      where
+        last : (cs : List Candidate) × (t ≡ put_candidates (with_four ns ss bs ms) cs) × AreRowsGiven (IsCandidate (with_four ns ss bs ms)) Candidates candidates cs × IsNamed (map (λ (r : Candidate). r.name) cs)
+            → IsCase nodes switches branches meters candidates t
+        last (cs, is, c, cn) = subst (IsCase nodes switches branches meters candidates) (sym is) (whole ns ss bs ms cs candidates n nn s sn b bn m mn c cn)
+
+    module _ (u4 : Tables) (candidates_follow : then_read_given Candidates candidates (Ok u4) ≡ Ok t) where
+      meters_read : (ns : List Node) (ss : List Switch) (bs : List Branch)
           → AreRows (IsNode no_rows) Nodes nodes ns → IsNamed (map (λ (r : Node). r.name) ns)
           → AreRows (IsSwitch (with_one ns)) Switches switches ss → IsNamed (map (λ (r : Switch). r.name) ss)
           → AreRows (IsBranch (with_two ns ss)) Branches branches bs → IsNamed (map (λ (r : Branch). r.name) bs)
-          → AreRows (IsMeter (with_three ns ss bs)) Meters meters ms → IsNamed (map (λ (r : Meter). r.name) ms)
-          → AreRowsGiven (IsCandidate (with_four ns ss bs ms)) Candidates candidates cs → IsNamed (map (λ (r : Candidate). r.name) cs)
-          → IsCase nodes switches branches meters candidates (put_candidates (with_four ns ss bs ms) cs)
-      whole ns ss bs ms cs candidates n nn s sn b bn m mn c cn =
-          let t = put_candidates (with_four ns ss bs ms) cs in
-          let prices = candidates_prices candidates (with_four ns ss bs ms) cs c in
-          record {
-            valid =
-                record {
-                  nodes = nn;
-                  switches = sn;
-                  branches = bn;
-                  meters = mn;
-                  candidates = cn;
-                  switch_ends =
-                      each-all (IsSwitch (with_one ns) s.header) (λ r. (r.from < length ns) × (r.to < length ns))
-                      (λ row r i. (within_rows (λ (r : Node). r.name) ns (field_under s.header row (codes "from")) r.from i.from, within_rows (λ (r : Node). r.name) ns (field_under s.header row (codes "to")) r.to i.to))
-                      s.records ss s.each;
-                  branch_ends =
-                      each-all (IsBranch (with_two ns ss) b.header) (λ r. (r.from < length ns) × (r.to < length ns))
-                      (λ row r i. (within_rows (λ (r : Node). r.name) ns (field_under b.header row (codes "from")) r.from i.from, within_rows (λ (r : Node). r.name) ns (field_under b.header row (codes "to")) r.to i.to))
-                      b.records bs b.each;
-                  meter_places =
-                      each-all (IsMeter (with_three ns ss bs) m.header) (λ r. r.at < places t r.kind) (λ row r i. within_places (with_three ns ss bs) r.kind (field_under m.header row (codes "at")) r.at i.at)
-                      m.records ms m.each;
-                  candidate_places = prices.0;
-                  prices = prices.1;
-                };
-            nodes_are = are-map (IsNode no_rows) (IsNode t) Nodes nodes ns (λ header row x i. record { name = i.name; source = i.source }) n;
-            switches_are = are-map (IsSwitch (with_one ns)) (IsSwitch t) Switches switches ss (λ header row x i. record { name = i.name; from = i.from; to = i.to; closed = i.closed }) s;
-            branches_are = are-map (IsBranch (with_two ns ss)) (IsBranch t) Branches branches bs (λ header row x i. record { name = i.name; from = i.from; to = i.to; inservice = i.inservice }) b;
-            meters_are = are-map (IsMeter (with_three ns ss bs)) (IsMeter t) Meters meters ms (λ header row x i. record { name = i.name; kind = i.kind; at = i.at; inservice = i.inservice }) m;
-            candidates_are = candidates_among candidates (with_four ns ss bs ms) t cs (λ header row x i. record { name = i.name; kind = i.kind; at = i.at; price = i.price }) c;
-          }
+          → then_read Meters meters (Ok (with_three ns ss bs)) ≡ Ok u4 → IsCase nodes switches branches meters candidates t
+      meters_read ns ss bs n nn s sn b bn e =
+          last (then-forward Meters (λ (r : Meter). r.name) (λ v. v.meters) put_meters IsMeter meter_made meters_table (with_three ns ss bs) meters refl u4 e)
+        where
+          last : (ms : List Meter) × (u4 ≡ with_four ns ss bs ms) × AreRows (IsMeter (with_three ns ss bs)) Meters meters ms × IsNamed (map (λ (r : Meter). r.name) ms)
+              → IsCase nodes switches branches meters candidates t
+          last (ms, is, m, mn) = candidates_read ns ss bs ms n nn s sn b bn m mn (subst (λ v. then_read_given Candidates candidates (Ok v) ≡ Ok t) is candidates_follow)
+
+      module _ (u3 : Tables) (meters_follow : then_read Meters meters (Ok u3) ≡ Ok u4) where
+        branches_read : (ns : List Node) (ss : List Switch)
+            → AreRows (IsNode no_rows) Nodes nodes ns → IsNamed (map (λ (r : Node). r.name) ns)
+            → AreRows (IsSwitch (with_one ns)) Switches switches ss → IsNamed (map (λ (r : Switch). r.name) ss)
+            → then_read Branches branches (Ok (with_two ns ss)) ≡ Ok u3 → IsCase nodes switches branches meters candidates t
+        branches_read ns ss n nn s sn e =
+            last (then-forward Branches (λ (r : Branch). r.name) (λ v. v.branches) put_branches IsBranch branch_made branches_table (with_two ns ss) branches refl u3 e)
+          where
+            last : (bs : List Branch) × (u3 ≡ with_three ns ss bs) × AreRows (IsBranch (with_two ns ss)) Branches branches bs × IsNamed (map (λ (r : Branch). r.name) bs)
+                → IsCase nodes switches branches meters candidates t
+            last (bs, is, b, bn) = meters_read ns ss bs n nn s sn b bn (subst (λ v. then_read Meters meters (Ok v) ≡ Ok u4) is meters_follow)
+
+        module _ (u2 : Tables) (branches_follow : then_read Branches branches (Ok u2) ≡ Ok u3) where
+          switches_read : (ns : List Node)
+              → AreRows (IsNode no_rows) Nodes nodes ns → IsNamed (map (λ (r : Node). r.name) ns)
+              → then_read Switches switches (Ok (with_one ns)) ≡ Ok u2 → IsCase nodes switches branches meters candidates t
+          switches_read ns n nn e =
+              last (then-forward Switches (λ (r : Switch). r.name) (λ v. v.switches) put_switches IsSwitch switch_made switches_table (with_one ns) switches refl u2 e)
+            where
+              last : (ss : List Switch) × (u2 ≡ with_two ns ss) × AreRows (IsSwitch (with_one ns)) Switches switches ss × IsNamed (map (λ (r : Switch). r.name) ss)
+                  → IsCase nodes switches branches meters candidates t
+              last (ss, is, s, sn) = branches_read ns ss n nn s sn (subst (λ v. then_read Branches branches (Ok v) ≡ Ok u3) is branches_follow)
+
+          nodes_read : (u1 : Tables) → then_read Nodes nodes (Ok no_rows) ≡ Ok u1 → then_read Switches switches (Ok u1) ≡ Ok u2 → IsCase nodes switches branches meters candidates t
+          nodes_read u1 e switches_follow =
+              last (then-forward Nodes (λ (r : Node). r.name) (λ v. v.nodes) put_nodes IsNode node_made nodes_table no_rows nodes refl u1 e)
+            where
+              last : (ns : List Node) × (u1 ≡ with_one ns) × AreRows (IsNode no_rows) Nodes nodes ns × IsNamed (map (λ (r : Node). r.name) ns)
+                  → IsCase nodes switches branches meters candidates t
+              last (ns, is, n, nn) = switches_read ns n nn (subst (λ v. then_read Switches switches (Ok v) ≡ Ok u2) is switches_follow)
+
+    -- each table was read after those before it
+    pub case-read : tables_in nodes switches branches meters candidates ≡ Ok t → IsCase nodes switches branches meters candidates t
+    case-read e = behind_candidates (ok_before_given candidates (then_read Meters meters (then_read Branches branches (then_read Switches switches (then_read Nodes nodes (Ok no_rows))))) t e)
+      where
+        behind_switches : (u4 u3 u2 : Tables) → then_read_given Candidates candidates (Ok u4) ≡ Ok t → then_read Meters meters (Ok u3) ≡ Ok u4 → then_read Branches branches (Ok u2) ≡ Ok u3
+            → (u1 : Tables) × (then_read Nodes nodes (Ok no_rows) ≡ Ok u1) × (then_read Switches switches (Ok u1) ≡ Ok u2) → IsCase nodes switches branches meters candidates t
+        behind_switches u4 u3 u2 e4 e3 e2 (u1, e0, e1) = nodes_read u4 e4 u3 e3 u2 e2 u1 e0 e1
+
+        behind_branches : (u4 u3 : Tables) → then_read_given Candidates candidates (Ok u4) ≡ Ok t → then_read Meters meters (Ok u3) ≡ Ok u4
+            → (u2 : Tables) × (then_read Switches switches (then_read Nodes nodes (Ok no_rows)) ≡ Ok u2) × (then_read Branches branches (Ok u2) ≡ Ok u3) → IsCase nodes switches branches meters candidates t
+        behind_branches u4 u3 e4 e3 (u2, before, e2) = behind_switches u4 u3 u2 e4 e3 e2 (ok_before Switches switches (then_read Nodes nodes (Ok no_rows)) u2 before)
+
+        behind_meters : (u4 : Tables) → then_read_given Candidates candidates (Ok u4) ≡ Ok t
+            → (u3 : Tables) × (then_read Branches branches (then_read Switches switches (then_read Nodes nodes (Ok no_rows))) ≡ Ok u3) × (then_read Meters meters (Ok u3) ≡ Ok u4) → IsCase nodes switches branches meters candidates t
+        behind_meters u4 e4 (u3, before, e3) = behind_branches u4 u3 e4 e3 (ok_before Branches branches (then_read Switches switches (then_read Nodes nodes (Ok no_rows))) u3 before)
+
+        behind_candidates : (u4 : Tables) × (then_read Meters meters (then_read Branches branches (then_read Switches switches (then_read Nodes nodes (Ok no_rows)))) ≡ Ok u4) × (then_read_given Candidates candidates (Ok u4) ≡ Ok t)
+            → IsCase nodes switches branches meters candidates t
+        behind_candidates (u4, before, e4) = behind_meters u4 e4 (ok_before Meters meters (then_read Branches branches (then_read Switches switches (then_read Nodes nodes (Ok no_rows)))) u4 before)
 
   -- a case is read
   pub read-case : (candidates : Option (List ℕ)) (t : Tables) → IsCase nodes switches branches meters candidates t → tables_in nodes switches branches meters candidates ≡ Ok t

@@ -1,7 +1,7 @@
 // Tables from their bytes.
 ghost use Rattle.std.specs.Prelude.{◌≡◌, ◌≤◌, ◌+◌, [], None, Ok, IfErr, IfOk, OnErr, OnOk, option_map};
 ghost use Rattle.csv.specs.Records.{fields_of};
-ghost use Rattle.obs_case.specs.Tables.{most_rows};
+ghost use Rattle.obs_case.specs.Tables.{most_rows, no_rows};
 ghost use Rattle.obs_case_csv.specs.Columns.{ArePlaces};
 ghost use Rattle.obs_case_csv.specs.Fields.{Record};
 ghost use Rattle.obs_case_csv.specs.Read.{Ends, EndsAll, HoldsFirstRows, UnlessNoMemory, fault_at, fault_in, rows_in, tables_in};
@@ -87,6 +87,32 @@ pub fn read_table(
     Ok(())
 }
 
+// Reads the five tables in their order into a case without rows, up to the first fault.
+fn fill_case(
+    alloc: Global,
+    case: &mut Case,
+    nodes: &[u8],
+    switches: &[u8],
+    branches: &[u8],
+    meters: &[u8],
+    candidates: Option<&[u8]>,
+) -> Result<(), TableEnd>
+    requires empty { case.old ≡ no_rows }
+    ensures read { OnOk result (tables_in nodes.now switches.now branches.now meters.now
+        (option_map (λ c. c.now) candidates.entry) ≡ Ok case.new) }
+    ensures refused { IfErr result (EndsAll
+        (tables_in nodes.now switches.now branches.now meters.now (option_map (λ c. c.now) candidates.entry))) }
+{
+    read_table(alloc, case, Table::Nodes, nodes)?;
+    read_table(alloc, case, Table::Switches, switches)?;
+    read_table(alloc, case, Table::Branches, branches)?;
+    read_table(alloc, case, Table::Meters, meters)?;
+    if let Some(candidates) = candidates {
+        read_table(alloc, case, Table::Candidates, candidates)?;
+    }
+    Ok(())
+}
+
 /// Reads the five tables in their order, and answers the first fault. A table of candidates that
 /// isn't given is empty.
 pub fn read_tables(
@@ -103,12 +129,6 @@ pub fn read_tables(
         (tables_in nodes.now switches.now branches.now meters.now (option_map (λ c. c.now) candidates.entry))) }
 {
     let mut case = Case::new(alloc);
-    read_table(alloc, &mut case, Table::Nodes, nodes)?;
-    read_table(alloc, &mut case, Table::Switches, switches)?;
-    read_table(alloc, &mut case, Table::Branches, branches)?;
-    read_table(alloc, &mut case, Table::Meters, meters)?;
-    if let Some(candidates) = candidates {
-        read_table(alloc, &mut case, Table::Candidates, candidates)?;
-    }
+    fill_case(alloc, &mut case, nodes, switches, branches, meters, candidates)?;
     Ok(case)
 }

@@ -6,6 +6,7 @@ use Rattle.std.proofs.lemmas.List.{length-map}
 use Rattle.obs_network.proofs.Listed.{meter_is_item}
 use Rattle.std.proofs.lemmas.List.FromFn.{length-range_with_len}
 use Rattle.obs_matroid.proofs.Lists.{In-filter, In-filter_from, length-within}
+use Rattle.obs_matroid.proofs.Ranges.{range_in}
 use Rattle.obs_meter.specs.declared.Touch.{Touch}
 use Rattle.obs_meter.specs.declared.Touch.TheVariants.{Nothing}
 use Rattle.obs_meter.specs.Spanned.{common_vertex}
@@ -16,7 +17,6 @@ use Rattle.obs_network.specs.Located.{component_of_item, is_meter_in as is_in, l
 use Rattle.obs_network.specs.Network.{case_branches, case_components, case_meters, case_offered, network_of}
 use Rattle.obs_network.proofs.Marked.{filtered_below}
 use Rattle.obs_network.proofs.OfCase.{length-case_meters, length-case_offered}
-use Rattle.obs_network.proofs.Sums.{range_in}
 use Rattle.obs_cert.specs.Scopes.{is_meter, is_meter_in, is_this, scope_of}
 use Rattle.obs_cert.proofs.OutsideLemmas.{filtered, scope_distinct}
 

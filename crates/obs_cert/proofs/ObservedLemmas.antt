@@ -9,6 +9,7 @@ use Rattle.obs_matroid.specs.Assignments.{IsAssignment, Pair as NumberPair}
 use Rattle.obs_matroid.proofs.Lists.{In-filter, In-filter_from, filter_all}
 use Rattle.obs_matroid.proofs.Order.{independent_within}
 use Rattle.obs_matroid.proofs.Pairs.{In-items, IsDistinct-filter_items}
+use Rattle.obs_matroid.proofs.Ranges.{range_in}
 use Rattle.obs_meter.specs.Assignments.{IsAssignmentAt}
 use Rattle.obs_meter.specs.Spanned.{graph_matroid}
 use Rattle.obs_meter.specs.Touches.{is_live, touch_at, touched}
@@ -20,7 +21,6 @@ use Rattle.obs_network.proofs.InComponents.{touched_component}
 use Rattle.obs_network.proofs.Listed.{meter_is_item}
 use Rattle.obs_network.proofs.Marked.{filtered_below}
 use Rattle.obs_network.proofs.OfCase.{length-case_meters, length-case_offered}
-use Rattle.obs_network.proofs.Sums.{range_in}
 use Rattle.obs_cert.specs.declared.flaw.FlawCode.TheVariants.{NotInside}
 use Rattle.obs_cert.specs.Flaws.{not_inside, unknown_item, unknown_pair}
 use Rattle.obs_cert.specs.Numbered.{items_of, paired_items, pairs_of}

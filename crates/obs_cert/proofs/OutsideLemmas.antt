@@ -5,7 +5,7 @@ use Rattle.std.proofs.lemmas.Bool.{cases_Bool, cases_lt, eq-eqb, ltb-true, ne_eq
 use Rattle.std.proofs.lemmas.List.{get_or_past, length-map}
 use Rattle.obs_matroid.specs.Lists.{In, IsDistinct}
 use Rattle.obs_matroid.proofs.Lists.{In-filter, In-filter_from, In-append_left, clash, length-within}
-use Rattle.obs_network.proofs.Sums.{range_in, range_distinct}
+use Rattle.obs_matroid.proofs.Ranges.{range_distinct, range_in}
 use Rattle.obs_network.specs.Network.{case_branches, case_offered, network_of}
 use Rattle.obs_network.specs.Located.{component_of_item}
 use Rattle.obs_meter.specs.declared.Touch.TheVariants.{Nothing}

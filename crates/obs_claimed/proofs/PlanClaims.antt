@@ -11,9 +11,8 @@ use Rattle.obs_matroid.specs.Lists.{In, IsDistinct}
 use Rattle.obs_matroid.specs.Placement.{Layer as BareLayer, RunOn, layers_sum}
 use Rattle.obs_matroid.proofs.Lists.{In-filter_from, In-map_from, IsDistinct-filter}
 use Rattle.obs_matroid.proofs.Pairs.{In-branches, In-items}
+use Rattle.obs_matroid.proofs.Ranges.{range_distinct, range_from}
 use Rattle.obs_first.specs.First.{IsFirstAt}
-use Rattle.obs_first.proofs.Ranges.{range_from}
-use Rattle.obs_network.proofs.Sums.{range_distinct}
 use Rattle.obs_placement.specs.Answer.{chosen_of, is_chosen}
 use Rattle.obs_placement.specs.Layers.{prices_above}
 use Rattle.obs_placement.specs.Order.{price_of}

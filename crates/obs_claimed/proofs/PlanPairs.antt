@@ -9,6 +9,7 @@ use Rattle.obs_matroid.proofs.Bounds.{length-branches}
 use Rattle.obs_matroid.proofs.Lists.{In-append_cases, In-append_left, In-append_right, In-filter, In-filter_from}
 use Rattle.obs_matroid.proofs.Pairs.{In-branches_from, In-items_from}
 use Rattle.obs_matroid.proofs.Ranks.{IsDistinct-independent, rank-independent}
+use Rattle.obs_matroid.proofs.Ranges.{range_from, range_in}
 use Rattle.obs_meter.specs.Assignments.{IsAssignmentAt}
 use Rattle.obs_meter.specs.Spanned.{graph_matroid}
 use Rattle.obs_meter.specs.Touches.{is_live, live_items}
@@ -17,7 +18,6 @@ use Rattle.obs_meter.proofs.Instance.{IsMatroid-graph}
 use Rattle.obs_meter.proofs.Touched.{below_from_some, live-from_In, touched-present}
 use Rattle.obs_exchange.proofs.AtGraph.{In-live}
 use Rattle.obs_first.specs.First.{IsFirstAt}
-use Rattle.obs_first.proofs.Ranges.{range_from, range_in}
 use Rattle.obs_placement.specs.Laws.{live_meters}
 use Rattle.obs_network.specs.Network.{case_branches, case_needed, case_offered}
 use Rattle.obs_network.specs.Switched.{case_bus_count}

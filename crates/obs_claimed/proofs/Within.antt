@@ -12,6 +12,7 @@ use Rattle.obs_case.specs.declared.rows.Candidate.{Candidate}
 use Rattle.obs_matroid.specs.Assignments.{Pair}
 use Rattle.obs_matroid.specs.Lists.{In}
 use Rattle.obs_matroid.proofs.Lists.{In-append_cases, In-filter_from}
+use Rattle.obs_matroid.proofs.Ranges.{range_from}
 use Rattle.obs_meter.specs.declared.Touch.{Touch}
 use Rattle.obs_meter.specs.declared.Touch.TheVariants.{Nothing}
 use Rattle.obs_meter.specs.Touches.{is_live, live_items}
@@ -19,7 +20,6 @@ use Rattle.obs_meter.proofs.Touched.{below_from_some, touched-present}
 use Rattle.obs_exchange.specs.Laws.{noncritical_in}
 use Rattle.obs_first.specs.First.{first_pairs}
 use Rattle.obs_first.proofs.Lawful.{first_pairs-is}
-use Rattle.obs_first.proofs.Ranges.{range_from}
 use Rattle.obs_placement.specs.Answer.{chosen_of, is_chosen}
 use Rattle.obs_placement.specs.Layers.{added_items, inside_of, prices_above}
 use Rattle.obs_placement.specs.Order.{price_of}

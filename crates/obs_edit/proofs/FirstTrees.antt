@@ -14,6 +14,7 @@ use Rattle.obs_matroid.proofs.Bounds.{length-branches}
 use Rattle.obs_matroid.proofs.Lists.{In-filter, IsDistinct-filter, In-filter_from, filter_same}
 use Rattle.obs_matroid.proofs.Pairs.{In-branches_from, items_within}
 use Rattle.obs_matroid.proofs.Pieces.{forest_joins}
+use Rattle.obs_matroid.proofs.Ranges.{range_distinct, range_in, range_rising}
 use Rattle.obs_meter.specs.declared.Touch.TheVariants.{Nothing}
 use Rattle.obs_meter.specs.Spanned.{ends_at, joined_at, rank_at}
 use Rattle.obs_meter.proofs.Assigned.{live_items-distinct, rho_at-is, rho_at-unique, to_matroid}
@@ -22,7 +23,6 @@ use Rattle.obs_meter.proofs.Touched.{touch-rising, touched-present}
 use Rattle.obs_first.specs.First.{IsFirstAt, first_pairs}
 use Rattle.obs_meter.specs.Touches.{every_item, is_live}
 use Rattle.obs_first.proofs.Listed.{IsRising-first_of, pairs_same}
-use Rattle.obs_first.proofs.Ranges.{range_rising}
 use Rattle.obs_first.proofs.Lawful.{first-from_matroid, first-live, first-to_matroid, first_pairs-is}
 use Rattle.obs_network.specs.Switched.{case_bus_count}
 use Rattle.obs_network.specs.Components.{component_of, need_of}
@@ -32,7 +32,6 @@ use Rattle.obs_network.proofs.InComponents.{ends_component, kinds_sum, present_b
 use Rattle.obs_network.proofs.Observed.{buses_of_component, is_of, size_is}
 use Rattle.obs_network.proofs.OfCase.{case_branches-are}
 use Rattle.obs_network.proofs.OfLaws.{case_component-at}
-use Rattle.obs_network.proofs.Sums.{range_distinct, range_in}
 use Rattle.obs_edit.specs.Answers.{case_first_pairs, component_meters, component_rank, is_meter_of}
 use Rattle.obs_edit.specs.Laws.{TreesAreFirst, TreesAreWhole, TreesSpan, TreesStandAlone, is_bus_of, tree_pairs}
 use Rattle.obs_edit.proofs.FirstParts.{first_in_component}

@@ -11,6 +11,7 @@ use Rattle.obs_matroid.proofs.Comparing.{branch_at_out}
 use Rattle.obs_matroid.proofs.Contained.{All-from_In}
 use Rattle.obs_matroid.proofs.Lists.{In-append_cases, In-filter_from, In-map_from, clash, filter_same}
 use Rattle.obs_matroid.proofs.Pairs.{In-items_from}
+use Rattle.obs_matroid.proofs.Ranges.{range_from, range_rising}
 use Rattle.obs_meter.specs.declared.Touch.{Touch}
 use Rattle.obs_meter.specs.Assignments.{IsAssignmentAt, rho_at}
 use Rattle.obs_meter.specs.Touches.{every_item, live_items}
@@ -18,7 +19,6 @@ use Rattle.obs_forest.specs.Forest.{has_position}
 use Rattle.obs_assign.proofs.Standing.{In-every}
 use Rattle.obs_first.specs.First.{IsFirstAt, first_pairs}
 use Rattle.obs_first.proofs.Lawful.{IsNotAfter-filter, first_pairs-is}
-use Rattle.obs_first.proofs.Ranges.{range_from, range_rising}
 use Rattle.obs_placement.specs.Answer.{chosen_of, is_chosen}
 use Rattle.obs_placement.specs.Order.{price_of}
 use Rattle.obs_placement.specs.Placed.{Placed, PlanValue, shortfall_of, placement_of, plan_of}

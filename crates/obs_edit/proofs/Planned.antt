@@ -9,6 +9,7 @@ use Rattle.obs_graph.specs.declared.Ends.{Ends}
 use Rattle.obs_graph.specs.Graph.{Graph}
 use Rattle.obs_matroid.specs.Lists.{In}
 use Rattle.obs_matroid.proofs.Contained.{Contains-from_In, In-from_Contains}
+use Rattle.obs_matroid.proofs.Ranges.{range_from, range_in}
 use Rattle.obs_meter.specs.declared.Touch.{Touch}
 use Rattle.obs_meter.specs.declared.Touch.TheVariants.{Nothing}
 use Rattle.obs_meter.specs.Sizes.{HasRoomFor, Sizes}
@@ -16,7 +17,6 @@ use Rattle.obs_meter.specs.Touches.{AreInRange, IsInRange, touch_at, touched}
 use Rattle.obs_forest.specs.Forest.{has_position}
 use Rattle.obs_forest.proofs.Held.{contains-has_position, has_position-contains}
 use Rattle.obs_assign.specs.Assignment.{Assignment, Fits, StandsOver}
-use Rattle.obs_first.proofs.Ranges.{range_from, range_in}
 use Rattle.obs_edit.specs.Planned.{planned_items, touches_of}
 
 -- the test tells which items are listed

@@ -7,7 +7,7 @@ use Rattle.std.proofs.lemmas.List.{map-append}
 use Rattle.obs_case.specs.Tables.{IsValid, Tables}
 use Rattle.obs_matroid.specs.Lists.{In}
 use Rattle.obs_matroid.proofs.Lists.{In-flat_map_from}
-use Rattle.obs_first.proofs.Ranges.{range_from}
+use Rattle.obs_matroid.proofs.Ranges.{range_from}
 use Rattle.obs_network.specs.Components.{need_of}
 use Rattle.obs_network.specs.Network.{case_component_count, case_sizes}
 use Rattle.obs_network.specs.Observable.{is_energised_component}

@@ -10,4 +10,3 @@ pub mod Growing
 pub mod AtGraph
 pub mod Lawful
 pub mod Lengthening
-mod Small

@@ -14,6 +14,7 @@ use Rattle.obs_matroid.proofs.Pairs.{In-items, In-items_from}
 use Rattle.obs_matroid.proofs.Comparing.{Agree, Agree-from, branch_at_from, branch_at_in}
 use Rattle.obs_matroid.proofs.First.{Impossible, IsLeastBy, decided, decided_at, decided_from, next_chosen, next_none}
 use Rattle.obs_matroid.proofs.Slots.{slot_at}
+use Rattle.obs_matroid.proofs.Ranges.{below_from, below_in, range_more}
 use Rattle.obs_meter.specs.declared.Touch.{Touch}
 use Rattle.obs_meter.specs.Spanned.{graph_matroid}
 use Rattle.obs_meter.specs.Touches.{every_item, touch_at}
@@ -24,7 +25,7 @@ use Rattle.obs_assign.proofs.Slotted.{item_slot, slot_item}
 use Rattle.obs_assign.proofs.Standing.{IsAssignmentAt-standing}
 use Rattle.obs_first.specs.Deciding.{HasFrozenOf, HasRefused, IsDecided, KeepsFrozen, NoneSoLong}
 use Rattle.obs_first.proofs.Frozen.{Extends-kept, HasFrozenOf-kept, HasFrozenOf-pairs, KeepsFrozen-on, frozen_same}
-use Rattle.obs_first.proofs.Ranges.{In-take_lower, In-take_more, below_from, below_in, range_more}
+use Rattle.obs_first.proofs.Fronts.{In-take_lower, In-take_more}
 
 -- no assignment so long that has the frozen pairs of a gives one of the branches to m
 abbrev pub AreRefused : Graph → List Touch → Assignment → ℕ → ℕ → List ℕ → Type 0

@@ -13,6 +13,7 @@ use Rattle.obs_matroid.proofs.Lists.{clash}
 use Rattle.obs_matroid.proofs.Pairs.{In-items_from}
 use Rattle.obs_matroid.proofs.Comparing.{branch_at_out, first_unique}
 use Rattle.obs_matroid.proofs.Computed.{first_of_is}
+use Rattle.obs_matroid.proofs.Ranges.{range_rising}
 use Rattle.obs_meter.specs.declared.Touch.{Touch}
 use Rattle.obs_meter.specs.Assignments.{IsAssignmentAt, IsRhoAt}
 use Rattle.obs_meter.specs.Spanned.{graph_matroid}
@@ -25,7 +26,6 @@ use Rattle.obs_assign.proofs.Standing.{IsAssignmentAt-standing}
 use Rattle.obs_first.specs.First.{IsFirstAt, first_pairs}
 use Rattle.obs_first.specs.Deciding.{IsDecided}
 use Rattle.obs_first.proofs.Listed.{IsRising-first_of, IsRising-slots, pairs_same}
-use Rattle.obs_first.proofs.Ranges.{range_rising}
 
 module _ (n : ℕ) (ends : List (Option Ends)) (touches : List Touch) (M : List ℕ) where
   -- first assignments are those of the matroid

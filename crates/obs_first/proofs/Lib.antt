@@ -1,4 +1,4 @@
-pub mod Ranges
+pub mod Fronts
 pub mod Frozen
 pub mod Taking
 pub mod Deciding

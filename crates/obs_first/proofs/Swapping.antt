@@ -10,15 +10,15 @@ use Rattle.obs_matroid.specs.Lists.{In, IsDistinct}
 use Rattle.obs_matroid.specs.Assignments.{Pair, branches, items}
 use Rattle.obs_matroid.specs.First.{IsBefore, IsNotAfter, branch_at}
 use Rattle.obs_matroid.proofs.Lists.{In_same, In-map, In-map_from}
-use Rattle.obs_matroid.proofs.Comparing.{branch_at_from, branch_at_in, cases_Option}
+use Rattle.obs_matroid.proofs.Comparing.{IsNotAfter-front, branch_at_from, branch_at_in, cases_Option}
 use Rattle.obs_matroid.proofs.Pairs.{In-items}
 use Rattle.obs_matroid.proofs.Slots.{slot_from}
+use Rattle.obs_matroid.proofs.Ranges.{below_from, below_in, range_append, range_more}
 use Rattle.obs_meter.specs.declared.Touch.{Touch}
 use Rattle.obs_meter.specs.Assignments.{IsAssignmentAt}
 use Rattle.obs_meter.specs.Touches.{every_item, touch_at, touched}
 use Rattle.obs_assign.specs.Assignment.{Assignment, pairs}
 use Rattle.obs_first.specs.Deciding.{HasFrozenOf, IsDecided, IsPassed}
-use Rattle.obs_first.proofs.Ranges.{below_from, below_in, range_more, range_parts}
 
 -- where A does not come after B by P and k, and B has at P what A has: B has nothing lower than A at k
 not_lower : (P : List ℕ) (k y : ℕ) (A B : List Pair) → IsNotAfter (P ++ k ∷ []) A B → ((x e : ℕ) → In x P → branch_at A x ≡ Some e → branch_at B x ≡ Some e)
@@ -42,15 +42,10 @@ not_lower (x ∷ P) k y A B (inl l) h at b = elim (cases_Option (branch_at A x))
 not_lower (x ∷ P) k y A B (inr c) h at b = not_lower P k y A B c.1 (λ z e i s. h z e (inr i) s) at b
 
 -- what comes first by a list, comes first by the front of it
-IsNotAfter-front : (P Q : List ℕ) (A B : List Pair) → IsNotAfter (P ++ Q) A B → IsNotAfter P A B
-IsNotAfter-front [] Q A B n = tt
-IsNotAfter-front (x ∷ P) Q A B (inl l) = inl l
-IsNotAfter-front (x ∷ P) Q A B (inr c) = inr (c.0, IsNotAfter-front P Q A B c.1)
-
 IsNotAfter-range : (i n : ℕ) (A B : List Pair) → i ≤ n → IsNotAfter (range_with_len 0 n) A B → IsNotAfter (range_with_len 0 i) A B
 IsNotAfter-range i n A B l h =
     let parts : n ≡ i + (n - i) = omega (arith, l) in
-    IsNotAfter-front (range_with_len 0 i) (range_with_len (0 + i) (n - i)) A B (subst (λ P. IsNotAfter P A B) (ap (range_with_len 0) parts ∙ range_parts 0 i (n - i)) h)
+    IsNotAfter-front (range_with_len 0 i) (range_with_len (0 + i) (n - i)) A B (subst (λ P. IsNotAfter P A B) (ap (range_with_len 0) parts ∙ range_append 0 i (n - i)) h)
 
 module _ (k m : ℕ) where
   -- k and m swapped

@@ -7,6 +7,7 @@ use Rattle.std.proofs.lemmas.List.{length-replicate}
 use Rattle.obs_matroid.specs.Lists.{In, IsDistinct}
 use Rattle.obs_matroid.proofs.Contained.{Contains-from_In, In-from_Contains}
 use Rattle.obs_matroid.proofs.Lists.{clash, In-filter, In-filter_from, IsDistinct-filter, length-within}
+use Rattle.obs_matroid.proofs.Ranges.{below_from}
 use Rattle.obs_meter.specs.declared.Touch.TheVariants.{Nothing}
 use Rattle.obs_meter.proofs.Assigned.{every_item-distinct}
 use Rattle.obs_assign.proofs.Standing.{In-every}
@@ -70,13 +71,8 @@ In-vertices n v l =
     let e = length-replicate n Nothing in
     subst (λ (k : ℕ). In v (range_with_len 0 k)) e (In-every (replicate n Nothing) v (omega (arith, e, l)))
 
-below_range : (a n x : ℕ) → In x (range_with_len a n) → x < a + n
-below_range a zero x i = absurd i
-below_range a (suc n) x (inl e) = omega (arith, e)
-below_range a (suc n) x (inr i) = let h = below_range (a + 1) n x i in omega (arith, h)
-
 pub vertex_low : (n v : ℕ) → In v (every_vertex n) → v < n
-vertex_low n v i = let h = below_range 0 n v i in omega (arith, h)
+vertex_low n v i = below_from n v i
 
 find_range : (test : ℕ → Bool) (x a n : ℕ) → a ≤ x → x < a + n → test x ≡ true → ((u : ℕ) → a ≤ u → u < a + n → test u ≡ true → x ≤ u) → find test (range_with_len a n) ≡ Some x
 find_range test x a zero l k t first = absurd (omega (arith, l, k))

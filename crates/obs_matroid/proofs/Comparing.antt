@@ -102,3 +102,9 @@ module _ (g : Matroid) (touch : ℕ → List ℕ) (M : List ℕ) where
       let n = a.least B b.assigns (omega (arith, k, l)) in
       let m = b.least A a.assigns (omega (arith, k, l)) in
       (pairs_from_agree A B a.assigns (Agree-from_both M A B n m) p, pairs_from_agree B A b.assigns (Agree-from_both M B A m n) p)
+
+-- what comes first by a list comes first by the front of it
+pub IsNotAfter-front : (P Q : List ℕ) (A B : List Pair) → IsNotAfter (P ++ Q) A B → IsNotAfter P A B
+IsNotAfter-front [] Q A B n = tt
+IsNotAfter-front (x ∷ P) Q A B (inl l) = inl l
+IsNotAfter-front (x ∷ P) Q A B (inr c) = inr (c.0, IsNotAfter-front P Q A B c.1)

@@ -1,4 +1,5 @@
 pub mod Lists
+pub mod Ranges
 pub mod Contained
 pub mod Spans
 pub mod Ranks

@@ -1,19 +1,19 @@
 -- Assignments over a graph are those of its matroid.
-use Rattle.std.proofs.Common.{◌≡◌, ℕ, zero, suc, ◌+◌, ◌≤◌, inl, inr, Option, Some, None, List, [], ◌∷◌, length, refl, false, arith}
+use Rattle.std.proofs.Common.{◌≡◌, ℕ, Option, Some, None, List, [], ◌∷◌, length, refl, false, arith}
 use Rattle.std.specs.Prelude.{All, IsSome, slice_index_or}
-use Rattle.std.specs.List.{range_with_len}
 use Rattle.std.proofs.lemmas.List.Elements.{All-cons, All-head, All-tail}
 use Rattle.obs_graph.specs.declared.Ends.{Ends}
 use Rattle.obs_graph.specs.Joined.{is_joined}
 use Rattle.obs_graph.specs.Positions.{AreBranches, IsForestAt, ends_of}
 use Rattle.obs_graph.proofs.IsJoined.{apart-from_false, false-from_apart}
 use Rattle.obs_graph.proofs.Forests.{Grows, IsForest-from_Grows, Grows-from_IsForest}
-use Rattle.obs_matroid.specs.Lists.{In, IsDistinct}
+use Rattle.obs_matroid.specs.Lists.{IsDistinct}
 use Rattle.obs_matroid.specs.Matroid.{IsIndependent}
 use Rattle.obs_matroid.specs.Assignments.{Pair, branches, IsAssignment, IsRho}
 use Rattle.obs_matroid.proofs.Lists.{In-filter, In-filter_from, IsDistinct-filter}
 use Rattle.obs_matroid.proofs.Computed.{rho_of_is}
 use Rattle.obs_matroid.proofs.Critical.{rho_same}
+use Rattle.obs_matroid.proofs.Ranges.{range_distinct}
 use Rattle.obs_meter.specs.declared.Touch.{Touch}
 use Rattle.obs_meter.specs.Touches.{touch_at, is_live, every_item, live_items}
 use Rattle.obs_meter.specs.Spanned.{both_ends, graph_matroid}
@@ -94,16 +94,6 @@ rho_at-is n ends touches M a d =
 pub rho_at-unique : (ends : List (Option Ends)) (touches : List Touch) (M : List ℕ) (r s : ℕ) → IsRhoAt ends touches M r → IsRhoAt ends touches M s → r ≡ s
 rho_at-unique ends touches M r s h k =
     rho_same (graph_matroid 0 ends) (touch_at ends touches) M r s (rho-to_matroid 0 ends touches M r h) (rho-to_matroid 0 ends touches M s k)
-
--- numbers in a row are different
-from_low : (a n x : ℕ) → In x (range_with_len a n) → a ≤ x
-from_low a zero x i = absurd i
-from_low a (suc n) x (inl e) = omega (arith, e)
-from_low a (suc n) x (inr i) = let h = from_low (a + 1) n x i in omega (arith, h)
-
-range_distinct : (a n : ℕ) → IsDistinct (range_with_len a n)
-range_distinct a zero = tt
-range_distinct a (suc n) = ((λ i. let h = from_low (a + 1) n a i in omega (arith, h)), range_distinct (a + 1) n)
 
 pub every_item-distinct : (touches : List Touch) → IsDistinct (every_item touches)
 every_item-distinct touches = range_distinct 0 (length touches)

@@ -1,5 +1,5 @@
 -- The lists of live meters, and the components of branches and items.
-use Rattle.std.proofs.Common.{◌≡◌, ◌↔◌, ℕ, zero, suc, ◌+◌, ◌<◌, inl, inr, Bool, true, false, ◌&&◌, Option, Some, None, List, [], ◌∷◌, length, filter, map, get_or, refl, sym, ap, ◌∙◌, subst, arith}
+use Rattle.std.proofs.Common.{◌≡◌, ◌↔◌, ℕ, suc, ◌+◌, ◌<◌, inl, inr, Bool, true, false, ◌&&◌, Option, Some, None, List, [], ◌∷◌, length, filter, map, get_or, refl, sym, ap, ◌∙◌, subst, arith}
 use Rattle.std.specs.Prelude.{All, IsSome, nat_lt, slice_index, slice_index_or, ◌==◌, if◌then◌else◌}
 use Rattle.std.specs.List.{range_with_len}
 use Rattle.std.proofs.lemmas.Bool.{cases_Bool, cases_lt, eq-eqb, eqb-true, ne_eqb}
@@ -11,6 +11,7 @@ use Rattle.obs_case.specs.Tables.{Tables, IsValid}
 use Rattle.obs_matroid.specs.Lists.{In, IsRising}
 use Rattle.obs_matroid.proofs.Contained.{All-from_In}
 use Rattle.obs_matroid.proofs.Lists.{In-filter, In-filter_from}
+use Rattle.obs_matroid.proofs.Ranges.{range_in, range_rising}
 use Rattle.obs_meter.specs.declared.Touch.{Touch}
 use Rattle.obs_meter.specs.declared.Touch.TheVariants.{Nothing}
 use Rattle.obs_meter.specs.Held.{Meters}
@@ -26,7 +27,6 @@ use Rattle.obs_network.specs.Touching.{candidate_touch, meter_touch, meter_touch
 use Rattle.obs_network.specs.Kept.{list_of, lists_of}
 use Rattle.obs_network.proofs.InComponents.{branch_component-below, live_ends-same, present_fed, present_is, touched_component}
 use Rattle.obs_network.proofs.Marked.{filtered_below}
-use Rattle.obs_network.proofs.Sums.{range_in}
 
 -- the positions of a key are the numbers that pass two tests, where just these have the key
 passing : (p q : ℕ → Bool) (key : ℕ) (keys : List ℕ) (i : ℕ) → ((k : ℕ) → k < length keys → (get_or keys k 0 == key) ≡ (q (i + k) && p (i + k)))
@@ -73,15 +73,6 @@ pub live_meters-below : (n : Network) (c : ℕ) → All (λ m. m < length n.mete
 live_meters-below n c =
     All-from_In (λ m. m < length n.meters.touches) (live_meters_of n c)
     (λ m i. let low = filtered_below (is_live n.graph.ends n.meters.touches) 0 (length n.meters.touches) m (In-filter_from (is_meter_in n c) m (live_items n.graph.ends n.meters.touches) i).0 in omega (arith, low))
-
-range_rising : (a n : ℕ) → IsRising (range_with_len a n)
-range_rising a zero = tt
-range_rising a (suc n) = (λ y i. above (a + 1) n y i (omega arith), range_rising (a + 1) n)
-  where
-    above : (b n y : ℕ) → In y (range_with_len b n) → a < b → a < y
-    above b zero y i l = absurd i
-    above b (suc n) y (inl e) l = omega (arith, e, l)
-    above b (suc n) y (inr i) l = above (b + 1) n y i (omega (arith, l))
 
 pub rising_filter : (p : ℕ → Bool) (xs : List ℕ) → IsRising xs → IsRising (filter p xs)
 rising_filter p [] r = tt

@@ -16,6 +16,7 @@ use Rattle.obs_matroid.proofs.Order.{independent_within}
 use Rattle.obs_matroid.proofs.Pairs.{In-branches_from, In-items_from, IsDistinct-filter_items}
 use Rattle.obs_matroid.proofs.Pieces.{firsts}
 use Rattle.obs_matroid.proofs.Spans.{spans_more}
+use Rattle.obs_matroid.proofs.Ranges.{range_distinct, range_in}
 use Rattle.obs_meter.specs.declared.Touch.{Touch}
 use Rattle.obs_meter.specs.declared.Touch.TheVariants.{Nothing}
 use Rattle.obs_meter.specs.Assignments.{IsAssignmentAt, IsRhoAt, rho_at}
@@ -33,7 +34,7 @@ use Rattle.obs_network.proofs.Grouping.{sizes_of-at}
 use Rattle.obs_network.proofs.OfCase.{case_branches-are}
 use Rattle.obs_network.proofs.OfLaws.{case_component-at}
 use Rattle.obs_network.proofs.InComponents.{branch_component-below, ends_component, kinds_sum, present_below, present_fed, touched_component}
-use Rattle.obs_network.proofs.Sums.{nothing_in, range_distinct, range_in, split_by, sum_below-le, sum_below-same}
+use Rattle.obs_network.proofs.Sums.{nothing_in, split_by, sum_below-le, sum_below-same}
 
 -- the buses of a component
 abbrev pub is_of : Tables → ℕ → ℕ → Bool

@@ -1,10 +1,9 @@
 -- Sums over the numbers below a bound.
-use Rattle.std.proofs.Common.{◌≡◌, ℕ, zero, suc, ◌+◌, ◌<◌, ◌≤◌, Bool, true, false, List, [], ◌∷◌, length, filter, refl, sym, ap, ◌∙◌, arith, inl, inr}
+use Rattle.std.proofs.Common.{◌≡◌, ℕ, zero, suc, ◌<◌, ◌≤◌, Bool, true, false, List, [], ◌∷◌, length, filter, refl, sym, ap, ◌∙◌, arith, inl, inr}
 use Rattle.std.specs.Prelude.{cond, ◌==◌}
 use Rattle.std.proofs.lemmas.Bool.{cases_eq, eq-eqb, ne_eqb}
 use Rattle.obs_graph.specs.Positions.{sum_below}
-use Rattle.std.specs.List.{range_with_len}
-use Rattle.obs_matroid.specs.Lists.{In, IsDistinct}
+use Rattle.obs_matroid.specs.Lists.{In}
 
 pub sum_below-le : (f g : ℕ → ℕ) (n : ℕ) → ((c : ℕ) → c < n → f c ≤ g c) → sum_below f n ≤ sum_below g n
 sum_below-le f g zero h = omega arith
@@ -64,17 +63,3 @@ split_by {X} f n (x ∷ xs) h =
 pub nothing_in : {X : Type 0} (xs : List X) → ((x : X) → In x xs → ⊥) → length xs ≡ 0
 nothing_in [] h = refl
 nothing_in (x ∷ xs) h = absurd (h x (inl refl))
-
--- numbers in a row
-pub range_in : (a n x : ℕ) → a ≤ x → x < a + n → In x (range_with_len a n)
-range_in a zero x l m = absurd (omega arith)
-range_in a (suc n) x l m = elim (cases_eq x a) [ inl e ↦ inl e | inr other ↦ inr (range_in (a + 1) n x (omega arith) (omega arith)) ]
-
-range_from : (a n x : ℕ) → In x (range_with_len a n) → a ≤ x
-range_from a zero x i = absurd i
-range_from a (suc n) x (inl e) = omega (arith, e)
-range_from a (suc n) x (inr i) = let h = range_from (a + 1) n x i in omega (arith, h)
-
-pub range_distinct : (a n : ℕ) → IsDistinct (range_with_len a n)
-range_distinct a zero = tt
-range_distinct a (suc n) = ((λ i. let h = range_from (a + 1) n a i in omega (arith, h)), range_distinct (a + 1) n)

@@ -15,6 +15,7 @@ use Rattle.obs_matroid.proofs.Answer.{answer_cost, answer_lacks}
 use Rattle.obs_matroid.proofs.Computed.{noncritical_tight}
 use Rattle.obs_matroid.proofs.Lists.{In-append_cases, In-append_left, In-append_right, In-filter, In-filter_from, filter_all, filter_same}
 use Rattle.obs_matroid.proofs.Placement.{IsRho-same}
+use Rattle.obs_matroid.proofs.Ranges.{range_in}
 use Rattle.obs_meter.specs.declared.Touch.{Touch}
 use Rattle.obs_meter.specs.Assignments.{IsRhoAt}
 use Rattle.obs_meter.specs.Spanned.{graph_matroid, rank_at}
@@ -32,7 +33,6 @@ use Rattle.obs_placement.proofs.Going.{live_low}
 use Rattle.obs_placement.proofs.Growing.{AreRising, prices_rising, scope_distinct, scope_from}
 use Rattle.obs_placement.proofs.Lawful.{es, xs, answer, apart, base, in_order, order_price, same_length, sorted_from, sorted_in, sorted_sum}
 use Rattle.obs_placement.proofs.Laying.{chosen_price, price_found, price_most, priced_candidate}
-use Rattle.obs_placement.proofs.Listing.{range_in}
 use Rattle.obs_placement.proofs.Positions.{cost_is}
 
 rising_above : (t : ℕ) (ts : List ℕ) → AreRising t ts → (x : ℕ) → In x ts → t < x
@@ -182,7 +182,7 @@ module _ (n : ℕ) (ends : List (Option Ends)) (touches : List Touch) (meters : 
               let r = price_found prices ks (price c) p in
               let m = price_most prices ks r.0 r.1 in
               let e = r.2 in
-              inr (In-filter (is_price_of prices ks) (price c) (range_with_len (0 + 1) (cost_of prices ks - 0)) (range_in (cost_of prices ks - 0) (0 + 1) (price c) (omega (arith, l)) (omega (arith, m, e))) p)
+              inr (In-filter (is_price_of prices ks) (price c) (range_with_len (0 + 1) (cost_of prices ks - 0)) (range_in (0 + 1) (cost_of prices ks - 0) (price c) (omega (arith, l)) (omega (arith, m, e))) p)
         ]
 
     -- and each layer ends at the price of one

@@ -8,6 +8,7 @@ use Rattle.std.proofs.lemmas.List.Sums.{sum_by-cons}
 use Rattle.obs_graph.specs.declared.Ends.{Ends}
 use Rattle.obs_matroid.specs.Lists.{In}
 use Rattle.obs_matroid.proofs.Lists.{clash, In-filter, In-filter_from}
+use Rattle.obs_matroid.proofs.Ranges.{below_from, range_in}
 use Rattle.obs_meter.specs.declared.Touch.{Touch}
 use Rattle.obs_placement.specs.declared.plans.Layer.{Layer}
 use Rattle.obs_placement.specs.Answer.{chosen_of, cost_of, is_chosen}
@@ -15,7 +16,6 @@ use Rattle.obs_placement.specs.Layers.{added_items, count_known, inside_of, is_p
 use Rattle.obs_placement.specs.Order.{IsOrder, item_at, price_of}
 use Rattle.obs_placement.specs.Taking.{since_at}
 use Rattle.obs_placement.proofs.Going.{earlier_cheap}
-use Rattle.obs_placement.proofs.Listing.{in_range, range_in}
 
 module _ (prices : List ℕ) where
   pub price_found : (ks : List ℕ) (x : ℕ) → is_price_of prices ks x ≡ true → (k : ℕ) × In k ks × (get_or prices k 0 ≡ x)
@@ -82,7 +82,7 @@ chosen_price n ends touches meters prices size m l t p =
       | inr a ↦
           let e : meters + (m - meters) ≡ m = omega (arith, a) in
           price_there prices (chosen_of n ends touches meters prices) (m - meters) (price m)
-          (In-filter (λ k. chosen (meters + k)) (m - meters) (range_with_len 0 (length prices)) (range_in (length prices) 0 (m - meters) (omega arith) (omega (arith, a, l, size)))
+          (In-filter (λ k. chosen (meters + k)) (m - meters) (range_with_len 0 (length prices)) (range_in 0 (length prices) (m - meters) (omega arith) (omega (arith, a, l, size)))
           (subst (λ (x : ℕ). chosen x ≡ true) (sym e) t))
           (let f : price m ≡ get_or prices (m - meters) 0 = rw (le-ltb m meters a) refl in sym f)
     ]
@@ -94,7 +94,7 @@ priced_candidate n ends touches meters prices x t =
     let price = price_of meters prices in
     let r = price_found prices (chosen_of n ends touches meters prices) x t in
     let u = In-filter_from (λ k. is_chosen n ends touches price (meters + k)) r.0 (range_with_len 0 (length prices)) r.1 in
-    let l = in_range r.0 (length prices) u.0 in
+    let l = below_from (length prices) r.0 u.0 in
     let e : meters + r.0 - meters ≡ r.0 = omega arith in
     (meters + r.0, omega arith, omega (arith, l), u.1, rw (le-ltb (meters + r.0) meters (omega arith)) (ap (λ k. get_or prices k 0) e ∙ r.2))
 

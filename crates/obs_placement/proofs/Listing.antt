@@ -1,8 +1,8 @@
 -- The chosen candidates are listed, and what they cost is added up.
-use Rattle.std.proofs.Common.{◌≡◌, ℕ, zero, suc, ◌+◌, ◌-◌, ◌*◌, ◌<◌, ◌≤◌, Bool, true, false, List, [], ◌∷◌, ◌++◌, length, get_or, set, take, refl, sym, ap, ◌∙◌, arith, append_assoc, All, inl, inr, subst, replicate}
+use Rattle.std.proofs.Common.{◌≡◌, ℕ, suc, ◌+◌, ◌-◌, ◌*◌, ◌<◌, ◌≤◌, Bool, true, false, List, [], ◌∷◌, ◌++◌, length, get_or, set, take, refl, sym, ap, ◌∙◌, arith, append_assoc, All, inl, inr, subst, replicate}
 use Rattle.std.specs.Prelude.{filter}
 use Rattle.std.specs.List.{range_with_len}
-use Rattle.std.proofs.lemmas.Bool.{and_parts, cases_Bool, cases_eq, cases_lt, le-ltb, lt-ltb}
+use Rattle.std.proofs.lemmas.Bool.{and_parts, cases_Bool, cases_lt, le-ltb, lt-ltb}
 use Rattle.std.proofs.lemmas.List.Sums.{sum_by-cons}
 use Rattle.std.proofs.lemmas.List.{append-nil, get_or-replicate, get_or_past, length-replicate, take_more_set}
 use Rattle.obs_graph.specs.Graph.{Graph}
@@ -14,6 +14,7 @@ use Rattle.obs_matroid.specs.Values.{rho_of}
 use Rattle.obs_matroid.proofs.Computed.{rho_of_is}
 use Rattle.obs_matroid.proofs.Critical.{rho_same}
 use Rattle.obs_matroid.proofs.Lists.{In-filter, filter_same}
+use Rattle.obs_matroid.proofs.Ranges.{below_from, range_in}
 use Rattle.obs_meter.specs.declared.Touch.{Touch}
 use Rattle.obs_meter.specs.Assignments.{rho_at}
 use Rattle.obs_meter.specs.Spanned.{graph_matroid}
@@ -122,23 +123,11 @@ unset n m = elim (cases_lt m n) [
   | inr l ↦ get_or_past (replicate n false) m false (let k = length-replicate n false in omega (arith, k, l))
 ]
 
-pub in_range_from : (n a x : ℕ) → In x (range_with_len a n) → x < a + n
-in_range_from zero a x i = absurd i
-in_range_from (suc n) a x (inl e) = omega (arith, e)
-in_range_from (suc n) a x (inr i) = let k = in_range_from n (a + 1) x i in omega (arith, k)
-
-pub range_in : (n a x : ℕ) → a ≤ x → x < a + n → In x (range_with_len a n)
-range_in zero a x l u = absurd (omega (arith, l, u))
-range_in (suc n) a x l u = elim (cases_eq x a) [ inl e ↦ inl e | inr k ↦ inr (range_in n (a + 1) x (omega (arith, l, k)) (omega (arith, u))) ]
-
-pub in_range : (k n : ℕ) → In k (range_with_len 0 n) → k < n
-in_range k n i = let l = in_range_from n 0 k i in omega (arith, l)
-
 module _ (g : Graph) (touches : List Touch) (meters : ℕ) (prices : List ℕ) (a : Assignment) (since : List ℕ) (raised : List Bool) (ok : AreBranches g.vertices g.ends)
     (t : AreTaken g touches (price_of meters prices) a since raised) (count : length touches ≡ meters + length prices) where
   pub chosen_list : filter (is_raised raised meters) (range_with_len 0 (length prices)) ≡ chosen_of g.vertices g.ends touches meters prices
   chosen_list = filter_same (is_raised raised meters) (λ k. is_chosen g.vertices g.ends touches (price_of meters prices) (meters + k)) (range_with_len 0 (length prices))
-      (λ k i. t.chosen (meters + k) (let l = in_range k (length prices) i in omega (arith, l, count)))
+      (λ k i. t.chosen (meters + k) (let l = below_from (length prices) k i in omega (arith, l, count)))
 
   pub only_chosen : HavePairsOnly meters (chosen_of g.vertices g.ends touches meters prices) a
   only_chosen m i = elim (cases_lt m meters) [
@@ -148,7 +137,7 @@ module _ (g : Graph) (touches : List Touch) (meters : ℕ) (prices : List ℕ) (
         let low = live_low g.ends touches m (and_parts (is_live g.ends touches m) (is_raising (graph_matroid g.vertices g.ends) (touch_at g.ends touches) (earlier_items g.ends touches (price_of meters prices) m) m) y).0 in
         let e : meters + (m - meters) ≡ m = omega (arith, l) in
         inr (In-filter (λ k. is_chosen g.vertices g.ends touches (price_of meters prices) (meters + k)) (m - meters) (range_with_len 0 (length prices))
-        (range_in (length prices) 0 (m - meters) (omega arith) (omega (arith, l, low, count))) (subst (λ (x : ℕ). is_chosen g.vertices g.ends touches (price_of meters prices) x ≡ true) (sym e) y))
+        (range_in 0 (length prices) (m - meters) (omega arith) (omega (arith, l, low, count))) (subst (λ (x : ℕ). is_chosen g.vertices g.ends touches (price_of meters prices) x ≡ true) (sym e) y))
   ]
 
   pub rank_of_all : length (pairs a) ≡ rho_at g.vertices g.ends touches (live_items g.ends touches)

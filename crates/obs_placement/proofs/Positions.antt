@@ -8,6 +8,7 @@ use Rattle.std.proofs.lemmas.List.Sums.{sum_by-cons}
 use Rattle.obs_graph.specs.declared.Ends.{Ends}
 use Rattle.obs_graph.specs.Positions.{AreBranches}
 use Rattle.obs_matroid.specs.Placement.{is_raising}
+use Rattle.obs_matroid.proofs.Ranges.{range_append}
 use Rattle.obs_meter.specs.declared.Touch.{Touch}
 use Rattle.obs_meter.specs.Assignments.{IsRhoAt}
 use Rattle.obs_meter.specs.Spanned.{graph_matroid}
@@ -16,10 +17,6 @@ use Rattle.obs_placement.specs.Answer.{chosen_of, cost_of, earlier_items, is_cho
 use Rattle.obs_placement.specs.Laws.{DoAsMuch, answer_at}
 use Rattle.obs_placement.specs.Order.{price_of}
 use Rattle.obs_placement.proofs.Lawful.{none_cheaper_at}
-
-range_split : (a m n : ℕ) → range_with_len a (m + n) ≡ range_with_len a m ++ range_with_len (a + m) n
-range_split a zero n = let k : 0 + n ≡ n = omega arith in let e : a ≡ a + 0 = omega arith in ap (range_with_len a) k ∙ ap (λ x. range_with_len x n) e
-range_split a (suc m) n = let k : suc m + n ≡ suc (m + n) = omega arith in let e : a + 1 + m ≡ a + suc m = omega arith in ap (range_with_len a) k ∙ ap (λ xs. a ∷ xs) (range_split (a + 1) m n ∙ ap (λ x. range_with_len (a + 1) m ++ range_with_len x n) e)
 
 module _ (P live : ℕ → Bool) (meters : ℕ) (lives : (x : ℕ) → P x ≡ true → live x ≡ true) where
   abbrev candidates : List ℕ → List ℕ
@@ -54,7 +51,7 @@ module _ (P live : ℕ → Bool) (meters : ℕ) (lives : (x : ℕ) → P x ≡ t
       let e : meters + 0 ≡ meters = omega arith in
       let first = no_meter meters 0 (omega arith) in
       let z : 0 + meters ≡ meters = omega arith in
-      let split = ap (filter live) (range_split 0 meters n ∙ ap (λ x. range_with_len 0 meters ++ range_with_len x n) z) ∙ filter-append live (range_with_len 0 meters) (range_with_len meters n) in
+      let split = ap (filter live) (range_append 0 meters n ∙ ap (λ x. range_with_len 0 meters ++ range_with_len x n) z) ∙ filter-append live (range_with_len 0 meters) (range_with_len meters n) in
       let parts =
       ap (λ xs. filter P (filter (λ m. not (nat_lt m meters)) xs)) split
       ∙ (ap (filter P) (filter-append (λ m. not (nat_lt m meters)) (filter live (range_with_len 0 meters)) (filter live (range_with_len meters n)))

@@ -1,10 +1,8 @@
--- Numbers in a row, and the first elements of a list.
-use Rattle.std.proofs.Common.{◌≡◌, ℕ, zero, suc, ◌+◌, ◌<◌, ◌≤◌, List, [], ◌∷◌, ◌++◌, length, take, get_or, ap, ◌∙◌, subst, inl, inr, ◌⊎◌, arith}
+-- Numbers in a row.
+use Rattle.std.proofs.Common.{◌≡◌, ℕ, zero, suc, ◌+◌, ◌<◌, ◌≤◌, [], ◌∷◌, ◌++◌, ap, ◌∙◌, inl, inr, arith}
 use Rattle.std.specs.List.{range_with_len}
 use Rattle.std.proofs.lemmas.Bool.{cases_eq}
-use Rattle.std.proofs.lemmas.List.{take_more}
-use Rattle.obs_matroid.specs.Lists.{In, IsRising}
-use Rattle.obs_matroid.proofs.Lists.{In-append_cases}
+use Rattle.obs_matroid.specs.Lists.{In, IsDistinct, IsRising}
 
 pub range_in : (a n x : ℕ) → a ≤ x → x < a + n → In x (range_with_len a n)
 range_in a zero x l h = absurd (omega arith)
@@ -25,6 +23,10 @@ pub range_rising : (a n : ℕ) → IsRising (range_with_len a n)
 range_rising a zero = tt
 range_rising a (suc n) = ((λ y i. let l = (range_from (a + 1) n y i).0 in omega (arith, l)), range_rising (a + 1) n)
 
+pub range_distinct : (a n : ℕ) → IsDistinct (range_with_len a n)
+range_distinct a zero = tt
+range_distinct a (suc n) = ((λ i. let l = (range_from (a + 1) n a i).0 in omega (arith, l)), range_distinct (a + 1) n)
+
 range_last : (a n j : ℕ) → a + n ≡ j → range_with_len a (suc n) ≡ range_with_len a n ++ j ∷ []
 range_last a zero j e = let same : a ≡ j = omega arith in ap (λ k. k ∷ []) same
 range_last a (suc n) j e = ap (λ l. a ∷ l) (range_last (a + 1) n j (omega arith))
@@ -32,29 +34,12 @@ range_last a (suc n) j e = ap (λ l. a ∷ l) (range_last (a + 1) n j (omega ari
 pub range_more : (i : ℕ) → range_with_len 0 (i + 1) ≡ range_with_len 0 i ++ i ∷ []
 range_more i = let on : i + 1 ≡ suc i = omega arith in ap (range_with_len 0) on ∙ range_last 0 i i (omega arith)
 
-pub range_parts : (a n k : ℕ) → range_with_len a (n + k) ≡ range_with_len a n ++ range_with_len (a + n) k
-range_parts a zero k =
+pub range_append : (a n k : ℕ) → range_with_len a (n + k) ≡ range_with_len a n ++ range_with_len (a + n) k
+range_append a zero k =
     let none : 0 + k ≡ k = omega arith in
     let same : a ≡ a + 0 = omega arith in
     ap (range_with_len a) none ∙ ap (λ b. range_with_len b k) same
-range_parts a (suc n) k =
+range_append a (suc n) k =
     let more : suc n + k ≡ suc (n + k) = omega arith in
     let on : a + 1 + n ≡ a + suc n = omega arith in
-    ap (range_with_len a) more ∙ ap (λ l. a ∷ l) (range_parts (a + 1) n k ∙ ap (λ b. range_with_len (a + 1) n ++ range_with_len b k) on)
-
--- one of the first k + 1 elements is one of the first k, or the next one
-pub In-take_more : (xs : List ℕ) (k d y : ℕ) → k < length xs → In y (take (k + 1) xs) → In y (take k xs) ⊎ (y ≡ get_or xs k d)
-In-take_more xs k d y l i =
-    let j : In y (take k xs ++ get_or xs k d ∷ []) = subst (λ ys. In y ys) (take_more xs k d l) i in
-    elim (In-append_cases y (take k xs) (get_or xs k d ∷ []) j) [
-      | inl h ↦ inl h
-      | inr h ↦ elim h [ inl e ↦ inr e | inr n ↦ absurd n ]
-    ]
-
--- where the elements rise, one below that at k is one of the first k
-pub In-take_lower : (xs : List ℕ) (k d y : ℕ) → IsRising xs → k < length xs → In y xs → y < get_or xs k d → In y (take k xs)
-In-take_lower [] k d y r l i low = absurd i
-In-take_lower (x ∷ xs) zero d y r l (inl e) low = absurd (omega (arith, e, low))
-In-take_lower (x ∷ xs) zero d y r l (inr i) low = let h = r.0 y i in absurd (omega (arith, h, low))
-In-take_lower (x ∷ xs) (suc k) d y r l (inl e) low = inl e
-In-take_lower (x ∷ xs) (suc k) d y r l (inr i) low = inr (In-take_lower xs k d y r.1 (omega (arith, l)) i low)
+    ap (range_with_len a) more ∙ ap (λ l. a ∷ l) (range_append (a + 1) n k ∙ ap (λ b. range_with_len (a + 1) n ++ range_with_len b k) on)
