@@ -30,7 +30,6 @@ use std::sync::ledger::Ledger;
 /// Pairs of a meter and a branch that it touches, with different meters, whose branches are a forest. Some pairs are
 /// frozen: their meters keep them until they are thawed. It means something only beside a graph and meters over which
 /// it stands.
-#[derive(Drop)]
 pub struct Assignment {
     meters: usize,
     count: u32,
@@ -65,6 +64,25 @@ impl Model for Assignment {
           candidates = length a.candidates.items;
           search = room_of a.search;
         }) };
+}
+
+// Written out: so a caller's proof sees one call, and not the drop of each field.
+impl Drop for Assignment {
+    fn drop(self) {
+        let Assignment {
+            meters: _,
+            count: _,
+            turns: _,
+            slots: _,
+            frozen: _,
+            owners: _,
+            list: _,
+            path: _,
+            candidates: _,
+            search: _,
+            forest: _,
+        } = self;
+    }
 }
 
 impl Assignment {

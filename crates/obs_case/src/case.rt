@@ -15,7 +15,6 @@ use std::marker::Model;
 
 /// Five tables. Names are unique in each, positions are in range, a table has at most 20,000 rows
 /// and a price is at most 1,000,000,000.
-#[derive(Drop)]
 pub struct Case {
     nodes: IndexSet<Node>,
     switches: IndexSet<Switch>,
@@ -34,6 +33,19 @@ impl Model for Case {
     ghost view = { tables_of };
 
     ghost invariant = { λ c. IsValid (tables_of c) };
+}
+
+// Written out: so a caller's proof sees one call, and not the drop of each field.
+impl Drop for Case {
+    fn drop(self) {
+        let Case {
+            nodes: _,
+            switches: _,
+            branches: _,
+            meters: _,
+            candidates: _,
+        } = self;
+    }
 }
 
 impl Case {

@@ -129,6 +129,8 @@ pub fn read_tables(
         (tables_in nodes.now switches.now branches.now meters.now (option_map (λ c. c.now) candidates.entry))) }
 {
     let mut case = Case::new(alloc);
-    fill_case(alloc, &mut case, nodes, switches, branches, meters, candidates)?;
+    fill_case(
+        alloc, &mut case, nodes, switches, branches, meters, candidates,
+    )?;
     Ok(case)
 }

@@ -10,7 +10,6 @@ use obs_case::Case;
 use std::alloc::Global;
 
 /// Marks of items and branches, and the ways up of vertices.
-#[derive(Drop)]
 pub(crate) struct Work {
     pub(crate) chosen: Vec<u32>,
     pub(crate) paired: Vec<u32>,
@@ -18,6 +17,20 @@ pub(crate) struct Work {
     pub(crate) taken: Vec<u32>,
     pub(crate) ups: Vec<u32>,
     pub(crate) moved: Vec<u32>,
+}
+
+// Written out: so a caller's proof sees one call, and not the drop of each field.
+impl Drop for Work {
+    fn drop(self) {
+        let Work {
+            chosen: _,
+            paired: _,
+            listed: _,
+            taken: _,
+            ups: _,
+            moved: _,
+        } = self;
+    }
 }
 
 impl Work {

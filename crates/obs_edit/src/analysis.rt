@@ -33,7 +33,6 @@ pub struct State {
 
 /// A case, its network, a longest assignment of its live meters, and the answers that are at hand, save a placement. Of
 /// that it knows only whether it is at hand.
-#[derive(Drop)]
 pub(crate) struct Analysis {
     case: Case,
     network: Network,
@@ -70,6 +69,19 @@ impl Model for Analysis {
           })
           s.answers.hand;
     } };
+}
+
+// Written out: so a caller's proof sees one call, and not the drop of each field.
+impl Drop for Analysis {
+    fn drop(self) {
+        let Analysis {
+            case: _,
+            network: _,
+            held: _,
+            answers: _,
+            offered: _,
+        } = self;
+    }
 }
 
 impl Analysis {

@@ -11,7 +11,6 @@ use obs_islands::IslandWork;
 use std::alloc::Global;
 
 /// What was found in the present case beside the pairs.
-#[derive(Drop)]
 pub(crate) struct Answers {
     // a flag for each meter: whether it is live and not critical
     pub(crate) marks: Vec<bool>,
@@ -21,6 +20,20 @@ pub(crate) struct Answers {
     pub(crate) inside: Vec<u32>,
     pub(crate) measured: Measured,
     pub(crate) hand: AtHand,
+}
+
+// Written out: so a caller's proof sees one call, and not the drop of each field.
+impl Drop for Answers {
+    fn drop(self) {
+        let Answers {
+            marks: _,
+            critical: _,
+            islands: _,
+            inside: _,
+            measured: _,
+            hand: _,
+        } = self;
+    }
 }
 
 /// Room for the answers to each case with as many rows as this one, and none at hand.

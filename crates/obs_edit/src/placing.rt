@@ -20,7 +20,6 @@ use std::marker::Model;
 use std::sync::ledger::Ledger;
 
 /// Room for a placement and its pairs, the prices of the candidates, and what was found last.
-#[derive(Drop)]
 pub(crate) struct Placing {
     prices: Vec<u64>,
     work: PlaceWork,
@@ -46,6 +45,17 @@ impl Model for Placing {
       cheap : All (λ price. price ≤ most_price) p.prices.items;
       paired : p.paired.sizes ≡ p.work.sizes;
     } };
+}
+
+// Written out: so a caller's proof sees one call, and not the drop of each field.
+impl Drop for Placing {
+    fn drop(self) {
+        let Placing {
+            prices: _,
+            work: _,
+            paired: _,
+        } = self;
+    }
 }
 
 /// Writes what candidates cost.

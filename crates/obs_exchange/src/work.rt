@@ -18,7 +18,6 @@ use std::marker::Model;
 use std::sync::ledger::Ledger;
 
 /// The arrays of a search, and what the last one reached.
-#[derive(Drop)]
 pub struct Work {
     meters: usize,
     reached: Vec<bool>,
@@ -59,6 +58,27 @@ impl Model for Work {
         × (length w.tops.items ≡ length w.stars.items) × (length w.tried.items ≡ length w.stars.items)
         × AreBlank (length w.reached.items) (length w.walked.items) (length w.stars.items)
         w.no_flags.items w.numbers.items w.no_counts.items };
+}
+
+// Written out: so a caller's proof sees one call, and not the drop of each field.
+impl Drop for Work {
+    fn drop(self) {
+        let Work {
+            meters: _,
+            reached: _,
+            parents: _,
+            queue: _,
+            walked: _,
+            stars: _,
+            tried: _,
+            path: _,
+            tops: _,
+            no_flags: _,
+            numbers: _,
+            no_counts: _,
+            pass: _,
+        } = self;
+    }
 }
 
 impl Work {

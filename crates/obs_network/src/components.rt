@@ -15,7 +15,6 @@ use std::marker::Model;
 
 /// The component of each bus, and of each component its first bus, its size and whether it is
 /// energised.
-#[derive(Drop)]
 pub(crate) struct Components {
     buses: usize,
     count: usize,
@@ -42,6 +41,20 @@ impl Model for Components {
 
     ghost invariant = { λ c.
         AreGrouped c.buses c.count c.numbers.items c.first_buses.items c.sizes.items c.energised.items };
+}
+
+// Written out: so a caller's proof sees one call, and not the drop of each field.
+impl Drop for Components {
+    fn drop(self) {
+        let Components {
+            buses: _,
+            count: _,
+            numbers: _,
+            first_buses: _,
+            sizes: _,
+            energised: _,
+        } = self;
+    }
 }
 
 // Finds the components of some buses, of each of which the first bus of its component is given.

@@ -17,7 +17,6 @@ use std::marker::Model;
 
 /// The live meters of each component, rising, one list after another, and behind them the idle
 /// meters.
-#[derive(Drop)]
 pub(crate) struct LiveMeters {
     meters: usize,
     components: u32,
@@ -42,6 +41,20 @@ impl Model for LiveMeters {
 
     ghost invariant = { λ l.
         AreListed l.meters l.components l.most_components l.lists.items l.members.items l.starts.items };
+}
+
+// Written out: so a caller's proof sees one call, and not the drop of each field.
+impl Drop for LiveMeters {
+    fn drop(self) {
+        let LiveMeters {
+            meters: _,
+            components: _,
+            most_components: _,
+            lists: _,
+            members: _,
+            starts: _,
+        } = self;
+    }
 }
 
 // The list of what is touched so: that of its component, or the last where it is nothing.

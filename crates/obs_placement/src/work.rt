@@ -44,7 +44,6 @@ const NOTHING: Laid = Laid {
 };
 
 /// Room for a placement, and what was found last.
-#[derive(Drop)]
 pub struct PlaceWork {
     offered: usize,
     laid: Laid,
@@ -98,6 +97,29 @@ impl Model for PlaceWork {
       held : length w.held.items ≡ w.search.sizes.branches;
       joined : length w.joined.piece ≡ w.search.sizes.vertices;
     } };
+}
+
+// Written out: so a caller's proof sees one call, and not the drop of each field.
+impl Drop for PlaceWork {
+    fn drop(self) {
+        let PlaceWork {
+            offered: _,
+            laid: _,
+            keys: _,
+            since: _,
+            held: _,
+            joined: _,
+            raised: _,
+            list: _,
+            marks: _,
+            scope: _,
+            layers: _,
+            inside: _,
+            pairs: _,
+            search: _,
+            cut: _,
+        } = self;
+    }
 }
 
 impl PlaceWork {

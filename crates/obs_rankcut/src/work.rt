@@ -14,7 +14,6 @@ use std::alloc::Global;
 use std::marker::Model;
 
 /// Room for measuring bounds, and the list that was measured last.
-#[derive(Drop)]
 pub struct CutWork {
     count: usize,
     list: Vec<u32>,
@@ -39,6 +38,19 @@ impl Model for CutWork {
       branches : w.ranks.most_branches ≡ length w.flags.items;
       vertices : w.ranks.most_vertices ≡ length w.stars.items;
     } };
+}
+
+// Written out: so a caller's proof sees one call, and not the drop of each field.
+impl Drop for CutWork {
+    fn drop(self) {
+        let CutWork {
+            count: _,
+            list: _,
+            flags: _,
+            stars: _,
+            ranks: _,
+        } = self;
+    }
 }
 
 impl CutWork {
