@@ -19,13 +19,13 @@ use Rattle.obs_edit.specs.Answers.{bound_meters, case_critical_meters, case_rank
 use Rattle.obs_engine.specs.Asks.{report_status}
 use Rattle.obs_network.proofs.OfCase.{length-case_meters}
 
-pub fed_of : (n : Network) (t : Tables) (c : ℕ) → n ≡ network_of t → slice_index_or n.components.energised c false ≡ is_energised_component t c
-fed_of n t c same = ap (λ (x : Network). slice_index_or x.components.energised c false) same
+pub energised_in : (n : Network) (t : Tables) (c : ℕ) → n ≡ network_of t → slice_index_or n.components.energised c false ≡ is_energised_component t c
+energised_in n t c same = ap (λ (x : Network). slice_index_or x.components.energised c false) same
 
 -- whether a component falls short
-pub short_fed : (t : Tables) (c rank need : ℕ) → is_energised_component t c ≡ true → rank ≡ component_rank t c → need ≡ need_of (case_sizes t) c → not (eqb rank need) ≡ is_short t c
+pub short_energised : (t : Tables) (c rank need : ℕ) → is_energised_component t c ≡ true → rank ≡ component_rank t c → need ≡ need_of (case_sizes t) c → not (eqb rank need) ≡ is_short t c
 unfolding is_short
-short_fed t c rank need fed r n = rw (r, n, fed) refl
+short_energised t c rank need fed r n = rw (r, n, fed) refl
 
 pub short_dead : (t : Tables) (c : ℕ) (b : Bool) → is_energised_component t c ≡ false → b ≡ false → b ≡ is_short t c
 unfolding is_short

@@ -5,7 +5,6 @@ use std::alloc::Global;
 use std::test::Fail;
 
 // The tables, and the lines of a session that loses and regains each meter. `drawn` is the number that draws change.
-#[derive(Drop)]
 pub(crate) struct Grid {
     pub(crate) nodes: Vec<u8>,
     // An open switch in each row, between its first two nodes. A trial has none.
@@ -18,6 +17,23 @@ pub(crate) struct Grid {
     links: u64,
     out: u64,
     drawn: u64,
+}
+
+// Written out: so a caller's proof sees one call, and not the drop of each field.
+impl Drop for Grid {
+    fn drop(self) {
+        let Grid {
+            nodes: _,
+            switches: _,
+            branches: _,
+            meters: _,
+            candidates: _,
+            input: _,
+            links: _,
+            out: _,
+            drawn: _,
+        } = self;
+    }
 }
 
 // A letter and a number behind it.

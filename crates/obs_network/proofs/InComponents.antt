@@ -79,13 +79,13 @@ touched_component t v touches m e i =
     let of : ℕ → ℕ = λ u. get_or (case_components t) u 0 in
     elim (touched-hub (case_branches t) (slice_index_or touches m Nothing) e i) [ inl h ↦ ap of h | inr h ↦ ends_component t v e ∙ ap of h ]
 
-fed_of : (t : Tables) (e : ℕ) (o : Option Ends) → get_or (case_branches t) e None ≡ o → IsSome o → is_energised_component t (get_or (case_components t) (both_ends o).0 0) ≡ true
-fed_of t e None h s = absurd (cc s)
-fed_of t e (Some x) h s = (present_is t e x h).1
+energised_end : (t : Tables) (e : ℕ) (o : Option Ends) → get_or (case_branches t) e None ≡ o → IsSome o → is_energised_component t (get_or (case_components t) (both_ends o).0 0) ≡ true
+energised_end t e None h s = absurd (cc s)
+energised_end t e (Some x) h s = (present_is t e x h).1
 
 -- a branch that is present is of an energised component
-pub present_fed : (t : Tables) (e : ℕ) → IsSome (slice_index_or (case_branches t) e None) → is_energised_component t (branch_component t e) ≡ true
-present_fed t e s = fed_of t e (get_or (case_branches t) e None) refl s
+pub present_energised : (t : Tables) (e : ℕ) → IsSome (slice_index_or (case_branches t) e None) → is_energised_component t (branch_component t e) ≡ true
+present_energised t e s = energised_end t e (get_or (case_branches t) e None) refl s
 
 below_of : (t : Tables) → IsValid t → (e : ℕ) (o : Option Ends) → get_or (case_branches t) e None ≡ o → IsSome o → ((both_ends o).0 < case_bus_count t) × ((both_ends o).1 < case_bus_count t)
 below_of t v e None h s = absurd (cc s)

@@ -25,7 +25,7 @@ use Rattle.obs_network.specs.Observable.{branch_component, case_live_meters, is_
 use Rattle.obs_network.specs.Switched.{case_buses}
 use Rattle.obs_network.specs.Touching.{candidate_touch, meter_touch, meter_touches}
 use Rattle.obs_network.specs.Kept.{list_of, lists_of}
-use Rattle.obs_network.proofs.InComponents.{branch_component-below, live_ends-same, present_fed, present_is, touched_component}
+use Rattle.obs_network.proofs.InComponents.{branch_component-below, live_ends-same, present_energised, present_is, touched_component}
 use Rattle.obs_network.proofs.Marked.{filtered_below}
 
 -- the positions of a key are the numbers that pass two tests, where just these have the key
@@ -169,7 +169,7 @@ component_with_branch t v e c h =
     let there : IsSome (slice_index_or (case_branches t) e None) = fed_from t v e c (get_or (case_branches t) e None) refl h in
     let same : branch_component t e ≡ c = same_some (branch_component t e) c (sym (branch_in t e there) ∙ h) in
     let low = branch_component-below t v e there in
-    (omega (arith, low, same), sym (ap (is_energised_component t) same) ∙ present_fed t e there)
+    (omega (arith, low, same), sym (ap (is_energised_component t) same) ∙ present_energised t e there)
 
 -- an item lies in the component of what it touches
 pub item_in : (t : Tables) → IsValid t → (m e : ℕ) → In e (touch_at (case_branches t) (case_offered t) m) → component_of_item (network_of t) m ≡ component_of_branch (network_of t) e

@@ -33,7 +33,7 @@ use Rattle.obs_network.proofs.Numbered.{component_at}
 use Rattle.obs_network.proofs.Grouping.{sizes_of-at}
 use Rattle.obs_network.proofs.OfCase.{case_branches-are}
 use Rattle.obs_network.proofs.OfLaws.{case_component-at}
-use Rattle.obs_network.proofs.InComponents.{branch_component-below, ends_component, kinds_sum, present_below, present_fed, touched_component}
+use Rattle.obs_network.proofs.InComponents.{branch_component-below, ends_component, kinds_sum, present_below, present_energised, touched_component}
 use Rattle.obs_network.proofs.Sums.{nothing_in, split_by, sum_below-le, sum_below-same}
 
 -- the buses of a component
@@ -124,7 +124,7 @@ module _ (t : Tables) (v : IsValid t) where
             (λ p i.
             let u = In-filter_from (λ (q : Pair). branch_component t q.1 == c) p A i in
             let own = eqb-true (branch_component t p.1) c u.1 in
-            absurd (cc (sym (ap (is_energised_component t) own) ∙ present_fed t p.1 (pair_present touches M A a p u.0), dead))) in
+            absurd (cc (sym (ap (is_energised_component t) own) ∙ present_energised t p.1 (pair_present touches M A a p u.0), dead))) in
             omega (arith, none)
       ]
 

@@ -101,7 +101,7 @@ pub fn observable_by_rank()
 {}
 
 /// A case without an energised component is observable.
-pub fn nothing_fed_is_observable()
+pub fn nothing_energised_is_observable()
     ensures observable { (t : Tables) →
         ((c : ℕ) → c < case_component_count t → is_energised_component t c ≡ false) → IsObservableCase t }
 {}
