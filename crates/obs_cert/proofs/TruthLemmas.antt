@@ -76,12 +76,12 @@ no_flaw t at (claim ∷ claims) = (
 )
 
 -- the component that a name stands for
-fed_below : (t : Tables) (c : ℕ) → is_energised_component t c ≡ true → c < case_component_count t
+energised_below : (t : Tables) (c : ℕ) → is_energised_component t c ≡ true → c < case_component_count t
 unfolding case_energised
-fed_below t c fed =
+energised_below t c energised =
     elim (cases_lt c (length (case_energised t))) [
       | inl l ↦ (let e = length-map (range_with_len 0 (case_component_count t)) (is_energised (case_components t) (case_buses t) t.nodes) in omega (arith, l, e, length-range_with_len 0 (case_component_count t)))
-      | inr past ↦ clash fed (get_or_past (case_energised t) c false past)
+      | inr past ↦ clash energised (get_or_past (case_energised t) c false past)
     ]
 
 pub name_of_component : (t : Tables) (name : List ℕ) → has_name (node_names t) name ≡ true → names_component t name ≡ true → IsNameOf t (named_component t name) name
@@ -91,8 +91,8 @@ name_of_component t name known names =
     let one = and_parts (case_first_node t u == u) _ names in
     let two = and_parts (slice_index (case_first_buses t) (named_component t name) == slice_index (case_buses t) u) _ one.1 in
     record {
-      there = fed_below t (named_component t name) two.1;
-      fed = two.1;
+      there = energised_below t (named_component t name) two.1;
+      energised = two.1;
       node = u;
       low = omega (arith, low, length-map t.nodes (λ row. row.name));
       named = sym (same_bytes name (get_or (node_names t) u []) (passes_at_first (bytes_eq name) (node_names t) [] low));

@@ -17,7 +17,7 @@ NoFlawWhereAllHold =
 -- an energised component has this name: it is that of the first node of its first bus
 pub record IsNameOf (t : Tables) (c : ℕ) (name : List ℕ) : Type 0 where
   pub there : c < case_component_count t
-  pub fed : is_energised_component t c ≡ true
+  pub energised : is_energised_component t c ≡ true
   pub node : ℕ
   pub low : node < length t.nodes
   pub named : slice_index_or (node_names t) node [] ≡ name
