@@ -1,4 +1,4 @@
-// What a session is begun for. One function begins sessions, since each that owns one takes minutes to prove.
+// What a session is begun for. One function begins sessions and owns them, and what it begins one for borrows it.
 ghost use Rattle.std.specs.Prelude.{◌≡◌, ◌<◌, ℕ, true};
 ghost use Rattle.obs_script.specs.declared.command.Ask.TheVariants.{Place};
 ghost use Rattle.obs_engine.specs.Tasks.{IsTaskDone};
