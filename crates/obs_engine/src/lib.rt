@@ -8,8 +8,6 @@ mod cases;
 #[cfg(test)]
 mod cdf_tests;
 #[cfg(test)]
-mod cert_tests;
-#[cfg(test)]
 mod certificate_tests;
 mod claims;
 mod command;
@@ -30,6 +28,8 @@ mod matpower_tests;
 #[cfg(test)]
 mod place_tests;
 mod program;
+#[cfg(test)]
+mod read_cert_tests;
 mod refused;
 #[cfg(test)]
 mod report_tests;
