@@ -1,13 +1,10 @@
-use Rattle.std.proofs.Common.{◌≡◌, ◌<◌, ◌++◌, ℕ, List, Option, length, take, drop, sym, ◌∙◌, subst, arith}
+use Rattle.std.proofs.Common.{◌≡◌, ◌<◌, ◌++◌, ℕ, List, length, take, drop, sym, ◌∙◌, subst, arith}
 use Rattle.std.specs.Prelude.{All}
 use Rattle.std.proofs.lemmas.List.{length-take-le, take_all, take-append-le}
-use Rattle.obs_graph.specs.Positions.{IsForestAt}
-use Rattle.obs_matroid.specs.Assignments.{branches}
-use Rattle.obs_matroid.specs.Slots.{pairs_of}
-use Rattle.obs_assign.specs.Still.{AreRetained}
 use Rattle.obs_assign.proofs.Slotted.{slot_low}
 use Rattle.obs_assign.proofs.Retained.{IsRetained, IsRetained-made, low_positions, ups_low}
 use Rattle.obs_assign.proofs.retain.retain.Goals as goal
+use Rattle.obs_assign.proofs.retain.retain.Goals.{After-choose}
 
 pub search_along-requires-clause-positions : goal.search_along-requires-clause-positions
 search_along-requires-clause-positions c =
@@ -22,43 +19,36 @@ choose-requires-clause-ups c = λ v x h.
     let l = ups_low c.args.g.now.vertices c.args.g.now.ends (take c.list_pairs-count.result c.list_pairs-count.new.list) c.ups.result.now c.search_along.new.search c.vertices.result c.vertices.ensures.value c.ups.ensures.ups c.search_along.ensures.rooted v x h in
     omega arith
 
+-- what the slots are that were chosen
+made : (c : After-choose) → IsRetained c.args.g.now.ends c.args.ms.now.touches (take c.args.meters c.args.slots.now) c.choose.new.slots
+made c =
+    let g = c.args.g.now in
+    IsRetained-made g.vertices g.ends c.args.ms.now.touches (take c.args.meters c.args.slots.now) c.keep_touched.new.slots c.choose.new.slots c.ups.result.now c.search_along.new.search c.vertices.result
+    c.vertices.ensures.value (take c.list_pairs-count.result c.list_pairs-count.new.list) c.vertices.ensures.branches c.keep_touched.ensures.slots c.requires.apart c.list_pairs-count.ensures.list
+    c.ups.ensures.ups c.search_along.ensures.rooted c.choose.ensures.chosen
+
+-- they are those of all meters
+length_new : (c : After-choose) → length c.choose.new.slots ≡ c.args.meters
+length_new c = let a = length-take-le c.args.meters c.args.slots.now c.requires.slots in omega arith
+
+cut_all : (c : After-choose) → take c.args.meters c.choose.new.slots ≡ c.choose.new.slots
+cut_all c = take_all c.args.meters c.choose.new.slots (omega (arith, length_new c))
+
+-- and the first of the slots as they are handed back
+cut_back : (c : After-choose) → take c.args.meters (c.choose.new.slots ++ drop c.args.meters c.args.slots.now) ≡ c.choose.new.slots
+cut_back c = take-append-le c.args.meters c.choose.new.slots (drop c.args.meters c.args.slots.now) (omega (arith, length_new c)) ∙ cut_all c
+
 pub hold_pairs-requires-clause-forest : goal.hold_pairs-requires-clause-forest
 hold_pairs-requires-clause-forest c =
-    let g = c.args.g.now in
-    let old = take c.args.meters c.args.slots.now in
-    let kept = c.keep_touched.new.slots in
-    let new = c.choose.new.slots in
-    let ups = take c.vertices.result c.ups.result.now in
-    let made : IsRetained g.ends c.args.ms.now.touches old new =
-    IsRetained-made g.vertices g.ends c.args.ms.now.touches old kept new c.ups.result.now c.search_along.new.search c.vertices.result c.vertices.ensures.value (take c.list_pairs-count.result c.list_pairs-count.new.list)
-    c.vertices.ensures.branches c.keep_touched.ensures.slots c.requires.apart c.list_pairs-count.ensures.list c.ups.ensures.ups c.search_along.ensures.rooted c.choose.ensures.chosen in
-    let len : length new ≡ c.args.meters = (let a = length-take-le c.args.meters c.args.slots.now c.requires.slots in omega arith) in
-    subst (λ (s : List (Option ℕ)). IsForestAt g.ends (branches (pairs_of s))) (sym (take_all c.args.meters new (omega (arith, len)))) made.forest
+    let a = (goal.at.hold_pairs-requires-clause-forest c).After-choose in
+    rw (cut_all a) (made a).forest
 
 pub returns-clause-retained : goal.returns-clause-retained
 returns-clause-retained c =
-    let g = c.args.g.now in
-    let old = take c.args.meters c.args.slots.now in
-    let kept = c.keep_touched.new.slots in
-    let new = c.choose.new.slots in
-    let ups = take c.vertices.result c.ups.result.now in
-    let made : IsRetained g.ends c.args.ms.now.touches old new =
-    IsRetained-made g.vertices g.ends c.args.ms.now.touches old kept new c.ups.result.now c.search_along.new.search c.vertices.result c.vertices.ensures.value (take c.list_pairs-count.result c.list_pairs-count.new.list)
-    c.vertices.ensures.branches c.keep_touched.ensures.slots c.requires.apart c.list_pairs-count.ensures.list c.ups.ensures.ups c.search_along.ensures.rooted c.choose.ensures.chosen in
-    let len : length new ≡ c.args.meters = (let a = length-take-le c.args.meters c.args.slots.now c.requires.slots in omega arith) in
-    let cut : take c.args.meters (new ++ drop c.args.meters c.args.slots.now) ≡ new = take-append-le c.args.meters new (drop c.args.meters c.args.slots.now) (omega (arith, len)) ∙ take_all c.args.meters new (omega (arith, len)) in
-    subst (λ (s : List (Option ℕ)). AreRetained g.ends c.args.ms.now.touches (pairs_of old) (pairs_of s)) (sym cut) made.retained
+    let a = (goal.at.returns-clause-retained c).After-choose in
+    rw (cut_back a) (made a).retained
 
 pub returns-clause-is_forest : goal.returns-clause-is_forest
 returns-clause-is_forest c =
-    let g = c.args.g.now in
-    let old = take c.args.meters c.args.slots.now in
-    let kept = c.keep_touched.new.slots in
-    let new = c.choose.new.slots in
-    let ups = take c.vertices.result c.ups.result.now in
-    let made : IsRetained g.ends c.args.ms.now.touches old new =
-    IsRetained-made g.vertices g.ends c.args.ms.now.touches old kept new c.ups.result.now c.search_along.new.search c.vertices.result c.vertices.ensures.value (take c.list_pairs-count.result c.list_pairs-count.new.list)
-    c.vertices.ensures.branches c.keep_touched.ensures.slots c.requires.apart c.list_pairs-count.ensures.list c.ups.ensures.ups c.search_along.ensures.rooted c.choose.ensures.chosen in
-    let len : length new ≡ c.args.meters = (let a = length-take-le c.args.meters c.args.slots.now c.requires.slots in omega arith) in
-    let cut : take c.args.meters (new ++ drop c.args.meters c.args.slots.now) ≡ new = take-append-le c.args.meters new (drop c.args.meters c.args.slots.now) (omega (arith, len)) ∙ take_all c.args.meters new (omega (arith, len)) in
-    subst (λ (s : List (Option ℕ)). IsForestAt g.ends (branches (pairs_of s))) (sym cut) made.forest
+    let a = (goal.at.returns-clause-is_forest c).After-choose in
+    rw (cut_back a) (made a).forest

@@ -22,11 +22,11 @@ take_path-self-inside-requires-clause-stands g c = subst (λ (a : Assignment). F
 pub take_path-self-inside-requires-clause-held : goal.take_path-self-inside-requires-clause-held
 take_path-self-inside-requires-clause-held g c =
     let ins = c.self.inside in
-    let stands = subst (λ (a : Assignment). ForestStandsOver a.forest c.args.g.now) (sym c.self.view_is) c.requires.stands.forest in
+    let stands = take_path-self-inside-requires-clause-stands g c in
     rw c.deref_mut-3.ensures.value
     (held_listed ins.forest c.args.g.now (take ins.meters ins.slots.items) (take ins.count ins.list.items) stands c.self.invariant.whole.paired.holds c.self.invariant.listed)
 
--- the slots after the call, and as the vector has them
+-- as many slots after the call, and the vector has them as the call left them
 length_new : (g : Over) (c : After-turn-self-inside g) → length c.take_path-self-inside.new.slots ≡ length c.self.inside.slots.items
 length_new g c = lent_len c.take_path-self-inside.new.slots c.take_path-self-inside.auto.slots c.deref_mut.ensures.value
 

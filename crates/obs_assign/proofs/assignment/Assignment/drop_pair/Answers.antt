@@ -1,14 +1,12 @@
 use Rattle.std.proofs.Common.{◌≡◌, ◌++◌, ℕ, List, Option, None, false, length, set, take, drop, refl, ap, sym, ◌∙◌, subst, length-set}
-use Rattle.obs_graph.specs.Search.{room_of}
 use Rattle.obs_matroid.specs.Assignments.{branches}
 use Rattle.obs_matroid.specs.Slots.{pairs_of}
 use Rattle.obs_forest.specs.Forest.{Forest, taken}
 use Rattle.obs_forest.specs.Forest.{StandsOver as ForestStandsOver}
-use Rattle.obs_forest.proofs.Keeping.{written_back}
 use Rattle.obs_assign.specs.Assignment.{Assignment}
 use Rattle.obs_assign.specs.Kept.{seen}
 use Rattle.obs_assign.proofs.Changes.{IsDropped, IsDropped-made}
-use Rattle.obs_assign.proofs.Keeping.{HasArrays-same, IsKept-by, held_listed}
+use Rattle.obs_assign.proofs.Keeping.{HasArrays-same, IsKept-by, held_listed, lent_back, lent_len}
 use Rattle.obs_assign.proofs.Slotted.{IsForestAt-over}
 use Rattle.obs_assign.proofs.assignment.Assignment.drop_pair.Goals as goal
 use Rattle.obs_assign.proofs.assignment.Assignment.drop_pair.Goals.{After-lose_pair-self-inside}
@@ -32,9 +30,9 @@ new_is c = c.lose_pair-self-inside.ensures.lost ∙ ap (λ (s : List (Option ℕ
 
 slots_back : (c : After-lose_pair-self-inside) → take c.self.inside.slots.len (c.lose_pair-self-inside.new.slots ++ drop (length c.lose_pair-self-inside.new.slots) c.self.inside.slots.items) ≡ set c.self.inside.slots.items c.args.m None
 slots_back c =
-    let ins = c.self.inside in
-    let new = c.lose_pair-self-inside.new.slots in
-    written_back ins.slots.len new ins.slots.items (ap length (new_is c) ∙ length-set ins.slots.items c.args.m None) ins.slots.ok.0 ∙ new_is c
+    let slots = c.self.inside.slots in
+    let call = c.lose_pair-self-inside in
+    lent_back slots.len call.new.slots slots.items call.auto.slots c.deref_mut.ensures.value slots.ok.0 ∙ new_is c
 
 after_is : (c : After-lose_pair-self-inside)
     → c.lose_pair-self-inside.new.forest ≡ record c.self.inside.forest { vertices = c.args.g.now.vertices; held = taken c.args.g.now.ends (branches (pairs_of (take c.self.inside.meters (set c.self.inside.slots.items c.args.m None)))) }
@@ -59,25 +57,18 @@ invariant_of-self c =
     let ins = c.self.inside in
     let kept = c.self.invariant in
     let call = c.lose_pair-self-inside in
-    let new = set ins.slots.items c.args.m None in
     let owners = call.new.owners in
     let list = call.new.list in
-    let owners_len : length owners ≡ length ins.owners.items = call.auto.owners ∙ ap (λ (s : List (Option ℕ)). length s) c.deref_mut-2.ensures.value in
-    let list_len : length list ≡ length ins.list.items = call.auto.list ∙ ap (λ (s : List ℕ). length s) c.deref_mut-3.ensures.value in
-    let back_owners : take ins.owners.len (owners ++ drop (length owners) ins.owners.items) ≡ owners = written_back ins.owners.len owners ins.owners.items owners_len ins.owners.ok.0 in
-    let back_list : take ins.list.len (list ++ drop (length list) ins.list.items) ≡ list = written_back ins.list.len list ins.list.items list_len ins.list.ok.0 in
     let most_v = ap (λ (h : Forest). h.most_vertices) (after_is a) in
     let most_b = ap (λ (h : Forest). h.most_branches) (after_is a) in
-    let flags = set ins.frozen.items c.args.m false in
-    rw (slots_back a, back_owners, back_list) (IsKept-by (seen ins.meters new flags ins.turns call.new.forest) (made a).whole
-    ins.meters call.result owners (take call.result list) (record { frozen = length flags; list = length list; path = length ins.path.items; candidates = length ins.candidates.items; search = room_of ins.search })
-    (HasArrays-same (seen ins.meters ins.slots.items ins.frozen.items ins.turns ins.forest) (seen ins.meters new flags ins.turns call.new.forest) ins.meters ins.meters
-    (record { frozen = length ins.frozen.items; list = length ins.list.items; path = length ins.path.items; candidates = length ins.candidates.items; search = room_of ins.search })
-    (record { frozen = length flags; list = length list; path = length ins.path.items; candidates = length ins.candidates.items; search = room_of ins.search }) kept.arrays (length-set ins.slots.items c.args.m None) most_v most_b kept.arrays.meters_low
-    (record { frozen = length-set ins.frozen.items c.args.m false; list = list_len; path = refl; candidates = refl; search = refl }))
+    let back_owners = lent_back ins.owners.len owners ins.owners.items call.auto.owners c.deref_mut-2.ensures.value ins.owners.ok.0 in
+    let back_list = lent_back ins.list.len list ins.list.items call.auto.list c.deref_mut-3.ensures.value ins.list.ok.0 in
+    rw (slots_back a, back_owners, back_list) (IsKept-by _ (made a).whole _ _ _ _ _
+    (HasArrays-same _ _ _ _ _ _ kept.arrays (length-set ins.slots.items c.args.m None) most_v most_b kept.arrays.meters_low
+    (record { frozen = length-set ins.frozen.items c.args.m false; list = lent_len list call.auto.list c.deref_mut-3.ensures.value; path = refl; candidates = refl; search = refl }))
     (rw (sym (new_is a)) call.ensures.count)
     (rw (sym (new_is a)) call.ensures.inverse)
-    (owners_len ∙ (kept.owners_len ∙ sym most_b))
+    (lent_len owners call.auto.owners c.deref_mut-2.ensures.value ∙ (kept.owners_len ∙ sym most_b))
     (rw (sym (new_is a)) call.ensures.listed))
 
 pub returns-clause-dropped : goal.returns-clause-dropped

@@ -3,18 +3,16 @@ use Rattle.std.specs.Prelude.{MatchOption, is_some}
 use Rattle.std.proofs.lemmas.List.{length-take-le}
 use Rattle.obs_graph.specs.Positions.{IsForestAt}
 use Rattle.obs_graph.specs.Graph.{Graph}
-use Rattle.obs_graph.specs.Search.{room_of}
 use Rattle.obs_matroid.specs.Assignments.{branches, part}
 use Rattle.obs_matroid.specs.Slots.{pairs_of}
 use Rattle.obs_meter.specs.declared.Touch.{Touch}
 use Rattle.obs_forest.specs.Forest.{Forest}
 use Rattle.obs_forest.specs.Forest.{StandsOver as ForestStandsOver}
-use Rattle.obs_forest.proofs.Keeping.{written_back}
 use Rattle.obs_assign.specs.Assignment.{Assignment, HoldsPairs, StandsOver, has_flag, pairs}
 use Rattle.obs_assign.specs.Kept.{seen}
 use Rattle.obs_assign.specs.Pins.{IsPinnedAt, MayPin, joins, pinned_slots}
 use Rattle.obs_assign.specs.Spare.{IsSpare}
-use Rattle.obs_assign.proofs.Keeping.{HasArrays-same, IsKept-by, StandsOver-taken, held_listed}
+use Rattle.obs_assign.proofs.Keeping.{HasArrays-same, IsKept-by, StandsOver-taken, held_listed, lent_back, lent_len}
 use Rattle.obs_assign.proofs.Paths.{spare_some}
 use Rattle.obs_assign.proofs.Pinned.{IsPinnedNew, IsPinnedNew-core, forest_pinned, spare_owner}
 use Rattle.obs_assign.proofs.Pinning.{take-pinned}
@@ -97,10 +95,10 @@ new_is : (g : Over) (c : After-take_pin-self-inside g) → c.take_pin-self-insid
 new_is g c = c.take_pin-self-inside.ensures.slots ∙ ap (λ (s : List (Option ℕ)). pinned_slots s c.args.m c.args.e c.unwrap-x.result) c.deref_mut-2.ensures.value
 
 length_new : (g : Over) (c : After-take_pin-self-inside g) → length c.take_pin-self-inside.new.slots ≡ length c.self.inside.slots.items
-length_new g c = c.take_pin-self-inside.auto.slots ∙ ap (λ (s : List (Option ℕ)). length s) c.deref_mut-2.ensures.value
+length_new g c = lent_len c.take_pin-self-inside.new.slots c.take_pin-self-inside.auto.slots c.deref_mut-2.ensures.value
 
 slots_back : (g : Over) (c : After-take_pin-self-inside g) → take c.self.inside.slots.len (c.take_pin-self-inside.new.slots ++ drop (length c.take_pin-self-inside.new.slots) c.self.inside.slots.items) ≡ c.take_pin-self-inside.new.slots
-slots_back g c = written_back c.self.inside.slots.len c.take_pin-self-inside.new.slots c.self.inside.slots.items (length_new g c) c.self.inside.slots.ok.0
+slots_back g c = let slots = c.self.inside.slots in lent_back slots.len c.take_pin-self-inside.new.slots slots.items c.take_pin-self-inside.auto.slots c.deref_mut-2.ensures.value slots.ok.0
 
 -- the assignment that is seen afterwards
 made : (g : Over) (c : After-take_pin-self-inside g) (turns : ℕ)
@@ -134,27 +132,24 @@ invariant_of-self g c =
     let ins = c.self.inside in
     let kept = c.self.invariant in
     let t = c.take_pin-self-inside in
-    let after_turns = c.turn-self-inside.result in
-    let flags = set ins.frozen.items c.args.m true in
-    let new : Assignment = seen ins.meters t.new.slots flags after_turns t.new.forest in
     let owners = t.new.owners in
     let list = t.new.list in
     let path = c.spare_for.new.path in
-    let owners_len : length owners ≡ length ins.owners.items = t.auto.owners ∙ ap (λ (s : List (Option ℕ)). length s) c.deref_mut-3.ensures.value in
-    let list_len : length list ≡ length ins.list.items = t.auto.list ∙ ap (λ (s : List ℕ). length s) c.deref_mut-4.ensures.value in
-    let path_len : length path ≡ length ins.path.items = c.spare_for.auto.path ∙ ap (λ (s : List ℕ). length s) c.deref_mut.ensures.value in
-    let back_owners : take ins.owners.len (owners ++ drop (length owners) ins.owners.items) ≡ owners = written_back ins.owners.len owners ins.owners.items owners_len ins.owners.ok.0 in
-    let back_list : take ins.list.len (list ++ drop (length list) ins.list.items) ≡ list = written_back ins.list.len list ins.list.items list_len ins.list.ok.0 in
-    let back_path : take ins.path.len (path ++ drop (length path) ins.path.items) ≡ path = written_back ins.path.len path ins.path.items path_len ins.path.ok.0 in
     let most_v = ap (λ (h : Forest). h.most_vertices) t.ensures.forest in
     let most_b = ap (λ (h : Forest). h.most_branches) t.ensures.forest in
-    rw (slots_back g a, back_owners, back_list, back_path) (IsKept-by new (made g a after_turns (ready g u) (pinned_forest g u)).whole
-    ins.meters t.result owners (take t.result list) (record { frozen = length flags; list = length list; path = length path; candidates = length ins.candidates.items; search = room_of ins.search })
-    (HasArrays-same (seen ins.meters ins.slots.items ins.frozen.items ins.turns ins.forest) new ins.meters ins.meters
-    (record { frozen = length ins.frozen.items; list = length ins.list.items; path = length ins.path.items; candidates = length ins.candidates.items; search = room_of ins.search })
-    (record { frozen = length flags; list = length list; path = length path; candidates = length ins.candidates.items; search = room_of ins.search }) kept.arrays (length_new g a) most_v most_b kept.arrays.meters_low
-    (record { frozen = length-set ins.frozen.items c.args.m true; list = list_len; path = path_len; candidates = refl; search = refl }))
-    t.ensures.count t.ensures.inverse (owners_len ∙ (kept.owners_len ∙ sym most_b)) t.ensures.listed)
+    let back_owners = lent_back ins.owners.len owners ins.owners.items t.auto.owners c.deref_mut-3.ensures.value ins.owners.ok.0 in
+    let back_list = lent_back ins.list.len list ins.list.items t.auto.list c.deref_mut-4.ensures.value ins.list.ok.0 in
+    let back_path = lent_back ins.path.len path ins.path.items c.spare_for.auto.path c.deref_mut.ensures.value ins.path.ok.0 in
+    rw (slots_back g a, back_owners, back_list, back_path) (IsKept-by _ (made g a c.turn-self-inside.result (ready g u) (pinned_forest g u)).whole _ _ _ _ _
+    (HasArrays-same _ _ _ _ _ _ kept.arrays (length_new g a) most_v most_b kept.arrays.meters_low
+    (record {
+      frozen = length-set ins.frozen.items c.args.m true;
+      list = lent_len list t.auto.list c.deref_mut-4.ensures.value;
+      path = lent_len path c.spare_for.auto.path c.deref_mut.ensures.value;
+      candidates = refl;
+      search = refl;
+    }))
+    t.ensures.count t.ensures.inverse (lent_len owners t.auto.owners c.deref_mut-3.ensures.value ∙ (kept.owners_len ∙ sym most_b)) t.ensures.listed)
 
 pub returns-clause-pinned : goal.returns-clause-pinned
 returns-clause-pinned g c =

@@ -1,11 +1,11 @@
-use Rattle.std.proofs.Common.{◌≡◌, ◌++◌, ℕ, List, Option, None, length, take, drop, false, replicate, ap, sym, ◌∙◌, subst, get_or, arith}
+use Rattle.std.proofs.Common.{◌≡◌, ◌++◌, ℕ, List, Option, None, length, take, drop, false, replicate, refl, ap, sym, ◌∙◌, subst, get_or, arith}
 use Rattle.std.proofs.lemmas.List.{length-replicate}
 use Rattle.obs_matroid.specs.Slots.{pairs_of}
 use Rattle.obs_forest.specs.Forest.{Forest}
 use Rattle.obs_assign.specs.Assignment.{Assignment}
 use Rattle.obs_assign.specs.Kept.{SlotsApart, seen}
 use Rattle.obs_assign.specs.Still.{AreRetained}
-use Rattle.obs_assign.proofs.Keeping.{IsKept-by, filled_back, lent_back, lent_len}
+use Rattle.obs_assign.proofs.Keeping.{HasArrays-same, IsKept-by, filled_back, lent_back, lent_len}
 use Rattle.obs_assign.proofs.Slotted.{slots_apart}
 use Rattle.obs_assign.proofs.Pinned.{IsCarried, IsCarried-made, carried_low}
 use Rattle.obs_assign.proofs.assignment.Assignment.retain_touching.Goals as goal
@@ -22,7 +22,7 @@ retain-self-inside-requires-clause-apart c =
     let ins = c.self.inside in
     subst (λ (s : List (Option ℕ)). SlotsApart (take ins.meters s)) (sym c.deref_mut-2.ensures.value) (slots_apart ins.forest.held (take ins.meters ins.slots.items) c.self.invariant.whole.paired.holds.forest)
 
--- the slots after the call, and as the vector has them
+-- as many slots after the call, and the vector has them as the call left them
 length_new : (c : After-retain-self-inside) → length c.retain-self-inside.new.slots ≡ length c.self.inside.slots.items
 length_new c = lent_len c.retain-self-inside.new.slots c.retain-self-inside.auto.slots c.deref_mut-2.ensures.value
 
@@ -62,23 +62,18 @@ invariant_of-self c =
     let back_owners = lent_back ins.owners.len owners ins.owners.items call.auto.owners c.deref_mut-3.ensures.value ins.owners.ok.0 in
     let back_list = lent_back ins.list.len list ins.list.items call.auto.list c.deref_mut-4.ensures.value ins.list.ok.0 in
     let back_candidates = lent_back ins.candidates.len candidates ins.candidates.items call.auto.candidates c.deref_mut-5.ensures.value ins.candidates.ok.0 in
-    let fv = ap (λ (h : Forest). h.most_vertices) call.ensures.forest in
-    let fb = ap (λ (h : Forest). h.most_branches) call.ensures.forest in
-    let len = length_new a in
-    let list_len = lent_len list call.auto.list c.deref_mut-4.ensures.value in
-    let candidates_len = lent_len candidates call.auto.candidates c.deref_mut-5.ensures.value in
-    let flags_len = length-replicate (length ins.frozen.items) false in
-    let room = call.ensures.room in
-    let few = kept.arrays.few in
-    let low = kept.arrays.meters_low in
-    let s3 = kept.arrays.search in
-    let f3 = kept.arrays.frozen in
-    let l3 = kept.arrays.list in
-    let pa3 = kept.arrays.path in
-    let c3 = kept.arrays.candidates in
+    let most_v = ap (λ (h : Forest). h.most_vertices) call.ensures.forest in
+    let most_b = ap (λ (h : Forest). h.most_branches) call.ensures.forest in
     rw (slots_back a, flags_back a, back_owners, back_list, back_candidates) (IsKept-by _ (made a).whole _ _ _ _ _
-    (record { few = omega arith; meters_low = omega arith; frozen = omega arith; list = omega arith; path = omega arith; candidates = omega arith; search = omega arith })
-    call.ensures.count call.ensures.inverse (lent_len owners call.auto.owners c.deref_mut-3.ensures.value ∙ (kept.owners_len ∙ sym fb)) call.ensures.listed)
+    (HasArrays-same _ _ _ _ _ _ kept.arrays (length_new a) most_v most_b kept.arrays.meters_low
+    (record {
+      frozen = length-replicate (length ins.frozen.items) false;
+      list = lent_len list call.auto.list c.deref_mut-4.ensures.value;
+      path = refl;
+      candidates = lent_len candidates call.auto.candidates c.deref_mut-5.ensures.value;
+      search = call.ensures.room;
+    }))
+    call.ensures.count call.ensures.inverse (lent_len owners call.auto.owners c.deref_mut-3.ensures.value ∙ (kept.owners_len ∙ sym most_b)) call.ensures.listed)
 
 pub returns-clause-retained : goal.returns-clause-retained
 returns-clause-retained c =
