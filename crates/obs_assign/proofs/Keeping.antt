@@ -1,5 +1,5 @@
 -- What an assignment keeps when its pairs have changed.
-use Rattle.std.proofs.Common.{◌≡◌, ◌≢◌, ◌++◌, ℕ, suc, ◌+◌, ◌<◌, ◌≤◌, Bool, false, Option, Some, None, List, [], ◌∷◌, length, get_or, set, take, drop, refl, sym, ap, ◌∙◌, subst, inl, inr, arith, replicate, length-set, get_or-set_same, get_or-set_other}
+use Rattle.std.proofs.Common.{◌≡◌, ◌≢◌, ℕ, suc, ◌+◌, ◌<◌, ◌≤◌, Bool, false, Option, Some, None, List, [], ◌∷◌, length, get_or, set, take, refl, sym, ap, ◌∙◌, subst, inl, inr, arith, replicate, length-set, get_or-set_same, get_or-set_other}
 use Rattle.std.specs.Prelude.{IfSome}
 use Rattle.std.specs.List.{AllPairs}
 use Rattle.std.proofs.lemmas.Bool.{cases_eq, cases_lt}
@@ -18,17 +18,14 @@ use Rattle.obs_meter.specs.declared.Touch.{Touch}
 use Rattle.obs_meter.specs.Touches.{touch_at}
 use Rattle.obs_forest.specs.Forest.{Forest, taken}
 use Rattle.obs_forest.specs.Forest.{StandsOver as ForestStandsOver}
-use Rattle.obs_forest.proofs.Held.{length-taken, part-taken}
-use Rattle.obs_forest.proofs.Keeping.{taken-exactly, written_back}
+use Rattle.obs_forest.proofs.Keeping.{taken-exactly}
+use Rattle.obs_forest.proofs.Refilled.{StandsOver-taken}
 use Rattle.obs_assign.specs.declared.Move.{Move}
 use Rattle.obs_assign.specs.Assignment.{Assignment, HoldsPairs, IsWhole, StandsOver, has_flag, pairs}
 use Rattle.obs_assign.specs.Kept.{HasArrays, IsInverse, IsKept, IsListed, Lengths, seen}
 use Rattle.obs_assign.specs.Moves.{ArePath, moved}
 use Rattle.obs_assign.proofs.Slotted.{HoldsPairs-taken, IsForestAt-nil, item_slot, none_some, slot_item, slot_low}
 use Rattle.obs_assign.proofs.Moving.{length-moved_path, moved-some}
-
-pub StandsOver-taken : (f : Forest) (g : Graph) (L : List ℕ) → ForestStandsOver (record f { vertices = g.vertices; held = taken g.ends L }) g
-StandsOver-taken f g L = record { vertices = refl; positions = sym (length-taken g.ends L); held = part-taken g.ends L }
 
 -- the forest holds the branches at such a list
 pub held_listed : (f : Forest) (g : Graph) (slots : List (Option ℕ)) (list : List ℕ) → ForestStandsOver f g → HoldsPairs slots f.held → IsListed slots list → f.held ≡ taken g.ends list
@@ -160,20 +157,6 @@ seen-thawed meters slots frozen new turns forest now is low new_is =
 pub owner_low : (meters : ℕ) (slots owners : List (Option ℕ)) (o : Option ℕ) (e : ℕ) → IsInverse (take meters slots) owners → get_or owners e None ≡ o → IfSome o (λ m. m < length (take meters slots))
 owner_low meters slots owners None e inverse is = tt
 owner_low meters slots owners (Some m) e inverse is = slot_low (take meters slots) m e ((inverse m e).1 is)
-
--- a vector whose cells were lent, and given back as many
-pub lent_len : {X : Type 0} {lent items : List X} (new : List X) → length new ≡ length lent → lent ≡ items → length new ≡ length items
-lent_len new same is = same ∙ ap (λ xs. length xs) is
-
-pub lent_back : {X : Type 0} {lent : List X} (n : ℕ) (new items : List X) → length new ≡ length lent → lent ≡ items → n ≡ length items → take n (new ++ drop (length new) items) ≡ new
-lent_back n new items same is all = written_back n new items (lent_len new same is) all
-
--- and each filled with x
-pub filled_back : {X : Type 0} {lent : List X} (x : X) (n : ℕ) (new items : List X) → new ≡ replicate (length lent) x → lent ≡ items → n ≡ length items
-    → take n (new ++ drop (length new) items) ≡ replicate (length items) x
-filled_back x n new items new_is is all =
-    let filled : new ≡ replicate (length items) x = new_is ∙ ap (λ xs. replicate (length xs) x) is in
-    written_back n new items (ap (λ xs. length xs) filled ∙ length-replicate (length items) x) all ∙ filled
 
 -- the arrays have the room that they had
 pub record AreSame (n k : Lengths) : Type 0 where

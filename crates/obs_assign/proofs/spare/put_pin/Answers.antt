@@ -8,16 +8,17 @@ use Rattle.obs_matroid.specs.Lists.{In}
 use Rattle.obs_matroid.specs.Slots.{pairs_of}
 use Rattle.obs_matroid.proofs.Lists.{clash}
 use Rattle.obs_forest.specs.Forest.{Forest, StandsOver, taken}
+use Rattle.obs_forest.proofs.Refilled.{StandsOver-taken}
 use Rattle.obs_assign.specs.Kept.{IsInverse, IsListed}
 use Rattle.obs_assign.specs.Pins.{pinned_slots}
 use Rattle.obs_assign.proofs.Handing.{apart-inverse, count-same}
-use Rattle.obs_assign.proofs.Keeping.{StandsOver-taken, slot_without}
+use Rattle.obs_assign.proofs.Keeping.{slot_without}
 use Rattle.obs_assign.proofs.Listed.{IsListed-same, taken-same}
 use Rattle.obs_assign.proofs.Losing.{held_over}
 use Rattle.obs_assign.proofs.Pinning.{inverse-swapped, same_branches, some_there, take-pinned}
 use Rattle.obs_assign.proofs.Slotted.{slots_apart}
 use Rattle.obs_assign.proofs.spare.put_pin.Goals as goal
-use Rattle.obs_assign.proofs.spare.put_pin.Goals.{After-hand, After-lose_pair-less}
+use Rattle.obs_assign.proofs.spare.put_pin.Goals.{After-hand}
 
 -- the slots after the meter x handed its branch on
 slots_is : (c : After-hand) → take c.args.meters c.hand.new.slots ≡ pinned_slots (take c.args.meters c.args.slots.now) c.args.pin.meter c.args.pin.branch c.args.x

@@ -4,9 +4,10 @@ use Rattle.obs_graph.specs.Positions.{IsForestAt}
 use Rattle.obs_matroid.specs.Assignments.{branches}
 use Rattle.obs_matroid.specs.Slots.{pairs_of}
 use Rattle.obs_forest.specs.Forest.{Forest, StandsOver}
+use Rattle.obs_forest.proofs.Refilled.{StandsOver-taken}
 use Rattle.obs_assign.specs.Pins.{pinned_slots}
 use Rattle.obs_assign.proofs.Changes.{forest_dropped}
-use Rattle.obs_assign.proofs.Keeping.{StandsOver-taken, slot_without}
+use Rattle.obs_assign.proofs.Keeping.{slot_without}
 use Rattle.obs_assign.proofs.Pinning.{pinned-lost}
 use Rattle.obs_assign.proofs.spare.take_pin.Goals as goal
 use Rattle.obs_assign.proofs.spare.take_pin.Goals.{After-lose_pair-less}

@@ -1,10 +1,11 @@
 use Rattle.std.proofs.Common.{◌≡◌, ◌++◌, length, take, drop, refl, ap, sym, ◌∙◌, subst}
 use Rattle.obs_forest.specs.Forest.{Forest}
 use Rattle.obs_forest.specs.Forest.{StandsOver as ForestStandsOver}
+use Rattle.obs_forest.proofs.Lent.{lent_back, lent_len}
 use Rattle.obs_assign.specs.Assignment.{Assignment}
 use Rattle.obs_assign.specs.Kept.{seen}
 use Rattle.obs_assign.specs.Moves.{moved}
-use Rattle.obs_assign.proofs.Keeping.{HasArrays-same, IsKept-by, held_listed, lent_back, lent_len, path_different, path_some}
+use Rattle.obs_assign.proofs.Keeping.{HasArrays-same, IsKept-by, held_listed, path_different, path_some}
 use Rattle.obs_assign.proofs.Changes.{IsMoved, IsMoved-made}
 use Rattle.obs_assign.proofs.assignment.Assignment.augment.Goals as goal
 use Rattle.obs_assign.proofs.assignment.Assignment.augment.Given.{Over}

@@ -4,9 +4,10 @@ use Rattle.std.proofs.lemmas.List.{length-replicate}
 use Rattle.obs_matroid.specs.Assignments.{branches}
 use Rattle.obs_matroid.specs.Slots.{pairs_of}
 use Rattle.obs_forest.specs.Forest.{Forest, taken}
+use Rattle.obs_forest.proofs.Lent.{filled_back, lent_back, lent_len}
 use Rattle.obs_assign.specs.Assignment.{Assignment}
 use Rattle.obs_assign.specs.Kept.{seen}
-use Rattle.obs_assign.proofs.Keeping.{HasArrays-same, IsForestAt-empty, IsKept-by, filled_back, lent_back, lent_len}
+use Rattle.obs_assign.proofs.Keeping.{HasArrays-same, IsForestAt-empty, IsKept-by}
 use Rattle.obs_assign.proofs.Changes.{IsCleared, IsCleared-made}
 use Rattle.obs_assign.proofs.assignment.Assignment.clear.Goals as goal
 use Rattle.obs_assign.proofs.assignment.Assignment.clear.Goals.{After-hold_pairs-self-inside}

@@ -3,10 +3,11 @@ use Rattle.obs_matroid.specs.Assignments.{branches}
 use Rattle.obs_matroid.specs.Slots.{pairs_of}
 use Rattle.obs_forest.specs.Forest.{Forest, taken}
 use Rattle.obs_forest.specs.Forest.{StandsOver as ForestStandsOver}
+use Rattle.obs_forest.proofs.Lent.{lent_back, lent_len}
 use Rattle.obs_assign.specs.Assignment.{Assignment}
 use Rattle.obs_assign.specs.Kept.{seen}
 use Rattle.obs_assign.proofs.Changes.{IsDropped, IsDropped-made}
-use Rattle.obs_assign.proofs.Keeping.{HasArrays-same, IsKept-by, held_listed, lent_back, lent_len}
+use Rattle.obs_assign.proofs.Keeping.{HasArrays-same, IsKept-by, held_listed}
 use Rattle.obs_assign.proofs.Slotted.{IsForestAt-over}
 use Rattle.obs_assign.proofs.assignment.Assignment.drop_pair.Goals as goal
 use Rattle.obs_assign.proofs.assignment.Assignment.drop_pair.Goals.{After-lose_pair-self-inside}

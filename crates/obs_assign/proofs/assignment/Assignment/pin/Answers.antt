@@ -8,11 +8,13 @@ use Rattle.obs_matroid.specs.Slots.{pairs_of}
 use Rattle.obs_meter.specs.declared.Touch.{Touch}
 use Rattle.obs_forest.specs.Forest.{Forest}
 use Rattle.obs_forest.specs.Forest.{StandsOver as ForestStandsOver}
+use Rattle.obs_forest.proofs.Lent.{lent_back, lent_len}
+use Rattle.obs_forest.proofs.Refilled.{StandsOver-taken}
 use Rattle.obs_assign.specs.Assignment.{Assignment, HoldsPairs, StandsOver, has_flag, pairs}
 use Rattle.obs_assign.specs.Kept.{seen}
 use Rattle.obs_assign.specs.Pins.{IsPinnedAt, MayPin, joins, pinned_slots}
 use Rattle.obs_assign.specs.Spare.{IsSpare}
-use Rattle.obs_assign.proofs.Keeping.{HasArrays-same, IsKept-by, StandsOver-taken, held_listed, lent_back, lent_len}
+use Rattle.obs_assign.proofs.Keeping.{HasArrays-same, IsKept-by, held_listed}
 use Rattle.obs_assign.proofs.Paths.{spare_some}
 use Rattle.obs_assign.proofs.Pinned.{IsPinnedNew, IsPinnedNew-core, forest_pinned, spare_owner}
 use Rattle.obs_assign.proofs.Pinning.{take-pinned}

@@ -2,10 +2,11 @@ use Rattle.std.proofs.Common.{◌≡◌, ◌++◌, ℕ, List, Option, None, leng
 use Rattle.std.proofs.lemmas.List.{length-replicate}
 use Rattle.obs_matroid.specs.Slots.{pairs_of}
 use Rattle.obs_forest.specs.Forest.{Forest}
+use Rattle.obs_forest.proofs.Lent.{filled_back, lent_back, lent_len}
 use Rattle.obs_assign.specs.Assignment.{Assignment}
 use Rattle.obs_assign.specs.Kept.{SlotsApart, seen}
 use Rattle.obs_assign.specs.Still.{AreRetained}
-use Rattle.obs_assign.proofs.Keeping.{HasArrays-same, IsKept-by, filled_back, lent_back, lent_len}
+use Rattle.obs_assign.proofs.Keeping.{HasArrays-same, IsKept-by}
 use Rattle.obs_assign.proofs.Slotted.{slots_apart}
 use Rattle.obs_assign.proofs.Pinned.{IsCarried, IsCarried-made, carried_low}
 use Rattle.obs_assign.proofs.assignment.Assignment.retain_touching.Goals as goal

@@ -1,5 +1,6 @@
 use Rattle.std.proofs.Common.{◌++◌, length, take, drop, false, arith}
-use Rattle.obs_assign.proofs.Keeping.{filled_back, seen-thawed}
+use Rattle.obs_forest.proofs.Lent.{filled_back}
+use Rattle.obs_assign.proofs.Keeping.{seen-thawed}
 use Rattle.obs_assign.proofs.assignment.Assignment.unpin_all.Goals as goal
 
 pub returns : goal.returns
