@@ -1,12 +1,13 @@
 -- Names in a list of names: whether one is there, and where.
 use Rattle.std.proofs.Common.{inl, inr, ℕ, ◌≡◌, ◌∙◌, ◌+◌, ◌<◌, ◌≤◌, ap, refl, sym, List, [], ◌∷◌, ◌++◌, length, Bool, not, ◌||◌, ◌&&◌, cond, true, false, arith, suc, nat_lt, nat_le, Some, None, is_some, position}
-use Rattle.std.proofs.lemmas.Bool.{false≢true, and_parts, cases_Bool, lt-ltb, le-ltb, leb-true, not-true}
+use Rattle.std.proofs.lemmas.Bool.{false≢true, and_parts, cases_Bool, lt-ltb, le-ltb, leb-true, not-true, or_parts}
 use Rattle.std.proofs.lemmas.List.{length-append}
 use Rattle.std.proofs.lemmas.List.Folds.{list_all-append, list_any-append}
 use Rattle.std.specs.Cmp.Lexicographic.{bytes_decides}
 use Rattle.std.specs.List.{list_all, list_any, position_or_len}
 use Rattle.std.specs.Str.{bytes_eq}
 use Rattle.obs_text.specs.Names.{is_name, is_name_byte}
+pub use Rattle.obs_text.proofs.ByteLemmas.{same_bytes}
 use Rattle.obs_case.specs.Tables.{IsNamed, are_different, has_name, most_rows, position_of}
 
 -- a name that is there stands before the end
@@ -64,9 +65,6 @@ pub missed : (names : List (List ℕ)) (name : List ℕ) → None ≡ position_o
 missed names name e = sym (is_some-position (bytes_eq name) names) ∙ ap is_some (sym e)
 
 -- equality of bytes
-pub same_bytes : (x y : List ℕ) → bytes_eq x y ≡ true → x ≡ y
-same_bytes x y h = (bytes_decides x y).0 h
-
 pub bytes_eq-itself : (x : List ℕ) → bytes_eq x x ≡ true
 bytes_eq-itself x = (bytes_decides x x).1 refl
 
@@ -110,16 +108,12 @@ different-from name names new rest = rw (new, rest) refl
 pub has_name-push : (names : List (List ℕ)) (name more : List ℕ) → has_name names name ≡ false → bytes_eq name more ≡ false → has_name (names ++ more ∷ []) name ≡ false
 has_name-push names name more absent other = list_any-append (bytes_eq name) names (more ∷ []) ∙ rw (absent, other) refl
 
-or_none : (a b : Bool) → (a || b) ≡ false → (a ≡ false) × (b ≡ false)
-or_none true b h = cc
-or_none false b h = (refl, h)
-
 -- one name more that is new
 pub different-push : (names : List (List ℕ)) (name : List ℕ) → are_different names ≡ true → has_name names name ≡ false → are_different (names ++ name ∷ []) ≡ true
 different-push [] name d new = different-from name [] refl different-none
 different-push (x ∷ names) name d new =
     let before = different-parts x names d in
-    let parts = or_none (bytes_eq name x) (has_name names name) new in
+    let parts = or_parts (bytes_eq name x) (has_name names name) new in
     different-from x (names ++ name ∷ []) (has_name-push names x name before.0 (bytes_eq-back name x parts.0)) (different-push names name before.1 parts.1)
 
 pub named-none : IsNamed []

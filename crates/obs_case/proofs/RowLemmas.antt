@@ -8,7 +8,8 @@ use Rattle.std.specs.Set.{swap_key}
 use Rattle.std.specs.Str.{bytes_eq}
 use Rattle.obs_case.specs.Flags.{changed_at}
 use Rattle.obs_case.specs.Tables.{IsNamed, are_different, has_name, place_of, position_of}
-use Rattle.obs_case.proofs.NameLemmas.{bytes_eq-itself, different-parts, same_bytes}
+use Rattle.obs_case.proofs.NameLemmas.{bytes_eq-itself, different-parts}
+use Rattle.obs_text.proofs.ByteLemmas.{same_bytes}
 
 module _ {R : Type 0} (own : R → List ℕ) where
   -- the name of a row is among the names

@@ -2,9 +2,7 @@
 use mir.Val.{bool_byte}
 use Rattle.std.proofs.Common.{◌≡◌, ℕ, suc, ◌+◌, ◌≤◌, Bool, true, false, cond, List, [], ◌∷◌, length, Result, Ok, Err, refl, sym, ap, ◌∙◌, inl, inr, zero-add, add-zero, add-one, arith}
 use Rattle.std.proofs.lemmas.Bool.{cases_Bool}
-use Rattle.std.proofs.lemmas.List.{length-map}
-use Rattle.std.specs.List.{onto_first}
-use Rattle.obs_text.specs.Lines.{content, ended_lines, is_feed, lines_of}
+use Rattle.obs_text.specs.Lines.{lines_of}
 use Rattle.obs_cert.specs.declared.fault.CertCode.{CertCode}
 use Rattle.obs_cert.specs.declared.fault.CertCode.TheVariants.{NoEnd}
 use Rattle.obs_cert.specs.declared.fault.CertFault.{CertFault}
@@ -109,20 +107,3 @@ module _ (bytes : List ℕ) (place : Place) (at claims : ℕ) (left : List ℕ) 
   no_end over =
       has_fault (read_from Start 1 (lines_of bytes)) (record { line = 0; code = NoEnd })
       (at_end ∙ ap (λ b. counted claims (cond b (Ok []) (Err (record { line = 0; code = NoEnd })))) over)
-
--- there are no more lines than bytes
-length-onto_first : (b : ℕ) (parts : List (List ℕ)) → length (onto_first b parts) ≤ suc (length parts)
-length-onto_first b [] = omega arith
-length-onto_first b (part ∷ parts) = omega arith
-
-length-ended_lines : (bytes : List ℕ) → length (ended_lines bytes) ≤ length bytes
-length-ended_lines [] = omega arith
-length-ended_lines (b ∷ bs) =
-    let fewer = length-ended_lines bs in
-    elim (cases_Bool (is_feed b)) [
-      | inl e ↦ rw e (omega (arith, fewer))
-      | inr e ↦ rw e (omega (arith, fewer, length-onto_first b (ended_lines bs)))
-    ]
-
-pub length-lines_of : (bytes : List ℕ) → length (lines_of bytes) ≤ length bytes
-length-lines_of bytes = omega (arith, length-map (ended_lines bytes) content, length-ended_lines bytes)

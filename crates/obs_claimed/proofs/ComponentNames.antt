@@ -11,7 +11,7 @@ use Rattle.obs_matroid.proofs.Lists.{clash}
 use Rattle.obs_switch.specs.Buses.{first_node, members_of}
 use Rattle.obs_switch.proofs.FirstNodes.{bus_at, bus_of-first_node, buses_of-at, first_member, first_node-first_node, first_node-le}
 use Rattle.obs_case.specs.Tables.{IsValid, Tables, are_different, has_name, node_names, place_of}
-use Rattle.obs_case.proofs.NameLemmas.{bytes_eq-itself, different-parts, same_bytes}
+use Rattle.obs_case.proofs.NameLemmas.{bytes_eq-itself, different-parts}
 use Rattle.obs_network.specs.Components.{component_of, components_of, first_bus, first_buses_of, is_first_bus, need_of}
 use Rattle.obs_network.specs.Network.{case_component_count, case_components, case_first_buses, case_live, case_sizes}
 use Rattle.obs_network.specs.Observable.{is_energised_component}
@@ -21,6 +21,7 @@ use Rattle.obs_network.proofs.Numbered.{component_at, components_of-at}
 use Rattle.obs_report.specs.Meters.{component_name}
 use Rattle.obs_report.specs.Nodes.{node_name}
 use Rattle.obs_cert.specs.Scopes.{named_component, named_need, names_at, names_component, node_component}
+use Rattle.obs_text.proofs.ByteLemmas.{same_bytes}
 
 -- each of some names is there
 pub has_own : (names : List (List ℕ)) (k : ℕ) → k < length names → has_name names (get_or names k []) ≡ true

@@ -7,8 +7,9 @@ use Rattle.std.proofs.Math.Numerals.{one-add}
 use Rattle.std.proofs.lemmas.Bool.{and_from, and_parts, leb-true, ne_eqb, not-true}
 use Rattle.std.proofs.lemmas.List.{map-append}
 use Rattle.obs_text.specs.Laws.{HasNoFeed}
-use Rattle.obs_text.specs.Lines.{content, ended_lines, is_feed, lines_of}
+use Rattle.obs_text.specs.Lines.{content, is_feed, lines_of}
 use Rattle.obs_text.specs.Names.{is_name_byte}
+use Rattle.obs_text.proofs.LineLaws.{ended_first, parts}
 use Rattle.obs_matroid.specs.Lists.{In}
 use Rattle.obs_cert.specs.Words.{Line, line_of, line_of_words, words_of}
 use Rattle.obs_report.specs.Lines.{line_of as printed, line_feed, tab, tabbed}
@@ -81,27 +82,13 @@ strip_none bytes all =
     let other : (last == 13) ≡ false = not-true (last == 13) (at_passes is_no_return bytes (length bytes - 1) all refl) in
     rw other refl
 
--- the first of some bytes is no line feed, and none of the others is
-no_feed_parts : (byte : ℕ) (front : List ℕ) → HasNoFeed (byte ∷ front) → (is_feed byte ≡ false) × HasNoFeed front
-no_feed_parts byte front none =
-    let both = and_parts (not (is_feed byte)) (list_all (λ b. not (is_feed b)) front) none in
-    (not-true (is_feed byte) both.0, both.1)
-
--- bytes and a line feed are the first line of what they begin
-ended_first : (front rest : List ℕ) → HasNoFeed front → ended_lines (front ++ line_feed ∷ rest) ≡ (front ++ line_feed ∷ []) ∷ ended_lines rest
-ended_first [] rest none = refl
-ended_first (byte ∷ front) rest none =
-    let parts = no_feed_parts byte front none in
-    let other : is_feed byte ≡ false = parts.0 in
-    rw other (ap (onto_first byte) (ended_first front rest parts.1))
-
--- and they are what stands before it
+-- bytes are what stands before the first line feed after them
 before_feed : (front : List ℕ) → HasNoFeed front → before_first is_feed (front ++ line_feed ∷ []) ≡ front
 before_feed [] none = refl
 before_feed (byte ∷ front) none =
-    let parts = no_feed_parts byte front none in
-    let other : is_feed byte ≡ false = parts.0 in
-    rw other (ap (λ n. take n (byte ∷ (front ++ line_feed ∷ []))) (one-add (position_or_len is_feed (front ++ line_feed ∷ []))) ∙ ap (λ (bytes : List ℕ). byte ∷ bytes) (before_feed front parts.1))
+    let first = parts byte front none in
+    let other : is_feed byte ≡ false = first.0 in
+    rw other (ap (λ n. take n (byte ∷ (front ++ line_feed ∷ []))) (one-add (position_or_len is_feed (front ++ line_feed ∷ []))) ∙ ap (λ (bytes : List ℕ). byte ∷ bytes) (before_feed front first.1))
 
 -- the first line of bytes is their words
 pub first_words : (word : List ℕ) (words : List (List ℕ)) (rest : List ℕ) → IsPlain word → ArePlain words

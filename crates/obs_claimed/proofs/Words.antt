@@ -1,14 +1,12 @@
 -- Each kind of printed line is read back as the line that it means.
-use Rattle.std.proofs.Common.{◌≡◌, ◌∙◌, ℕ, ◌<◌, ◌≤◌, ◌^◌, ◌-◌, ◌&&◌, Bool, true, false, not, cond, List, [], ◌∷◌, length, Option, Some, decimal, refl, ap, inl, inr, arith}
-use Rattle.std.specs.Prelude.{codes, ◌==◌, nat_le, nat_lt, option_map}
+use Rattle.std.proofs.Common.{◌≡◌, ◌∙◌, ℕ, ◌<◌, ◌^◌, ◌-◌, ◌&&◌, Bool, true, false, cond, List, [], ◌∷◌, length, Option, Some, decimal, refl, ap, inl, inr, arith}
+use Rattle.std.specs.Prelude.{codes, nat_le, nat_lt, option_map}
 use Rattle.std.specs.List.{list_all}
-use Rattle.std.specs.Char.{is_ascii_digit}
-use Rattle.std.specs.Str.{all_ascii_digits}
-use Rattle.std.proofs.lemmas.Bool.{and_from, and_parts, cases_Bool, le-leb, leb-true, ne_eqb}
+use Rattle.std.proofs.lemmas.Bool.{and_parts, cases_Bool}
 use Rattle.std.proofs.lemmas.Fmt.{digits_decimal}
 use Rattle.obs_text.specs.Names.{is_name, is_name_byte}
 use Rattle.obs_text.specs.Numbers.{whole_of}
-use Rattle.obs_text.proofs.DecimalLemmas.{numerals, whole_of-decimal}
+use Rattle.obs_text.proofs.DecimalLemmas.{numerals, whole_of-decimal, digits-name}
 use Rattle.obs_case.specs.Tables.{Tables}
 use Rattle.obs_matroid.specs.Assignments.{Pair as NumberPair}
 use Rattle.obs_placement.specs.declared.plans.Layer.{Layer as PlacedLayer}
@@ -30,23 +28,9 @@ IsSmall n = n < 10 ^ 19
 pub plain_name : (name : List ℕ) → is_name name ≡ true → IsPlain name
 plain_name name is = (and_parts (nat_lt 0 (length name) && nat_le (length name) 64) (list_all is_name_byte name) is).1
 
--- a digit stands in words
-plain_digit : (byte : ℕ) → is_ascii_digit byte ≡ true → is_name_byte byte ≡ true
-plain_digit byte is =
-    let both = and_parts (nat_le 48 byte) (nat_le byte 57) is in
-    let low : 48 ≤ byte = leb-true 48 byte both.0 in
-    let high : byte ≤ 57 = leb-true byte 57 both.1 in
-    and_from (nat_le 32 byte) (not (byte == 127)) (le-leb 32 byte (omega (arith, low))) (ap not (ne_eqb byte 127 (λ same. absurd (omega (arith, same, high)))))
-
-plain_digits : (bytes : List ℕ) → all_ascii_digits bytes ≡ true → IsPlain bytes
-plain_digits [] all = refl
-plain_digits (byte ∷ bytes) all =
-    let both = and_parts (is_ascii_digit byte) (all_ascii_digits bytes) all in
-    and_from (is_name_byte byte) (list_all is_name_byte bytes) (plain_digit byte both.0) (plain_digits bytes both.1)
-
 -- a number is a plain word
 pub plain_number : (n : ℕ) → IsSmall n → IsPlain (decimal n)
-plain_number n small = plain_digits (decimal n) (digits_decimal numerals n (omega (arith, small)))
+plain_number n small = digits-name (decimal n) (digits_decimal numerals n (omega (arith, small)))
 
 name_back : (name : List ℕ) → is_name name ≡ true → name_in name ≡ Some name
 name_back name is = rw is refl

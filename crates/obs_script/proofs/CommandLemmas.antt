@@ -1,19 +1,16 @@
 -- Commands and their texts.
 use Rattle.std.proofs.Common.{◌≡◌, ℕ, suc, ◌<◌, ◌≤◌, ◌+◌, Bool, true, false, not, cond, IsTrue, IfSome, List, [], ◌∷◌, ◌++◌, length, ltb, Option, None, Some, Result, Ok, Err, one-add, refl, sym, ap, ◌∙◌, subst, inl, inr, arith, codes}
 use Rattle.std.proofs.lemmas.Bool.{cases_Bool, eqb-true, false≢true, le-ltb, lt-ltb, ltb-false}
-use Rattle.std.specs.Cmp.Lexicographic.{bytes_decides}
 use Rattle.std.specs.List.{list_any, position_or_len}
 use Rattle.std.specs.Str.{bytes_eq}
 use Rattle.obs_text.specs.Columns.{is_blank}
 use Rattle.obs_text.specs.Names.{is_name}
+use Rattle.obs_text.proofs.ByteLemmas.{same_bytes}
 use Rattle.obs_script.specs.declared.command.Ask.{Ask}
 use Rattle.obs_script.specs.declared.command.Ask.TheVariants.{Status, Tree, Bound, Islands, Critical, Report, Place, Cert}
 use Rattle.obs_script.specs.declared.fault.LineFault.{LineFault}
 use Rattle.obs_script.specs.declared.fault.LineFault.TheVariants.{BadName, LineTooLong, WordMissing}
 use Rattle.obs_script.specs.Commands.{Said, opens, closes, trips, restores, loses, regains, asks, ask_of, ask_or_edit, ask_word, command_of, command_word, edit_of, edited_name, most_bytes, name_in, named, text_of, word_and_name, word_of}
-
-same_bytes : (x y : List ℕ) → bytes_eq x y ≡ true → x ≡ y
-same_bytes x y h = (bytes_decides x y).0 h
 
 -- what is chosen by the first of some words that a word is
 choice : {A : Type 0} (P : A → Type 0) (word own : List ℕ) (x : A) (others : Option A) (y : A)

@@ -40,7 +40,7 @@ digits_text (d ∷ e ∷ ds) all some few =
     ]
 
 -- what a gate lets through
-gate : {A : Type 0} (pass : Bool) (value : Option A) (x : A) → cond pass value None ≡ Some x → (pass ≡ true) × (value ≡ Some x)
+pub gate : {A : Type 0} (pass : Bool) (value : Option A) (x : A) → cond pass value None ≡ Some x → (pass ≡ true) × (value ≡ Some x)
 gate true value x is = (refl, is)
 gate false value x is = cc
 
@@ -58,7 +58,7 @@ pub length-decimal : (n : ℕ) → n < 2 ^ 64 → length (decimal n) ≤ 20
 length-decimal n small = length-decimal-le 20 n (omega arith) (omega arith) small
 
 -- a digit may stand in a name
-digit-name : (d : ℕ) → is_ascii_digit d ≡ true → is_name_byte d ≡ true
+pub digit-name : (d : ℕ) → is_ascii_digit d ≡ true → is_name_byte d ≡ true
 digit-name d is = grind (arith, nat_tests)
 
 pub digits-name : (ds : List ℕ) → all_ascii_digits ds ≡ true → list_all is_name_byte ds ≡ true

@@ -1,4 +1,5 @@
 mod BareLemmas
+pub mod ByteLemmas
 pub mod DecimalLemmas
 pub mod LineLaws
 pub mod LineLemmas

@@ -1,14 +1,14 @@
 -- Lines with their ends, joined up.
-use Rattle.std.proofs.Common.{◌≡◌, ◌≢◌, ℕ, ◌+◌, ◌-◌, Bool, true, false, not, List, [], ◌∷◌, ◌++◌, length, take, get_or, refl, sym, ap, ◌∙◌, inl, inr, append_assoc, append-nil, add-zero, arith}
+use Rattle.std.proofs.Common.{◌≡◌, ◌≢◌, ℕ, suc, ◌+◌, ◌-◌, ◌≤◌, Bool, true, false, not, List, [], ◌∷◌, ◌++◌, length, take, get_or, refl, sym, ap, ◌∙◌, inl, inr, append_assoc, append-nil, add-zero, arith}
 use Rattle.std.proofs.lemmas.Bool.{and_from, and_parts, cases_Bool, eqb-true}
-use Rattle.std.proofs.lemmas.List.{length-append}
+use Rattle.std.proofs.lemmas.List.{length-append, length-map}
 use Rattle.std.proofs.Math.Seq.{take-append_seam}
 use Rattle.std.specs.List.{before_first, concat, list_all, onto_first, position_or_len}
 use Rattle.std.specs.Str.Lines.{strip_carriage_return}
-use Rattle.obs_text.specs.Lines.{content, ended_lines, is_feed}
+use Rattle.obs_text.specs.Lines.{content, ended_lines, is_feed, lines_of}
 use Rattle.obs_text.specs.Laws.{AreLines, HasNoFeed, IsEnded}
 
-onto_first-joined : (byte : ℕ) (lines : List (List ℕ)) → concat (onto_first byte lines) ≡ byte ∷ concat lines
+pub onto_first-joined : (byte : ℕ) (lines : List (List ℕ)) → concat (onto_first byte lines) ≡ byte ∷ concat lines
 onto_first-joined byte [] = refl
 onto_first-joined byte (line ∷ lines) = refl
 
@@ -19,6 +19,23 @@ joined (b ∷ bs) =
       | inl e ↦ rw e (ap (λ t. b ∷ t) (joined bs))
       | inr e ↦ rw e (onto_first-joined b (ended_lines bs) ∙ ap (λ t. b ∷ t) (joined bs))
     ]
+
+-- each line has a byte at least
+length-onto_first : (byte : ℕ) (lines : List (List ℕ)) → length (onto_first byte lines) ≤ suc (length lines)
+length-onto_first byte [] = omega arith
+length-onto_first byte (line ∷ lines) = omega arith
+
+pub length-ended_lines : (bytes : List ℕ) → length (ended_lines bytes) ≤ length bytes
+length-ended_lines [] = omega arith
+length-ended_lines (b ∷ bs) =
+    let fewer = length-ended_lines bs in
+    elim (cases_Bool (is_feed b)) [
+      | inl e ↦ rw e (omega (arith, fewer))
+      | inr e ↦ rw e (omega (arith, fewer, length-onto_first b (ended_lines bs)))
+    ]
+
+pub length-lines_of : (bytes : List ℕ) → length (lines_of bytes) ≤ length bytes
+length-lines_of bytes = omega (arith, length-map (ended_lines bytes) content, length-ended_lines bytes)
 
 not_false : (b : Bool) → b ≡ false → not b ≡ true
 not_false true is = cc
