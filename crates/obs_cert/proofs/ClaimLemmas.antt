@@ -64,10 +64,6 @@ pub tree_rest : (t : Tables) (c : TreeClaim) → has_name (node_names t) c.compo
     → tree_flaw t c ≡ first_true (forest_clauses t (pairs_of t c.pairs) (named_need t c.component) [])
 tree_rest t c k u n i d w = rw (k, u, n, i, d, w) refl
 
-pub not_false : (b : Bool) → not b ≡ false → b ≡ true
-not_false true e = refl
-not_false false e = cc
-
 -- the clauses on stated numbers, one after the other
 pub bound_wrong : (t : Tables) (test : ℕ → Bool) (list : List ℕ) (rank outside need : ℕ) → rank_of_items t list ≡ rank → (outside_of t test list ≡ outside → ⊥)
     → Some WrongOutside ≡ first_true (bound_clauses t test list rank outside need)

@@ -3,7 +3,7 @@ use Rattle.std.proofs.Common.{◌≡◌, ℕ, ◌+◌, ◌<◌, ◌≤◌, ◌||
 use Rattle.std.specs.Prelude.{◌==◌}
 use Rattle.std.specs.List.{flat_map, list_any, sum_by}
 use Rattle.std.specs.Str.{bytes_eq}
-use Rattle.std.proofs.lemmas.Bool.{and_from, and_parts, cases_Bool, eqb-true, le-ltb, ltb-false, ltb-true, not-true, or_cases, or_left, or_right}
+use Rattle.std.proofs.lemmas.Bool.{and_from, and_parts, cases_Bool, eqb-true, le-ltb, ltb-false, ltb-true, not-true, or_cases, or_left, or_right, not-false, or_parts}
 use Rattle.std.proofs.lemmas.List.{length-map}
 use Rattle.std.proofs.lemmas.List.Sums.{sum_by-cons}
 use Rattle.obs_case.specs.Tables.{IsValid, Tables, candidate_names, has_name, place_of}
@@ -31,11 +31,10 @@ use Rattle.obs_cert.specs.Completing.{ChosenAreCheapest, CompletesCase, Shortfal
 use Rattle.obs_cert.specs.Flaws.{Listed, all_inside, cycle, first_true, layers_clauses, list_clauses, listed_from, listed_layers, not_below, not_inside, not_touched, outside_of, outside_of_plan, paired_twice, rank_of_items, runs_on, shows, twice, twice_in_plan, unknown_in_plan, unknown_item, unknown_pair, wrong_cost, wrong_length, wrong_outside, wrong_rank}
 use Rattle.obs_cert.specs.Numbered.{chosen_items, is_known, item_of, items_of, paired_items, pairs_of}
 use Rattle.obs_cert.specs.Scopes.{has, is_below, is_live_item, is_meter, is_of_plan, price_at, prices_of, scope_of, touches_of}
-use Rattle.obs_cert.proofs.ClaimLemmas.{not_false}
 use Rattle.obs_cert.proofs.CountingLemmas.{distinct, inside_each}
 use Rattle.obs_cert.proofs.OutsideLemmas.{scope_distinct}
 use Rattle.obs_cert.proofs.ScopeLemmas.{has_at, has_from}
-use Rattle.obs_cert.proofs.TruthLemmas.{bound_below, each_false, each_passes, laws, neither, none_true, pairs_assign, rank_within}
+use Rattle.obs_cert.proofs.TruthLemmas.{bound_below, each_false, each_passes, laws, none_true, pairs_assign, rank_within}
 
 -- a layer as the laws of layers speak of it
 abbrev pub bare : Layer → BareLayer
@@ -169,8 +168,8 @@ module _ (t : Tables) (v : IsValid t) where
       → IsShown (graph_matroid (case_bus_count t) (case_branches t)) (touch_at (case_branches t) (case_offered t)) (price t) (metered t) (candidates t) (bare layer)
   shown layer list inside ranked counted = record {
     marks = has list;
-    rank_is = rank_same layer.to list inside ∙ eqb-true (rank_of_items t list) layer.rank (not_false (rank_of_items t list == layer.rank) ranked);
-    outside_is = outside_same t layer.to list ∙ eqb-true (outside_of t (is_below t layer.to) list) layer.outside (not_false (outside_of t (is_below t layer.to) list == layer.outside) counted);
+    rank_is = rank_same layer.to list inside ∙ eqb-true (rank_of_items t list) layer.rank (not-false (rank_of_items t list == layer.rank) ranked);
+    outside_is = outside_same t layer.to list ∙ eqb-true (outside_of t (is_below t layer.to) list) layer.outside (not-false (outside_of t (is_below t layer.to) list == layer.outside) counted);
   }
 
   -- a chosen candidate is one of the case
@@ -201,11 +200,11 @@ chosen_are_cheapest t c v h =
     let below = none_true (list_any (λ (l : Layer). not_below l.rank l.outside (case_needed t)) c.layers) NotBelow _ outside.1 in
     let runs = none_true (not (runs_on 0 c.layers)) WrongLayers _ below.1 in
     let costs = none_true (wrong_cost t X c.layers c.number) WrongCost None runs.1 in
-    let names = neither (unknown_item t (chosen_items c.chosen)) (unknown_pair t c.pairs || unknown_item t (all_inside c.layers)) known.0 in
-    let lists = neither (not_inside (is_of_plan t (has X)) paired) (list_any (λ (l : Listed). not_inside (is_below t l.layer.to) l.list) listed) inside.0 in
-    let two = neither (twice X) (paired_twice t c.pairs || twice (items_of t (all_inside c.layers))) once.0 in
-    let pairs = neither (paired_twice t c.pairs) (twice (items_of t (all_inside c.layers))) two.1 in
-    let sums = neither (not (sum_by (price_at t) X == c.number)) (not (sum_by (shows (case_needed t)) c.layers == c.number)) costs.0 in
+    let names = or_parts (unknown_item t (chosen_items c.chosen)) (unknown_pair t c.pairs || unknown_item t (all_inside c.layers)) known.0 in
+    let lists = or_parts (not_inside (is_of_plan t (has X)) paired) (list_any (λ (l : Listed). not_inside (is_below t l.layer.to) l.list) listed) inside.0 in
+    let two = or_parts (twice X) (paired_twice t c.pairs || twice (items_of t (all_inside c.layers))) once.0 in
+    let pairs = or_parts (paired_twice t c.pairs) (twice (items_of t (all_inside c.layers))) two.1 in
+    let sums = or_parts (not (sum_by (price_at t) X == c.number)) (not (sum_by (shows (case_needed t)) c.layers == c.number)) costs.0 in
     let of_candidates = chosen_each t v c.chosen names.0 in
     let alive = filter (is_live (case_branches t) (case_offered t)) X in
     let M = live_meters (case_branches t) (case_offered t) (length t.meters) ++ alive in
@@ -222,13 +221,13 @@ chosen_are_cheapest t c v h =
       reached = record {
         longest = A;
         assigns = a;
-        long = eqb-true (length A) (case_needed t) (not_false (length A == case_needed t) long.0);
+        long = eqb-true (length A) (case_needed t) (not-false (length A == case_needed t) long.0);
         none_longer = λ B b. most_pairs t v (case_offered t) M B b;
       };
     } in
-    let stated = eqb-true (sum_by (price_at t) X) c.number (not_false (sum_by (price_at t) X == c.number) sums.0) in
+    let stated = eqb-true (sum_by (price_at t) X) c.number (not-false (sum_by (price_at t) X == c.number) sums.0) in
     let cost : price_together t X ≡ c.number = same_sum (price t) (price_at t) X (λ m i. price_is t m (of_candidates m i).0) ∙ stated in
-    let total = eqb-true (sum_by (shows (case_needed t)) c.layers) c.number (not_false (sum_by (shows (case_needed t)) c.layers == c.number) sums.1) in
+    let total = eqb-true (sum_by (shows (case_needed t)) c.layers) c.number (not-false (sum_by (shows (case_needed t)) c.layers == c.number) sums.1) in
     let shows_it = sum_is (case_needed t) c.layers in (
       record {
         different = distinct X two.0;
@@ -236,7 +235,7 @@ chosen_are_cheapest t c v h =
         completes = completes;
         least = λ Y y.
             let least = layers_bound_completing (case_bus_count t) (case_branches t) (case_offered t) (length t.meters) (case_needed t) (prices_of t.candidates) Y (map bare c.layers) (case_branches-are t v)
-            (run_on 0 c.layers (not_false (runs_on 0 c.layers) runs.0))
+            (run_on 0 c.layers (not-false (runs_on 0 c.layers) runs.0))
             (λ l i.
             let r = with_list t [] c.layers l i in
             subst (λ (x : BareLayer). IsShown (graph_matroid (case_bus_count t) (case_branches t)) (touch_at (case_branches t) (case_offered t)) (price t) (metered t) (candidates t) x) (sym r.2)

@@ -3,6 +3,7 @@ use Rattle.std.proofs.Common.{◌≡◌, ℕ, ◌≤◌, ◌||◌, ◌&&◌, max
 use Rattle.std.specs.List.{flat_map, list_any}
 use Rattle.std.proofs.lemmas.Bool.{eq-eqb, ne_eqb}
 use Rattle.std.proofs.lemmas.Bool.Decides.{nat_tests}
+use Rattle.std.proofs.Math.Bool.{or_assoc, or-false, or-true}
 use Rattle.obs_case.specs.Tables.{Tables}
 use Rattle.obs_graph.specs.declared.Ends.{Ends}
 use Rattle.obs_cert.specs.declared.layers.Seen.{Seen}
@@ -15,16 +16,8 @@ use Rattle.obs_cert.specs.Seen.{Tells, too_dear}
 use Rattle.obs_cert.proofs.RankLemmas.{onto-append}
 
 pub any_push : {X : Type 0} (p : X → Bool) (xs : List X) (x : X) → list_any p (xs ++ x ∷ []) ≡ (list_any p xs || p x)
-any_push p [] x = none (p x)
-  where
-    none : (b : Bool) → (b || false) ≡ (false || b)
-    none true = refl
-    none false = refl
-any_push p (y ∷ ys) x = ap (λ (b : Bool). p y || b) (any_push p ys x) ∙ three (p y) (list_any p ys) (p x)
-  where
-    three : (a b c : Bool) → (a || (b || c)) ≡ ((a || b) || c)
-    three true b c = refl
-    three false b c = refl
+any_push p [] x = or-false (p x)
+any_push p (y ∷ ys) x = ap (λ (b : Bool). p y || b) (any_push p ys x) ∙ sym (or_assoc (p y) (list_any p ys) (p x))
 
 pub push_push : {X : Type 0} (xs : List X) (x : X) (ys : List X) → (xs ++ x ∷ []) ++ ys ≡ xs ++ x ∷ ys
 push_push [] x ys = refl
@@ -43,14 +36,6 @@ idle_more true b c = refl
 idle_more false true c = refl
 idle_more false false c = refl
 
-same_more : (b : Bool) → (b || false) ≡ b
-same_more true = refl
-same_more false = refl
-
-or_more : (a b c : Bool) → ((a || b) || c) ≡ (a || (b || c))
-or_more true b c = refl
-or_more false b c = refl
-
 pub tells_idle : (t : Tables) (list : List ℕ) (m : ℕ) (seen : Seen) → is_live_item t m ≡ false → Tells t list seen → Tells t (list ++ m ∷ []) (record { idle = true; dearest = seen.dearest })
 tells_idle t list m seen idle tells to =
     any_push (λ x. not (is_below t to x)) list m
@@ -64,7 +49,7 @@ tells_meter t list m seen live meter tells to =
     ∙ ap (λ (b : Bool). b || not (is_below t to m)) (tells to)
     ∙ ap (λ (b : Bool). (seen.idle || too_dear seen.dearest to) || not (b && (is_meter t m || nat_lt (price_at t m) to))) live
     ∙ ap (λ (b : Bool). (seen.idle || too_dear seen.dearest to) || not (true && (b || nat_lt (price_at t m) to))) meter
-    ∙ same_more (seen.idle || too_dear seen.dearest to)
+    ∙ or-false (seen.idle || too_dear seen.dearest to)
 
 pub tells_priced : (t : Tables) (list : List ℕ) (m : ℕ) (seen : Seen) (dearest : Option ℕ) → is_live_item t m ≡ true → is_meter t m ≡ false
     → ((to : ℕ) → too_dear dearest to ≡ (too_dear seen.dearest to || not (nat_lt (price_at t m) to)))
@@ -74,7 +59,7 @@ tells_priced t list m seen dearest live meter more tells to =
     ∙ ap (λ (b : Bool). b || not (is_below t to m)) (tells to)
     ∙ ap (λ (b : Bool). (seen.idle || too_dear seen.dearest to) || not (b && (is_meter t m || nat_lt (price_at t m) to))) live
     ∙ ap (λ (b : Bool). (seen.idle || too_dear seen.dearest to) || not (true && (b || nat_lt (price_at t m) to))) meter
-    ∙ or_more seen.idle (too_dear seen.dearest to) (not (nat_lt (price_at t m) to))
+    ∙ or_assoc seen.idle (too_dear seen.dearest to) (not (nat_lt (price_at t m) to))
     ∙ ap (λ (b : Bool). seen.idle || b) (sym (more to))
 
 -- while items are seen
@@ -172,9 +157,5 @@ module _ (t : Tables) (ends : List (Option Ends)) (layer : Layer) (left all : Li
     fits = fits;
     before = now_listed;
     joined = joined_now;
-    going = so_far.going ∙ ap (λ (b : Bool). wrong || (not b || rest)) (ne_eqb (rank_of_items t now_listed) layer.rank (λ e. differs (is ∙ e))) ∙ all_true wrong;
+    going = so_far.going ∙ ap (λ (b : Bool). wrong || (not b || rest)) (ne_eqb (rank_of_items t now_listed) layer.rank (λ e. differs (is ∙ e))) ∙ or-true wrong;
   }
-    where
-      all_true : (b : Bool) → (b || true) ≡ true
-      all_true true = refl
-      all_true false = refl

@@ -2,7 +2,7 @@
 use Rattle.std.proofs.Common.{◌≡◌, ℕ, ◌<◌, Bool, true, not, List, length, filter, sym, ap, ◌∙◌, subst, arith}
 use Rattle.std.specs.Prelude.{◌==◌}
 use Rattle.std.specs.List.{range_with_len}
-use Rattle.std.proofs.lemmas.Bool.{eq-eqb, eqb-true}
+use Rattle.std.proofs.lemmas.Bool.{eq-eqb, eqb-true, not-false, or_parts}
 use Rattle.obs_case.specs.Tables.{IsValid, Tables, has_name, node_names}
 use Rattle.obs_matroid.specs.Lists.{In}
 use Rattle.obs_matroid.specs.Assignments.{IsAssignment, Pair as NumberPair}
@@ -26,10 +26,9 @@ use Rattle.obs_cert.specs.Flaws.{not_inside, unknown_item, unknown_pair}
 use Rattle.obs_cert.specs.Numbered.{items_of, paired_items, pairs_of}
 use Rattle.obs_cert.specs.Scopes.{is_meter_in, named_component, named_need, names_component, scope_of}
 use Rattle.obs_cert.specs.Truths.{BoundsAreNotObservable, TreesAreObservable}
-use Rattle.obs_cert.proofs.ClaimLemmas.{not_false}
 use Rattle.obs_cert.proofs.ComponentLemmas.{meter_at, meter_from}
 use Rattle.obs_cert.proofs.CountingLemmas.{inside_each}
-use Rattle.obs_cert.proofs.TruthLemmas.{bound_below, items-pairs, laws, name_of_component, neither, none_true, pairs_assign}
+use Rattle.obs_cert.proofs.TruthLemmas.{bound_below, items-pairs, laws, name_of_component, none_true, pairs_assign}
 
 -- a meter that a claim on a component may speak of is a live one
 live_meter : (t : Tables) (c m : ℕ) → is_meter_in t c m ≡ true → In m (case_live_meters t)
@@ -64,18 +63,18 @@ trees_are_observable t c v h =
     let once = none_true _ _ _ touched.1 in
     let forest = none_true _ _ _ once.1 in
     let long = none_true _ _ _ forest.1 in
-    let is_name = not_false (has_name (node_names t) c.component) (neither (not (has_name (node_names t) c.component)) (unknown_pair t c.pairs) known.0).0 in
+    let is_name = not-false (has_name (node_names t) c.component) (or_parts (not (has_name (node_names t) c.component)) (unknown_pair t c.pairs) known.0).0 in
     let each = inside_each (is_meter_in t k) list inside.0 in
     let item : (p : NumberPair) → In p A → is_meter_in t k p.0 ≡ true = λ p i. each p.0 (subst (λ (xs : List ℕ). In p.0 xs) (items-pairs t c.pairs) (In-items A p i)) in
     let a = of_meters t (case_live_meters t) A (λ p i. (meter_from t k p.0 (item p i)).0)
     (pairs_assign t v (case_live_meters t) c.pairs touched.0 once.0 forest.0 (λ m i. live_meter t k m (each m i))) in
     let all : filter (λ (p : NumberPair). branch_component t p.1 == k) A ≡ A = filter_all (λ (p : NumberPair). branch_component t p.1 == k) A
     (λ p i. ap (λ (x : ℕ). x == k) (touched_component t v (case_meters t) p.0 p.1 (a.touched p i)) ∙ (meter_from t k p.0 (item p i)).2) in (
-      name_of_component t c.component is_name (not_false (names_component t c.component) names.0),
+      name_of_component t c.component is_name (not-false (names_component t c.component) names.0),
       record {
         pairs = A;
         assigns = a;
-        enough = ap (λ (xs : List NumberPair). length xs) all ∙ eqb-true (length A) (named_need t c.component) (not_false (length A == named_need t c.component) long.0);
+        enough = ap (λ (xs : List NumberPair). length xs) all ∙ eqb-true (length A) (named_need t c.component) (not-false (length A == named_need t c.component) long.0);
       },
     )
 
@@ -114,8 +113,8 @@ bounds_are_not_observable t c v h =
     let known = none_true _ _ _ h in
     let names = none_true _ _ _ known.1 in
     let inside = none_true (not_inside (is_meter_in t k) list) NotInside _ names.1 in
-    let is_name = not_false (has_name (node_names t) c.component) (neither (not (has_name (node_names t) c.component)) (unknown_item t c.inside) known.0).0 in (
-      name_of_component t c.component is_name (not_false (names_component t c.component) names.0),
+    let is_name = not-false (has_name (node_names t) c.component) (or_parts (not (has_name (node_names t) c.component)) (unknown_item t c.inside) known.0).0 in (
+      name_of_component t c.component is_name (not-false (names_component t c.component) names.0),
       λ (o : IsObservable t k).
           let short = bound_below t v (is_meter_in t k) list c.rank c.outside (named_need t c.component) inside.1 (filter (lies t v k o.pairs o.assigns) o.pairs) (in_scope t v k o.pairs o.assigns) in
           let e = o.enough in

@@ -1,14 +1,14 @@
 -- What claims that hold say of the case: of single claims' clauses, pairs and bounds.
-use Rattle.std.proofs.Common.{◌≡◌, ℕ, ◌+◌, ◌<◌, ◌≤◌, ◌||◌, Bool, true, false, not, cond, Option, Some, None, List, [], ◌∷◌, length, nat_lt, filter, get_or, refl, sym, ap, ◌∙◌, subst, inl, inr, arith}
+use Rattle.std.proofs.Common.{◌≡◌, ℕ, ◌+◌, ◌<◌, ◌≤◌, Bool, true, false, not, cond, Option, Some, None, List, [], ◌∷◌, length, nat_lt, filter, get_or, refl, sym, ap, ◌∙◌, subst, inl, inr, arith}
 use Rattle.std.specs.Prelude.{slice_index, ◌==◌}
 use Rattle.std.specs.List.{flat_map, list_any, range_with_len}
 use Rattle.std.specs.Str.{bytes_eq}
-use Rattle.std.proofs.lemmas.Bool.{and_parts, cases_lt, eqb-true, ltb-true}
+use Rattle.std.proofs.lemmas.Bool.{and_parts, cases_lt, eqb-true, ltb-true, not-false, or_parts}
 use Rattle.std.proofs.lemmas.List.{get_or_past, length-map}
 use Rattle.std.proofs.lemmas.List.FromFn.{length-range_with_len}
 use Rattle.std.proofs.lemmas.List.Sums.{passes_at_first}
 use Rattle.obs_case.specs.Tables.{IsValid, Tables, has_name, node_names, place_of}
-use Rattle.obs_case.proofs.NameLemmas.{place-there, same_bytes}
+use Rattle.obs_case.proofs.NameLemmas.{place-there}
 use Rattle.obs_matroid.specs.Lists.{In, IsDistinct}
 use Rattle.obs_matroid.specs.Matroid.{Matroid, IsMatroid}
 use Rattle.obs_matroid.specs.Assignments.{IsAssignment, Pair as NumberPair, branches, items}
@@ -35,29 +35,25 @@ use Rattle.obs_cert.specs.Numbered.{item_of, items_of, paired_items, pairs_of}
 use Rattle.obs_cert.specs.Scopes.{has, named_component, names_component, scope_of, touches_of}
 use Rattle.obs_cert.specs.Truths.{IsNameOf, NoFlawWhereAllHold}
 use Rattle.obs_cert.proofs.CountingLemmas.{distinct}
-use Rattle.obs_cert.proofs.ClaimLemmas.{not_false}
 use Rattle.obs_cert.proofs.ScopeLemmas.{has_from}
+use Rattle.obs_text.proofs.ByteLemmas.{same_bytes}
 
 -- where there is no flaw, the first test isn't true, and the later ones find none
 pub none_true : (b : Bool) (code : FlawCode) (later : Option FlawCode) → cond b (Some code) later ≡ None → (b ≡ false) × (later ≡ None)
 none_true true code later e = absurd (cc e)
 none_true false code later e = (refl, e)
 
-pub neither : (a b : Bool) → (a || b) ≡ false → (a ≡ false) × (b ≡ false)
-neither true b e = absurd (cc e)
-neither false b e = (refl, e)
-
 -- where no element fails a test, each passes it
 pub each_passes : {X : Type 0} (test : X → Bool) (xs : List X) → list_any (λ (x : X). not (test x)) xs ≡ false → (x : X) → In x xs → test x ≡ true
 each_passes test [] e x i = absurd i
-each_passes test (y ∷ ys) e x (inl is) = ap test is ∙ not_false (test y) (neither (not (test y)) (list_any (λ z. not (test z)) ys) e).0
-each_passes test (y ∷ ys) e x (inr i) = each_passes test ys (neither (not (test y)) (list_any (λ z. not (test z)) ys) e).1 x i
+each_passes test (y ∷ ys) e x (inl is) = ap test is ∙ not-false (test y) (or_parts (not (test y)) (list_any (λ z. not (test z)) ys) e).0
+each_passes test (y ∷ ys) e x (inr i) = each_passes test ys (or_parts (not (test y)) (list_any (λ z. not (test z)) ys) e).1 x i
 
 -- each of them is false
 pub each_false : {X : Type 0} (test : X → Bool) (xs : List X) → list_any test xs ≡ false → (x : X) → In x xs → test x ≡ false
 each_false test [] e x i = absurd i
-each_false test (y ∷ ys) e x (inl is) = ap test is ∙ (neither (test y) (list_any test ys) e).0
-each_false test (y ∷ ys) e x (inr i) = each_false test ys (neither (test y) (list_any test ys) e).1 x i
+each_false test (y ∷ ys) e x (inl is) = ap test is ∙ (or_parts (test y) (list_any test ys) e).0
+each_false test (y ∷ ys) e x (inr i) = each_false test ys (or_parts (test y) (list_any test ys) e).1 x i
 
 -- no flaw is found exactly where each claim holds
 flaw_at-none : (at : ℕ) (o : Option FlawCode) (later : Option Flaw) → flaw_at at o later ≡ None → (o ≡ None) × (later ≡ None)
@@ -120,8 +116,8 @@ module _ (t : Tables) (v : IsValid t) where
       → ((m : ℕ) → In m (items_of t (paired_items pairs)) → In m M) → IsAssignmentAt (case_branches t) (case_offered t) M (pairs_of t pairs)
   pairs_assign M pairs touched once forest within =
       let A = pairs_of t pairs in
-      let rank = eqb-true (rank_of_branches t (branches A)) (length A) (not_false (rank_of_branches t (branches A) == length A) forest) in
-      let different = distinct (items_of t (paired_items pairs)) (neither (twice (items_of t (paired_items pairs))) (twice (branches A)) once).0 in
+      let rank = eqb-true (rank_of_branches t (branches A)) (length A) (not-false (rank_of_branches t (branches A) == length A) forest) in
+      let different = distinct (items_of t (paired_items pairs)) (or_parts (twice (items_of t (paired_items pairs))) (twice (branches A)) once).0 in
       record {
         of_items = λ p i. within p.0 (subst (λ (xs : List ℕ). In p.0 xs) (items-pairs t pairs) (In-items A p i));
         touched = λ p i. has_from (touches_of t p.0) p.1 (each_passes (λ (q : NumberPair). has (touches_of t q.0) q.1) A touched p i);
@@ -146,9 +142,9 @@ module _ (t : Tables) (v : IsValid t) where
       let ranked = none_true (wrong_rank t list rank) WrongRank _ once.1 in
       let counted = none_true (wrong_outside t test list outside) WrongOutside _ ranked.1 in
       let below = none_true (not_below rank outside need) NotBelow None counted.1 in
-      let r = eqb-true (rank_of_items t list) rank (not_false (rank_of_items t list == rank) ranked.0) in
-      let o = eqb-true (outside_of t test list) outside (not_false (outside_of t test list == outside) counted.0) in
-      let l = ltb-true (rank + outside) need (not_false (nat_lt (rank + outside) need) below.0) in
+      let r = eqb-true (rank_of_items t list) rank (not-false (rank_of_items t list == rank) ranked.0) in
+      let o = eqb-true (outside_of t test list) outside (not-false (outside_of t test list == outside) counted.0) in
+      let l = ltb-true (rank + outside) need (not-false (nat_lt (rank + outside) need) below.0) in
       let w = weak_bound g laws touch (scope_of t test) (has list) B b in
       let k = rank_within (scope_of t test) list in
       omega (arith, r, o, l, w, k)

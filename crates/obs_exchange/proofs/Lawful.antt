@@ -1,7 +1,7 @@
 -- Critical meters, tight lists and closed sets of a graph.
 use Rattle.std.proofs.Common.{◌≡◌, ◌≢◌, ◌↔◌, ℕ, ◌≤◌, Bool, true, false, not, Option, None, List, length, refl, sym, ap, ◌∙◌, inl, inr, ◌&&◌}
 use Rattle.std.specs.Prelude.{filter}
-use Rattle.std.proofs.lemmas.Bool.{and_from, and_parts, cases_Bool, not-true}
+use Rattle.std.proofs.lemmas.Bool.{and_from, and_parts, cases_Bool, not-true, not-false}
 use Rattle.obs_graph.specs.declared.Ends.{Ends}
 use Rattle.obs_graph.specs.Positions.{AreBranches}
 use Rattle.obs_graph.specs.Graph.{Graph}
@@ -60,13 +60,9 @@ module _ (n : ℕ) (ends : List (Option Ends)) (touches : List Touch) (ok : AreB
     pub noncritical_in-holds : HoldsNonCritical ends touches M (noncritical_in n ends touches M)
     noncritical_in-holds m i =
         let is = is_critical_is (graph_matroid n ends) (IsMatroid-graph n ends ok) (touch_at ends touches) M d m in (
-          (λ f. IsCritical-from_matroid n ends touches M m i (is.0 (not_false (is_critical (graph_matroid n ends) (touch_at ends touches) M m) f))),
+          (λ f. IsCritical-from_matroid n ends touches M m i (is.0 (not-false (is_critical (graph_matroid n ends) (touch_at ends touches) M m) f))),
           (λ k. ap not (is.1 (IsCritical-to_matroid n ends touches M m k))),
         )
-      where
-        not_false : (b : Bool) → not b ≡ false → b ≡ true
-        not_false true f = refl
-        not_false false f = clash refl f
 
     pub noncritical_tight : (S : ℕ → Bool) → HoldsNonCritical ends touches M S → IsRhoAt ends touches M (bound_at n ends touches S M)
     noncritical_tight S h =

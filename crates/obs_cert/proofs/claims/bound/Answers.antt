@@ -1,11 +1,12 @@
 use Rattle.std.proofs.Common.{◌≡◌, false, length, sym, ap, ◌∙◌, arith}
+use Rattle.std.proofs.lemmas.Bool.{not-false}
 use Rattle.obs_cert.specs.Flaws.{not_inside}
 use Rattle.obs_cert.specs.Numbered.{items_of}
 use Rattle.obs_cert.specs.Scopes.{is_meter_in, scope_of}
 use Rattle.obs_cert.specs.Walked.{parts_in}
 use Rattle.obs_network.specs.Located.{live_meters_of}
 use Rattle.obs_network.specs.Network.{Network}
-use Rattle.obs_cert.proofs.ClaimLemmas.{bound_rest, not_false}
+use Rattle.obs_cert.proofs.ClaimLemmas.{bound_rest}
 use Rattle.obs_cert.proofs.ComponentLemmas.{rows_few, scope_few, scope_same}
 use Rattle.obs_cert.proofs.OutsideLemmas.{meters_of_items}
 use Rattle.obs_cert.proofs.claims.bound.Goals as goal
@@ -31,4 +32,4 @@ returns-clause-flaw c =
     let e : not_inside (is_meter_in t k) (items_of t inside) ≡ false = rw (sym c.walk_items-2.ensures.items) (sym c.if-has_outside.ensures.outside) in
     c.list.ensures.flaw (is_meter_in t k) (many (goal.at.returns-clause-flaw c).After-live_meters) (meters_of_items t k) e
     ∙ bound_rest t (record { component = c.args.name.now; rank = c.args.numbers.0; outside = c.args.numbers.1; inside = inside }) k c.in-Some.named.need n.component n.need
-    (sym n.known) (rw (sym c.walk_items.ensures.items) (sym c.if-has_unknown.ensures.unknown)) (sym n.names ∙ not_false c.in-Some.named.energised c.if-not-named.false) e
+    (sym n.known) (rw (sym c.walk_items.ensures.items) (sym c.if-has_unknown.ensures.unknown)) (sym n.names ∙ not-false c.in-Some.named.energised c.if-not-named.false) e

@@ -1,9 +1,10 @@
 use Rattle.std.proofs.Common.{[], length, suc, sym, ap, ◌∙◌}
+use Rattle.std.proofs.lemmas.Bool.{not-false}
 use Rattle.obs_cert.specs.Flaws.{first_true, forest_clauses, not_inside}
 use Rattle.obs_cert.specs.Numbered.{items_of, paired_items, pairs_of}
 use Rattle.obs_cert.specs.Scopes.{is_meter_in}
 use Rattle.obs_cert.specs.Walked.{parts_in}
-use Rattle.obs_cert.proofs.ClaimLemmas.{forest_end, not_false, ready_pairs, tree_rest}
+use Rattle.obs_cert.proofs.ClaimLemmas.{forest_end, ready_pairs, tree_rest}
 use Rattle.obs_cert.proofs.claims.tree.Goals as goal
 
 pub returns-clause-flaw : goal.returns-clause-flaw
@@ -11,7 +12,7 @@ returns-clause-flaw c =
     let t = c.args.case.now in
     let n = c.in-Some.ensures in
     let pairs = (parts_in c.args.rest.now).pairs in
-    let e = tree_rest t (record { component = c.args.name.now; pairs = pairs }) (sym n.known) (sym c.if-has_unknown_pair.ensures.unknown) (sym n.names ∙ not_false c.in-Some.named.energised c.if-not-named.false)
+    let e = tree_rest t (record { component = c.args.name.now; pairs = pairs }) (sym n.known) (sym c.if-has_unknown_pair.ensures.unknown) (sym n.names ∙ not-false c.in-Some.named.energised c.if-not-named.false)
     (ap (λ k. not_inside (is_meter_in t k) (items_of t (paired_items pairs))) (sym n.component) ∙ rw (sym c.walk_items.ensures.items) (sym c.if-has_outside.ensures.outside))
     (rw (sym c.walk_pairs.ensures.pairs) (sym c.if-has_untouched.ensures.untouched)) (sym c.if-has_pair_twice.ensures.twice) in
     forest_end t (pairs_of t pairs) c.in-Some.named.need c.forest.result c.forest.ensures.none c.forest.ensures.flaw
