@@ -1,5 +1,5 @@
 -- What an assignment keeps when its pairs have changed.
-use Rattle.std.proofs.Common.{◌≡◌, ◌≢◌, ℕ, suc, ◌+◌, ◌<◌, ◌≤◌, Bool, false, Option, Some, None, List, [], ◌∷◌, length, get_or, set, take, refl, sym, ap, ◌∙◌, subst, inl, inr, arith, replicate, length-set, get_or-set_same, get_or-set_other}
+use Rattle.std.proofs.Common.{◌≡◌, ◌≢◌, ℕ, zero, suc, ◌+◌, ◌<◌, ◌≤◌, Bool, false, Option, Some, None, List, [], ◌∷◌, length, get_or, set, take, refl, sym, ap, ◌∙◌, subst, inl, inr, arith, replicate, length-set, get_or-set_same, get_or-set_other}
 use Rattle.std.specs.Prelude.{IfSome}
 use Rattle.std.specs.List.{AllPairs}
 use Rattle.std.proofs.lemmas.Bool.{cases_eq, cases_lt}
@@ -85,6 +85,12 @@ empty_pairs n m = none_pairs 0 (take n (replicate m None)) (λ k. take_at n m k 
 
 pub empty_slot : (n k : ℕ) → get_or {A = Option ℕ} (replicate n None) k None ≡ None
 empty_slot n k = replicate_at n k None
+
+-- no flag is set after all were cleared
+pub flags_clear : (n k : ℕ) → has_flag (replicate n false) k ≡ false
+flags_clear zero k = refl
+flags_clear (suc n) zero = refl
+flags_clear (suc n) (suc k) = flags_clear n k
 
 pub clear_flag : (n m k : ℕ) → has_flag (take n (replicate m false)) k ≡ false
 clear_flag n m k = take_at n m k false

@@ -63,7 +63,8 @@ length-put_paired slots m e f h = count_paired 0 slots m e f h
 pub length-put_bare : (slots : List (Option ℕ)) (m e : ℕ) → m < length slots → get_or slots m None ≡ None → length (pairs_of (set slots m (Some e))) ≡ suc (length (pairs_of slots))
 length-put_bare slots m e l h = count_bare 0 slots m e l h
 
-has_some : (o : Option ℕ) → (o ≡ None → ⊥) → (e : ℕ) × (o ≡ Some e)
+-- the number that is there
+pub has_some : (o : Option ℕ) → (o ≡ None → ⊥) → (e : ℕ) × (o ≡ Some e)
 has_some None n = absurd (n refl)
 has_some (Some e) n = (e, refl)
 

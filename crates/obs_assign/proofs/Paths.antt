@@ -7,10 +7,10 @@ use Rattle.obs_graph.specs.declared.Ends.{Ends}
 use Rattle.obs_graph.specs.Joined.{first_joined}
 use Rattle.obs_graph.specs.Positions.{AreBranches, ends_of, present}
 use Rattle.obs_graph.specs.Search.{IsPart}
-use Rattle.obs_graph.proofs.AtPositions.{contains-ends_of, ends_of-contains}
+use Rattle.obs_graph.proofs.AtPositions.{contains-ends_of, ends_of-contains, some_of}
 use Rattle.obs_graph.proofs.Forests.{AreAmong, same_first-among}
 use Rattle.obs_graph.proofs.IsJoined.{same-from_true, true-from_same, apart-from_false, false-from_apart}
-use Rattle.obs_graph.proofs.Present.{contains_present, present_contains}
+use Rattle.obs_graph.proofs.Present.{contains_present, present_contains, present_low}
 use Rattle.obs_matroid.specs.Lists.{In, other_than}
 use Rattle.obs_matroid.specs.Assignments.{branches, others, part}
 use Rattle.obs_matroid.specs.Slots.{pairs_of}
@@ -24,7 +24,6 @@ use Rattle.obs_meter.proofs.Instance.{IsJoining-graph, IsMatroid-graph}
 use Rattle.obs_meter.proofs.Assigned.{independent-from_forest_at}
 use Rattle.obs_forest.specs.Cycle.{IsCycle, without}
 use Rattle.obs_forest.proofs.Without.{other_present}
-use Rattle.obs_forest.proofs.Keeping.{present_low}
 use Rattle.obs_assign.specs.Assignment.{ArePaired, Assignment, HoldsPairs, frozen_branches, has_flag, is_frozen}
 use Rattle.obs_assign.specs.Kept.{IsInverse}
 use Rattle.obs_assign.specs.Pins.{MayPin, joins}
@@ -45,13 +44,9 @@ pub joins-own : (ends : List (Option Ends)) (L : List ℕ) (e : ℕ) → In e L 
 joins-own ends L e i = joined_member (ends_at ends) (joined_at ends) (IsJoining-graph ends) L e i
 
 module _ (ends : List (Option Ends)) (slots : List (Option ℕ)) (held : List (Option Ends)) (part_of : IsPart held ends) (h : HoldsPairs slots held) where
-  held_some : (o : Option Ends) → IsSome o → (e : Ends) × (o ≡ Some e)
-  held_some None s = absurd cc
-  held_some (Some e) s = (e, refl)
-
   -- a branch of a pair is held with its ends in the graph
   pub held_at : (p : ℕ) → In p (branches (pairs_of slots)) → (e : Ends) × (get_or held p None ≡ Some e) × (get_or ends p None ≡ Some e)
-  held_at p i = let s = held_some (get_or held p None) ((h.exactly p).1 i) in (s.0, s.1, part_of p s.0 s.1)
+  held_at p i = let s = some_of (get_or held p None) ((h.exactly p).1 i) in (s.0, s.1, part_of p s.0 s.1)
 
   pub among_pairs : AreAmong (present held) (ends_of ends (branches (pairs_of slots)))
   among_pairs e c =

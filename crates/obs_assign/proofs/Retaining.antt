@@ -9,7 +9,7 @@ use Rattle.obs_graph.specs.declared.search.Up.{Up}
 use Rattle.obs_graph.specs.Joined.{InRange, Leads, count_below, first_joined}
 use Rattle.obs_graph.specs.Positions.{AreBranches, IsForestAt, ends_of, present}
 use Rattle.obs_graph.specs.Search.{AreWaysUp, IsPart, IsWayUp, Reaches}
-use Rattle.obs_graph.proofs.AtPositions.{IsForestAt-among, IsForestAt-by_rank, contains-ends_of, ends_of-contains, length-ends_of}
+use Rattle.obs_graph.proofs.AtPositions.{IsForestAt-among, IsForestAt-by_rank, contains-ends_of, ends_of-contains, length-ends_of, some_of}
 use Rattle.obs_graph.proofs.Chains.{first_joined-contains}
 use Rattle.obs_graph.proofs.Forests.{rank-le-length}
 use Rattle.obs_graph.proofs.Present.{AreBelow-part, branch_at, contains_present, present_contains, some_is_in}
@@ -229,7 +229,7 @@ module _ (n : ℕ) (ends : List (Option Ends)) (touches : List Touch) (before ke
         let f = In-filter_from (is_still ends touches) p (pairs_of before) i in
         let k : get_or kept p.0 None ≡ Some p.1 = kept_is p.0 ∙ (ap (touched_slot ends touches p.0) (slot_from before p f.0) ∙ touched_to ends touches p.0 p.1 f.1) in
         let t = In-from_Contains p.1 (touch_at ends touches p.0) (has_position-contains (touch_at ends touches p.0) p.1 f.1) in
-        let x = there (get_or ends p.1 None) (touched-present ends (slice_index_or touches p.0 Nothing) p.1 t) in
+        let x = some_of (get_or ends p.1 None) (touched-present ends (slice_index_or touches p.0 Nothing) p.1 t) in
         let held : get_or (taken ends (branches (pairs_of kept))) p.1 None ≡ Some x.0 = taken-at ends (branches (pairs_of kept)) p.1 (Contains-from_In p.1 (branches (pairs_of kept)) (slot_branch kept p.0 p.1 k)) ∙ x.1 in
         let low = branch_at n ends p.1 x.0 branches_ok (some_is_in ends p.1 x.0 x.1) x.1 in
         let same = chosen_join n ends (taken ends (branches (pairs_of kept))) ups depths branches_ok (part-taken ends (branches (pairs_of kept))) ways x.0.a x.0.b low.0 low.1
@@ -237,7 +237,3 @@ module _ (n : ℕ) (ends : List (Option Ends)) (touches : List Touch) (before ke
         let up : joined_at ends (up_branches ups n) x.0.a x.0.b ≡ true = true-from_same (ends_of ends (up_branches ups n)) x.0.a x.0.b same in
         joins-from ends (branches (pairs_of new)) p.1 x.0 x.1 (joined-more ends (up_branches ups n) (branches (pairs_of new)) x.0.a x.0.b up_new up);
   }
-    where
-      there : (o : Option Ends) → IsSome o → (e : Ends) × (o ≡ Some e)
-      there None s = absurd cc
-      there (Some e) s = (e, refl)

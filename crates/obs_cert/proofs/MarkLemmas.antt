@@ -6,6 +6,7 @@ use Rattle.obs_cert.specs.Flaws.{twice}
 use Rattle.obs_cert.specs.Marks.{AreBelow, is_marked}
 use Rattle.obs_cert.specs.Scopes.{has}
 use Rattle.obs_cert.proofs.JoinLemmas.{get_other, get_set}
+use Rattle.obs_placement.proofs.Ordered.{number_flips}
 
 -- f: a number came twice; m: x is marked; a: another one is; h: x comes again; t: another one does
 marked_case : (f m a h t : Bool) → m ≡ true → (f || ((m || a) || (h || t))) ≡ (true || ((h || a) || t))
@@ -103,7 +104,7 @@ module _ (all : List ℕ) (x : ℕ) (left : List ℕ) (flag : Bool) (stamp : ℕ
   any_now = any_agree (is_marked (set marks x stamp) stamp) (λ y. eqb y x || is_marked marks stamp y) left now ∙ split_any (λ y. eqb y x) (is_marked marks stamp) left
 
   has_now : (y : ℕ) → has all y ≡ (is_marked (set marks x stamp) stamp y || has left y)
-  has_now y = so_far.marked y ∙ three (is_marked marks stamp y) (eqb x y) (has left y) ∙ ap (λ (b : Bool). (b || is_marked marks stamp y) || has left y) (turn x y)
+  has_now y = so_far.marked y ∙ three (is_marked marks stamp y) (eqb x y) (has left y) ∙ ap (λ (b : Bool). (b || is_marked marks stamp y) || has left y) (number_flips x y)
       ∙ ap (λ (b : Bool). b || has left y) (sym (now y))
     where
       three : (a b c : Bool) → (a || (b || c)) ≡ ((b || a) || c)
@@ -115,9 +116,6 @@ module _ (all : List ℕ) (x : ℕ) (left : List ℕ) (flag : Bool) (stamp : ℕ
       three false true false = refl
       three false false true = refl
       three false false false = refl
-
-      turn : (a b : ℕ) → eqb a b ≡ eqb b a
-      turn a b = elim (cases_eq a b) [ inl e ↦ eq-eqb a b e ∙ sym (eq-eqb b a (sym e)) | inr n ↦ ne_eqb a b n ∙ sym (ne_eqb b a (λ e. n (sym e))) ]
 
   below_now : AreBelow (suc stamp) (set marks x stamp)
   below_now y = elim (cases_eq y x) [

@@ -5,7 +5,7 @@ use Rattle.std.proofs.lemmas.Bool.{cases_lt, eq-eqb}
 use Rattle.obs_graph.specs.declared.Ends.{Ends}
 use Rattle.obs_graph.specs.Joined.{count_below, first_joined, merged, rank}
 use Rattle.obs_graph.specs.Positions.{AreBranches, ends_of}
-use Rattle.obs_graph.proofs.AtPositions.{ends_of-contains}
+use Rattle.obs_graph.proofs.AtPositions.{ends_of-contains, contains_cons}
 use Rattle.obs_graph.proofs.Chains.{Contains-here, Contains-there}
 use Rattle.obs_graph.proofs.Counts.{count_below-no}
 use Rattle.obs_graph.proofs.First.{first_joined-le, merged-other}
@@ -14,7 +14,7 @@ use Rattle.obs_graph.proofs.Present.{branch_at, some_is_in}
 use Rattle.obs_graph.proofs.Ranks.{is_moved, rank_is}
 use Rattle.obs_cert.specs.Joins.{AreJoined, onto}
 use Rattle.obs_cert.proofs.JoinLemmas.{IsJoining, count_is}
-use Rattle.obs_rankcut.proofs.Ranked.{cons_cases, cons_here, cons_there}
+use Rattle.obs_rankcut.proofs.Ranked.{cons_cases, cons_here}
 
 pub onto-append : (ends : List (Option Ends)) (xs ys : List ℕ) (es : List Ends) → onto ends (xs ++ ys) es ≡ onto ends ys (onto ends xs es)
 onto-append ends [] ys es = refl
@@ -23,7 +23,7 @@ onto-append ends (x ∷ xs) ys es = onto-append ends xs ys (cons_option (get_or 
 -- what is put onto branches has those and the others
 onto_keeps : (ends : List (Option Ends)) (ps : List ℕ) (es : List Ends) (e : Ends) → Contains es e → Contains (onto ends ps es) e
 onto_keeps ends [] es e h = h
-onto_keeps ends (p ∷ ps) es e h = onto_keeps ends ps (cons_option (get_or ends p None) es) e (cons_there (get_or ends p None) es e h)
+onto_keeps ends (p ∷ ps) es e h = onto_keeps ends ps (cons_option (get_or ends p None) es) e (contains_cons (get_or ends p None) es e h)
 
 onto_has : (ends : List (Option Ends)) (ps : List ℕ) (es : List Ends) (e : Ends) → Contains (ends_of ends ps) e → Contains (onto ends ps es) e
 onto_has ends [] es e (k, l, h) = absurd (omega arith)
@@ -36,7 +36,7 @@ onto_only : (ends : List (Option Ends)) (ps : List ℕ) (es : List Ends) (e : En
 onto_only ends [] es e h = inl h
 onto_only ends (p ∷ ps) es e h = elim (onto_only ends ps (cons_option (get_or ends p None) es) e h) [
   | inl k ↦ elim (cons_cases (get_or ends p None) es e k) [ inl is ↦ inr (cons_here (get_or ends p None) (ends_of ends ps) e is) | inr j ↦ inl j ]
-  | inr k ↦ inr (cons_there (get_or ends p None) (ends_of ends ps) e k)
+  | inr k ↦ inr (contains_cons (get_or ends p None) (ends_of ends ps) e k)
 ]
 
 no_branch : (e : Ends) → Contains [] e → ⊥

@@ -4,6 +4,7 @@ use Rattle.std.proofs.lemmas.Bool.{cases_Bool, eq-eqb, eqb-true, or_cases, or_le
 use Rattle.obs_graph.specs.declared.Ends.{Ends}
 use Rattle.obs_graph.specs.Positions.{branches_at, has_end}
 use Rattle.obs_graph.proofs.AtVertex.{at_vertex, has_end-at_vertex}
+use Rattle.obs_graph.proofs.Present.{present_low}
 use Rattle.obs_matroid.specs.Lists.{In}
 use Rattle.obs_matroid.proofs.Contained.{Contains-from_In, In-from_Contains}
 use Rattle.obs_matroid.proofs.Lists.{clash}
@@ -12,7 +13,7 @@ use Rattle.obs_switch.proofs.FirstNodes.{buses_of-at, first_member}
 use Rattle.obs_case.specs.Tables.{Tables}
 use Rattle.obs_meter.specs.declared.Touch.{Touch}
 use Rattle.obs_meter.specs.Touches.{touched}
-use Rattle.obs_meter.proofs.Touched.{touched-present, below_from_some}
+use Rattle.obs_meter.proofs.Touched.{touched-present}
 use Rattle.obs_network.specs.Switched.{case_buses, case_first_node, closed_links}
 use Rattle.std.proofs.lemmas.List.{length-map}
 use Rattle.std.specs.Str.{bytes_eq}
@@ -44,7 +45,7 @@ same_truth false false f g = refl
 
 -- what is touched is one of the graph's positions
 pub not_past : (ends : List (Option Ends)) (t : Touch) (e : ℕ) → length ends ≤ e → false ≡ has (touched ends t) e
-not_past ends t e past = sym (has_not (touched ends t) e (λ i. let l = below_from_some ends e (touched-present ends t e i) in omega (arith, l, past)))
+not_past ends t e past = sym (has_not (touched ends t) e (λ i. let l = present_low ends e (touched-present ends t e i) in omega (arith, l, past)))
 
 pub ends_touch : (ends : List (Option Ends)) (v e : ℕ) → has_end v (get_or ends e None) ≡ has (branches_at ends v) e
 ends_touch ends v e =

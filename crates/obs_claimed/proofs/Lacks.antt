@@ -7,10 +7,9 @@ use Rattle.obs_matroid.proofs.Lists.{In-filter_from, IsDistinct-filter, filter_s
 use Rattle.obs_meter.specs.Touches.{live_items}
 use Rattle.obs_meter.proofs.Assigned.{live_items-distinct}
 use Rattle.obs_exchange.specs.Laws.{noncritical_in}
-use Rattle.obs_exchange.proofs.AtGraph.{live-from_live_items}
+use Rattle.obs_exchange.proofs.AtGraph.{live-from_live_items, live_low}
 use Rattle.obs_placement.specs.Placed.{ShortfallValue, shortfall_of, redundant_items}
 use Rattle.obs_placement.specs.Placed.Placed.{shortfall as short_of}
-use Rattle.obs_placement.proofs.Going.{live_low}
 use Rattle.obs_network.specs.Network.{case_branches, case_needed, case_offered}
 use Rattle.obs_network.specs.Switched.{case_bus_count}
 use Rattle.obs_edit.specs.Planned.{case_placement}

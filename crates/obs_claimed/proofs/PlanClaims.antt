@@ -2,7 +2,7 @@
 use Rattle.std.proofs.Common.{◌≡◌, ℕ, ◌+◌, ◌<◌, ◌||◌, Bool, false, not, List, [], length, map, refl, sym, ap, ◌∙◌, subst, arith}
 use Rattle.std.specs.Prelude.{◌==◌}
 use Rattle.std.specs.List.{list_any, range_with_len, sum_by}
-use Rattle.std.proofs.lemmas.Bool.{eq-eqb, le-ltb}
+use Rattle.std.proofs.lemmas.Bool.{eq-eqb, le-ltb, or_from}
 use Rattle.std.proofs.lemmas.List.{length-map}
 use Rattle.obs_case.specs.Tables.{IsValid, Tables}
 use Rattle.obs_case.specs.declared.rows.Candidate.{Candidate}
@@ -20,7 +20,6 @@ use Rattle.obs_placement.specs.Placed.{Placed, PlanValue, plan_of}
 use Rattle.obs_placement.specs.Placed.Placed.{cheapest, shortfall as short_of}
 use Rattle.obs_placement.specs.Shown.{bare_layer}
 use Rattle.obs_placement.proofs.Growing.{AreRising, prices_rising}
-use Rattle.obs_placement.proofs.Going.{live_low}
 use Rattle.obs_network.specs.Network.{case_branches, case_needed, case_offered}
 use Rattle.obs_network.specs.Switched.{case_bus_count}
 use Rattle.obs_network.proofs.OfCase.{length-case_offered}
@@ -41,6 +40,7 @@ use Rattle.obs_claimed.proofs.LayerClaims.{are_below, bare_same, inside_distinct
 use Rattle.obs_claimed.proofs.Layered.{are_claimed, inside_low, layer_claims}
 use Rattle.obs_claimed.proofs.NamedLemmas.{AreWithin, chosen_known, chosen_named, items_named, none_unknown, paired_named, pairs_known, pairs_named}
 use Rattle.obs_claimed.proofs.PlanPairs.{as_needed, branch_low, branches_once, items_once, no_cycle, paired_inside, paired_live, touched_pairs}
+use Rattle.obs_exchange.proofs.AtGraph.{live_low}
 
 -- the clauses of a cost claim, one after the other
 pub record NoFlaw (t : Tables) (c : CostClaim) : Type 0 where
@@ -58,9 +58,6 @@ pub record NoFlaw (t : Tables) (c : CostClaim) : Type 0 where
 
 pub none_flawed : (t : Tables) (c : CostClaim) → NoFlaw t c → Holds t (cost c)
 none_flawed t c n = rw (n.known, n.inside, n.touched, n.once, n.forest, n.long, n.ranks, n.counts, n.low, n.runs, n.costs) refl
-
-none_of : (a b : Bool) → a ≡ false → b ≡ false → (a || b) ≡ false
-none_of a b e f = ap (λ (x : Bool). x || b) e ∙ f
 
 module _ (t : Tables) (v : IsValid t) where
   low_items : (list : List ℕ) → ((m : ℕ) → In m list → m < length (case_offered t)) → (items_of t (named_items t list) ≡ list) × (unknown_item t (named_items t list) ≡ false)
@@ -140,13 +137,13 @@ module _ (t : Tables) (v : IsValid t) where
 
     all_known : unknown_in_plan t claim ≡ false
     all_known =
-        none_of (unknown_item t (chosen_items claim.chosen)) (unknown_pair t claim.pairs || unknown_item t (all_inside claim.layers)) (chosen_known t v chosen chosen_low)
-        (none_of (unknown_pair t claim.pairs) (unknown_item t (all_inside claim.layers)) (pairs_known t v A within)
+        or_from (unknown_item t (chosen_items claim.chosen)) (unknown_pair t claim.pairs || unknown_item t (all_inside claim.layers)) (chosen_known t v chosen chosen_low)
+        (or_from (unknown_pair t claim.pairs) (unknown_item t (all_inside claim.layers)) (pairs_known t v A within)
         (ap (unknown_item t) listed_are ∙ (low_items whole.inside (inside_low t 0 ts)).1))
 
     all_in_scope : outside_of_plan t claim ≡ false
     all_in_scope =
-        none_of (not_inside (is_of_plan t (has (items_of t (chosen_items claim.chosen)))) (items_of t (paired_items claim.pairs))) (list_any (λ (l : Listed). not_inside (is_below t l.layer.to) l.list) (listed_layers t claim.layers))
+        or_from (not_inside (is_of_plan t (has (items_of t (chosen_items claim.chosen)))) (items_of t (paired_items claim.pairs))) (list_any (λ (l : Listed). not_inside (is_below t l.layer.to) l.list) (listed_layers t claim.layers))
         (ap (λ (xs : List ℕ). not_inside (is_of_plan t (has xs)) (items_of t (paired_items claim.pairs))) chosen_are
         ∙ ap (not_inside (is_of_plan t (has X))) paired_are
         ∙ paired_inside t chosen A first)
@@ -155,9 +152,9 @@ module _ (t : Tables) (v : IsValid t) where
     all_once : twice_in_plan t claim ≡ false
     all_once =
         let M = planned_items (length t.meters) chosen in
-        none_of (twice (items_of t (chosen_items claim.chosen))) _ (ap twice chosen_are ∙ once X (distinct-moved (length t.meters) chosen chosen_distinct))
-        (none_of _ (twice (items_of t (all_inside claim.layers)))
-        (none_of (twice (items_of t (paired_items claim.pairs))) (twice (branches (pairs_of t claim.pairs)))
+        or_from (twice (items_of t (chosen_items claim.chosen))) _ (ap twice chosen_are ∙ once X (distinct-moved (length t.meters) chosen chosen_distinct))
+        (or_from _ (twice (items_of t (all_inside claim.layers)))
+        (or_from (twice (items_of t (paired_items claim.pairs))) (twice (branches (pairs_of t claim.pairs)))
         (ap twice paired_are ∙ items_once t M A first.assigns)
         (ap (λ (ps : List NumberPair). twice (branches ps)) pairs_are ∙ branches_once t M A first.assigns v))
         (ap (λ (xs : List Item). twice (items_of t xs)) listed_are ∙ ap twice inside_are ∙ once whole.inside (inside_distinct t v 0 ts rising)))
@@ -187,7 +184,7 @@ module _ (t : Tables) (v : IsValid t) where
           low = are_below (case_needed t) claim.layers (λ l i. (bounds.1 l (subst (λ (ls : List BareLayer). In l ls) layers_bare i)).1);
           runs = ap not (run_from 0 claim.layers (subst (λ (ls : List BareLayer). RunOn 0 ls) (sym layers_bare) bounds.0));
           costs =
-              none_of (not (sum_by (price_at t) (items_of t (chosen_items claim.chosen)) == claim.number)) (not (sum_by (shows (case_needed t)) claim.layers == claim.number))
+              or_from (not (sum_by (price_at t) (items_of t (chosen_items claim.chosen)) == claim.number)) (not (sum_by (shows (case_needed t)) claim.layers == claim.number))
               (ap not (eq-eqb (sum_by (price_at t) (items_of t (chosen_items claim.chosen))) claim.number (ap (sum_by (price_at t)) chosen_are ∙ cost_same ∙ sym cost_is)))
               (ap not (eq-eqb (sum_by (shows (case_needed t)) claim.layers) claim.number
               (sum_is (case_needed t) claim.layers ∙ ap (layers_sum (case_needed t)) layers_bare ∙ layers_add_up t whole v is)));

@@ -15,7 +15,7 @@ use Rattle.obs_meter.specs.Spanned.{graph_matroid}
 use Rattle.obs_meter.specs.Touches.{is_live, live_items}
 use Rattle.obs_meter.proofs.Assigned.{independent-from_forest_at}
 use Rattle.obs_meter.proofs.Instance.{IsMatroid-graph}
-use Rattle.obs_meter.proofs.Touched.{below_from_some, live-from_In, touched-present}
+use Rattle.obs_meter.proofs.Touched.{live-from_In, touched-present}
 use Rattle.obs_exchange.proofs.AtGraph.{In-live}
 use Rattle.obs_first.specs.First.{IsFirstAt}
 use Rattle.obs_placement.specs.Laws.{live_meters}
@@ -28,6 +28,7 @@ use Rattle.obs_cert.specs.Flaws.{cycle, not_inside, not_touched, rank_of_branche
 use Rattle.obs_cert.specs.Scopes.{has, is_live_item, is_meter, is_of_plan, touches_of}
 use Rattle.obs_cert.proofs.ScopeLemmas.{has_at}
 use Rattle.obs_claimed.proofs.ClauseTests.{all_inside_scope, any_false, once}
+use Rattle.obs_graph.proofs.Present.{present_low}
 
 module _ (t : Tables) (M : List ℕ) (A : List Pair) (a : IsAssignmentAt (case_branches t) (case_offered t) M A) where
   pub touched_pairs : not_touched t A ≡ false
@@ -49,7 +50,7 @@ module _ (t : Tables) (M : List ℕ) (A : List Pair) (a : IsAssignmentAt (case_b
   pub branch_low : (e : ℕ) → In e (branches A) → e < length t.branches
   branch_low e i =
       let w = In-branches_from A e i in
-      let low = below_from_some (case_branches t) w.0.1 (touched-present (case_branches t) _ w.0.1 (a.touched w.0 w.1)) in
+      let low = present_low (case_branches t) w.0.1 (touched-present (case_branches t) _ w.0.1 (a.touched w.0 w.1)) in
       omega (arith, low, length-case_branches t, w.2)
 
   module _ (v : IsValid t) where

@@ -7,6 +7,7 @@ use Rattle.std.proofs.lemmas.List.{length-map}
 use Rattle.obs_text.specs.Names.{is_name}
 use Rattle.obs_graph.specs.declared.Ends.{Ends}
 use Rattle.obs_graph.specs.Positions.{AreBranches}
+use Rattle.obs_graph.proofs.Present.{present_low}
 use Rattle.obs_case.specs.Tables.{IsValid, Tables, branch_names, candidate_names, meter_names, node_names}
 use Rattle.obs_case.specs.declared.rows.Candidate.{Candidate}
 use Rattle.obs_matroid.specs.Assignments.{Pair}
@@ -16,7 +17,7 @@ use Rattle.obs_matroid.proofs.Ranges.{range_from}
 use Rattle.obs_meter.specs.declared.Touch.{Touch}
 use Rattle.obs_meter.specs.declared.Touch.TheVariants.{Nothing}
 use Rattle.obs_meter.specs.Touches.{is_live, live_items}
-use Rattle.obs_meter.proofs.Touched.{below_from_some, touched-present}
+use Rattle.obs_meter.proofs.Touched.{touched-present}
 use Rattle.obs_exchange.specs.Laws.{noncritical_in}
 use Rattle.obs_first.specs.First.{first_pairs}
 use Rattle.obs_first.proofs.Lawful.{first_pairs-is}
@@ -74,7 +75,7 @@ pub first_pairs_low : (n : ℕ) (ends : List (Option Ends)) (touches : List Touc
 first_pairs_low n ends touches ok p i =
     let assigns = (first_pairs-is n ends touches ok).assigns in
     let low = range_from 0 (length touches) p.0 (assigns.of_items p i) in
-    (omega (arith, low.1), below_from_some ends p.1 (touched-present ends (get_or touches p.0 Nothing) p.1 (assigns.touched p i)))
+    (omega (arith, low.1), present_low ends p.1 (touched-present ends (get_or touches p.0 Nothing) p.1 (assigns.touched p i)))
 
 -- so are those of a case's meters
 pub case_pairs_within : (t : Tables) → IsValid t → AreWithin t (case_first_pairs t)

@@ -1,5 +1,5 @@
 -- The first assignment of all items has in each component the first assignment of the component's items alone.
-use Rattle.std.proofs.Common.{◌≡◌, ℕ, ◌+◌, Bool, true, false, not, Option, Some, None, List, [], ◌∷◌, ◌++◌, length, filter, refl, sym, ap, ◌∙◌, subst, inl, inr, arith, length-append}
+use Rattle.std.proofs.Common.{◌≡◌, ℕ, ◌+◌, Bool, true, false, not, Some, None, List, [], ◌∷◌, ◌++◌, length, filter, refl, sym, ap, ◌∙◌, subst, inl, inr, arith, length-append}
 use Rattle.std.specs.Prelude.{cond, ◌==◌}
 use Rattle.std.proofs.lemmas.Bool.{cases_Bool, eq-eqb, eqb-true, ne_eqb, not-true}
 use Rattle.std.proofs.lemmas.List.{map-append}
@@ -7,9 +7,9 @@ use Rattle.obs_matroid.specs.Lists.{In, IsDistinct}
 use Rattle.obs_matroid.specs.Matroid.{IsIndependent, IsMatroid, Matroid}
 use Rattle.obs_matroid.specs.Assignments.{IsAssignment, Pair, branches, items, part}
 use Rattle.obs_matroid.specs.Components.{IsSumOfKinds, is_of}
-use Rattle.obs_matroid.specs.First.{IsBefore, IsFirst, IsNotAfter, branch_at}
+use Rattle.obs_matroid.specs.First.{IsFirst, IsNotAfter, branch_at}
 use Rattle.obs_matroid.proofs.Bounds.{length-parts}
-use Rattle.obs_matroid.proofs.Comparing.{branch_at_out}
+use Rattle.obs_matroid.proofs.Comparing.{branch_at_out, IsBefore-irreflexive}
 use Rattle.obs_matroid.proofs.Lists.{IsDistinct-append, In-append_cases, In-filter, In-filter_from, clash}
 use Rattle.obs_matroid.proofs.Pairs.{In-branches_from, In-items_from, In-part_from}
 use Rattle.obs_matroid.proofs.Placement.{IsAssignment-items, IsAssignment-part}
@@ -31,17 +31,13 @@ branch_at-right : (B C : List Pair) (x : ℕ) → (In x (items B) → ⊥) → b
 branch_at-right [] C x n = refl
 branch_at-right (p ∷ B) C x n = rw (ne_eqb p.0 x (λ e. n (inl (sym e)))) (branch_at-right B C x (λ i. n (inr i)))
 
-before_itself : (o : Option ℕ) → IsBefore o o → ⊥
-before_itself None b = b
-before_itself (Some e) b = omega (arith, b)
-
 -- where two assignments agree at the other items, the order of the two is that by the items of S
 IsNotAfter-part : (S : ℕ → Bool) (M : List ℕ) (A C P B : List Pair) → ((x : ℕ) → S x ≡ true → branch_at A x ≡ branch_at P x) → ((x : ℕ) → S x ≡ true → branch_at C x ≡ branch_at B x)
     → ((x : ℕ) → S x ≡ false → branch_at A x ≡ branch_at C x) → IsNotAfter M A C → IsNotAfter (filter S M) P B
 IsNotAfter-part S [] A C P B h k other n = tt
 IsNotAfter-part S (x ∷ M) A C P B h k other (inl b) = elim (cases_Bool (S x)) [
   | inl t ↦ rw t (inl (rw (← (h x t), ← (k x t)) b))
-  | inr f ↦ absurd (before_itself (branch_at C x) (rw (other x f) at b))
+  | inr f ↦ absurd (IsBefore-irreflexive (branch_at C x) (rw (other x f) at b))
 ]
 IsNotAfter-part S (x ∷ M) A C P B h k other (inr c) = elim (cases_Bool (S x)) [
   | inl t ↦ rw t (inr (sym (h x t) ∙ (c.0 ∙ k x t), IsNotAfter-part S M A C P B h k other c.1))

@@ -1,5 +1,5 @@
 -- An edit of a meter: no branch changes, and no other meter's touch.
-use Rattle.std.proofs.Common.{◌⊎◌, inl, inr, ◌≡◌, ℕ, zero, suc, ◌+◌, ◌≤◌, Bool, true, false, Some, None, List, [], ◌∷◌, length, map, get_or, refl, sym, ap, ◌∙◌, subst, arith}
+use Rattle.std.proofs.Common.{◌⊎◌, inl, inr, ◌≡◌, ℕ, zero, suc, ◌+◌, ◌≤◌, Bool, true, false, None, List, [], ◌∷◌, length, map, get_or, refl, sym, ap, ◌∙◌, subst, arith}
 use Rattle.std.specs.Prelude.{if◌then◌else◌}
 use Rattle.std.specs.List.{range_with_len}
 use Rattle.std.proofs.lemmas.Bool.{cases_Bool, cases_eq}
@@ -24,6 +24,7 @@ use Rattle.obs_network.specs.Touching.{meter_touch, touch_of}
 use Rattle.obs_network.proofs.Edited.{branches-with_meter}
 use Rattle.obs_network.proofs.OfCase.{case_branches-are, length-case_meters}
 use Rattle.obs_assign.specs.Assignment.{Assignment, StandsOver, branch_at}
+use Rattle.obs_assign.proofs.Slotted.{none_some}
 use Rattle.obs_edit.specs.Longest.{IsMost}
 use Rattle.obs_edit.proofs.Retained.{assigns-within}
 
@@ -164,9 +165,6 @@ most-regained t v at most bound B b =
     let one = without_one at B b.different in
     omega (arith, few, one)
 
-pub no_branch : (e : ℕ) → None ≡ Some e → ⊥
-no_branch e is = cc
-
 -- pairs stand where a meter went that has none
 pub stands-lost : (t : Tables) (at : ℕ) (a : Assignment) → branch_at a at ≡ None → StandsOver a (network_of t).graph (case_meters t)
     → StandsOver a (network_of (with_meter_inservice t at false)).graph (case_meters (with_meter_inservice t at false))
@@ -175,7 +173,7 @@ stands-lost t at a bare s =
     subst (λ (g : Graph). StandsOver a g T) (sym (same_graph t at false)) (record {
       forest = s.forest;
       meters = same_count t at false ∙ s.meters;
-      touched = λ m e is. subst (λ xs. In e xs) (sym (same_touch t at false m (λ k. no_branch e (sym bare ∙ (ap (λ x. branch_at a x) (sym k) ∙ is))))) (s.touched m e is);
+      touched = λ m e is. subst (λ xs. In e xs) (sym (same_touch t at false m (λ k. none_some e (sym bare ∙ (ap (λ x. branch_at a x) (sym k) ∙ is))))) (s.touched m e is);
     })
 
 -- pairs stand where a meter came back

@@ -24,8 +24,9 @@ use Rattle.obs_placement.specs.Order.{price_of}
 use Rattle.obs_placement.specs.Placed.{Placed, PlanValue, shortfall_of, placement_of, plan_of}
 use Rattle.obs_placement.specs.Placed.Placed.{cheapest, shortfall}
 use Rattle.obs_edit.specs.Planned.{PlanPairsAreFirst, pairs_in, placed_pairs, planned_items, touches_of}
-use Rattle.obs_edit.proofs.Planned.{has-listed, length-touches_of, listed-has, listed-touch, touch-listed}
+use Rattle.obs_edit.proofs.Planned.{length-touches_of, listed-touch, touch-listed}
 use Rattle.obs_network.proofs.Listed.{rising_filter}
+use Rattle.obs_islands.proofs.Parts.{has-from_In, In-from_has}
 
 -- a rising list is what the test for it leaves of a range that holds it
 filter-listed : (n a : ℕ) (listed : List ℕ) → IsRising listed → ((m : ℕ) → In m listed → (a ≤ m) × (m < a + n)) → filter (has_position listed) (range_with_len a n) ≡ listed
@@ -42,7 +43,7 @@ filter-listed (suc n) a (x ∷ listed) rising low = elim (cases_eq x a) [
   | inr other ↦
       let above = low x (inl refl) in
       let gone : has_position (x ∷ listed) a ≡ false = elim (cases_Bool (has_position (x ∷ listed) a)) [
-        | inl t ↦ elim (listed-has (x ∷ listed) a t) [
+        | inl t ↦ elim (In-from_has (x ∷ listed) a t) [
           | inl e ↦ absurd (other (sym e))
           | inr i ↦ let u = rising.0 a i in absurd (omega (arith, u, above.0))
         ]
@@ -73,7 +74,7 @@ module _ (ends : List (Option Ends)) (touches : List Touch) (listed : List ℕ) 
     }
 
     others_have_none : (A : List Pair) → IsAssignmentAt ends touches listed A → (x : ℕ) → has_position listed x ≡ false → branch_at A x ≡ None
-    others_have_none A a x f = branch_at_out A x (λ i. let v = In-items_from A x i in clash (has-listed listed x (subst (λ (y : ℕ). In y listed) (sym v.2) (a.of_items v.0 v.1))) f)
+    others_have_none A a x f = branch_at_out A x (λ i. let v = In-items_from A x i in clash (has-from_In listed x (subst (λ (y : ℕ). In y listed) (sym v.2) (a.of_items v.0 v.1))) f)
 
     -- a first assignment of all items, where only the listed ones touch anything, is the first of these
     first-listed : (A : List Pair) → IsFirstAt ends (touches_of touches listed) (every_item (touches_of touches listed)) A → IsFirstAt ends touches listed A

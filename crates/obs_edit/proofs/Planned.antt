@@ -1,48 +1,30 @@
 -- What the items of a list touch, where the others touch nothing.
-use Rattle.std.proofs.Common.{◌≡◌, ℕ, ◌+◌, ◌<◌, ◌≤◌, Bool, true, false, eqb, cond, ◌||◌, Option, List, [], ◌∷◌, ◌++◌, length, map, get_or, set, take, refl, sym, ap, ◌∙◌, subst, inl, inr, arith, append_assoc}
+use Rattle.std.proofs.Common.{◌≡◌, ℕ, ◌+◌, ◌<◌, ◌≤◌, true, eqb, cond, ◌||◌, Option, List, [], ◌∷◌, ◌++◌, length, map, get_or, set, take, sym, ap, ◌∙◌, subst, inl, inr, arith, append_assoc}
 use Rattle.std.specs.Prelude.{nat_lt}
 use Rattle.std.specs.List.{range_with_len}
 use Rattle.std.proofs.lemmas.Bool.{cases_Bool, cases_eq, cases_lt, cond-false, cond-true, eq-eqb, le-ltb, lt-ltb, ne_eqb, or_right}
 use Rattle.std.proofs.lemmas.List.{append-nil, get_or-set_other, get_or-set_same, get_or_default, get_or_past, length-set, map-append, same_lists, take_more}
 use Rattle.std.proofs.lemmas.List.FromFn.{get_or-map-range_with_len, length-map-range_with_len}
+use Rattle.std.proofs.Math.Bool.{or-false}
 use Rattle.obs_graph.specs.declared.Ends.{Ends}
 use Rattle.obs_graph.specs.Graph.{Graph}
 use Rattle.obs_matroid.specs.Lists.{In}
-use Rattle.obs_matroid.proofs.Contained.{Contains-from_In, In-from_Contains}
 use Rattle.obs_matroid.proofs.Ranges.{range_from, range_in}
 use Rattle.obs_meter.specs.declared.Touch.{Touch}
 use Rattle.obs_meter.specs.declared.Touch.TheVariants.{Nothing}
 use Rattle.obs_meter.specs.Sizes.{HasRoomFor, Sizes}
 use Rattle.obs_meter.specs.Touches.{AreInRange, IsInRange, touch_at, touched}
 use Rattle.obs_forest.specs.Forest.{has_position}
-use Rattle.obs_forest.proofs.Held.{contains-has_position, has_position-contains}
+use Rattle.obs_forest.proofs.Held.{has_position-append}
 use Rattle.obs_assign.specs.Assignment.{Assignment, Fits, StandsOver}
 use Rattle.obs_edit.specs.Planned.{planned_items, touches_of}
-
--- the test tells which items are listed
-pub has-listed : (listed : List ℕ) (m : ℕ) → In m listed → has_position listed m ≡ true
-has-listed listed m i = contains-has_position listed m (Contains-from_In m listed i)
-
-pub listed-has : (listed : List ℕ) (m : ℕ) → has_position listed m ≡ true → In m listed
-listed-has listed m h = In-from_Contains m listed (has_position-contains listed m h)
-
-has-more : (listed : List ℕ) (x m : ℕ) → has_position (listed ++ x ∷ []) m ≡ (has_position listed m || eqb x m)
-has-more [] x m = or_false (eqb x m)
-  where
-    or_false : (b : Bool) → (b || false) ≡ b
-    or_false true = refl
-    or_false false = refl
-has-more (y ∷ listed) x m = ap (λ t. eqb y m || t) (has-more listed x m) ∙ or_assoc (eqb y m) (has_position listed m) (eqb x m)
-  where
-    or_assoc : (a b c : Bool) → (a || (b || c)) ≡ ((a || b) || c)
-    or_assoc true b c = refl
-    or_assoc false b c = refl
+use Rattle.obs_islands.proofs.Parts.{In-from_has, has-from_In}
 
 has-range : (n m : ℕ) → has_position (range_with_len 0 n) m ≡ nat_lt m n
 has-range n m = elim (cases_lt m n) [
-  | inl l ↦ has-listed (range_with_len 0 n) m (range_in 0 n m (omega arith) (omega arith)) ∙ sym (lt-ltb m n l)
+  | inl l ↦ has-from_In (range_with_len 0 n) m (range_in 0 n m (omega arith) (omega arith)) ∙ sym (lt-ltb m n l)
   | inr l ↦ elim (cases_Bool (has_position (range_with_len 0 n) m)) [
-    | inl t ↦ let r = range_from 0 n m (listed-has (range_with_len 0 n) m t) in absurd (omega (arith, r.1, l))
+    | inl t ↦ let r = range_from 0 n m (In-from_has (range_with_len 0 n) m t) in absurd (omega (arith, r.1, l))
     | inr f ↦ f ∙ sym (le-ltb m n l)
   ]
 ]
@@ -64,7 +46,7 @@ module _ (touches : List Touch) (listed : List ℕ) where
   ]
 
   pub touches_of-in : (m : ℕ) → In m listed → get_or (touches_of touches listed) m Nothing ≡ get_or touches m Nothing
-  touches_of-in m i = touches_of-at m ∙ cond-true (has_position listed m) (get_or touches m Nothing) Nothing (has-listed listed m i)
+  touches_of-in m i = touches_of-at m ∙ cond-true (has_position listed m) (get_or touches m Nothing) Nothing (has-from_In listed m i)
 
   -- a list that has at each item what it touches there
   pub touches_of-is : (xs : List Touch) → length xs ≡ length touches → ((m : ℕ) → m < length touches → get_or xs m Nothing ≡ cond (has_position listed m) (get_or touches m Nothing) Nothing)
@@ -75,7 +57,7 @@ module _ (touches : List Touch) (listed : List ℕ) where
   -- where an item touches a branch it is listed, and touches the branch
   pub touch-listed : (ends : List (Option Ends)) (m e : ℕ) → In e (touch_at ends (touches_of touches listed) m) → In m listed × In e (touch_at ends touches m)
   touch-listed ends m e i = elim (cases_Bool (has_position listed m)) [
-    | inl t ↦ let j = listed-has listed m t in (j, subst (λ (x : Touch). In e (touched ends x)) (touches_of-in m j) i)
+    | inl t ↦ let j = In-from_has listed m t in (j, subst (λ (x : Touch). In e (touched ends x)) (touches_of-in m j) i)
     | inr f ↦ absurd (subst (λ (x : Touch). In e (touched ends x)) (touches_of-at m ∙ cond-false (has_position listed m) (get_or touches m Nothing) Nothing f) i)
   ]
 
@@ -112,15 +94,11 @@ touches_of-more touches listed x =
     let put = get_or touches x Nothing in
     sym (touches_of-is touches (listed ++ x ∷ []) (set old x put) (length-set old x put ∙ length-touches_of touches listed) (λ m low. at m low))
   where
-    or_off : (b c : Bool) → c ≡ false → (b || c) ≡ b
-    or_off true c e = refl
-    or_off false c e = e
-
     at : (m : ℕ) → m < length touches → get_or (set (touches_of touches listed) x (get_or touches x Nothing)) m Nothing ≡ cond (has_position (listed ++ x ∷ []) m) (get_or touches m Nothing) Nothing
     at m low =
         let old = touches_of touches listed in
         let put = get_or touches x Nothing in
-        let more : has_position (listed ++ x ∷ []) m ≡ (has_position listed m || eqb x m) = has-more listed x m in
+        let more : has_position (listed ++ x ∷ []) m ≡ (has_position listed m || eqb x m) = has_position-append listed x m in
         elim (cases_eq m x) [
           | inl same ↦
               let hit : has_position (listed ++ x ∷ []) m ≡ true = more ∙ or_right (has_position listed m) (eqb x m) (eq-eqb x m (sym same)) in
@@ -128,7 +106,7 @@ touches_of-more touches listed x =
               ∙ (get_or-set_same old x put Nothing (omega (arith, length-touches_of touches listed, low, same))
               ∙ (ap (λ t. get_or touches t Nothing) (sym same) ∙ sym (cond-true (has_position (listed ++ x ∷ []) m) (get_or touches m Nothing) Nothing hit)))
           | inr other ↦
-              let miss : has_position (listed ++ x ∷ []) m ≡ has_position listed m = more ∙ or_off (has_position listed m) (eqb x m) (ne_eqb x m (λ e. other (sym e))) in
+              let miss : has_position (listed ++ x ∷ []) m ≡ has_position listed m = more ∙ ap (λ t. has_position listed m || t) (ne_eqb x m (λ e. other (sym e))) ∙ or-false (has_position listed m) in
               get_or-set_other old x m put Nothing other ∙ (touches_of-at touches listed m ∙ ap (λ t. cond t (get_or touches m Nothing) Nothing) (sym miss))
         ]
 

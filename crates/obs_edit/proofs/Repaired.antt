@@ -24,6 +24,7 @@ use Rattle.obs_assign.specs.Assignment.{Assignment, IsWhole, StandsOver, branch_
 use Rattle.obs_assign.specs.Still.{AreRetained, is_still, still}
 use Rattle.obs_assign.proofs.Keeping.{slot_without}
 use Rattle.obs_assign.proofs.Standing.{IsAssignmentAt-standing, length-retained, still_at, still_from}
+use Rattle.obs_assign.proofs.Slotted.{none_some}
 use Rattle.obs_exchange.specs.Lengthened.{HasLengthened}
 use Rattle.obs_network.specs.Switched.{case_bus_count}
 use Rattle.obs_network.specs.Network.{Network, Rows, case_branches, case_meters, case_needed, network_of}
@@ -38,7 +39,7 @@ use Rattle.obs_edit.specs.Edits.{HasRow, IsRepaired, edited, standing}
 use Rattle.obs_edit.specs.Longest.{IsMost}
 use Rattle.obs_edit.specs.Repairing.{AreKept, CostsOwnPair, IsBefore, most_pairs}
 use Rattle.obs_edit.proofs.Flagged.{rows-edited}
-use Rattle.obs_edit.proofs.Metered.{most-lost, most-regained, no_branch, same_graph, stands-lost, stands-regained, touched_before}
+use Rattle.obs_edit.proofs.Metered.{most-lost, most-regained, same_graph, stands-lost, stands-regained, touched_before}
 use Rattle.obs_edit.proofs.Retained.{few, forest-still, lost_one, present-still}
 
 not_below : (a b : ℕ) → nat_lt a b ≡ false → b ≤ a
@@ -274,6 +275,6 @@ IsRepaired-by t e a b c searches k h =
       turns_most = omega (arith, turned, found, but_one);
       turns_searched = omega (arith, turned, found, grown);
       lost = k.lost;
-      all_but_one = λ p i ne. h.keeps p.0 (λ none. no_branch p.1 (sym none ∙ slot_from b.slots p (k.kept p i ne)));
+      all_but_one = λ p i ne. h.keeps p.0 (λ none. none_some p.1 (sym none ∙ slot_from b.slots p (k.kept p i ne)));
       unsearched = λ none p i. k.within p (subst (λ (x : Assignment). In p (pairs x)) (h.none none) i);
     }

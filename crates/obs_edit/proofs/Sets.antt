@@ -12,13 +12,13 @@ use Rattle.obs_case.specs.Tables.{Tables, branch_names, meter_names, position_of
 use Rattle.obs_matroid.proofs.Slots.{slot_from}
 use Rattle.obs_assign.specs.Assignment.{Assignment, StandsOver, pairs}
 use Rattle.obs_assign.proofs.Standing.{still_at}
+use Rattle.obs_assign.proofs.Slotted.{none_some}
 use Rattle.obs_critical.specs.Listed.{CriticalWork}
 use Rattle.obs_exchange.specs.Found.{Work}
 use Rattle.obs_exchange.specs.Lengthened.{HasLengthened}
 use Rattle.obs_islands.specs.IslandWork.{IslandWork}
 use Rattle.obs_network.specs.Network.{Rows, case_branches, case_meters, network_of, rows_of}
 use Rattle.obs_meter.specs.Sizes.{Sizes}
-use Rattle.obs_edit.proofs.Metered.{no_branch}
 use Rattle.obs_script.specs.declared.command.Ask.{Ask}
 use Rattle.obs_script.specs.declared.fault.LineFault.{LineFault}
 use Rattle.obs_script.specs.Commands.{Said, asks, closes, command_of, loses, opens, regains, restores, trips}
@@ -113,7 +113,7 @@ no_answers t a flags listing found measured hand none = record {
   marks = λ h. absurd (false≢true (sym (ap (λ (x : AtHand). x.critical) none) ∙ h));
   critical = λ h. absurd (false≢true (sym (ap (λ (x : AtHand). x.critical) none) ∙ h));
   islands = λ h. absurd (false≢true (sym (ap (λ (x : AtHand). x.islands) none) ∙ h));
-  bound = λ c h. absurd (no_branch c (sym (ap (λ (x : AtHand). x.bound) none) ∙ h));
+  bound = λ c h. absurd (none_some c (sym (ap (λ (x : AtHand). x.bound) none) ∙ h));
 }
 
 -- the placing of a session after an edit

@@ -23,7 +23,7 @@ use Rattle.obs_exchange.specs.declared.Sources.TheVariants.{All}
 use Rattle.obs_exchange.specs.Closed.{HoldsSourcesAt, IsClosedAt, IsLeastClosedAt}
 
 -- a live meter is one of the meters
-live_low : (ends : List (Option Ends)) (touches : List Touch) (m : ℕ) → is_live ends touches m ≡ true → m < length touches
+pub live_low : (ends : List (Option Ends)) (touches : List Touch) (m : ℕ) → is_live ends touches m ≡ true → m < length touches
 live_low ends touches m t = elim (cases_lt m (length touches)) [
   | inl l ↦ l
   | inr l ↦ clash (rw (get_or_past touches m Nothing l) at t) refl

@@ -1,5 +1,5 @@
 -- The queue of a search, as the theory has it, and the closed set that a search without an end leaves.
-use Rattle.std.proofs.Common.{◌≡◌, ℕ, ◌<◌, ◌≤◌, Bool, true, false, ◌==◌, ◌&&◌, Option, Some, None, List, length, take, refl, sym, ap, ◌∙◌, subst, inl, inr, arith, eq-eqb}
+use Rattle.std.proofs.Common.{◌≡◌, ℕ, ◌≤◌, Bool, true, false, ◌==◌, ◌&&◌, Option, Some, None, List, length, take, refl, sym, ap, ◌∙◌, subst, inl, inr, arith, eq-eqb}
 use Rattle.std.specs.Prelude.{MatchOption}
 use Rattle.std.proofs.lemmas.Bool.{cases_lt, cases_Bool, eqb-true, and_parts, and_from}
 use Rattle.std.proofs.lemmas.List.{get_or_past, get_or-take, length-take-le}
@@ -13,7 +13,6 @@ use Rattle.obs_matroid.specs.Closed.{HoldsSources, IsClosed, IsLeastClosed}
 use Rattle.obs_matroid.proofs.Closed.{closed_adds_none}
 use Rattle.obs_matroid.proofs.Queue.{IsQueue, queue_closed}
 use Rattle.obs_meter.specs.declared.Touch.{Touch}
-use Rattle.obs_meter.specs.declared.Touch.TheVariants.{Nothing}
 use Rattle.obs_meter.specs.Spanned.{graph_matroid}
 use Rattle.obs_meter.specs.Touches.{every_item, is_live, touch_at}
 use Rattle.obs_meter.proofs.Assigned.{to_matroid}
@@ -31,6 +30,7 @@ use Rattle.obs_exchange.specs.Found.{AddsSource, HasClosed}
 use Rattle.obs_exchange.specs.Searching.{AreMarked, IsParent, IsSearching, end_of, first_of, parent_at, place_in}
 use Rattle.obs_exchange.proofs.Beginning.{source_bare}
 use Rattle.obs_exchange.proofs.Queued.{has_pair}
+use Rattle.obs_exchange.proofs.AtGraph.{live_low}
 
 -- whether a meter without a pair is a source
 abbrev pub source_test : List (Option Ends) → List Touch → Sources → ℕ → Bool
@@ -58,16 +58,6 @@ bare_slot a m out = slot_none (branch_at a m) (λ e h. out (slot_item a.slots m 
 
 pub bare_item : (a : Assignment) (m : ℕ) → branch_at a m ≡ None → In m (items (pairs a)) → ⊥
 bare_item a m b i = let h = item_slot a.slots m i in none_some h.0 (sym b ∙ h.1)
-
--- a live meter is one of the list
-live_low : (ends : List (Option Ends)) (touches : List Touch) (m : ℕ) → is_live ends touches m ≡ true → m < length touches
-live_low ends touches m t = elim (cases_lt m (length touches)) [
-  | inl l ↦ l
-  | inr l ↦ absurd (none_live ends touches m l t)
-]
-  where
-    none_live : (ends : List (Option Ends)) (touches : List Touch) (m : ℕ) → length touches ≤ m → is_live ends touches m ≡ true → ⊥
-    none_live ends touches m l t = let e = get_or_past touches m Nothing l in cc (rw e at t)
 
 -- the sources that were looked at are all
 pub all_marked : (ends : List (Option Ends)) (touches : List Touch) (from : Sources) (a : Assignment) (marks : List Bool)

@@ -15,7 +15,7 @@ use Rattle.obs_assign.specs.declared.Move.{Move}
 use Rattle.obs_assign.specs.Assignment.{Assignment, IsWhole, StandsOver, branch_at, is_frozen, pairs}
 use Rattle.obs_assign.specs.Moves.{ArePath, moved, turned}
 use Rattle.obs_assign.proofs.Free.{ArePath-one, IsAssignmentAt-free}
-use Rattle.obs_assign.proofs.Moving.{moved-some}
+use Rattle.obs_assign.proofs.Moving.{moved-some, has_some}
 use Rattle.obs_assign.proofs.Paths.{joined-less}
 use Rattle.obs_assign.proofs.Slotted.{item_slot, none_some}
 use Rattle.obs_exchange.specs.declared.Sources.{Sources}
@@ -28,10 +28,6 @@ use Rattle.obs_exchange.proofs.Beginning.{source_bare}
 moved-other : (path : List Move) (slots : List (Option ℕ)) (k : ℕ) → ((x : Move) → In x path → k ≡ x.meter → ⊥) → get_or (moved path slots) k None ≡ get_or slots k None
 moved-other [] slots k h = refl
 moved-other (x ∷ path) slots k h = moved-other path (set slots x.meter (Some x.branch)) k (λ y i. h y (inr i)) ∙ get_or-set_other slots x.meter k (Some x.branch) None (h x (inl refl))
-
-has_some : (o : Option ℕ) → (o ≡ None → ⊥) → (e : ℕ) × (o ≡ Some e)
-has_some None n = absurd (n refl)
-has_some (Some e) n = (e, refl)
 
 module _ (ends : List (Option Ends)) (touches : List Touch) (from : Sources) (a b : Assignment) (whole : IsWhole a) where
   -- the moves give a source a pair, and no meter loses its own

@@ -1,5 +1,5 @@
 -- The branches that a meter of the queue touches, one after the other.
-use Rattle.std.proofs.Common.{◌≡◌, ℕ, zero, suc, ◌+◌, ◌<◌, ◌≤◌, Bool, true, false, Option, List, length, get_or, set, replicate, refl, ◌∙◌, inl, inr, arith}
+use Rattle.std.proofs.Common.{◌≡◌, ℕ, ◌+◌, ◌<◌, ◌≤◌, Bool, true, false, Option, List, length, get_or, set, ◌∙◌, inl, inr, arith}
 use Rattle.std.proofs.lemmas.Bool.{cases_eq}
 use Rattle.std.proofs.lemmas.List.{get_or_default}
 use Rattle.obs_graph.specs.declared.Ends.{Ends}
@@ -50,12 +50,6 @@ AreStarred-more ends stars walked new_walked s keeps v t e i = keeps e (s v t e 
 
 pub AreStarred-set : (ends : List (Option Ends)) (stars walked : List Bool) (v : ℕ) → AreStarred ends stars walked → ((e : ℕ) → In e (branches_at ends v) → has_flag walked e ≡ true) → AreStarred ends (set stars v true) walked
 AreStarred-set ends stars walked v s all w t e i = elim (flag-from stars v w t) [ inl is ↦ all e (rw is at i) | inr h ↦ s w h.1 e i ]
-
--- no flag is set after all were cleared
-pub flag_cleared : (n k : ℕ) → has_flag (replicate n false) k ≡ false
-flag_cleared zero k = refl
-flag_cleared (suc n) zero = refl
-flag_cleared (suc n) (suc k) = flag_cleared n k
 
 -- nothing is marked, and nothing waits
 pub IsSearching-none : (ends : List (Option Ends)) (touches : List Touch) (from : Sources) (a : Assignment) (marks : List Bool) (parents : List (Option Move)) (queue : List ℕ) (walked : List Bool)

@@ -1,5 +1,5 @@
 -- A branch that was walked, and a head that moves on.
-use Rattle.std.proofs.Common.{◌≡◌, ℕ, ◌+◌, ◌<◌, Bool, true, false, not, ◌==◌, Option, Some, None, List, length, get_or, set, refl, sym, ap, ◌∙◌, subst, ◌⊎◌, inl, inr, arith, eq-eqb}
+use Rattle.std.proofs.Common.{◌≡◌, ℕ, ◌+◌, ◌<◌, Bool, true, false, not, ◌==◌, Option, Some, None, List, length, get_or, set, sym, ap, ◌∙◌, subst, ◌⊎◌, inl, inr, arith, eq-eqb}
 use Rattle.std.specs.Prelude.{MatchOption, IsSome, is_some, slice_index_or}
 use Rattle.std.specs.List.{Contains}
 use Rattle.std.proofs.lemmas.Bool.{cases_eq, cases_Bool}
@@ -8,10 +8,10 @@ use Rattle.obs_graph.specs.Joined.{first_joined, is_joined}
 use Rattle.obs_graph.specs.Positions.{ends_of, present}
 use Rattle.obs_graph.specs.Search.{IsPart}
 use Rattle.obs_graph.specs.Graph.{Graph}
-use Rattle.obs_graph.proofs.AtPositions.{contains-ends_of, ends_of-contains}
+use Rattle.obs_graph.proofs.AtPositions.{contains-ends_of, ends_of-contains, some_of}
 use Rattle.obs_graph.proofs.Forests.{same_first-among}
 use Rattle.obs_graph.proofs.IsJoined.{same-from_true, apart-from_false, false-from_apart}
-use Rattle.obs_graph.proofs.Present.{present_contains}
+use Rattle.obs_graph.proofs.Present.{present_contains, present_low}
 use Rattle.obs_matroid.specs.Lists.{In, other_than}
 use Rattle.obs_matroid.specs.Assignments.{branches, others, part}
 use Rattle.obs_matroid.proofs.Lists.{clash, other_true, other_ne}
@@ -22,7 +22,7 @@ use Rattle.obs_meter.specs.declared.Touch.{Touch}
 use Rattle.obs_meter.specs.declared.Touch.TheVariants.{Nothing}
 use Rattle.obs_meter.specs.Spanned.{ends_at, joined_at}
 use Rattle.obs_meter.specs.Touches.{touch_at}
-use Rattle.obs_meter.proofs.Touched.{below_from_some, touched-present}
+use Rattle.obs_meter.proofs.Touched.{touched-present}
 use Rattle.obs_forest.specs.Cycle.{without}
 use Rattle.obs_forest.proofs.Attaching.{without-some}
 use Rattle.obs_forest.proofs.Without.{other_present}
@@ -172,10 +172,6 @@ free_is a ends e u p q whole part is ps qs = elim (cases_eq (first_joined (prese
       ∙ sym (ap (λ b. not (not b)) (eqb_false p q (λ s. n (sym ps ∙ (sym s ∙ qs)))))
 ]
 
-some_of : (o : Option Ends) → IsSome o → (u : Ends) × (o ≡ Some u)
-some_of None t = absurd cc
-some_of (Some u) t = (u, refl)
-
 -- a touched branch has ends
 pub touched_there : (ends : List (Option Ends)) (touches : List Touch) (m e : ℕ) → In e (touch_at ends touches m) → IsSome (get_or ends e None)
 touched_there ends touches m e i = touched-present ends (slice_index_or touches m Nothing) e i
@@ -184,4 +180,4 @@ pub touched_ends : (ends : List (Option Ends)) (touches : List Touch) (m e : ℕ
 touched_ends ends touches m e i = some_of (get_or ends e None) (touched_there ends touches m e i)
 
 pub touched_low : (ends : List (Option Ends)) (touches : List Touch) (m e : ℕ) → In e (touch_at ends touches m) → e < length ends
-touched_low ends touches m e i = below_from_some ends e (touched_there ends touches m e i)
+touched_low ends touches m e i = present_low ends e (touched_there ends touches m e i)

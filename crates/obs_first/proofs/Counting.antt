@@ -1,6 +1,6 @@
 -- How many decided meters have a pair: one more with each that takes a branch, and once they have all the pairs, the further
 -- meters have none.
-use Rattle.std.proofs.Common.{◌≡◌, ℕ, zero, suc, ◌+◌, ◌<◌, ◌≤◌, Bool, true, false, not, Some, None, List, [], ◌∷◌, length, get_or, set, refl, sym, ap, ◌∙◌, inl, inr, arith, replicate, get_or-set_same, get_or-set_other}
+use Rattle.std.proofs.Common.{◌≡◌, ℕ, ◌+◌, ◌<◌, ◌≤◌, Bool, true, false, not, Some, None, List, [], ◌∷◌, length, get_or, set, refl, sym, ap, ◌∙◌, inl, inr, arith, get_or-set_same, get_or-set_other}
 use Rattle.std.proofs.lemmas.Bool.{cases_Bool, cases_eq}
 use Rattle.obs_graph.specs.Graph.{Graph}
 use Rattle.obs_matroid.specs.Lists.{In, IsDistinct}
@@ -15,12 +15,6 @@ use Rattle.obs_assign.specs.Assignment.{Assignment, IsWhole, StandsOver, has_fla
 use Rattle.obs_first.specs.Deciding.{IsDecided, KeepsFrozen, frozen_pairs}
 use Rattle.obs_first.proofs.Frozen.{frozen_same}
 use Rattle.obs_first.proofs.Deciding.{Decided-none}
-
--- no flag is set
-pub flags_clear : (n x : ℕ) → has_flag (replicate n false) x ≡ false
-flags_clear zero x = refl
-flags_clear (suc n) zero = refl
-flags_clear (suc n) (suc x) = flags_clear n x
 
 frozen_distinct : (a : Assignment) → IsDistinct (items (frozen_pairs a))
 frozen_distinct a = IsDistinct-part (is_frozen a) (pairs a) (IsDistinct-slots a.slots)

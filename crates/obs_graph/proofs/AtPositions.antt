@@ -12,6 +12,11 @@ use Rattle.obs_graph.proofs.Forests.{AreAmong, SameFirst, same_first-among, Grow
 use Rattle.obs_graph.proofs.Exchange.{IsForest-exchange, rank-from_IsForest, IsForest-from_rank}
 use Rattle.obs_graph.proofs.IsJoined.{apart-from_false}
 
+-- what is among ends stays so where one may be put before them
+pub contains_cons : (o : Option Ends) (es : List Ends) (x : Ends) → Contains es x → Contains (cons_option o es) x
+contains_cons None es x has = has
+contains_cons (Some d) es x has = Contains-there d x es has
+
 -- what stands at a position of the list is among the ends
 pub contains-ends_of : (bs : List (Option Ends)) (ps : List ℕ) (q : ℕ) (e : Ends) → Contains ps q → get_or bs q None ≡ Some e → Contains (ends_of bs ps) e
 contains-ends_of bs [] q e (k, l, h) is = absurd (omega arith)
@@ -20,10 +25,6 @@ contains-ends_of bs (p ∷ ps) q e (zero, l, h) is =
     subst (λ o. Contains (cons_option o (ends_of bs ps)) e) (sym here) (Contains-here e (ends_of bs ps))
 contains-ends_of bs (p ∷ ps) q e (suc k, l, h) is =
     contains_cons (get_or bs p None) (ends_of bs ps) e (contains-ends_of bs ps q e (k, omega arith, h) is)
-  where
-    contains_cons : (o : Option Ends) (es : List Ends) (x : Ends) → Contains es x → Contains (cons_option o es) x
-    contains_cons None es x has = has
-    contains_cons (Some d) es x has = Contains-there d x es has
 
 pub ends_of-contains : (bs : List (Option Ends)) (ps : List ℕ) (e : Ends) → Contains (ends_of bs ps) e → (q : ℕ) × Contains ps q × (get_or bs q None ≡ Some e)
 ends_of-contains bs [] e (k, l, h) = absurd (omega arith)
@@ -58,7 +59,8 @@ ends_of-append bs (x ∷ xs) ys = ap (cons_option (get_or bs x None)) (ends_of-a
     cons_append None es fs = refl
     cons_append (Some e) es fs = refl
 
-some_of : (o : Option Ends) → IsSome o → (e : Ends) × (o ≡ Some e)
+-- the branch that is there
+pub some_of : (o : Option Ends) → IsSome o → (e : Ends) × (o ≡ Some e)
 some_of None is = absurd cc
 some_of (Some e) is = (e, refl)
 

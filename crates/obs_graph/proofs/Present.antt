@@ -1,8 +1,9 @@
 -- The branches that are present in a list by positions.
-use Rattle.std.proofs.Common.{◌≡◌, ℕ, zero, suc, ◌<◌, ◌≤◌, Option, Some, None, IfSome, ⊎_elim, List, [], ◌∷◌, length, get_or, sym, ap, ◌∙◌, subst, arith}
+use Rattle.std.proofs.Common.{◌≡◌, ℕ, zero, suc, ◌<◌, ◌≤◌, Option, Some, None, IfSome, ⊎_elim, List, [], ◌∷◌, length, get_or, refl, sym, ap, ◌∙◌, subst, arith}
 use Rattle.std.specs.List.{Contains}
 use Rattle.std.proofs.lemmas.Bool.{cases_lt}
 use Rattle.std.proofs.lemmas.List.{get_or_past}
+use Rattle.std.specs.Prelude.{IsSome, slice_index_or}
 use Rattle.obs_graph.specs.declared.Ends.{Ends}
 use Rattle.obs_graph.specs.Positions.{AreBranches, present}
 use Rattle.obs_graph.specs.Search.{IsPart, AreBelow}
@@ -38,6 +39,14 @@ some_is_in bs p e is =
     (λ (l : p < length bs). l)
     (λ (past : length bs ≤ p). absurd (none_some e (sym (get_or_past bs p None past) ∙ is)))
     (cases_lt p (length bs))
+
+-- a present branch is within the list
+pub present_low : (bs : List (Option Ends)) (p : ℕ) → IsSome (slice_index_or bs p None) → p < length bs
+present_low bs p some = by_option (get_or bs p None) refl some
+  where
+    by_option : (o : Option Ends) → get_or bs p None ≡ o → IsSome o → p < length bs
+    by_option None is some = absurd cc
+    by_option (Some e) is some = some_is_in bs p e is
 
 -- the ends of a branch of a graph
 pub branch_at : (n : ℕ) (bs : List (Option Ends)) (i : ℕ) (e : Ends) → AreBranches n bs → i < length bs → get_or bs i None ≡ Some e → (e.a < n) × (e.b < n) × (e.a ≡ e.b → ⊥)

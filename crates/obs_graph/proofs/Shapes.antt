@@ -103,6 +103,10 @@ pub rank-injective : (n m : ℕ) (h : ℕ → ℕ) (es : List Ends) → ((u v : 
 rank-injective n m h es apart low range =
     rank-renamed n m n h (λ u. u) es apart (λ u v lu lv same. ap h same) (range_at n es range) low (λ u lu. lu) ∙ ap (rank n) (renamed-same es)
 
+-- the two that are glued have one name
+pub glue_st : (s t : ℕ) → glue s t s ≡ glue s t t
+glue_st s t = grind (arith, nat_tests)
+
 -- where s and t become one, the branches join what they joined with one branch more, between s and t
 module _ (n s t : ℕ) (h : ℕ → ℕ) (es : List Ends) (merges : Merges n s t h) (ls : s < n) (lt : t < n) (range : InRange n es) where
   abbrev pub link : Ends
@@ -128,9 +132,6 @@ module _ (n s t : ℕ) (h : ℕ → ℕ) (es : List Ends) (merges : Merges n s t
       (λ (at : link ≡ e). subst (λ (x : Ends). f x.a ≡ f x.b) at (ap (first_joined (renamed h es)) named))
       (λ there. ends_by_names h es e there)
       (Contains-cases link e es has)) (Chain-from_same_first (link ∷ es) u v same)
-    where
-      glue_st : (s t : ℕ) → glue s t s ≡ glue s t t
-      glue_st s t = grind (arith, nat_tests)
 
 -- the rank falls by one at most, and never rises
 pub rank-merging : (n m s t : ℕ) (h : ℕ → ℕ) → IsMerging n m s t h → (es : List Ends) → InRange n es → (rank n es ≤ suc (rank m (renamed h es))) × (rank m (renamed h es) ≤ rank n es)

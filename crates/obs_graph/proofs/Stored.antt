@@ -32,6 +32,6 @@ IsStored-none ends itself starts at few below len room own zeros =
     }
 
 -- a whole slice of a `Vec` that was written through
-pub written_back : (n : ℕ) (new items : List ℕ) → length new ≡ length items → n ≡ length items → take n (new ++ drop (length new) items) ≡ new
+pub written_back : {X : Type 0} (n : ℕ) (new items : List X) → length new ≡ length items → n ≡ length items → take n (new ++ drop (length new) items) ≡ new
 written_back n new items same len =
     ap (λ t. take n (new ++ t)) (drop_all (length new) items (omega arith)) ∙ (ap (take n) (append-nil new) ∙ take_all n new (omega arith))

@@ -72,7 +72,7 @@ Agree-from (x ∷ P) A C (inl b) h = absurd (elim (cases_Option (branch_at A x))
 ])
 Agree-from (x ∷ P) A C (inr k) h = λ y i. elim i [ inl e ↦ rw e k.0 | inr j ↦ Agree-from P A C k.1 (λ z e l. h z e (inr l)) y j ]
 
-IsBefore-irreflexive : (o : Option ℕ) → IsBefore o o → ⊥
+pub IsBefore-irreflexive : (o : Option ℕ) → IsBefore o o → ⊥
 IsBefore-irreflexive None b = b
 IsBefore-irreflexive (Some e) b = omega (arith, b)
 

@@ -1,5 +1,5 @@
 -- What the branches of a graph join is a matroid.
-use Rattle.std.proofs.Common.{◌≡◌, ◌≢◌, ℕ, suc, ◌<◌, List, [], ◌∷◌, length, get_or, refl, sym, ◌∙◌, inl, inr, ◌⊎◌, ◌↔◌, true, false, ◌||◌, ◌&&◌, Option, Some, None, eq-eqb}
+use Rattle.std.proofs.Common.{◌≡◌, ◌≢◌, ℕ, suc, ◌<◌, List, ◌∷◌, length, get_or, refl, sym, ◌∙◌, inl, inr, ◌⊎◌, ◌↔◌, true, false, ◌||◌, ◌&&◌, Option, Some, None}
 use Rattle.std.specs.Prelude.{IfSome, slice_index_or}
 use Rattle.std.specs.List.{cons_option}
 use Rattle.std.proofs.lemmas.Bool.{or_cases, or_left, or_right, and_parts, and_from, eqb-true, cases_lt}
@@ -10,8 +10,8 @@ use Rattle.obs_graph.specs.Joined.{is_joined, joined_by, rank}
 use Rattle.obs_graph.specs.Positions.{ends_of, AreBranches}
 use Rattle.obs_graph.proofs.IsJoined.{same-from_true, true-from_same, apart-from_false}
 use Rattle.obs_graph.proofs.Exchange.{joined_by-is_joined}
-use Rattle.obs_graph.proofs.Ranks.{is_moved, rank_is, rank-add_joined, rank-add_new}
-use Rattle.obs_graph.proofs.Counts.{count_below-none}
+use Rattle.obs_graph.proofs.Ranks.{rank-add_joined, rank-add_new}
+use Rattle.obs_graph.proofs.Forests.{rank-nil}
 use Rattle.obs_matroid.specs.Matroid.{IsMatroid}
 use Rattle.obs_matroid.specs.Graphic.{IsJoining}
 use Rattle.obs_matroid.proofs.Graphs.{IsMatroid-graphic}
@@ -75,7 +75,8 @@ new_option : (n : ℕ) (o : Option Ends) (es : List Ends) → IfSome o (λ e. (e
 new_option n None es r f = absurd (apart-from_false es 0 0 f refl)
 new_option n (Some e) es r f = rank-add_new n e es r.0 r.1 (apart-from_false es e.a e.b f)
 
-in_range : (n : ℕ) (branches : List (Option Ends)) (p : ℕ) → AreBranches n branches → IfSome (slice_index_or branches p None) (λ e. (e.a < n) × (e.b < n) × (e.a ≢ e.b))
+-- the ends of what stands at a position, and of none, are vertices
+pub in_range : (n : ℕ) (branches : List (Option Ends)) (p : ℕ) → AreBranches n branches → IfSome (slice_index_or branches p None) (λ e. (e.a < n) × (e.b < n) × (e.a ≢ e.b))
 in_range n branches p a =
     elim (cases_lt p (length branches)) [
       | inl l ↦ All-get_or (λ (o : Option Ends). IfSome o (λ e. (e.a < n) × (e.b < n) × (e.a ≢ e.b))) branches p None l a
@@ -86,11 +87,8 @@ in_range n branches p a =
     past n None e = tt
     past n (Some x) e = absurd (cc e)
 
-rank_none : (n : ℕ) → rank n [] ≡ 0
-rank_none n = rank_is n [] ∙ count_below-none (is_moved []) n (λ k l. rw (eq-eqb k k refl) refl)
-
 pub IsMatroid-graph : (n : ℕ) (branches : List (Option Ends)) → AreBranches n branches → IsMatroid (graph_matroid n branches)
 IsMatroid-graph n branches a = IsMatroid-graphic (ends_at branches) (joined_at branches) (IsJoining-graph branches) (rank_at n branches)
-    (rank_none n)
+    (rank-nil n)
     (λ L e t. spanned_option n (slice_index_or branches e None) (ends_of branches L) t)
     (λ L e f. new_option n (slice_index_or branches e None) (ends_of branches L) (in_range n branches e a) f)

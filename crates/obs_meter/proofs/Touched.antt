@@ -1,13 +1,12 @@
 -- What touched branches have in common.
 use Rattle.std.proofs.Common.{◌≡◌, ℕ, suc, ◌<◌, ◌⊎◌, inl, inr, Option, Some, None, List, [], ◌∷◌, length, refl, ap, true, arith}
 use Rattle.std.specs.Prelude.{All, AllPairs, IsSome, slice_index_or, nat_lt}
-use Rattle.std.proofs.lemmas.Bool.{cases_lt}
 use Rattle.std.proofs.lemmas.Bool.Decides.{nat_tests}
-use Rattle.std.proofs.lemmas.List.{get_or_past}
 use Rattle.obs_graph.specs.declared.Ends.{Ends}
 use Rattle.obs_graph.specs.Positions.{branches_at, has_end}
 use Rattle.obs_graph.specs.Graph.{itself_of}
 use Rattle.obs_graph.proofs.AtVertex.{positions_from_rise, has_end-at_vertex, end_at}
+use Rattle.obs_graph.proofs.Present.{present_low}
 use Rattle.obs_matroid.specs.Lists.{In, IsRising}
 use Rattle.obs_matroid.proofs.Contained.{Contains-from_In, All-from_In}
 use Rattle.obs_meter.specs.declared.Touch.{Touch}
@@ -50,16 +49,8 @@ touched-hub ends Nothing e i = absurd i
 touched-hub ends (Edge p) e i = let h = itself_in (slice_index_or ends p None) p e i in inl (ap (λ x. (ends_at ends x).0) h.0)
 touched-hub ends (Star v) e i = end_there v (slice_index_or ends e None) (has_end-at_vertex ends v e (Contains-from_In e (branches_at ends v) i))
 
--- a present branch stands in the list
-pub below_from_some : (ends : List (Option Ends)) (e : ℕ) → IsSome (slice_index_or ends e None) → e < length ends
-below_from_some ends e s = elim (cases_lt e (length ends)) [ inl l ↦ l | inr l ↦ absurd (none_there (slice_index_or ends e None) s (get_or_past ends e None l)) ]
-  where
-    none_there : (o : Option Ends) → IsSome o → o ≡ None → ⊥
-    none_there None s n = cc s
-    none_there (Some x) s n = cc n
-
 pub touched-below : (ends : List (Option Ends)) (t : Touch) → All (λ e. e < length ends) (touched ends t)
-touched-below ends t = All-from_In (λ e. e < length ends) (touched ends t) (λ e i. below_from_some ends e (touched-present ends t e i))
+touched-below ends t = All-from_In (λ e. e < length ends) (touched ends t) (λ e i. present_low ends e (touched-present ends t e i))
 
 -- an item with a branch is live
 pub live-from_In : (ends : List (Option Ends)) (touches : List Touch) (m e : ℕ) → In e (touch_at ends touches m) → is_live ends touches m ≡ true

@@ -1,19 +1,13 @@
 -- The arrays of components.
-use Rattle.std.proofs.Common.{◌≡◌, ℕ, zero, suc, ◌+◌, ◌^◌, ◌<◌, ◌≤◌, Bool, true, List, [], ◌∷◌, ◌++◌, length, take, drop, get_or, sym, ap, ◌∙◌, subst, arith}
+use Rattle.std.proofs.Common.{◌≡◌, ℕ, zero, suc, ◌+◌, ◌^◌, ◌<◌, ◌≤◌, Bool, true, List, [], ◌∷◌, length, take, get_or, sym, ap, ◌∙◌, subst, arith}
 use Rattle.std.specs.Prelude.{All, count_by, ◌==◌, cond}
 use Rattle.std.proofs.lemmas.Bool.{eq-eqb, cond-true}
-use Rattle.std.proofs.lemmas.List.{drop_all, append-nil, take_all}
 use Rattle.std.proofs.lemmas.List.Sums.{count_by-le-length, sum_by-cons}
 use Rattle.std.proofs.lemmas.List.FromFn.{get_or-map-range_with_len, length-map-range_with_len}
 use Rattle.obs_graph.specs.declared.Ends.{Ends}
 use Rattle.obs_network.specs.Components.{component_count, component_of, components_of, sizes_of}
 use Rattle.obs_network.specs.Kept.{AreGrouped}
 use Rattle.obs_network.proofs.Numbered.{component_at, components_of-at}
-
--- a whole slice of a `Vec` that was written through
-pub written_back : {X : Type 0} (n : ℕ) (new items : List X) → length new ≡ length items → n ≡ length items → take n (new ++ drop (length new) items) ≡ new
-written_back n new items same len =
-    ap (λ t. take n (new ++ t)) (drop_all (length new) items (omega arith)) ∙ (ap (take n) (append-nil new) ∙ take_all n new (omega arith))
 
 count_by-some : (test : ℕ → Bool) (xs : List ℕ) (k : ℕ) → k < length xs → test (get_or xs k 0) ≡ true → 0 < count_by test xs
 count_by-some test [] k l t = absurd (omega arith)

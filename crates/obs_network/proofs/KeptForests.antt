@@ -1,10 +1,8 @@
 -- A forest after an edit: it stays one, or loses one branch.
-use Rattle.std.proofs.Common.{inl, inr, ◌≡◌, ◌≢◌, ℕ, suc, ◌+◌, ◌<◌, ◌≤◌, ⊎_elim, Bool, true, false, Option, Some, None, List, [], ◌∷◌, length, get_or, refl, sym, ap, ◌∙◌, subst, arith}
+use Rattle.std.proofs.Common.{◌≡◌, ◌≢◌, ℕ, suc, ◌+◌, ◌<◌, ◌≤◌, ⊎_elim, Bool, true, false, Option, Some, None, List, [], ◌∷◌, length, get_or, refl, sym, ap, ◌∙◌, subst, arith}
 use Rattle.std.specs.Prelude.{IfSome, IsSome, slice_index_or}
 use Rattle.std.specs.List.{cons_option}
-use Rattle.std.proofs.lemmas.Bool.{cases_lt}
-use Rattle.std.proofs.lemmas.List.{get_or_past}
-use Rattle.std.proofs.lemmas.List.Elements.{All-cons, All-get_or, All-tail}
+use Rattle.std.proofs.lemmas.List.Elements.{All-cons, All-tail}
 use Rattle.obs_graph.specs.declared.Ends.{Ends}
 use Rattle.obs_graph.specs.Joined.{InRange, IsForest, rank, renamed, renamed_one}
 use Rattle.obs_graph.specs.Positions.{AreBranches, IsForestAt, ends_of}
@@ -15,6 +13,7 @@ use Rattle.obs_case.specs.Flags.{with_branch_inservice, with_closed, with_meter_
 use Rattle.obs_case.specs.Tables.{Tables, IsValid}
 use Rattle.obs_case.proofs.ValidLemmas.{valid-with_closed}
 use Rattle.obs_meter.specs.Spanned.{rank_at}
+use Rattle.obs_meter.proofs.Instance.{in_range}
 use Rattle.obs_network.specs.Switched.{case_bus_count}
 use Rattle.obs_network.specs.Network.{case_branches}
 use Rattle.obs_network.specs.Edited.{AreKept, AreMerged, ArePresent, AreRenamed}
@@ -44,17 +43,6 @@ renamed_itself before after renames L old new = renamed_at (λ b. b) before afte
 cons_range : (n : ℕ) (o : Option Ends) (es : List Ends) → IfSome o (λ e. (e.a < n) × (e.b < n) × (e.a ≢ e.b)) → InRange n es → InRange n (cons_option o es)
 cons_range n None es r rest = rest
 cons_range n (Some e) es r rest = All-cons (λ (x : Ends). (x.a < n) × (x.b < n)) e es (r.0, r.1) rest
-
-in_range : (n : ℕ) (branches : List (Option Ends)) (p : ℕ) → AreBranches n branches → IfSome (slice_index_or branches p None) (λ e. (e.a < n) × (e.b < n) × (e.a ≢ e.b))
-in_range n branches p a =
-    elim (cases_lt p (length branches)) [
-      | inl l ↦ All-get_or (λ (o : Option Ends). IfSome o (λ e. (e.a < n) × (e.b < n) × (e.a ≢ e.b))) branches p None l a
-      | inr l ↦ past n (get_or branches p None) (get_or_past branches p None l)
-    ]
-  where
-    past : (n : ℕ) (o : Option Ends) → o ≡ None → IfSome o (λ e. (e.a < n) × (e.b < n) × (e.a ≢ e.b))
-    past n None e = tt
-    past n (Some x) e = absurd (cc e)
 
 pub InRange-ends_of : (n : ℕ) (branches : List (Option Ends)) → AreBranches n branches → (L : List ℕ) → InRange n (ends_of branches L)
 InRange-ends_of n branches a [] = λ k d l. absurd (omega (arith, l))

@@ -3,6 +3,7 @@ use Rattle.std.proofs.Common.{◌≡◌, ℕ, zero, suc, ◌<◌, ◌≤◌, Boo
 use Rattle.std.specs.Prelude.{cond, ◌==◌}
 use Rattle.std.proofs.lemmas.Bool.{cases_eq, eq-eqb, ne_eqb}
 use Rattle.obs_graph.specs.Positions.{sum_below}
+use Rattle.obs_graph.proofs.FlatParts.{sum_below-agree}
 use Rattle.obs_matroid.specs.Lists.{In}
 
 pub sum_below-le : (f g : ℕ → ℕ) (n : ℕ) → ((c : ℕ) → c < n → f c ≤ g c) → sum_below f n ≤ sum_below g n
@@ -22,13 +23,6 @@ sum_below-same f g (suc n) h e c l =
       | inl same ↦ rw same (omega (arith, rest, here, e))
       | inr other ↦ sum_below-same f g n (λ k m. h k (omega arith)) (omega (arith, rest, here, e)) c (omega arith)
     ]
-
-pub sum_below-agree : (f g : ℕ → ℕ) (n : ℕ) → ((c : ℕ) → c < n → f c ≡ g c) → sum_below f n ≡ sum_below g n
-sum_below-agree f g zero h = refl
-sum_below-agree f g (suc n) h =
-    let rest = sum_below-agree f g n (λ c l. h c (omega arith)) in
-    let here = h n (omega arith) in
-    omega (arith, rest, here)
 
 sum_of_none : (n : ℕ) → sum_below (λ c. 0) n ≡ 0
 sum_of_none zero = refl

@@ -22,14 +22,13 @@ use Rattle.obs_meter.specs.Spanned.{graph_matroid, rank_at}
 use Rattle.obs_meter.specs.Touches.{is_live, live_items, touch_at}
 use Rattle.obs_meter.proofs.Instance.{IsMatroid-graph}
 use Rattle.obs_exchange.specs.Laws.{noncritical_in}
-use Rattle.obs_exchange.proofs.AtGraph.{In-live}
+use Rattle.obs_exchange.proofs.AtGraph.{In-live, live_low}
 use Rattle.obs_placement.specs.Answer.{chosen_of, cost_of, earlier_items, is_chosen}
 use Rattle.obs_placement.specs.Laws.{live_candidates, live_meters}
 use Rattle.obs_placement.specs.Layers.{added_items, is_price_of, layers_of, layer_outside, layer_rank, prices_above}
 use Rattle.obs_placement.specs.Order.{price_of}
 use Rattle.obs_placement.specs.Shown.{bare_layer, bare_layers}
 use Rattle.obs_placement.specs.Taking.{is_below, is_listed_at, scope_of}
-use Rattle.obs_placement.proofs.Going.{live_low}
 use Rattle.obs_placement.proofs.Growing.{AreRising, prices_rising, scope_distinct, scope_from}
 use Rattle.obs_placement.proofs.Lawful.{es, xs, answer, apart, base, in_order, order_price, same_length, sorted_from, sorted_in, sorted_sum}
 use Rattle.obs_placement.proofs.Laying.{chosen_price, price_found, price_most, priced_candidate}

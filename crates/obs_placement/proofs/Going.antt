@@ -1,11 +1,10 @@
 -- The items are taken one after the other.
-use Rattle.std.proofs.Common.{◌≡◌, ℕ, ◌+◌, ◌≤◌, ◌<◌, Bool, true, false, ◌||◌, ◌&&◌, not, Option, List, [], ◌∷◌, length, get_or, set, refl, sym, ap, ◌∙◌, inl, inr, arith, subst, eqb, ltb, get_or-set_same, get_or-set_other}
+use Rattle.std.proofs.Common.{◌≡◌, ℕ, ◌+◌, ◌≤◌, ◌<◌, Bool, true, false, ◌||◌, ◌&&◌, not, List, [], ◌∷◌, length, get_or, set, refl, sym, ap, ◌∙◌, inl, inr, arith, subst, eqb, ltb, get_or-set_same, get_or-set_other}
 use Rattle.std.specs.Prelude.{nat_lt}
 use Rattle.std.specs.Cmp.Derive.{one_truth}
 use Rattle.std.proofs.lemmas.Bool.{cases_Bool, cases_eq, cases_lt, and_parts, and_from, lt-ltb, le-ltb, ltb-true, not-true}
 use Rattle.std.proofs.lemmas.Bool.Decides.{nat_tests}
-use Rattle.std.proofs.lemmas.List.{length-set, get_or_past}
-use Rattle.obs_graph.specs.declared.Ends.{Ends}
+use Rattle.std.proofs.lemmas.List.{length-set}
 use Rattle.obs_graph.specs.Positions.{AreBranches}
 use Rattle.obs_graph.specs.Graph.{Graph}
 use Rattle.obs_matroid.specs.Lists.{In, IsDistinct}
@@ -15,13 +14,12 @@ use Rattle.obs_matroid.specs.Values.{is_critical}
 use Rattle.obs_matroid.proofs.Computed.{is_critical_is}
 use Rattle.obs_matroid.proofs.Lists.{clash, In_same, In-filter, In-filter_from, IsDistinct-filter}
 use Rattle.obs_meter.specs.declared.Touch.{Touch}
-use Rattle.obs_meter.specs.declared.Touch.TheVariants.{Nothing}
 use Rattle.obs_meter.specs.Spanned.{graph_matroid}
 use Rattle.obs_meter.specs.Touches.{is_live, live_items, touch_at}
 use Rattle.obs_meter.proofs.Assigned.{live_items-distinct}
 use Rattle.obs_meter.proofs.Instance.{IsMatroid-graph}
 use Rattle.obs_assign.specs.Assignment.{Assignment, has_flag, pairs}
-use Rattle.obs_exchange.proofs.AtGraph.{In-live, live-from_live_items}
+use Rattle.obs_exchange.proofs.AtGraph.{In-live, live-from_live_items, live_low}
 use Rattle.obs_placement.specs.Answer.{earlier_items, is_chosen}
 use Rattle.obs_placement.specs.Order.{IsOrder, is_earlier, item_at}
 use Rattle.obs_placement.specs.Taking.{AreAdded, AreFirst, AreHeld, AreTaken, IsStanding, IsTakenAt, IsUnderWay, is_below, is_known, is_listed_at, never, scope_of, since_at}
@@ -32,12 +30,6 @@ earlier_cheap p q a b = grind (arith, nat_tests)
 
 pub earlier_not_both : (p q a b : ℕ) → (ltb p q || (eqb p q && ltb a b)) ≡ true → (ltb q p || (eqb q p && ltb b a)) ≡ true → ⊥
 earlier_not_both p q a b h k = absurd (grind (arith, nat_tests, h, k))
-
-pub live_low : (ends : List (Option Ends)) (touches : List Touch) (m : ℕ) → is_live ends touches m ≡ true → m < length touches
-live_low ends touches m t = elim (cases_lt m (length touches)) [
-  | inl l ↦ l
-  | inr l ↦ clash (rw (get_or_past touches m Nothing l) at t) refl
-]
 
 not_below : (s t : ℕ) → ltb s t ≡ false → t ≤ s
 not_below s t f = elim (cases_lt s t) [ inl l ↦ clash (lt-ltb s t l) f | inr l ↦ l ]

@@ -19,14 +19,13 @@ use Rattle.obs_meter.proofs.Assigned.{live_items-distinct}
 use Rattle.obs_meter.proofs.Instance.{IsMatroid-graph}
 use Rattle.obs_assign.proofs.Standing.{In-every}
 use Rattle.obs_exchange.specs.Laws.{noncritical_in}
-use Rattle.obs_exchange.proofs.AtGraph.{In-live, live-from_live_items}
+use Rattle.obs_exchange.proofs.AtGraph.{In-live, live-from_live_items, live_low}
 use Rattle.obs_placement.specs.declared.plans.Layer.{Layer}
 use Rattle.obs_placement.specs.Answer.{chosen_of, cost_of}
 use Rattle.obs_placement.specs.Layers.{added_items, inside_of, is_price_of, layers_of, layer_items, prices_above}
 use Rattle.obs_placement.specs.Order.{price_of}
 use Rattle.obs_placement.specs.Placed.{plan_of}
 use Rattle.obs_placement.specs.Taking.{is_below, is_listed_at, scope_of}
-use Rattle.obs_placement.proofs.Going.{live_low}
 
 -- rising numbers, all above f
 abbrev pub AreRising : ℕ → List ℕ → Type 0

@@ -22,13 +22,14 @@ use Rattle.obs_meter.specs.Touches.{is_live, live_items, touch_at}
 use Rattle.obs_meter.proofs.Assigned.{live_items-distinct}
 use Rattle.obs_meter.proofs.Instance.{IsMatroid-graph}
 use Rattle.obs_assign.specs.Assignment.{Assignment, IsWhole, StandsOver, has_flag, is_frozen, pairs}
+use Rattle.obs_assign.proofs.Keeping.{flags_clear}
 use Rattle.obs_placement.specs.Answer.{chosen_of, cost_of, earlier_items, is_chosen}
 use Rattle.obs_placement.specs.Choosing.{HavePairsOnly}
 use Rattle.obs_placement.specs.Limits.{most_price}
 use Rattle.obs_placement.specs.Order.{price_of}
 use Rattle.obs_placement.specs.Taking.{AreTaken, IsStanding, is_known, is_raised, never, since_at}
-use Rattle.obs_placement.proofs.Going.{live_low}
 use Rattle.obs_placement.proofs.Taken.{IsTaken-rho}
+use Rattle.obs_exchange.proofs.AtGraph.{live_low}
 
 -- the numbers from i on, below n
 abbrev pub later : ℕ → ℕ → List ℕ
@@ -117,12 +118,6 @@ replicated n m = elim (cases_lt m n) [
   | inr l ↦ get_or_past (replicate n never) m never (let k = length-replicate n never in omega (arith, k, l))
 ]
 
-pub unset : (n m : ℕ) → has_flag (replicate n false) m ≡ false
-unset n m = elim (cases_lt m n) [
-  | inl l ↦ get_or-replicate n m false false l
-  | inr l ↦ get_or_past (replicate n false) m false (let k = length-replicate n false in omega (arith, k, l))
-]
-
 module _ (g : Graph) (touches : List Touch) (meters : ℕ) (prices : List ℕ) (a : Assignment) (since : List ℕ) (raised : List Bool) (ok : AreBranches g.vertices g.ends)
     (t : AreTaken g touches (price_of meters prices) a since raised) (count : length touches ≡ meters + length prices) where
   pub chosen_list : filter (is_raised raised meters) (range_with_len 0 (length prices)) ≡ chosen_of g.vertices g.ends touches meters prices
@@ -152,4 +147,4 @@ pub replicated_at : (n : ℕ) (xs : List ℕ) → xs ≡ replicate n never → (
 replicated_at n xs e m = rw e (replicated n m)
 
 pub unset_at : (n : ℕ) (xs : List Bool) → xs ≡ replicate n false → (m : ℕ) → has_flag xs m ≡ false
-unset_at n xs e m = rw e (unset n m)
+unset_at n xs e m = rw e (flags_clear n m)

@@ -18,6 +18,10 @@ Key = ℕ × ℕ
 abbrev pub key_cmp : Key → Key → Ordering
 key_cmp = λ x y. ordering_then (nat_cmp x.0 y.0) (nat_cmp x.1 y.1)
 
+-- the test for one number can be turned
+pub number_flips : (a b : ℕ) → eqb a b ≡ eqb b a
+number_flips a b = grind (arith, nat_tests)
+
 lt_is : (a b c d : ℕ) → is_lt (ordering_then (nat_cmp a b) (nat_cmp c d)) ≡ (ltb a b || (eqb a b && ltb c d))
 lt_is a b c d = grind (arith, nat_tests)
 
@@ -33,9 +37,6 @@ module _ (price : ℕ → ℕ) (n : ℕ) (old new : List Key) (h : AreNumbered p
 
   flips : (x y : Key) → eqb x.1 y.1 ≡ eqb y.1 x.1
   flips x y = number_flips x.1 y.1
-    where
-      number_flips : (a b : ℕ) → eqb a b ≡ eqb b a
-      number_flips a b = grind (arith, nat_tests)
 
   old_differ : (j k : ℕ) (d : Key) → j < k → k < length old → eqb (get_or old j d).1 (get_or old k d).1 ≡ false
   old_differ j k d l m =

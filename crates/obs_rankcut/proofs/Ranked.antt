@@ -5,17 +5,13 @@ use Rattle.std.proofs.lemmas.Bool.{cases_Bool}
 use Rattle.obs_graph.specs.declared.Ends.{Ends}
 use Rattle.obs_graph.specs.Joined.{rank}
 use Rattle.obs_graph.specs.Positions.{ends_of, marked_ends}
-use Rattle.obs_graph.proofs.AtPositions.{contains-ends_of, ends_of-contains}
-use Rattle.obs_graph.proofs.Chains.{Contains-here, Contains-there, Contains-cases}
+use Rattle.obs_graph.proofs.AtPositions.{contains-ends_of, ends_of-contains, contains_cons}
+use Rattle.obs_graph.proofs.Chains.{Contains-here, Contains-cases}
 use Rattle.obs_graph.proofs.Forests.{rank-among}
 use Rattle.obs_matroid.proofs.Contained.{Contains-from_In, In-from_Contains}
 use Rattle.obs_meter.specs.Spanned.{rank_at}
 use Rattle.obs_rankcut.specs.Flags.{marked}
 use Rattle.obs_rankcut.specs.Marks.{MarksJust}
-
-pub cons_there : (o : Option Ends) (es : List Ends) (e : Ends) → Contains es e → Contains (cons_option o es) e
-cons_there None es e h = h
-cons_there (Some d) es e h = Contains-there d e es h
 
 pub cons_here : (o : Option Ends) (es : List Ends) (e : Ends) → o ≡ Some e → Contains (cons_option o es) e
 cons_here None es e is = absurd (cc is)
@@ -32,7 +28,7 @@ marked-contains (o ∷ ends) [] p e t is = absurd (cc t)
 marked-contains (o ∷ ends) (b ∷ flags) zero e t is = rw t (cons_here o (marked_ends ends flags) e is)
 marked-contains (o ∷ ends) (b ∷ flags) (suc p) e t is =
     let rest = marked-contains ends flags p e t is in
-    elim (cases_Bool b) [ inl y ↦ rw y (cons_there o (marked_ends ends flags) e rest) | inr n ↦ rw n rest ]
+    elim (cases_Bool b) [ inl y ↦ rw y (contains_cons o (marked_ends ends flags) e rest) | inr n ↦ rw n rest ]
 
 -- and each of these is at a marked position
 contains-marked : (ends : List (Option Ends)) (flags : List Bool) (e : Ends) → Contains (marked_ends ends flags) e → (p : ℕ) × (marked flags p ≡ true) × (get_or ends p None ≡ Some e)

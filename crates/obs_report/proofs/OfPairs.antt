@@ -5,12 +5,13 @@ use Rattle.std.specs.List.{flat_map, range_with_len}
 use Rattle.std.proofs.lemmas.Bool.{cases_Bool}
 use Rattle.obs_case.specs.Tables.{Tables, IsValid}
 use Rattle.obs_graph.specs.Graph.{Graph}
+use Rattle.obs_graph.proofs.Present.{present_low}
 use Rattle.obs_matroid.specs.Assignments.{Pair}
 use Rattle.obs_matroid.specs.Slots.{pairs_from, pairs_of}
 use Rattle.obs_meter.specs.declared.Touch.{Touch}
 use Rattle.obs_meter.specs.declared.Touch.TheVariants.{Nothing}
 use Rattle.obs_meter.specs.Touches.{is_live}
-use Rattle.obs_meter.proofs.Touched.{below_from_some, live-from_In, touched-present}
+use Rattle.obs_meter.proofs.Touched.{live-from_In, touched-present}
 use Rattle.obs_assign.specs.Assignment.{Assignment, StandsOver, branch_at}
 use Rattle.obs_network.specs.Network.{case_branches, case_meters, network_of}
 use Rattle.obs_network.specs.Located.{is_meter_in, live_meters_of}
@@ -21,7 +22,7 @@ use Rattle.obs_report.specs.Trees.{lies_in, pair_lines}
 
 -- a present branch has a row in the table
 pub branch_low : (t : Tables) (e : ℕ) → IsSome (slice_index_or (case_branches t) e None) → e < length t.branches
-branch_low t e s = omega (arith, below_from_some (case_branches t) e s, length-case_branches t)
+branch_low t e s = omega (arith, present_low (case_branches t) e s, length-case_branches t)
 
 -- the branch of a pair is present
 pub held_present : (a : Assignment) (g : Graph) (touches : List Touch) → StandsOver a g touches → (m : ℕ) → IfSome (branch_at a m) (λ e. IsSome (slice_index_or g.ends e None))

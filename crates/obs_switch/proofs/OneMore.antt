@@ -10,6 +10,7 @@ use Rattle.obs_graph.proofs.Chains.{Contains-here, first_joined-contains}
 use Rattle.obs_graph.proofs.Counts.{count_below-agree}
 use Rattle.obs_graph.proofs.First.{first_joined-le, first_joined-first_joined, merged-same}
 use Rattle.obs_graph.proofs.Forests.{among_front, among_others, same_first-among}
+use Rattle.obs_graph.proofs.Shapes.{glue_st}
 use Rattle.obs_switch.specs.declared.link.Link.{Link}
 use Rattle.obs_switch.specs.Buses.{bus_count, bus_of, bus_under, buses_of, ends_of_link, ends_of_links, first_node, is_first_node}
 use Rattle.obs_switch.proofs.FirstNodes.{bus_at, bus_of-below, first_member, same_first-from_same_bus}
@@ -44,9 +45,6 @@ one-from_merged x y z w same =
 one-from_glue : (s t c d : ℕ) → glue s t c ≡ glue s t d → OneOf s t c d
 one-from_glue s t c d same =
     ⊎_elim (λ (e : c ≡ d). inl e) (λ (ne : c ≡ d → ⊥). two_cases s t c d ne (glue_apart s t c d same ne)) (cases_eq c d)
-
-glue_st : (s t : ℕ) → glue s t s ≡ glue s t t
-glue_st s t = grind (arith, nat_tests)
 
 glue-from_one : (s t c d : ℕ) → OneOf s t c d → glue s t c ≡ glue s t d
 glue-from_one s t c d (inl e) = ap (glue s t) e

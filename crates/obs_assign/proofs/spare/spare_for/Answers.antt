@@ -2,9 +2,9 @@ use Rattle.std.proofs.Common.{◌≡◌, None, Some, get_or, take, sym, ◌∙�
 use Rattle.std.proofs.lemmas.List.{get_or_default}
 use Rattle.obs_matroid.specs.Assignments.{branches}
 use Rattle.obs_matroid.specs.Slots.{pairs_of}
-use Rattle.obs_forest.proofs.Keeping.{present_low}
 use Rattle.obs_assign.proofs.Paths.{apart-pairs, apart_ends, apart_spare, cycle_at, ends_are, owned_low, owner_frozen, owner_spare, path_low, path_owned, spare_found}
 use Rattle.obs_assign.proofs.spare.spare_for.Goals as goal
+use Rattle.obs_graph.proofs.Present.{present_low}
 
 pub bounds-frozen-x : goal.bounds-frozen-x
 bounds-frozen-x c = let l = owned_low c.args.slots.now c.args.owners.now c.requires.inverse c.args.e c.in-Some.x c.in-Some.is in omega (arith, l, c.requires.paired.flags)

@@ -1,8 +1,8 @@
 use Rattle.std.proofs.Common.{◌≡◌, None, Some, get_or, sym, ◌∙◌}
 use Rattle.std.proofs.lemmas.List.{get_or_default}
-use Rattle.obs_forest.proofs.Keeping.{present_low}
 use Rattle.obs_exchange.proofs.Walking.{free_is}
 use Rattle.obs_exchange.proofs.walk.is_free.Goals as goal
+use Rattle.obs_graph.proofs.Present.{present_low}
 
 pub returns : goal.returns
 returns c =

@@ -2,7 +2,8 @@ use Rattle.std.proofs.Common.{rules, ◌≡◌, ◌∙◌, ℕ, false, length, s
 use Rattle.obs_meter.specs.Assignments.{IsRhoAt}
 use Rattle.obs_meter.specs.Touches.{live_items}
 use Rattle.obs_assign.specs.Assignment.{Assignment, has_flag, pairs}
-use Rattle.obs_first.proofs.Counting.{count_none, flags_clear}
+use Rattle.obs_assign.proofs.Keeping.{flags_clear}
+use Rattle.obs_first.proofs.Counting.{count_none}
 use Rattle.obs_first.proofs.Lawful.{Decided-all, Decided-begun}
 use Rattle.obs_first.proofs.least.first.Goals as goal
 

@@ -1,7 +1,7 @@
 use Rattle.std.proofs.Common.{◌≡◌, ◌++◌, ℕ, List, take, drop, Option, None, length, get_or, replicate, ap, ◌∙◌, arith}
 use Rattle.std.proofs.lemmas.List.{length-replicate}
-use Rattle.obs_forest.proofs.Keeping.{written_back}
 use Rattle.obs_graph.specs.Search.{room_of}
+use Rattle.obs_graph.proofs.Stored.{written_back}
 use Rattle.obs_forest.specs.Forest.{Forest}
 use Rattle.obs_assign.proofs.Keeping.{IsKept-none, empty_slot}
 use Rattle.obs_assign.proofs.assignment.Assignment.make.Goals as goal

@@ -1,10 +1,8 @@
-use Rattle.std.proofs.Common.{◌≡◌, ℕ, Option, Some, None, true, false, ap, sym, ◌∙◌}
+use Rattle.std.proofs.Common.{ap, sym, ◌∙◌}
 use Rattle.obs_matroid.proofs.Lists.{clash}
 use Rattle.obs_edit.specs.declared.hand.AtHand.{AtHand}
 use Rattle.obs_edit.proofs.analysis.Analysis.begin.Goals as goal
-
-no_bound : (k : ℕ) → None ≡ Some k → ⊥
-no_bound k is = cc
+use Rattle.obs_assign.proofs.Slotted.{none_some}
 
 pub invariant_of-result : goal.invariant_of-result
 invariant_of-result g c =
@@ -19,6 +17,6 @@ invariant_of-result g c =
         marks = λ is. clash is (ap (λ (h : AtHand). h.critical) nothing);
         critical = λ is. clash is (ap (λ (h : AtHand). h.critical) nothing);
         islands = λ is. clash is (ap (λ (h : AtHand). h.islands) nothing);
-        bound = λ k is. absurd (no_bound k (sym (ap (λ (h : AtHand). h.bound) nothing) ∙ is));
+        bound = λ k is. absurd (none_some k (sym (ap (λ (h : AtHand). h.bound) nothing) ∙ is));
       };
     }

@@ -1,7 +1,7 @@
 use Rattle.std.proofs.Common.{◌≡◌, ◌++◌, ℕ, false, length, replicate, take, drop, ap, sym, ◌∙◌, arith}
 use Rattle.std.proofs.lemmas.List.{length-replicate}
-use Rattle.obs_forest.proofs.Keeping.{written_back}
 use Rattle.obs_exchange.proofs.work.Work.make.Goals as goal
+use Rattle.obs_graph.proofs.Stored.{written_back}
 
 pub invariant_of-result : goal.invariant_of-result
 invariant_of-result c =

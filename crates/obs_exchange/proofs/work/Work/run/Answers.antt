@@ -1,8 +1,8 @@
 use Rattle.std.proofs.Common.{◌≡◌, ◌++◌, ◌≤◌, Bool, List, length, take, drop, ap, ◌∙◌, arith}
-use Rattle.obs_forest.proofs.Keeping.{written_back}
 use Rattle.obs_exchange.specs.Found.{Work}
 use Rattle.obs_exchange.proofs.Closing.{HasClosed-flags}
 use Rattle.obs_exchange.proofs.work.Work.run.Goals as goal
+use Rattle.obs_graph.proofs.Stored.{written_back}
 
 pub returns-in-Some-clause-found : goal.returns-in-Some-clause-found
 returns-in-Some-clause-found g c = c.grow-found.ensures.found _

@@ -1,7 +1,8 @@
 use Rattle.std.proofs.Common.{length, ap, arith}
 use Rattle.obs_graph.specs.Positions.{present}
+use Rattle.obs_graph.proofs.Stored.{written_back}
 use Rattle.obs_network.specs.Network.{Components}
-use Rattle.obs_network.proofs.Grouping.{grouped_whole, written_back}
+use Rattle.obs_network.proofs.Grouping.{grouped_whole}
 use Rattle.obs_network.proofs.components.Components.refill.Goals as goal
 
 pub invariant_of-self : goal.invariant_of-self

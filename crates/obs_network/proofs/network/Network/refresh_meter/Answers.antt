@@ -6,10 +6,10 @@ use Rattle.obs_meter.specs.Touches.{IsInRange}
 use Rattle.obs_case.specs.Tables.{Tables}
 use Rattle.obs_network.specs.contracts.network.Network.{the_view}
 use Rattle.obs_network.specs.Network.{Network, case_meters, case_offered}
-use Rattle.obs_network.proofs.Grouping.{written_back}
 use Rattle.obs_network.proofs.OfCase.{length-case_meters, meters-in_range, offered-in_range}
 use Rattle.obs_network.proofs.RefreshedMeter.{AreAfter, length-lists_of, lists-set, meter_edited, with_touch}
 use Rattle.obs_network.proofs.network.Network.refresh_meter.Goals as goal
+use Rattle.obs_graph.proofs.Stored.{written_back}
 
 pub change_item-requires : goal.change_item-requires
 change_item-requires c =

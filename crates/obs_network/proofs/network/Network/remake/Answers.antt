@@ -2,10 +2,10 @@ use Rattle.std.proofs.Common.{◌∙◌, sym, refl, ap, length, take, arith}
 use Rattle.std.proofs.lemmas.List.{take_all}
 use Rattle.obs_switch.specs.Held.{Buses}
 use Rattle.obs_network.specs.Network.{Network, Rows, case_needed}
-use Rattle.obs_network.proofs.Grouping.{written_back}
 use Rattle.obs_network.proofs.OfCase.{case_bus_count-le, case_component_count-le, few_nodes, length-case_components, length-case_first_buses, length-case_meters, meters-in_range, offered-in_range}
 use Rattle.obs_network.proofs.Whole.{labelled_is, grouped_is, shape_is, items_are, rows_are, network_is}
 use Rattle.obs_network.proofs.network.Network.remake.Goals as goal
+use Rattle.obs_graph.proofs.Stored.{written_back}
 
 pub relabel_unless-requires-clause-kept : goal.relabel_unless-requires-clause-kept
 relabel_unless-requires-clause-kept c = λ stay.
