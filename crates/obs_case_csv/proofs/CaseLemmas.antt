@@ -1,6 +1,6 @@
 -- The rows of one table: what a reading without a fault gives, and what a table's rows are read as.
 use Rattle.std.proofs.Common.{ℕ, ◌≡◌, ◌∙◌, ◌<◌, ◌≤◌, ap, refl, sym, subst, List, [], ◌∷◌, ◌++◌, length, true, false, arith, None, map, nat_eq, append_assoc, ◌||◌}
-use Rattle.std.proofs.lemmas.Bool.{and_parts, eqb-false, ne_eqb}
+use Rattle.std.proofs.lemmas.Bool.{and_parts, eqb-false, ne_eqb, or_parts}
 use Rattle.std.proofs.lemmas.List.Folds.{list_all-append, list_any-append}
 use Rattle.std.specs.List.{list_all}
 use Rattle.std.specs.Str.{bytes_eq}
@@ -14,7 +14,7 @@ use Rattle.obs_case_csv.specs.IsCase.{AreRows, EachIs}
 use Rattle.obs_case_csv.specs.Read.{fault_in, fault_of_records, first_fault, rows_before, rows_in, rows_of_records, table_records}
 use Rattle.obs_case_csv.specs.Rows.{names_in, row_fault, with_record}
 use Rattle.obs_case_csv.proofs.ReadLemmas.{first_fault-end, first_fault-next, header-none, row_fault-none, rows_before-end, rows_before-next, with_header}
-use Rattle.obs_case_csv.proofs.ReadingLemmas.{or_none, row_fault-parts}
+use Rattle.obs_case_csv.proofs.ReadingLemmas.{row_fault-parts}
 
 -- a table of a case: its rows, and what is known of one record
 pub record IsTable {R : Type 0} (table : Table) (own : R → List ℕ) (get : Tables → List R) (put : Tables → List R → Tables) (is : Tables → Record → Record → R → Type 0)
@@ -56,7 +56,7 @@ different-split [] name rest h = refl
 different-split (x ∷ names) name rest h =
     let parts = different-parts x (names ++ name ∷ rest) h in
     let absent : (has_name names x || has_name (name ∷ rest) x) ≡ false = sym (list_any-append (bytes_eq x) names (name ∷ rest)) ∙ parts.0 in
-    let other = or_none (bytes_eq x name) (has_name rest x) (or_none (has_name names x) (has_name (name ∷ rest) x) absent).1 in
+    let other = or_parts (bytes_eq x name) (has_name rest x) (or_parts (has_name names x) (has_name (name ∷ rest) x) absent).1 in
     rw (bytes_eq-back x name other.0) (different-split names name rest parts.1)
 
 named-split : (names : List (List ℕ)) (name : List ℕ) (rest : List (List ℕ)) → IsNamed (names ++ name ∷ rest)

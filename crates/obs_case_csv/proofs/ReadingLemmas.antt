@@ -1,6 +1,6 @@
 -- A record that isn't refused is a row, and a record that is a row isn't refused: one table after the other.
-use Rattle.std.proofs.Common.{ℕ, ◌≡◌, ◌∙◌, ◌||◌, ap, refl, sym, List, [], ◌∷◌, length, Bool, not, true, false, Option, Some, None, is_none, unwrap_or, codes, if◌then◌else◌, nat_eq}
-use Rattle.std.proofs.lemmas.Bool.{and_parts, and_from, not-false}
+use Rattle.std.proofs.Common.{ℕ, ◌≡◌, ◌∙◌, ap, refl, sym, List, [], ◌∷◌, length, Bool, not, true, false, Option, Some, None, is_none, unwrap_or, codes, if◌then◌else◌, nat_eq}
+use Rattle.std.proofs.lemmas.Bool.{and_parts, and_from, not-false, or_parts}
 use Rattle.std.specs.Option.{option_and_then}
 use Rattle.std.specs.Str.{bytes_eq}
 use Rattle.obs_text.specs.Names.{is_name}
@@ -38,13 +38,6 @@ clear5 : (f0 f1 f2 f3 f4 : RowFault) (b0 b1 b2 b3 b4 : Bool) → b0 ≡ false �
     → lowest ((f0, b0) ∷ (f1, b1) ∷ (f2, b2) ∷ (f3, b3) ∷ (f4, b4) ∷ []) ≡ None
 clear5 f0 f1 f2 f3 f4 b0 b1 b2 b3 b4 p q r s u = rw (p, q, r, s, u) refl
 
-pub or_none : (a b : Bool) → (a || b) ≡ false → (a ≡ false) × (b ≡ false)
-or_none true b h = cc
-or_none false b h = (refl, h)
-
-or_from : (a b : Bool) → a ≡ false → b ≡ false → (a || b) ≡ false
-or_from a b p q = rw (p, q) refl
-
 -- a value that is there
 value : {A : Type 0} (o : Option A) (d : A) → is_none o ≡ false → o ≡ Some (unwrap_or o d)
 value None d h = cc
@@ -78,15 +71,15 @@ row_fault-from table header t row full short fine = rw (full, short) fine
 -- a field is there under each needed column
 two_there : (header row : Record) (a b : List ℕ) → is_short (a ∷ b ∷ []) header row ≡ false → (is_none (field_under header row a) ≡ false) × (is_none (field_under header row b) ≡ false)
 two_there header row a b h =
-    let first = or_none (is_none (field_under header row a)) _ h in
-    let second = or_none (is_none (field_under header row b)) _ first.1 in
+    let first = or_parts (is_none (field_under header row a)) _ h in
+    let second = or_parts (is_none (field_under header row b)) _ first.1 in
     (first.0, second.0)
 
 four_there : (header row : Record) (a b c d : List ℕ) → is_short (a ∷ b ∷ c ∷ d ∷ []) header row ≡ false
     → (is_none (field_under header row a) ≡ false) × (is_none (field_under header row b) ≡ false) × (is_none (field_under header row c) ≡ false) × (is_none (field_under header row d) ≡ false)
 four_there header row a b c d h =
-    let first = or_none (is_none (field_under header row a)) _ h in
-    let rest = or_none (is_none (field_under header row b)) _ first.1 in
+    let first = or_parts (is_none (field_under header row a)) _ h in
+    let rest = or_parts (is_none (field_under header row b)) _ first.1 in
     let last = two_there header row c d rest.1 in
     (first.0, rest.0, last.0, last.1)
 

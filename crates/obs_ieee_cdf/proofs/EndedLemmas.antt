@@ -1,11 +1,12 @@
 -- Bytes and their lines with their ends.
-use Rattle.std.proofs.Common.{◌≡◌, ℕ, suc, ◌≤◌, zero, false, inl, inr, List, [], ◌∷◌, ◌++◌, length, map, take, drop, refl, sym, ap, ◌∙◌, add-one, arith}
-use Rattle.std.proofs.lemmas.List.{take-append-drop, length-map}
+use Rattle.std.proofs.Common.{◌≡◌, ℕ, suc, zero, false, inl, inr, List, [], ◌∷◌, ◌++◌, map, take, drop, refl, sym, ap, ◌∙◌, add-one}
+use Rattle.std.proofs.lemmas.List.{take-append-drop}
 use Rattle.std.proofs.Math.Seq.{take-nil}
 use Rattle.std.proofs.lemmas.Bool.{cases_Bool}
 use Rattle.std.specs.List.{concat, onto_first}
 use Rattle.obs_text.specs.Lines.{after_line, content, ended_lines, is_feed, lines_of}
 use Rattle.obs_text.proofs.LineLemmas.{ended_lines-first, feed_at}
+use Rattle.obs_text.proofs.LineLaws.{joined, onto_first-joined}
 
 -- the first line of bytes: with its end, and without it
 pub record IsNextLine (all line rest ended : List ℕ) : Type 0 where
@@ -28,39 +29,9 @@ next_line (b ∷ bs) line rest is after =
       },
     )
 
-concat-onto_first : (b : ℕ) (parts : List (List ℕ)) → concat (onto_first b parts) ≡ b ∷ concat parts
-concat-onto_first b [] = refl
-concat-onto_first b (part ∷ parts) = refl
-
-length-onto_first : (b : ℕ) (parts : List (List ℕ)) → length (onto_first b parts) ≤ suc (length parts)
-length-onto_first b [] = omega arith
-length-onto_first b (part ∷ parts) = omega arith
-
 take-onto_first : (b n : ℕ) (parts : List (List ℕ)) → take (suc n) (onto_first b parts) ≡ onto_first b (take (suc n) parts)
 take-onto_first b n [] = ap (λ r. (b ∷ []) ∷ r) (take-nil n)
 take-onto_first b n (part ∷ parts) = refl
-
--- the lines joined are the bytes again
-pub concat-ended_lines : (bytes : List ℕ) → concat (ended_lines bytes) ≡ bytes
-concat-ended_lines [] = refl
-concat-ended_lines (b ∷ bs) =
-    elim (cases_Bool (is_feed b)) [
-      | inl e ↦ rw e (ap (λ r. b ∷ r) (concat-ended_lines bs))
-      | inr e ↦ rw e (concat-onto_first b (ended_lines bs) ∙ ap (λ r. b ∷ r) (concat-ended_lines bs))
-    ]
-
--- each line has a byte at least
-pub length-ended_lines : (bytes : List ℕ) → length (ended_lines bytes) ≤ length bytes
-length-ended_lines [] = omega arith
-length-ended_lines (b ∷ bs) =
-    let fewer = length-ended_lines bs in
-    elim (cases_Bool (is_feed b)) [
-      | inl e ↦ rw e (omega (arith, fewer))
-      | inr e ↦ rw e (omega (arith, fewer, length-onto_first b (ended_lines bs)))
-    ]
-
-pub length-lines_of : (bytes : List ℕ) → length (lines_of bytes) ≤ length bytes
-length-lines_of bytes = omega (arith, length-map (ended_lines bytes) content, length-ended_lines bytes)
 
 ended_lines-other : (b : ℕ) (bs : List ℕ) → is_feed b ≡ false → ended_lines (b ∷ bs) ≡ onto_first b (ended_lines bs)
 ended_lines-other b bs e = rw e refl
@@ -75,13 +46,13 @@ ended_lines-take (suc n) (b ∷ bs) =
       | inr e ↦
           let front = take (suc n) (ended_lines bs) in
           let same : take (suc n) (ended_lines (b ∷ bs)) ≡ onto_first b front = ap (take (suc n)) (ended_lines-other b bs e) ∙ take-onto_first b n (ended_lines bs) in
-          ap (λ r. ended_lines (concat r)) same ∙ ap ended_lines (concat-onto_first b front)
+          ap (λ r. ended_lines (concat r)) same ∙ ap ended_lines (onto_first-joined b front)
           ∙ ended_lines-other b (concat front) e ∙ ap (onto_first b) (ended_lines-take (suc n) bs) ∙ sym same
     ]
 
 -- and the lines from one on are the lines of what they are joined
 pub ended_lines-drop : (n : ℕ) (bytes : List ℕ) → ended_lines (concat (drop n (ended_lines bytes))) ≡ drop n (ended_lines bytes)
-ended_lines-drop zero bytes = ap ended_lines (concat-ended_lines bytes)
+ended_lines-drop zero bytes = ap ended_lines (joined bytes)
 ended_lines-drop (suc n) [] = refl
 ended_lines-drop (suc n) (b ∷ bs) =
     let after = drop (suc (feed_at (b ∷ bs))) (b ∷ bs) in

@@ -11,8 +11,9 @@ use Rattle.obs_ieee_cdf.specs.declared.stop.Stop.TheVariants.{Fault, NoMemory}
 use Rattle.obs_ieee_cdf.specs.Reading.{Answers, AreBuses}
 use Rattle.obs_ieee_cdf.specs.Rows.{Bus, at_end, branch_rows, bus_rows, cdf_of, numbered, on_ok, read_branch, read_bus, read_rows, tables_of_rows}
 use Rattle.obs_text.specs.Limits.{most_file_bytes}
+use Rattle.obs_text.proofs.LineLaws.{joined, length-ended_lines}
 use Rattle.obs_ieee_cdf.specs.Sections.{after_branch_heading, after_bus_heading, after_buses, branch_lines, branches_from, bus_lines, buses_from, end_fault, is_branch_heading, is_bus_heading, is_end}
-use Rattle.obs_ieee_cdf.proofs.EndedLemmas.{concat-ended_lines, ended_lines-drop, ended_lines-take, length-ended_lines}
+use Rattle.obs_ieee_cdf.proofs.EndedLemmas.{ended_lines-drop, ended_lines-take}
 use Rattle.obs_ieee_cdf.proofs.NumberLemmas.{AreBuses-none}
 use Rattle.obs_ieee_cdf.proofs.ReadLemmas.{read_bus-good}
 use Rattle.obs_ieee_cdf.proofs.SectionLemmas.{AreSections}
@@ -22,7 +23,7 @@ abbrev AreLines : List (List ℕ) → Type 0
 AreLines lines = ended_lines (concat lines) ≡ lines
 
 lines-all : (bytes : List ℕ) → AreLines (ended_lines bytes)
-lines-all bytes = ap ended_lines (concat-ended_lines bytes)
+lines-all bytes = ap ended_lines (joined bytes)
 
 lines-drop : (n : ℕ) (lines : List (List ℕ)) → AreLines lines → AreLines (drop n lines)
 lines-drop n lines are = subst (λ ls. ended_lines (concat (drop n ls)) ≡ drop n ls) are (ended_lines-drop n (concat lines))
@@ -69,7 +70,7 @@ bus_room bytes few =
       number-le (list_any is_bus_heading file) (length file) (length (after_bus_heading file)) (length bytes) (length-ended_lines bytes),
       parts-take (position_or_len is_end (after_bus_heading file)) (after_bus_heading file),
       parts-drop (position_or_len is_bus_heading file + 1) file,
-      ap length (concat-ended_lines bytes),
+      ap length (joined bytes),
     )
 
 pub branch_room : (bytes : List ℕ) → length bytes ≤ most_file_bytes → branches_from (ended_lines bytes) + length (concat (branch_lines (ended_lines bytes))) ≤ 2 * most_file_bytes + 1
@@ -82,7 +83,7 @@ branch_room bytes few =
       parts-drop (position_or_len is_branch_heading (after_buses file) + 1) (after_buses file),
       parts-drop (position_or_len is_end (after_bus_heading file) + 1) (after_bus_heading file),
       parts-drop (position_or_len is_bus_heading file + 1) file,
-      ap length (concat-ended_lines bytes),
+      ap length (joined bytes),
     )
 
 -- buses that are read are buses

@@ -113,7 +113,8 @@ abbrev pub BranchesRead : List Bus → List Branch → List (ℕ × List ℕ) �
 BranchesRead buses earlier lines all =
     (rows : List Branch) × (all ≡ earlier ++ rows) × AreBranchLines buses (length earlier + 1) lines rows × (length earlier + length lines ≤ most_rows)
 
-one_longer : (earlier : List Branch) (branch : Branch) → length (earlier ++ branch ∷ []) + 1 ≡ suc (length earlier + 1)
+-- one branch more
+pub one_longer : (earlier : List Branch) (branch : Branch) → length (earlier ++ branch ∷ []) + 1 ≡ suc (length earlier + 1)
 one_longer earlier branch = omega (arith, length-append earlier (branch ∷ []))
 
 pub branch_lines-read : (buses : List Bus) (earlier : List Branch) (lines : List (ℕ × List ℕ)) (all : List Branch) → length earlier ≤ most_rows → read_rows (read_branch buses) earlier lines ≡ Ok all → BranchesRead buses earlier lines all

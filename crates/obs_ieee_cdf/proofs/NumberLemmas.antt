@@ -1,5 +1,5 @@
 -- Numbers of buses and branches, and the names that they make.
-use Rattle.std.proofs.Common.{◌≡◌, ℕ, suc, ◌+◌, ◌^◌, ◌<◌, ◌≤◌, Bool, true, false, not, ◌&&◌, ◌||◌, cond, eqb, leb, ltb, List, [], ◌∷◌, ◌++◌, length, map, decimal, Option, Some, None, refl, sym, ap, ◌∙◌, subst, inl, inr, arith, rules}
+use Rattle.std.proofs.Common.{◌≡◌, ℕ, suc, ◌+◌, ◌^◌, ◌<◌, ◌≤◌, Bool, true, false, not, ◌&&◌, ◌||◌, cond, eqb, leb, ltb, List, [], ◌∷◌, ◌++◌, length, map, decimal, Some, refl, sym, ap, ◌∙◌, subst, inl, inr, arith}
 use Rattle.std.proofs.lemmas.Bool.{and_from, and_parts, cases_Bool, eqb-true, false≢true, le-leb, leb-true, ne_eqb, lt-ltb}
 use Rattle.std.proofs.lemmas.List.{length-map, map-append}
 use Rattle.std.proofs.lemmas.Map.Steps.{length-le_from_distinct_below}
@@ -11,18 +11,13 @@ use Rattle.std.specs.List.{AllByRecursion, IsDistinct, list_all, list_any, posit
 use Rattle.std.specs.Str.{all_ascii_digits, bytes_eq}
 use Rattle.obs_text.specs.Names.{is_name, is_name_byte}
 use Rattle.obs_text.specs.Numbers.{is_whole, value_after, whole_of}
-use Rattle.obs_text.proofs.DecimalLemmas.{digits-name, length-decimal, numerals, same_name}
+use Rattle.obs_text.proofs.DecimalLemmas.{digits-name, length-decimal, numerals, same_name, gate}
 use Rattle.obs_case.specs.Tables.{has_name, node_names, place_of}
 use Rattle.obs_case.specs.declared.rows.Branch.{Branch}
 use Rattle.obs_case.specs.declared.rows.Node.{Node}
 use Rattle.obs_ieee_cdf.specs.Reading.{AreBuses, AreNamed}
 use Rattle.obs_ieee_cdf.specs.Fields.{number_of}
 use Rattle.obs_ieee_cdf.specs.Rows.{Bus, branch_name, has_bus, node_of_bus, place_of_bus, tables_of_rows}
-
--- what a gate lets through
-gate : {A : Type 0} (pass : Bool) (value : Option A) (x : A) → cond pass value None ≡ Some x → (pass ≡ true) × (value ≡ Some x)
-gate true value x is = (refl, is)
-gate false value x is = cc
 
 -- a bus number is below ten thousand
 pub number_of-lt : (field : List ℕ) (n : ℕ) → number_of field ≡ Some n → n < 10000
@@ -60,15 +55,16 @@ module _ {A B : Type 0} (p : A → Bool) (q : B → Bool) (f : B → A) where
   position_or_len-same [] same = refl
   position_or_len-same (x ∷ xs) (here, others) = rw here (ap (λ n. cond (not (q x)) (1 + n) 0) (position_or_len-same xs others))
 
+-- the names of the buses' nodes are their numbers
+pub names_of : (buses : List Bus) → map (λ (row : Node). row.name) (map node_of_bus buses) ≡ map (λ (bus : Bus). decimal bus.number) buses
+names_of [] = refl
+names_of (bus ∷ buses) = ap (λ names. decimal bus.number ∷ names) (names_of buses)
+
 -- what a case says of a number's name is what the buses say of the number
 module _ (n : ℕ) (small : n < 10000) where
   same_names : (buses : List Bus) → AllByRecursion (λ (bus : Bus). bus.number < 10000) buses → AllByRecursion (λ (bus : Bus). bytes_eq (decimal n) (node_of_bus bus).name ≡ eqb bus.number n) buses
   same_names [] below = tt
   same_names (bus ∷ buses) (here, others) = (same_name bus.number n (omega arith) (omega arith), same_names buses others)
-
-  names_of : (buses : List Bus) → map (λ (row : Node). row.name) (map node_of_bus buses) ≡ map (λ (bus : Bus). decimal bus.number) buses
-  names_of [] = refl
-  names_of (bus ∷ buses) = ap (λ names. decimal bus.number ∷ names) (names_of buses)
 
   pub has_name-bus : (buses : List Bus) (branches : List Branch) → AreBuses buses → has_name (node_names (tables_of_rows buses branches)) (decimal n) ≡ has_bus buses n
   has_name-bus buses branches are =

@@ -7,8 +7,9 @@ use Rattle.std.proofs.lemmas.List.Folds.{list_any-append, concat-append}
 use Rattle.std.specs.List.{after_first, before_first, concat, list_any, position_or_len, starts_with}
 use Rattle.obs_text.specs.Lines.{after_line, ended_lines, lines_of}
 use Rattle.obs_text.specs.Limits.{most_file_bytes}
+use Rattle.obs_text.proofs.LineLaws.{joined, length-ended_lines}
 use Rattle.obs_ieee_cdf.specs.Sections.{IsFirstLine, begins}
-use Rattle.obs_ieee_cdf.proofs.EndedLemmas.{IsNextLine, next_line, concat-ended_lines, length-ended_lines}
+use Rattle.obs_ieee_cdf.proofs.EndedLemmas.{IsNextLine, next_line}
 
 -- the lines passed so far, none of which passes the test, and the bytes that are left
 pub record Passed (p : List ℕ → Bool) (all left : List ℕ) (passed : ℕ) (front : List (List ℕ)) : Type 0 where
@@ -68,7 +69,7 @@ module _ (p : List ℕ → Bool) where
         before = (let size : length all ≡ length (concat front) + length left = ap length so_far.bytes ∙ length-append (concat front) left in
             let n : length all - length left ≡ length (concat front) = omega arith in
             ap (λ k. take k all) n ∙ ap (take (length (concat front))) so_far.bytes ∙ take-append_seam (concat front) left ∙ ap concat (sym before));
-        after = sym (ap concat after ∙ concat-ended_lines rest);
+        after = sym (ap concat after ∙ joined rest);
         within = omega (arith, ap length so_far.bytes, length-append (concat front) left, ap length next.bytes, length-append ended rest);
         number = omega (arith, so_far.count, ap length after, ap length lines, length-append front (ended ∷ ended_lines rest));
       }

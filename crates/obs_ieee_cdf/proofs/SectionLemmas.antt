@@ -9,8 +9,9 @@ use Rattle.obs_text.specs.Lines.{ended_lines}
 use Rattle.obs_ieee_cdf.specs.declared.fault.CdfFault.{CdfFault}
 use Rattle.obs_ieee_cdf.specs.declared.fault.CdfFault.TheVariants.{NoBusSection, BusSectionOpen, NoBranchSection, BranchSectionOpen}
 use Rattle.obs_text.specs.Limits.{most_file_bytes}
+use Rattle.obs_text.proofs.LineLaws.{length-ended_lines}
 use Rattle.obs_ieee_cdf.specs.Sections.{IsFirstLine, after_branch_heading, after_bus_heading, after_buses, branch_lines, branches_from, bus_lines, buses_from, end_fault, is_branch_heading, is_bus_heading, is_end}
-use Rattle.obs_ieee_cdf.proofs.EndedLemmas.{ended_lines-drop, length-ended_lines}
+use Rattle.obs_ieee_cdf.proofs.EndedLemmas.{ended_lines-drop}
 
 -- what `sections` gives
 pub record AreSections (file : List (List ℕ)) (bus_part : List ℕ) (bus_number : ℕ) (branch_part : List ℕ) (branch_number : ℕ) (fault : Option CdfFault) : Type 0 where

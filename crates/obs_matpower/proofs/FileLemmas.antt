@@ -6,9 +6,9 @@ use Rattle.std.proofs.lemmas.List.Folds.{concat-append}
 use Rattle.std.specs.List.{before_first, concat, position_or_len}
 use Rattle.obs_text.specs.Limits.{most_file_bytes}
 use Rattle.obs_text.specs.Lines.{ended_lines}
+use Rattle.obs_text.proofs.LineLaws.{joined, length-ended_lines}
 use Rattle.obs_case.specs.Tables.{Tables}
 use Rattle.obs_case.proofs.NameLemmas.{place-there}
-use Rattle.obs_ieee_cdf.proofs.EndedLemmas.{concat-ended_lines, length-ended_lines}
 use Rattle.obs_ieee_cdf.specs.Rows.{tables_of_rows}
 use Rattle.obs_matpower.specs.declared.fault.MatFault.{MatFault}
 use Rattle.obs_matpower.specs.declared.part.MatTable.{MatTable}
@@ -46,10 +46,10 @@ text_few which bytes few =
       arith,
       few,
       until_le (ended_lines (after_opening which bytes)),
-      ap length (concat-ended_lines (after_opening which bytes)),
+      ap length (joined (after_opening which bytes)),
       length-drop (position_or_len is_opening start + 1) start,
       from_le (opens which) (ended_lines bytes),
-      ap length (concat-ended_lines bytes),
+      ap length (joined bytes),
     )
 
 pub line_low : (which : MatTable) (bytes : List ℕ) → length bytes ≤ most_file_bytes → line_of which bytes ≤ most_file_bytes

@@ -8,8 +8,9 @@ use Rattle.std.proofs.lemmas.List.Folds.{concat-append, list_any-append}
 use Rattle.std.specs.List.{after_first, before_first, concat, list_any, position_or_len}
 use Rattle.std.specs.Str.Lines.{strip_carriage_return}
 use Rattle.obs_text.specs.Lines.{after_line, content, ended_lines, is_feed, lines_of}
+use Rattle.obs_text.proofs.LineLaws.{joined}
 use Rattle.obs_case.proofs.NameLemmas.{place-absent, place-there}
-use Rattle.obs_ieee_cdf.proofs.EndedLemmas.{IsNextLine, concat-ended_lines, next_line}
+use Rattle.obs_ieee_cdf.proofs.EndedLemmas.{IsNextLine, next_line}
 use Rattle.obs_ieee_cdf.proofs.SearchLemmas.{Searched, found, passed_more}
 use Rattle.obs_matpower.specs.declared.part.MatTable.{MatTable}
 use Rattle.obs_matpower.specs.Lines.{closes, is_closing, is_opening, is_percent, opens}
@@ -21,7 +22,7 @@ module _ (p : List ℕ → Bool) where
   parts_are bytes =
       let lines = ended_lines bytes in
       let at = position_or_len p lines in
-      sym (concat-append (take at lines) (drop at lines)) ∙ ap concat (take-append-drop at lines) ∙ concat-ended_lines bytes
+      sym (concat-append (take at lines) (drop at lines)) ∙ ap concat (take-append-drop at lines) ∙ joined bytes
 
   pub found_whole : (bytes front rest : List ℕ) (number : ℕ) → IsFound p bytes front rest number → front ++ rest ≡ bytes
   found_whole bytes front rest number is =
@@ -98,7 +99,7 @@ until_none (line ∷ lines) none =
     ]
 
 pub text_open : (after : List ℕ) → list_any closes (ended_lines after) ≡ false → concat (until_closing (ended_lines after)) ≡ after
-text_open after none = ap concat (until_none (ended_lines after) none) ∙ concat-ended_lines after
+text_open after none = ap concat (until_none (ended_lines after) none) ∙ joined after
 
 until_some : (lines : List (List ℕ)) → list_any closes lines ≡ true → concat (until_closing lines) ≡ concat (before_first closes lines) ++ before_first is_closing (concat (from_first closes lines))
 until_some [] some = absurd (false≢true some)

@@ -1,11 +1,11 @@
 -- What is read from rows, and what rows are.
-use Rattle.std.proofs.Common.{◌≡◌, ℕ, suc, ◌+◌, ◌<◌, ◌≤◌, false, not, ◌&&◌, eqb, List, [], ◌∷◌, ◌++◌, length, map, None, Result, Ok, Err, refl, sym, ap, ◌∙◌, subst, append_assoc, append-nil, length-append, arith}
+use Rattle.std.proofs.Common.{◌≡◌, ℕ, ◌+◌, ◌<◌, ◌≤◌, false, not, ◌&&◌, eqb, List, [], ◌∷◌, ◌++◌, length, map, None, Result, Ok, Err, refl, sym, ap, ◌∙◌, subst, append_assoc, append-nil, length-append, arith}
 use Rattle.std.proofs.lemmas.Bool.{lt-leb}
 use Rattle.std.specs.List.{AllByRecursion, IsDistinct}
 use Rattle.obs_case.specs.Tables.{Tables, most_rows}
 use Rattle.obs_case.specs.declared.rows.Branch.{Branch}
 use Rattle.obs_ieee_cdf.specs.Rows.{Bus, branch_name, has_bus, place_of_bus, tables_of_rows}
-use Rattle.obs_ieee_cdf.proofs.LawLemmas.{same_branch}
+use Rattle.obs_ieee_cdf.proofs.LawLemmas.{same_branch, one_longer}
 use Rattle.obs_matpower.specs.declared.fault.MatFault.{MatFault}
 use Rattle.obs_matpower.specs.declared.part.MatTable.{MatTable}
 use Rattle.obs_matpower.specs.declared.part.MatTable.TheVariants as table
@@ -102,9 +102,6 @@ branch_is_row buses earlier row branch is =
       stated = is.status_is;
       inservice = refl;
     })
-
-one_longer : (earlier : List Branch) (branch : Branch) → length (earlier ++ branch ∷ []) + 1 ≡ suc (length earlier + 1)
-one_longer earlier branch = omega (arith, length-append earlier (branch ∷ []))
 
 pub branch_rows-read : (buses : List BusRow) (earlier : List Branch) (rows : List (ℕ × List ℕ)) (all : List Branch) → length earlier ≤ most_rows → read_rows (read_branch buses) earlier rows ≡ Ok all → Reads earlier rows all (AreBranchRows buses (length earlier + 1) rows)
 branch_rows-read buses earlier [] all few is =

@@ -1,5 +1,5 @@
 -- Whole values, and the names that numbers of buses make.
-use Rattle.std.proofs.Common.{◌≡◌, ℕ, ◌-◌, ◌^◌, ◌<◌, Bool, true, false, ◌&&◌, cond, eqb, leb, ltb, List, [], ◌∷◌, ◌++◌, length, map, decimal, Option, Some, None, refl, sym, ap, ◌∙◌, subst, arith, rules}
+use Rattle.std.proofs.Common.{◌≡◌, ℕ, ◌-◌, ◌^◌, ◌<◌, true, false, ◌&&◌, eqb, leb, ltb, List, [], ◌∷◌, ◌++◌, length, map, decimal, Option, Some, None, sym, ap, ◌∙◌, subst, arith}
 use Rattle.std.proofs.lemmas.Bool.{and_parts, leb-true}
 use Rattle.std.proofs.lemmas.List.{map-append}
 use Rattle.std.proofs.lemmas.Map.Keys.{IsDistinct-push}
@@ -9,20 +9,14 @@ use Rattle.std.specs.List.{AllByRecursion, IsDistinct, after_first, before_first
 use Rattle.std.specs.Option.{option_and_then}
 use Rattle.std.specs.Str.{all_ascii_digits, bytes_eq}
 use Rattle.obs_text.specs.Numbers.{is_whole, value_after, whole_of}
-use Rattle.obs_text.proofs.DecimalLemmas.{numerals, same_name}
+use Rattle.obs_text.proofs.DecimalLemmas.{numerals, same_name, gate}
 use Rattle.obs_case.specs.Tables.{has_name, node_names, place_of}
 use Rattle.obs_case.specs.declared.rows.Branch.{Branch}
-use Rattle.obs_case.specs.declared.rows.Node.{Node}
-use Rattle.obs_ieee_cdf.specs.Rows.{Bus, has_bus, node_of_bus, place_of_bus, tables_of_rows}
-use Rattle.obs_ieee_cdf.proofs.NumberLemmas.{all_push, list_any-same, position_or_len-same, symmetric}
+use Rattle.obs_ieee_cdf.specs.Rows.{Bus, has_bus, place_of_bus, tables_of_rows}
+use Rattle.obs_ieee_cdf.proofs.NumberLemmas.{all_push, list_any-same, position_or_len-same, symmetric, names_of}
 use Rattle.obs_matpower.specs.Fields.{is_point, is_zero, number_in, number_of}
 use Rattle.obs_matpower.specs.Reading.{AreBuses}
 use Rattle.obs_matpower.specs.Rows.{values_of}
-
--- what a gate lets through
-gate : {A : Type 0} (pass : Bool) (value : Option A) (x : A) → cond pass value None ≡ Some x → (pass ≡ true) × (value ≡ Some x)
-gate true value x is = (refl, is)
-gate false value x is = cc
 
 -- a whole value has at most nine digits
 pub number_of-lt : (value : List ℕ) (n : ℕ) → number_of value ≡ Some n → n < 1000000000
@@ -49,10 +43,6 @@ module _ (n : ℕ) (small : n < 1000000000) where
   same_names : (buses : List Bus) → AllByRecursion (λ (bus : Bus). bus.number < 1000000000) buses → AllByRecursion (λ (bus : Bus). bytes_eq (decimal n) (decimal bus.number) ≡ eqb bus.number n) buses
   same_names [] below = tt
   same_names (bus ∷ buses) (here, others) = (same_name bus.number n (omega arith) (omega arith), same_names buses others)
-
-  names_of : (buses : List Bus) → map (λ (row : Node). row.name) (map node_of_bus buses) ≡ map (λ (bus : Bus). decimal bus.number) buses
-  names_of [] = refl
-  names_of (bus ∷ buses) = ap (λ names. decimal bus.number ∷ names) (names_of buses)
 
   pub has_name-bus : (buses : List Bus) (branches : List Branch) → AreBuses buses → has_name (node_names (tables_of_rows buses branches)) (decimal n) ≡ has_bus buses n
   has_name-bus buses branches are =

@@ -1,30 +1,27 @@
 -- Where the text of a table stands in the bytes.
-use Rattle.std.proofs.Common.{◌≡◌, ℕ, suc, ◌+◌, ◌<◌, Bool, true, false, ◌||◌, ◌&&◌, cond, nat_eq, List, [], ◌∷◌, ◌++◌, length, take, drop, get_or, codes, is_some, Option, Some, None, refl, sym, ap, ◌∙◌, subst, append_assoc, append-nil, inl, inr, arith}
+use Rattle.std.proofs.Common.{◌≡◌, ℕ, ◌+◌, Bool, true, false, ◌||◌, cond, nat_eq, List, [], ◌∷◌, ◌++◌, length, take, drop, get_or, codes, is_some, Option, Some, None, refl, sym, ap, ◌∙◌, subst, append_assoc, append-nil, inl, inr}
 use Rattle.std.proofs.Math.Numerals.{one-add}
 use Rattle.std.proofs.lemmas.Bool.{and_parts, cases_Bool, eqb-true, false≢true}
 use Rattle.std.proofs.lemmas.List.{take-append-drop}
 use Rattle.std.proofs.lemmas.List.Folds.{list_any-append}
 use Rattle.std.proofs.lemmas.List.Sums.{passes_at_first, split_at_first}
+use Rattle.std.proofs.Math.Bool.{or-true}
 use Rattle.std.specs.List.{after_first, before_first, concat, list_any, position_or_len, prefix_len, starts_with}
 use Rattle.std.specs.Option.{option_and_then}
 use Rattle.obs_text.specs.Lines.{content, ended_lines, is_feed}
+use Rattle.obs_text.proofs.LineLaws.{joined}
 use Rattle.obs_case.proofs.NameLemmas.{place-there}
-use Rattle.obs_ieee_cdf.proofs.EndedLemmas.{concat-ended_lines}
 use Rattle.obs_matpower.specs.declared.part.MatTable.{MatTable}
 use Rattle.obs_matpower.specs.Laws.{EndsAt, TextStandsBetween}
 use Rattle.obs_matpower.specs.Lines.{closes, has_opening, is_closing, is_gap, is_opening, is_percent, opens, past, table_name, without_comment, without_gaps}
-use Rattle.obs_matpower.specs.Table.{after_opening, from_first, is_ended, is_there, text_of, until_closing}
+use Rattle.obs_matpower.specs.Table.{after_opening, from_first, is_ended, until_closing}
 use Rattle.obs_matpower.proofs.FoundLemmas.{any_in_front, any_strip, has_closing, parts_are, until_none}
 
 -- ---- the `[` of a line
 
 any_behind : (p : ℕ → Bool) (n : ℕ) (xs : List ℕ) → list_any p (drop n xs) ≡ true → list_any p xs ≡ true
 any_behind p n xs some =
-    ap (list_any p) (sym (take-append-drop n xs)) ∙ list_any-append p (take n xs) (drop n xs) ∙ ap (λ b. list_any p (take n xs) || b) some ∙ or_true (list_any p (take n xs))
-  where
-    or_true : (b : Bool) → (b || true) ≡ true
-    or_true true = refl
-    or_true false = refl
+    ap (list_any p) (sym (take-append-drop n xs)) ∙ list_any-append p (take n xs) (drop n xs) ∙ ap (λ b. list_any p (take n xs) || b) some ∙ or-true (list_any p (take n xs))
 
 -- bytes that have a `[` after blanks and tabs have one
 begins_here : (xs : List ℕ) → starts_with nat_eq xs (codes "[") ≡ true → list_any is_opening xs ≡ true
@@ -127,6 +124,6 @@ TextStandsBetween-holds which bytes there =
       front ++ inside,
       end.0,
       sym (parts_are (opens which) bytes) ∙ ap (λ s. front ++ s) cut ∙ sym (append_assoc front inside (0x5B ∷ after))
-          ∙ ap (λ a. (front ++ inside) ++ 0x5B ∷ a) (sym (concat-ended_lines after) ∙ end.1),
+          ∙ ap (λ a. (front ++ inside) ++ 0x5B ∷ a) (sym (joined after) ∙ end.1),
       end.2,
     )

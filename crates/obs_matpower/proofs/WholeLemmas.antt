@@ -5,6 +5,7 @@ use Rattle.std.proofs.lemmas.Bool.{cases_Bool, false≢true}
 use Rattle.std.proofs.Math.Seq.{drop-append_seam}
 use Rattle.std.proofs.lemmas.List.{drop_all, length-drop, length-take-le, take-append-drop}
 use Rattle.std.proofs.lemmas.List.Folds.{list_any-append}
+use Rattle.std.proofs.Math.Bool.{and-false}
 use Rattle.std.specs.List.{after_first, before_first, concat, list_any, position_or_len}
 use Rattle.std.specs.Str.Lines.{strip_carriage_return}
 use Rattle.obs_text.specs.Lines.{after_line, content, ended_lines, is_feed}
@@ -124,12 +125,8 @@ module _ (ended : Bool) (bytes more : List ℕ) (some : list_any is_feed bytes �
 
   pub code_first : first_code ended (first ++ more) ≡ without_comment (content first)
   code_first =
-      first_code-content ended (first ++ more) (ap (λ b. ended && not b) has_feed ∙ both ended)
+      first_code-content ended (first ++ more) (ap (λ b. ended && not b) has_feed ∙ and-false ended)
       ∙ ap (λ l. without_comment (strip_carriage_return l)) (before-longer is_feed first more (feed_in_first bytes ∙ some))
-    where
-      both : (b : Bool) → (b && false) ≡ false
-      both true = refl
-      both false = refl
 
 -- ---- the rows of lines
 

@@ -1,10 +1,10 @@
 use Rattle.std.proofs.Common.{◌+◌, length, sym, ap, ◌∙◌, subst, arith}
 use Rattle.obs_ieee_cdf.specs.Reading.{AreNamed}
 use Rattle.obs_ieee_cdf.specs.Rows.{read_branch, tables_of_rows}
-use Rattle.obs_ieee_cdf.proofs.EndedLemmas.{length-lines_of}
 use Rattle.obs_ieee_cdf.proofs.ReadLemmas.{ReadSoFar, pass_over, read_branch-good, read_one}
 use Rattle.obs_ieee_cdf.proofs.rows.add_branches.Goals as goal
 use Rattle.obs_ieee_cdf.proofs.rows.add_branches.Goals.{then-not-is_passed_over+in_ok-add_branch, else-not-is_passed_over}
+use Rattle.obs_text.proofs.LineLaws.{length-lines_of}
 
 pub overflow_add-at : goal.overflow_add-at
 overflow_add-at c =

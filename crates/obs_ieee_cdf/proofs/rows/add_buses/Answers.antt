@@ -1,11 +1,11 @@
 use Rattle.std.proofs.Common.{◌≡◌, ◌+◌, [], sym, ◌∙◌, subst, arith}
 use Rattle.obs_ieee_cdf.specs.Reading.{AreBuses}
 use Rattle.obs_ieee_cdf.specs.Rows.{read_bus, tables_of_rows}
-use Rattle.obs_ieee_cdf.proofs.EndedLemmas.{length-lines_of}
 use Rattle.obs_ieee_cdf.proofs.NumberLemmas.{AreBuses-none}
 use Rattle.obs_ieee_cdf.proofs.ReadLemmas.{ReadSoFar, read_bus-good, pass_over, read_none, read_one, room_for_one}
 use Rattle.obs_ieee_cdf.proofs.rows.add_buses.Goals as goal
 use Rattle.obs_ieee_cdf.proofs.rows.add_buses.Goals.{then-not-is_passed_over+in_ok-add_bus, else-not-is_passed_over}
+use Rattle.obs_text.proofs.LineLaws.{length-lines_of}
 
 pub loop-line-init : goal.loop-line-init
 loop-line-init c =

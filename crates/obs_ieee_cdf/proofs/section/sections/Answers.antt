@@ -1,6 +1,6 @@
 use Rattle.std.proofs.Common.{◌∙◌, arith}
 use Rattle.obs_text.specs.Lines.{ended_lines}
-use Rattle.obs_ieee_cdf.proofs.EndedLemmas.{length-ended_lines}
+use Rattle.obs_text.proofs.LineLaws.{length-ended_lines}
 use Rattle.obs_ieee_cdf.proofs.SectionLemmas.{no_bus_section, bus_section_open_at, no_branch_section_at, branch_section_open_at, all_sections_at, room_at}
 use Rattle.obs_ieee_cdf.proofs.section.sections.Goals as goal
 

@@ -1,13 +1,9 @@
-use Rattle.std.proofs.Common.{◌≡◌, ℕ, ◌+◌, ◌-◌, ◌<◌, List, [], ◌∷◌, ◌++◌, length, take, set, refl, ap, ◌∙◌, arith}
+use Rattle.std.proofs.Common.{◌≡◌, ℕ, ◌+◌, ◌-◌, ◌∷◌, ◌++◌, length, set, ap, ◌∙◌, arith}
 use Rattle.std.proofs.Math.ListN.{length-set}
 use Rattle.std.proofs.lemmas.Slice.{take-put_mid}
 use Rattle.obs_trial.proofs.names.numbered.Goals as goal
 use Rattle.obs_text.proofs.DecimalLemmas.{length-decimal}
-
--- a list whose first item is set begins with it
-first_set : (xs : List ℕ) (x : ℕ) → 0 < length xs → take 1 (set xs 0 x) ≡ x ∷ []
-first_set [] x some = absurd (omega arith)
-first_set (y ∷ xs) x some = refl
+use Rattle.obs_text.proofs.ByteLemmas.{first_set}
 
 pub slice_bounds-copy_from_slice-end : goal.slice_bounds-copy_from_slice-end
 slice_bounds-copy_from_slice-end c = omega (arith, length-decimal c.args.number c.ranges.number.fits, ap length c.text-text.ensures.decimal)
