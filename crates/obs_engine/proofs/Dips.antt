@@ -1,9 +1,10 @@
 -- The dips of a trial are the critical meters of its case.
-use Rattle.std.proofs.Common.{◌≡◌, ℕ, Bool, true, false, not, ◌&&◌, List, [], ◌∷◌, length, filter, refl, sym, ap, ◌∙◌, arith, inl, inr}
+use Rattle.std.proofs.Common.{◌≡◌, ℕ, Bool, false, not, ◌&&◌, List, [], ◌∷◌, length, filter, refl, sym, ap, ◌∙◌, arith, inl, inr}
 use Rattle.std.specs.Prelude.{cond, nat_lt}
 use Rattle.std.specs.List.{range_with_len}
 use Rattle.std.proofs.lemmas.Bool.{cases_Bool, cases_eq}
 use Rattle.std.proofs.lemmas.Bool.Decides.{nat_tests}
+use Rattle.std.proofs.Math.Bool.{and-false, and-true}
 use Rattle.obs_case.specs.Flags.{with_meter_inservice}
 use Rattle.obs_case.specs.Tables.{Tables}
 use Rattle.obs_graph.specs.Graph.{Graph}
@@ -65,14 +66,6 @@ module _ (g : Matroid) (touch other : ℕ → List ℕ) where
 not_below_itself : (a b : ℕ) → a ≡ b → nat_lt a b ≡ false
 not_below_itself a b e = grind (arith, nat_tests)
 
-and_true : (b : Bool) → (b && true) ≡ b
-and_true true = refl
-and_true false = refl
-
-and_false : (b : Bool) → (b && false) ≡ false
-and_false true = refl
-and_false false = refl
-
 module _ (t : Tables) (at : ℕ) where
   abbrev lost : Tables
   lost = with_meter_inservice t at false
@@ -85,10 +78,10 @@ module _ (t : Tables) (at : ℕ) where
         | inl s ↦
             ap (λ (k : ℕ). nat_lt 0 (length (touch_at (case_branches t) (case_meters lost) k))) s
             ∙ (ap (λ (es : List ℕ). nat_lt 0 (length es)) (none_touched t at)
-            ∙ sym (ap (λ (b : Bool). was && b) (ap (λ (k : ℕ). other_than at k) s ∙ other_self at) ∙ and_false was))
+            ∙ sym (ap (λ (b : Bool). was && b) (ap (λ (k : ℕ). other_than at k) s ∙ other_self at) ∙ and-false was))
         | inr n ↦
             ap (λ (es : List ℕ). nat_lt 0 (length es)) (same_touch t at false m n)
-            ∙ sym (ap (λ (b : Bool). was && b) (other_true at m n) ∙ and_true was)
+            ∙ sym (ap (λ (b : Bool). was && b) (other_true at m n) ∙ and-true was)
       ]
 
   live_lost : live_items (case_branches t) (case_meters lost) ≡ without at (case_live_meters t)
