@@ -7,7 +7,7 @@ use Rattle.std.specs.Cmp.Lexicographic.{bytes_decides}
 use Rattle.std.specs.List.{list_all, list_any, position_or_len}
 use Rattle.std.specs.Str.{bytes_eq}
 use Rattle.obs_text.specs.Names.{is_name, is_name_byte}
-pub use Rattle.obs_text.proofs.ByteLemmas.{same_bytes}
+use Rattle.obs_text.proofs.ByteLemmas.{same_bytes}
 use Rattle.obs_case.specs.Tables.{IsNamed, are_different, has_name, most_rows, position_of}
 
 -- a name that is there stands before the end
