@@ -31,16 +31,24 @@ use std::sync::ledger::Ledger;
 /// frozen: their meters keep them until they are thawed. It means something only beside a graph and meters over which
 /// it stands.
 pub struct Assignment {
+    // how many meters and pairs there are, and how many turns were taken
     meters: usize,
     count: u32,
     turns: u64,
+    // the branch of each meter that has a pair
     slots: Vec<Option<u32>>,
+    // whether the meter keeps its pair
     frozen: Vec<bool>,
+    // the meter of each branch that has one
     owners: Vec<Option<u32>>,
+    // the branches of the pairs, at the front
     list: Vec<u32>,
+    // the branches between the ends of the one that is pinned
     path: Vec<u32>,
+    // the branches that still pairs hold, while pairs are retained, and their pieces
     candidates: Vec<Option<Ends>>,
     search: Search,
+    // the branches of the pairs, held
     forest: Forest,
 }
 

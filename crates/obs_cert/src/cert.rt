@@ -14,7 +14,9 @@ use std::marker::Model;
 /// claim's lines are read from them where they are wanted.
 #[derive(Drop)]
 pub struct Cert {
+    // the bytes as they came
     bytes: Vec<u8>,
+    // how many claims they are
     claims: u32,
 }
 

@@ -18,8 +18,11 @@ use std::marker::Model;
 
 /// The network of a case, what its claims are checked in, and the keys of its items. A contract sees the network.
 pub struct Checker {
+    // the network of the case
     network: Network,
+    // marks, and ways up
     work: Work,
+    // the keys of the items, sorted: live ones by price, and the idle ones behind them
     keys: Vec<u128>,
 }
 

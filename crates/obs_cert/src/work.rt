@@ -11,10 +11,13 @@ use std::alloc::Global;
 
 /// Marks of items and branches, and the ways up of vertices.
 pub(crate) struct Work {
+    // the stamp of the claim that last chose the item, had it in a pair, or listed it
     pub(crate) chosen: Vec<u32>,
     pub(crate) paired: Vec<u32>,
     pub(crate) listed: Vec<u32>,
+    // the stamp of the claim that last had the branch in a pair
     pub(crate) taken: Vec<u32>,
+    // where the vertex leads to, towards the first one that is joined with it, and the vertices that lead on
     pub(crate) ups: Vec<u32>,
     pub(crate) moved: Vec<u32>,
 }

@@ -19,8 +19,10 @@ use std::sync::ledger::Ledger;
 
 /// Room for the pairs of a placement, and those that were found last.
 pub(crate) struct Pairing {
+    // what each item of the plan touches, and nothing for the others; the same as items
     touches: Vec<Touch>,
     items: Meters,
+    // the pairs of the items of the plan, and what finds them
     pairs: Assignment,
     search: Work,
 }

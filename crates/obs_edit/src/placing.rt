@@ -21,8 +21,11 @@ use std::sync::ledger::Ledger;
 
 /// Room for a placement and its pairs, the prices of the candidates, and what was found last.
 pub(crate) struct Placing {
+    // the price of each candidate
     prices: Vec<u64>,
+    // what the placement is found in
     work: PlaceWork,
+    // what its pairs are found in
     paired: Pairing,
 }
 

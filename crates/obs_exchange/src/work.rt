@@ -19,19 +19,29 @@ use std::sync::ledger::Ledger;
 
 /// The arrays of a search, and what the last one reached.
 pub struct Work {
+    // how many meters the last search was over
     meters: usize,
+    // whether it reached the meter
     reached: Vec<bool>,
+    // the move by which the meter was reached
     parents: Vec<Option<Move>>,
+    // the reached meters, in their order
     queue: Vec<u32>,
+    // whether the branch was walked
     walked: Vec<bool>,
+    // whether all branches at the vertex were walked
     stars: Vec<bool>,
+    // how many of the first branches at the vertex were tried in vain
     tried: Vec<u32>,
+    // the moves to a free branch, at the end
     path: Vec<Move>,
+    // where the vertex leads to, towards the top of its class
     tops: Vec<u32>,
     // what the arrays are set to before a search
     no_flags: Vec<bool>,
     numbers: Vec<u32>,
     no_counts: Vec<u32>,
+    // where the next search begins to try sources
     pass: Pass,
 }
 

@@ -11,11 +11,16 @@ use std::marker::Model;
 
 /// Vertices, and branches at positions, some of which are absent.
 pub struct Graph {
+    // how many vertices and positions there are
     vertices: u32,
     positions: usize,
+    // the ends of the branch at each position
     ends: Vec<Option<Ends>>,
+    // each position at its own place
     itself: Vec<u32>,
+    // where the part of each vertex begins in `at`
     starts: Vec<usize>,
+    // the positions of the branches at each vertex, one part after another
     at: Vec<u32>,
 }
 

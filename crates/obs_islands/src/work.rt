@@ -16,13 +16,18 @@ use std::sync::ledger::Ledger;
 
 /// Room for finding islands, and those that were found last.
 pub struct IslandWork {
+    // how many vertices, meters and positions there were last
     vertices: usize,
     meters: u32,
     positions: u32,
+    // the first vertex of the island of each vertex
     firsts: Vec<u32>,
+    // whether the branch lies between two pieces
     crossed: Vec<bool>,
+    // what each meter touches, as long as it is used, and the same as items
     touches: Vec<Touch>,
     used: Meters,
+    // the pairs of these meters, and what finds them
     pairs: Assignment,
     search: Work,
 }

@@ -11,7 +11,9 @@ use std::marker::Model;
 /// What each item touches, such as the meters of a network. Meters are numbered from 0.
 #[derive(Drop)]
 pub struct Meters {
+    // how many items there are
     count: usize,
+    // what each of them touches
     touches: Vec<Touch>,
 }
 

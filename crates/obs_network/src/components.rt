@@ -16,11 +16,16 @@ use std::marker::Model;
 /// The component of each bus, and of each component its first bus, its size and whether it is
 /// energised.
 pub(crate) struct Components {
+    // how many buses and components there are
     buses: usize,
     count: usize,
+    // the component of each bus
     numbers: Vec<u32>,
+    // the first bus of each component
     first_buses: Vec<u32>,
+    // how many buses the component has
     sizes: Vec<u32>,
+    // whether it is energised
     energised: Vec<bool>,
 }
 

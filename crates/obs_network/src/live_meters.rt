@@ -18,11 +18,15 @@ use std::marker::Model;
 /// The live meters of each component, rising, one list after another, and behind them the idle
 /// meters.
 pub(crate) struct LiveMeters {
+    // how many meters and components there are, and there may be
     meters: usize,
     components: u32,
     most_components: u32,
+    // the list of each meter: its component, or the one behind all if it is idle
     lists: Vec<u32>,
+    // the meters of each list, one list after another
     members: Vec<u32>,
+    // where each list begins there
     starts: Vec<usize>,
 }
 

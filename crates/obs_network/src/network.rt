@@ -32,12 +32,19 @@ pub struct Network {
     graph: Graph,
     meters: Meters,
     offered: Meters,
+    // how many pairs an observable case has
     needed: u32,
+    // the closed switches, while buses are made
     links: Vec<Link>,
+    // the ends of each live branch
     live: Vec<Option<Ends>>,
+    // the ends of each live branch of an energised component
     kept: Vec<Option<Ends>>,
+    // what the meters touch, and the candidates behind them
     touches: Vec<Touch>,
+    // the pieces that live branches join
     search: Search,
+    // the live meters of each component
     live_meters: LiveMeters,
 }
 

@@ -45,20 +45,32 @@ const NOTHING: Laid = Laid {
 
 /// Room for a placement, and what was found last.
 pub struct PlaceWork {
+    // how many meters and candidates were offered last together
     offered: usize,
+    // the numbers of what was found
     laid: Laid,
+    // the price of each item with its position: the order in which they are taken
     keys: Vec<(u64, u32)>,
+    // the price from which on the item is not critical, or `NEVER`
     since: Vec<u64>,
+    // the branches that items known not to be critical touch, and the pieces that they join
     held: Vec<Option<Ends>>,
     joined: Search,
+    // whether the item raised the greatest length
     raised: Vec<bool>,
+    // the positions of the chosen candidates, at the front
     list: Vec<u32>,
+    // which items a layer or a bound is measured of, and within which scope
     marks: Vec<bool>,
     scope: Vec<bool>,
+    // the layers of a plan, at the front
     layers: Vec<Layer>,
+    // the items that the layers list, one layer after another
     inside: Vec<u32>,
+    // the pairs of the items that were taken, and what finds them
     pairs: Assignment,
     search: Work,
+    // what bounds are measured in
     cut: CutWork,
 }
 

@@ -15,10 +15,15 @@ use std::marker::Model;
 
 /// Room for measuring bounds, and the list that was measured last.
 pub struct CutWork {
+    // how many meters are listed
     count: usize,
+    // the listed meters, at the front
     list: Vec<u32>,
+    // whether a listed meter touches the branch
     flags: Vec<bool>,
+    // whether all branches at the vertex are marked so
     stars: Vec<bool>,
+    // what the rank is found in
     ranks: GraphWork,
 }
 

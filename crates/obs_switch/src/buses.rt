@@ -22,11 +22,16 @@ impl From<AllocError> for NoMemory {
 
 /// The bus of each node.
 pub struct Buses {
+    // how many nodes and buses there are
     nodes: usize,
     count: u32,
+    // the first node of the bus of each node
     firsts: Vec<u32>,
+    // the number of the bus of each node
     numbers: Vec<u32>,
+    // the nodes of each bus, one bus after another
     members: Vec<u32>,
+    // where each bus begins there
     starts: Vec<usize>,
 }
 
