@@ -1,5 +1,5 @@
 -- The word that is named after a failed read.
-use Rattle.std.proofs.Common.{ℕ, ◌≡◌, ◌<◌, ◌+◌, ◌⊎◌, inl, inr, refl, arith, nat_lt, zero, suc, Bool, true, false, cond, not, List, [], ◌∷◌, length, Option, Some, None}
+use Rattle.std.proofs.Common.{ℕ, ◌≡◌, ◌<◌, ◌+◌, refl, arith, nat_lt, zero, suc, Bool, true, false, cond, not, List, [], ◌∷◌, length, Option, Some, None}
 use Rattle.std.specs.Prelude.{slice_index}
 use Rattle.std.specs.List.{position_or_len}
 use Rattle.std.proofs.lemmas.Bool.Decides.{nat_tests}
@@ -47,9 +47,12 @@ named_at : (counts : List ℕ) (before now : ℕ) (found : Option ℕ) → faile
 named_at counts before now None e input = input refl
 named_at counts before now (Some w) e input = let found = position-Some (λ count. nat_lt 0 count) counts w 0 e in above_zero _ found.1
 
--- a failed read of a file is named, and else one of the input was
-pub named : {T : Type 0} (words counts : List ℕ) (content : ℕ → Option (List ℕ)) (start : ℕ → ℕ) (before now : ℕ) → ((w : ℕ) → start w ≡ 0)
-    → ReadFailed words content start (λ w. slice_index counts w) ⊎ (T × Rose before now) → NamesFailure counts before now (failed_word counts)
-named words counts content start before now fresh (inl failed) =
+-- a failed read of a file is named
+pub named_file : (words counts : List ℕ) (content : ℕ → Option (List ℕ)) (start : ℕ → ℕ) (before now : ℕ) → ((w : ℕ) → start w ≡ 0)
+    → ReadFailed words content start (λ w. slice_index counts w) → NamesFailure counts before now (failed_word counts)
+named_file words counts content start before now fresh failed =
     named_at counts before now (failed_word counts) refl (λ none. absurd (no_rise _ _ (fresh failed.word) (none_failed counts failed.word none) failed.rose))
-named words counts content start before now fresh (inr (takes, rose)) = named_at counts before now (failed_word counts) refl (λ none. rose)
+
+-- where one of the input failed, that is said, unless a file is named
+pub named_input : (counts : List ℕ) (before now : ℕ) → Rose before now → NamesFailure counts before now (failed_word counts)
+named_input counts before now rose = named_at counts before now (failed_word counts) refl (λ none. rose)

@@ -1,5 +1,5 @@
 // Files that note which of them could not be read.
-ghost use Rattle.std.specs.Prelude.{◌≡◌, ◌<◌, ℕ, length, slice_index};
+ghost use Rattle.std.specs.Prelude.{◌≡◌, ℕ, length, slice_index};
 ghost use Rattle.obs.specs.Notices.{failed_word};
 
 use obs_io::{Failed, Files};

@@ -1,5 +1,6 @@
 // A run, and what is said of it on standard error.
-ghost use Rattle.std.specs.Prelude.{◌≡◌, ◌+◌, ◌<◌, ℕ, length, map, slice_index, string_bytes};
+ghost use Rattle.std.specs.Prelude.{◌≡◌, ◌+◌, ℕ, length, map, slice_index, string_bytes};
+ghost use Rattle.obs_engine.specs.Forms.{TakesInput};
 ghost use Rattle.obs_engine.specs.Runs.{IsRun};
 ghost use Rattle.obs_engine.specs.Words.{form_of};
 ghost use Rattle.obs_io.specs.Bytes.{Wrote, WrotePart};
@@ -26,6 +27,7 @@ pub(crate) fn serve<F: Files, S: Source, W: Sink, E: Sink>(
     ensures ran { IsRun ⟦<Noted<F> as Files>⟧.content ⟦<Noted<F> as Files>⟧.faults ⟦<Noted<F> as Files>⟧.steady
         S.left S.faults S.steady W.written W.faults W.has_room
         (form_of (map string_bytes words.now)) files.old files.new input.old input.new output.old output.new result }
+    ensures input { (TakesInput (form_of (map string_bytes words.now)) → ⊥) → input.new ≡ input.old }
     // a front of the notice is said, and all of it where there is room
     ensures says { WrotePart (E.written errors.old) (E.written errors.new)
         (notice (map string_bytes words.now) result (failed_word files.new.faults)) }

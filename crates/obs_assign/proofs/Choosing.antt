@@ -3,6 +3,7 @@ use Rattle.std.proofs.Common.{◌≡◌, ℕ, ◌+◌, ◌<◌, ◌≤◌, Optio
 use Rattle.std.specs.Prelude.{IfSome}
 use Rattle.std.proofs.lemmas.Bool.{cases_eq, cases_lt}
 use Rattle.std.proofs.lemmas.List.{get_or_past}
+use Rattle.std.proofs.lemmas.Option.{none-some}
 use Rattle.obs_graph.specs.declared.Ends.{Ends}
 use Rattle.obs_graph.specs.declared.search.Up.{Up}
 use Rattle.obs_graph.specs.Positions.{branches_at, has_end}
@@ -31,39 +32,13 @@ pub record IsTouching (ends : List (Option Ends)) (touches : List Touch) (before
   pub below : (k : ℕ) → k < i → get_or slots k None ≡ touched_slot ends touches k (get_or before k None)
   pub above : (k : ℕ) → i ≤ k → get_or slots k None ≡ get_or before k None
 
-pub Touching-more : (ends : List (Option Ends)) (touches : List Touch) (before : List (Option ℕ)) (i : ℕ) (slots : List (Option ℕ)) (o : Option ℕ) → i < length slots → IsTouching ends touches before i slots
-    → o ≡ touched_slot ends touches i (get_or slots i None) → IsTouching ends touches before (i + 1) (set slots i o)
-Touching-more ends touches before i slots o l h is = record {
-  below = λ k low. elim (cases_eq k i) [
-    | inl y ↦ ap (λ j. get_or (set slots i o) j None) y ∙ (get_or-set_same slots i o None l ∙ (is ∙ (ap (touched_slot ends touches i) (h.above i (omega arith)) ∙ ap (λ j. touched_slot ends touches j (get_or before j None)) (sym y))))
-    | inr n ↦ get_or-set_other slots i k o None n ∙ h.below k (omega (arith, low, n))
-  ];
-  above = λ k high. get_or-set_other slots i k o None (λ e. absurd (omega (arith, high, e))) ∙ h.above k (omega (arith, high));
-}
-
-pub Touching-begun : (ends : List (Option Ends)) (touches : List Touch) (before : List (Option ℕ)) → IsTouching ends touches before 0 before
-Touching-begun ends touches before = record { below = λ k l. absurd (omega arith); above = λ k l. refl }
-
-pub Touching-ended : (ends : List (Option Ends)) (touches : List Touch) (before slots : List (Option ℕ)) → length slots ≡ length before → IsTouching ends touches before (length slots) slots
-    → (k : ℕ) → get_or slots k None ≡ touched_slot ends touches k (get_or before k None)
-Touching-ended ends touches before slots len h k = elim (cases_lt k (length slots)) [
-  | inl l ↦ h.below k l
-  | inr l ↦ get_or_past slots k None l ∙ ap (touched_slot ends touches k) (sym (get_or_past before k None (omega arith)))
-]
-
 -- the slots hold the pairs whose branches lead up from the first i vertices
 pub record IsChoosing (ups : List (Option Up)) (owners : List (Option ℕ)) (i : ℕ) (slots : List (Option ℕ)) : Type 0 where
   pub from : (m e : ℕ) → get_or slots m None ≡ Some e → (get_or owners e None ≡ Some m) × (v : ℕ) × (x : Up) × (v < i) × (get_or ups v None ≡ Some x) × (x.branch ≡ e)
   pub to : (m v : ℕ) (x : Up) → v < i → get_or ups v None ≡ Some x → get_or owners x.branch None ≡ Some m → get_or slots m None ≡ Some x.branch
 
-pub Choosing-begun : (ups : List (Option Up)) (owners slots : List (Option ℕ)) → ((k : ℕ) → get_or slots k None ≡ None) → IsChoosing ups owners 0 slots
-Choosing-begun ups owners slots none = record { from = λ m e h. absurd (none_some e (sym (none m) ∙ h)); to = λ m v x l. absurd (omega arith) }
-
 pub up_low : (ups : List (Option Up)) (v : ℕ) (x : Up) → get_or ups v None ≡ Some x → v < length ups
-up_low ups v x is = elim (cases_lt v (length ups)) [ inl l ↦ l | inr l ↦ absurd (no_up x (sym (get_or_past ups v None l) ∙ is)) ]
-  where
-    no_up : (x : Up) → None ≡ Some x → ⊥
-    no_up x e = absurd cc
+up_low ups v x is = elim (cases_lt v (length ups)) [ inl l ↦ l | inr l ↦ absurd (none-some x (sym (get_or_past ups v None l) ∙ is)) ]
 
 module _ (ups : List (Option Up)) (owners slots : List (Option ℕ)) (i : ℕ) (h : IsChoosing ups owners i slots) where
   from_more : (m e : ℕ) → get_or slots m None ≡ Some e → (get_or owners e None ≡ Some m) × (v : ℕ) × (x : Up) × (v < i + 1) × (get_or ups v None ≡ Some x) × (x.branch ≡ e)

@@ -1,31 +1,25 @@
 -- A meter takes a branch that the others' branches leave free.
-use Rattle.std.proofs.Common.{◌≡◌, ℕ, ◌<◌, List, [], ◌∷◌, Some, None, length, get_or, set, false, true, ap, inl, inr, arith}
-use Rattle.obs_graph.specs.declared.Ends.{Ends}
-use Rattle.obs_graph.specs.Joined.{first_joined}
-use Rattle.obs_graph.specs.Positions.{AreBranches, present}
+use Rattle.std.proofs.Common.{◌≡◌, ℕ, ◌<◌, List, [], ◌∷◌, Some, None, length, get_or, set, false, ap, inl, inr, arith}
+use Rattle.obs_graph.specs.Positions.{AreBranches}
 use Rattle.obs_graph.specs.Graph.{Graph}
-use Rattle.obs_matroid.specs.Lists.{In, other_than}
-use Rattle.obs_matroid.specs.Assignments.{branches, others, part}
+use Rattle.obs_matroid.specs.Lists.{In}
+use Rattle.obs_matroid.specs.Assignments.{others}
 use Rattle.obs_matroid.specs.Exchange.{put}
 use Rattle.obs_matroid.specs.Slots.{pairs_of}
-use Rattle.obs_matroid.proofs.Contained.{All-from_In, In-from_Contains}
-use Rattle.obs_matroid.proofs.Pairs.{In-part_from, branches_within}
+use Rattle.obs_matroid.proofs.Contained.{All-from_In}
 use Rattle.obs_matroid.proofs.Exchange.{IsAssignment-put}
 use Rattle.obs_matroid.proofs.Order.{IsAssignment-within}
 use Rattle.obs_matroid.proofs.Slots.{IsDistinct-slots, slots_put}
 use Rattle.obs_meter.specs.declared.Touch.{Touch}
 use Rattle.obs_meter.specs.Assignments.{IsAssignmentAt}
-use Rattle.obs_meter.specs.Spanned.{ends_at, graph_matroid}
+use Rattle.obs_meter.specs.Spanned.{graph_matroid}
 use Rattle.obs_meter.specs.Touches.{every_item, touch_at}
 use Rattle.obs_meter.proofs.Assigned.{from_matroid, to_matroid}
 use Rattle.obs_meter.proofs.Instance.{IsMatroid-graph}
-use Rattle.obs_forest.specs.Forest.{has_position}
-use Rattle.obs_forest.proofs.Held.{has_position-contains}
 use Rattle.obs_assign.specs.declared.Move.{Move}
 use Rattle.obs_assign.specs.Moves.{ArePath}
 use Rattle.obs_assign.specs.Assignment.{Assignment, IsWhole, StandsOver, pairs}
 use Rattle.obs_assign.specs.Pins.{joins}
-use Rattle.obs_assign.proofs.Paths.{apart-pairs, apart_ends, joined-less}
 use Rattle.obs_assign.proofs.Standing.{IsAssignmentAt-standing, In-every}
 
 pub IsAssignmentAt-free : (a : Assignment) (g : Graph) (touches : List Touch) (m e : ℕ) → AreBranches g.vertices g.ends → IsWhole a → StandsOver a g touches → m < length a.slots → In e (touch_at g.ends touches m)
@@ -39,16 +33,6 @@ IsAssignmentAt-free a g touches m e ok whole stands low touched free =
     let p = IsAssignment-put mat laws (touch_at g.ends touches) M (m, e) (pairs a) A i touched free in
     from_matroid g.vertices g.ends touches M (pairs_of (set a.slots m (Some e)))
     (IsAssignment-within mat laws (touch_at g.ends touches) M (put (m, e) (pairs a)) (pairs_of (set a.slots m (Some e))) p (IsDistinct-slots (set a.slots m (Some e))) (λ q j. (slots_put a.slots m e low q).0 j))
-
--- a branch between two pieces is free
-pub IsAssignmentAt-between : (a : Assignment) (g : Graph) (touches : List Touch) (m e : ℕ) (u : Ends) → AreBranches g.vertices g.ends → IsWhole a → StandsOver a g touches → m < length a.slots
-    → has_position (touch_at g.ends touches m) e ≡ true → get_or g.ends e None ≡ Some u → (first_joined (present a.forest.held) u.a ≡ first_joined (present a.forest.held) u.b → ⊥)
-    → IsAssignmentAt g.ends touches (every_item touches) (pairs_of (set a.slots m (Some e)))
-IsAssignmentAt-between a g touches m e u ok whole stands low t there apart =
-    let off = apart_ends g.ends (branches (pairs a)) e u there (apart-pairs g.ends a.slots a.forest.held stands.forest.held whole.paired.holds u.a u.b apart) in
-    IsAssignmentAt-free a g touches m e ok whole stands low (In-from_Contains e (touch_at g.ends touches m) (has_position-contains (touch_at g.ends touches m) e t))
-    (joined-less g.ends (others (pairs a) m) (branches (pairs a)) (ends_at g.ends e).0 (ends_at g.ends e).1
-    (λ p i. branches_within (part (other_than m) (pairs a)) (pairs a) (λ q j. (In-part_from (other_than m) (pairs a) q j).0) p i) off)
 
 -- one move is a path
 pub ArePath-one : (a : Assignment) (x : Move) → x.meter < length a.slots → get_or a.slots x.meter None ≡ None → ArePath a (x ∷ [])

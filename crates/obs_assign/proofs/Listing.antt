@@ -1,5 +1,5 @@
 -- A pass over the slots that lists the branches of the pairs and notes who has them.
-use Rattle.std.proofs.Common.{◌≡◌, ℕ, suc, ◌+◌, ◌<◌, ◌≤◌, Option, Some, None, List, [], ◌∷◌, ◌++◌, length, get_or, set, take, drop, refl, sym, ap, ◌∙◌, inl, inr, arith, drop-cons, add-one, append_assoc, get_or-set_same, get_or-set_other}
+use Rattle.std.proofs.Common.{◌≡◌, ℕ, suc, ◌+◌, ◌<◌, ◌≤◌, Option, Some, None, List, [], ◌∷◌, ◌++◌, length, get_or, set, take, drop, sym, ap, ◌∙◌, inl, inr, arith, drop-cons, add-one, append_assoc, get_or-set_same, get_or-set_other}
 use Rattle.std.proofs.lemmas.Bool.{cases_eq}
 use Rattle.std.proofs.lemmas.List.{take_more_set}
 use Rattle.obs_matroid.specs.Assignments.{branches}
@@ -15,14 +15,6 @@ pub record IsListing (slots owners : List (Option ℕ)) (list : List ℕ) (count
 
 from_slot : (slots : List (Option ℕ)) (i : ℕ) (o : Option ℕ) → i < length slots → get_or slots i None ≡ o → drop i slots ≡ o ∷ drop (suc i) slots
 from_slot slots i o l e = drop-cons slots i None l ∙ ap (λ (x : Option ℕ). x ∷ drop (suc i) slots) e
-
-pub Listing-begun : (slots owners : List (Option ℕ)) (list : List ℕ) → ((e : ℕ) → get_or owners e None ≡ None) → IsListing slots owners list 0 0
-Listing-begun slots owners list none = record {
-  bound = omega arith;
-  listed = refl;
-  has = λ m e h. absurd (none_some m (sym (none e) ∙ h));
-  back = λ m e l. absurd (omega arith);
-}
 
 module _ (slots owners : List (Option ℕ)) (list : List ℕ) (count i : ℕ) (low : i < length slots) (h : IsListing slots owners list count i) where
   pub Listing-none : get_or slots i None ≡ None → IsListing slots owners list count (i + 1)

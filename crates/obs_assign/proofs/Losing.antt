@@ -123,10 +123,6 @@ module _ (ends : List (Option Ends)) (meters : ℕ) (slots owners : List (Option
         there : (p : ℕ) → In p list → In p (e ∷ less)
         there p i = elim (cases_eq p e) [ inl y ↦ inl y | inr n ↦ inr ((exactly p).1 (i, n)) ]
 
--- a meter that has no pair: nothing goes
-pub lost_none : (slots : List (Option ℕ)) (m : ℕ) → get_or slots m None ≡ None → set slots m None ≡ slots
-lost_none slots m at = ap (λ (o : Option ℕ). set slots m o) (sym at) ∙ set-get_or slots m None
-
 -- a forest that stands over the graph, by what it holds
 pub held_over : (f : Forest) (g : Graph) (hs : List (Option Ends)) → StandsOver f g → f.held ≡ hs → f ≡ record { vertices = g.vertices; held = hs; most_vertices = f.most_vertices; most_branches = f.most_branches }
 held_over f g hs stands is =

@@ -15,10 +15,6 @@ use Rattle.obs_assign.proofs.Slotted.{none_some, slot_low}
 abbrev pub pair_of : Move → Pair
 pair_of x = (x.meter, x.branch)
 
-pub length-moved : (path : List Move) (slots : List (Option ℕ)) → length (moved path slots) ≡ length slots
-length-moved [] slots = refl
-length-moved (x ∷ path) slots = length-moved path (set slots x.meter (Some x.branch)) ∙ length-set slots x.meter (Some x.branch)
-
 -- the pairs after the moves are those after the same moves of pairs
 pub moved_pairs : (path : List Move) (slots : List (Option ℕ)) → ((x : Move) → In x path → x.meter < length slots)
     → (p : Pair) → In p (pairs_of (moved path slots)) ↔ In p (put_all (map pair_of path) (pairs_of slots))

@@ -4,15 +4,12 @@ use Rattle.std.specs.Prelude.{IsSome}
 use Rattle.std.proofs.lemmas.Bool.{cases_eq, cases_lt}
 use Rattle.std.proofs.lemmas.List.{get_or_past, set-set, set_comm}
 use Rattle.std.proofs.Math.Seq.{take-set-lt}
-use Rattle.obs_graph.specs.declared.Ends.{Ends}
-use Rattle.obs_graph.specs.Positions.{IsForestAt}
 use Rattle.obs_matroid.specs.Lists.{In}
 use Rattle.obs_matroid.specs.Assignments.{branches}
 use Rattle.obs_matroid.specs.Slots.{pairs_of}
-use Rattle.obs_assign.specs.Assignment.{HoldsPairs}
 use Rattle.obs_assign.specs.Kept.{IsInverse}
 use Rattle.obs_assign.specs.Pins.{pinned_slots}
-use Rattle.obs_assign.proofs.Slotted.{HoldsPairs-same, branch_slot, distinct_branches, none_some, slot_branch, some_same}
+use Rattle.obs_assign.proofs.Slotted.{branch_slot, none_some, slot_branch, some_same}
 
 -- nothing was written
 nothing : (slots : List (Option ℕ)) (x : ℕ) → get_or (set slots x None) x None ≡ None
@@ -97,7 +94,3 @@ module _ (slots : List (Option ℕ)) (m e x : ℕ) (low : m < length slots) wher
                 (pinned-other s.0 (λ t. n (before f (ap (λ i. get_or slots i None) (sym t) ∙ s.1))) (λ t. n (some_same f e (sym s.1 ∙ (ap (λ i. get_or slots i None) t ∙ at_owner)))) ∙ s.1)
           ]),
     )
-
-    pub HoldsPairs-swapped : (ends held : List (Option Ends)) → HoldsPairs slots held → IsForestAt ends (branches (pairs_of (pinned_slots slots m e x)))
-        → HoldsPairs (pinned_slots slots m e x) held × (length (pairs_of (pinned_slots slots m e x)) ≡ length (pairs_of slots))
-    HoldsPairs-swapped ends held h f = HoldsPairs-same slots (pinned_slots slots m e x) held h (distinct_branches ends (branches (pairs_of (pinned_slots slots m e x))) f) same_branches

@@ -86,15 +86,6 @@ leads f e v w (inl s) h = sym (ap f s.0) ∙ (h ∙ ap f s.1)
 leads f e v w (inr s) h = sym (ap f s.0) ∙ (sym h ∙ ap f s.1)
 
 module _ (n : ℕ) (ends held : List (Option Ends)) (ups : List (Option Up)) (depths : List ℕ) (branches : AreBranches n ends) (part : IsPart held ends) (ways : AreWaysUp n held ups depths) where
-  es : List Ends
-  es = present held
-
-  abbrev pub chosen : List ℕ
-  chosen = up_branches ups n
-
-  abbrev pub fs : List Ends
-  fs = ends_of ends (up_branches ups n)
-
   -- the first vertex of the piece of v: no way leads up from it, and the chosen branches join it with v
   record Root (v : ℕ) : Type 0 where
     pub root : ℕ

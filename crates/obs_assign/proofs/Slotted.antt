@@ -1,5 +1,5 @@
 -- The pairs of slots, and their branches.
-use Rattle.std.proofs.Common.{◌≡◌, ℕ, suc, ◌<◌, ◌≤◌, Option, Some, None, List, [], ◌∷◌, length, get_or, refl, sym, ap, ◌∙◌, subst, inl, inr, ◌↔◌, arith}
+use Rattle.std.proofs.Common.{◌≡◌, ℕ, suc, ◌<◌, ◌≤◌, Option, Some, None, List, [], ◌∷◌, length, get_or, refl, sym, ap, ◌∙◌, subst, inl, inr, arith}
 use Rattle.std.specs.Prelude.{IsSome, is_some}
 use Rattle.std.proofs.lemmas.Bool.{cases_lt}
 use Rattle.std.proofs.lemmas.List.{get_or_past}
@@ -7,16 +7,14 @@ use Rattle.obs_graph.specs.declared.Ends.{Ends}
 use Rattle.obs_graph.specs.Positions.{IsForestAt, ends_of}
 use Rattle.obs_graph.specs.Joined.{IsForest}
 use Rattle.obs_graph.specs.Search.{IsPart}
-use Rattle.obs_graph.proofs.AtPositions.{there_at, AllPairs-from_IsForestAt, IsForestAt-among}
+use Rattle.obs_graph.proofs.AtPositions.{there_at, AllPairs-from_IsForestAt}
 use Rattle.obs_graph.proofs.Forests.{IsForest-from_Grows}
 use Rattle.std.specs.List.{cons_option}
 use Rattle.obs_matroid.specs.Lists.{In, IsDistinct}
 use Rattle.obs_matroid.specs.Assignments.{Pair, items, branches}
 use Rattle.obs_matroid.specs.Slots.{pairs_from, pairs_of}
-use Rattle.obs_matroid.proofs.Lists.{length-within}
 use Rattle.obs_matroid.proofs.Pairs.{In-branches, In-branches_from, In-items, In-items_from, same_pair_by_branch}
-use Rattle.obs_matroid.proofs.Bounds.{length-branches}
-use Rattle.obs_matroid.proofs.Contained.{Contains-from_In, In-from_Contains, In-from_All, All-from_In, IsDistinct-from_pairs, pairs_from_IsDistinct}
+use Rattle.obs_matroid.proofs.Contained.{Contains-from_In, In-from_Contains, In-from_All, All-from_In, IsDistinct-from_pairs}
 use Rattle.obs_matroid.proofs.Slots.{slot_from, slot_at, IsDistinct-slots}
 use Rattle.obs_forest.specs.Forest.{taken}
 use Rattle.obs_forest.proofs.Held.{taken-at}
@@ -104,18 +102,3 @@ HoldsPairs-taken ends slots f =
       forest = IsForestAt-agree ends (taken ends ps) ps (λ p i. sym (taken-at ends ps p (Contains-from_In p ps i))) f;
       exactly = λ p. let h = held_exactly ends ps f p in ((λ s. In-from_Contains p ps (h.0 s)), (λ i. h.1 (Contains-from_In p ps i)));
     }
-
--- other slots with the same branches
-pub HoldsPairs-same : (slots new : List (Option ℕ)) (held : List (Option Ends)) → HoldsPairs slots held → IsDistinct (branches (pairs_of new))
-    → ((e : ℕ) → In e (branches (pairs_of new)) ↔ In e (branches (pairs_of slots))) → HoldsPairs new held × (length (pairs_of new) ≡ length (pairs_of slots))
-HoldsPairs-same slots new held h d same =
-    let ps = branches (pairs_of slots) in
-    let qs = branches (pairs_of new) in
-    let up = length-within qs ps d (λ x i. (same x).0 i) in
-    let down = length-within ps qs (distinct_branches held ps h.forest) (λ x i. (same x).1 i) in (
-      record {
-        forest = IsForestAt-among held ps qs h.forest (λ q c. Contains-from_In q ps ((same q).0 (In-from_Contains q qs c))) (pairs_from_IsDistinct qs d);
-        exactly = λ p. ((λ s. (same p).1 ((h.exactly p).0 s)), (λ i. (h.exactly p).1 ((same p).0 i)));
-      },
-      omega (arith, up, down, length-branches (pairs_of slots), length-branches (pairs_of new)),
-    )

@@ -1,8 +1,7 @@
 // Which pair may be given up for another one.
-ghost use Rattle.std.specs.Prelude.{◌≡◌, ◌≢◌, ◌⊎◌, ◌<◌, ◌≤◌, ◌^◌, ℕ, true, false, All, Contains, IsSome, None, Some, IsTrue, MatchOption, length, slice_index_or, take};
+ghost use Rattle.std.specs.Prelude.{◌≡◌, ◌≢◌, ◌<◌, ◌≤◌, ◌^◌, ℕ, true, false, All, Contains, IsSome, None, Some, IsTrue, MatchOption, length, slice_index_or, take};
 ghost use Rattle.obs_graph.specs.Positions.{IsForestAt};
-ghost use Rattle.obs_matroid.specs.Assignments.{branches, part, others};
-ghost use Rattle.obs_matroid.specs.Lists.{other_than};
+ghost use Rattle.obs_matroid.specs.Assignments.{branches, part};
 ghost use Rattle.obs_matroid.specs.Slots.{pairs_of};
 ghost use Rattle.obs_forest.specs.Forest.{taken, StandsOver};
 ghost use Rattle.obs_assign.specs.Assignment.{ArePaired, has_flag};

@@ -57,10 +57,6 @@ position-none p xs h =
       | inr e ↦ e
     ]
 
--- what a look-up says of a name
-pub found : (names : List (List ℕ)) (name : List ℕ) (i : ℕ) → Some i ≡ position_of names name → has_name names name ≡ true
-found names name i e = sym (is_some-position (bytes_eq name) names) ∙ ap is_some (sym e)
-
 pub missed : (names : List (List ℕ)) (name : List ℕ) → None ≡ position_of names name → has_name names name ≡ false
 missed names name e = sym (is_some-position (bytes_eq name) names) ∙ ap is_some (sym e)
 

@@ -39,6 +39,10 @@ meter_names t = map (λ (row : Meter). row.name) t.meters
 abbrev pub candidate_names : Tables → List (List ℕ)
 candidate_names t = map (λ (row : Candidate). row.name) t.candidates
 
+-- what candidates cost
+abbrev pub prices_of : List Candidate → List ℕ
+prices_of candidates = map (λ (row : Candidate). row.price) candidates
+
 -- whether a row has this name
 abbrev pub has_name : List (List ℕ) → List ℕ → Bool
 has_name names name = list_any (bytes_eq name) names

@@ -1,6 +1,5 @@
 // The rows of the five tables. Rows are compared and hashed by their names alone, so that a table
 // finds a row by its name.
-ghost use Rattle.std.specs.Prelude.{◌≡◌, List, ℕ};
 
 use crate::name::Name;
 use std::hash::Hash;

@@ -1,5 +1,5 @@
 // One table of rows, found by their names.
-ghost use Rattle.std.specs.Prelude.{◌≡◌, ◌<◌, ◌≤◌, ◌&&◌, ◌∷◌, ◌++◌, [], List, ℕ, None, Some, length, map, is_some, true, false, ◌⊎◌, IsTrue, IfOk, IfErr, Err, IfSome, OnOk, OnErr, if◌then◌else◌};
+ghost use Rattle.std.specs.Prelude.{◌≡◌, ◌<◌, ◌≤◌, ◌&&◌, ◌∷◌, ◌++◌, [], List, ℕ, length, map, is_some, true, false, ◌⊎◌, IsTrue, IfOk, IfErr, Err, IfSome, OnOk, OnErr, if◌then◌else◌};
 ghost use Rattle.std.specs.List.{list_all};
 ghost use Rattle.std.specs.Set.{swap_key};
 ghost use Rattle.std.specs.Str.{bytes_eq};

@@ -15,7 +15,7 @@ use Rattle.obs_case_csv.specs.declared.faults.Table.TheVariants.{Nodes, Switches
 use Rattle.obs_case_csv.specs.declared.faults.TableFault.{TableFault}
 use Rattle.obs_case_csv.specs.Fields.{Record, columns_fault, field_under, needed_columns}
 use Rattle.obs_case_csv.specs.Laws.{KeepsValid}
-use Rattle.obs_case_csv.specs.Read.{fault_in, rows_before, rows_in, rows_of_records, table_records, tables_or, then_read, then_read_given}
+use Rattle.obs_case_csv.specs.Read.{fault_in, rows_before, rows_in, rows_of_records, table_records, tables_or, then_read}
 use Rattle.obs_case_csv.specs.Rows.{row_fault, with_record}
 use Rattle.obs_case_csv.proofs.ExactLemmas.{cheap, within_places, within_rows}
 use Rattle.obs_case_csv.proofs.ReadLemmas.{rows_before-end, rows_before-here, rows_before-next}
@@ -83,7 +83,3 @@ valid-then_read table bytes t u h e = by (fault_in table t bytes) e
     by : (o : Option TableFault) → tables_or o (rows_in table t bytes) ≡ Ok u → IsValid u
     by None e = let same : rows_in table t bytes ≡ u = cc in subst IsValid same (KeepsValid-holds table t bytes h)
     by (Some fault) e = cc
-
-pub valid-then_read_given : (table : Table) (bytes : Option (List ℕ)) (t u : Tables) → IsValid t → then_read_given table bytes (Ok t) ≡ Ok u → IsValid u
-valid-then_read_given table None t u h e = let same : t ≡ u = cc in subst IsValid same h
-valid-then_read_given table (Some bytes) t u h e = valid-then_read table bytes t u h e

@@ -1,26 +1,24 @@
 -- The flaw of a claim, where the clauses before are true.
-use Rattle.std.proofs.Common.{◌≡◌, ℕ, suc, ◌+◌, ◌-◌, ◌^◌, ◌<◌, ◌≤◌, ◌||◌, ◌&&◌, min, Bool, true, false, not, Option, Some, None, Vec, List, [], length, refl, sym, ap, ◌∙◌, subst, arith}
+use Rattle.std.proofs.Common.{◌≡◌, ℕ, suc, ◌+◌, ◌-◌, ◌^◌, ◌<◌, ◌≤◌, ◌||◌, min, Bool, true, false, Option, Some, None, Vec, List, [], length, refl, sym, ap, ◌∙◌, subst, arith}
 use Rattle.std.specs.Option.{IfNone, IfSome}
 use Rattle.std.specs.List.{list_any, sum_by}
-use Rattle.std.proofs.lemmas.Bool.{eq-eqb, ne_eqb, lt-ltb, le-ltb}
+use Rattle.std.proofs.lemmas.Bool.{eq-eqb, ne_eqb, lt-ltb, le-ltb, or_parts}
 use Rattle.obs_case.specs.Tables.{Tables, has_name, node_names}
 use Rattle.obs_matroid.specs.Assignments.{Pair as NumberPair}
 use Rattle.obs_cert.specs.declared.flaw.FlawCode.{FlawCode}
 use Rattle.obs_cert.specs.declared.flaw.FlawCode.TheVariants.{WrongOutside, NotBelow, NotInside, NotTouched, Twice}
 use Rattle.obs_cert.specs.declared.work.Work.{Work}
 use Rattle.obs_cert.specs.Claims.{BoundClaim, CostClaim, Layer, TreeClaim}
-use Rattle.obs_cert.specs.Flaws.{Listed, all_inside, bound_clauses, bound_flaw, cost_flaw, costs_clauses, first_true, forest_clauses, layers_clauses, list_clauses, listed_layers, not_below, not_inside, not_touched, outside_of, paired_twice, rank_of_items, runs_on, shows, tree_flaw, twice, unknown_item, unknown_pair, wrong_rank, wrong_outside}
+use Rattle.obs_cert.specs.Flaws.{Listed, bound_clauses, bound_flaw, cost_flaw, costs_clauses, first_true, forest_clauses, layers_clauses, list_clauses, listed_layers, not_below, not_inside, not_touched, outside_of, paired_twice, rank_of_items, runs_on, shows, tree_flaw, twice, unknown_item, unknown_pair, wrong_rank, wrong_outside}
 use Rattle.obs_cert.specs.Marks.{AreBelow}
 use Rattle.obs_cert.specs.Numbered.{chosen_items, items_of, paired_items, pairs_of}
 use Rattle.obs_cert.specs.Ready.{IsReady}
 use Rattle.std.proofs.lemmas.List.{length-map, with_items_is}
 use Rattle.std.specs.Vec.{with_items}
 use Rattle.obs_cert.specs.Claims.{Item}
-use Rattle.obs_cert.specs.Scopes.{is_live_item, is_meter}
-use Rattle.obs_cert.proofs.MarkLemmas.{any_agree}
 use Rattle.obs_cert.specs.Flaws.{outside_of_plan, twice_in_plan, unknown_in_plan}
 use Rattle.obs_cert.specs.Numbered.{item_of}
-use Rattle.obs_cert.proofs.OutsideLemmas.{outside_is, right_false}
+use Rattle.obs_cert.proofs.OutsideLemmas.{outside_is}
 use Rattle.obs_cert.specs.Scopes.{OfItems, scope_of, has, is_below, is_meter_in, is_of_plan, named_component, named_need, names_component, price_at}
 use Rattle.obs_network.specs.Network.{case_needed}
 
@@ -146,11 +144,6 @@ pub layers_rest : (t : Tables) (c : CostClaim) → list_any (λ (l : Listed). wr
     → list_any (λ (l : Listed). wrong_outside t (is_below t l.layer.to) l.list l.layer.outside) (listed_layers t c.layers) ≡ false → first_true (costs_clauses t c) ≡ first_true (layers_clauses t c)
 layers_rest t c r o = rw (r, o) refl
 
--- a test that says the same lets the same through
-pub same_outside : (t : Tables) (p q : ℕ → Bool) (list : List ℕ) → ((x : ℕ) → p x ≡ q x) → not_inside (is_of_plan t p) list ≡ not_inside (is_of_plan t q) list
-same_outside t p q list same =
-    any_agree (λ m. not (is_of_plan t p m)) (λ m. not (is_of_plan t q m)) list (λ m. ap (λ (b : Bool). not (is_live_item t m && (is_meter t m || b))) (same m))
-
 pub plan_outside : (t : Tables) (c : CostClaim) → unknown_in_plan t c ≡ false → outside_of_plan t c ≡ true → Some NotInside ≡ cost_flaw t c
 plan_outside t c u o = rw (u, o) refl
 
@@ -169,10 +162,5 @@ three_same a x b y c z e f g = ap (λ (k : Bool). k || (b || c)) e ∙ ap (λ (k
 
 pub plan_layers : (t : Tables) (c : CostClaim) → outside_of_plan t c ≡ false → list_any (λ (l : Listed). not_inside (is_below t l.layer.to) l.list) (listed_layers t c.layers) ≡ false
 plan_layers t c e =
-    right_false (not_inside (is_of_plan t (has (items_of t (chosen_items c.chosen)))) (items_of t (paired_items c.pairs)))
-    (list_any (λ (l : Listed). not_inside (is_below t l.layer.to) l.list) (listed_layers t c.layers)) e
-
-pub plan_once : (t : Tables) (c : CostClaim) → twice_in_plan t c ≡ false → twice (items_of t (all_inside c.layers)) ≡ false
-plan_once t c e =
-    right_false (paired_twice t c.pairs) (twice (items_of t (all_inside c.layers)))
-    (right_false (twice (items_of t (chosen_items c.chosen))) (paired_twice t c.pairs || twice (items_of t (all_inside c.layers))) e)
+    (or_parts (not_inside (is_of_plan t (has (items_of t (chosen_items c.chosen)))) (items_of t (paired_items c.pairs)))
+    (list_any (λ (l : Listed). not_inside (is_below t l.layer.to) l.list) (listed_layers t c.layers)) e).1

@@ -6,7 +6,7 @@ use Rattle.std.specs.Str.{bytes_eq}
 use Rattle.std.proofs.lemmas.Bool.{and_from, and_parts, cases_Bool, eqb-true, le-ltb, ltb-false, ltb-true, not-true, or_cases, or_left, or_right, not-false, or_parts}
 use Rattle.std.proofs.lemmas.List.{length-map}
 use Rattle.std.proofs.lemmas.List.Sums.{sum_by-cons}
-use Rattle.obs_case.specs.Tables.{IsValid, Tables, candidate_names, has_name, place_of}
+use Rattle.obs_case.specs.Tables.{IsValid, Tables, candidate_names, has_name, place_of, prices_of}
 use Rattle.obs_case.proofs.NameLemmas.{place-there}
 use Rattle.obs_matroid.specs.Lists.{In, IsDistinct}
 use Rattle.obs_matroid.specs.Matroid.{Matroid}
@@ -30,11 +30,11 @@ use Rattle.obs_cert.specs.Claims.{Item, Layer, candidate}
 use Rattle.obs_cert.specs.Completing.{ChosenAreCheapest, CompletesCase, ShortfallsRefute, chosen_by, price_together}
 use Rattle.obs_cert.specs.Flaws.{Listed, all_inside, cycle, first_true, layers_clauses, list_clauses, listed_from, listed_layers, not_below, not_inside, not_touched, outside_of, outside_of_plan, paired_twice, rank_of_items, runs_on, shows, twice, twice_in_plan, unknown_in_plan, unknown_item, unknown_pair, wrong_cost, wrong_length, wrong_outside, wrong_rank}
 use Rattle.obs_cert.specs.Numbered.{chosen_items, is_known, item_of, items_of, paired_items, pairs_of}
-use Rattle.obs_cert.specs.Scopes.{has, is_below, is_live_item, is_meter, is_of_plan, price_at, prices_of, scope_of, touches_of}
-use Rattle.obs_cert.proofs.CountingLemmas.{distinct, inside_each}
+use Rattle.obs_cert.specs.Scopes.{has, is_below, is_live_item, is_meter, is_of_plan, price_at, scope_of, touches_of}
+use Rattle.obs_cert.proofs.CountingLemmas.{distinct, each_passes}
 use Rattle.obs_cert.proofs.OutsideLemmas.{scope_distinct}
 use Rattle.obs_cert.proofs.ScopeLemmas.{has_at, has_from}
-use Rattle.obs_cert.proofs.TruthLemmas.{bound_below, each_false, each_passes, laws, none_true, pairs_assign, rank_within}
+use Rattle.obs_cert.proofs.TruthLemmas.{bound_below, each_false, laws, none_true, pairs_assign, rank_within}
 
 -- a layer as the laws of layers speak of it
 abbrev pub bare : Layer → BareLayer
@@ -160,7 +160,7 @@ module _ (t : Tables) (v : IsValid t) where
       let down = rank-within g (laws t v) (flat_map (touches_of t) list) (flat_map (touches_of t) (filter (has list) (parts t to)))
       (λ e i.
       let w = In-flat_map_from (touches_of t) e list i in
-      let there = In-filter (has list) w.0 (parts t to) (in_parts t to w.0 (inside_each (is_below t to) list inside w.0 w.1)) (has_at list w.0 w.1) in
+      let there = In-filter (has list) w.0 (parts t to) (in_parts t to w.0 (each_passes (is_below t to) list inside w.0 w.1)) (has_at list w.0 w.1) in
       (laws t v).member (flat_map (touches_of t) (filter (has list) (parts t to))) e (In-flat_map (touches_of t) w.0 e (filter (has list) (parts t to)) there w.2)) in
       omega (arith, up, down)
 
@@ -208,7 +208,7 @@ chosen_are_cheapest t c v h =
     let of_candidates = chosen_each t v c.chosen names.0 in
     let alive = filter (is_live (case_branches t) (case_offered t)) X in
     let M = live_meters (case_branches t) (case_offered t) (length t.meters) ++ alive in
-    let of_plan = inside_each (is_of_plan t (has X)) paired lists.0 in
+    let of_plan = each_passes (is_of_plan t (has X)) paired lists.0 in
     let within : (m : ℕ) → In m paired → In m M = λ m i.
     let both = and_parts (is_live_item t m) (is_meter t m || has X m) (of_plan m i) in
     elim (or_cases (is_meter t m) (has X m) both.1) [

@@ -5,7 +5,7 @@ use Rattle.std.proofs.lemmas.Bool.{and_parts, lt-ltb, ltb-true}
 use Rattle.std.proofs.lemmas.List.{length-map}
 use Rattle.obs_network.proofs.Listed.{meter_is_item}
 use Rattle.std.proofs.lemmas.List.FromFn.{length-range_with_len}
-use Rattle.obs_matroid.proofs.Lists.{In-filter, In-filter_from, length-within}
+use Rattle.obs_matroid.proofs.Lists.{In-filter, In-filter_from, IsDistinct-filter, length-within}
 use Rattle.obs_matroid.proofs.Ranges.{range_in}
 use Rattle.obs_meter.specs.declared.Touch.{Touch}
 use Rattle.obs_meter.specs.declared.Touch.TheVariants.{Nothing}
@@ -18,7 +18,7 @@ use Rattle.obs_network.specs.Network.{case_branches, case_components, case_meter
 use Rattle.obs_network.proofs.Marked.{filtered_below}
 use Rattle.obs_network.proofs.OfCase.{length-case_meters, length-case_offered}
 use Rattle.obs_cert.specs.Scopes.{is_meter, is_meter_in, is_this, scope_of}
-use Rattle.obs_cert.proofs.OutsideLemmas.{filtered, scope_distinct}
+use Rattle.obs_cert.proofs.OutsideLemmas.{scope_distinct}
 
 module _ (t : Tables) (c m : ℕ) where
   abbrev touch : Touch
@@ -53,7 +53,7 @@ pub scope_same : (t : Tables) (c : ℕ) → length (live_meters_of (network_of t
 scope_same t c =
     let live = live_items (case_branches t) (case_meters t) in
     let all = range_with_len 0 (length (case_offered t)) in
-    let up = length-within (live_meters_of (network_of t) c) (scope_of t (is_meter_in t c)) (filtered (is_in (network_of t) c) live (live_items-distinct (case_branches t) (case_meters t))) (λ m i.
+    let up = length-within (live_meters_of (network_of t) c) (scope_of t (is_meter_in t c)) (IsDistinct-filter (is_in (network_of t) c) live (live_items-distinct (case_branches t) (case_meters t))) (λ m i.
     let a = In-filter_from (is_in (network_of t) c) m live i in
     let b = In-filter_from (is_live (case_branches t) (case_meters t)) m (range_with_len 0 (length (case_meters t))) a.0 in
     let low = filtered_below (is_live (case_branches t) (case_meters t)) 0 (length (case_meters t)) m a.0 in

@@ -1,15 +1,14 @@
 -- Counting the claims while the lines are read.
 use mir.Val.{bool_byte}
-use Rattle.std.proofs.Common.{◌≡◌, ℕ, suc, ◌+◌, ◌≤◌, Bool, true, false, cond, List, [], ◌∷◌, length, Result, Ok, Err, refl, sym, ap, ◌∙◌, inl, inr, zero-add, add-zero, add-one, arith}
+use Rattle.std.proofs.Common.{◌≡◌, ℕ, suc, ◌+◌, ◌≤◌, Bool, true, false, cond, List, [], ◌∷◌, length, Result, Ok, Err, refl, sym, ap, ◌∙◌, inl, inr, add-zero, add-one, arith}
 use Rattle.std.proofs.lemmas.Bool.{cases_Bool}
 use Rattle.obs_text.specs.Lines.{lines_of}
-use Rattle.obs_cert.specs.declared.fault.CertCode.{CertCode}
 use Rattle.obs_cert.specs.declared.fault.CertCode.TheVariants.{NoEnd}
 use Rattle.obs_cert.specs.declared.fault.CertFault.{CertFault}
 use Rattle.obs_cert.specs.declared.place.Place.{Place}
 use Rattle.obs_cert.specs.declared.place.Place.TheVariants.{Start}
 use Rattle.obs_cert.specs.Places.{is_over, is_start, step}
-use Rattle.obs_cert.specs.Read.{HasClaims, claims_in, claims_of, onto_lines, parts_of, read_from, then_read}
+use Rattle.obs_cert.specs.Read.{HasClaims, claims_in, onto_lines, parts_of, read_from, then_read}
 use Rattle.obs_cert.specs.Words.{Line, tree_line, bound_line, cost_line, shortfall_line, pair_line, chosen_line, layer_line, inside_line, end_line}
 
 -- one for a line that starts a claim
@@ -55,22 +54,11 @@ has_claims : (r : Result (List Line) CertFault) (n : ℕ) → counted 0 r ≡ Ok
 has_claims (Ok lines) n is = (lines, refl, (let same : 0 + starts_in lines ≡ n = cc in omega (arith, same, length-claims lines)))
 has_claims (Err fault) n is = cc
 
-has_fault : (r : Result (List Line) CertFault) (fault : CertFault) → counted 0 r ≡ Err fault → claims_in r ≡ Err fault
-has_fault (Ok lines) fault is = cc
-has_fault (Err other) fault is = (let same : other ≡ fault = cc in ap (λ (f : CertFault). Err f) same)
-
 -- the claims so far, and the lines that are left decide the rest
 pub record Counted (bytes : List ℕ) (place : Place) (at claims : ℕ) (left : List ℕ) : Type 0 where
   pub stated : counted 0 (read_from Start 1 (lines_of bytes)) ≡ counted claims (read_from place (at + 1) (lines_of left))
   pub room : at + length (lines_of left) ≡ length (lines_of bytes)
   pub few : claims ≤ at
-
-pub count_none : (bytes left : List ℕ) → left ≡ bytes → Counted bytes Start 0 0 left
-count_none bytes left is = record {
-  stated = ap (λ b. counted 0 (read_from Start 1 (lines_of b))) (sym is);
-  room = ap (λ b. 0 + length (lines_of b)) is ∙ zero-add (length (lines_of bytes));
-  few = omega arith;
-}
 
 module _ (bytes : List ℕ) (place : Place) (at claims : ℕ) (left line rest : List ℕ) (so_far : Counted bytes place at claims left) (is : lines_of left ≡ line ∷ lines_of rest) where
   pub room_for_one : at + 1 ≤ length (lines_of bytes)
@@ -88,11 +76,6 @@ module _ (bytes : List ℕ) (place : Place) (at claims : ℕ) (left line rest : 
     few = few;
   }
 
-  pub fault_at : (code : CertCode) → step place line ≡ Err code → claims_of bytes ≡ Err (record { line = at + 1; code = code })
-  fault_at code read =
-      has_fault (read_from Start 1 (lines_of bytes)) (record { line = at + 1; code = code })
-      (stated_here ∙ ap (λ r. counted claims (then_read (at + 1) r (λ next. read_from next (at + 1 + 1) (lines_of rest)))) read)
-
 module _ (bytes : List ℕ) (place : Place) (at claims : ℕ) (left : List ℕ) (so_far : Counted bytes place at claims left) (none : lines_of left ≡ []) where
   at_end : counted 0 (read_from Start 1 (lines_of bytes)) ≡ counted claims (cond (is_over place) (Ok []) (Err (record { line = 0; code = NoEnd })))
   at_end = so_far.stated ∙ ap (λ lines. counted claims (read_from place (at + 1) lines)) none
@@ -102,8 +85,3 @@ module _ (bytes : List ℕ) (place : Place) (at claims : ℕ) (left : List ℕ) 
       let found = has_claims (read_from Start 1 (lines_of bytes)) claims
       (at_end ∙ ap (λ b. counted claims (cond b (Ok []) (Err (record { line = 0; code = NoEnd })))) over ∙ ap (λ (n : ℕ). Ok n) (add-zero claims)) in
       ((parts_of found.0).claims, ap claims_in found.1, found.2)
-
-  pub no_end : is_over place ≡ false → claims_of bytes ≡ Err (record { line = 0; code = NoEnd })
-  no_end over =
-      has_fault (read_from Start 1 (lines_of bytes)) (record { line = 0; code = NoEnd })
-      (at_end ∙ ap (λ b. counted claims (cond b (Ok []) (Err (record { line = 0; code = NoEnd })))) over)

@@ -1,13 +1,13 @@
 -- Counting the items that pass a test, and those outside a list.
-use Rattle.std.proofs.Common.{◌≡◌, ℕ, suc, ◌+◌, ◌-◌, ◌≤◌, ◌||◌, Bool, true, false, not, List, [], ◌∷◌, length, filter, refl, sym, ap, ◌∙◌, inl, inr, arith}
-use Rattle.std.specs.List.{range_with_len}
-use Rattle.std.proofs.lemmas.Bool.{cases_Bool, or_left}
+use Rattle.std.proofs.Common.{◌≡◌, ℕ, suc, ◌+◌, ◌-◌, ◌≤◌, Bool, true, false, not, List, [], ◌∷◌, length, filter, refl, sym, ap, ◌∙◌, inl, inr, arith}
+use Rattle.std.specs.List.{list_any, range_with_len}
+use Rattle.std.proofs.lemmas.Bool.{not-false, or_parts}
 use Rattle.obs_graph.specs.Joined.{count_below}
 use Rattle.obs_graph.proofs.Counts.{count_below-no, count_below-yes}
 use Rattle.obs_network.proofs.Marked.{length-passing}
 use Rattle.obs_matroid.specs.Lists.{In, IsDistinct}
-use Rattle.obs_matroid.proofs.Lists.{In-filter, In-filter_from, clash, length-split, length-within}
-use Rattle.obs_cert.specs.Flaws.{not_inside, twice}
+use Rattle.obs_matroid.proofs.Lists.{In-filter, In-filter_from, IsDistinct-filter, clash, length-split, length-within}
+use Rattle.obs_cert.specs.Flaws.{twice}
 use Rattle.obs_cert.specs.Scopes.{has}
 use Rattle.obs_cert.proofs.ScopeLemmas.{has_at, has_from}
 
@@ -41,36 +41,18 @@ counted p m n count same i = i.is ∙ ap (count_below p) same ∙ sym (length-pa
 -- a list without doubles whose items are in the scope
 pub distinct : (xs : List ℕ) → twice xs ≡ false → IsDistinct xs
 distinct [] e = tt
-distinct (x ∷ xs) e = ((λ i. clash (or_left (has xs x) (twice xs) (has_at xs x i)) e), distinct xs (later (has xs x) (twice xs) e))
-  where
-    later : (a b : Bool) → (a || b) ≡ false → b ≡ false
-    later true b e = cc
-    later false b e = e
+distinct (x ∷ xs) e = let two = or_parts (has xs x) (twice xs) e in ((λ i. clash (has_at xs x i) two.0), distinct xs two.1)
 
-pub inside_each : (scope : ℕ → Bool) (xs : List ℕ) → not_inside scope xs ≡ false → (x : ℕ) → In x xs → scope x ≡ true
-inside_each scope [] e x i = absurd i
-inside_each scope (y ∷ ys) e x (inl is) = ap scope is ∙ first (scope y) (not_inside scope ys) e
-  where
-    first : (a b : Bool) → (not a || b) ≡ false → a ≡ true
-    first true b e = refl
-    first false b e = cc
-inside_each scope (y ∷ ys) e x (inr i) = inside_each scope ys (later (not (scope y)) (not_inside scope ys) e) x i
-  where
-    later : (a b : Bool) → (a || b) ≡ false → b ≡ false
-    later true b e = cc
-    later false b e = e
+-- where no element fails a test, each passes it
+pub each_passes : {X : Type 0} (test : X → Bool) (xs : List X) → list_any (λ (x : X). not (test x)) xs ≡ false → (x : X) → In x xs → test x ≡ true
+each_passes test [] e x i = absurd i
+each_passes test (y ∷ ys) e x (inl is) = ap test is ∙ not-false (test y) (or_parts (not (test y)) (list_any (λ z. not (test z)) ys) e).0
+each_passes test (y ∷ ys) e x (inr i) = each_passes test ys (or_parts (not (test y)) (list_any (λ z. not (test z)) ys) e).1 x i
 
 -- the others of a scope are as many as it has more than the list
 pub others : (scope all xs : List ℕ) → IsDistinct scope → IsDistinct xs → ((x : ℕ) → In x xs → In x scope) → length (filter (λ m. not (has xs m)) scope) ≡ length scope - length xs
 others scope all xs ds dx inside =
     let split = length-split (has xs) scope in
     let up = length-within xs (filter (has xs) scope) dx (λ x i. In-filter (has xs) x scope (inside x i) (has_at xs x i)) in
-    let down = length-within (filter (has xs) scope) xs (filtered scope ds) (λ x i. has_from xs x (In-filter_from (has xs) x scope i).1) in
+    let down = length-within (filter (has xs) scope) xs (IsDistinct-filter (has xs) scope ds) (λ x i. has_from xs x (In-filter_from (has xs) x scope i).1) in
     omega (arith, split, up, down)
-  where
-    filtered : (ys : List ℕ) → IsDistinct ys → IsDistinct (filter (has xs) ys)
-    filtered [] d = tt
-    filtered (y ∷ ys) d = elim (cases_Bool (has xs y)) [
-      | inl t ↦ rw t ((λ i. d.0 (In-filter_from (has xs) y ys i).0), filtered ys d.1)
-      | inr f ↦ rw f (filtered ys d.1)
-    ]

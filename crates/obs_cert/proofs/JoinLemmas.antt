@@ -1,7 +1,8 @@
 -- The ways up while branches are joined one after the other.
-use Rattle.std.proofs.Common.{◌≡◌, ℕ, zero, suc, ◌+◌, ◌<◌, ◌≤◌, min, max, Option, Some, None, ◌⊎◌, inl, inr, List, [], ◌∷◌, ◌++◌, length, take, drop, get_or, set, refl, sym, ap, ◌∙◌, subst, add-one, arith}
+use Rattle.std.proofs.Common.{◌≡◌, ℕ, suc, ◌+◌, ◌<◌, ◌≤◌, min, max, Option, None, ◌⊎◌, inl, inr, List, [], ◌∷◌, ◌++◌, length, take, drop, get_or, set, refl, sym, ap, ◌∙◌, subst, arith, drop-cons, get_or-set_same, get_or-set_other, length-set, length-take-le, take-suc-set}
 use Rattle.std.specs.List.{cons_option}
 use Rattle.std.proofs.lemmas.Bool.{cases_eq, cases_lt}
+use Rattle.std.proofs.lemmas.List.{drop_all, length_push}
 use Rattle.obs_graph.specs.declared.Ends.{Ends}
 use Rattle.obs_graph.specs.Joined.{first_joined, merged, rank}
 use Rattle.obs_graph.proofs.First.{first_joined-le, merged-min, merged-other, merged-top}
@@ -20,10 +21,6 @@ own_joined ups own = record {
   within = λ u i. absurd i;
   count = sym (rank-nil (length ups));
 }
-
--- where nothing is joined all ways end at once
-pub joined_own : (ups moved : List ℕ) → AreJoined [] ups moved → (u : ℕ) → u < length ups → get_or ups u 0 ≡ u
-joined_own ups moved j u l = j.firsts.same u l
 
 -- the ways became shorter
 pub shortened : (es : List Ends) (ups after moved : List ℕ) → length after ≡ length ups → AreLow after → ((u : ℕ) → get_or after u 0 ≡ u → get_or ups u 0 ≡ u) → ((u : ℕ) → get_or ups u 0 ≡ u → get_or after u 0 ≡ u) → (AreFirsts es ups → AreFirsts es after)
@@ -48,34 +45,6 @@ joined_already es e ups moved same j = record {
   within = j.within;
   count = j.count ∙ sym (rank-add_joined (length ups) e es same);
 }
-
-take_set : (count : ℕ) (moved : List ℕ) (x : ℕ) → count < length moved → take (suc count) (set moved count x) ≡ take count moved ++ x ∷ []
-take_set zero [] x l = absurd (omega arith)
-take_set zero (m ∷ moved) x l = refl
-take_set (suc count) [] x l = absurd (omega arith)
-take_set (suc count) (m ∷ moved) x l = ap (λ t. m ∷ t) (take_set count moved x (omega arith))
-
-pub length_take : (count : ℕ) (moved : List ℕ) → count ≤ length moved → length (take count moved) ≡ count
-length_take zero moved l = refl
-length_take (suc count) [] l = absurd (omega arith)
-length_take (suc count) (m ∷ moved) l = ap suc (length_take count moved (omega arith))
-
-pub get_set : (xs : List ℕ) (i x : ℕ) → i < length xs → get_or (set xs i x) i 0 ≡ x
-get_set [] i x l = absurd (omega arith)
-get_set (y ∷ ys) zero x l = refl
-get_set (y ∷ ys) (suc i) x l = get_set ys i x (omega arith)
-
-pub get_other : (xs : List ℕ) (i j x : ℕ) → (j ≡ i → ⊥) → get_or (set xs i x) j 0 ≡ get_or xs j 0
-get_other [] i j x ne = refl
-get_other (y ∷ ys) zero zero x ne = absurd (ne refl)
-get_other (y ∷ ys) zero (suc j) x ne = refl
-get_other (y ∷ ys) (suc i) zero x ne = refl
-get_other (y ∷ ys) (suc i) (suc j) x ne = get_other ys i j x (λ e. ne (ap suc e))
-
-pub length_set : (xs : List ℕ) (i x : ℕ) → length (set xs i x) ≡ length xs
-length_set [] i x = refl
-length_set (y ∷ ys) zero x = refl
-length_set (y ∷ ys) (suc i) x = ap suc (length_set ys i x)
 
 module _ (es : List Ends) (e : Ends) (ups moved : List ℕ) (count x y low high : ℕ) (j : AreJoined es ups (take count moved)) (room : count < length moved)
     (is_x : x ≡ first_joined es e.a) (is_y : y ≡ first_joined es e.b) (apart : x ≡ y → ⊥) (in_a : e.a < length ups) (in_b : e.b < length ups)
@@ -105,23 +74,23 @@ module _ (es : List Ends) (e : Ends) (ups moved : List ℕ) (count x y low high 
   next_high = next high ∙ ap (merged x y) fixed_high ∙ merged-top x y high is_high ∙ sym is_low
 
   pub led : AreJoined (e ∷ es) (set ups high low) (take (suc count) (set moved count high))
-  led = rw (take_set count moved high room) (record {
+  led = rw (take-suc-set moved count high room) (record {
     low = λ u l. elim (cases_eq u high) [
-      | inl is ↦ omega (arith, ap (λ v. get_or (set ups high low) v 0) is, get_set ups high low below_high, lower)
-      | inr ne ↦ omega (arith, get_other ups high u low ne, j.low u (omega (arith, l, length_set ups high low)))
+      | inl is ↦ omega (arith, ap (λ v. get_or (set ups high low) v 0) is, get_or-set_same ups high low 0 below_high, lower)
+      | inr ne ↦ omega (arith, get_or-set_other ups high u low 0 ne, j.low u (omega (arith, l, length-set ups high low)))
     ];
     firsts = record {
       same = λ u l. elim (cases_eq u high) [
         | inl is ↦
-            ap (first_joined (e ∷ es)) (ap (λ v. get_or (set ups high low) v 0) is ∙ get_set ups high low below_high) ∙ next_low ∙ sym (ap (first_joined (e ∷ es)) is ∙ next_high)
+            ap (first_joined (e ∷ es)) (ap (λ v. get_or (set ups high low) v 0) is ∙ get_or-set_same ups high low 0 below_high) ∙ next_low ∙ sym (ap (first_joined (e ∷ es)) is ∙ next_high)
         | inr ne ↦
-            ap (first_joined (e ∷ es)) (get_other ups high u low ne)
-            ∙ next (get_or ups u 0) ∙ ap (merged x y) (j.firsts.same u (omega (arith, l, length_set ups high low))) ∙ sym (next u)
+            ap (first_joined (e ∷ es)) (get_or-set_other ups high u low 0 ne)
+            ∙ next (get_or ups u 0) ∙ ap (merged x y) (j.firsts.same u (omega (arith, l, length-set ups high low))) ∙ sym (next u)
       ];
       top = λ u l t. elim (cases_eq u high) [
-        | inl is ↦ absurd (let e2 : get_or (set ups high low) u 0 ≡ low = ap (λ v. get_or (set ups high low) v 0) is ∙ get_set ups high low below_high in omega (arith, e2, t, is, lower))
+        | inl is ↦ absurd (let e2 : get_or (set ups high low) u 0 ≡ low = ap (λ v. get_or (set ups high low) v 0) is ∙ get_or-set_same ups high low 0 below_high in omega (arith, e2, t, is, lower))
         | inr ne ↦
-            let f = j.firsts.top u (omega (arith, l, length_set ups high low)) (sym (get_other ups high u low ne) ∙ t) in
+            let f = j.firsts.top u (omega (arith, l, length-set ups high low)) (sym (get_or-set_other ups high u low 0 ne) ∙ t) in
             next u ∙ ap (merged x y) f ∙ merged-other x y u (λ m. ne (m ∙ sym is_high))
       ];
     };
@@ -129,11 +98,11 @@ module _ (es : List Ends) (e : Ends) (ups moved : List ℕ) (count x y low high 
       | inl is ↦ In-append_right u (take count moved) (high ∷ []) (inl is)
       | inr other ↦
           In-append_left u (take count moved) (high ∷ [])
-          (j.noted u (omega (arith, l, length_set ups high low)) (λ t. ne (get_other ups high u low other ∙ t)))
+          (j.noted u (omega (arith, l, length-set ups high low)) (λ t. ne (get_or-set_other ups high u low 0 other ∙ t)))
     ];
     within = λ u i. elim (In-append_cases u (take count moved) (high ∷ []) i) [
-      | inl h ↦ omega (arith, j.within u h, length_set ups high low)
-      | inr h ↦ elim h [ inl is ↦ omega (arith, is, below_high, length_set ups high low) | inr k ↦ absurd k ]
+      | inl h ↦ omega (arith, j.within u h, length-set ups high low)
+      | inr h ↦ elim h [ inl is ↦ omega (arith, is, below_high, length-set ups high low) | inr k ↦ absurd k ]
     ];
     count = counted;
   })
@@ -142,13 +111,9 @@ module _ (es : List Ends) (e : Ends) (ups moved : List ℕ) (count x y low high 
       counted =
           let apart_firsts : first_joined es e.a ≡ first_joined es e.b → ⊥ = λ s. apart (is_x ∙ s ∙ sym is_y) in
           let one = rank-add_new (length ups) e es in_a in_b apart_firsts in
-          let long = length-more (take count moved) high in
-          let same : rank (length (set ups high low)) (e ∷ es) ≡ rank (length ups) (e ∷ es) = ap (λ n. rank n (e ∷ es)) (length_set ups high low) in
+          let long = length_push (take count moved) high in
+          let same : rank (length (set ups high low)) (e ∷ es) ≡ rank (length ups) (e ∷ es) = ap (λ n. rank n (e ∷ es)) (length-set ups high low) in
           omega (arith, long, one, same, j.count)
-        where
-          length-more : (xs : List ℕ) (x : ℕ) → length (xs ++ x ∷ []) ≡ suc (length xs)
-          length-more [] x = refl
-          length-more (y ∷ ys) x = ap suc (length-more ys x)
 
 -- the ways while one is followed, from v to w
 pub record IsShorter (before now : List ℕ) (v w : ℕ) : Type 0 where
@@ -178,46 +143,34 @@ module _ (before now : List ℕ) (v w : ℕ) (so_far : IsShorter before now v w)
 
   pub shorter_next : IsShorter before (set now w (get_or now (get_or now w 0) 0)) v (get_or now (get_or now w 0) 0)
   shorter_next = record {
-    len = length_set now w up2 ∙ so_far.len;
+    len = length-set now w up2 ∙ so_far.len;
     low = λ u l. elim (cases_eq u w) [
-      | inl is ↦ omega (arith, ap (λ t. get_or (set now w up2) t 0) is, get_set now w up2 in_w, low_once, low_twice, is)
-      | inr ne ↦ omega (arith, get_other now w u up2 ne, so_far.low u (omega (arith, l, length_set now w up2)))
+      | inl is ↦ omega (arith, ap (λ t. get_or (set now w up2) t 0) is, get_or-set_same now w up2 0 in_w, low_once, low_twice, is)
+      | inr ne ↦ omega (arith, get_or-set_other now w u up2 0 ne, so_far.low u (omega (arith, l, length-set now w up2)))
     ];
     under = omega (arith, low_once, low_twice, so_far.under);
     back = λ u e. elim (cases_eq u w) [
-      | inl is ↦ absurd (let k : get_or (set now w up2) u 0 ≡ up2 = ap (λ t. get_or (set now w up2) t 0) is ∙ get_set now w up2 in_w in omega (arith, k, e, is, low_once, low_twice))
-      | inr ne ↦ so_far.back u (sym (get_other now w u up2 ne) ∙ e)
+      | inl is ↦ absurd (let k : get_or (set now w up2) u 0 ≡ up2 = ap (λ t. get_or (set now w up2) t 0) is ∙ get_or-set_same now w up2 0 in_w in omega (arith, k, e, is, low_once, low_twice))
+      | inr ne ↦ so_far.back u (sym (get_or-set_other now w u up2 0 ne) ∙ e)
     ];
     on = λ u e. elim (cases_eq u w) [
       | inl is ↦ absurd (goes (ap (λ t. get_or now t 0) (sym is) ∙ so_far.on u e ∙ is))
-      | inr ne ↦ get_other now w u up2 ne ∙ so_far.on u e
+      | inr ne ↦ get_or-set_other now w u up2 0 ne ∙ so_far.on u e
     ];
     firsts = λ es f. let g = so_far.firsts es f in record {
       same = λ u l. elim (cases_eq u w) [
         | inl is ↦
-            ap (first_joined es) (ap (λ t. get_or (set now w up2) t 0) is ∙ get_set now w up2 in_w)
+            ap (first_joined es) (ap (λ t. get_or (set now w up2) t 0) is ∙ get_or-set_same now w up2 0 in_w)
             ∙ g.same up1 (omega (arith, low_once, in_w)) ∙ g.same w in_w ∙ ap (first_joined es) (sym is)
-        | inr ne ↦ ap (first_joined es) (get_other now w u up2 ne) ∙ g.same u (omega (arith, l, length_set now w up2))
+        | inr ne ↦ ap (first_joined es) (get_or-set_other now w u up2 0 ne) ∙ g.same u (omega (arith, l, length-set now w up2))
       ];
       top = λ u l e. elim (cases_eq u w) [
-        | inl is ↦ absurd (let k : get_or (set now w up2) u 0 ≡ up2 = ap (λ t. get_or (set now w up2) t 0) is ∙ get_set now w up2 in_w in omega (arith, k, e, is, low_once, low_twice))
-        | inr ne ↦ g.top u (omega (arith, l, length_set now w up2)) (sym (get_other now w u up2 ne) ∙ e)
+        | inl is ↦ absurd (let k : get_or (set now w up2) u 0 ≡ up2 = ap (λ t. get_or (set now w up2) t 0) is ∙ get_or-set_same now w up2 0 in_w in omega (arith, k, e, is, low_once, low_twice))
+        | inr ne ↦ g.top u (omega (arith, l, length-set now w up2)) (sym (get_or-set_other now w u up2 0 ne) ∙ e)
       ];
     };
     joined = λ es f. let g = so_far.firsts es f in g.same up1 (omega (arith, low_once, in_w)) ∙ g.same w in_w ∙ so_far.joined es f;
   }
-
-drop_here : (i : ℕ) (xs : List ℕ) → i < length xs → drop i xs ≡ get_or xs i 0 ∷ drop (suc i) xs
-drop_here zero [] l = absurd (omega arith)
-drop_here zero (x ∷ xs) l = refl
-drop_here (suc i) [] l = absurd (omega arith)
-drop_here (suc i) (x ∷ xs) l = drop_here i xs (omega arith)
-
-drop_end : (i : ℕ) (xs : List ℕ) → length xs ≤ i → drop i xs ≡ []
-drop_end zero [] l = refl
-drop_end zero (x ∷ xs) l = absurd (omega arith)
-drop_end (suc i) [] l = refl
-drop_end (suc i) (x ∷ xs) l = drop_end i xs (omega arith)
 
 -- the vertices whose ways don't end at themselves are still to be cleared
 pub record IsClearing (moved : List ℕ) (i : ℕ) (ups : List ℕ) : Type 0 where
@@ -232,29 +185,29 @@ clearing_none es ups moved j = record {
 
 module _ (moved : List ℕ) (i : ℕ) (ups : List ℕ) (so_far : IsClearing moved i ups) (in_i : i < length moved) where
   pub clearing_within : get_or moved i 0 < length ups
-  clearing_within = so_far.within (get_or moved i 0) (rw (drop_here i moved in_i) (inl refl))
+  clearing_within = so_far.within (get_or moved i 0) (rw (drop-cons moved i 0 in_i) (inl refl))
 
   pub clearing_next : IsClearing moved (suc i) (set ups (get_or moved i 0) (get_or moved i 0))
   clearing_next =
       let v = get_or moved i 0 in
       record {
-        within = λ u h. omega (arith, length_set ups v v, so_far.within u (rw (drop_here i moved in_i) (inr h)));
+        within = λ u h. omega (arith, length-set ups v v, so_far.within u (rw (drop-cons moved i 0 in_i) (inr h)));
         left = λ u l. elim (cases_eq u v) [
-          | inl is ↦ inl (ap (λ t. get_or (set ups v v) t 0) is ∙ get_set ups v v clearing_within ∙ sym is)
-          | inr ne ↦ elim (so_far.left u (omega (arith, l, length_set ups v v))) [
-            | inl e ↦ inl (get_other ups v u v ne ∙ e)
-            | inr h ↦ elim (rw (drop_here i moved in_i) at h) [ inl is ↦ absurd (ne is) | inr k ↦ inr k ]
+          | inl is ↦ inl (ap (λ t. get_or (set ups v v) t 0) is ∙ get_or-set_same ups v v 0 clearing_within ∙ sym is)
+          | inr ne ↦ elim (so_far.left u (omega (arith, l, length-set ups v v))) [
+            | inl e ↦ inl (get_or-set_other ups v u v 0 ne ∙ e)
+            | inr h ↦ elim (rw (drop-cons moved i 0 in_i) at h) [ inl is ↦ absurd (ne is) | inr k ↦ inr k ]
           ]
         ];
       }
 
 pub cleared : (moved : List ℕ) (i : ℕ) (ups : List ℕ) → length moved ≤ i → IsClearing moved i ups → AreJoined [] ups []
-cleared moved i ups end c = own_joined ups (λ u l. elim (c.left u l) [ inl e ↦ e | inr h ↦ absurd (rw (drop_end i moved end) at h) ])
+cleared moved i ups end c = own_joined ups (λ u l. elim (c.left u l) [ inl e ↦ e | inr h ↦ absurd (rw (drop_all i moved end) at h) ])
 
 pub begun : (ups : List ℕ) (v : ℕ) → v < length ups → ((u : ℕ) → u < v → get_or ups u 0 ≡ u) → (u : ℕ) → u < v + 1 → get_or (set ups v v) u 0 ≡ u
 begun ups v in_v so_far u l = elim (cases_eq u v) [
-  | inl is ↦ ap (λ t. get_or (set ups v v) t 0) is ∙ get_set ups v v in_v ∙ sym is
-  | inr ne ↦ get_other ups v u v ne ∙ so_far u (grind (arith, l, ne))
+  | inl is ↦ ap (λ t. get_or (set ups v v) t 0) is ∙ get_or-set_same ups v v 0 in_v ∙ sym is
+  | inr ne ↦ get_or-set_other ups v u v 0 ne ∙ so_far u (grind (arith, l, ne))
 ]
 
 -- two ways were followed, from a to x and then from b to y
@@ -289,7 +242,7 @@ min_fixed r x y ex ey = elim (cases_lt x y) [
 -- there is room for one more
 pub room_left : (es : List Ends) (e : Ends) (ups moved : List ℕ) (count : ℕ) → AreJoined es ups (take count moved) → count ≤ length moved → length ups ≤ length moved → e.a < length ups → e.b < length ups → (first_joined es e.a ≡ first_joined es e.b → ⊥) → count < length moved
 room_left es e ups moved count j fits room in_a in_b apart =
-    omega (arith, length_take count moved fits, j.count, rank-add_new (length ups) e es in_a in_b apart, rank-le-n (length ups) (e ∷ es), room)
+    omega (arith, length-take-le count moved fits, j.count, rank-add_new (length ups) e es in_a in_b apart, rank-le-n (length ups) (e ∷ es), room)
 
 pub joined_new : (es : List Ends) (e : Ends) (ups moved : List ℕ) (count x y : ℕ) → AreFound es ups (take count moved) e.a e.b x y → count < length moved → e.a < length ups → e.b < length ups → (x ≡ y → ⊥)
     → AreJoined (e ∷ es) (set ups (max x y) (min x y)) (take (suc count) (set moved count (max x y)))
@@ -298,7 +251,7 @@ joined_new es e ups moved count x y f room in_a in_b apart =
     led es e ups moved count x y (min x y) (max x y) f.joined room f.x_is f.y_is apart in_a in_b refl refl fixed.0 fixed.1
 
 pub count_is : (es : List Ends) (ups moved : List ℕ) (count : ℕ) → count ≤ length moved → AreJoined es ups (take count moved) → count ≡ rank (length ups) es
-count_is es ups moved count fits j = sym (length_take count moved fits) ∙ j.count
+count_is es ups moved count fits j = sym (length-take-le count moved fits) ∙ j.count
 
 -- while branches at positions are joined: what all come to is what those that are left come to
 pub record IsJoining (ends : List (Option Ends)) (left all : List ℕ) (ups0 moved0 : List ℕ) (count0 : ℕ) (ups moved : List ℕ) (count : ℕ) : Type 0 where
@@ -310,48 +263,33 @@ pub record IsJoining (ends : List (Option Ends)) (left all : List ℕ) (ups0 mov
 pub joining_none : (ends : List (Option Ends)) (all ups moved : List ℕ) (count : ℕ) → count ≤ length moved → IsJoining ends all all ups moved count ups moved count
 joining_none ends all ups moved count fits = record { fits = fits; ups_len = refl; moved_len = refl; joined = λ es j. (es, j, refl) }
 
--- one position more, where a branch is present and was joined, or is absent
-pub joining_one : (ends : List (Option Ends)) (p : ℕ) (left all ups0 moved0 : List ℕ) (count0 : ℕ) (ups moved : List ℕ) (count : ℕ) (e : Ends) (ups2 moved2 : List ℕ) (count2 : ℕ)
-    → IsJoining ends (p ∷ left) all ups0 moved0 count0 ups moved count → get_or ends p None ≡ Some e
+pub onto-append : (ends : List (Option Ends)) (xs ys : List ℕ) (es : List Ends) → onto ends (xs ++ ys) es ≡ onto ends ys (onto ends xs es)
+onto-append ends [] ys es = refl
+onto-append ends (x ∷ xs) ys es = onto-append ends xs ys (cons_option (get_or ends x None) es)
+
+-- some positions more
+pub joining_some : (ends : List (Option Ends)) (xs left all ups0 moved0 : List ℕ) (count0 : ℕ) (ups moved : List ℕ) (count : ℕ) (ups2 moved2 : List ℕ) (count2 : ℕ)
+    → IsJoining ends (xs ++ left) all ups0 moved0 count0 ups moved count
     → count2 ≤ length moved2 → length ups2 ≡ length ups → length moved2 ≡ length moved
-    → ((es : List Ends) → AreJoined es ups (take count moved) → AreJoined (e ∷ es) ups2 (take count2 moved2))
+    → ((es : List Ends) → AreJoined es ups (take count moved) → AreJoined (onto ends xs es) ups2 (take count2 moved2))
     → IsJoining ends left all ups0 moved0 count0 ups2 moved2 count2
-joining_one ends p left all ups0 moved0 count0 ups moved count e ups2 moved2 count2 i is fits len1 len2 step = record {
+joining_some ends xs left all ups0 moved0 count0 ups moved count ups2 moved2 count2 i fits len1 len2 step = record {
   fits = fits;
   ups_len = len1 ∙ i.ups_len;
   moved_len = len2 ∙ i.moved_len;
-  joined = λ es j. let q = i.joined es j in (e ∷ q.0, step q.0 q.1, ap (λ o. onto ends left (cons_option o q.0)) (sym is) ∙ q.2);
+  joined = λ es j. let q = i.joined es j in (onto ends xs q.0, step q.0 q.1, sym (onto-append ends xs left q.0) ∙ q.2);
 }
 
-pub joining_pass : (ends : List (Option Ends)) (p : ℕ) (left all ups0 moved0 : List ℕ) (count0 : ℕ) (ups moved : List ℕ) (count : ℕ)
-    → IsJoining ends (p ∷ left) all ups0 moved0 count0 ups moved count → get_or ends p None ≡ None
-    → IsJoining ends left all ups0 moved0 count0 ups moved count
-joining_pass ends p left all ups0 moved0 count0 ups moved count i is = record {
-  fits = i.fits;
-  ups_len = i.ups_len;
-  moved_len = i.moved_len;
-  joined = λ es j. let q = i.joined es j in (q.0, q.1, ap (λ o. onto ends left (cons_option o q.0)) (sym is) ∙ q.2);
-}
+-- one position more, where o is what is there
+pub joining_one : (ends : List (Option Ends)) (p : ℕ) (left all ups0 moved0 : List ℕ) (count0 : ℕ) (ups moved : List ℕ) (count : ℕ) (o : Option Ends) (ups2 moved2 : List ℕ) (count2 : ℕ)
+    → IsJoining ends (p ∷ left) all ups0 moved0 count0 ups moved count → get_or ends p None ≡ o
+    → count2 ≤ length moved2 → length ups2 ≡ length ups → length moved2 ≡ length moved
+    → ((es : List Ends) → AreJoined es ups (take count moved) → AreJoined (cons_option o es) ups2 (take count2 moved2))
+    → IsJoining ends left all ups0 moved0 count0 ups2 moved2 count2
+joining_one ends p left all ups0 moved0 count0 ups moved count o ups2 moved2 count2 i is fits len1 len2 step =
+    joining_some ends (p ∷ []) left all ups0 moved0 count0 ups moved count ups2 moved2 count2 i fits len1 len2
+    (λ es j. subst (λ there. AreJoined (cons_option there es) ups2 (take count2 moved2)) (sym is) (step es j))
 
 pub joining_end : (ends : List (Option Ends)) (all ups0 moved0 : List ℕ) (count0 : ℕ) (ups moved : List ℕ) (count : ℕ)
     → IsJoining ends [] all ups0 moved0 count0 ups moved count → (es : List Ends) → AreJoined es ups0 (take count0 moved0) → AreJoined (onto ends all es) ups (take count moved)
 joining_end ends all ups0 moved0 count0 ups moved count i es j = let q = i.joined es j in subst (λ fs. AreJoined fs ups (take count moved)) q.2 q.1
-
-pub drop_next : (i : ℕ) (xs : List ℕ) → i < length xs → drop i xs ≡ get_or xs i 0 ∷ drop (i + 1) xs
-drop_next i xs l = drop_here i xs l ∙ ap (λ k. get_or xs i 0 ∷ drop k xs) (sym (add-one i))
-
-pub drop_none : (i : ℕ) (xs : List ℕ) → length xs ≤ i → drop i xs ≡ []
-drop_none i xs l = drop_end i xs l
-
--- one position more, with or without a branch
-pub joining_at : (ends : List (Option Ends)) (p : ℕ) (left all ups0 moved0 : List ℕ) (count0 : ℕ) (ups moved : List ℕ) (count : ℕ) (ups2 moved2 : List ℕ) (count2 : ℕ)
-    → IsJoining ends (p ∷ left) all ups0 moved0 count0 ups moved count
-    → count2 ≤ length moved2 → length ups2 ≡ length ups → length moved2 ≡ length moved
-    → ((es : List Ends) → AreJoined es ups (take count moved) → AreJoined (cons_option (get_or ends p None) es) ups2 (take count2 moved2))
-    → IsJoining ends left all ups0 moved0 count0 ups2 moved2 count2
-joining_at ends p left all ups0 moved0 count0 ups moved count ups2 moved2 count2 i fits len1 len2 step = record {
-  fits = fits;
-  ups_len = len1 ∙ i.ups_len;
-  moved_len = len2 ∙ i.moved_len;
-  joined = λ es j. let q = i.joined es j in (cons_option (get_or ends p None) q.0, step q.0 q.1, q.2);
-}

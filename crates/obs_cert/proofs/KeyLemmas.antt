@@ -1,12 +1,11 @@
 -- The number of sorted keys up to a price is that of the live items below it.
-use Rattle.std.proofs.Common.{◌≡◌, ◌∙◌, ℕ, zero, suc, ◌+◌, ◌-◌, ◌^◌, ◌<◌, ◌≤◌, ◌||◌, ◌&&◌, Bool, true, false, cond, leb, nat_lt, List, [], ◌∷◌, length, map, filter, get_or, set, get_or-set_same, get_or-set_other, refl, sym, ap, inl, inr, arith}
+use Rattle.std.proofs.Common.{◌≡◌, ◌∙◌, ℕ, zero, suc, ◌+◌, ◌-◌, ◌^◌, ◌<◌, ◌≤◌, ◌||◌, ◌&&◌, Bool, true, false, cond, leb, nat_lt, List, [], ◌∷◌, length, map, filter, get_or, refl, sym, ap, inl, inr, arith}
 use Rattle.std.specs.List.{AllWithin, count_by}
 use Rattle.std.specs.List.Sorted.{IsPartitionPoint, IsPermutation}
-use Rattle.std.proofs.lemmas.Bool.{cases_Bool, cases_eq}
+use Rattle.std.proofs.lemmas.Bool.{cases_Bool}
 use Rattle.std.proofs.lemmas.Bool.Decides.{nat_tests}
-use Rattle.std.proofs.lemmas.List.{length-set}
 use Rattle.std.proofs.lemmas.List.FromFn.{fill_by_all}
-use Rattle.std.proofs.lemmas.List.Sorted.{length_permutation, sum_by-IsPermutation}
+use Rattle.std.proofs.lemmas.List.Sorted.{sum_by-IsPermutation}
 use Rattle.std.proofs.lemmas.List.Sums.{length-filter}
 use Rattle.obs_case.specs.Tables.{Tables}
 use Rattle.obs_matroid.proofs.Lists.{filter_same}
@@ -57,23 +56,10 @@ counted_below t to i keys l moved within point =
     let three : count_by p keys ≡ count_by p (keys_of t) = sum_by-IsPermutation (λ k. cond (p k) 1 0) (keys_of t) keys moved in
     sym (passing_before p keys i within point.0 point.1) ∙ (one ∙ three ∙ sym two) ∙ sym (ap length same ∙ length-filter_map p (key_of t) items)
 
--- there are as many keys as items
-pub keys_long : (t : Tables) (keys : List ℕ) → IsPermutation (keys_of t) keys → length keys ≡ length (keys_of t)
-keys_long t keys moved = length_permutation (keys_of t) keys moved
-
 -- while the keys are written
 pub record AreWritten (t : Tables) (n m : ℕ) (keys : List ℕ) : Type 0 where
   pub count : length keys ≡ n
   pub is : (k : ℕ) → k < m → get_or keys k 0 ≡ key_of t k
-
-pub written_more : (t : Tables) (n m key : ℕ) (keys : List ℕ) → m < n → key ≡ key_of t m → AreWritten t n m keys → AreWritten t n (m + 1) (set keys m key)
-written_more t n m key keys l e w = record {
-  count = length-set keys m key ∙ w.count;
-  is = λ k low. elim (cases_eq k m) [
-    | inl same ↦ rw (same, get_or-set_same keys m key 0 (omega (arith, l, w.count))) e
-    | inr other ↦ get_or-set_other keys m k key 0 other ∙ w.is k (omega (arith, low, other))
-  ];
-}
 
 pub written_all : (t : Tables) (n m : ℕ) (keys : List ℕ) → n ≡ length t.meters + length t.candidates → n ≤ m → AreWritten t n m keys → keys ≡ keys_of t
 written_all t n m keys e le w =

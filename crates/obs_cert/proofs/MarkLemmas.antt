@@ -1,32 +1,11 @@
 -- Marks while numbers are seen one after the other.
-use Rattle.std.proofs.Common.{◌≡◌, ℕ, suc, ◌<◌, ◌||◌, Bool, true, false, eqb, List, [], ◌∷◌, length, get_or, set, refl, sym, ap, ◌∙◌, inl, inr, arith}
+use Rattle.std.proofs.Common.{◌≡◌, ℕ, suc, ◌<◌, ◌||◌, Bool, true, false, eqb, List, [], ◌∷◌, length, get_or, set, refl, sym, ap, ◌∙◌, inl, inr, arith, get_or-set_same, get_or-set_other}
 use Rattle.std.specs.List.{list_any}
 use Rattle.std.proofs.lemmas.Bool.{cases_eq, eq-eqb, ne_eqb}
 use Rattle.obs_cert.specs.Flaws.{twice}
 use Rattle.obs_cert.specs.Marks.{AreBelow, is_marked}
 use Rattle.obs_cert.specs.Scopes.{has}
-use Rattle.obs_cert.proofs.JoinLemmas.{get_other, get_set}
 use Rattle.obs_placement.proofs.Ordered.{number_flips}
-
--- f: a number came twice; m: x is marked; a: another one is; h: x comes again; t: another one does
-marked_case : (f m a h t : Bool) → m ≡ true → (f || ((m || a) || (h || t))) ≡ (true || ((h || a) || t))
-marked_case true true true true true e = refl
-marked_case true true true true false e = refl
-marked_case true true true false true e = refl
-marked_case true true true false false e = refl
-marked_case true true false true true e = refl
-marked_case true true false true false e = refl
-marked_case true true false false true e = refl
-marked_case true true false false false e = refl
-marked_case false true true true true e = refl
-marked_case false true true true false e = refl
-marked_case false true true false true e = refl
-marked_case false true true false false e = refl
-marked_case false true false true true e = refl
-marked_case false true false true false e = refl
-marked_case false true false false true e = refl
-marked_case false true false false false e = refl
-marked_case f false a h t e = cc
 
 fresh_case : (f m a h t : Bool) → m ≡ false → (f || ((m || a) || (h || t))) ≡ (f || ((h || a) || t))
 fresh_case true false true true true e = refl
@@ -96,8 +75,8 @@ seeing_none all stamp marks below = record {
 module _ (all : List ℕ) (x : ℕ) (left : List ℕ) (flag : Bool) (stamp : ℕ) (marks : List ℕ) (so_far : Seeing all (x ∷ left) flag stamp marks) (room : x < length marks) where
   now : (y : ℕ) → is_marked (set marks x stamp) stamp y ≡ (eqb y x || is_marked marks stamp y)
   now y = elim (cases_eq y x) [
-    | inl is ↦ ap (λ z. is_marked (set marks x stamp) stamp z) is ∙ eq-eqb (get_or (set marks x stamp) x 0) stamp (get_set marks x stamp room) ∙ ap (λ (b : Bool). b || is_marked marks stamp y) (sym (eq-eqb y x is))
-    | inr ne ↦ ap (λ (k : ℕ). eqb k stamp) (get_other marks x y stamp ne) ∙ ap (λ (b : Bool). b || is_marked marks stamp y) (sym (ne_eqb y x ne))
+    | inl is ↦ ap (λ z. is_marked (set marks x stamp) stamp z) is ∙ eq-eqb (get_or (set marks x stamp) x 0) stamp (get_or-set_same marks x stamp 0 room) ∙ ap (λ (b : Bool). b || is_marked marks stamp y) (sym (eq-eqb y x is))
+    | inr ne ↦ ap (λ (k : ℕ). eqb k stamp) (get_or-set_other marks x y stamp 0 ne) ∙ ap (λ (b : Bool). b || is_marked marks stamp y) (sym (ne_eqb y x ne))
   ]
 
   any_now : list_any (is_marked (set marks x stamp) stamp) left ≡ (has left x || list_any (is_marked marks stamp) left)
@@ -119,17 +98,9 @@ module _ (all : List ℕ) (x : ℕ) (left : List ℕ) (flag : Bool) (stamp : ℕ
 
   below_now : AreBelow (suc stamp) (set marks x stamp)
   below_now y = elim (cases_eq y x) [
-    | inl is ↦ (let e : get_or (set marks x stamp) y 0 ≡ stamp = ap (λ z. get_or (set marks x stamp) z 0) is ∙ get_set marks x stamp room in omega (arith, e))
-    | inr ne ↦ (let l = so_far.below y in omega (arith, l, get_other marks x y stamp ne))
+    | inl is ↦ (let e : get_or (set marks x stamp) y 0 ≡ stamp = ap (λ z. get_or (set marks x stamp) z 0) is ∙ get_or-set_same marks x stamp 0 room in omega (arith, e))
+    | inr ne ↦ (let l = so_far.below y in omega (arith, l, get_or-set_other marks x y stamp 0 ne))
   ]
-
-  -- a number that was marked came twice
-  pub seeing_again : is_marked marks stamp x ≡ true → Seeing all left true stamp (set marks x stamp)
-  seeing_again m = record {
-    again = so_far.again ∙ marked_case flag (is_marked marks stamp x) (list_any (is_marked marks stamp) left) (has left x) (twice left) m ∙ ap (λ (b : Bool). true || (b || twice left)) (sym any_now);
-    marked = has_now;
-    below = below_now;
-  }
 
   pub seeing_new : is_marked marks stamp x ≡ false → Seeing all left flag stamp (set marks x stamp)
   seeing_new m = record {
@@ -137,13 +108,3 @@ module _ (all : List ℕ) (x : ℕ) (left : List ℕ) (flag : Bool) (stamp : ℕ
     marked = has_now;
     below = below_now;
   }
-
-right_none : (b : Bool) → (b || false) ≡ b
-right_none true = refl
-right_none false = refl
-
-pub seen_twice : (all : List ℕ) (flag : Bool) (stamp : ℕ) (marks : List ℕ) → Seeing all [] flag stamp marks → flag ≡ twice all
-seen_twice all flag stamp marks s = sym (right_none flag) ∙ sym s.again
-
-pub seen_marked : (all : List ℕ) (flag : Bool) (stamp : ℕ) (marks : List ℕ) → Seeing all [] flag stamp marks → (x : ℕ) → is_marked marks stamp x ≡ has all x
-seen_marked all flag stamp marks s x = sym (right_none (is_marked marks stamp x)) ∙ sym (s.marked x)

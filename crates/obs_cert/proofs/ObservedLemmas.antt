@@ -27,7 +27,7 @@ use Rattle.obs_cert.specs.Numbered.{items_of, paired_items, pairs_of}
 use Rattle.obs_cert.specs.Scopes.{is_meter_in, named_component, named_need, names_component, scope_of}
 use Rattle.obs_cert.specs.Truths.{BoundsAreNotObservable, TreesAreObservable}
 use Rattle.obs_cert.proofs.ComponentLemmas.{meter_at, meter_from}
-use Rattle.obs_cert.proofs.CountingLemmas.{inside_each}
+use Rattle.obs_cert.proofs.CountingLemmas.{each_passes}
 use Rattle.obs_cert.proofs.TruthLemmas.{bound_below, items-pairs, laws, name_of_component, none_true, pairs_assign}
 
 -- a meter that a claim on a component may speak of is a live one
@@ -64,7 +64,7 @@ trees_are_observable t c v h =
     let forest = none_true _ _ _ once.1 in
     let long = none_true _ _ _ forest.1 in
     let is_name = not-false (has_name (node_names t) c.component) (or_parts (not (has_name (node_names t) c.component)) (unknown_pair t c.pairs) known.0).0 in
-    let each = inside_each (is_meter_in t k) list inside.0 in
+    let each = each_passes (is_meter_in t k) list inside.0 in
     let item : (p : NumberPair) → In p A → is_meter_in t k p.0 ≡ true = λ p i. each p.0 (subst (λ (xs : List ℕ). In p.0 xs) (items-pairs t c.pairs) (In-items A p i)) in
     let a = of_meters t (case_live_meters t) A (λ p i. (meter_from t k p.0 (item p i)).0)
     (pairs_assign t v (case_live_meters t) c.pairs touched.0 once.0 forest.0 (λ m i. live_meter t k m (each m i))) in

@@ -1,10 +1,10 @@
 -- The numbers outside lists.
-use Rattle.std.proofs.Common.{◌≡◌, ℕ, ◌+◌, ◌-◌, ◌≤◌, ◌||◌, ◌&&◌, min, nat_lt, Bool, true, false, not, List, [], ◌∷◌, ◌++◌, length, filter, refl, sym, ap, ◌∙◌, inl, inr, arith}
+use Rattle.std.proofs.Common.{◌≡◌, ℕ, ◌+◌, ◌-◌, ◌≤◌, ◌||◌, min, nat_lt, Bool, true, false, not, List, [], ◌∷◌, ◌++◌, length, refl, sym, ap, ◌∙◌, inl, inr, arith, append_assoc, length-append}
 use Rattle.std.specs.List.{list_any, range_with_len}
-use Rattle.std.proofs.lemmas.Bool.{cases_Bool, cases_lt, eq-eqb, ltb-true, ne_eqb}
-use Rattle.std.proofs.lemmas.List.{get_or_past, length-map}
+use Rattle.std.proofs.lemmas.Bool.{and_parts, cases_Bool, cases_lt, eq-eqb, ltb-true, ne_eqb, or_parts}
+use Rattle.std.proofs.lemmas.List.{get_or_past, length-map, map-append}
 use Rattle.obs_matroid.specs.Lists.{In, IsDistinct}
-use Rattle.obs_matroid.proofs.Lists.{In-filter, In-filter_from, In-append_left, clash, length-within}
+use Rattle.obs_matroid.proofs.Lists.{In-filter, In-append_left, IsDistinct-filter, clash, length-within}
 use Rattle.obs_matroid.proofs.Ranges.{range_distinct, range_in}
 use Rattle.obs_network.specs.Network.{case_branches, case_offered, network_of}
 use Rattle.obs_network.specs.Located.{component_of_item}
@@ -12,30 +12,23 @@ use Rattle.obs_meter.specs.declared.Touch.TheVariants.{Nothing}
 use Rattle.obs_meter.specs.Touches.{touched}
 use Rattle.obs_network.proofs.OfCase.{length-case_offered}
 use Rattle.obs_case.specs.Tables.{Tables}
-use Rattle.obs_cert.specs.Claims.{Item, Layer}
+use Rattle.obs_cert.specs.Claims.{Layer}
 use Rattle.obs_cert.specs.Flaws.{Listed, all_inside, listed_from, not_inside, outside_of, twice, wrong_outside}
 use Rattle.obs_cert.specs.Numbered.{item_of, items_of}
 use Rattle.obs_cert.specs.Scopes.{OfItems, has, is_below, is_live_item, is_meter, is_meter_in, is_this, price_at, scope_of}
 use Rattle.obs_cert.proofs.ScopeLemmas.{has_at, has_from}
-use Rattle.obs_cert.proofs.CountingLemmas.{distinct, inside_each, others}
+use Rattle.obs_cert.proofs.CountingLemmas.{distinct, each_passes, others}
 
--- what passes among the items is different
-pub filtered : (p : ℕ → Bool) (xs : List ℕ) → IsDistinct xs → IsDistinct (filter p xs)
-filtered p [] d = tt
-filtered p (x ∷ xs) d = elim (cases_Bool (p x)) [
-  | inl t ↦ rw t ((λ i. d.0 (In-filter_from p x xs i).0), filtered p xs d.1)
-  | inr f ↦ rw f (filtered p xs d.1)
-]
-
+-- the items of a scope are different
 pub scope_distinct : (t : Tables) (test : ℕ → Bool) → IsDistinct (scope_of t test)
-scope_distinct t test = filtered test (range_with_len 0 (length (case_offered t))) (range_distinct 0 (length (case_offered t)))
+scope_distinct t test = IsDistinct-filter test (range_with_len 0 (length (case_offered t))) (range_distinct 0 (length (case_offered t)))
 
 -- where a list without doubles has items of the scope alone, the others are as many as the scope has more
 pub outside_is : (t : Tables) (test : ℕ → Bool) (list : List ℕ) → OfItems t test → not_inside test list ≡ false → twice list ≡ false
     → (outside_of t test list ≡ length (scope_of t test) - length list) × (length list ≤ length (scope_of t test))
 outside_is t test list of inside once =
     let within : (x : ℕ) → In x list → In x (scope_of t test) = λ x i.
-    let p = inside_each test list inside x i in
+    let p = each_passes test list inside x i in
     In-filter test x (range_with_len 0 (length (case_offered t))) (range_in 0 (length (case_offered t)) x (omega arith) (let l = of x p in omega (arith, l))) p in
     (others (scope_of t test) [] list (scope_distinct t test) (distinct list once) within, length-within list (scope_of t test) (distinct list once) within)
 
@@ -46,16 +39,12 @@ live_of_items t m live = elim (cases_lt m (length (case_offered t))) [
   | inr past ↦ (let none : is_live_item t m ≡ false = ap (λ touch. nat_lt 0 (length (touched (case_branches t) touch))) (get_or_past (case_offered t) m Nothing past) in clash live none)
 ]
 
-left_true : (a b : Bool) → (a && b) ≡ true → a ≡ true
-left_true true b e = refl
-left_true false b e = cc
-
 pub below_of_items : (t : Tables) (to : ℕ) → OfItems t (is_below t to)
-below_of_items t to m e = live_of_items t m (left_true (is_live_item t m) (is_meter t m || nat_lt (price_at t m) to) e)
+below_of_items t to m e = live_of_items t m (and_parts (is_live_item t m) (is_meter t m || nat_lt (price_at t m) to) e).0
 
 pub meters_of_items : (t : Tables) (c : ℕ) → OfItems t (is_meter_in t c)
 meters_of_items t c m e =
-    let l = ltb-true m (length t.meters) (left_true (is_meter t m) (is_this (component_of_item (network_of t) m) c) e) in
+    let l = ltb-true m (length t.meters) (and_parts (is_meter t m) (is_this (component_of_item (network_of t) m) c) e).0 in
     omega (arith, l, length-case_offered t)
 
 -- while the numbers outside the lists of layers are measured
@@ -71,37 +60,15 @@ pub measuring_start : (t : Tables) (all : List Layer) → list_any (λ (l : List
     → IsMeasuring t all all 0
 measuring_start t all inside once = record { before = []; count = refl; going = refl; inside = inside; once = once }
 
-pub right_false : (a b : Bool) → (a || b) ≡ false → b ≡ false
-right_false true b e = cc
-right_false false b e = e
-
-left_false : (a b : Bool) → (a || b) ≡ false → a ≡ false
-left_false true b e = cc
-left_false false b e = refl
-
 has_front : (xs ys : List ℕ) (x : ℕ) → has xs x ≡ true → has (xs ++ ys) x ≡ true
 has_front xs ys x e = has_at (xs ++ ys) x (In-append_left x xs ys (has_from xs x e))
 
 twice_front : (xs ys : List ℕ) → twice (xs ++ ys) ≡ false → twice xs ≡ false
 twice_front [] ys e = refl
 twice_front (x ∷ xs) ys e =
-    let none : has xs x ≡ false = elim (cases_Bool (has xs x)) [
-      | inl t ↦ clash (has_front xs ys x t) (left_false (has (xs ++ ys) x) (twice (xs ++ ys)) e)
-      | inr f ↦ f
-    ] in
-    ap (λ (b : Bool). b || twice xs) none ∙ twice_front xs ys (right_false (has (xs ++ ys) x) (twice (xs ++ ys)) e)
-
-items_append : (t : Tables) (xs ys : List Item) → items_of t (xs ++ ys) ≡ items_of t xs ++ items_of t ys
-items_append t [] ys = refl
-items_append t (x ∷ xs) ys = ap (λ zs. item_of t x ∷ zs) (items_append t xs ys)
-
-glue : (xs ys zs : List ℕ) → xs ++ (ys ++ zs) ≡ (xs ++ ys) ++ zs
-glue [] ys zs = refl
-glue (x ∷ xs) ys zs = ap (λ ws. x ∷ ws) (glue xs ys zs)
-
-length_both : (xs ys : List ℕ) → length (xs ++ ys) ≡ length xs + length ys
-length_both [] ys = omega arith
-length_both (x ∷ xs) ys = (let h = length_both xs ys in omega (arith, h))
+    let two = or_parts (has (xs ++ ys) x) (twice (xs ++ ys)) e in
+    let none : has xs x ≡ false = elim (cases_Bool (has xs x)) [ inl t ↦ clash (has_front xs ys x t) two.0 | inr f ↦ f ] in
+    ap (λ (b : Bool). b || twice xs) none ∙ twice_front xs ys two.1
 
 module _ (t : Tables) (layer : Layer) (left all : List Layer) (listed after : ℕ) (so_far : IsMeasuring t (layer ∷ left) all listed) (more : after ≡ min (listed + length layer.inside) 4294967295) where
   abbrev now_listed : List ℕ
@@ -110,22 +77,20 @@ module _ (t : Tables) (layer : Layer) (left all : List Layer) (listed after : �
   count_now : after ≡ min (length now_listed) 4294967295
   count_now =
       let a = so_far.count in
-      let b = length_both so_far.before (items_of t layer.inside) in
+      let b = length-append so_far.before (items_of t layer.inside) in
       let c = length-map layer.inside (item_of t) in
       grind (arith, more, a, b, c)
 
   once_now : twice (now_listed ++ items_of t (all_inside left)) ≡ false
-  once_now = sym (ap twice (ap (λ zs. so_far.before ++ zs) (items_append t layer.inside (all_inside left)) ∙ glue so_far.before (items_of t layer.inside) (items_of t (all_inside left)))) ∙ so_far.once
+  once_now = sym (ap twice (ap (λ zs. so_far.before ++ zs) (map-append (item_of t) layer.inside (all_inside left)) ∙ sym (append_assoc so_far.before (items_of t layer.inside) (items_of t (all_inside left))))) ∙ so_far.once
 
-  rest_inside : list_any (λ (l : Listed). not_inside (is_below t l.layer.to) l.list) (listed_from t now_listed left) ≡ false
-  rest_inside = right_false (not_inside (is_below t layer.to) now_listed) (list_any (λ (l : Listed). not_inside (is_below t l.layer.to) l.list) (listed_from t now_listed left)) so_far.inside
+  inside_now : (not_inside (is_below t layer.to) now_listed ≡ false) × (list_any (λ (l : Listed). not_inside (is_below t l.layer.to) l.list) (listed_from t now_listed left) ≡ false)
+  inside_now = or_parts (not_inside (is_below t layer.to) now_listed) (list_any (λ (l : Listed). not_inside (is_below t l.layer.to) l.list) (listed_from t now_listed left)) so_far.inside
 
   -- so many items are outside
   outside_now : (scope : ℕ) → scope ≡ length (scope_of t (is_below t layer.to)) → scope ≤ 4294967295 → outside_of t (is_below t layer.to) now_listed ≡ scope - after
   outside_now scope is few =
-      let o = outside_is t (is_below t layer.to) now_listed (below_of_items t layer.to)
-      (left_false (not_inside (is_below t layer.to) now_listed) (list_any (λ (l : Listed). not_inside (is_below t l.layer.to) l.list) (listed_from t now_listed left)) so_far.inside)
-      (twice_front now_listed (items_of t (all_inside left)) once_now) in
+      let o = outside_is t (is_below t layer.to) now_listed (below_of_items t layer.to) inside_now.0 (twice_front now_listed (items_of t (all_inside left)) once_now) in
       let e = o.0 in
       let l = o.1 in
       let c = count_now in
@@ -139,7 +104,7 @@ module _ (t : Tables) (layer : Layer) (left all : List Layer) (listed after : �
     before = now_listed;
     count = count_now;
     going = so_far.going ∙ ap (λ (b : Bool). not b || rest) (eq-eqb (outside_of t (is_below t layer.to) now_listed) layer.outside (outside_now scope is few ∙ right));
-    inside = rest_inside;
+    inside = inside_now.1;
     once = once_now;
   }
 

@@ -1,9 +1,9 @@
 -- The branches of pairs while they are joined.
-use Rattle.std.proofs.Common.{◌≡◌, ℕ, ◌+◌, ◌<◌, ◌≤◌, Bool, true, false, not, eqb, Option, inl, inr, List, [], ◌∷◌, length, refl, sym, ap, ◌∙◌, arith}
-use Rattle.std.proofs.lemmas.Bool.{cases_Bool, eq-eqb, ne_eqb}
+use Rattle.std.proofs.Common.{◌≡◌, ℕ, ◌+◌, ◌<◌, ◌≤◌, Bool, true, false, Option, inl, inr, List, ◌∷◌, length, refl, arith}
+use Rattle.std.proofs.lemmas.Bool.{cases_Bool}
 use Rattle.obs_graph.specs.declared.Ends.{Ends}
 use Rattle.obs_matroid.proofs.Lists.{clash}
-use Rattle.obs_cert.proofs.JoinLemmas.{IsJoining, joining_none}
+use Rattle.obs_cert.proofs.JoinLemmas.{IsJoining}
 
 -- as many were seen as joined something, or more
 pub record IsPairing (ends : List (Option Ends)) (left all ups0 moved0 ups moved : List ℕ) (count : ℕ) (cycle : Bool) : Type 0 where
@@ -12,15 +12,6 @@ pub record IsPairing (ends : List (Option Ends)) (left all ups0 moved0 ups moved
   pub split : seen + length left ≡ length all
   pub none : cycle ≡ false → count ≡ seen
   pub some : cycle ≡ true → count < seen
-
-pub pairing_none : (ends : List (Option Ends)) (all ups moved : List ℕ) → IsPairing ends all all ups moved ups moved 0 false
-pairing_none ends all ups moved = record {
-  joining = joining_none ends all ups moved 0 (omega arith);
-  seen = 0;
-  split = omega arith;
-  none = λ e. refl;
-  some = λ e. absurd (clash e refl);
-}
 
 module _ (ends : List (Option Ends)) (p : ℕ) (left all ups0 moved0 ups moved : List ℕ) (count : ℕ) (cycle : Bool) (so_far : IsPairing ends (p ∷ left) all ups0 moved0 ups moved count cycle) where
   le : count ≤ so_far.seen
@@ -44,11 +35,3 @@ module _ (ends : List (Option Ends)) (p : ℕ) (left all ups0 moved0 ups moved :
     none = λ e. absurd (clash refl e);
     some = λ e. (let a = le in omega (arith, a));
   }
-
-pub paired_cycle : (ends : List (Option Ends)) (all ups0 moved0 ups moved : List ℕ) (count : ℕ) (cycle : Bool) → IsPairing ends [] all ups0 moved0 ups moved count cycle → cycle ≡ not (eqb count (length all))
-paired_cycle ends all ups0 moved0 ups moved count cycle s =
-    let split = s.split in
-    elim (cases_Bool cycle) [
-      | inl t ↦ t ∙ ap not (sym (ne_eqb count (length all) (λ e. let a = s.some t in omega (arith, a, e, split))))
-      | inr f ↦ f ∙ ap not (sym (eq-eqb count (length all) (let a = s.none f in omega (arith, a, split))))
-    ]

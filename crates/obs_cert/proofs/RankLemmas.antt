@@ -1,5 +1,5 @@
 -- The rank of branches that were put onto one another.
-use Rattle.std.proofs.Common.{◌≡◌, ℕ, zero, suc, ◌<◌, ◌≤◌, Bool, false, not, Option, None, ◌⊎◌, inl, inr, List, [], ◌∷◌, ◌++◌, length, take, get_or, refl, sym, ap, ◌∙◌, arith}
+use Rattle.std.proofs.Common.{◌≡◌, ℕ, zero, suc, ◌<◌, ◌≤◌, Bool, false, not, Option, None, ◌⊎◌, inl, inr, List, [], ◌∷◌, length, take, get_or, refl, sym, ap, ◌∙◌, arith}
 use Rattle.std.specs.List.{Contains, cons_option}
 use Rattle.std.proofs.lemmas.Bool.{cases_lt, eq-eqb}
 use Rattle.obs_graph.specs.declared.Ends.{Ends}
@@ -13,12 +13,8 @@ use Rattle.obs_graph.proofs.Forests.{rank-among}
 use Rattle.obs_graph.proofs.Present.{branch_at, some_is_in}
 use Rattle.obs_graph.proofs.Ranks.{is_moved, rank_is}
 use Rattle.obs_cert.specs.Joins.{AreJoined, onto}
-use Rattle.obs_cert.proofs.JoinLemmas.{IsJoining, count_is}
+use Rattle.obs_cert.proofs.JoinLemmas.{count_is}
 use Rattle.obs_rankcut.proofs.Ranked.{cons_cases, cons_here}
-
-pub onto-append : (ends : List (Option Ends)) (xs ys : List ℕ) (es : List Ends) → onto ends (xs ++ ys) es ≡ onto ends ys (onto ends xs es)
-onto-append ends [] ys es = refl
-onto-append ends (x ∷ xs) ys es = onto-append ends xs ys (cons_option (get_or ends x None) es)
 
 -- what is put onto branches has those and the others
 onto_keeps : (ends : List (Option Ends)) (ps : List ℕ) (es : List Ends) (e : Ends) → Contains es e → Contains (onto ends ps es) e
@@ -81,16 +77,3 @@ pub noted_rank : (n : ℕ) (ends : List (Option Ends)) (ps ups moved : List ℕ)
     → AreJoined (onto ends ps []) ups (take count moved) → count ≡ rank n (ends_of ends ps)
 noted_rank n ends ps ups moved count ok le fits j =
     count_is (onto ends ps []) ups moved count fits j ∙ rank_onto (length ups) ends ps ∙ rank_past n (length ups) (ends_of ends ps) le (below_ends n ends ps ok)
-
--- some positions more
-pub joining_some : (ends : List (Option Ends)) (xs left all ups0 moved0 : List ℕ) (count0 : ℕ) (ups moved : List ℕ) (count : ℕ) (ups2 moved2 : List ℕ) (count2 : ℕ)
-    → IsJoining ends (xs ++ left) all ups0 moved0 count0 ups moved count
-    → count2 ≤ length moved2 → length ups2 ≡ length ups → length moved2 ≡ length moved
-    → ((es : List Ends) → AreJoined es ups (take count moved) → AreJoined (onto ends xs es) ups2 (take count2 moved2))
-    → IsJoining ends left all ups0 moved0 count0 ups2 moved2 count2
-joining_some ends xs left all ups0 moved0 count0 ups moved count ups2 moved2 count2 i fits len1 len2 step = record {
-  fits = fits;
-  ups_len = len1 ∙ i.ups_len;
-  moved_len = len2 ∙ i.moved_len;
-  joined = λ es j. let q = i.joined es j in (onto ends xs q.0, step q.0 q.1, sym (onto-append ends xs left q.0) ∙ q.2);
-}

@@ -1,5 +1,5 @@
 -- What claims that hold say of the case: of single claims' clauses, pairs and bounds.
-use Rattle.std.proofs.Common.{◌≡◌, ℕ, ◌+◌, ◌<◌, ◌≤◌, Bool, true, false, not, cond, Option, Some, None, List, [], ◌∷◌, length, nat_lt, filter, get_or, refl, sym, ap, ◌∙◌, subst, inl, inr, arith}
+use Rattle.std.proofs.Common.{◌≡◌, ℕ, ◌+◌, ◌<◌, ◌≤◌, Bool, true, false, cond, Option, Some, None, List, [], ◌∷◌, length, nat_lt, filter, get_or, refl, sym, ap, ◌∙◌, subst, inl, inr, arith}
 use Rattle.std.specs.Prelude.{slice_index, ◌==◌}
 use Rattle.std.specs.List.{flat_map, list_any, range_with_len}
 use Rattle.std.specs.Str.{bytes_eq}
@@ -34,7 +34,7 @@ use Rattle.obs_cert.specs.Flaws.{bound_clauses, cycle, first_flaw, first_true, f
 use Rattle.obs_cert.specs.Numbered.{item_of, items_of, paired_items, pairs_of}
 use Rattle.obs_cert.specs.Scopes.{has, named_component, names_component, scope_of, touches_of}
 use Rattle.obs_cert.specs.Truths.{IsNameOf, NoFlawWhereAllHold}
-use Rattle.obs_cert.proofs.CountingLemmas.{distinct}
+use Rattle.obs_cert.proofs.CountingLemmas.{distinct, each_passes}
 use Rattle.obs_cert.proofs.ScopeLemmas.{has_from}
 use Rattle.obs_text.proofs.ByteLemmas.{same_bytes}
 
@@ -43,13 +43,7 @@ pub none_true : (b : Bool) (code : FlawCode) (later : Option FlawCode) → cond 
 none_true true code later e = absurd (cc e)
 none_true false code later e = (refl, e)
 
--- where no element fails a test, each passes it
-pub each_passes : {X : Type 0} (test : X → Bool) (xs : List X) → list_any (λ (x : X). not (test x)) xs ≡ false → (x : X) → In x xs → test x ≡ true
-each_passes test [] e x i = absurd i
-each_passes test (y ∷ ys) e x (inl is) = ap test is ∙ not-false (test y) (or_parts (not (test y)) (list_any (λ z. not (test z)) ys) e).0
-each_passes test (y ∷ ys) e x (inr i) = each_passes test ys (or_parts (not (test y)) (list_any (λ z. not (test z)) ys) e).1 x i
-
--- each of them is false
+-- where no element passes a test, it is false at each
 pub each_false : {X : Type 0} (test : X → Bool) (xs : List X) → list_any test xs ≡ false → (x : X) → In x xs → test x ≡ false
 each_false test [] e x i = absurd i
 each_false test (y ∷ ys) e x (inl is) = ap test is ∙ (or_parts (test y) (list_any test ys) e).0

@@ -1,7 +1,7 @@
 -- What claims on candidates that hold say of the case.
 use Rattle.std.specs.Prelude.{◌≡◌, ℕ, ◌+◌, ◌≤◌, ◌<◌, List, length}
 use Rattle.std.specs.List.{sum_by}
-use Rattle.obs_case.specs.Tables.{IsValid, Tables}
+use Rattle.obs_case.specs.Tables.{IsValid, Tables, prices_of}
 use Rattle.obs_matroid.specs.Lists.{In, IsDistinct}
 use Rattle.obs_network.specs.Network.{case_branches, case_needed, case_offered}
 use Rattle.obs_placement.specs.Order.{price_of}
@@ -9,7 +9,6 @@ use Rattle.obs_placement.specs.Shown.{Completes}
 use Rattle.obs_cert.specs.Claims.{CostClaim, ShortfallClaim, cost, shortfall}
 use Rattle.obs_cert.specs.Flaws.{Holds}
 use Rattle.obs_cert.specs.Numbered.{chosen_items, items_of}
-use Rattle.obs_cert.specs.Scopes.{prices_of}
 
 -- candidates complete the meters of a case: with these, the live ones have an assignment that is as long as the case needs. An item
 -- is a meter, or a candidate, whose number then stands behind those of the meters

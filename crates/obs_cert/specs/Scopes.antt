@@ -1,8 +1,7 @@
 -- Which items a claim may speak of, as tests on their numbers, and what the case says of them.
-use Rattle.std.specs.Prelude.{◌≡◌, ℕ, ◌<◌, ◌-◌, ◌==◌, ◌||◌, ◌&&◌, Bool, true, false, nat_lt, Option, None, Some, List, length, filter, map, slice_index, slice_index_or}
+use Rattle.std.specs.Prelude.{◌≡◌, ℕ, ◌<◌, ◌-◌, ◌==◌, ◌||◌, ◌&&◌, Bool, true, false, nat_lt, Option, None, Some, List, length, filter, slice_index, slice_index_or}
 use Rattle.std.specs.List.{list_any}
-use Rattle.obs_case.specs.Tables.{Tables, node_names, place_of}
-use Rattle.obs_case.specs.declared.rows.Candidate.{Candidate}
+use Rattle.obs_case.specs.Tables.{Tables, node_names, place_of, prices_of}
 use Rattle.obs_meter.specs.Touches.{every_item, is_live, touch_at}
 use Rattle.obs_network.specs.Components.{need_of}
 use Rattle.obs_network.specs.Located.{component_of_item}
@@ -14,10 +13,7 @@ use Rattle.obs_network.specs.Switched.{case_buses, case_first_node}
 abbrev pub has : List ℕ → ℕ → Bool
 has xs x = list_any (λ y. y == x) xs
 
--- what candidates cost, and what an item that is one costs
-abbrev pub prices_of : List Candidate → List ℕ
-prices_of candidates = map (λ (row : Candidate). row.price) candidates
-
+-- what an item that is a candidate costs
 abbrev pub price_at : Tables → ℕ → ℕ
 price_at t m = slice_index_or (prices_of t.candidates) (m - length t.meters) 0
 

@@ -1,5 +1,5 @@
 // Whether the claims of a certificate hold.
-ghost use Rattle.std.specs.Prelude.{◌≡◌, ◌+◌, ◌<◌, None, Some, IfErr, IfOk, OnOk, length};
+ghost use Rattle.std.specs.Prelude.{◌≡◌, ◌+◌, None, Some, IfErr, IfOk, OnOk, length};
 ghost use Rattle.obs_network.specs.Network.{network_of, rows_of};
 ghost use Rattle.obs_cert.specs.Flaws.{first_flaw};
 ghost use Rattle.obs_cert.specs.Ready.{HasRoom};

@@ -1,13 +1,12 @@
 // The flaw of a claim.
-ghost use Rattle.std.specs.Prelude.{◌≡◌, ◌<◌, [], ℕ, Bool, false, Some, suc, length};
+ghost use Rattle.std.specs.Prelude.{◌≡◌, [], ℕ, Bool, false, suc, length};
 ghost use Rattle.obs_network.specs.Network.{network_of, rows_of};
 ghost use Rattle.obs_cert.specs.Flaws.{bound_clauses, bound_flaw, first_true, flaw_of, list_clauses, not_inside, shortfall_flaw, tree_flaw, twice};
 ghost use Rattle.obs_cert.specs.Joins.{AreJoined};
 ghost use Rattle.obs_cert.specs.Keys.{AreKeys};
 ghost use Rattle.obs_cert.specs.Numbered.{items_of};
-ghost use Rattle.obs_cert.specs.declared.flaw.FlawCode.{FlawCode};
 ghost use Rattle.obs_cert.specs.Ready.{HasRoom, IsReady};
-ghost use Rattle.obs_cert.specs.Scopes.{OfItems, has, is_live_item, scope_of};
+ghost use Rattle.obs_cert.specs.Scopes.{OfItems, is_live_item, scope_of};
 ghost use Rattle.obs_cert.specs.Walked.{claim_said, parts_in};
 
 use crate::flaw::FlawCode;

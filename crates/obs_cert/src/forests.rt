@@ -1,5 +1,5 @@
 // The clauses on pairs that tree and cost claims have in common.
-ghost use Rattle.std.specs.Prelude.{◌≡◌, ◌<◌, ◌+◌, ◌||◌, [], ℕ, Bool, List, Some, IfNone, IfSome, suc, length};
+ghost use Rattle.std.specs.Prelude.{◌≡◌, ◌<◌, ◌+◌, [], ℕ, Bool, List, Some, IfNone, IfSome, suc, length};
 ghost use Rattle.obs_network.specs.Network.{network_of, rows_of};
 ghost use Rattle.obs_cert.specs.Flaws.{forest_clauses, first_true, paired_twice, twice, unknown_pair};
 ghost use Rattle.obs_cert.specs.Joins.{AreJoined};

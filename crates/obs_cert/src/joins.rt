@@ -1,5 +1,5 @@
 // The rank of branches that come one after the other: each vertex has a way up to the first one that they join with it.
-ghost use Rattle.std.specs.Prelude.{◌≡◌, ◌↔◌, ◌<◌, ◌≤◌, ◌^◌, ◌+◌, ◌⊎◌, ◌∷◌, [], ℕ, suc, List, None, IfSome, length, slice_index, slice_index_or, slice_set, take};
+ghost use Rattle.std.specs.Prelude.{◌≡◌, ◌↔◌, ◌<◌, ◌≤◌, ◌^◌, ◌+◌, ◌⊎◌, ◌∷◌, [], ℕ, List, None, IfSome, length, slice_index, slice_index_or, slice_set, take};
 ghost use Rattle.obs_graph.specs.declared.Ends.{Ends};
 ghost use Rattle.obs_graph.specs.Joined.{first_joined};
 ghost use Rattle.obs_cert.specs.Joins.{AreFirsts, AreJoined, AreLow, onto};

@@ -1,5 +1,5 @@
 // Passes over the layers of a cost claim, one clause each.
-ghost use Rattle.std.specs.Prelude.{◌≡◌, ◌≤◌, ◌<◌, ◌^◌, ◌-◌, ◌*◌, ◌||◌, ◌++◌, ◌∷◌, [], false, ℕ, List, length, min, nat_lt, not, take};
+ghost use Rattle.std.specs.Prelude.{◌≡◌, ◌≤◌, ◌^◌, ◌-◌, ◌*◌, ◌||◌, ◌++◌, ◌∷◌, [], false, ℕ, List, length, min, nat_lt, not, take};
 ghost use Rattle.std.specs.List.{list_any, sum_by};
 ghost use Rattle.obs_graph.specs.declared.Ends.{Ends};
 ghost use Rattle.obs_network.specs.Network.{network_of};

@@ -1,5 +1,5 @@
 // Marks that need no clearing: each use has a stamp of its own, above all that came before.
-ghost use Rattle.std.specs.Prelude.{◌≡◌, ◌<◌, ℕ, length, slice_set, suc};
+ghost use Rattle.std.specs.Prelude.{◌≡◌, ◌<◌, length, slice_set};
 ghost use Rattle.obs_cert.specs.Marks.{is_marked};
 
 /// Marks a number with the stamp, and says whether it was marked so before.

@@ -1,5 +1,5 @@
 // Names as numbers: meters and candidates by one number, the meters first, and branches by position.
-ghost use Rattle.std.specs.Prelude.{◌≡◌, ◌≤◌, ◌+◌, length, not};
+ghost use Rattle.std.specs.Prelude.{◌≡◌, ◌≤◌, ◌+◌, length};
 ghost use Rattle.obs_cert.specs.Said.{item_said};
 ghost use Rattle.obs_cert.specs.Numbered.{branch_of, is_known, is_known_branch, item_of};
 

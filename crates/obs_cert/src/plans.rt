@@ -1,5 +1,5 @@
 // The flaw of a cost claim.
-ghost use Rattle.std.specs.Prelude.{◌≡◌, ◌<◌, ◌||◌, [], ℕ, false, Some, suc};
+ghost use Rattle.std.specs.Prelude.{◌≡◌, ◌||◌, [], ℕ, false, suc};
 ghost use Rattle.std.specs.List.{list_any};
 ghost use Rattle.obs_network.specs.Network.{case_needed, network_of, rows_of};
 ghost use Rattle.obs_cert.specs.Flaws.{all_inside, costs_clauses, cost_flaw, first_true, layers_clauses, listed_layers, not_inside, outside_of_plan, twice, unknown_in_plan};
@@ -7,7 +7,6 @@ ghost use Rattle.obs_cert.specs.Joins.{AreJoined};
 ghost use Rattle.obs_cert.specs.Keys.{AreKeys};
 ghost use Rattle.obs_cert.specs.Marks.{is_marked};
 ghost use Rattle.obs_cert.specs.Numbered.{chosen_items, items_of};
-ghost use Rattle.obs_cert.specs.declared.flaw.FlawCode.{FlawCode};
 ghost use Rattle.obs_cert.specs.Ready.{HasRoom, IsReady};
 ghost use Rattle.obs_cert.specs.Scopes.{has, is_below};
 ghost use Rattle.obs_cert.specs.Walked.{cost_of, parts_in};

@@ -1,5 +1,5 @@
 // What a case says of an item by its number, and of a component by its name.
-ghost use Rattle.std.specs.Prelude.{◌≡◌, ◌<◌, ◌≤◌, ◌==◌, length, IfSome, is_some, None, slice_index_or};
+ghost use Rattle.std.specs.Prelude.{◌≡◌, ◌<◌, ◌==◌, length, IfSome, is_some, None, slice_index_or};
 ghost use Rattle.obs_graph.specs.Positions.{has_end};
 ghost use Rattle.obs_meter.specs.Touches.{IsInRange, touched};
 ghost use Rattle.obs_network.specs.Located.{component_of_item};

@@ -1,5 +1,5 @@
 // What claims are checked in.
-ghost use Rattle.std.specs.Prelude.{◌≡◌, ◌<◌, ◌≤◌, ◌^◌, length, suc, ℕ, IfOk};
+ghost use Rattle.std.specs.Prelude.{◌<◌, ◌^◌, length, IfOk};
 ghost use Rattle.obs_case.specs.Tables.{Tables};
 ghost use Rattle.obs_network.specs.Network.{Rows, rows_of};
 ghost use Rattle.obs_cert.specs.Ready.{HasRoom, IsReady};

@@ -2,7 +2,7 @@
 use Rattle.std.proofs.Common.{◌≡◌, ◌↔◌, ℕ, ◌+◌, ◌<◌, ◌≤◌, ◌||◌, ◌&&◌, Bool, true, false, not, nat_lt, List, [], ◌∷◌, ◌++◌, length, map, filter, refl, sym, ap, ◌∙◌, subst, inl, inr, arith}
 use Rattle.std.specs.List.{flat_map, list_any}
 use Rattle.std.proofs.lemmas.Bool.{and_from, and_parts, cases_Bool, eq-eqb, lt-ltb, ltb-true}
-use Rattle.obs_case.specs.Tables.{IsValid, Tables}
+use Rattle.obs_case.specs.Tables.{IsValid, Tables, prices_of}
 use Rattle.obs_matroid.specs.Lists.{In, IsDistinct}
 use Rattle.obs_matroid.specs.Matroid.{Matroid}
 use Rattle.obs_matroid.specs.Placement.{Layer as BareLayer, RunOn}
@@ -22,7 +22,6 @@ use Rattle.obs_placement.proofs.Growing.{AreRising, own_grows, own_in, scope_dis
 use Rattle.obs_network.specs.Network.{case_branches, case_offered}
 use Rattle.obs_network.specs.Switched.{case_bus_count}
 use Rattle.obs_network.proofs.OfCase.{case_branches-are, length-case_offered}
-use Rattle.obs_edit.specs.Planned.{prices_of}
 use Rattle.obs_cert.specs.Claims.{Item, Layer}
 use Rattle.obs_cert.specs.Flaws.{Listed, all_inside, listed_from, listed_layers, not_below, not_inside, outside_of, rank_of_items, runs_on, wrong_outside, wrong_rank}
 use Rattle.obs_cert.specs.Numbered.{items_of}

@@ -3,7 +3,7 @@ use Rattle.std.proofs.Common.{◌≡◌, ℕ, ◌+◌, ◌-◌, ◌<◌, ◌||�
 use Rattle.std.proofs.Math.Seq.{drop-append_seam, take-append_seam}
 use Rattle.std.proofs.lemmas.Bool.{and_from, and_parts, cases_Bool, lt-ltb, not-true, or_left, or_right}
 use Rattle.std.proofs.lemmas.List.{length-append}
-use Rattle.obs_case.specs.Tables.{Tables}
+use Rattle.obs_case.specs.Tables.{Tables, prices_of}
 use Rattle.obs_matroid.specs.Lists.{In}
 use Rattle.obs_matroid.proofs.Lists.{In-append_cases, In-filter_from}
 use Rattle.obs_meter.specs.Touches.{every_item}
@@ -13,7 +13,6 @@ use Rattle.obs_placement.specs.Order.{price_of}
 use Rattle.obs_placement.specs.Taking.{is_listed_at}
 use Rattle.obs_network.specs.Network.{case_branches, case_offered}
 use Rattle.obs_network.specs.Switched.{case_bus_count}
-use Rattle.obs_edit.specs.Planned.{prices_of}
 use Rattle.obs_cert.specs.Claims.{Layer}
 use Rattle.obs_cert.specs.Scopes.{is_below, is_live_item, is_meter, price_at}
 use Rattle.obs_claimed.specs.Claimed.{named_items, named_layers}

@@ -4,7 +4,7 @@ use Rattle.std.specs.Prelude.{◌==◌}
 use Rattle.std.specs.List.{list_any, range_with_len, sum_by}
 use Rattle.std.proofs.lemmas.Bool.{eq-eqb, le-ltb, or_from}
 use Rattle.std.proofs.lemmas.List.{length-map}
-use Rattle.obs_case.specs.Tables.{IsValid, Tables}
+use Rattle.obs_case.specs.Tables.{IsValid, Tables, prices_of}
 use Rattle.obs_case.specs.declared.rows.Candidate.{Candidate}
 use Rattle.obs_matroid.specs.Assignments.{Pair as NumberPair, branches, items}
 use Rattle.obs_matroid.specs.Lists.{In, IsDistinct}
@@ -24,7 +24,7 @@ use Rattle.obs_network.specs.Network.{case_branches, case_needed, case_offered}
 use Rattle.obs_network.specs.Switched.{case_bus_count}
 use Rattle.obs_network.proofs.OfCase.{length-case_offered}
 use Rattle.obs_edit.specs.Placements.{CompletesCase, price_together}
-use Rattle.obs_edit.specs.Planned.{case_placed_pairs, case_placement, planned_items, prices_of}
+use Rattle.obs_edit.specs.Planned.{case_placed_pairs, case_placement, planned_items}
 use Rattle.obs_edit.proofs.CheapestPlans.{layers_add_up, layers_are_bounds, plans_complete, plans_have_first_pairs}
 use Rattle.obs_edit.proofs.PlanOrShortfall.{plan_is}
 use Rattle.obs_cert.specs.Claims.{CostClaim, Item, Layer, cost}

@@ -8,7 +8,7 @@ use Rattle.std.proofs.lemmas.List.Sums.{sum_by-le}
 use Rattle.obs_graph.specs.declared.Ends.{Ends}
 use Rattle.obs_graph.specs.Positions.{ends_of}
 use Rattle.obs_graph.proofs.Ranks.{rank-le-n}
-use Rattle.obs_case.specs.Tables.{IsValid, Tables}
+use Rattle.obs_case.specs.Tables.{IsValid, Tables, prices_of}
 use Rattle.obs_matroid.specs.Lists.{In}
 use Rattle.obs_matroid.proofs.Lists.{length-split}
 use Rattle.obs_meter.specs.declared.Touch.{Touch}
@@ -29,7 +29,6 @@ use Rattle.obs_network.specs.Switched.{case_bus_count}
 use Rattle.obs_network.proofs.Marked.{filtered_below}
 use Rattle.obs_network.proofs.OfCase.{case_bus_count-le, few_meters, few_nodes, length-case_meters, length-case_offered}
 use Rattle.obs_edit.specs.Answers.{bound_meters, bound_outside, bound_rank, component_meters, is_critical_meter, is_meter_of}
-use Rattle.obs_edit.specs.Planned.{prices_of}
 use Rattle.obs_edit.proofs.Priced.{cheap_prices, few_prices}
 use Rattle.obs_claimed.proofs.Words.{IsSmall}
 

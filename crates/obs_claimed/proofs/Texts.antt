@@ -2,7 +2,7 @@
 use Rattle.std.proofs.Common.{ℕ, zero, suc, ◌-◌, ◌<◌, Bool, true, false, cond, List, [], ◌∷◌, ◌++◌, length, map, take, drop, refl, subst, inl, inr, append_assoc}
 use Rattle.std.specs.Prelude.{◌==◌, nat_lt}
 use Rattle.std.specs.List.{flat_map}
-use Rattle.obs_case.specs.Tables.{IsValid, Tables}
+use Rattle.obs_case.specs.Tables.{IsValid, Tables, prices_of}
 use Rattle.obs_matroid.specs.Assignments.{Pair as NumberPair}
 use Rattle.obs_matroid.specs.Lists.{In}
 use Rattle.obs_matroid.proofs.Lists.{In-filter_from}
@@ -21,7 +21,7 @@ use Rattle.obs_report.specs.Placements.{layers_text, listed_between, placement_t
 use Rattle.obs_report.specs.Trees.{tree_line as tree_text}
 use Rattle.obs_edit.specs.Answers.{bound_meters, bound_outside, bound_rank, case_first_pairs}
 use Rattle.obs_edit.specs.Laws.{tree_pairs}
-use Rattle.obs_edit.specs.Planned.{case_placed_pairs, prices_of}
+use Rattle.obs_edit.specs.Planned.{case_placed_pairs}
 use Rattle.obs_network.specs.Observable.{branch_component}
 use Rattle.obs_claimed.specs.Claimed.{component_bound, component_tree, named_item, named_items, named_layers, named_pair, placement_claim}
 use Rattle.obs_claimed.specs.Laws.{AreLines, BoundsAreLines, PlacementsAreLines, TreesAreLines}

@@ -8,7 +8,7 @@ use Rattle.obs_text.specs.Names.{is_name}
 use Rattle.obs_graph.specs.declared.Ends.{Ends}
 use Rattle.obs_graph.specs.Positions.{AreBranches}
 use Rattle.obs_graph.proofs.Present.{present_low}
-use Rattle.obs_case.specs.Tables.{IsValid, Tables, branch_names, candidate_names, meter_names, node_names}
+use Rattle.obs_case.specs.Tables.{IsValid, Tables, branch_names, candidate_names, meter_names, node_names, prices_of}
 use Rattle.obs_case.specs.declared.rows.Candidate.{Candidate}
 use Rattle.obs_matroid.specs.Assignments.{Pair}
 use Rattle.obs_matroid.specs.Lists.{In}
@@ -34,7 +34,7 @@ use Rattle.obs_network.proofs.OfCase.{case_branches-are, length-case_branches, l
 use Rattle.obs_report.specs.Items.{branch_name, candidate_name, item_count, item_name, meter_name}
 use Rattle.obs_report.specs.Meters.{component_name}
 use Rattle.obs_edit.specs.Answers.{bound_meters, case_first_pairs, component_meters, is_critical_meter, is_meter_of}
-use Rattle.obs_edit.specs.Planned.{case_placed_pairs, case_placement, pairs_in, planned_items, prices_of, touches_of}
+use Rattle.obs_edit.specs.Planned.{case_placed_pairs, case_placement, pairs_in, planned_items, touches_of}
 use Rattle.obs_edit.proofs.Planned.{length-touches_of}
 use Rattle.obs_claimed.proofs.ComponentNames.{first_of_component}
 use Rattle.obs_claimed.proofs.NamedLemmas.{AreWithin}

@@ -38,11 +38,6 @@ use Rattle.obs_edit.specs.Sessions.{AreLongest, AreMarks}
 use Rattle.obs_edit.proofs.Enough.{in_component, least, live_pairs}
 use Rattle.obs_edit.proofs.Tight.{IsClosedFor, bound_is, mark_from, pairs_in_from, rank_from}
 
--- the live meters of a component of the network are those of the case
-pub component_meters-of : (t : Tables) (c : ℕ) → live_meters_of (network_of t) c ≡ component_meters t c
-unfolding component_meters
-component_meters-of t c = refl
-
 is_some-from : (o : Option ℕ) → is_some o ≡ true → (e : ℕ) × (o ≡ Some e)
 is_some-from (Some e) t = (e, refl)
 is_some-from None t = clash t refl

@@ -5,7 +5,7 @@ use Rattle.std.proofs.lemmas.Bool.Decides.{nat_tests}
 use Rattle.std.proofs.lemmas.List.{length-map}
 use Rattle.obs_graph.specs.Positions.{AreBranches}
 use Rattle.obs_case.specs.declared.rows.Candidate.{Candidate}
-use Rattle.obs_case.specs.Tables.{IsValid, Tables}
+use Rattle.obs_case.specs.Tables.{IsValid, Tables, prices_of}
 use Rattle.obs_matroid.specs.Lists.{In}
 use Rattle.obs_matroid.specs.Placement.{Layer, RunOn, layers_sum}
 use Rattle.obs_matroid.proofs.Lists.{In-filter_from, filter_all}
@@ -14,7 +14,6 @@ use Rattle.obs_meter.specs.Touches.{is_live, live_items}
 use Rattle.obs_meter.proofs.Assigned.{live_items-distinct, rho_at-is}
 use Rattle.obs_placement.specs.Laws.{DoAsMuch, answer_at, live_meters}
 use Rattle.obs_placement.specs.Placed.{ShortfallValue, PlanValue}
-use Rattle.obs_placement.specs.Placed.Placed.{cheapest}
 use Rattle.obs_placement.specs.Shown.{bare_layer}
 use Rattle.obs_placement.proofs.Costed.{layers_are_shown, layers_show_the_cost}
 use Rattle.obs_placement.proofs.Lawful.{chosen_enough}
@@ -26,7 +25,6 @@ use Rattle.obs_network.proofs.Observed.{most_pairs}
 use Rattle.obs_network.proofs.OfCase.{case_branches-are, length-case_offered}
 use Rattle.obs_edit.proofs.PlanFirst.{plan_pairs_first}
 use Rattle.obs_edit.specs.Placements.{CompletesCase, IsBoundOf, LayersAddUp, LayersAreBounds, LayersBoundCosts, PlansAreCheapest, PlansComplete, PlansHaveFirstPairs, ShortfallsRefute, chosen_items, price_together}
-use Rattle.obs_edit.specs.Planned.{prices_of}
 use Rattle.obs_edit.proofs.PlanOrShortfall.{lack, lacking, most, plan, planned}
 
 module _ (t : Tables) (v : IsValid t) where

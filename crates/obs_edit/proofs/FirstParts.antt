@@ -10,10 +10,10 @@ use Rattle.obs_matroid.specs.Components.{IsSumOfKinds, is_of}
 use Rattle.obs_matroid.specs.First.{IsFirst, IsNotAfter, branch_at}
 use Rattle.obs_matroid.proofs.Bounds.{length-parts}
 use Rattle.obs_matroid.proofs.Comparing.{branch_at_out, IsBefore-irreflexive}
+use Rattle.obs_matroid.proofs.Components.{free_together}
 use Rattle.obs_matroid.proofs.Lists.{IsDistinct-append, In-append_cases, In-filter, In-filter_from, clash}
 use Rattle.obs_matroid.proofs.Pairs.{In-branches_from, In-items_from, In-part_from}
 use Rattle.obs_matroid.proofs.Placement.{IsAssignment-items, IsAssignment-part}
-use Rattle.obs_matroid.proofs.Spans.{spans_more}
 
 -- the branch of an item among the pairs of some items, and among two lists of pairs
 branch_at-part : (S : ℕ → Bool) (A : List Pair) (x : ℕ) → S x ≡ true → branch_at (part S A) x ≡ branch_at A x
@@ -52,24 +52,6 @@ module _ (g : Matroid) (laws : IsMatroid g) (touch : ℕ → List ℕ) (kind of 
   abbrev there : ℕ → Bool
   there x = not (is_of of K x)
 
-  -- independent branches of the kind K and of other kinds are independent together
-  free_of_others : (e : ℕ) (L N : List ℕ) → kind e ≡ K → ((x : ℕ) → In x N → kind x ≡ K → ⊥) → g.spans L e ≡ false → g.spans (L ++ N) e ≡ false
-  free_of_others e L N same other free =
-      let alike : ℕ → Bool = λ x. kind x == kind e in
-      elim (cases_Bool (g.spans (L ++ N) e)) [
-        | inl s ↦
-            clash (spans_more g laws (filter alike (L ++ N)) L e
-            (λ x i.
-            let u = In-filter_from alike x (L ++ N) i in
-            elim (In-append_cases x L N u.0) [ inl j ↦ j | inr j ↦ absurd (other x j (eqb-true (kind x) (kind e) u.1 ∙ same)) ])
-            (local (L ++ N) e s)) free
-        | inr f ↦ f
-      ]
-
-  free_together : (L N : List ℕ) → IsIndependent g L → IsIndependent g N → ((e : ℕ) → In e L → kind e ≡ K) → ((e : ℕ) → In e N → kind e ≡ K → ⊥) → IsIndependent g (L ++ N)
-  free_together [] N i j same other = j
-  free_together (e ∷ L) N i j same other = (free_of_others e L N (same e (inl refl)) other i.0, free_together L N i.1 j (λ x h. same x (inr h)) other)
-
   module _ (M : List ℕ) (A : List Pair) (a : IsAssignment g touch M A) (B : List Pair) (b : IsAssignment g touch (filter here M) B) where
     item_here : (p : Pair) → In p B → In p.0 M × (here p.0 ≡ true)
     item_here p i = In-filter_from here p.0 M (b.of_items p i)
@@ -94,7 +76,7 @@ module _ (g : Matroid) (laws : IsMatroid g) (touch : ℕ → List ℕ) (kind of 
               let w = In-items_from (part there A) x j in
               clash (item_here u.0 u.1).1 (ap here (sym u.2 ∙ w.2) ∙ (item_there w.0 w.1).1)));
           independent = subst (λ (xs : List ℕ). IsIndependent g xs) (sym (map-append (λ (p : Pair). p.1) B (part there A)))
-              (free_together (branches B) (branches (part there A)) b.independent rest.independent
+              (free_together g laws kind local K (branches B) (branches (part there A)) b.independent rest.independent
               (λ e i. let u = In-branches_from B e i in ap kind u.2 ∙ (own u.0.0 u.0.1 (b.touched u.0 u.1) ∙ eqb-true (of u.0.0) K (item_here u.0 u.1).1))
               (λ e i s. let w = In-branches_from (part there A) e i in
               clash (eq-eqb (of w.0.0) K (sym (own w.0.0 w.0.1 (rest.touched w.0 w.1)) ∙ (ap kind (sym w.2) ∙ s))) (item_there w.0 w.1).1));

@@ -3,7 +3,7 @@ use Rattle.std.proofs.Common.{◌≡◌, ℕ, ◌+◌, List, Option, length, ap,
 use Rattle.std.proofs.lemmas.List.{length-map}
 use Rattle.obs_graph.specs.declared.Ends.{Ends}
 use Rattle.obs_graph.specs.Graph.{Graph}
-use Rattle.obs_case.specs.Tables.{Tables}
+use Rattle.obs_case.specs.Tables.{Tables, prices_of}
 use Rattle.obs_case.specs.declared.rows.Candidate.{Candidate}
 use Rattle.obs_meter.specs.declared.Touch.{Touch}
 use Rattle.obs_meter.specs.Held.{Meters}
@@ -11,7 +11,7 @@ use Rattle.obs_meter.specs.Sizes.{HasRoomFor, Sizes}
 use Rattle.obs_network.specs.Switched.{case_bus_count}
 use Rattle.obs_network.specs.Network.{Network, case_branches, case_needed, case_offered, network_of}
 use Rattle.obs_network.proofs.OfCase.{case_bus_count-le, length-case_branches, length-case_offered}
-use Rattle.obs_edit.specs.Planned.{offered_rows, prices_of}
+use Rattle.obs_edit.specs.Planned.{offered_rows}
 
 module _ (t : Tables) (n : Network) (g : Graph) (i : Meters) (same : n ≡ network_of t) (graph : g ≡ n.graph) (offered : i ≡ n.offered) where
   graph_is : g ≡ (network_of t).graph

@@ -1,14 +1,14 @@
 -- The placement of a case is the plan or the shortfall.
 use Rattle.std.proofs.Common.{◌≡◌, ◌∙◌, ℕ, refl, sym, Bool, true, false, length, cond}
 use Rattle.std.specs.Prelude.{nat_lt}
-use Rattle.obs_case.specs.Tables.{Tables}
+use Rattle.obs_case.specs.Tables.{Tables, prices_of}
 use Rattle.obs_meter.specs.Assignments.{rho_at}
 use Rattle.obs_meter.specs.Touches.{live_items}
 use Rattle.obs_placement.specs.Placed.{ShortfallValue, PlanValue, shortfall_of, plan_of}
 use Rattle.obs_placement.specs.Placed.Placed.{cheapest, shortfall}
 use Rattle.obs_network.specs.Switched.{case_bus_count}
 use Rattle.obs_network.specs.Network.{case_branches, case_needed, case_offered}
-use Rattle.obs_edit.specs.Planned.{case_placement, prices_of}
+use Rattle.obs_edit.specs.Planned.{case_placement}
 
 module _ (t : Tables) where
   -- the greatest length of all that is offered

@@ -158,9 +158,6 @@ module _ (n : Network) (t : Tables) (e : Edit) (a : Assignment) (v : IsValid t) 
 
   -- a meter that comes back: the pairs stay as they are
   module _ (at : ℕ) (is : e ≡ edit.Meter at true) where
-    back : t ≡ with_meter_inservice b.before at true
-    back = tables_now at true is
-
     pub stands-back : StandsOver a (network_of t).graph (case_meters t)
     stands-back = from_tables at true is a (stands-regained b.before at a stood)
 

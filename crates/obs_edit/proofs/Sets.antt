@@ -8,7 +8,7 @@ use Rattle.std.proofs.lemmas.List.Quantifiers.{position-Some}
 use Rattle.obs_case.specs.declared.rows.Branch.{Branch}
 use Rattle.obs_case.specs.declared.rows.Meter.{Meter}
 use Rattle.obs_case.specs.declared.rows.Switch.{Switch}
-use Rattle.obs_case.specs.Tables.{Tables, branch_names, meter_names, position_of, switch_names}
+use Rattle.obs_case.specs.Tables.{Tables, branch_names, meter_names, position_of, prices_of, switch_names}
 use Rattle.obs_matroid.proofs.Slots.{slot_from}
 use Rattle.obs_assign.specs.Assignment.{Assignment, StandsOver, pairs}
 use Rattle.obs_assign.proofs.Standing.{still_at}
@@ -32,7 +32,7 @@ use Rattle.obs_edit.specs.declared.hand.AtHand.{AtHand}
 use Rattle.obs_edit.specs.declared.edit.Applied.{Applied}
 use Rattle.obs_edit.specs.Edits.{HasRow, IsEdited, IsRepaired, TakesOne, edited, nothing_at_hand}
 use Rattle.obs_edit.specs.Lines.{edit_at, is_place, meaning_of, meant_by, meant_of, refusal_of}
-use Rattle.obs_edit.specs.Planned.{Planning, offered_rows, prices_of}
+use Rattle.obs_edit.specs.Planned.{Planning, offered_rows}
 use Rattle.obs_edit.specs.Repairing.{CostsOwnPair}
 use Rattle.obs_edit.specs.Sessions.{AreAnswers, BoundOf, HasRoom, HasRoomToAnswer, IsPlacing, Session, case_rows}
 use Rattle.obs_edit.proofs.Flagged.{rows-edited, same_candidates}

@@ -1,7 +1,7 @@
 -- What holds of the placement of a case.
 use Rattle.std.specs.Prelude.{◌≡◌, ℕ, ◌+◌, ◌≤◌, ◌<◌, List, length, map}
 use Rattle.std.specs.List.{sum_by}
-use Rattle.obs_case.specs.Tables.{IsValid, Tables}
+use Rattle.obs_case.specs.Tables.{IsValid, Tables, prices_of}
 use Rattle.obs_matroid.specs.Lists.{In}
 use Rattle.obs_matroid.specs.Placement.{IsShown, Layer, RunOn, layers_sum}
 use Rattle.obs_meter.specs.Spanned.{graph_matroid}
@@ -14,7 +14,7 @@ use Rattle.obs_placement.specs.Placed.Placed.{cheapest, shortfall}
 use Rattle.obs_placement.specs.Shown.{Completes, bare_layer}
 use Rattle.obs_network.specs.Switched.{case_bus_count}
 use Rattle.obs_network.specs.Network.{case_branches, case_needed, case_offered}
-use Rattle.obs_edit.specs.Planned.{case_placed_pairs, case_placement, planned_items, prices_of}
+use Rattle.obs_edit.specs.Planned.{case_placed_pairs, case_placement, planned_items}
 
 -- candidates complete the meters of a case: with these, the live ones have an assignment that is as long as the case needs. An item
 -- is a meter, or a candidate, whose number then stands behind those of the meters

@@ -3,8 +3,7 @@ use Rattle.std.specs.Prelude.{◌≡◌, ℕ, ◌+◌, if◌then◌else◌, Opti
 use Rattle.std.specs.List.{range_with_len}
 use Rattle.obs_graph.specs.declared.Ends.{Ends}
 use Rattle.obs_graph.specs.Positions.{AreBranches}
-use Rattle.obs_case.specs.Tables.{Tables}
-use Rattle.obs_case.specs.declared.rows.Candidate.{Candidate}
+use Rattle.obs_case.specs.Tables.{Tables, prices_of}
 use Rattle.obs_matroid.specs.Assignments.{Pair}
 use Rattle.obs_meter.specs.declared.Touch.{Touch}
 use Rattle.obs_meter.specs.declared.Touch.TheVariants.{Nothing}
@@ -45,10 +44,6 @@ abbrev pub PlanPairsAreFirst : Type 0
 PlanPairsAreFirst = (n : ℕ) (ends : List (Option Ends)) (touches : List Touch) (meters needed : ℕ) (prices : List ℕ) (plan : PlanValue)
     → AreBranches n ends → length touches ≡ meters + length prices → placement_of n ends touches meters prices needed ≡ cheapest plan
     → IsFirstAt ends touches (planned_items meters plan.chosen) (placed_pairs n ends touches meters prices needed)
-
--- what candidates cost
-abbrev pub prices_of : List Candidate → List ℕ
-prices_of candidates = map (λ (row : Candidate). row.price) candidates
 
 -- the placement of a case, and its pairs
 abbrev pub case_placement : Tables → Placed

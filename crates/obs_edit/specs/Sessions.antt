@@ -1,6 +1,6 @@
 -- What a session keeps.
 use Rattle.std.specs.Prelude.{◌≡◌, ℕ, ◌≤◌, Bool, true, false, not, Some, List, length, slice_index_or}
-use Rattle.obs_case.specs.Tables.{Tables}
+use Rattle.obs_case.specs.Tables.{Tables, prices_of}
 use Rattle.obs_matroid.specs.Lists.{In}
 use Rattle.obs_assign.specs.Assignment.{Assignment, StandsOver, pairs}
 use Rattle.obs_exchange.specs.Found.{Work}
@@ -12,7 +12,7 @@ use Rattle.obs_network.specs.Network.{case_branches, case_meters, case_offered, 
 use Rattle.obs_network.specs.Observable.{case_live_meters}
 use Rattle.obs_edit.specs.Answers.{bound_meters, bound_outside, bound_rank, case_critical_meters, case_first_pairs, case_islands, is_critical_meter}
 use Rattle.obs_edit.specs.Longest.{IsLongest}
-use Rattle.obs_edit.specs.Planned.{Planning, case_placed_pairs, case_placement, offered_rows, prices_of}
+use Rattle.obs_edit.specs.Planned.{Planning, case_placed_pairs, case_placement, offered_rows}
 use Rattle.obs_edit.specs.declared.hand.AtHand.{AtHand}
 
 -- a session: the present case, whether it was begun with candidates, the kept pairs, and what is at hand

@@ -1,6 +1,7 @@
 // A case with the answers to it that are at hand.
 ghost use Rattle.std.specs.Prelude.{◌≡◌, ◌+◌, ◌<◌, ◌↔◌, true, false, Some, None, IfOk, IsTrue, length};
 ghost use Rattle.obs_assign.specs.Assignment.{StandsOver, pairs};
+ghost use Rattle.obs_exchange.specs.Laws.{IsThawed};
 ghost use Rattle.obs_network.specs.Components.{need_of};
 ghost use Rattle.obs_network.specs.Network.{case_component_count, case_meters, case_needed, case_sizes, network_of};
 ghost use Rattle.obs_network.specs.Observable.{IsObservable, is_energised_component};
@@ -299,6 +300,7 @@ impl Analysis {
         ensures pairs { result.now ≡ self.now.pairs }
         ensures first { pairs result.now ≡ case_first_pairs self.now.tables }
         ensures stands { StandsOver result.now (network_of self.now.tables).graph (case_meters self.now.tables) }
+        ensures thawed { IsThawed result.now }
     {
         &self.held.pairs
     }

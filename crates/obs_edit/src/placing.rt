@@ -1,11 +1,12 @@
 // The placement that was found last.
 ghost use Rattle.std.specs.Prelude.{◌≡◌, ◌+◌, IfOk, length};
+ghost use Rattle.obs_case.specs.Tables.{prices_of};
 ghost use Rattle.obs_meter.specs.Sizes.{HasRoomFor};
 ghost use Rattle.obs_meter.specs.Touches.{AreInRange};
 ghost use Rattle.obs_assign.specs.Assignment.{StandsOver, pairs as pairs_at};
 ghost use Rattle.obs_placement.specs.Placed.{placed_of, placement_of};
 ghost use Rattle.obs_network.specs.Network.{network_of};
-ghost use Rattle.obs_edit.specs.Planned.{case_placed_pairs, case_placement, new_planning, offered_rows, placed_pairs, prices_of};
+ghost use Rattle.obs_edit.specs.Planned.{case_placed_pairs, case_placement, new_planning, offered_rows, placed_pairs};
 
 use crate::memory::NoMemory;
 use crate::pairing::Pairing;

@@ -2,6 +2,7 @@
 //! each finds its answer, where it isn't at hand, and lends it with the present case and its network.
 ghost use Rattle.std.specs.Prelude.{◌≡◌, ◌<◌, true};
 ghost use Rattle.obs_assign.specs.Assignment.{StandsOver, pairs};
+ghost use Rattle.obs_exchange.specs.Laws.{IsThawed};
 ghost use Rattle.obs_placement.specs.Placed.{placed_of};
 ghost use Rattle.obs_network.specs.Components.{need_of};
 ghost use Rattle.obs_network.specs.Network.{case_component_count, case_meters, case_offered, case_sizes, network_of};
@@ -34,12 +35,13 @@ pub struct Placed<'a> {
 }
 
 impl Session {
-    /// The first assignment of the present case's meters.
+    /// The first assignment of the present case's meters, with nothing frozen.
     pub fn first_pairs<L: Ledger>(&mut self, steps: &mut Steps<L>) -> Seen<'_, &Assignment>
         ensures case { result.case.now ≡ self.old.tables }
         ensures network { result.network.now ≡ network_of self.old.tables }
         ensures found { pairs result.found.now ≡ case_first_pairs self.old.tables }
         ensures stands { StandsOver result.found.now (network_of self.old.tables).graph (case_meters self.old.tables) }
+        ensures thawed { IsThawed result.found.now }
     {
         self.find_first(steps);
         Seen {

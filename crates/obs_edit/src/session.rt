@@ -1,6 +1,7 @@
 //! A session.
 ghost use Rattle.std.specs.Prelude.{◌≡◌, ◌+◌, ◌<◌, ◌↔◌, true, Some, Err, IfErr, IfOk, OnErr, IsTrue};
 ghost use Rattle.obs_assign.specs.Assignment.{StandsOver, pairs};
+ghost use Rattle.obs_exchange.specs.Laws.{IsThawed};
 ghost use Rattle.obs_placement.specs.Placed.{placed_of};
 ghost use Rattle.obs_network.specs.Components.{need_of};
 ghost use Rattle.obs_network.specs.Network.{case_component_count, case_meters, case_needed, case_offered, case_sizes, network_of};
@@ -196,6 +197,7 @@ impl Session {
         ensures pairs { result.now ≡ self.now.pairs }
         ensures first { pairs result.now ≡ case_first_pairs self.now.tables }
         ensures stands { StandsOver result.now (network_of self.now.tables).graph (case_meters self.now.tables) }
+        ensures thawed { IsThawed result.now }
     {
         self.analysis.found_pairs()
     }

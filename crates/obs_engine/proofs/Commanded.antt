@@ -120,14 +120,13 @@ answered_ran t certificate is quiet ran = record {
   stated = λ told tells. let here = is told.file tells.files in ran.ends told here.0 here.1 tells.input;
   complete = λ told tells files input has. let here = is told.file tells.files in ran.complete told here.0 here.1 tells.input input has;
   statuses = ran.statuses;
-  read = λ e. inr (ran.read e);
+  read = λ e. let failed = ran.read e in inr (record { takes = failed.0; rose = failed.1; files = quiet; case = λ file told. (t, (is file told).0) });
   write = ran.write;
   quiet_files = λ none. quiet;
   quiet_input = ran.quiet_input;
   quiet_output = ran.quiet_output;
   memory = ran.memory;
   memory_input = ran.memory_input;
-  unread = λ none e. absurd (none (ran.read e).0);
   taken = ran.taken;
 }
 

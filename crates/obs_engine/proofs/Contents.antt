@@ -4,7 +4,7 @@ use Rattle.std.specs.Prelude.{All, IsErrAnd, vec_len}
 use Rattle.std.specs.List.{range_with_len}
 use Rattle.std.specs.declared.alloc.Global.{Global}
 use Rattle.std.proofs.Math.Seq.{take-append_seam, take-length}
-use Rattle.std.proofs.lemmas.List.{get_or-map, get_or-take, length-append, length-map, map-append, take-append-drop, take_all}
+use Rattle.std.proofs.lemmas.List.{get_or-map, get_or-take, length-append, length-map, map-append, take-append-drop}
 use Rattle.std.proofs.lemmas.List.FromFn.{get_or-map-range_with_len, length-range_with_len, take-map-range_with_len}
 use Rattle.obs_io.specs.Causes.{Rose}
 use Rattle.obs_matroid.specs.Lists.{In}
@@ -49,13 +49,6 @@ in_parts w [] ys i = inr i
 in_parts w (x ∷ xs) ys (inl e) = inl (inl e)
 in_parts w (x ∷ xs) ys (inr i) = elim (in_parts w xs ys i) [ inl h ↦ inl (inr h) | inr h ↦ inr h ]
 
-none_left : {X : Type 0} (xs : List X) (n : ℕ) → n ≡ length xs → drop n xs ≡ []
-none_left xs n e = rw e (drop_whole xs)
-  where
-    drop_whole : {X : Type 0} (xs : List X) → drop (length xs) xs ≡ []
-    drop_whole [] = refl
-    drop_whole (x ∷ xs) = drop_whole xs
-
 -- the files of these words are these parts of the input, and what was told of them before
 module _ (parts : List (List ℕ)) (words : List ℕ) (content : ℕ → Option (List ℕ)) (before : ℕ → ℕ) (is_steady : ℕ → Type 0) where
   -- the contents of the first k of them were taken
@@ -73,17 +66,6 @@ module _ (parts : List (List ℕ)) (words : List ℕ) (content : ℕ → Option 
     pub short : All (λ (bytes : Vec ℕ Global). vec_len bytes ≤ most_file_bytes) contents
     pub fits : (w : ℕ) → In w (take k words) → Fits content w
     pub taken : (file : ℕ → List ℕ) → AreTold content file words → IsTakenTo k file contents
-
-  pub reading_begins : Reading 0 content before is_steady []
-  reading_begins = record {
-    same = λ w. refl;
-    quiet = λ w. refl;
-    calm = λ w s. s;
-    count = refl;
-    short = λ i d l. absurd (omega (arith, l));
-    fits = λ w i. elim i [ ];
-    taken = λ file told. (told, refl, refl);
-  }
 
   -- the next word, and the part that its file is
   module _ {k : ℕ} {content_now : ℕ → Option (List ℕ)} {now : ℕ → ℕ} {is_steady_now : ℕ → Type 0} {contents : List (Vec ℕ Global)}
@@ -154,15 +136,6 @@ module _ (parts : List (List ℕ)) (words : List ℕ) (content : ℕ → Option 
       others = λ w ne. others w ne ∙ r.quiet w;
       fits = r.fits;
     }
-
-  pub reading_ends : {k : ℕ} {content_now : ℕ → Option (List ℕ)} {now : ℕ → ℕ} {is_steady_now : ℕ → Type 0} (contents : Vec (Vec ℕ Global) Global)
-      → Reading k content_now now is_steady_now contents.items → k ≡ length words
-      → (file : ℕ → List ℕ) → AreTold content file words → AreContents parts file words (Ok contents)
-  reading_ends {k = k} contents r all file told =
-      let had = r.taken file told in (
-        had.1 ∙ ap (λ (ws : List ℕ). first_too_long (drop k parts) file ws) (none_left words k all),
-        had.2 ∙ ap (λ (ws : List ℕ). map file ws) (take_all k words (omega (arith, all))),
-      )
 
 -- an error that ends the reading
 pub contents_not_taken : (parts : List (List ℕ)) (file : ℕ → List ℕ) (words : List ℕ) (why : CaseError) (r : Result (Vec (Vec ℕ Global) Global) CaseError) → IsErrAnd r (λ e. e ≡ why)

@@ -4,6 +4,7 @@ use Rattle.std.specs.Prelude.{cond, nat_lt}
 use Rattle.std.specs.List.{range_with_len}
 use Rattle.std.proofs.lemmas.Bool.{cases_Bool, cases_eq}
 use Rattle.std.proofs.lemmas.Bool.Decides.{nat_tests}
+use Rattle.std.proofs.lemmas.List.Elements.{filter_agree}
 use Rattle.std.proofs.Math.Bool.{and-false, and-true}
 use Rattle.obs_case.specs.Flags.{with_meter_inservice}
 use Rattle.obs_case.specs.Tables.{Tables}
@@ -23,11 +24,6 @@ use Rattle.obs_edit.specs.Answers.{case_critical_meters, case_rank}
 use Rattle.obs_edit.proofs.Metered.{none_touched, same_count, same_graph, same_touch}
 use Rattle.obs_network.proofs.OfCase.{length-case_meters}
 use Rattle.obs_engine.specs.Trials.{dip_meters, dips_of, is_dip}
-
--- two tests that agree leave the same
-filter_same : {X : Type 0} (p q : X → Bool) → ((x : X) → p x ≡ q x) → (xs : List X) → filter p xs ≡ filter q xs
-filter_same p q same [] = refl
-filter_same p q same (x ∷ xs) = rw (same x) (ap (λ (ys : List _). cond (q x) (x ∷ ys) ys) (filter_same p q same xs))
 
 -- what passes both of two tests
 filter_both : {X : Type 0} (p q both : X → Bool) → ((x : X) → both x ≡ (p x && q x)) → (xs : List X) → filter both xs ≡ filter q (filter p xs)
@@ -128,7 +124,7 @@ pub dips_are_critical : (t : Tables) → dip_meters t ≡ case_critical_meters t
 unfolding dip_meters case_critical_meters
 dips_are_critical t =
     let critical = critical_at (case_bus_count t) (case_branches t) (case_meters t) in
-    filter_same (is_dip t) critical (dip_is t) (range_with_len 0 (length t.meters)) ∙ ap (λ (n : ℕ). filter critical (range_with_len 0 n)) (sym (length-case_meters t))
+    filter_agree (is_dip t) critical (dip_is t) (range_with_len 0 (length t.meters)) ∙ ap (λ (n : ℕ). filter critical (range_with_len 0 n)) (sym (length-case_meters t))
 
 pub dips_count_critical : (t : Tables) → dips_of t ≡ length (case_critical_meters t)
 dips_count_critical t = ap (λ (xs : List ℕ). length xs) (dips_are_critical t)

@@ -44,44 +44,28 @@ behind_of reply answered status a b none (inr (inl h)) = inr (inl h)
 behind_of reply answered status a b none (inr (inr (inl (e, same)))) = inr (inr (inl (e, rw none (same ∙ sym (and_then_none a)))))
 behind_of reply answered status a b none (inr (inr (inr h))) = inr (inr (inr h))
 
+-- where no read and no write fails, all is answered, or there is no memory
+pub complete_stated : (form : Option Form) (told : Told) (reply : Reply) (status : Status) (a b : Option (List ℕ)) → IsStated form told reply → (status ≡ ReadFault → ⊥) → (status ≡ WriteFault → ⊥)
+    → (answered : List ℕ) → EndsBehind reply answered status a b → (status ≡ NoMemory) ⊎ Answers form told status a b
+complete_stated form told reply status a b is read write answered (inl (same, wrote)) = inr (reply, is, same, wrote)
+complete_stated form told reply status a b is read write answered (inr (inl (e, part))) = absurd (write e)
+complete_stated form told reply status a b is read write answered (inr (inr (inl (e, wrote)))) = absurd (read e)
+complete_stated form told reply status a b is read write answered (inr (inr (inr (e, same)))) = inl e
+
+-- and where memory is there too, all is answered
+whole_stated : (form : Option Form) (told : Told) (reply : Reply) (status : Status) (a b : Option (List ℕ)) → IsStated form told reply → (status ≡ ReadFault → ⊥) → (status ≡ WriteFault → ⊥)
+    → (status ≡ NoMemory → ⊥) → (answered : List ℕ) → EndsBehind reply answered status a b → Answers form told status a b
+whole_stated form told reply status a b is read write memory answered ends =
+    elim (complete_stated form told reply status a b is read write answered ends) [ inl e ↦ absurd (memory e) | inr all ↦ all ]
+
 -- the way in which a run ends with the reply that is stated for a form
 pub ends_stated : (form : Option Form) (told : Told) (left : Option (List ℕ)) (reply : Reply) (status : Status) (a b : Option (List ℕ)) → IsStated form told reply → (IsFailure reply.status → ⊥)
     → EndsBehind reply (answered_before form told left) status a b → Ends form told left status a b
-ends_stated form told left reply Done a b is not ends = by ends
-  where
-    by : EndsBehind reply (answered_before form told left) Done a b → Answers form told Done a b
-    by (inl (same, wrote)) = (reply, is, same, wrote)
-    by (inr (inl (e, part))) = absurd cc
-    by (inr (inr (inl (e, wrote)))) = absurd cc
-    by (inr (inr (inr (e, same)))) = absurd cc
-ends_stated form told left reply Short a b is not ends = by ends
-  where
-    by : EndsBehind reply (answered_before form told left) Short a b → Answers form told Short a b
-    by (inl (same, wrote)) = (reply, is, same, wrote)
-    by (inr (inl (e, part))) = absurd cc
-    by (inr (inr (inl (e, wrote)))) = absurd cc
-    by (inr (inr (inr (e, same)))) = absurd cc
-ends_stated form told left reply Usage a b is not ends = by ends
-  where
-    by : EndsBehind reply (answered_before form told left) Usage a b → Answers form told Usage a b
-    by (inl (same, wrote)) = (reply, is, same, wrote)
-    by (inr (inl (e, part))) = absurd cc
-    by (inr (inr (inl (e, wrote)))) = absurd cc
-    by (inr (inr (inr (e, same)))) = absurd cc
-ends_stated form told left reply InputFault a b is not ends = by ends
-  where
-    by : EndsBehind reply (answered_before form told left) InputFault a b → Answers form told InputFault a b
-    by (inl (same, wrote)) = (reply, is, same, wrote)
-    by (inr (inl (e, part))) = absurd cc
-    by (inr (inr (inl (e, wrote)))) = absurd cc
-    by (inr (inr (inr (e, same)))) = absurd cc
-ends_stated form told left reply SessionTooLong a b is not ends = by ends
-  where
-    by : EndsBehind reply (answered_before form told left) SessionTooLong a b → Answers form told SessionTooLong a b
-    by (inl (same, wrote)) = (reply, is, same, wrote)
-    by (inr (inl (e, part))) = absurd cc
-    by (inr (inr (inl (e, wrote)))) = absurd cc
-    by (inr (inr (inr (e, same)))) = absurd cc
+ends_stated form told left reply Done a b is not ends = whole_stated form told reply Done a b is (λ e. absurd cc) (λ e. absurd cc) (λ e. absurd cc) (answered_before form told left) ends
+ends_stated form told left reply Short a b is not ends = whole_stated form told reply Short a b is (λ e. absurd cc) (λ e. absurd cc) (λ e. absurd cc) (answered_before form told left) ends
+ends_stated form told left reply Usage a b is not ends = whole_stated form told reply Usage a b is (λ e. absurd cc) (λ e. absurd cc) (λ e. absurd cc) (answered_before form told left) ends
+ends_stated form told left reply InputFault a b is not ends = whole_stated form told reply InputFault a b is (λ e. absurd cc) (λ e. absurd cc) (λ e. absurd cc) (answered_before form told left) ends
+ends_stated form told left reply SessionTooLong a b is not ends = whole_stated form told reply SessionTooLong a b is (λ e. absurd cc) (λ e. absurd cc) (λ e. absurd cc) (answered_before form told left) ends
 ends_stated form told left reply ReadFault a b is not ends = by ends
   where
     by : EndsBehind reply (answered_before form told left) ReadFault a b → Wrote a b (answered_before form told left)
@@ -103,14 +87,6 @@ ends_stated form told left reply NoMemory a b is not ends = by ends
     by (inr (inl (e, part))) = absurd cc
     by (inr (inr (inl (e, wrote)))) = absurd cc
     by (inr (inr (inr (e, same)))) = same ∙ sym (and_then_none a)
-
--- where no read and no write fails, all is answered, or there is no memory
-pub complete_stated : (form : Option Form) (told : Told) (reply : Reply) (status : Status) (a b : Option (List ℕ)) → IsStated form told reply → (status ≡ ReadFault → ⊥) → (status ≡ WriteFault → ⊥)
-    → (answered : List ℕ) → EndsBehind reply answered status a b → (status ≡ NoMemory) ⊎ Answers form told status a b
-complete_stated form told reply status a b is read write answered (inl (same, wrote)) = inr (reply, is, same, wrote)
-complete_stated form told reply status a b is read write answered (inr (inl (e, part))) = absurd (write e)
-complete_stated form told reply status a b is read write answered (inr (inr (inl (e, wrote)))) = absurd (read e)
-complete_stated form told reply status a b is read write answered (inr (inr (inr (e, same)))) = inl e
 
 usage_no_failure : IsFailure usage_reply.status → ⊥
 usage_no_failure (inl e) = absurd cc

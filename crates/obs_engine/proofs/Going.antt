@@ -17,7 +17,6 @@ use Rattle.obs_engine.specs.Asks.{report_status}
 use Rattle.obs_engine.specs.Lines.{ended_after, line_case, line_text, lines_case, lines_text, open_after}
 use Rattle.obs_engine.specs.Replies.{Reply}
 use Rattle.obs_engine.specs.Sessions.{IsTakenFront, SessionAt, answered_within, cut_reply, most_input_bytes, session_reply, taken_of, whole_reply}
-use Rattle.obs_engine.proofs.Asked.{appends_nothing}
 use Rattle.obs_engine.proofs.Folding.{IsFrontOf, case_goes_on, front_of_reply, is_cut, is_whole, open_parts, text_goes_on, whole_case, whole_text}
 use Rattle.obs_engine.proofs.Replied.{IsVerdict, report_status-is, verdict_no_failure}
 
@@ -47,19 +46,6 @@ module _ (o : Bool) (t : Tables) (left : Option (List ℕ)) (i : ℕ) (is_steady
     pub holds : Holds held (open_after [] bytes)
     pub tables : t_now ≡ lines_case o t (ended_after [] bytes)
     pub printed : PrintedTo b k room_now (Ok tt) bytes
-
-  pub begins : (held : List ℕ) → Holds held [] → Going 0 left i is_steady a f room held t o
-  begins held holds = record {
-    most = omega arith;
-    offered = refl;
-    bytes = [];
-    told = λ input is. (is, omega arith, refl);
-    quiet = refl;
-    calm = λ s. s;
-    holds = holds;
-    tables = refl;
-    printed = appends_nothing tt a f room;
-  }
 
   -- a write failed: a front of the reply's text is written
   pub write_failed : {e : Failed} {left_now : Option (List ℕ)} {j : ℕ} {b : Option (List ℕ)} {k : ℕ} {room_now : ℕ → Type 0} {text : List ℕ}

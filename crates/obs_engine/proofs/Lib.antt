@@ -6,7 +6,6 @@ pub mod Lawful
 pub mod Valid
 pub mod Asked
 pub mod Worded
-pub mod Certified
 pub mod Commanded
 pub mod Contents
 pub mod Placed

@@ -63,15 +63,6 @@ module _ (line : List ℕ) (byte : ℕ) where
   pub feed_ended : is_feed byte ≡ true → ended_after line (byte ∷ []) ≡ content_of line ∷ []
   feed_ended e = rw e refl
 
-  pub feed_open : is_feed byte ≡ true → open_after line (byte ∷ []) ≡ []
-  feed_open e = rw e refl
-
-  pub other_fed : is_feed byte ≡ false → fed line byte ≡ open_after line (byte ∷ [])
-  other_fed e = rw e refl
-
-  pub other_ended : is_feed byte ≡ false → ended_after line (byte ∷ []) ≡ []
-  other_ended e = rw e refl
-
 -- some bytes came behind a line, and the lines that they end were answered
 pub record Fed (o : Bool) (t : Tables) (line bytes : List ℕ) (a b : Option (List ℕ)) (f k : ℕ) (p q : ℕ → Type 0) (held : List ℕ) (t_now : Tables) : Type 0 where
   pub holds : Holds held (open_after line bytes)

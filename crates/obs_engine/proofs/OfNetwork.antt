@@ -1,35 +1,24 @@
 -- What is read off the network of a case.
-use Rattle.std.proofs.Common.{◌≡◌, ◌≢◌, ℕ, ◌<◌, ◌≤◌, Bool, true, false, not, All, length, refl, ap, eqb, arith}
+use Rattle.std.proofs.Common.{◌≡◌, ◌≢◌, ℕ, ◌<◌, false, not, All, length, refl, ap, arith}
 use Rattle.std.specs.Prelude.{slice_index_or}
 use Rattle.std.proofs.lemmas.Bool.{eq-eqb, ne_eqb}
-use Rattle.std.proofs.lemmas.List.{length-map}
-use Rattle.obs_case.specs.Tables.{IsValid, Tables}
+use Rattle.obs_case.specs.Tables.{Tables}
 use Rattle.obs_matroid.specs.Lists.{In}
 use Rattle.obs_matroid.proofs.Contained.{All-from_In}
 use Rattle.obs_matroid.proofs.Lists.{In-filter_from}
 use Rattle.obs_meter.specs.Touches.{is_live}
 use Rattle.obs_exchange.specs.Critical.{critical_at}
 use Rattle.obs_network.specs.Switched.{case_bus_count}
-use Rattle.obs_network.specs.Components.{need_of}
-use Rattle.obs_network.specs.Network.{Network, case_branches, case_meters, case_needed, case_sizes, network_of}
+use Rattle.obs_network.specs.Network.{Network, case_branches, case_meters, case_needed, network_of}
 use Rattle.obs_network.specs.Observable.{case_live_meters, is_energised_component}
 use Rattle.obs_network.proofs.Marked.{filtered_below}
 use Rattle.obs_engine.specs.declared.status.Status.TheVariants.{Done, Short}
-use Rattle.obs_edit.specs.Answers.{bound_meters, case_critical_meters, case_rank, component_meters, component_rank, is_critical_meter, is_meter_of, is_short}
+use Rattle.obs_edit.specs.Answers.{bound_meters, case_critical_meters, case_rank, component_meters, is_critical_meter, is_meter_of}
 use Rattle.obs_engine.specs.Asks.{report_status}
 use Rattle.obs_network.proofs.OfCase.{length-case_meters}
 
 pub energised_in : (n : Network) (t : Tables) (c : ℕ) → n ≡ network_of t → slice_index_or n.components.energised c false ≡ is_energised_component t c
 energised_in n t c same = ap (λ (x : Network). slice_index_or x.components.energised c false) same
-
--- whether a component falls short
-pub short_energised : (t : Tables) (c rank need : ℕ) → is_energised_component t c ≡ true → rank ≡ component_rank t c → need ≡ need_of (case_sizes t) c → not (eqb rank need) ≡ is_short t c
-unfolding is_short
-short_energised t c rank need fed r n = rw (r, n, fed) refl
-
-pub short_dead : (t : Tables) (c : ℕ) (b : Bool) → is_energised_component t c ≡ false → b ≡ false → b ≡ is_short t c
-unfolding is_short
-short_dead t c b dead e = rw (e, dead) refl
 
 -- the verdict
 pub verdict_done : (t : Tables) → case_rank t ≡ case_needed t → Done ≡ report_status t
@@ -39,9 +28,6 @@ verdict_done t e = rw (eq-eqb (case_rank t) (case_needed t) e) refl
 pub verdict_short : (t : Tables) → case_rank t ≢ case_needed t → Short ≡ report_status t
 unfolding report_status
 verdict_short t e = rw (ne_eqb (case_rank t) (case_needed t) e) refl
-
-pub few_meters : (t : Tables) → IsValid t → length t.meters ≤ 20000
-few_meters t v = let few = v.meters.few in omega (arith, few, length-map t.meters (λ row. row.name))
 
 pub live_below : (t : Tables) (m : ℕ) → In m (case_live_meters t) → m < length t.meters
 live_below t m i =

@@ -5,9 +5,8 @@ use Rattle.std.proofs.lemmas.Bool.{cases_Bool}
 use Rattle.std.proofs.lemmas.List.{length-append, length-map}
 use Rattle.obs_graph.specs.declared.Ends.{Ends}
 use Rattle.obs_case.specs.declared.rows.Candidate.{Candidate}
-use Rattle.obs_case.specs.Tables.{Tables}
+use Rattle.obs_case.specs.Tables.{Tables, prices_of}
 use Rattle.obs_matroid.specs.Assignments.{Pair}
-use Rattle.obs_matroid.specs.Lists.{In}
 use Rattle.obs_matroid.proofs.Contained.{All-from_In}
 use Rattle.obs_matroid.proofs.Lists.{In-filter_from}
 use Rattle.obs_meter.specs.declared.Touch.{Touch}
@@ -25,7 +24,7 @@ use Rattle.obs_network.proofs.Marked.{filtered_below}
 use Rattle.obs_network.proofs.OfCase.{length-case_offered}
 use Rattle.obs_report.specs.Items.{item_count}
 use Rattle.obs_report.specs.Placements.{AreCountsOf, IsWithin, placement_text}
-use Rattle.obs_edit.specs.Planned.{case_placed_pairs, case_placement, prices_of}
+use Rattle.obs_edit.specs.Planned.{case_placed_pairs, case_placement}
 use Rattle.obs_engine.specs.declared.blocks.Block.TheVariants.{Placement}
 use Rattle.obs_engine.specs.Asks.{block_text}
 use Rattle.obs_claimed.proofs.Within.{inside_low}

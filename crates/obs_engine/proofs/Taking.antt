@@ -1,6 +1,5 @@
 -- What is taken from one file, and what that isn't.
-use Rattle.std.proofs.Common.{◌≡◌, ◌∙◌, ap, ℕ, List, Option, Some, Result, Ok, Err, sym, subst, false, inl, inr}
-use Rattle.std.proofs.lemmas.Bool.{cases_eq}
+use Rattle.std.proofs.Common.{◌≡◌, ◌∙◌, ap, ℕ, List, Option, Some, Result, Ok, Err, sym, false}
 use Rattle.std.specs.Prelude.{IsErrAnd, IsErrOf}
 use Rattle.obs_engine.specs.declared.taken.CaseError.{CaseError}
 use Rattle.obs_engine.specs.declared.taken.CaseError.TheVariants.{Read}
@@ -14,11 +13,6 @@ ok_not_read x e = absurd cc
 pub read_is : {T : Type 0} (why : CaseError) → IsErrOf {T = T} (Err why) Read → why ≡ Read
 read_is why e = cc
 
--- a read didn't fail where what wasn't taken is no failed read
-pub not_read : {T U : Type 0} (why : CaseError) (r : Result U CaseError) → IsErrAnd r (λ e. e ≡ why) → (r ≡ Err Read → ⊥) → IsErrOf {T = T} (Err why) Read → ⊥
-not_read {T = T} {U = U} why (Ok x) e not h = absurd e
-not_read {T = T} {U = U} why (Err x) e not h = not (ap Err (e ∙ read_is {T = T} why h))
-
 -- and did where it is one
 pub is_read : {T U : Type 0} (why : CaseError) (r : Result U CaseError) → IsErrAnd r (λ e. e ≡ why) → r ≡ Err Read → IsErrOf {T = T} (Err why) Read
 is_read {T = T} {U = U} why (Ok x) e h = absurd e
@@ -27,7 +21,3 @@ is_read {T = T} {U = U} why (Err x) e h = ap Err (sym e ∙ read_is {T = U} x h)
 -- a told content that fits
 abbrev pub Fits : (ℕ → Option (List ℕ)) → ℕ → Type 0
 Fits content w = (bytes : List ℕ) → content w ≡ Some bytes → is_too_long bytes ≡ false
-
--- where the count of one word is as before and the other words' are, all are
-pub quiet_all : (before now : ℕ → ℕ) (word : ℕ) → now word ≡ before word → ((w : ℕ) → (w ≡ word → ⊥) → now w ≡ before w) → (w : ℕ) → now w ≡ before w
-quiet_all before now word own others w = elim (cases_eq w word) [ inl e ↦ subst (λ (v : ℕ). now v ≡ before v) (sym e) own | inr n ↦ others w n ]

@@ -1,6 +1,6 @@
 -- What a trial counts: the islands, and the dips of meters that are lost and regained.
 use Rattle.std.proofs.Common.{◌≡◌, ℕ, zero, suc, ◌+◌, ◌-◌, ◌*◌, ◌<◌, ◌≤◌, Bool, true, false, All, List, [], ◌∷◌, ◌++◌, length, filter, refl, sym, ap, ◌∙◌, arith, inl, inr}
-use Rattle.std.specs.Prelude.{if◌then◌else◌, slice_index, slice_index_or}
+use Rattle.std.specs.Prelude.{if◌then◌else◌}
 use Rattle.std.specs.List.{range_with_len}
 use Rattle.std.proofs.lemmas.Bool.{cases_Bool}
 use Rattle.std.proofs.lemmas.List.Elements.{All-head, All-tail}
@@ -14,7 +14,6 @@ use Rattle.obs_assign.specs.Still.{is_still}
 use Rattle.obs_network.specs.Network.{Network, case_branches, case_meters, network_of}
 use Rattle.obs_network.specs.Switched.{case_bus_count}
 use Rattle.obs_report.specs.Counts.{counts_text}
-use Rattle.obs_report.specs.Islands.{is_energised_bus}
 use Rattle.obs_report.specs.Totals.{totals_text, trial_line}
 use Rattle.obs_edit.specs.Answers.{case_rank}
 use Rattle.obs_edit.specs.Edits.{IsRepaired}
@@ -49,9 +48,6 @@ pub record AreTurned (p : ℕ → Bool) (n i dips searches : ℕ) : Type 0 where
   pub few : i ≤ n
 
 module _ (p : ℕ → Bool) (n : ℕ) where
-  pub turned_none : AreTurned p n 0 0 0
-  turned_none = let a = left_all p n in record { counted = omega (arith, a); least = omega arith; most = omega arith; few = omega arith }
-
   pub turned_one : (i dips searches one more : ℕ) → AreTurned p n i dips searches → i < n → one ≡ (if p i then 1 else 0) → one ≤ more → more ≤ 2
       → AreTurned p n (i + 1) (dips + one) (searches + more)
   turned_one i dips searches one more h low is least most =
@@ -97,12 +93,6 @@ module _ (p : ℕ → Bool) (n : ℕ) where
       let c = h.counted in
       let none = left_none p i n past in
       omega (arith, c, none)
-
--- a bus is energised where the component is that stands at it
-pub fed : (t : Tables) (n : Network) → n ≡ network_of t → (bus c : ℕ) → c ≡ slice_index n.components.of_buses bus → slice_index_or n.components.energised c false ≡ is_energised_bus t bus
-fed t n same bus c at =
-    ap (λ (x : ℕ). slice_index_or n.components.energised x false) at
-    ∙ ap (λ (x : Network). slice_index_or x.components.energised (slice_index x.components.of_buses bus) false) same
 
 pub islands_are_counted : (t : Tables) → length (filter (is_first_of_island t) (range_with_len 0 (case_bus_count t))) ≡ island_count t
 unfolding island_count

@@ -252,74 +252,53 @@ four : (words : List (List ℕ)) → length words ≡ 4 → (a : List ℕ) × (b
 four [] l = absurd (omega (arith, l))
 four (a ∷ words) l = let t = three words (omega (arith, l)) in (a, t.0, t.1, t.2, ap (λ (ws : List (List ℕ)). a ∷ ws) t.3)
 
+-- words that are made of two or of four files have a form where they have it for any such files
+by_two : (f : List (List ℕ) → List (List ℕ)) (form : Form) (words files : List (List ℕ)) → length files ≡ 2 → words ≡ f files
+    → ((a b : List ℕ) → form_of (f (a ∷ b ∷ [])) ≡ Some form) → form_of words ≡ Some form
+by_two f form words files many is each = let t = two files many in subst (λ ws. form_of ws ≡ Some form) (sym (is ∙ ap f t.2)) (each t.0 t.1)
+
+by_four : (f : List (List ℕ) → List (List ℕ)) (form : Form) (words files : List (List ℕ)) → length files ≡ 4 → words ≡ f files
+    → ((a b d e : List ℕ) → form_of (f (a ∷ b ∷ d ∷ e ∷ [])) ≡ Some form) → form_of words ≡ Some form
+by_four f form words files many is each = let t = four files many in subst (λ ws. form_of ws ≡ Some form) (sym (is ∙ ap f t.4)) (each t.0 t.1 t.2 t.3)
+
 from_form : (words : List (List ℕ)) (form : Form) → IsFormOf form words → form_of words ≡ Some form
 from_form words Topology h = subst (λ (ws : List (List ℕ)). form_of ws ≡ Some Topology) (sym h.2) refl
 from_form words (Report Csv) (files, many, is) =
-    let t = four files many in
-    subst (λ (ws : List (List ℕ)). form_of ws ≡ Some (Report Csv)) (sym (is ∙ ap (λ (fs : List (List ℕ)). codes "report" ∷ codes "tables" ∷ fs) t.4)) refl
+    by_four (λ fs. codes "report" ∷ codes "tables" ∷ fs) (Report Csv) words files many is (λ a b d e. refl)
 from_form words (Report Cdf) (files, many, is) =
-    let t = two files many in
-    subst (λ (ws : List (List ℕ)). form_of ws ≡ Some (Report Cdf)) (sym (is ∙ ap (λ (fs : List (List ℕ)). codes "report" ∷ codes "cdf" ∷ fs) t.2)) refl
+    by_two (λ fs. codes "report" ∷ codes "cdf" ∷ fs) (Report Cdf) words files many is (λ a b. refl)
 from_form words (Report Matpower) (files, many, is) =
-    let t = two files many in
-    subst (λ (ws : List (List ℕ)). form_of ws ≡ Some (Report Matpower)) (sym (is ∙ ap (λ (fs : List (List ℕ)). codes "report" ∷ codes "matpower" ∷ fs) t.2)) refl
+    by_two (λ fs. codes "report" ∷ codes "matpower" ∷ fs) (Report Matpower) words files many is (λ a b. refl)
 from_form words (Place Csv) (files, candidates, many, is) =
-    let t = four files many in
-    subst (λ (ws : List (List ℕ)). form_of ws ≡ Some (Place Csv))
-    (sym (is ∙ ap (λ (fs : List (List ℕ)). codes "place" ∷ codes "tables" ∷ (fs ++ (candidates ∷ []))) t.4)) refl
+    by_four (λ fs. codes "place" ∷ codes "tables" ∷ (fs ++ (candidates ∷ []))) (Place Csv) words files many is (λ a b d e. refl)
 from_form words (Place Cdf) (files, candidates, many, is) =
-    let t = two files many in
-    subst (λ (ws : List (List ℕ)). form_of ws ≡ Some (Place Cdf))
-    (sym (is ∙ ap (λ (fs : List (List ℕ)). codes "place" ∷ codes "cdf" ∷ (fs ++ (candidates ∷ []))) t.2)) refl
+    by_two (λ fs. codes "place" ∷ codes "cdf" ∷ (fs ++ (candidates ∷ []))) (Place Cdf) words files many is (λ a b. refl)
 from_form words (Place Matpower) (files, candidates, many, is) =
-    let t = two files many in
-    subst (λ (ws : List (List ℕ)). form_of ws ≡ Some (Place Matpower))
-    (sym (is ∙ ap (λ (fs : List (List ℕ)). codes "place" ∷ codes "matpower" ∷ (fs ++ (candidates ∷ []))) t.2)) refl
+    by_two (λ fs. codes "place" ∷ codes "matpower" ∷ (fs ++ (candidates ∷ []))) (Place Matpower) words files many is (λ a b. refl)
 from_form words (Session Csv) (files, many, is) =
-    let t = four files many in
-    subst (λ (ws : List (List ℕ)). form_of ws ≡ Some (Session Csv)) (sym (is ∙ ap (λ (fs : List (List ℕ)). codes "session" ∷ codes "tables" ∷ fs) t.4)) refl
+    by_four (λ fs. codes "session" ∷ codes "tables" ∷ fs) (Session Csv) words files many is (λ a b d e. refl)
 from_form words (Session Cdf) (files, many, is) =
-    let t = two files many in
-    subst (λ (ws : List (List ℕ)). form_of ws ≡ Some (Session Cdf)) (sym (is ∙ ap (λ (fs : List (List ℕ)). codes "session" ∷ codes "cdf" ∷ fs) t.2)) refl
+    by_two (λ fs. codes "session" ∷ codes "cdf" ∷ fs) (Session Cdf) words files many is (λ a b. refl)
 from_form words (Session Matpower) (files, many, is) =
-    let t = two files many in
-    subst (λ (ws : List (List ℕ)). form_of ws ≡ Some (Session Matpower)) (sym (is ∙ ap (λ (fs : List (List ℕ)). codes "session" ∷ codes "matpower" ∷ fs) t.2)) refl
+    by_two (λ fs. codes "session" ∷ codes "matpower" ∷ fs) (Session Matpower) words files many is (λ a b. refl)
 from_form words (SessionWith Csv) (files, candidates, many, is) =
-    let t = four files many in
-    subst (λ (ws : List (List ℕ)). form_of ws ≡ Some (SessionWith Csv))
-    (sym (is ∙ ap (λ (fs : List (List ℕ)). codes "session" ∷ codes "tables" ∷ (fs ++ (codes "with" ∷ candidates ∷ []))) t.4)) refl
+    by_four (λ fs. codes "session" ∷ codes "tables" ∷ (fs ++ (codes "with" ∷ candidates ∷ []))) (SessionWith Csv) words files many is (λ a b d e. refl)
 from_form words (SessionWith Cdf) (files, candidates, many, is) =
-    let t = two files many in
-    subst (λ (ws : List (List ℕ)). form_of ws ≡ Some (SessionWith Cdf))
-    (sym (is ∙ ap (λ (fs : List (List ℕ)). codes "session" ∷ codes "cdf" ∷ (fs ++ (codes "with" ∷ candidates ∷ []))) t.2)) refl
+    by_two (λ fs. codes "session" ∷ codes "cdf" ∷ (fs ++ (codes "with" ∷ candidates ∷ []))) (SessionWith Cdf) words files many is (λ a b. refl)
 from_form words (SessionWith Matpower) (files, candidates, many, is) =
-    let t = two files many in
-    subst (λ (ws : List (List ℕ)). form_of ws ≡ Some (SessionWith Matpower))
-    (sym (is ∙ ap (λ (fs : List (List ℕ)). codes "session" ∷ codes "matpower" ∷ (fs ++ (codes "with" ∷ candidates ∷ []))) t.2)) refl
+    by_two (λ fs. codes "session" ∷ codes "matpower" ∷ (fs ++ (codes "with" ∷ candidates ∷ []))) (SessionWith Matpower) words files many is (λ a b. refl)
 from_form words (Verify Csv) (files, certificate, many, is) =
-    let t = four files many in
-    subst (λ (ws : List (List ℕ)). form_of ws ≡ Some (Verify Csv))
-    (sym (is ∙ ap (λ (fs : List (List ℕ)). codes "verify" ∷ codes "tables" ∷ (fs ++ (certificate ∷ []))) t.4)) refl
+    by_four (λ fs. codes "verify" ∷ codes "tables" ∷ (fs ++ (certificate ∷ []))) (Verify Csv) words files many is (λ a b d e. refl)
 from_form words (Verify Cdf) (files, certificate, many, is) =
-    let t = two files many in
-    subst (λ (ws : List (List ℕ)). form_of ws ≡ Some (Verify Cdf))
-    (sym (is ∙ ap (λ (fs : List (List ℕ)). codes "verify" ∷ codes "cdf" ∷ (fs ++ (certificate ∷ []))) t.2)) refl
+    by_two (λ fs. codes "verify" ∷ codes "cdf" ∷ (fs ++ (certificate ∷ []))) (Verify Cdf) words files many is (λ a b. refl)
 from_form words (Verify Matpower) (files, certificate, many, is) =
-    let t = two files many in
-    subst (λ (ws : List (List ℕ)). form_of ws ≡ Some (Verify Matpower))
-    (sym (is ∙ ap (λ (fs : List (List ℕ)). codes "verify" ∷ codes "matpower" ∷ (fs ++ (certificate ∷ []))) t.2)) refl
+    by_two (λ fs. codes "verify" ∷ codes "matpower" ∷ (fs ++ (certificate ∷ []))) (Verify Matpower) words files many is (λ a b. refl)
 from_form words (VerifyWith Csv) (files, candidates, certificate, many, is) =
-    let t = four files many in
-    subst (λ (ws : List (List ℕ)). form_of ws ≡ Some (VerifyWith Csv))
-    (sym (is ∙ ap (λ (fs : List (List ℕ)). codes "verify" ∷ codes "tables" ∷ (fs ++ (codes "with" ∷ candidates ∷ certificate ∷ []))) t.4)) refl
+    by_four (λ fs. codes "verify" ∷ codes "tables" ∷ (fs ++ (codes "with" ∷ candidates ∷ certificate ∷ []))) (VerifyWith Csv) words files many is (λ a b d e. refl)
 from_form words (VerifyWith Cdf) (files, candidates, certificate, many, is) =
-    let t = two files many in
-    subst (λ (ws : List (List ℕ)). form_of ws ≡ Some (VerifyWith Cdf))
-    (sym (is ∙ ap (λ (fs : List (List ℕ)). codes "verify" ∷ codes "cdf" ∷ (fs ++ (codes "with" ∷ candidates ∷ certificate ∷ []))) t.2)) refl
+    by_two (λ fs. codes "verify" ∷ codes "cdf" ∷ (fs ++ (codes "with" ∷ candidates ∷ certificate ∷ []))) (VerifyWith Cdf) words files many is (λ a b. refl)
 from_form words (VerifyWith Matpower) (files, candidates, certificate, many, is) =
-    let t = two files many in
-    subst (λ (ws : List (List ℕ)). form_of ws ≡ Some (VerifyWith Matpower))
-    (sym (is ∙ ap (λ (fs : List (List ℕ)). codes "verify" ∷ codes "matpower" ∷ (fs ++ (codes "with" ∷ candidates ∷ certificate ∷ []))) t.2)) refl
+    by_two (λ fs. codes "verify" ∷ codes "matpower" ∷ (fs ++ (codes "with" ∷ candidates ∷ certificate ∷ []))) (VerifyWith Matpower) words files many is (λ a b. refl)
 from_form words (Trial rows seed) (n, s, is, first, low, high, second) =
     subst (λ (ws : List (List ℕ)). form_of ws ≡ Some (Trial rows seed)) (sym is)
     (subst (λ (o : Option ℕ). trial_form o (whole_of s) ≡ Some (Trial rows seed)) (sym first)

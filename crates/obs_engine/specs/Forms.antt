@@ -1,12 +1,13 @@
 -- What a form of words takes, and which answers it can have.
-use Rattle.std.specs.Prelude.{ℕ, ◌≡◌, ◌≢◌, ◌≤◌, ◌⊎◌, false, List, [], ◌∷◌, ◌++◌, Option, None, Some}
+use Rattle.std.specs.Prelude.{ℕ, ◌≡◌, ◌≢◌, ◌≤◌, ◌⊎◌, false, List, [], ◌∷◌, ◌++◌, Option, None, Some, Ok}
+use Rattle.obs_case.specs.Tables.{Tables}
 use Rattle.obs_io.specs.Causes.{Rose}
 use Rattle.obs_matroid.specs.Lists.{In}
 use Rattle.obs_engine.specs.declared.status.Status.{Status}
 use Rattle.obs_engine.specs.declared.status.Status.TheVariants.{Done, Short, Usage, InputFault, ReadFault, WriteFault, NoMemory, SessionTooLong}
 use Rattle.obs_engine.specs.declared.words.Form.{Form}
 use Rattle.obs_engine.specs.declared.words.Form.TheVariants.{Topology, Report, Place, Session, SessionWith, Verify, VerifyWith, Trial}
-use Rattle.obs_engine.specs.Files.{is_too_long}
+use Rattle.obs_engine.specs.Files.{case_in_files, is_too_long}
 use Rattle.obs_engine.specs.Words.{file_words}
 
 abbrev pub IsFileWord : Option Form → ℕ → Type 0
@@ -64,6 +65,11 @@ AreTold content file (w ∷ words) = (content w ≡ Some (file w)) × (is_too_lo
 abbrev pub AreFiles : Option Form → (ℕ → Option (List ℕ)) → (ℕ → List ℕ) → Type 0
 AreFiles form content file = AreTold content file (file_words form)
 
+-- the files of a form are a case
+abbrev pub AreCase : Option Form → (ℕ → List ℕ) → Type 0
+AreCase None file = ⊥
+AreCase (Some form) file = (t : Tables) × (case_in_files form file ≡ Ok t)
+
 -- reading the file of one of these words failed: its count of faults rose, all others are as they were, and each file before it fits,
 -- where its content is told
 pub record ReadFailed (words : List ℕ) (content : ℕ → Option (List ℕ)) (before now : ℕ → ℕ) : Type 0 where
@@ -75,7 +81,24 @@ pub record ReadFailed (words : List ℕ) (content : ℕ → Option (List ℕ)) (
   pub others : (w : ℕ) → w ≢ word → now w ≡ before w
   pub fits : (w : ℕ) → In w before_it → (bytes : List ℕ) → content w ≡ Some bytes → is_too_long bytes ≡ false
 
--- a read failed: that of a file of the form, or of the input, where the form takes it
-abbrev pub AnyReadFailed : Option Form → (ℕ → Option (List ℕ)) → (ℕ → ℕ) → (ℕ → ℕ) → ℕ → ℕ → Type 0
-AnyReadFailed form content before now input_before input_now =
-    ReadFailed (file_words form) content before now ⊎ (TakesInput form × Rose input_before input_now)
+-- reading a file of a form failed: nothing of the input was asked for, and nothing is written
+pub record FileFailed
+    (form : Option Form) (content : ℕ → Option (List ℕ)) (before now : ℕ → ℕ) (left left_now : Option (List ℕ)) (input_before input_now : ℕ)
+    (written written_now : Option (List ℕ)) : Type 0 where
+  pub file : ReadFailed (file_words form) content before now
+  pub input : left_now ≡ left
+  pub input_faults : input_now ≡ input_before
+  pub output : written_now ≡ written
+
+-- reading the input failed, where the form takes it: no read of a file did, and the files are a case, where their contents are told
+pub record InputFailed (form : Option Form) (content : ℕ → Option (List ℕ)) (before now : ℕ → ℕ) (input_before input_now : ℕ) : Type 0 where
+  pub takes : TakesInput form
+  pub rose : Rose input_before input_now
+  pub files : (w : ℕ) → now w ≡ before w
+  pub case : (file : ℕ → List ℕ) → AreFiles form content file → AreCase form file
+
+-- a read failed: that of a file of the form, or that of the input
+abbrev pub AnyReadFailed : Option Form → (ℕ → Option (List ℕ)) → (ℕ → ℕ) → (ℕ → ℕ) → Option (List ℕ) → Option (List ℕ) → ℕ → ℕ
+    → Option (List ℕ) → Option (List ℕ) → Type 0
+AnyReadFailed form content before now left left_now input_before input_now written written_now =
+    FileFailed form content before now left left_now input_before input_now written written_now ⊎ InputFailed form content before now input_before input_now

@@ -51,16 +51,15 @@ pub record RanAt
       → (TakesInput form → input_steady) → HasRoom form told has_room → (status ≡ NoMemory) ⊎ Answers form told status before now
   -- which answers it can have, and the cause of each that says that something failed
   pub statuses : CanAnswer form status
-  pub read : status ≡ ReadFault → AnyReadFailed form content files_before files_now input_before input_now
+  pub read : status ≡ ReadFault → AnyReadFailed form content files_before files_now left left_now input_before input_now before now
   pub write : status ≡ WriteFault → Rose sink_before sink_now
   -- a call that fails isn't passed over
   pub quiet_files : status ≢ ReadFault → (w : ℕ) → files_now w ≡ files_before w
   pub quiet_input : status ≢ ReadFault → input_now ≡ input_before
   pub quiet_output : status ≢ WriteFault → sink_now ≡ sink_before
-  -- nothing is written and nothing taken for want of memory, and nothing is written after a failed read of a file
+  -- nothing is written and nothing taken for want of memory
   pub memory : status ≡ NoMemory → now ≡ before
   pub memory_input : status ≡ NoMemory → left_now ≡ left
-  pub unread : (TakesInput form → ⊥) → status ≡ ReadFault → now ≡ before
   pub taken : TakesInput form → (input : List ℕ) → left ≡ Some input → IsTakenFront input left_now status
 
 -- the same over the members of files, a source and a sink

@@ -2,6 +2,7 @@
 use Rattle.std.specs.Prelude.{ℕ, ◌≡◌, ◌≢◌, ◌≤◌, ◌+◌, ◌-◌, ◌⊎◌, Bool, nat_lt, List, [], length, take, drop, Option, None, Some, if◌then◌else◌}
 use Rattle.obs_case.specs.Tables.{Tables}
 use Rattle.obs_io.specs.Causes.{Rose}
+use Rattle.obs_text.specs.Limits.{most_file_bytes}
 use Rattle.obs_text.specs.Lines.{lines_of}
 use Rattle.obs_engine.specs.declared.status.Status.{Status}
 use Rattle.obs_engine.specs.declared.status.Status.TheVariants.{Done, Short, InputFault, ReadFault, WriteFault, NoMemory, SessionTooLong}
@@ -9,9 +10,9 @@ use Rattle.obs_engine.specs.Asks.{report_status}
 use Rattle.obs_engine.specs.Lines.{ended_after, lines_case, lines_text}
 use Rattle.obs_engine.specs.Replies.{EndsBehind, Reply}
 
--- the most bytes that an input may have
+-- the most bytes that an input may have: as many as a file
 abbrev pub most_input_bytes : ℕ
-most_input_bytes = 16777216
+most_input_bytes = most_file_bytes
 
 -- the reply to an input that isn't too long: each line is answered, and the status is that of the present case at the end
 abbrev pub whole_reply : Bool → Tables → List ℕ → Reply

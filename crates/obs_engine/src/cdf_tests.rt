@@ -1,8 +1,9 @@
 // Reports on cases in the IEEE Common Data Format.
-ghost use Rattle.std.specs.Prelude.{◌≤◌, length};
 
 use crate::Status;
 use crate::tests::{answers, failing_reads};
+use crate::verdicts::front;
+use crate::worked::NO_METERS;
 use std::alloc::Global;
 use std::process::Abort;
 use std::test::Fail;
@@ -141,17 +142,6 @@ fn a_further_meter_leaves_fewer_critical(rt: HostRuntime) -> Result<(), Fail> {
     answers(&rt, rt.alloc(), &CDF, &files, Status::Done, text)
 }
 
-// The file's first bytes.
-fn front(bytes: &[u8], count: usize) -> &[u8]
-    ensures short { length result.now ≤ count }
-{
-    if count <= bytes.len() {
-        &bytes[..count]
-    } else {
-        bytes
-    }
-}
-
 // A file's length, and the fault that its first bytes then have.
 #[derive(Clone, Copy)]
 struct Cut {
@@ -275,7 +265,7 @@ fn each_read_of_a_cdf_report_may_fail(rt: HostRuntime) -> Result<(), Fail> {
     let files = [
         b"".as_slice(),
         b"BUS DATA\n-999\nBRANCH DATA\n-999\n",
-        b"meter,kind,at,inservice\n",
+        NO_METERS,
     ];
     let reads = failing_reads(&rt, rt.alloc(), &CDF, &files)?;
     assert!(rt; reads > 2);

@@ -2,16 +2,16 @@
 
 use crate::Status;
 use crate::grids::make_grid;
-use crate::tests::{Ended, entries, outcome, outcome_from};
-use obs_io::MemSource;
+use crate::tests::{Ended, QUIET, entries, outcome, outcome_over, taking};
+use crate::worked::{
+    NO_CANDIDATES, NO_METERS, NO_SWITCHES, PATH_BRANCHES, PATH_CANDIDATES, PATH_METERS, PATH_NODES,
+    SESSION_WITH, TRIANGLE_BRANCHES, TRIANGLE_METERS, TRIANGLE_NODES, VERIFY_WITH,
+};
+use obs_io::Entry;
 use obs_text::{Digits, lines};
 use std::alloc::Global;
 use std::process::Abort;
 use std::test::Fail;
-
-const SESSION: [&str; 8] = ["session", "tables", "n", "s", "b", "m", "with", "c"];
-
-const VERIFY: [&str; 9] = ["verify", "tables", "n", "s", "b", "m", "with", "c", "cert"];
 
 // Five tables.
 #[derive(Clone, Copy)]
@@ -23,20 +23,12 @@ struct Tables<'a> {
     candidates: &'a [u8],
 }
 
-const NO_SWITCHES: &[u8] = b"switch,from,to,closed\n";
-
-const NO_CANDIDATES: &[u8] = b"candidate,kind,at,price\n";
-
-const LINES: &[u8] = b"branch,from,to,inservice\nL1,a,b,1\nL2,b,c,1\nL3,c,d,1\n";
-
-const RING: &[u8] = b"branch,from,to,inservice\nL1,a,b,1\nL2,b,c,1\nL3,c,a,1\n";
-
 // Four buses in a row, and what is measured on them.
 fn path(meters: &'static [u8], candidates: &'static [u8]) -> Tables<'static> {
     Tables {
-        nodes: b"node,source\na,1\nb,0\nc,0\nd,0\n",
+        nodes: PATH_NODES,
         switches: NO_SWITCHES,
-        branches: LINES,
+        branches: PATH_BRANCHES,
         meters,
         candidates,
     }
@@ -45,34 +37,27 @@ fn path(meters: &'static [u8], candidates: &'static [u8]) -> Tables<'static> {
 // Three buses in a ring.
 fn ring(meters: &'static [u8], candidates: &'static [u8]) -> Tables<'static> {
     Tables {
-        nodes: b"node,source\na,1\nb,0\nc,0\n",
-        branches: RING,
+        nodes: TRIANGLE_NODES,
+        branches: TRIANGLE_BRANCHES,
         ..path(meters, candidates)
     }
 }
 
 // A path with some meters or none, and each kind of candidate and of price; rings; one name in each table; two sources.
 fn small() -> [Tables<'static>; 9] {
-    let three =
-        b"meter,kind,at,inservice\nf1,flow,L1,1\nf2,flow,L1,1\nib,injection,b,1\n".as_slice();
-    let two = b"meter,kind,at,inservice\nia,injection,a,1\nf1,flow,L1,1\n".as_slice();
-    let none = b"meter,kind,at,inservice\n".as_slice();
     [
-        path(three, NO_CANDIDATES),
+        path(PATH_METERS, NO_CANDIDATES),
+        path(PATH_METERS, PATH_CANDIDATES),
         path(
-            three,
-            b"candidate,kind,at,price\np1,flow,L2,0\np2,injection,c,3\np3,flow,L3,5\n",
-        ),
-        path(
-            three,
+            PATH_METERS,
             b"candidate,kind,at,price\np3,flow,L3,2\np2,injection,c,2\np1,injection,d,2\n",
         ),
         path(
-            none,
+            NO_METERS,
             b"candidate,kind,at,price\np1,flow,L1,0\np2,flow,L2,0\np3,zero,d,0\n",
         ),
-        path(none, b"candidate,kind,at,price\np1,flow,L1,1\n"),
-        ring(two, NO_CANDIDATES),
+        path(NO_METERS, b"candidate,kind,at,price\np1,flow,L1,1\n"),
+        ring(TRIANGLE_METERS, NO_CANDIDATES),
         ring(
             b"meter,kind,at,inservice\nia,injection,a,0\nf1,flow,L1,1\n",
             b"candidate,kind,at,price\np1,flow,L1,1\np2,flow,L2,1\np3,flow,L3,1\n",
@@ -96,26 +81,22 @@ fn small() -> [Tables<'static>; 9] {
     ]
 }
 
-// What a session with one line answers.
-fn answer(alloc: Global, tables: Tables<'_>, line: &[u8]) -> Result<Ended, Fail> {
-    let files = [
-        b"".as_slice(),
+// The files of five tables.
+fn files(tables: Tables<'_>) -> [&[u8]; 7] {
+    [
+        b"",
         tables.nodes,
         tables.switches,
         tables.branches,
         tables.meters,
         b"",
         tables.candidates,
-    ];
-    let mut input = MemSource::new(Vec::from_slice(alloc, line)?, 64, Vec::new(alloc));
-    outcome_from(
-        alloc,
-        &SESSION,
-        entries(alloc, &files)?,
-        &mut input,
-        &[],
-        &[],
-    )
+    ]
+}
+
+// What a session with one line answers.
+fn answer(alloc: Global, tables: Tables<'_>, line: &[u8]) -> Result<Ended, Fail> {
+    outcome(alloc, &SESSION_WITH, &files(tables), taking(line, 64))
 }
 
 // How many lines begin a claim.
@@ -137,17 +118,12 @@ fn count_claims(text: &[u8]) -> u64 {
 fn are_valid(rt: &impl Abort, alloc: Global, tables: Tables<'_>) -> Result<(), Fail> {
     for line in [b"tree".as_slice(), b"bound", b"cert", b"place"] {
         let asked = answer(alloc, tables, line)?;
-        let files = [
-            b"".as_slice(),
-            tables.nodes,
-            tables.switches,
-            tables.branches,
-            tables.meters,
-            b"",
-            tables.candidates,
-            &asked.text,
-        ];
-        let found = outcome(alloc, &VERIFY, &files, &[], &[])?;
+        let mut entries = entries(alloc, &files(tables))?;
+        entries.push(Entry {
+            word: 8,
+            bytes: Vec::from_slice(alloc, &asked.text)?,
+        })?;
+        let found = outcome_over(alloc, &VERIFY_WITH, entries, QUIET)?;
         assert!(rt; found.status == Status::Done);
         let mut digits = Digits::new();
         let rest = found
@@ -204,10 +180,7 @@ fn placements_are_the_same_again(rt: HostRuntime) -> Result<(), Fail> {
 // The claims of a ring of three buses with two meters are its tree.
 #[test]
 fn the_claims_of_a_ring_are_its_tree(rt: HostRuntime) -> Result<(), Fail> {
-    let tables = ring(
-        b"meter,kind,at,inservice\nia,injection,a,1\nf1,flow,L1,1\n",
-        NO_CANDIDATES,
-    );
+    let tables = ring(TRIANGLE_METERS, NO_CANDIDATES);
     let asked = answer(rt.alloc(), tables, b"cert\n")?;
     assert!(rt;
         asked.text.as_slice()

@@ -1,8 +1,7 @@
 // The claims on the components of a session's case, printed.
 // Each call finds what is not at hand, and leaves the case as it is.
-ghost use Rattle.std.specs.Prelude.{◌≡◌, ◌<◌, true};
+ghost use Rattle.std.specs.Prelude.{◌≡◌, ◌<◌};
 ghost use Rattle.obs_network.specs.Network.{case_component_count};
-ghost use Rattle.obs_network.specs.Observable.{is_energised_component};
 ghost use Rattle.obs_report.specs.Printed.{Appends};
 ghost use Rattle.obs_engine.specs.Asks.{bound_claim, claims_text, component_claim, tree_claim};
 

@@ -2,14 +2,12 @@
 
 use crate::Status;
 use crate::grids::{Grid, make_grid};
-use crate::tests::{Ended, entries, outcome_from};
-use obs_io::MemSource;
+use crate::tests::{Ended, outcome, taking};
+use crate::worked::SESSION;
 use obs_text::{Digits, lines};
 use std::alloc::Global;
 use std::process::Abort;
 use std::test::Fail;
-
-const SESSION: [&str; 6] = ["session", "tables", "n", "s", "b", "m"];
 
 // The words that turn a flag of a table and turn it back, and the letter before the numbers of its names.
 #[derive(Clone, Copy)]
@@ -41,15 +39,7 @@ const TURNS: [Words; 3] = [
 fn session(alloc: Global, grid: &Grid, changed: [&[u8]; 3], input: &[u8]) -> Result<Ended, Fail> {
     let [switches, branches, meters] = changed;
     let files = [b"".as_slice(), &grid.nodes, switches, branches, meters];
-    let mut input = MemSource::new(Vec::from_slice(alloc, input)?, 4096, Vec::new(alloc));
-    outcome_from(
-        alloc,
-        &SESSION,
-        entries(alloc, &files)?,
-        &mut input,
-        &[],
-        &[],
-    )
+    outcome(alloc, &SESSION, &files, taking(input, 4096))
 }
 
 // The table with the flag of a row turned. Each line ends with its flag.

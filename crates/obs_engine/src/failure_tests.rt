@@ -1,30 +1,12 @@
 // A failure at each call of each command over each form of a case.
 
-use crate::tests::{Ended, entries};
-use crate::{Status, run};
-use obs_io::{Entry, MemFiles, MemSink, MemSource};
+use crate::Status;
+use crate::tests::{Ended, Outside, QUIET, entries, outcome_over};
+use crate::worked::{BRANCH, CANDIDATE, CDF_FILE, MATPOWER_FILE, METER, NO_SWITCHES, NODES, OUT};
+use obs_io::Entry;
 use std::alloc::Global;
 use std::process::Abort;
 use std::test::Fail;
-
-// One network in the three forms of a case: two buses, a branch between them, and a flow meter on it.
-pub(crate) const NODES: &[u8] = b"node,source\n1,1\n2,0\n";
-
-pub(crate) const SWITCHES: &[u8] = b"switch,from,to,closed\n";
-
-pub(crate) const BRANCHES: &[u8] = b"branch,from,to,inservice\nL1,1,2,1\n";
-
-pub(crate) const CDF: &[u8] =
-    b"BUS DATA FOLLOWS\n   1                     3\n   2                     0\n-999\nBRANCH DATA FOLLOWS\n   1    2\n-999\n";
-
-pub(crate) const MATPOWER: &[u8] =
-    b"mpc.bus = [\n1 3;\n2 1;\n];\nmpc.branch = [\n1 2 0 0 0 0 0 0 0 0 1;\n];\n";
-
-pub(crate) const METERS: &[u8] = b"meter,kind,at,inservice\nf1,flow,L1,1\n";
-
-pub(crate) const OUT: &[u8] = b"meter,kind,at,inservice\nf1,flow,L1,0\n";
-
-pub(crate) const CANDIDATES: &[u8] = b"candidate,kind,at,price\nk1,flow,L1,2\n";
 
 const TREE: &[u8] = b"tree\t1\npair\tmeter\tf1\tL1\nend\n";
 
@@ -38,49 +20,27 @@ pub(crate) struct Row<'a> {
     pub(crate) text: &'a [u8],
 }
 
-// The numbers of the calls that fail.
-#[derive(Clone, Copy)]
-pub(crate) struct Failing<'a> {
-    reads: &'a [u64],
-    takes: &'a [u64],
-    writes: &'a [u64],
-}
-
-pub(crate) const NONE: Failing<'static> = Failing {
-    reads: &[],
-    takes: &[],
-    writes: &[],
-};
-
 // A run over these files in which all bytes move in pieces of this length.
 pub(crate) fn outcome(
     alloc: Global,
     row: Row<'_>,
     entries: Vec<Entry>,
     piece: usize,
-    failing: Failing<'_>,
+    failing: Outside<'_>,
 ) -> Result<Ended, Fail> {
-    let mut words = Vec::new(alloc);
-    for word in row.words {
-        words.push(String::from_str(alloc, word)?)?;
-    }
-    let piece = piece.max(1);
-    let mut files = MemFiles::new(entries, piece, Vec::from_slice(alloc, failing.reads)?);
-    let input = Vec::from_slice(alloc, row.input)?;
-    let mut input = MemSource::new(input, piece, Vec::from_slice(alloc, failing.takes)?);
-    let fails = Vec::from_slice(alloc, failing.writes)?;
-    let mut output = MemSink::with_room(alloc, 10_000, piece, fails)
-        .ok()
-        .ok_or("no room")?;
-    let status = run(alloc, &words, &mut files, &mut input, &mut output);
-    Ok(Ended {
-        status,
-        text: Vec::from_slice(alloc, output.written())?,
-    })
+    let outside = Outside {
+        input: row.input,
+        read: piece,
+        taken: piece,
+        written: piece,
+        room: 10_000,
+        ..failing
+    };
+    outcome_over(alloc, row.words, entries, outside)
 }
 
 // The same over the files of the row.
-fn ended(alloc: Global, row: Row<'_>, piece: usize, failing: Failing<'_>) -> Result<Ended, Fail> {
+fn ended(alloc: Global, row: Row<'_>, piece: usize, failing: Outside<'_>) -> Result<Ended, Fail> {
     let entries = entries(alloc, row.files)?;
     outcome(alloc, row, entries, piece, failing)
 }
@@ -88,9 +48,9 @@ fn ended(alloc: Global, row: Row<'_>, piece: usize, failing: Failing<'_>) -> Res
 // Each read fails in turn: nothing is written.
 fn each_read_fails(rt: &impl Abort, alloc: Global, row: Row<'_>, piece: usize) -> Result<(), Fail> {
     for call in 0..2000 {
-        let reads = Failing {
-            reads: &[call],
-            ..NONE
+        let reads = Outside {
+            read_fails: &[call],
+            ..QUIET
         };
         let found = ended(alloc, row, piece, reads)?;
         if found.status != Status::ReadFault {
@@ -105,9 +65,9 @@ fn each_read_fails(rt: &impl Abort, alloc: Global, row: Row<'_>, piece: usize) -
 // Each take of the input fails in turn: what is written is the answer to the lines before it.
 fn each_take_fails(rt: &impl Abort, alloc: Global, row: Row<'_>, piece: usize) -> Result<(), Fail> {
     for call in 0..2000 {
-        let takes = Failing {
-            takes: &[call],
-            ..NONE
+        let takes = Outside {
+            take_fails: &[call],
+            ..QUIET
         };
         let found = ended(alloc, row, piece, takes)?;
         if found.status != Status::ReadFault {
@@ -127,9 +87,9 @@ fn each_write_fails(
     piece: usize,
 ) -> Result<(), Fail> {
     for call in 0..2000 {
-        let writes = Failing {
-            writes: &[call],
-            ..NONE
+        let writes = Outside {
+            write_fails: &[call],
+            ..QUIET
         };
         let found = ended(alloc, row, piece, writes)?;
         if found.status != Status::WriteFault {
@@ -151,7 +111,7 @@ fn each_call_fails(rt: &impl Abort, alloc: Global, rows: &[Row<'_>]) -> Result<(
             each_read_fails(rt, alloc, *row, piece)?;
             each_take_fails(rt, alloc, *row, piece)?;
             each_write_fails(rt, alloc, *row, piece)?;
-            let found = ended(alloc, *row, piece, NONE)?;
+            let found = ended(alloc, *row, piece, QUIET)?;
             assert!(rt; found.status == row.status);
             assert!(rt; found.text.as_slice() == row.text);
         }
@@ -189,17 +149,17 @@ fn each_call_of_a_report_may_fail(rt: HostRuntime) -> Result<(), Fail> {
     let rows = [
         Row {
             words: &["report", "tables", "n", "s", "b", "m"],
-            files: &[b"", NODES, SWITCHES, BRANCHES, METERS],
+            files: &[b"", NODES, NO_SWITCHES, BRANCH, METER],
             ..row
         },
         Row {
             words: &["report", "cdf", "c", "m"],
-            files: &[b"", CDF, METERS],
+            files: &[b"", CDF_FILE, METER],
             ..row
         },
         Row {
             words: &["report", "matpower", "c", "m"],
-            files: &[b"", MATPOWER, METERS],
+            files: &[b"", MATPOWER_FILE, METER],
             ..row
         },
     ];
@@ -212,17 +172,17 @@ fn each_call_of_a_placement_may_fail(rt: HostRuntime) -> Result<(), Fail> {
     let rows = [
         Row {
             words: &["place", "tables", "n", "s", "b", "m", "k"],
-            files: &[b"", NODES, SWITCHES, BRANCHES, OUT, CANDIDATES],
+            files: &[b"", NODES, NO_SWITCHES, BRANCH, OUT, CANDIDATE],
             ..row
         },
         Row {
             words: &["place", "cdf", "c", "m", "k"],
-            files: &[b"", CDF, OUT, CANDIDATES],
+            files: &[b"", CDF_FILE, OUT, CANDIDATE],
             ..row
         },
         Row {
             words: &["place", "matpower", "c", "m", "k"],
-            files: &[b"", MATPOWER, OUT, CANDIDATES],
+            files: &[b"", MATPOWER_FILE, OUT, CANDIDATE],
             ..row
         },
     ];
@@ -235,17 +195,17 @@ fn each_call_of_a_session_may_fail(rt: HostRuntime) -> Result<(), Fail> {
     let rows = [
         Row {
             words: &["session", "tables", "n", "s", "b", "m"],
-            files: &[b"", NODES, SWITCHES, BRANCHES, METERS],
+            files: &[b"", NODES, NO_SWITCHES, BRANCH, METER],
             ..row
         },
         Row {
             words: &["session", "cdf", "c", "m"],
-            files: &[b"", CDF, METERS],
+            files: &[b"", CDF_FILE, METER],
             ..row
         },
         Row {
             words: &["session", "matpower", "c", "m"],
-            files: &[b"", MATPOWER, METERS],
+            files: &[b"", MATPOWER_FILE, METER],
             ..row
         },
     ];
@@ -258,17 +218,17 @@ fn each_call_of_a_session_with_candidates_may_fail(rt: HostRuntime) -> Result<()
     let rows = [
         Row {
             words: &["session", "tables", "n", "s", "b", "m", "with", "k"],
-            files: &[b"", NODES, SWITCHES, BRANCHES, METERS, b"", CANDIDATES],
+            files: &[b"", NODES, NO_SWITCHES, BRANCH, METER, b"", CANDIDATE],
             ..row
         },
         Row {
             words: &["session", "cdf", "c", "m", "with", "k"],
-            files: &[b"", CDF, METERS, b"", CANDIDATES],
+            files: &[b"", CDF_FILE, METER, b"", CANDIDATE],
             ..row
         },
         Row {
             words: &["session", "matpower", "c", "m", "with", "k"],
-            files: &[b"", MATPOWER, METERS, b"", CANDIDATES],
+            files: &[b"", MATPOWER_FILE, METER, b"", CANDIDATE],
             ..row
         },
     ];
@@ -281,17 +241,17 @@ fn each_call_of_a_verdict_may_fail(rt: HostRuntime) -> Result<(), Fail> {
     let rows = [
         Row {
             words: &["verify", "tables", "n", "s", "b", "m", "t"],
-            files: &[b"", NODES, SWITCHES, BRANCHES, METERS, TREE],
+            files: &[b"", NODES, NO_SWITCHES, BRANCH, METER, TREE],
             ..row
         },
         Row {
             words: &["verify", "cdf", "c", "m", "t"],
-            files: &[b"", CDF, METERS, TREE],
+            files: &[b"", CDF_FILE, METER, TREE],
             ..row
         },
         Row {
             words: &["verify", "matpower", "c", "m", "t"],
-            files: &[b"", MATPOWER, METERS, TREE],
+            files: &[b"", MATPOWER_FILE, METER, TREE],
             ..row
         },
     ];
@@ -304,17 +264,17 @@ fn each_call_of_a_verdict_with_candidates_may_fail(rt: HostRuntime) -> Result<()
     let rows = [
         Row {
             words: &["verify", "tables", "n", "s", "b", "m", "with", "k", "t"],
-            files: &[b"", NODES, SWITCHES, BRANCHES, OUT, b"", CANDIDATES, PLAN],
+            files: &[b"", NODES, NO_SWITCHES, BRANCH, OUT, b"", CANDIDATE, PLAN],
             ..row
         },
         Row {
             words: &["verify", "cdf", "c", "m", "with", "k", "t"],
-            files: &[b"", CDF, OUT, b"", CANDIDATES, PLAN],
+            files: &[b"", CDF_FILE, OUT, b"", CANDIDATE, PLAN],
             ..row
         },
         Row {
             words: &["verify", "matpower", "c", "m", "with", "k", "t"],
-            files: &[b"", MATPOWER, OUT, b"", CANDIDATES, PLAN],
+            files: &[b"", MATPOWER_FILE, OUT, b"", CANDIDATE, PLAN],
             ..row
         },
     ];

@@ -11,10 +11,11 @@ use obs_assign::Steps;
 use obs_edit::Session;
 use obs_io::{Failed, Sink, Source};
 use obs_script::Gather;
+use obs_text::MOST_FILE_BYTES;
 use std::sync::ledger::Ledger;
 
-/// The most bytes that an input may have.
-const MOST_BYTES: usize = 16_777_216;
+/// The most bytes that an input may have: as many as a file.
+const MOST_BYTES: usize = MOST_FILE_BYTES;
 
 /// How many bytes are taken at once.
 const PIECE: usize = 4096;

@@ -52,6 +52,8 @@ mod verify;
 #[cfg(test)]
 mod verify_tests;
 mod words;
+#[cfg(test)]
+mod worked;
 
 pub use program::run;
 pub use status::Status;

@@ -2,6 +2,7 @@
 
 use crate::Status;
 use crate::tests::answers;
+use crate::worked::{METER, too_long};
 use std::alloc::Global;
 use std::process::Abort;
 use std::test::Fail;
@@ -45,23 +46,6 @@ mpc.branch = [\r
 \t3\t1\t0\t0\t0\t0\t0\t0\t0\t0\t0;\r
 \t3\t4\t0\t0\t0\t0\t0\t0\t0\t0\t1\r
 ];\r
-"
-}
-
-// The file without its last line.
-fn open() -> &'static [u8] {
-    b"function mpc = three
-mpc.version = '2';
-mpc.bus = [
- 1 3 0 0;
- 2 1 0 0; 3,1,0,0
- 4 4 0 0;
-];
-mpc.branch = [
- 1 2 0 0 0 0 0 0 0 0 1;
- 2 3 0 0 0 0 0 0 0 0 1; % second
- 3 1 0 0 0 0 0 0 0 0 0;
- 3 4 0 0 0 0 0 0 0 0 1
 "
 }
 
@@ -129,13 +113,17 @@ fn a_matpower_file_has_at_most_16777216_bytes(rt: HostRuntime) -> Result<(), Fai
 #[test]
 fn the_first_fault_of_a_matpower_case_is_printed(rt: HostRuntime) -> Result<(), Fail> {
     let fault = Status::InputFault;
+    // The last line is absent.
+    let cut = three()
+        .strip_suffix(b"];\n".as_slice())
+        .ok_or("another line")?;
     let text = b"fault\tmatpower\t0\t4\tBranchTableOpen\n".as_slice();
-    reports(&rt, rt.alloc(), open(), fault, text)?;
+    reports(&rt, rt.alloc(), cut, fault, text)?;
     let text = b"fault\tmatpower\t9\t10\tShortRow\n".as_slice();
     reports(&rt, rt.alloc(), short_row(), fault, text)?;
     let text = b"fault\tmatpower\t5\t7\tBusTwice\n".as_slice();
     reports(&rt, rt.alloc(), bus_twice(), fault, text)?;
-    let long = crate::tests::too_long(rt.alloc())?;
+    let long = too_long(rt.alloc())?;
     let text = b"fault\tmatpower\t0\t14\tTooLong\n".as_slice();
     reports(&rt, rt.alloc(), &long, fault, text)
 }
@@ -146,8 +134,7 @@ fn a_matpower_case_has_candidates_too(rt: HostRuntime) -> Result<(), Fail> {
     let words = ["place", "matpower", "c", "m", "k"];
     let candidates =
         b"candidate,kind,at,price\nk1,flow,L3,1\nk2,injection,2,7\nk3,flow,L2,9\n".as_slice();
-    let meters = b"meter,kind,at,inservice\nf1,flow,L1,1\n".as_slice();
-    let files = [b"".as_slice(), three(), meters, candidates];
+    let files = [b"".as_slice(), three(), METER, candidates];
     let text =
         b"cost\t7\nchosen\tk2\npair\tmeter\tf1\tL1\npair\tcandidate\tk2\tL2\nlayer\t0\t7\t0\t1\nend\n";
     answers(&rt, rt.alloc(), &words, &files, Status::Done, text)

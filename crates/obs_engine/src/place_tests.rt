@@ -1,8 +1,10 @@
 // The printed text of worked placements.
 
 use crate::Status;
-use crate::tests::{answers, failing_reads, failing_writes, outcome_over, too_long};
-use obs_io::Entry;
+use crate::tests::{QUIET, answers, failing_reads, failing_writes, outcome_over};
+use crate::worked::{
+    CDF_FILE, NO_CANDIDATES, NO_METERS, PATH_CANDIDATES, path, too_long_behind, triangle,
+};
 use std::alloc::Global;
 use std::process::Abort;
 use std::test::Fail;
@@ -21,34 +23,10 @@ struct Row {
     text: &'static [u8],
 }
 
-// Four buses in a row, two meters on the first branch, and an injection at the second bus.
-fn path(candidates: &'static [u8]) -> [&'static [u8]; 6] {
-    [
-        b"",
-        b"node,source\na,1\nb,0\nc,0\nd,0\n",
-        b"switch,from,to,closed\n",
-        b"branch,from,to,inservice\nL1,a,b,1\nL2,b,c,1\nL3,c,d,1\n",
-        b"meter,kind,at,inservice\nf1,flow,L1,1\nf2,flow,L1,1\nib,injection,b,1\n",
-        candidates,
-    ]
-}
-
-// A ring of three buses that is observable.
-fn triangle(candidates: &'static [u8]) -> [&'static [u8]; 6] {
-    [
-        b"",
-        b"node,source\na,1\nb,0\nc,0\n",
-        b"switch,from,to,closed\n",
-        b"branch,from,to,inservice\nL1,a,b,1\nL2,b,c,1\nL3,c,a,1\n",
-        b"meter,kind,at,inservice\nia,injection,a,1\nf1,flow,L1,1\n",
-        candidates,
-    ]
-}
-
 // The path, whose cheapest plan takes the candidate of price 3.
 fn plan() -> Row {
     Row {
-        candidates: b"candidate,kind,at,price\np1,flow,L2,0\np2,injection,c,3\np3,flow,L3,5\n",
+        candidates: PATH_CANDIDATES,
         status: Status::Done,
         text: b"cost\t3\nchosen\tp2\npair\tmeter\tf1\tL1\npair\tmeter\tib\tL2\npair\tcandidate\tp2\tL3\nlayer\t0\t3\t2\t0\ninside\tmeter\tf1\ninside\tmeter\tf2\ninside\tmeter\tib\ninside\tcandidate\tp1\nend\n",
     }
@@ -87,22 +65,10 @@ fn an_observable_case_needs_no_candidate(rt: HostRuntime) -> Result<(), Fail> {
 }
 
 // Two buses with a branch between them, and one meter that is to be bought.
-fn pair_of_buses() -> &'static [u8] {
-    b"BUS DATA FOLLOWS
-   1                     3
-   2                     0
--999
-BRANCH DATA FOLLOWS
-   1    2
--999
-"
-}
-
 #[test]
 fn a_cdf_file_has_candidates_too(rt: HostRuntime) -> Result<(), Fail> {
-    let meters = b"meter,kind,at,inservice\n".as_slice();
     let candidates = b"candidate,kind,at,price\nk1,flow,L1,20\nk2,injection,2,10\n".as_slice();
-    let files = [b"".as_slice(), pair_of_buses(), meters, candidates];
+    let files = [b"".as_slice(), CDF_FILE, NO_METERS, candidates];
     let text = b"cost\t10\nchosen\tk2\npair\tcandidate\tk2\tL1\nlayer\t0\t10\t0\t0\nend\n";
     answers(&rt, rt.alloc(), &CDF, &files, Status::Done, text)
 }
@@ -132,16 +98,16 @@ fn faults_of_tables_behind_a_file_are_printed(rt: HostRuntime) -> Result<(), Fai
     let matpower = b"mpc.bus = [1 3; 2 1];\nmpc.branch = [1 2 0 0 0 0 0 0 0 0 1];\n".as_slice();
     let meters = Tables {
         meters: b"meter,kind,at,inservice\nf1,flow,L9,1\n",
-        candidates: b"candidate,kind,at,price\n",
+        candidates: NO_CANDIDATES,
         text: b"fault\tmeters\t1\t11\tUnknownPlace\n",
     };
     let candidates = Tables {
-        meters: b"meter,kind,at,inservice\n",
+        meters: NO_METERS,
         candidates: b"candidate,kind,at,price\nk1,flow,L1,1000000001\n",
         text: b"fault\tcandidates\t1\t8\tBadPrice\n",
     };
     for tables in [meters, candidates] {
-        faults_behind(&rt, rt.alloc(), &CDF, pair_of_buses(), tables)?;
+        faults_behind(&rt, rt.alloc(), &CDF, CDF_FILE, tables)?;
         faults_behind(&rt, rt.alloc(), &MATPOWER, matpower, tables)?;
     }
     Ok(())
@@ -150,7 +116,7 @@ fn faults_of_tables_behind_a_file_are_printed(rt: HostRuntime) -> Result<(), Fai
 // The files of 28, 22, 52, 67 and 67 bytes are read in pieces of seven bytes, with one read more at the end of each.
 #[test]
 fn each_read_of_a_placement_may_fail(rt: HostRuntime) -> Result<(), Fail> {
-    let files = path(plan().candidates);
+    let files = path(PATH_CANDIDATES);
     let reads = failing_reads(&rt, rt.alloc(), &TABLES, &files)?;
     assert!(rt; reads == 41);
     Ok(())
@@ -159,7 +125,7 @@ fn each_read_of_a_placement_may_fail(rt: HostRuntime) -> Result<(), Fail> {
 // Pieces of at most five bytes are written.
 #[test]
 fn each_write_of_a_placement_may_fail(rt: HostRuntime) -> Result<(), Fail> {
-    let files = path(plan().candidates);
+    let files = path(PATH_CANDIDATES);
     let writes = failing_writes(&rt, rt.alloc(), &TABLES, &files, plan().text)?;
     assert!(rt; writes > 30);
     Ok(())
@@ -168,18 +134,8 @@ fn each_write_of_a_placement_may_fail(rt: HostRuntime) -> Result<(), Fail> {
 // No table before them is one, which isn't looked at before all files are read.
 #[test]
 fn candidates_are_read_before_a_table_is_parsed(rt: HostRuntime) -> Result<(), Fail> {
-    let mut entries = Vec::new(rt.alloc());
-    for word in 2..6 {
-        entries.push(Entry {
-            word,
-            bytes: Vec::from_slice(rt.alloc(), b"x")?,
-        })?;
-    }
-    entries.push(Entry {
-        word: 6,
-        bytes: too_long(rt.alloc())?,
-    })?;
-    let found = outcome_over(rt.alloc(), &TABLES, entries, &[], &[])?;
+    let entries = too_long_behind(rt.alloc())?;
+    let found = outcome_over(rt.alloc(), &TABLES, entries, QUIET)?;
     assert!(rt; found.status == Status::InputFault);
     assert!(rt; found.text.as_slice() == b"fault\tcandidates\t0\t14\tTooLong\n".as_slice());
     Ok(())

@@ -1,5 +1,5 @@
 // The top call.
-ghost use Rattle.std.specs.Prelude.{◌≡◌, ◌≢◌, ◌⊎◌, ℕ, List, Some, length, map, string_bytes, IsSome};
+ghost use Rattle.std.specs.Prelude.{◌≡◌, ◌≢◌, ◌⊎◌, ℕ, List, Some, map, string_bytes};
 ghost use Rattle.obs_io.specs.Causes.{Rose};
 ghost use Rattle.obs_engine.specs.Ending.{Answers, Ends, HasRoom};
 ghost use Rattle.obs_engine.specs.Forms.{AnyReadFailed, CanAnswer, IsFileWord, TakesInput};
@@ -36,12 +36,13 @@ pub fn run<F: Files, S: Source, W: Sink>(
         → (result ≡ Status.NoMemory) ⊎ Answers form told result (W.written output.old) (W.written output.new) }
 
     // Which answers the words can have, and the cause of each that says that something failed. Files are read in the
-    // order of their words, and no word is asked behind the first whose file fails or is too long.
+    // order of their words, and no word is asked behind the first whose file fails or is too long. After a file that
+    // failed nothing is written, and the input isn't asked for.
     ensures statuses { CanAnswer (form_of (map string_bytes words.now)) result }
     ensures read { result ≡ Status.ReadFault
         → AnyReadFailed (form_of (map string_bytes words.now)) (F.content files.old)
-        (F.faults files.old) (F.faults files.new)
-        (S.faults input.old) (S.faults input.new) }
+        (F.faults files.old) (F.faults files.new) (S.left input.old) (S.left input.new)
+        (S.faults input.old) (S.faults input.new) (W.written output.old) (W.written output.new) }
     ensures write { result ≡ Status.WriteFault → Rose (W.faults output.old) (W.faults output.new) }
 
     // A call that fails isn't passed over: with another answer the counts are as they were.
@@ -49,13 +50,11 @@ pub fn run<F: Files, S: Source, W: Sink>(
     ensures quiet_input { result ≢ Status.ReadFault → S.faults input.new ≡ S.faults input.old }
     ensures quiet_output { result ≢ Status.WriteFault → W.faults output.new ≡ W.faults output.old }
 
-    // What a run leaves of the input, and what it leaves that found no memory, or that didn't get its files.
+    // What a run leaves of the input, and what it leaves that found no memory.
     ensures memory { result ≡ Status.NoMemory → W.written output.new ≡ W.written output.old }
     ensures memory_input { result ≡ Status.NoMemory → S.left input.new ≡ S.left input.old }
     ensures taken { TakesInput (form_of (map string_bytes words.now)) → (bytes : List ℕ) → S.left input.old ≡ Some bytes
         → IsTakenFront bytes (S.left input.new) result }
-    ensures unread { (TakesInput (form_of (map string_bytes words.now)) → ⊥)
-        → result ≡ Status.ReadFault → W.written output.new ≡ W.written output.old }
     ensures input { (TakesInput (form_of (map string_bytes words.now)) → ⊥) → input.new ≡ input.old }
 {
     let Some(form) = form_of_words(words) else {

@@ -1,27 +1,15 @@
 // Certificates: which bytes are one, and the first fault of those that are none.
-ghost use Rattle.std.specs.Prelude.{◌≤◌, length};
 
+use crate::verdicts::front;
+use crate::worked::PATH_PLAN;
 use obs_cert::{CertCode, CertEnd, CertFault, read_cert};
-use obs_text::InputFault;
+use obs_text::{InputFault, MOST_FILE_BYTES};
 use std::alloc::Global;
 use std::test::Fail;
 
-const MOST_BYTES: usize = 16_777_216;
-
-// The first bytes.
-fn front(bytes: &[u8], count: usize) -> &[u8]
-    ensures short { length result.now ≤ count }
-{
-    if count <= bytes.len() {
-        &bytes[..count]
-    } else {
-        bytes
-    }
-}
-
 // How many claims the bytes are.
 fn count(alloc: Global, bytes: &[u8]) -> Result<u32, CertEnd> {
-    match read_cert(alloc, front(bytes, MOST_BYTES)) {
+    match read_cert(alloc, front(bytes, MOST_FILE_BYTES)) {
         Ok(cert) => Ok(cert.claims()),
         Err(end) => Err(end),
     }
@@ -31,11 +19,6 @@ fn refused(line: u32, code: CertCode) -> Result<u32, CertEnd> {
     Err(CertEnd::Fault(CertFault { line, code }))
 }
 
-// A plan with one layer.
-fn plan() -> &'static [u8] {
-    b"cost\t3\nchosen\tp2\npair\tmeter\tf1\tL1\npair\tmeter\tib\tL2\npair\tcandidate\tp2\tL3\nlayer\t0\t3\t2\t0\ninside\tmeter\tf1\ninside\tmeter\tf2\ninside\tmeter\tib\ninside\tcandidate\tp1\nend\n"
-}
-
 #[test]
 fn certificates(rt: HostRuntime) {
     for (bytes, claims) in [
@@ -43,7 +26,7 @@ fn certificates(rt: HostRuntime) {
             b"bound\ta\t1\t1\ninside\tmeter\tf1\ninside\tmeter\tf2\nend\n".as_slice(),
             1,
         ),
-        (plan(), 1),
+        (PATH_PLAN, 1),
         (b"end\n".as_slice(), 0),
         (b"end".as_slice(), 0),
         (b"end\r\n".as_slice(), 0),

@@ -1,15 +1,17 @@
 // The printed text of worked reports.
 
 use crate::Status;
-use crate::tests::{answers, failing_reads, failing_writes, many_nodes, outcome_over, too_long};
+use crate::tests::{QUIET, answers, failing_reads, failing_writes, outcome_over};
+use crate::worked::{
+    METER, NO_METERS, NO_SWITCHES, PATH_BRANCHES, PATH_METERS, PATH_NODES, TRIANGLE_BRANCHES,
+    TRIANGLE_METERS, TRIANGLE_NODES, many_nodes, too_long,
+};
 use obs_io::Entry;
 use std::alloc::Global;
 use std::process::Abort;
 use std::test::Fail;
 
 const TABLES: [&str; 6] = ["report", "tables", "n", "s", "b", "m"];
-
-const SWITCHES: &[u8] = b"switch,from,to,closed\n";
 
 // Three tables beside an empty one of switches, and what is reported of them.
 #[derive(Clone, Copy)]
@@ -20,23 +22,20 @@ struct Row {
     text: &'static [u8],
 }
 
+fn files(row: Row) -> [&'static [u8]; 5] {
+    [b"", row.nodes, NO_SWITCHES, row.branches, row.meters]
+}
+
 fn reports(rt: &impl Abort, alloc: Global, status: Status, row: Row) -> Result<(), Fail> {
-    let files = [
-        b"".as_slice(),
-        row.nodes,
-        SWITCHES,
-        row.branches,
-        row.meters,
-    ];
-    answers(rt, alloc, &TABLES, &files, status, row.text)
+    answers(rt, alloc, &TABLES, &files(row), status, row.text)
 }
 
 // Four buses in a row, two meters on the first branch, and an injection at the second bus.
 fn path() -> Row {
     Row {
-        nodes: b"node,source\na,1\nb,0\nc,0\nd,0\n",
-        branches: b"branch,from,to,inservice\nL1,a,b,1\nL2,b,c,1\nL3,c,d,1\n",
-        meters: b"meter,kind,at,inservice\nf1,flow,L1,1\nf2,flow,L1,1\nib,injection,b,1\n",
+        nodes: PATH_NODES,
+        branches: PATH_BRANCHES,
+        meters: PATH_METERS,
         text: b"count\tbuses\t4\ncount\tenergised\t4\ncount\tbranches\t3\ncount\tmeters\t3\ncount\tneeded\t3\ncount\trank\t2\nverdict\tshort\nbound\ta\t1\t1\ninside\tmeter\tf1\ninside\tmeter\tf2\nisland\ta\ta\nisland\ta\tb\nisland\ta\tc\nisland\td\td\ncritical\tib\nend\n",
     }
 }
@@ -74,7 +73,7 @@ fn dead() -> Row {
     Row {
         nodes: b"node,source\na,0\nb,0\n",
         branches: b"branch,from,to,inservice\nL1,a,b,1\n",
-        meters: b"meter,kind,at,inservice\nf1,flow,L1,1\n",
+        meters: METER,
         text: b"count\tbuses\t2\ncount\tenergised\t0\ncount\tbranches\t0\ncount\tmeters\t0\ncount\tneeded\t0\ncount\trank\t0\nverdict\tobservable\nend\n",
     }
 }
@@ -84,7 +83,7 @@ fn alone() -> Row {
     Row {
         nodes: b"node,source\na,1\n",
         branches: b"branch,from,to,inservice\n",
-        meters: b"meter,kind,at,inservice\n",
+        meters: NO_METERS,
         text: b"count\tbuses\t1\ncount\tenergised\t1\ncount\tbranches\t0\ncount\tmeters\t0\ncount\tneeded\t0\ncount\trank\t0\nverdict\tobservable\ntree\ta\nisland\ta\ta\nend\n",
     }
 }
@@ -92,9 +91,9 @@ fn alone() -> Row {
 // The injection leaves the first branch to the flow.
 fn triangle() -> Row {
     Row {
-        nodes: b"node,source\na,1\nb,0\nc,0\n",
-        branches: b"branch,from,to,inservice\nL1,a,b,1\nL2,b,c,1\nL3,c,a,1\n",
-        meters: b"meter,kind,at,inservice\nia,injection,a,1\nf1,flow,L1,1\n",
+        nodes: TRIANGLE_NODES,
+        branches: TRIANGLE_BRANCHES,
+        meters: TRIANGLE_METERS,
         text: b"count\tbuses\t3\ncount\tenergised\t3\ncount\tbranches\t3\ncount\tmeters\t2\ncount\tneeded\t2\ncount\trank\t2\nverdict\tobservable\ntree\ta\npair\tmeter\tia\tL3\npair\tmeter\tf1\tL1\nisland\ta\ta\nisland\ta\tb\nisland\ta\tc\ncritical\tia\ncritical\tf1\nend\n",
     }
 }
@@ -172,13 +171,8 @@ fn too_many_nodes_are_not_reported(rt: HostRuntime) -> Result<(), Fail> {
     let nodes = many_nodes(rt.alloc(), 20001)?;
     let text = b"fault\tnodes\t20001\t12\tTooMany\n";
     for row in [path(), alone()] {
-        let files = [
-            b"".as_slice(),
-            nodes.as_slice(),
-            SWITCHES,
-            row.branches,
-            row.meters,
-        ];
+        let [none, _, switches, branches, meters] = files(row);
+        let files = [none, &nodes, switches, branches, meters];
         answers(&rt, rt.alloc(), &TABLES, &files, Status::InputFault, text)?;
     }
     Ok(())
@@ -217,29 +211,16 @@ fn ring() -> Row {
 #[test]
 fn the_short_example_is_reported(rt: HostRuntime) -> Result<(), Fail> {
     let row = ring();
-    let coupler = b"switch,from,to,closed\nFern coupler,Fern,Fern bar 2,1\n";
-    let files = [
-        b"".as_slice(),
-        row.nodes,
-        coupler.as_slice(),
-        row.branches,
-        row.meters,
-    ];
+    let [none, nodes, _, branches, meters] = files(row);
+    let coupler = b"switch,from,to,closed\nFern coupler,Fern,Fern bar 2,1\n".as_slice();
+    let files = [none, nodes, coupler, branches, meters];
     answers(&rt, rt.alloc(), &TABLES, &files, Status::Short, row.text)
 }
 
 // The files of 28, 22, 52 and 67 bytes are read in pieces of seven bytes, with one read more at the end of each.
 #[test]
 fn each_read_of_a_report_may_fail(rt: HostRuntime) -> Result<(), Fail> {
-    let row = path();
-    let files = [
-        b"".as_slice(),
-        row.nodes,
-        SWITCHES,
-        row.branches,
-        row.meters,
-    ];
-    let reads = failing_reads(&rt, rt.alloc(), &TABLES, &files)?;
+    let reads = failing_reads(&rt, rt.alloc(), &TABLES, &files(path()))?;
     assert!(rt; reads == 30);
     Ok(())
 }
@@ -248,14 +229,7 @@ fn each_read_of_a_report_may_fail(rt: HostRuntime) -> Result<(), Fail> {
 #[test]
 fn each_write_of_a_report_may_fail(rt: HostRuntime) -> Result<(), Fail> {
     let row = path();
-    let files = [
-        b"".as_slice(),
-        row.nodes,
-        SWITCHES,
-        row.branches,
-        row.meters,
-    ];
-    let writes = failing_writes(&rt, rt.alloc(), &TABLES, &files, row.text)?;
+    let writes = failing_writes(&rt, rt.alloc(), &TABLES, &files(row), row.text)?;
     assert!(rt; writes >= 34);
     Ok(())
 }
@@ -274,7 +248,7 @@ fn nodes_are_judged_before_the_other_tables_are_read(rt: HostRuntime) -> Result<
 #[test]
 fn branches_are_judged_before_meters_are_read(rt: HostRuntime) -> Result<(), Fail> {
     let long = too_long(rt.alloc())?;
-    let files = [b"".as_slice(), path().nodes, SWITCHES, &long];
+    let files = [b"".as_slice(), PATH_NODES, NO_SWITCHES, &long];
     let text = b"fault\tbranches\t0\t14\tTooLong\n";
     let status = Status::InputFault;
     answers(&rt, rt.alloc(), &TABLES, &files, status, text)
@@ -286,13 +260,13 @@ fn tables_are_read_in_the_order_of_their_words(rt: HostRuntime) -> Result<(), Fa
     let mut entries = Vec::new(rt.alloc());
     entries.push(Entry {
         word: 2,
-        bytes: Vec::from_slice(rt.alloc(), path().nodes)?,
+        bytes: Vec::from_slice(rt.alloc(), PATH_NODES)?,
     })?;
     entries.push(Entry {
         word: 4,
         bytes: too_long(rt.alloc())?,
     })?;
-    let found = outcome_over(rt.alloc(), &TABLES, entries, &[], &[])?;
+    let found = outcome_over(rt.alloc(), &TABLES, entries, QUIET)?;
     assert!(rt; found.status == Status::ReadFault);
     assert!(rt; found.text.is_empty());
     Ok(())

@@ -1,61 +1,29 @@
 // The answers to the lines of worked sessions.
 
 use crate::Status;
-use crate::tests::{Ended, entries, outcome_from};
-use obs_io::MemSource;
+use crate::failure_tests::Row;
+use crate::tests::{Ended, Outside, outcome, taking};
+use crate::worked::{
+    CANDIDATE, CDF_FILE, MATPOWER_FILE, METER, NO_METERS, NO_SWITCHES, PATH_BRANCHES,
+    PATH_CANDIDATES, PATH_METERS, PATH_NODES, SESSION, SESSION_WITH,
+};
 use std::alloc::Global;
 use std::process::Abort;
 use std::test::Fail;
 
-const TABLES: [&str; 6] = ["session", "tables", "n", "s", "b", "m"];
-
-const TABLES_WITH: [&str; 8] = ["session", "tables", "n", "s", "b", "m", "with", "c"];
-
-const NO_SWITCHES: &[u8] = b"switch,from,to,closed\n";
-
-// A case, the lines of an input, and what is answered.
-#[derive(Clone, Copy)]
-struct Row<'a> {
-    words: &'a [&'a str],
-    files: &'a [&'a [u8]],
-    input: &'a [u8],
-    status: Status,
-    text: &'a [u8],
-}
-
-// A run over an input in pieces of so many bytes, whose calls with these numbers fail.
-fn outcome(
-    alloc: Global,
-    row: Row<'_>,
-    piece: usize,
-    take_fails: &[u64],
-    write_fails: &[u64],
-) -> Result<Ended, Fail> {
-    let bytes = Vec::from_slice(alloc, row.input)?;
-    let mut input = MemSource::new(bytes, piece.max(1), Vec::from_slice(alloc, take_fails)?);
-    let entries = entries(alloc, row.files)?;
-    outcome_from(alloc, row.words, entries, &mut input, &[], write_fails)
-}
-
 // However the input is cut into pieces, its lines are answered so.
 fn answers(rt: &impl Abort, alloc: Global, row: Row<'_>) -> Result<(), Fail> {
     for piece in [1, 3, 7, 5000] {
-        let found = outcome(alloc, row, piece, &[], &[])?;
+        let found = outcome(alloc, row.words, row.files, taking(row.input, piece))?;
         assert!(rt; found.status == row.status);
         assert!(rt; found.text.as_slice() == row.text);
     }
     Ok(())
 }
 
-// Four buses in a row, two meters on the first branch, and an injection at the second bus.
+// The files of the path with these switches.
 fn path(switches: &'static [u8]) -> [&'static [u8]; 5] {
-    [
-        b"",
-        b"node,source\na,1\nb,0\nc,0\nd,0\n",
-        switches,
-        b"branch,from,to,inservice\nL1,a,b,1\nL2,b,c,1\nL3,c,d,1\n",
-        b"meter,kind,at,inservice\nf1,flow,L1,1\nf2,flow,L1,1\nib,injection,b,1\n",
-    ]
+    [b"", PATH_NODES, switches, PATH_BRANCHES, PATH_METERS]
 }
 
 // The state of the path.
@@ -66,13 +34,13 @@ const PATH_STATE: &[u8] =
 #[test]
 fn switches_make_buses(rt: HostRuntime) -> Result<(), Fail> {
     let row = Row {
-        words: &TABLES,
+        words: &SESSION,
         files: &[
             b"",
             b"node,source\na,1\nb,0\nc,0\n",
             b"switch,from,to,closed\nS1,a,b,1\nS2,b,c,1\nS3,c,a,1\n",
             b"branch,from,to,inservice\n",
-            b"meter,kind,at,inservice\n",
+            NO_METERS,
         ],
         input: b"open S3\nstatus\nopen S1\nstatus\n",
         status: Status::Done,
@@ -84,13 +52,13 @@ fn switches_make_buses(rt: HostRuntime) -> Result<(), Fail> {
 #[test]
 fn a_closed_switch_takes_a_branch_out(rt: HostRuntime) -> Result<(), Fail> {
     let row = Row {
-        words: &TABLES,
+        words: &SESSION,
         files: &[
             b"",
             b"node,source\na,1\nb,0\n",
             b"switch,from,to,closed\nS1,a,b,0\n",
             b"branch,from,to,inservice\nL1,a,b,1\n",
-            b"meter,kind,at,inservice\nf1,flow,L1,1\n",
+            METER,
         ],
         input: b"close S1\nstatus\n",
         status: Status::Done,
@@ -103,7 +71,7 @@ fn a_closed_switch_takes_a_branch_out(rt: HostRuntime) -> Result<(), Fail> {
 #[test]
 fn a_switch_joins_a_source_to_a_hub(rt: HostRuntime) -> Result<(), Fail> {
     let row = Row {
-        words: &TABLES,
+        words: &SESSION,
         files: &[
             b"",
             b"node,source\nx,1\nh,1\ny,0\np,0\nq,0\nr,0\ns,0\n",
@@ -122,7 +90,7 @@ fn a_switch_joins_a_source_to_a_hub(rt: HostRuntime) -> Result<(), Fail> {
 #[test]
 fn the_order_of_edits_is_forgotten(rt: HostRuntime) -> Result<(), Fail> {
     let one = Row {
-        words: &TABLES,
+        words: &SESSION,
         files: &path(NO_SWITCHES),
         input: b"lose f2\ntrip L3\ntree\nislands\ncritical\n",
         status: Status::Done,
@@ -141,7 +109,7 @@ fn the_order_of_edits_is_forgotten(rt: HostRuntime) -> Result<(), Fail> {
 #[test]
 fn edits_go_forth_and_back(rt: HostRuntime) -> Result<(), Fail> {
     let row = Row {
-        words: &TABLES,
+        words: &SESSION,
         files: &[
             b"",
             b"node,source\na,1\nb,0\nc,0\nd,0\ne,0\ng,0\n",
@@ -178,7 +146,7 @@ fn refused_lines_end_nothing(rt: HostRuntime) -> Result<(), Fail> {
     )?;
     text.extend_from_slice(PATH_STATE)?;
     let row = Row {
-        words: &TABLES,
+        words: &SESSION,
         files: &path(b"switch,from,to,closed\nS1,c,d,0\n"),
         input: &input,
         status: Status::Short,
@@ -190,7 +158,7 @@ fn refused_lines_end_nothing(rt: HostRuntime) -> Result<(), Fail> {
 #[test]
 fn each_refusal_has_its_line(rt: HostRuntime) -> Result<(), Fail> {
     let row = Row {
-        words: &TABLES,
+        words: &SESSION,
         files: &path(NO_SWITCHES),
         input: b"place\ntrip\ntrip \nreport x\ntrip L9\nlose z\n\n# note\n",
         status: Status::Short,
@@ -203,7 +171,7 @@ fn each_refusal_has_its_line(rt: HostRuntime) -> Result<(), Fail> {
 #[test]
 fn a_branch_goes_and_comes_back(rt: HostRuntime) -> Result<(), Fail> {
     let row = Row {
-        words: &TABLES,
+        words: &SESSION,
         files: &path(NO_SWITCHES),
         input: b"trip L1\r\nrestore L1\r\n",
         status: Status::Short,
@@ -215,17 +183,16 @@ fn a_branch_goes_and_comes_back(rt: HostRuntime) -> Result<(), Fail> {
 // The status is that of the present case, though there is a plan.
 #[test]
 fn candidates_stand_behind_the_word_with(rt: HostRuntime) -> Result<(), Fail> {
-    let [none, nodes, switches, branches, meters] = path(NO_SWITCHES);
     let row = Row {
-        words: &TABLES_WITH,
+        words: &SESSION_WITH,
         files: &[
-            none,
-            nodes,
-            switches,
-            branches,
-            meters,
             b"",
-            b"candidate,kind,at,price\np1,flow,L2,0\np2,injection,c,3\np3,flow,L3,5\n",
+            PATH_NODES,
+            NO_SWITCHES,
+            PATH_BRANCHES,
+            PATH_METERS,
+            b"",
+            PATH_CANDIDATES,
         ],
         input: b"place\n",
         status: Status::Short,
@@ -238,7 +205,7 @@ fn candidates_stand_behind_the_word_with(rt: HostRuntime) -> Result<(), Fail> {
 #[test]
 fn the_first_tree_is_printed(rt: HostRuntime) -> Result<(), Fail> {
     let row = Row {
-        words: &TABLES,
+        words: &SESSION,
         files: &[
             b"",
             b"node,source\na,1\nb,0\n",
@@ -256,14 +223,9 @@ fn the_first_tree_is_printed(rt: HostRuntime) -> Result<(), Fail> {
 // The other two forms of a case.
 #[test]
 fn sessions_of_files_of_other_forms(rt: HostRuntime) -> Result<(), Fail> {
-    let cdf =
-        b"BUS DATA FOLLOWS\n   1                     3\n   2                     0\n-999\nBRANCH DATA FOLLOWS\n   1    2\n-999\n".as_slice();
-    let matpower =
-        b"mpc.bus = [\n1 3;\n2 1;\n];\nmpc.branch = [\n1 2 0 0 0 0 0 0 0 0 1;\n];\n".as_slice();
-    let meters = b"meter,kind,at,inservice\nf1,flow,L1,1\n".as_slice();
     let row = Row {
         words: &["session", "cdf", "c", "m"],
-        files: &[b"", cdf, meters],
+        files: &[b"", CDF_FILE, METER],
         input: b"bound\nlose f1\nbound\n",
         status: Status::Short,
         text: b"end\nok\t0\t1\nbound\t1\t0\t0\nend\n",
@@ -271,13 +233,7 @@ fn sessions_of_files_of_other_forms(rt: HostRuntime) -> Result<(), Fail> {
     answers(&rt, rt.alloc(), row)?;
     let other = Row {
         words: &["session", "matpower", "c", "m", "with", "k"],
-        files: &[
-            b"",
-            matpower,
-            meters,
-            b"",
-            b"candidate,kind,at,price\nk1,flow,L1,2\n",
-        ],
+        files: &[b"", MATPOWER_FILE, METER, b"", CANDIDATE],
         input: b"lose f1\nplace\n",
         text: b"ok\t0\t1\ncost\t2\nchosen\tk1\npair\tcandidate\tk1\tL1\nlayer\t0\t2\t0\t0\nend\n",
         ..row
@@ -285,28 +241,26 @@ fn sessions_of_files_of_other_forms(rt: HostRuntime) -> Result<(), Fail> {
     answers(&rt, rt.alloc(), other)
 }
 
-fn asked_twice<'a>(files: &'a [&'a [u8]]) -> Row<'a> {
-    Row {
-        words: &TABLES,
-        files,
-        input: b"status\nstatus\n",
-        status: Status::ReadFault,
-        text: PATH_STATE,
-    }
+// The state of the path, asked for twice in pieces of seven bytes, so that each but the last is a line. These calls fail.
+fn asked_twice(alloc: Global, take_fails: &[u64], write_fails: &[u64]) -> Result<Ended, Fail> {
+    let outside = Outside {
+        take_fails,
+        write_fails,
+        ..taking(b"status\nstatus\n", 7)
+    };
+    outcome(alloc, &SESSION, &path(NO_SWITCHES), outside)
 }
 
-// Pieces of seven bytes, so each but the last is a line. A failed take leaves the answers to the lines before it.
+// A failed take leaves the answers to the lines before it.
 #[test]
 fn each_take_may_fail(rt: HostRuntime) -> Result<(), Fail> {
-    let files = path(NO_SWITCHES);
-    let row = asked_twice(&files);
     for call in 0..3 {
-        let found = outcome(rt.alloc(), row, 7, &[call], &[])?;
+        let found = asked_twice(rt.alloc(), &[call], &[])?;
         assert!(rt; found.status == Status::ReadFault);
         assert!(rt; found.text.len() == PATH_STATE.len().saturating_mul(call as usize));
         assert!(rt; call != 1 || found.text.as_slice() == PATH_STATE);
     }
-    let found = outcome(rt.alloc(), row, 7, &[3], &[])?;
+    let found = asked_twice(rt.alloc(), &[3], &[])?;
     assert!(rt; found.status == Status::Short);
     Ok(())
 }
@@ -314,13 +268,11 @@ fn each_take_may_fail(rt: HostRuntime) -> Result<(), Fail> {
 // Five bytes are written at once.
 #[test]
 fn each_write_may_fail(rt: HostRuntime) -> Result<(), Fail> {
-    let files = path(NO_SWITCHES);
-    let row = asked_twice(&files);
-    let whole = outcome(rt.alloc(), row, 7, &[], &[])?;
+    let whole = asked_twice(rt.alloc(), &[], &[])?;
     assert!(rt; whole.status == Status::Short);
     let mut calls = 0;
     for call in 0..1000 {
-        let found = outcome(rt.alloc(), row, 7, &[], &[call])?;
+        let found = asked_twice(rt.alloc(), &[], &[call])?;
         if found.status != Status::WriteFault {
             break;
         }
@@ -335,14 +287,8 @@ fn each_write_may_fail(rt: HostRuntime) -> Result<(), Fail> {
 // So many empty lines, which get no answer.
 fn empty_lines(rt: &impl Abort, alloc: Global, lines: usize, status: Status) -> Result<(), Fail> {
     let bytes = vec![in alloc; b'\n'; lines]?;
-    let row = Row {
-        words: &TABLES,
-        files: &path(NO_SWITCHES),
-        input: &bytes,
-        status,
-        text: b"",
-    };
-    let found = outcome(alloc, row, 5000, &[], &[])?;
+    let files = path(NO_SWITCHES);
+    let found = outcome(alloc, &SESSION, &files, taking(&bytes, 5000))?;
     assert!(rt; found.status == status);
     assert!(rt; found.text.is_empty());
     Ok(())

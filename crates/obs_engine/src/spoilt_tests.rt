@@ -1,11 +1,9 @@
 // Files that are cut, or in which a byte is another one.
 
 use crate::Status;
-use crate::failure_tests::{
-    BRANCHES, CANDIDATES, CDF, MATPOWER, METERS, NODES, NONE, OUT, PLAN, REPORT, Row, SWITCHES,
-    ending, outcome,
-};
-use crate::tests::entries;
+use crate::failure_tests::{PLAN, REPORT, Row, ending, outcome};
+use crate::tests::{QUIET, entries};
+use crate::worked::{BRANCH, CANDIDATE, CDF_FILE, MATPOWER_FILE, METER, NO_SWITCHES, NODES, OUT};
 use obs_io::Entry;
 use std::alloc::Global;
 use std::process::Abort;
@@ -64,7 +62,7 @@ fn is_answered_where_spoilt(
             Some(255),
         ] {
             let files = with_spoilt(alloc, row, which, at, other)?;
-            let found = outcome(alloc, row, files, 64, NONE)?;
+            let found = outcome(alloc, row, files, 64, QUIET)?;
             let refused = found.text.as_slice().starts_with(b"fault\t");
             assert!(rt; refused == (found.status == Status::InputFault), "at {at}");
             assert!(rt;
@@ -90,7 +88,7 @@ fn spoilt_files_are_answered(rt: &impl Abort, alloc: Global, row: Row<'_>) -> Re
 fn spoilt_tables_are_answered(rt: HostRuntime) -> Result<(), Fail> {
     let row = Row {
         words: &["report", "tables", "n", "s", "b", "m"],
-        files: &[b"", NODES, SWITCHES, BRANCHES, METERS],
+        files: &[b"", NODES, NO_SWITCHES, BRANCH, METER],
         ..ending(b"", Status::Done, REPORT)
     };
     spoilt_files_are_answered(&rt, rt.alloc(), row)
@@ -100,7 +98,7 @@ fn spoilt_tables_are_answered(rt: HostRuntime) -> Result<(), Fail> {
 fn spoilt_cdf_files_and_certificates_are_answered(rt: HostRuntime) -> Result<(), Fail> {
     let row = Row {
         words: &["verify", "cdf", "c", "m", "with", "k", "t"],
-        files: &[b"", CDF, OUT, b"", CANDIDATES, PLAN],
+        files: &[b"", CDF_FILE, OUT, b"", CANDIDATE, PLAN],
         ..ending(b"", Status::Done, b"valid\t1\n")
     };
     spoilt_files_are_answered(&rt, rt.alloc(), row)
@@ -110,7 +108,7 @@ fn spoilt_cdf_files_and_certificates_are_answered(rt: HostRuntime) -> Result<(),
 fn spoilt_matpower_files_and_candidates_are_answered(rt: HostRuntime) -> Result<(), Fail> {
     let row = Row {
         words: &["place", "matpower", "c", "m", "k"],
-        files: &[b"", MATPOWER, OUT, CANDIDATES],
+        files: &[b"", MATPOWER_FILE, OUT, CANDIDATE],
         ..ending(b"", Status::Done, PLAN)
     };
     spoilt_files_are_answered(&rt, rt.alloc(), row)

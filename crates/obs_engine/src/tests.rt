@@ -1,4 +1,5 @@
 // What no contract says: that calls succeed, and the printed text of worked cases.
+use crate::worked::{NO_SWITCHES, many_nodes, too_long};
 use crate::{Status, run};
 use obs_io::{Entry, MemFiles, MemSink, MemSource};
 use obs_text::Digits;
@@ -34,34 +35,59 @@ pub(crate) struct Ended {
     pub(crate) text: Vec<u8>,
 }
 
-// A run over these files and outsides in memory whose calls with these numbers fail.
+// What a run meets beside its files: an input, how many bytes are read, taken and written at once, the room of the output, and
+// the numbers of the calls that fail.
+#[derive(Clone, Copy)]
+pub(crate) struct Outside<'a> {
+    pub(crate) input: &'a [u8],
+    pub(crate) read: usize,
+    pub(crate) taken: usize,
+    pub(crate) written: usize,
+    pub(crate) room: usize,
+    pub(crate) read_fails: &'a [u64],
+    pub(crate) take_fails: &'a [u64],
+    pub(crate) write_fails: &'a [u64],
+}
+
+// No input, and no call fails.
+pub(crate) const QUIET: Outside<'static> = Outside {
+    input: &[],
+    read: 7,
+    taken: 1,
+    written: MOVED,
+    room: 1_000_000,
+    read_fails: &[],
+    take_fails: &[],
+    write_fails: &[],
+};
+
+// An input in pieces of so many bytes, and no call fails.
+pub(crate) fn taking(input: &[u8], taken: usize) -> Outside<'_> {
+    Outside {
+        input,
+        taken,
+        ..QUIET
+    }
+}
+
+// A run over these files in memory.
 pub(crate) fn outcome_over(
     alloc: Global,
     words: &[&str],
     entries: Vec<Entry>,
-    read_fails: &[u64],
-    write_fails: &[u64],
-) -> Result<Ended, Fail> {
-    let mut input = MemSource::new(Vec::new(alloc), 1, Vec::new(alloc));
-    outcome_from(alloc, words, entries, &mut input, read_fails, write_fails)
-}
-
-// The same over an input.
-pub(crate) fn outcome_from(
-    alloc: Global,
-    words: &[&str],
-    entries: Vec<Entry>,
-    input: &mut MemSource,
-    read_fails: &[u64],
-    write_fails: &[u64],
+    outside: Outside<'_>,
 ) -> Result<Ended, Fail> {
     let words = texts(alloc, words)?;
-    let mut files = MemFiles::new(entries, 7, Vec::from_slice(alloc, read_fails)?);
-    let room = 1_000_000;
-    let mut output = MemSink::with_room(alloc, room, MOVED, Vec::from_slice(alloc, write_fails)?)
+    let fails = Vec::from_slice(alloc, outside.read_fails)?;
+    let mut files = MemFiles::new(entries, outside.read.max(1), fails);
+    let input = Vec::from_slice(alloc, outside.input)?;
+    let fails = Vec::from_slice(alloc, outside.take_fails)?;
+    let mut input = MemSource::new(input, outside.taken.max(1), fails);
+    let fails = Vec::from_slice(alloc, outside.write_fails)?;
+    let mut output = MemSink::with_room(alloc, outside.room, outside.written.max(1), fails)
         .ok()
         .ok_or("no room")?;
-    let status = run(alloc, &words, &mut files, input, &mut output);
+    let status = run(alloc, &words, &mut files, &mut input, &mut output);
     Ok(Ended {
         status,
         text: Vec::from_slice(alloc, output.written())?,
@@ -73,11 +99,9 @@ pub(crate) fn outcome(
     alloc: Global,
     words: &[&str],
     files: &[&[u8]],
-    read_fails: &[u64],
-    write_fails: &[u64],
+    outside: Outside<'_>,
 ) -> Result<Ended, Fail> {
-    let entries = entries(alloc, files)?;
-    outcome_over(alloc, words, entries, read_fails, write_fails)
+    outcome_over(alloc, words, entries(alloc, files)?, outside)
 }
 
 // A run in which no call fails ends so.
@@ -89,7 +113,7 @@ pub(crate) fn answers(
     status: Status,
     text: &[u8],
 ) -> Result<(), Fail> {
-    let found = outcome(alloc, words, files, &[], &[])?;
+    let found = outcome(alloc, words, files, QUIET)?;
     assert!(rt; found.status == status);
     assert!(rt; found.text.as_slice() == text);
     Ok(())
@@ -104,7 +128,11 @@ pub(crate) fn failing_reads(
 ) -> Result<u64, Fail> {
     let mut calls = 0;
     for call in 0..1000 {
-        let found = outcome(alloc, words, files, &[call], &[])?;
+        let failing = Outside {
+            read_fails: &[call],
+            ..QUIET
+        };
+        let found = outcome(alloc, words, files, failing)?;
         if found.status != Status::ReadFault {
             break;
         }
@@ -125,7 +153,11 @@ pub(crate) fn failing_writes(
 ) -> Result<u64, Fail> {
     let mut calls = 0;
     for call in 0..1000 {
-        let found = outcome(alloc, words, files, &[], &[call])?;
+        let failing = Outside {
+            write_fails: &[call],
+            ..QUIET
+        };
+        let found = outcome(alloc, words, files, failing)?;
         if found.status != Status::WriteFault {
             break;
         }
@@ -139,6 +171,11 @@ pub(crate) fn failing_writes(
 }
 
 const TOPOLOGY: [&str; 3] = ["topology", "n", "s"];
+
+// Three nodes, of which two are one bus.
+const NODES: &[u8] = b"node,source\na,0\nb,0\nc,0\n";
+
+const SWITCHES: &[u8] = b"switch,from,to,closed\nS1,a,b,1\nS2,b,c,0\n";
 
 // Two tables, and what is printed of them.
 #[derive(Clone, Copy)]
@@ -157,8 +194,8 @@ fn shows(rt: &impl Abort, alloc: Global, status: Status, row: Row) -> Result<(),
 fn topology_names_the_bus_of_each_node(rt: HostRuntime) -> Result<(), Fail> {
     let rows = [
         Row {
-            nodes: b"node,source\na,0\nb,0\nc,0\n",
-            switches: b"switch,from,to,closed\nS1,a,b,1\nS2,b,c,0\n",
+            nodes: NODES,
+            switches: SWITCHES,
             text: b"node\ta\ta\nnode\tb\ta\nnode\tc\tc\ncount\tbuses\t2\nend\n",
         },
         // A bus is named by its first node in the order of the table.
@@ -170,7 +207,7 @@ fn topology_names_the_bus_of_each_node(rt: HostRuntime) -> Result<(), Fail> {
         // A byte order mark, columns in another order, one that isn't needed, and other line ends.
         Row {
             nodes: b"\xEF\xBB\xBFsource,node,zone\r\n1,a,x\r\n0,\"b\",y\r\n",
-            switches: b"switch,from,to,closed\n",
+            switches: NO_SWITCHES,
             text: b"node\ta\ta\nnode\tb\tb\ncount\tbuses\t2\nend\n",
         },
     ];
@@ -185,22 +222,22 @@ fn the_first_fault_is_printed(rt: HostRuntime) -> Result<(), Fail> {
     let rows = [
         Row {
             nodes: b"node,source\na,0\na,0\n",
-            switches: b"switch,from,to,closed\n",
+            switches: NO_SWITCHES,
             text: b"fault\tnodes\t2\t9\tNameTwice\n",
         },
         Row {
             nodes: b"node,source,node\n",
-            switches: b"switch,from,to,closed\n",
+            switches: NO_SWITCHES,
             text: b"fault\tnodes\t0\t3\tColumnTwice\n",
         },
         Row {
             nodes: b"node,source\na,2\n",
-            switches: b"switch,from,to,closed\n",
+            switches: NO_SWITCHES,
             text: b"fault\tnodes\t1\t6\tBadFlag\n",
         },
         Row {
             nodes: b"",
-            switches: b"switch,from,to,closed\n",
+            switches: NO_SWITCHES,
             text: b"fault\tnodes\t0\t1\tNoHeader\n",
         },
         Row {
@@ -215,23 +252,10 @@ fn the_first_fault_is_printed(rt: HostRuntime) -> Result<(), Fail> {
     Ok(())
 }
 
-// A node table of so many rows with different names.
-pub(crate) fn many_nodes(alloc: Global, rows: u32) -> Result<Vec<u8>, Fail> {
-    let mut digits = Digits::new();
-    let mut bytes = Vec::from_slice(alloc, b"node,source\n")?;
-    for row in 0..rows {
-        bytes.extend_from_slice(b"n")?;
-        bytes.extend_from_slice(digits.text(u64::from(row)))?;
-        bytes.extend_from_slice(b",0\n")?;
-    }
-    Ok(bytes)
-}
-
 // A run over a node table of so many rows, and no switches.
 fn outcome_of_rows(alloc: Global, rows: u32) -> Result<Ended, Fail> {
     let nodes = many_nodes(alloc, rows)?;
-    let switches = b"switch,from,to,closed\n".as_slice();
-    outcome(alloc, &TOPOLOGY, &[nodes.as_slice(), switches], &[], &[])
+    outcome(alloc, &TOPOLOGY, &[nodes.as_slice(), NO_SWITCHES], QUIET)
 }
 
 #[test]
@@ -265,7 +289,7 @@ fn full_tables_have_buses(rt: HostRuntime) -> Result<(), Fail> {
     let nodes = many_nodes(rt.alloc(), 20000)?;
     let switches = many_switches(rt.alloc(), 20000)?;
     let files = [nodes.as_slice(), switches.as_slice()];
-    let full = outcome(rt.alloc(), &TOPOLOGY, &files, &[], &[])?;
+    let full = outcome(rt.alloc(), &TOPOLOGY, &files, QUIET)?;
     assert!(rt; full.status == Status::Done);
     assert!(rt;
         full.text
@@ -285,11 +309,7 @@ fn a_table_has_at_most_20000_rows(rt: HostRuntime) -> Result<(), Fail> {
 // Pieces of seven bytes are read, with one read more at the end of each file.
 #[test]
 fn each_read_may_fail(rt: HostRuntime) -> Result<(), Fail> {
-    let files = [
-        b"node,source\na,0\nb,0\nc,0\n".as_slice(),
-        b"switch,from,to,closed\nS1,a,b,1\nS2,b,c,0\n",
-    ];
-    let reads = failing_reads(&rt, rt.alloc(), &TOPOLOGY, &files)?;
+    let reads = failing_reads(&rt, rt.alloc(), &TOPOLOGY, &[NODES, SWITCHES])?;
     assert!(rt; reads == 12);
     Ok(())
 }
@@ -297,10 +317,7 @@ fn each_read_may_fail(rt: HostRuntime) -> Result<(), Fail> {
 // Pieces of five bytes are written.
 #[test]
 fn each_write_may_fail(rt: HostRuntime) -> Result<(), Fail> {
-    let files = [
-        b"node,source\na,0\nb,0\nc,0\n".as_slice(),
-        b"switch,from,to,closed\nS1,a,b,1\nS2,b,c,0\n",
-    ];
+    let files = [NODES, SWITCHES];
     let text = b"node\ta\ta\nnode\tb\ta\nnode\tc\tc\ncount\tbuses\t2\nend\n";
     let writes = failing_writes(&rt, rt.alloc(), &TOPOLOGY, &files, text)?;
     assert!(rt; writes == 10);
@@ -309,13 +326,7 @@ fn each_write_may_fail(rt: HostRuntime) -> Result<(), Fail> {
 
 #[test]
 fn an_absent_file_is_a_read_fault(rt: HostRuntime) -> Result<(), Fail> {
-    let files = [b"node,source\na,0\nb,0\nc,0\n".as_slice()];
-    answers(&rt, rt.alloc(), &TOPOLOGY, &files, Status::ReadFault, b"")
-}
-
-// One byte more than a file may have.
-pub(crate) fn too_long(alloc: Global) -> Result<Vec<u8>, Fail> {
-    Ok(vec![in alloc; b'x'; 16_777_217]?)
+    answers(&rt, rt.alloc(), &TOPOLOGY, &[NODES], Status::ReadFault, b"")
 }
 
 // No file of switches is held.
@@ -335,7 +346,7 @@ fn nodes_are_read_before_switches(rt: HostRuntime) -> Result<(), Fail> {
         word: 2,
         bytes: too_long(rt.alloc())?,
     })?;
-    let found = outcome_over(rt.alloc(), &TOPOLOGY, entries, &[], &[])?;
+    let found = outcome_over(rt.alloc(), &TOPOLOGY, entries, QUIET)?;
     assert!(rt; found.status == Status::ReadFault);
     assert!(rt; found.text.is_empty());
     Ok(())
@@ -371,7 +382,11 @@ fn other_words_get_the_usage_line(rt: HostRuntime) -> Result<(), Fail> {
 
 #[test]
 fn a_usage_line_may_be_unwritten(rt: HostRuntime) -> Result<(), Fail> {
-    let stuck = outcome(rt.alloc(), &["help"], &[], &[], &[0])?;
+    let failing = Outside {
+        write_fails: &[0],
+        ..QUIET
+    };
+    let stuck = outcome(rt.alloc(), &["help"], &[], failing)?;
     assert!(rt; stuck.status == Status::WriteFault);
     assert!(rt; stuck.text.is_empty());
     Ok(())

@@ -2,15 +2,15 @@
 
 use crate::Status;
 use crate::grids::{Grid, make_grid};
-use crate::tests::{Ended, answers, entries, failing_writes, outcome, outcome_from};
-use obs_io::MemSource;
+use crate::tests::{Ended, QUIET, answers, failing_writes, outcome, taking};
+use crate::worked::{NO_SWITCHES, SESSION};
 use obs_text::{lines, whole};
 use std::alloc::Global;
 use std::process::Abort;
 use std::test::Fail;
 
 fn trial(alloc: Global, rows: &str, seed: &str) -> Result<Ended, Fail> {
-    outcome(alloc, &["trial", rows, seed], &[], &[], &[])
+    outcome(alloc, &["trial", rows, seed], &[], QUIET)
 }
 
 // The number behind these bytes, which one line of a text begins with.
@@ -57,7 +57,7 @@ fn other_numbers_are_no_trial(rt: HostRuntime) -> Result<(), Fail> {
         &["trial", "2", "5", "5"],
     ];
     for words in forms {
-        let found = outcome(rt.alloc(), words, &[], &[], &[])?;
+        let found = outcome(rt.alloc(), words, &[], QUIET)?;
         assert!(rt; found.status == Status::Usage);
     }
     let seeded = trial(rt.alloc(), "2", "9999999999999999999")?;
@@ -68,7 +68,7 @@ fn other_numbers_are_no_trial(rt: HostRuntime) -> Result<(), Fail> {
 #[test]
 fn each_write_may_fail(rt: HostRuntime) -> Result<(), Fail> {
     let words = ["trial", "1", "0"];
-    let whole = outcome(rt.alloc(), &words, &[], &[], &[])?;
+    let whole = outcome(rt.alloc(), &words, &[], QUIET)?;
     let writes = failing_writes(&rt, rt.alloc(), &words, &[], &whole.text)?;
     assert!(rt; writes >= 10);
     Ok(())
@@ -79,13 +79,11 @@ fn session(alloc: Global, grid: &Grid) -> Result<Ended, Fail> {
     let files = [
         b"".as_slice(),
         &grid.nodes,
-        b"switch,from,to,closed\n",
+        NO_SWITCHES,
         &grid.branches,
         &grid.meters,
     ];
-    let mut input = MemSource::new(Vec::from_slice(alloc, &grid.input)?, 4096, Vec::new(alloc));
-    let words = ["session", "tables", "n", "s", "b", "m"];
-    outcome_from(alloc, &words, entries(alloc, &files)?, &mut input, &[], &[])
+    outcome(alloc, &SESSION, &files, taking(&grid.input, 4096))
 }
 
 // How many of a session's lines say a lower rank than at first. Each second line says that one again.

@@ -7,11 +7,9 @@ mod components;
 
 use obs_case::{Case, Kind};
 use obs_cert::{CertCode, CertEnd, CertFault, Checker, FlawCode, read_cert};
-use obs_text::name_of;
+use obs_text::{MOST_FILE_BYTES, name_of};
 use std::alloc::Global;
 use std::process::Abort;
-
-const MOST_BYTES: usize = 16_777_216;
 
 const TRUNK: &[(&[u8], bool)] = &[
     (b"a", true),
@@ -81,7 +79,8 @@ fn name<'a>(rt: &impl Abort, bytes: &'a [u8]) -> &'a [u8]
     name_of(bytes).expect(rt, "the bytes are a name")
 }
 
-fn front(bytes: &[u8], count: usize) -> &[u8]
+// The first bytes.
+pub(crate) fn front(bytes: &[u8], count: usize) -> &[u8]
     ensures short { length result.now ≤ count }
 {
     if count <= bytes.len() {
@@ -116,7 +115,7 @@ pub(crate) fn case_of(rt: &impl Abort, alloc: Global, rows: &Rows) -> Case {
 }
 
 pub(crate) fn verdict_on(alloc: Global, case: &Case, bytes: &[u8]) -> Verdict {
-    let cert = match read_cert(alloc, front(bytes, MOST_BYTES)) {
+    let cert = match read_cert(alloc, front(bytes, MOST_FILE_BYTES)) {
         Ok(cert) => cert,
         Err(end) => return Verdict::Unread(end),
     };

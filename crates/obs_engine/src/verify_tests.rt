@@ -1,15 +1,12 @@
 // The answers to worked certificates.
 
 use crate::Status;
-use crate::tests::{answers, failing_reads, failing_writes, outcome_over, too_long};
-use obs_io::Entry;
+use crate::tests::{QUIET, answers, failing_reads, failing_writes, outcome_over};
+use crate::worked::{
+    CANDIDATE, CDF_FILE, MATPOWER_FILE, METER, NO_METERS, PATH_CANDIDATES, PATH_PLAN, VERIFY,
+    VERIFY_WITH, path, too_long_behind, triangle,
+};
 use std::test::Fail;
-
-const TABLES: [&str; 7] = ["verify", "tables", "n", "s", "b", "m", "cert"];
-
-const TABLES_WITH: [&str; 9] = ["verify", "tables", "n", "s", "b", "m", "with", "c", "cert"];
-
-const NO_SWITCHES: &[u8] = b"switch,from,to,closed\n";
 
 // A certificate, and what is answered.
 #[derive(Clone, Copy)]
@@ -19,19 +16,7 @@ struct Row {
     text: &'static [u8],
 }
 
-// Four buses in a row, two meters on the first branch, and an injection at the second bus.
-fn path(certificate: &'static [u8]) -> [&'static [u8]; 6] {
-    [
-        b"",
-        b"node,source\na,1\nb,0\nc,0\nd,0\n",
-        NO_SWITCHES,
-        b"branch,from,to,inservice\nL1,a,b,1\nL2,b,c,1\nL3,c,d,1\n",
-        b"meter,kind,at,inservice\nf1,flow,L1,1\nf2,flow,L1,1\nib,injection,b,1\n",
-        certificate,
-    ]
-}
-
-// The path with three candidates, of which that of price 3 completes it.
+// The files of the path, with its candidates and a certificate.
 fn path_with(certificate: &'static [u8]) -> [&'static [u8]; 8] {
     let [none, nodes, switches, branches, meters, last] = path(certificate);
     [
@@ -41,20 +26,8 @@ fn path_with(certificate: &'static [u8]) -> [&'static [u8]; 8] {
         branches,
         meters,
         b"",
-        b"candidate,kind,at,price\np1,flow,L2,0\np2,injection,c,3\np3,flow,L3,5\n",
+        PATH_CANDIDATES,
         last,
-    ]
-}
-
-// A ring of three buses that is observable.
-fn triangle(certificate: &'static [u8]) -> [&'static [u8]; 6] {
-    [
-        b"",
-        b"node,source\na,1\nb,0\nc,0\n",
-        NO_SWITCHES,
-        b"branch,from,to,inservice\nL1,a,b,1\nL2,b,c,1\nL3,c,a,1\n",
-        b"meter,kind,at,inservice\nia,injection,a,1\nf1,flow,L1,1\n",
-        certificate,
     ]
 }
 
@@ -82,13 +55,13 @@ fn refused(certificate: &'static [u8], text: &'static [u8]) -> Row {
     }
 }
 
+// A bound of the path that holds.
+const BOUND: &[u8] = b"bound\ta\t1\t1\ninside\tmeter\tf1\ninside\tmeter\tf2\nend\n";
+
 #[test]
 fn claims_on_a_path(rt: HostRuntime) -> Result<(), Fail> {
     let rows = [
-        valid(
-            b"bound\ta\t1\t1\ninside\tmeter\tf1\ninside\tmeter\tf2\nend\n",
-            b"valid\t1\n",
-        ),
+        valid(BOUND, b"valid\t1\n"),
         valid(b"end\n", b"valid\t0\n"),
         flawed(
             b"bound\ta\t1\t1\ninside\tmeter\tf1\ninside\tmeter\tf1\nend\n",
@@ -111,7 +84,7 @@ fn claims_on_a_path(rt: HostRuntime) -> Result<(), Fail> {
     ];
     for row in rows {
         let files = path(row.certificate);
-        answers(&rt, rt.alloc(), &TABLES, &files, row.status, row.text)?;
+        answers(&rt, rt.alloc(), &VERIFY, &files, row.status, row.text)?;
     }
     Ok(())
 }
@@ -133,7 +106,7 @@ fn bytes_that_are_no_certificate(rt: HostRuntime) -> Result<(), Fail> {
     ];
     for row in rows {
         let files = path(row.certificate);
-        answers(&rt, rt.alloc(), &TABLES, &files, row.status, row.text)?;
+        answers(&rt, rt.alloc(), &VERIFY, &files, row.status, row.text)?;
     }
     Ok(())
 }
@@ -152,7 +125,7 @@ fn claims_on_a_triangle(rt: HostRuntime) -> Result<(), Fail> {
     ];
     for row in rows {
         let files = triangle(row.certificate);
-        answers(&rt, rt.alloc(), &TABLES, &files, row.status, row.text)?;
+        answers(&rt, rt.alloc(), &VERIFY, &files, row.status, row.text)?;
     }
     Ok(())
 }
@@ -160,10 +133,7 @@ fn claims_on_a_triangle(rt: HostRuntime) -> Result<(), Fail> {
 #[test]
 fn claims_on_candidates(rt: HostRuntime) -> Result<(), Fail> {
     let rows = [
-        valid(
-            b"cost\t3\nchosen\tp2\npair\tmeter\tf1\tL1\npair\tmeter\tib\tL2\npair\tcandidate\tp2\tL3\nlayer\t0\t3\t2\t0\ninside\tmeter\tf1\ninside\tmeter\tf2\ninside\tmeter\tib\ninside\tcandidate\tp1\nend\n",
-            b"valid\t1\n",
-        ),
+        valid(PATH_PLAN, b"valid\t1\n"),
         flawed(
             b"cost\t2\nchosen\tp2\npair\tmeter\tf1\tL1\npair\tmeter\tib\tL2\npair\tcandidate\tp2\tL3\nlayer\t0\t3\t2\t0\ninside\tmeter\tf1\ninside\tmeter\tf2\ninside\tmeter\tib\ninside\tcandidate\tp1\nend\n",
             b"flaw\t1\t12\tWrongCost\n",
@@ -181,7 +151,7 @@ fn claims_on_candidates(rt: HostRuntime) -> Result<(), Fail> {
     for row in rows {
         let files = path_with(row.certificate);
         let alloc = rt.alloc();
-        answers(&rt, alloc, &TABLES_WITH, &files, row.status, row.text)?;
+        answers(&rt, alloc, &VERIFY_WITH, &files, row.status, row.text)?;
     }
     Ok(())
 }
@@ -194,7 +164,7 @@ fn two_layers() -> [&'static [u8]; 8] {
         nodes,
         switches,
         branches,
-        b"meter,kind,at,inservice\nf1,flow,L1,1\n",
+        METER,
         b"",
         b"candidate,kind,at,price\nq1,flow,L2,2\nq2,flow,L3,5\n",
         b"cost\t7\nchosen\tq1\nchosen\tq2\npair\tmeter\tf1\tL1\npair\tcandidate\tq1\tL2\npair\tcandidate\tq2\tL3\nlayer\t0\t2\t1\t0\ninside\tmeter\tf1\nlayer\t2\t5\t2\t0\ninside\tcandidate\tq1\nend\n",
@@ -207,7 +177,7 @@ fn layers_show_a_cost_together(rt: HostRuntime) -> Result<(), Fail> {
     answers(
         &rt,
         rt.alloc(),
-        &TABLES_WITH,
+        &VERIFY_WITH,
         &two_layers(),
         Status::Done,
         text,
@@ -221,45 +191,38 @@ fn candidates_that_were_not_given_are_unknown(rt: HostRuntime) -> Result<(), Fai
         b"shortfall\t2\t0\ninside\tmeter\tf1\ninside\tmeter\tf2\ninside\tmeter\tib\ninside\tcandidate\tp1\nend\n",
     );
     let text = b"flaw\t1\t1\tUnknownName\n";
-    answers(&rt, rt.alloc(), &TABLES, &files, Status::Short, text)
+    answers(&rt, rt.alloc(), &VERIFY, &files, Status::Short, text)
 }
 
 // The other two forms of a case.
 #[test]
 fn certificates_on_files_of_other_forms(rt: HostRuntime) -> Result<(), Fail> {
-    let cdf =
-        b"BUS DATA FOLLOWS\n   1                     3\n   2                     0\n-999\nBRANCH DATA FOLLOWS\n   1    2\n-999\n".as_slice();
     let words = ["verify", "cdf", "c", "m", "cert"];
     let files = [
         b"".as_slice(),
-        cdf,
-        b"meter,kind,at,inservice\nf1,flow,L1,1\n",
+        CDF_FILE,
+        METER,
         b"tree\t1\npair\tmeter\tf1\tL1\nend\n",
     ];
     let text = b"valid\t1\n";
     answers(&rt, rt.alloc(), &words, &files, Status::Done, text)?;
-    let matpower =
-        b"mpc.bus = [\n1 3;\n2 1;\n];\nmpc.branch = [\n1 2 0 0 0 0 0 0 0 0 1;\n];\n".as_slice();
     let words = ["verify", "matpower", "c", "m", "with", "k", "cert"];
     let files = [
         b"".as_slice(),
-        matpower,
-        b"meter,kind,at,inservice\n",
+        MATPOWER_FILE,
+        NO_METERS,
         b"",
-        b"candidate,kind,at,price\nk1,flow,L1,2\n",
+        CANDIDATE,
         b"cost\t2\nchosen\tk1\npair\tcandidate\tk1\tL1\nlayer\t0\t2\t0\t0\nend\n",
     ];
     answers(&rt, rt.alloc(), &words, &files, Status::Done, text)
 }
 
-// A bound of the path that holds.
-const BOUND: &[u8] = b"bound\ta\t1\t1\ninside\tmeter\tf1\ninside\tmeter\tf2\nend\n";
-
 // The files of 28, 22, 52, 67 and 48 bytes are read in pieces of seven bytes, with one read more at the end of each.
 #[test]
 fn each_read_of_a_certificate_may_fail(rt: HostRuntime) -> Result<(), Fail> {
     let files = path(BOUND);
-    let reads = failing_reads(&rt, rt.alloc(), &TABLES, &files)?;
+    let reads = failing_reads(&rt, rt.alloc(), &VERIFY, &files)?;
     assert!(rt; reads == 38);
     Ok(())
 }
@@ -268,7 +231,7 @@ fn each_read_of_a_certificate_may_fail(rt: HostRuntime) -> Result<(), Fail> {
 #[test]
 fn each_write_of_a_verdict_may_fail(rt: HostRuntime) -> Result<(), Fail> {
     let files = path(BOUND);
-    let writes = failing_writes(&rt, rt.alloc(), &TABLES, &files, b"valid\t1\n")?;
+    let writes = failing_writes(&rt, rt.alloc(), &VERIFY, &files, b"valid\t1\n")?;
     assert!(rt; writes == 2);
     Ok(())
 }
@@ -280,31 +243,21 @@ fn a_case_is_judged_before_a_certificate(rt: HostRuntime) -> Result<(), Fail> {
     let nodes = b"node,source\na,2\n".as_slice();
     let files = [none, nodes, switches, branches, meters, last];
     let text = b"fault\tnodes\t1\t6\tBadFlag\n";
-    answers(&rt, rt.alloc(), &TABLES, &files, Status::InputFault, text)
+    answers(&rt, rt.alloc(), &VERIFY, &files, Status::InputFault, text)
 }
 
 #[test]
 fn an_absent_certificate_is_a_read_fault(rt: HostRuntime) -> Result<(), Fail> {
     let [none, nodes, switches, branches, meters, _] = path(b"");
     let files = [none, nodes, switches, branches, meters];
-    answers(&rt, rt.alloc(), &TABLES, &files, Status::ReadFault, b"")
+    answers(&rt, rt.alloc(), &VERIFY, &files, Status::ReadFault, b"")
 }
 
 // No table before it is one, which isn't looked at before all files are read.
 #[test]
 fn a_certificate_is_read_before_a_table_is_parsed(rt: HostRuntime) -> Result<(), Fail> {
-    let mut entries = Vec::new(rt.alloc());
-    for word in 2..6 {
-        entries.push(Entry {
-            word,
-            bytes: Vec::from_slice(rt.alloc(), b"x")?,
-        })?;
-    }
-    entries.push(Entry {
-        word: 6,
-        bytes: too_long(rt.alloc())?,
-    })?;
-    let found = outcome_over(rt.alloc(), &TABLES, entries, &[], &[])?;
+    let entries = too_long_behind(rt.alloc())?;
+    let found = outcome_over(rt.alloc(), &VERIFY, entries, QUIET)?;
     assert!(rt; found.status == Status::InputFault);
     assert!(rt; found.text.as_slice() == b"fault\tcertificate\t0\t14\tTooLong\n".as_slice());
     Ok(())

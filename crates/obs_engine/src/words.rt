@@ -1,5 +1,5 @@
 // The words of the command line.
-ghost use Rattle.std.specs.Prelude.{◌≡◌, ◌<◌, ◌+◌, ◌==◌, ◌&&◌, codes, map, string_bytes, slice_index_or, Some, IfSome, [], length};
+ghost use Rattle.std.specs.Prelude.{◌≡◌, ◌<◌, ◌+◌, ◌==◌, ◌&&◌, codes, map, string_bytes, Some, IfSome, length};
 ghost use Rattle.obs_text.specs.Numbers.{whole_of};
 ghost use Rattle.obs_engine.specs.Forms.{HasRows};
 ghost use Rattle.obs_engine.specs.Words.{case_form_of, form_of, form_with, is_word, parts_of, trial_form, words_of, words_with};

@@ -1,14 +1,13 @@
 -- The sources are marked, one after the other.
-use Rattle.std.proofs.Common.{◌≡◌, ℕ, ◌+◌, Bool, true, false, Option, None, List, get_or, sym, ◌∙◌, inl, inr, arith}
-use Rattle.std.proofs.lemmas.Bool.{cases_eq, cases_Bool}
+use Rattle.std.proofs.Common.{◌≡◌, ℕ, false, Option, None, List, get_or, sym, ◌∙◌, inl, inr}
+use Rattle.std.proofs.lemmas.Bool.{cases_Bool}
 use Rattle.obs_graph.specs.declared.Ends.{Ends}
 use Rattle.obs_meter.specs.declared.Touch.{Touch}
-use Rattle.obs_assign.specs.Assignment.{Assignment, IsWhole, has_flag, is_frozen}
+use Rattle.obs_assign.specs.Assignment.{Assignment, IsWhole, is_frozen}
 use Rattle.obs_assign.proofs.Slotted.{item_slot, none_some}
 use Rattle.obs_exchange.specs.declared.Sources.{Sources}
 use Rattle.obs_exchange.specs.declared.Sources.TheVariants.{All, One}
 use Rattle.obs_exchange.specs.Closed.{IsSource}
-use Rattle.obs_exchange.specs.Searching.{AreMarked, Keeps}
 
 -- a source has no pair
 pub source_bare : (ends : List (Option Ends)) (touches : List Touch) (from : Sources) (a : Assignment) (m : ℕ) → IsSource ends touches from a m → get_or a.slots m None ≡ None
@@ -21,10 +20,3 @@ source_thawed ends touches from a m whole s = elim (cases_Bool (is_frozen a m)) 
   | inr f ↦ f
   | inl t ↦ let b = item_slot a.slots m (whole.paired.frozen_have m t) in absurd (none_some b.0 (sym (source_bare ends touches from a m s) ∙ b.1))
 ]
-
--- one source more was looked at
-pub AreMarked-more : (ends : List (Option Ends)) (touches : List Touch) (from : Sources) (a : Assignment) (marks new_marks : List Bool) (first m : ℕ)
-    → AreMarked ends touches from a marks first m → Keeps marks new_marks → (IsSource ends touches from a m → has_flag new_marks m ≡ true)
-    → AreMarked ends touches from a new_marks first (m + 1)
-AreMarked-more ends touches from a marks new_marks first m marked keeps own k f l s =
-    elim (cases_eq k m) [ inl e ↦ rw e (own (rw e at s)) | inr n ↦ keeps k (marked k f (omega arith) s) ]

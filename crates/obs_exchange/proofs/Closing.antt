@@ -8,7 +8,7 @@ use Rattle.obs_graph.specs.Positions.{AreBranches}
 use Rattle.obs_graph.specs.Graph.{Graph}
 use Rattle.obs_graph.proofs.Counts.{count_below-le-n}
 use Rattle.obs_matroid.specs.Lists.{In}
-use Rattle.obs_matroid.specs.Assignments.{Pair, items, others}
+use Rattle.obs_matroid.specs.Assignments.{Pair, others}
 use Rattle.obs_matroid.specs.Closed.{HoldsSources, IsClosed, IsLeastClosed}
 use Rattle.obs_matroid.proofs.Closed.{closed_adds_none}
 use Rattle.obs_matroid.proofs.Queue.{IsQueue, queue_closed}
@@ -21,7 +21,7 @@ use Rattle.obs_meter.proofs.Touched.{live-from_In}
 use Rattle.obs_assign.specs.declared.Move.{Move}
 use Rattle.obs_assign.specs.Assignment.{Assignment, IsWhole, StandsOver, branch_at, has_flag, is_frozen, pairs}
 use Rattle.obs_assign.specs.Pins.{joins}
-use Rattle.obs_assign.proofs.Slotted.{item_slot, none_some, slot_item}
+use Rattle.obs_assign.proofs.Slotted.{item_slot}
 use Rattle.obs_assign.proofs.Standing.{In-every, IsAssignmentAt-standing}
 use Rattle.obs_exchange.specs.declared.Sources.{Sources}
 use Rattle.obs_exchange.specs.declared.Sources.TheVariants.{All, One}
@@ -30,7 +30,7 @@ use Rattle.obs_exchange.specs.Found.{AddsSource, HasClosed}
 use Rattle.obs_exchange.specs.Searching.{AreMarked, IsParent, IsSearching, end_of, first_of, parent_at, place_in}
 use Rattle.obs_exchange.proofs.Beginning.{source_bare}
 use Rattle.obs_exchange.proofs.Queued.{has_pair}
-use Rattle.obs_exchange.proofs.AtGraph.{live_low}
+use Rattle.obs_exchange.proofs.AtGraph.{bare-from_out, live_low, out-from_bare}
 
 -- whether a meter without a pair is a source
 abbrev pub source_test : List (Option Ends) → List Touch → Sources → ℕ → Bool
@@ -48,16 +48,6 @@ source_from ends touches (One k) a m t b = let p = and_parts (m == k) (is_live e
 pub source_live : (ends : List (Option Ends)) (touches : List Touch) (from : Sources) (a : Assignment) (m : ℕ) → IsSource ends touches from a m → is_live ends touches m ≡ true
 source_live ends touches All a m s = s.0
 source_live ends touches (One k) a m s = s.1
-
-slot_none : (o : Option ℕ) → ((e : ℕ) → o ≡ Some e → ⊥) → o ≡ None
-slot_none None h = refl
-slot_none (Some e) h = absurd (h e refl)
-
-pub bare_slot : (a : Assignment) (m : ℕ) → (In m (items (pairs a)) → ⊥) → branch_at a m ≡ None
-bare_slot a m out = slot_none (branch_at a m) (λ e h. out (slot_item a.slots m e h))
-
-pub bare_item : (a : Assignment) (m : ℕ) → branch_at a m ≡ None → In m (items (pairs a)) → ⊥
-bare_item a m b i = let h = item_slot a.slots m i in none_some h.0 (sym b ∙ h.1)
 
 -- the sources that were looked at are all
 pub all_marked : (ends : List (Option Ends)) (touches : List Touch) (from : Sources) (a : Assignment) (marks : List Bool)
@@ -127,7 +117,7 @@ module _ (g : Graph) (touches : List Touch) (from : Sources) (a : Assignment)
     inside = λ x t. (In-every touches x (s.low x t), s.thawed x t);
     roots = λ x t r.
         let o = origin_source x t (from_root parents x r) in
-        record { of_items = In-every touches x (s.low x t); is_source = source_passes g.ends touches from a x o; bare = bare_item a x (source_bare g.ends touches from a x o) };
+        record { of_items = In-every touches x (s.low x t); is_source = source_passes g.ends touches from a x o; bare = out-from_bare a x (source_bare g.ends touches from a x o) };
     led = λ x t r.
         let p = from_led parents x r in
         let e : pair_at parents x ≡ (p.0.meter, p.0.branch) = pair_some parents x p.0 p.1 in
@@ -158,14 +148,14 @@ module _ (g : Graph) (touches : List Touch) (from : Sources) (a : Assignment) (o
   to_closed S c = record { spanned = λ m e i t k. c.joined m e t k }
 
   to_holds : (S : ℕ → Bool) → HoldsSourcesAt g.ends touches from a S → HoldsSources (every_item touches) (source_test g.ends touches from) (pairs a) S
-  to_holds S h m i t out = h m (source_from g.ends touches from a m t (bare_slot a m out))
+  to_holds S h m i t out = h m (source_from g.ends touches from a m t (bare-from_out a m out))
 
   -- a least closed set shows that no assignment adds a source
   pub adds_none : (S : ℕ → Bool) → IsLeastClosedAt g.ends touches from a S → (B : List Pair) → AddsSource g.ends touches from a B → ⊥
   adds_none S c B b = closed_adds_none (graph_matroid g.vertices g.ends) (IsMatroid-graph g.vertices g.ends ok) (touch_at g.ends touches) (every_item touches) (is_frozen a) (pairs a) B S
       (to_matroid g.vertices g.ends touches (every_item touches) (pairs a) (IsAssignmentAt-standing a g touches whole stands))
       (to_matroid g.vertices g.ends touches (every_item touches) B b.assigns) whole.paired.frozen_have b.extends (to_closed S c.closed) b.keeps b.source (c.holds b.source b.is_source)
-      (bare_item a b.source (source_bare g.ends touches from a b.source b.is_source)) b.adds
+      (out-from_bare a b.source (source_bare g.ends touches from a b.source b.is_source)) b.adds
 
   module _ (marks : List Bool) (parents : List (Option Move)) (queue : List ℕ) (tail : ℕ) (walked : List Bool)
       (s : IsSearching g.ends touches from a marks parents queue tail tail walked) (holds : HoldsSourcesAt g.ends touches from a (has_flag marks)) where

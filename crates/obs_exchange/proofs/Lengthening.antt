@@ -1,5 +1,5 @@
 -- Searches, one after the other, until there are pairs enough or a closed set.
-use Rattle.std.proofs.Common.{◌≡◌, ◌≢◌, ℕ, zero, suc, ◌+◌, ◌-◌, ◌<◌, ◌≤◌, ◌^◌, Bool, true, false, None, List, [], length, refl, sym, ap, ◌∙◌, subst, inl, inr, arith}
+use Rattle.std.proofs.Common.{◌≡◌, ◌≢◌, ℕ, zero, suc, ◌+◌, ◌-◌, ◌≤◌, Bool, true, false, None, List, [], length, sym, ap, ◌∙◌, subst, inl, inr, arith}
 use Rattle.std.proofs.lemmas.Bool.{cases_Bool}
 use Rattle.std.specs.Prelude.{MatchBool}
 use Rattle.obs_graph.specs.Positions.{AreBranches, ends_of}
@@ -16,9 +16,8 @@ use Rattle.obs_meter.proofs.Instance.{IsMatroid-graph}
 use Rattle.obs_meter.specs.declared.Touch.{Touch}
 use Rattle.obs_meter.specs.Sizes.{HasRoomFor, Sizes}
 use Rattle.obs_assign.specs.Assignment.{Assignment, HasRoomOf, IsWhole, StandsOver, branch_at, has_flag, is_frozen, pairs}
-use Rattle.obs_assign.specs.Moves.{turned}
 use Rattle.obs_exchange.specs.declared.Sources.TheVariants.{All}
-use Rattle.obs_exchange.specs.Found.{HasClosed, HasGrown}
+use Rattle.obs_exchange.specs.Found.{HasClosed}
 use Rattle.obs_exchange.specs.Laws.{HasClosedSet, IsThawed}
 use Rattle.obs_exchange.specs.Lengthened.{HasLengthened}
 use Rattle.obs_exchange.proofs.AtGraph.{IsAssignment-live}
@@ -42,64 +41,6 @@ pub record IsLengthening (g : Graph) (touches : List Touch) (a b : Assignment) (
   pub turns_found : b.turns ≤ a.turns + searches
   pub none : searches ≡ 0 → b ≡ a
   pub same_room : HasRoomOf a b
-
-pub Lengthening-begun : (g : Graph) (touches : List Touch) (a : Assignment) → StandsOver a g touches → IsLengthening g touches a a 0
-Lengthening-begun g touches a stands = record {
-  stands = stands;
-  keeps = λ m some. some;
-  frozen = refl;
-  frozen_pairs = λ m f. refl;
-  longer = omega arith;
-  turns_rise = omega arith;
-  turns_found = omega arith;
-  none = λ z. refl;
-  same_room = record { meters = refl; vertices = refl; branches = refl };
-}
-
-turned-rises : (t : ℕ) → t < 2 ^ 64 → (t ≤ turned t) × (turned t ≤ t + 1)
-turned-rises t low = (grind arith, grind arith)
-
-module _ (g : Graph) (touches : List Touch) (a b c : Assignment) (searches : ℕ) (h : IsLengthening g touches a b searches) where
-  -- one search more found a pair
-  pub Lengthening-more : b.turns < 2 ^ 64 → StandsOver c g touches → HasRoomOf b c → (m : ℕ) → HasGrown g.ends touches All b c m → IsLengthening g touches a c (searches + 1)
-  Lengthening-more low stands room m k =
-      let t = turned-rises b.turns low in
-      record {
-        stands = stands;
-        keeps = λ y some. k.keeps y (h.keeps y some);
-        frozen = k.frozen ∙ h.frozen;
-        frozen_pairs = λ y f. k.frozen_pairs y (ap (λ (x : List Bool). has_flag x y) h.frozen ∙ f) ∙ h.frozen_pairs y f;
-        longer = let p = k.longer in let q = h.longer in omega (arith, p, q);
-        turns_rise = let p = k.turns in let q = h.turns_rise in let r = t.0 in omega (arith, p, q, r);
-        turns_found = let p = k.turns in let q = h.turns_found in let r = t.1 in omega (arith, p, q, r);
-        none = λ z. absurd (omega (arith, z));
-        same_room = rooms a b c h.same_room room;
-      }
-
-  -- one search more found a closed set
-  pub Lengthened-closed : (flags : List Bool) → HasClosed g.ends touches All b c flags → HasLengthened a c (searches + 1)
-  Lengthened-closed flags k = subst (λ (d : Assignment). HasLengthened a d (searches + 1)) (sym k.same) (record {
-    keeps = h.keeps;
-    frozen = h.frozen;
-    frozen_pairs = h.frozen_pairs;
-    grown = let l = h.longer in omega (arith, l);
-    all_but_one = let l = h.longer in omega (arith, l);
-    turns_rise = h.turns_rise;
-    turns_found = let l = h.longer in let t = h.turns_found in omega (arith, l, t);
-    none = λ z. absurd (omega (arith, z));
-  })
-
-  pub Lengthened-enough : HasLengthened a b searches
-  Lengthened-enough = record {
-    keeps = h.keeps;
-    frozen = h.frozen;
-    frozen_pairs = h.frozen_pairs;
-    grown = let l = h.longer in omega (arith, l);
-    all_but_one = let l = h.longer in omega (arith, l);
-    turns_rise = h.turns_rise;
-    turns_found = let l = h.longer in let t = h.turns_found in omega (arith, l, t);
-    none = h.none;
-  }
 
 -- a search that changed nothing left a closed set of what is there
 pub Closed-again : (g : Graph) (touches : List Touch) (b c : Assignment) (flags : List Bool) → HasClosed g.ends touches All b c flags → HasClosed g.ends touches All c c flags

@@ -1,8 +1,8 @@
 -- One meter more in the queue.
 use Rattle.std.proofs.Common.{◌≡◌, ℕ, zero, suc, ◌+◌, ◌<◌, ◌≤◌, Bool, true, false, cond, ◌==◌, Option, Some, None, List, length, get_or, set, refl, sym, ap, ◌∙◌, subst, inl, inr, ◌⊎◌, add-one, arith, length-set, eq-eqb}
 use Rattle.std.specs.Prelude.{MatchOption}
-use Rattle.std.proofs.lemmas.Bool.{cases_eq, cases_lt, cases_Bool, eqb-true}
-use Rattle.std.proofs.lemmas.List.{get_or-set_same, get_or-set_other, get_or_past}
+use Rattle.std.proofs.lemmas.Bool.{cases_eq, cases_Bool, eqb-true}
+use Rattle.std.proofs.lemmas.List.{get_or-set_same, get_or-set_other}
 use Rattle.obs_graph.specs.declared.Ends.{Ends}
 use Rattle.obs_graph.proofs.Counts.{count_below-one_more, count_below-le-n}
 use Rattle.obs_matroid.specs.Lists.{In}
@@ -49,13 +49,6 @@ pub place-old : (queue : List ℕ) (t x y : ℕ) → t < length queue → (y ≡
 place-old queue t x y l n =
     ap (λ v. cond (v == y) t (place_in (set queue t x) t y)) (get_or-set_same queue t x 0 l)
     ∙ (ap (λ b. cond b t (place_in (set queue t x) t y)) (eqb_false x y n) ∙ place_in-set queue t x t y (omega arith))
-
--- the flag of a place that is not in the list is not set
-pub flag_low : (flags : List Bool) (x : ℕ) → has_flag flags x ≡ true → x < length flags
-flag_low flags x t = elim (cases_lt x (length flags)) [ inl l ↦ l | inr l ↦ clash t (get_or_past flags x false l) ]
-
-pub some_is : (p q : Move) → Some p ≡ Some q → p ≡ q
-some_is p q e = cc
 
 -- a meter whose pair a branch needs has one
 pub has_pair : (ends : List (Option Ends)) (A : List Pair) (x e : ℕ) → joins ends (branches A) e ≡ true → joins ends (others A x) e ≡ false → In x (items A)

@@ -1,6 +1,7 @@
 -- The moves that lead back from a free branch to a source, by the parents.
-use Rattle.std.proofs.Common.{◌≡◌, ◌≢◌, ℕ, zero, suc, ◌+◌, ◌<◌, ◌≤◌, Bool, true, false, Option, Some, None, List, [], ◌∷◌, length, get_or, set, drop, map, refl, sym, ap, ◌∙◌, subst, inl, inr, ◌⊎◌, arith, length-set}
+use Rattle.std.proofs.Common.{◌≡◌, ◌≢◌, ℕ, zero, suc, ◌+◌, ◌<◌, ◌≤◌, Bool, true, false, Option, Some, None, List, [], ◌∷◌, length, get_or, set, drop, map, refl, sym, ap, ◌∙◌, subst, inl, inr, ◌⊎◌, arith, add-one, length-set}
 use Rattle.std.specs.Prelude.{AllPairs}
+use Rattle.std.proofs.lemmas.List.{drop-set, drop_all}
 use Rattle.obs_graph.specs.Positions.{AreBranches}
 use Rattle.obs_graph.specs.Graph.{Graph}
 use Rattle.obs_matroid.specs.Lists.{In, IsDistinct, other_than}
@@ -114,20 +115,9 @@ rising_apart place (x ∷ path) r = pairs_at x path (λ y i e. let l = r.0 y i i
     pairs_at x path h k zero (suc j) d l m = λ e. h (get_or path j d) (In-get_or path j d (omega (arith, m))) e
     pairs_at x path h k (suc i) (suc j) d l m = k i j d (omega (arith, l)) (omega (arith, m))
 
-drop_past : (path : List Move) (k : ℕ) → length path ≤ k → drop k path ≡ []
-drop_past [] zero l = refl
-drop_past [] (suc k) l = refl
-drop_past (y ∷ path) zero l = absurd (omega (arith, l))
-drop_past (y ∷ path) (suc k) l = drop_past path k (omega (arith, l))
-
-drop_set : (path : List Move) (k : ℕ) (x : Move) → k < length path → drop k (set path k x) ≡ x ∷ drop (suc k) path
-drop_set [] k x l = absurd (omega arith)
-drop_set (y ∷ path) zero x l = refl
-drop_set (y ∷ path) (suc k) x l = drop_set path k x (omega (arith, l))
-
 -- a path of one move
 pub drop_last : (path : List Move) (k : ℕ) (x : Move) → suc k ≡ length path → drop k (set path k x) ≡ x ∷ []
-drop_last path k x l = drop_set path k x (omega (arith, l)) ∙ ap (λ xs. x ∷ xs) (drop_past path (suc k) (omega (arith, l)))
+drop_last path k x l = drop-set path k x (omega (arith, l)) ∙ ap (λ xs. x ∷ xs) (drop_all (k + 1) path (omega (arith, l)))
 
 module _ (g : Graph) (touches : List Touch) (from : Sources) (a : Assignment)
     (marks : List Bool) (parents : List (Option Move)) (queue : List ℕ) (tail : ℕ) (walked : List Bool) (last : Move) where
@@ -168,7 +158,7 @@ module _ (g : Graph) (touches : List Touch) (from : Sources) (a : Assignment)
       marked = e.marked;
       first = last;
       rest = [];
-      is = drop_set path k last (omega arith) ∙ ap (λ xs. last ∷ xs) (drop_past path (suc k) (omega arith));
+      is = drop_last path k last len;
       at = refl;
       room = omega arith;
       rises = ((λ y i. absurd i), tt);
@@ -207,14 +197,14 @@ module _ (g : Graph) (touches : List Touch) (from : Sources) (a : Assignment)
           let below = t.below in
           let r = t.room in
           let enough = t.enough in
-          let same : drop (suc k) path ≡ t.first ∷ t.rest = rw is t.is in
+          let same : drop (k + 1) path ≡ t.first ∷ t.rest = ap (λ n. drop n path) (add-one k ∙ is) ∙ t.is in
           let f = longer p s t.fuel t.enough t.back in
           record {
             below = omega arith;
             marked = (parent p s).marked;
             first = p;
             rest = t.first ∷ t.rest;
-            is = drop_set path k p (omega arith) ∙ ap (λ xs. p ∷ xs) same;
+            is = drop-set path k p (omega arith) ∙ ap (λ xs. p ∷ xs) same;
             at = refl;
             room = omega (arith, b, r, n, is);
             rises = (

@@ -1,6 +1,6 @@
 -- A branch that was walked, and a head that moves on.
-use Rattle.std.proofs.Common.{◌≡◌, ℕ, ◌+◌, ◌<◌, Bool, true, false, not, ◌==◌, Option, Some, None, List, length, get_or, set, sym, ap, ◌∙◌, subst, ◌⊎◌, inl, inr, arith, eq-eqb}
-use Rattle.std.specs.Prelude.{MatchOption, IsSome, is_some, slice_index_or}
+use Rattle.std.proofs.Common.{◌≡◌, ℕ, ◌<◌, Bool, true, false, not, ◌==◌, Option, Some, None, List, length, get_or, sym, ap, ◌∙◌, ◌⊎◌, inl, inr, eq-eqb}
+use Rattle.std.specs.Prelude.{IsSome, is_some, slice_index_or}
 use Rattle.std.specs.List.{Contains}
 use Rattle.std.proofs.lemmas.Bool.{cases_eq, cases_Bool}
 use Rattle.obs_graph.specs.declared.Ends.{Ends}
@@ -26,79 +26,12 @@ use Rattle.obs_meter.proofs.Touched.{touched-present}
 use Rattle.obs_forest.specs.Cycle.{without}
 use Rattle.obs_forest.proofs.Attaching.{without-some}
 use Rattle.obs_forest.proofs.Without.{other_present}
-use Rattle.obs_assign.specs.declared.Move.{Move}
 use Rattle.obs_assign.specs.Assignment.{Assignment, IsWhole, StandsOver, branch_at, has_flag, is_frozen, pairs}
 use Rattle.obs_assign.specs.Pins.{joins}
 use Rattle.obs_assign.proofs.Paths.{apart-pairs, apart_ends, ends_are, held_at, joined-pairs, joins-from}
 use Rattle.obs_assign.proofs.Slotted.{branch_slot, item_slot, slot_branch, slots_apart, some_same}
-use Rattle.obs_exchange.specs.declared.Sources.{Sources}
-use Rattle.obs_exchange.specs.Closed.{IsSource}
-use Rattle.obs_exchange.specs.Searching.{IsNeededOf, IsParent, IsSearching, IsVisiting, IsWalked, parent_at, place_in}
-use Rattle.obs_exchange.proofs.Queued.{eqb_false, flag-kept, flag-from}
-
-module _ (ends : List (Option Ends)) (touches : List Touch) (from : Sources) (a : Assignment)
-    (marks : List Bool) (parents : List (Option Move)) (queue : List ℕ) (tail head : ℕ) (walked : List Bool) where
-  -- the flag of a walked branch is set
-  pub IsSearching-walked : (e : ℕ) → IsSearching ends touches from a marks parents queue tail head walked → e < length walked → IsWalked ends a marks e
-      → IsSearching ends touches from a marks parents queue tail head (set walked e true)
-  IsSearching-walked e s l w = record {
-    marks_len = s.marks_len;
-    parents_len = s.parents_len;
-    queue_len = s.queue_len;
-    low = s.low;
-    thawed = s.thawed;
-    few = s.few;
-    head_le = s.head_le;
-    placed = s.placed;
-    entries = s.entries;
-    origins = s.origins;
-    in_order = s.in_order;
-    finished = λ y q t is. elim (s.finished y q t is) [ inl f ↦ inl (flag-kept walked e l q.branch f) | inr p ↦ inr p ];
-    walks = λ f t. elim (flag-from walked e f t) [ inl is ↦ rw is w | inr h ↦ s.walks f h.1 ];
-    looked = λ k f m i. flag-kept walked e l f (s.looked k f m i);
-  }
-
-  pub IsVisiting-walked : (m e : ℕ) → IsVisiting ends touches from a marks parents queue tail head walked m → e < length walked → IsWalked ends a marks e
-      → IsVisiting ends touches from a marks parents queue tail head (set walked e true) m
-  IsVisiting-walked m e v l w = record { searching = IsSearching-walked e v.searching l w; below = v.below; at_head = v.at_head }
-
-  further : (x : ℕ) (o : Option Move) → MatchOption o (IsSource ends touches from a x) (λ p. IsParent ends touches a marks (place_in queue tail) head x p)
-      → MatchOption o (IsSource ends touches from a x) (λ p. IsParent ends touches a marks (place_in queue tail) (head + 1) x p)
-  further x None h = h
-  further x (Some p) h = record { marked = h.marked; before = h.before; near = let n = h.near in omega arith; touched = h.touched; needed = h.needed }
-
-  -- the head moves on where its meter has walked all that it touches
-  pub IsSearching-next : (m : ℕ) → IsVisiting ends touches from a marks parents queue tail head walked m
-      → ((e : ℕ) → In e (touch_at ends touches m) → has_flag walked e ≡ true) → IsSearching ends touches from a marks parents queue tail (head + 1) walked
-  IsSearching-next m v all = let s = v.searching in record {
-    marks_len = s.marks_len;
-    parents_len = s.parents_len;
-    queue_len = s.queue_len;
-    low = s.low;
-    thawed = s.thawed;
-    few = s.few;
-    head_le = let b = v.below in omega arith;
-    placed = s.placed;
-    entries = s.entries;
-    origins = λ x t. further x (parent_at parents x) (s.origins x t);
-    in_order = s.in_order;
-    finished = λ y q t is. inl (elim (s.finished y q t is) [
-      | inl f ↦ f
-      | inr p ↦
-          let k = parent_of y q t is in
-          let c = (s.placed q.meter k.marked).1 in
-          let at : m ≡ q.meter = sym v.at_head ∙ (ap (λ i. get_or queue i 0) (sym p) ∙ c) in
-          all q.branch (rw at k.touched)
-    ]);
-    walks = s.walks;
-    looked = λ k e l i. elim (cases_eq k head) [
-      | inl is ↦ all e (rw (sym v.at_head) (rw (← is) i))
-      | inr n ↦ s.looked k e (omega arith) i
-    ];
-  }
-    where
-      parent_of : (y : ℕ) (q : Move) → has_flag marks y ≡ true → parent_at parents y ≡ Some q → IsParent ends touches a marks (place_in queue tail) head y q
-      parent_of y q t e = subst (λ r. MatchOption r (IsSource ends touches from a y) (λ p. IsParent ends touches a marks (place_in queue tail) head y p)) e (v.searching.origins y t)
+use Rattle.obs_exchange.specs.Searching.{IsNeededOf, IsWalked}
+use Rattle.obs_exchange.proofs.Queued.{eqb_false}
 
 module _ (a : Assignment) (g : Graph) (touches : List Touch) (whole : IsWhole a) (stands : StandsOver a g touches) where
   in_others : (x y e : ℕ) → branch_at a y ≡ Some e → (y ≡ x → ⊥) → In e (others (pairs a) x)

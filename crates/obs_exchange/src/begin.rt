@@ -1,5 +1,5 @@
 // The sources, one after the other.
-ghost use Rattle.std.specs.Prelude.{◌≡◌, ◌<◌, ◌≤◌, true, MatchOption, None, Some, length};
+ghost use Rattle.std.specs.Prelude.{◌≡◌, ◌<◌, ◌≤◌, true, MatchOption, length};
 ghost use Rattle.obs_meter.specs.Touches.{AreInRange};
 ghost use Rattle.obs_assign.specs.Assignment.{IsWhole, StandsOver, has_flag};
 ghost use Rattle.obs_exchange.specs.Closed.{IsSource};

@@ -1,5 +1,5 @@
 // The path of moves by which the assignment grows.
-ghost use Rattle.std.specs.Prelude.{◌≡◌, ◌+◌, ◌<◌, ◌≤◌, Bool, List, ℕ, false, IfSome, MatchOption, None, Some, length, drop, replicate, slice_index, take};
+ghost use Rattle.std.specs.Prelude.{◌≡◌, ◌+◌, ◌<◌, ◌≤◌, Bool, List, ℕ, false, IfSome, MatchOption, length, drop, replicate, slice_index, take};
 ghost use Rattle.obs_graph.specs.Positions.{AreBranches};
 ghost use Rattle.obs_meter.specs.Touches.{AreInRange};
 ghost use Rattle.obs_assign.specs.Assignment.{HasRoomOf, IsWhole, StandsOver, has_flag};

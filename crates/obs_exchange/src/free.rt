@@ -1,5 +1,5 @@
 // The free branches that a meter touches.
-ghost use Rattle.std.specs.Prelude.{◌≡◌, ◌<◌, ◌≤◌, IfSome, None, Some, length, slice_index};
+ghost use Rattle.std.specs.Prelude.{◌≡◌, ◌<◌, ◌≤◌, IfSome, length, slice_index};
 ghost use Rattle.obs_meter.specs.Touches.{AreInRange, touch_at};
 ghost use Rattle.obs_assign.specs.Assignment.{IsWhole, StandsOver};
 ghost use Rattle.obs_exchange.specs.Searching.{IsFreeFor};

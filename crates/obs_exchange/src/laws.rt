@@ -1,5 +1,5 @@
 // The laws of critical meters, of tight lists and of closed sets.
-ghost use Rattle.std.specs.Prelude.{◌≡◌, ◌≢◌, ◌↔◌, ◌≤◌, ℕ, Bool, true, false, Option, List, filter, length};
+ghost use Rattle.std.specs.Prelude.{◌≡◌, ◌↔◌, ◌≤◌, ℕ, Bool, true, false, Option, List, filter, length};
 ghost use Rattle.obs_graph.specs.declared.Ends.{Ends};
 ghost use Rattle.obs_graph.specs.Positions.{AreBranches};
 ghost use Rattle.obs_graph.specs.Graph.{Graph};

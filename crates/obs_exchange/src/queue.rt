@@ -1,5 +1,5 @@
 // Meters that are marked and put into the queue.
-ghost use Rattle.std.specs.Prelude.{◌≡◌, ◌↔◌, ◌+◌, ◌<◌, ◌≤◌, true, false, IsTrue, None, Some, length, slice_set};
+ghost use Rattle.std.specs.Prelude.{◌≡◌, ◌↔◌, ◌+◌, ◌<◌, ◌≤◌, true, false, IsTrue, length, slice_set};
 ghost use Rattle.obs_matroid.specs.Lists.{In};
 ghost use Rattle.obs_meter.specs.Touches.{AreInRange, touch_at};
 ghost use Rattle.obs_assign.specs.Assignment.{StandsOver, has_flag, is_frozen};

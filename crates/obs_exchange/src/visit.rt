@@ -1,5 +1,5 @@
 // The meters of the queue, one after the other, up to the first free branch.
-ghost use Rattle.std.specs.Prelude.{◌≡◌, ◌+◌, ◌<◌, ◌≤◌, ℕ, true, false, IsTrue, MatchOption, None, Some, length};
+ghost use Rattle.std.specs.Prelude.{◌≡◌, ◌<◌, ◌≤◌, ℕ, true, IsTrue, MatchOption, length};
 ghost use Rattle.obs_matroid.specs.Lists.{In};
 ghost use Rattle.obs_meter.specs.Touches.{AreInRange, touch_at};
 ghost use Rattle.obs_assign.specs.Assignment.{IsWhole, StandsOver, has_flag};

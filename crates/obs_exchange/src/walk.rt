@@ -1,5 +1,5 @@
 // The branches that a meter of the queue looks at.
-ghost use Rattle.std.specs.Prelude.{◌≡◌, ◌<◌, ◌≤◌, ℕ, true, false, not, IfSome, IsSome, MatchBool, None, Some, length, slice_index, slice_index_or};
+ghost use Rattle.std.specs.Prelude.{◌≡◌, ◌<◌, ◌≤◌, ℕ, true, false, not, IsSome, MatchBool, None, Some, length, slice_index, slice_index_or};
 ghost use Rattle.obs_graph.specs.declared.search.Up.{Up};
 ghost use Rattle.obs_matroid.specs.Assignments.{branches};
 ghost use Rattle.obs_matroid.specs.Lists.{In};

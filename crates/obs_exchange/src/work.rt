@@ -1,5 +1,5 @@
 // The arrays of a search.
-ghost use Rattle.std.specs.Prelude.{◌≡◌, ◌+◌, ◌<◌, [], length, IfOk};
+ghost use Rattle.std.specs.Prelude.{◌≡◌, ◌+◌, [], length, IfOk};
 ghost use Rattle.obs_meter.specs.Sizes.{HasRoomFor};
 ghost use Rattle.obs_meter.specs.Touches.{AreInRange};
 ghost use Rattle.obs_assign.specs.Assignment.{HasRoomOf, IsWhole, StandsOver};
@@ -46,7 +46,7 @@ pub struct Work {
 }
 
 impl Model for Work {
-    ghost use Rattle.std.specs.Prelude.{◌≡◌, ◌≤◌, ◌<◌, length, take};
+    ghost use Rattle.std.specs.Prelude.{◌≡◌, ◌≤◌, length, take};
     ghost use Rattle.obs_exchange.specs.Blank.{AreBlank};
     ghost use Rattle.obs_exchange.specs.Found.{Work};
 

@@ -39,9 +39,6 @@ pub record IsTrying (g : Graph) (touches : List Touch) (a b : Assignment) (m lon
   pub keeps : KeepsFrozen a b
   pub refused : AreRefused g touches a m long tried
 
-pub Trying-begun : (g : Graph) (touches : List Touch) (a : Assignment) (m long : ℕ) → StandsOver a g touches → IsWhole a → IsTrying g touches a a m long []
-Trying-begun g touches a m long s w = record { stands = s; whole = w; frozen = refl; keeps = λ x f. refl; refused = λ e i. absurd i }
-
 -- one more branch is refused
 pub Trying-more : (g : Graph) (touches : List Touch) (a b c : Assignment) (m long : ℕ) (xs : List ℕ) (k d : ℕ) → IsTrying g touches a b m long (take k xs) → k < length xs
     → HasRefused g.ends touches b c m (get_or xs k d) long → KeepsFrozen b c → StandsOver c g touches → IsWhole c → IsTrying g touches a c m long (take (k + 1) xs)

@@ -27,15 +27,6 @@ positions_from-contains test i (x ∷ xs) (suc p) d l pass =
     later true y z ys (k, l, h) = (suc k, omega arith, h)
     later false y z ys has = has
 
-pub positions_from-below : {X : Type 0} (test : X → Bool) (i : ℕ) (xs : List X) (k d : ℕ) → k < length (positions_from test i xs) → get_or (positions_from test i xs) k d < i + length xs
-positions_from-below test i [] k d l = absurd (omega arith)
-positions_from-below test i (x ∷ xs) k d l = by_test (test x) k (positions_from test (suc i) xs) (λ j lj. positions_from-below test (suc i) xs j d lj) l
-  where
-    by_test : (b : Bool) (k : ℕ) (ys : List ℕ) → ((j : ℕ) → j < length ys → get_or ys j d < suc i + length xs) → k < length (cond b (i ∷ ys) ys) → get_or (cond b (i ∷ ys) ys) k d < i + suc (length xs)
-    by_test true zero ys rest l = omega arith
-    by_test true (suc k) ys rest l = omega (arith, rest k (omega arith))
-    by_test false k ys rest l = omega (arith, rest k l)
-
 pub has_end-leads : (e : Ends) (v w : ℕ) → Leads e v w → has_end v (Some e) ≡ true
 has_end-leads e v w (inl (a, b)) = or_left (eqb e.a v) (eqb e.b v) (eq-eqb e.a v a)
 has_end-leads e v w (inr (a, b)) = or_right (eqb e.a v) (eqb e.b v) (eq-eqb e.b v a)

@@ -8,7 +8,7 @@ use Rattle.obs_graph.specs.declared.Ends.{Ends}
 use Rattle.obs_graph.specs.Joined.{merged, first_joined, is_joined, joined_by, rank, InRange, IsForest, AreDifferent}
 use Rattle.obs_graph.proofs.Chains.{Contains-here, Contains-there, Contains-cases, first_joined-contains, same_first-more}
 use Rattle.obs_graph.proofs.Ranks.{rank-le, rank-add_joined, rank-add_new}
-use Rattle.obs_graph.proofs.Forests.{AreAmong, SameFirst, same_first-among, rank-among, rank-add-le, rank-le-length, rank-from_Grows, Grows-from_rank, top, in_range_top, among_front, among_others, among_back, InRange-among, IsForest-from_Grows, Grows-from_IsForest}
+use Rattle.obs_graph.proofs.Forests.{AreAmong, SameFirst, same_first-among, rank-among, rank-add-le, rank-le-length, rank-from_Grows, Grows-from_rank, top, in_range_top, among_front, among_others, InRange-among, IsForest-from_Grows, Grows-from_IsForest}
 
 pub rank-from_IsForest : (n : ℕ) (es : List Ends) → InRange n es → IsForest es → rank n es ≡ length es
 rank-from_IsForest n es range forest = rank-from_Grows n es range (Grows-from_IsForest es forest)
@@ -107,27 +107,6 @@ joined_by-is_joined (e ∷ es) u v =
     let i4 = joined_by-is_joined es e.a v in
     let m = merged-eqb (first_joined es e.a) (first_joined es e.b) (first_joined es u) (first_joined es v) in
     rw (i0, i1, i2, i3, i4) (sym m)
-
--- the general form: part joins no x, all joins x and not e, then e does not help the part
-pub apart-add : (all part : List Ends) (x e : Ends) → AreAmong part all → SameFirst all x → (SameFirst part x → ⊥) → (SameFirst all e → ⊥) → SameFirst (e ∷ part) x → ⊥
-apart-add all part x e among joined apart new again =
-    let swapped : SameFirst (x ∷ part) e = joined_swap x e part apart again in
-    new (same_first-more (x ∷ part) all (λ d has.
-    ⊎_elim
-    (λ (same : x ≡ d). subst (λ t. SameFirst all t) same joined)
-    (λ there. first_joined-contains all d (among d there))
-    (Contains-cases x d part has)) e.a e.b swapped)
-
--- the place of a branch in the list does not matter
-pub IsForest-front : (xs : List Ends) (d : Ends) (ys : List Ends) → IsForest (d ∷ (xs ++ ys)) → IsForest (xs ++ d ∷ ys)
-IsForest-front xs d ys forest =
-    let n = top (d ∷ (xs ++ ys)) in
-    let range : InRange n (d ∷ (xs ++ ys)) = in_range_top (d ∷ (xs ++ ys)) in
-    let range2 : InRange n (xs ++ d ∷ ys) = InRange-among n (xs ++ d ∷ ys) (d ∷ (xs ++ ys)) (among_front xs d ys) range in
-    let full : rank n (d ∷ (xs ++ ys)) ≡ length (d ∷ (xs ++ ys)) = rank-from_IsForest n (d ∷ (xs ++ ys)) range forest in
-    let up : rank n (d ∷ (xs ++ ys)) ≤ rank n (xs ++ d ∷ ys) = rank-among n (d ∷ (xs ++ ys)) (xs ++ d ∷ ys) (among_back xs d ys) in
-    let few : rank n (xs ++ d ∷ ys) ≤ length (xs ++ d ∷ ys) = rank-le-length n (xs ++ d ∷ ys) range2 in
-    IsForest-from_rank n (xs ++ d ∷ ys) range2 (omega (arith, length-append xs (d ∷ ys), length-append xs ys))
 
 -- either all branches of the list have joined ends, or one has not
 pub all_or_one : (es ks : List Ends) → ((e : Ends) → Contains ks e → SameFirst es e) ⊎ ((e : Ends) × Contains ks e × (SameFirst es e → ⊥))

@@ -55,14 +55,11 @@ least-le p (suc n) k l e =
 abbrev pub is_counted : (ℕ → Bool) → List Ends → ℕ → Bool
 is_counted inside es u = inside u && some_below (λ v. inside v && is_joined es u v) u
 
-is_joined-true : (es : List Ends) (u v : ℕ) → first_joined es u ≡ first_joined es v → is_joined es u v ≡ true
-is_joined-true es u v same = true-from_same es u v same
-
 module _ (inside : ℕ → Bool) (es : List Ends) where
   pub counted : (u v : ℕ) → inside u ≡ true → inside v ≡ true → v < u → first_joined es u ≡ first_joined es v → is_counted inside es u ≡ true
   counted u v in_u in_v l same =
       and_from (inside u) (some_below (λ w. inside w && is_joined es u w) u) in_u
-      (some_below-true (λ w. inside w && is_joined es u w) u v l (and_from (inside v) (is_joined es u v) in_v (is_joined-true es u v same)))
+      (some_below-true (λ w. inside w && is_joined es u w) u v l (and_from (inside v) (is_joined es u v) in_v (true-from_same es u v same)))
 
   pub counted-from : (u : ℕ) → is_counted inside es u ≡ true → (inside u ≡ true) × (v : ℕ) × (v < u) × (inside v ≡ true) × (first_joined es u ≡ first_joined es v)
   counted-from u e =
@@ -82,7 +79,7 @@ module _ (inside : ℕ → Bool) (es : List Ends) where
   pub low-facts : (u : ℕ) → inside u ≡ true → (inside (low u) ≡ true) × (first_joined es u ≡ first_joined es (low u)) × (low u ≤ u)
   low-facts u in_u =
       let p : ℕ → Bool = λ v. inside v && is_joined es u v in
-      let some : some_below p (suc u) ≡ true = some_below-true p (suc u) u (omega arith) (and_from (inside u) (is_joined es u u) in_u (is_joined-true es u u refl)) in
+      let some : some_below p (suc u) ≡ true = some_below-true p (suc u) u (omega arith) (and_from (inside u) (is_joined es u u) in_u (true-from_same es u u refl)) in
       let r = least-pass p (suc u) some in
       let l : low u < suc u = r.1 in
       ((and_parts (inside (low u)) (is_joined es u (low u)) r.0).0, same-from_true es u (low u) (and_parts (inside (low u)) (is_joined es u (low u)) r.0).1, omega arith)
@@ -90,17 +87,9 @@ module _ (inside : ℕ → Bool) (es : List Ends) where
   pub low-le : (u v : ℕ) → inside u ≡ true → inside v ≡ true → first_joined es u ≡ first_joined es v → low u ≤ v
   low-le u v in_u in_v same =
       ⊎_elim
-      (λ (l : v < suc u). least-le (λ w. inside w && is_joined es u w) (suc u) v l (and_from (inside v) (is_joined es u v) in_v (is_joined-true es u v same)))
+      (λ (l : v < suc u). least-le (λ w. inside w && is_joined es u w) (suc u) v l (and_from (inside v) (is_joined es u v) in_v (true-from_same es u v same)))
       (λ (l : suc u ≤ v). let f = (low-facts u in_u).2 in omega arith)
       (cases_lt v (suc u))
-
-  pub low-same : (u v : ℕ) → inside u ≡ true → inside v ≡ true → first_joined es u ≡ first_joined es v → low u ≡ low v
-  low-same u v in_u in_v same =
-      let fu = low-facts u in_u in
-      let fv = low-facts v in_v in
-      let a : low u ≤ low v = low-le u (low v) in_u fv.0 (same ∙ fv.1) in
-      let b : low v ≤ low u = low-le v (low u) in_v fu.0 (sym same ∙ fu.1) in
-      omega arith
 
   -- the first is not counted
   pub low-uncounted : (u : ℕ) → inside u ≡ true → is_counted inside es (low u) ≡ false
@@ -135,7 +124,7 @@ module _ (inside : ℕ → Bool) (e : Ends) (es : List Ends) (in_a : inside e.a 
 
   through : (u v : ℕ) → first_joined (e ∷ es) u ≡ first_joined (e ∷ es) v → (first_joined es u ≡ first_joined es v) ⊎ (((first_joined es u ≡ first_joined es e.a) × (first_joined es e.b ≡ first_joined es v)) ⊎ ((first_joined es u ≡ first_joined es e.b) × (first_joined es e.a ≡ first_joined es v)))
   through u v same =
-      let t : joined_by (e ∷ es) u v ≡ true = joined_by-is_joined (e ∷ es) u v ∙ is_joined-true (e ∷ es) u v same in
+      let t : joined_by (e ∷ es) u v ≡ true = joined_by-is_joined (e ∷ es) u v ∙ true-from_same (e ∷ es) u v same in
       ⊎_elim
       (λ first. ⊎_elim
       (λ old. inl (by_test u v old))

@@ -12,9 +12,6 @@ use Rattle.obs_graph.proofs.RankIn.{is_counted, counted, counted-from, low, low-
 
 -- two firsts of a set are not counted, so a set with one uncounted vertex at most is joined
 module _ (inside : ℕ → Bool) (n : ℕ) (es : List Ends) where
-  with_one : (ℕ → Bool) → ℕ → ℕ → Bool
-  with_one p m k = p k || eqb k m
-
   with_one-more : (p : ℕ → Bool) (m : ℕ) → m < n → p m ≡ false → count_below (λ k. p k || eqb k m) n ≡ suc (count_below p n)
   with_one-more p m l none =
       count_below-one_more p (λ k. p k || eqb k m) m n l none (or_right (p m) (eqb m m) (eq-eqb m m refl))

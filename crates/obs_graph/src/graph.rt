@@ -1,5 +1,5 @@
 // A graph made whole from the list of its branches.
-ghost use Rattle.std.specs.Prelude.{◌≡◌, ◌+◌, ◌<◌, ◌≤◌, ◌≢◌, [], length, IfOk, IfSome, slice_index_or};
+ghost use Rattle.std.specs.Prelude.{◌≡◌, ◌<◌, ◌≤◌, ◌≢◌, [], length, IfOk, IfSome, slice_index_or};
 ghost use Rattle.obs_graph.specs.Positions.{AreBranches, branches_at};
 ghost use Rattle.obs_graph.specs.Graph.{itself_of};
 

@@ -9,7 +9,6 @@ use Rattle.obs_case_csv.specs.OneTable.{IsTableOf}
 use Rattle.obs_case_csv.specs.Read.{fault_in, rows_in, tables_or, then_read, then_read_given}
 use Rattle.obs_case_csv.specs.Rows.{names_in}
 use Rattle.obs_case_csv.proofs.TableLemmas.{TableIsRead-holds}
-use Rattle.obs_ieee_cdf.specs.declared.fault.CdfEnd.{CdfEnd}
 use Rattle.obs_ieee_cdf.specs.declared.fault.CdfFault.{CdfFault}
 use Rattle.obs_ieee_cdf.specs.Case.{HasCandidates, IsCase, IsFile}
 use Rattle.obs_ieee_cdf.specs.Laws.{CaseIsRead, CasesAreValid, FaultWhereNoCase}
@@ -93,15 +92,14 @@ case_read cdf meters candidates tables (file, metered, of_file, is, has) =
 pub CaseIsRead-holds : CaseIsRead
 CaseIsRead-holds cdf meters candidates tables = (case_is cdf meters candidates tables (cdf_of cdf) refl, case_read cdf meters candidates tables)
 
-found_fault : (cdf meters : List ℕ) (candidates : Option (List ℕ)) (r : Result Tables CdfEnd) → case_in cdf meters candidates ≡ r → ((tables : Tables) → ¬ IsCase cdf meters candidates tables) → (fault : CdfEnd) × (case_in cdf meters candidates ≡ Err fault)
-found_fault cdf meters candidates (Err fault) read none = (fault, read)
-found_fault cdf meters candidates (Ok tables) read none = absurd (none tables (case_is cdf meters candidates tables (cdf_of cdf) refl read))
+-- what is read exactly where it is so ends with a fault exactly where nothing is so
+pub fault_where_none : {E : Type 0} (r : Result Tables E) (Is : Tables → Type 0) → ((tables : Tables) → (r ≡ Ok tables → Is tables) × (Is tables → r ≡ Ok tables))
+    → ((fault : E) → r ≡ Err fault → (tables : Tables) → ¬ Is tables) × (((tables : Tables) → ¬ Is tables) → (fault : E) × (r ≡ Err fault))
+fault_where_none (Ok t) Is law = (λ fault is tables has. cc, λ none. absurd (none t ((law t).0 refl)))
+fault_where_none (Err fault) Is law = (λ other is tables has. (let read = (law tables).1 has in cc), λ none. (fault, refl))
 
 pub FaultWhereNoCase-holds : FaultWhereNoCase
-FaultWhereNoCase-holds cdf meters candidates = (
-  λ fault is tables case. (let read = case_read cdf meters candidates tables case in cc),
-  found_fault cdf meters candidates (case_in cdf meters candidates) refl,
-)
+FaultWhereNoCase-holds cdf meters candidates = fault_where_none (case_in cdf meters candidates) (IsCase cdf meters candidates) (CaseIsRead-holds cdf meters candidates)
 
 pub given_valid : (candidates : Option (List ℕ)) (before tables : Tables) → IsValid before → HasCandidates candidates before tables → IsValid tables
 given_valid None before tables valid has = subst IsValid (sym has) valid

@@ -1,5 +1,5 @@
 -- Reading a whole file.
-use Rattle.std.proofs.Common.{◌≡◌, ℕ, ◌+◌, ◌-◌, ◌*◌, ◌≤◌, Bool, true, false, cond, List, [], ◌∷◌, ◌++◌, length, map, take, drop, Option, Some, None, Result, Ok, Err, refl, sym, ap, ◌∙◌, subst, length-append, arith}
+use Rattle.std.proofs.Common.{◌≡◌, ℕ, ◌+◌, ◌-◌, ◌*◌, ◌≤◌, Bool, true, false, cond, List, [], length, map, take, drop, Option, Some, None, Result, Ok, Err, refl, sym, ap, ◌∙◌, subst, length-append, arith}
 use Rattle.std.proofs.lemmas.List.{take-append-drop}
 use Rattle.std.proofs.lemmas.List.Folds.{concat-append}
 use Rattle.std.specs.List.{after_first, before_first, concat, list_any, position_or_len}
@@ -16,6 +16,7 @@ use Rattle.obs_ieee_cdf.specs.Sections.{after_branch_heading, after_bus_heading,
 use Rattle.obs_ieee_cdf.proofs.EndedLemmas.{ended_lines-drop, ended_lines-take}
 use Rattle.obs_ieee_cdf.proofs.NumberLemmas.{AreBuses-none}
 use Rattle.obs_ieee_cdf.proofs.ReadLemmas.{read_bus-good}
+use Rattle.obs_ieee_cdf.proofs.RowsRead.{read_rows-good}
 use Rattle.obs_ieee_cdf.proofs.SectionLemmas.{AreSections}
 
 -- lines that are the lines of what they are joined
@@ -87,15 +88,8 @@ branch_room bytes few =
     )
 
 -- buses that are read are buses
-pub read_rows-buses : (earlier : List Bus) (lines : List (ℕ × List ℕ)) (buses : List Bus) → AreBuses earlier → read_rows read_bus earlier lines ≡ Ok buses → AreBuses buses
-read_rows-buses earlier [] buses are is = subst AreBuses (let same : Ok earlier ≡ Ok buses = is in cc) are
-read_rows-buses earlier (line ∷ lines) buses are is =
-    by (read_bus earlier line.0 line.1) refl is (λ bus e h. read_rows-buses (earlier ++ bus ∷ []) lines buses (read_bus-good earlier line.0 line.1 are bus e) h)
-  where
-    by : (r : Result Bus CdfFault) → read_bus earlier line.0 line.1 ≡ r → on_ok r (λ bus. read_rows read_bus (earlier ++ bus ∷ []) lines) ≡ Ok buses →
-        ((bus : Bus) → read_bus earlier line.0 line.1 ≡ Ok bus → read_rows read_bus (earlier ++ bus ∷ []) lines ≡ Ok buses → AreBuses buses) → AreBuses buses
-    by (Ok bus) e h next = next bus e h
-    by (Err fault) e h next = cc
+pub read_rows-buses : (lines : List (ℕ × List ℕ)) (buses : List Bus) → read_rows read_bus [] lines ≡ Ok buses → AreBuses buses
+read_rows-buses lines buses is = read_rows-good read_bus AreBuses read_bus-good [] lines buses AreBuses-none is
 
 -- what the parts of the work answer is what the whole answers
 module _ (bytes bus_part branch_part : List ℕ) (bus_number branch_number : ℕ) (fault : Option CdfFault) (are : AreSections (ended_lines bytes) bus_part bus_number branch_part branch_number fault) where
@@ -120,7 +114,7 @@ module _ (bytes bus_part branch_part : List ℕ) (bus_number branch_number : ℕ
 
   module _ (middle : Tables) (read : Answers (read_rows read_bus [] (numbered bus_number (lines_of bus_part))) (λ buses. tables_of_rows buses []) middle (Ok tt)) where
     pub buses_read : AreBuses read.0
-    buses_read = read_rows-buses [] (numbered bus_number (lines_of bus_part)) read.0 AreBuses-none read.1
+    buses_read = read_rows-buses (numbered bus_number (lines_of bus_part)) read.0 read.1
 
     buses_are : cdf_of bytes ≡ after_buses_read read.0
     buses_are = ap (λ r. on_ok r after_buses_read) (sym (ap (read_rows read_bus []) bus_rows-are) ∙ read.1)

@@ -1,5 +1,5 @@
 -- The first fault of a file.
-use Rattle.std.proofs.Common.{◌≡◌, ℕ, suc, ◌+◌, ◌<◌, ◌≤◌, ◌⊎◌, Bool, true, false, not, cond, leb, List, [], ◌∷◌, ◌++◌, length, Option, Some, None, Result, Ok, Err, MatchResult, refl, sym, ap, ◌∙◌, subst, inl, inr, arith}
+use Rattle.std.proofs.Common.{◌≡◌, ℕ, ◌+◌, ◌<◌, ◌≤◌, ◌⊎◌, Bool, true, false, not, cond, leb, List, [], length, Option, Some, None, Result, Ok, Err, refl, sym, ap, ◌∙◌, subst, inl, inr, arith}
 use Rattle.std.proofs.lemmas.Bool.{cases_Bool, leb-false, leb-true, le-leb, lt-leb}
 use Rattle.std.specs.List.{list_any}
 use Rattle.obs_text.specs.Lines.{ended_lines}
@@ -7,78 +7,14 @@ use Rattle.obs_case.specs.Tables.{Tables, most_rows}
 use Rattle.obs_case.specs.declared.rows.Branch.{Branch}
 use Rattle.obs_ieee_cdf.specs.declared.fault.CdfFault.{CdfFault}
 use Rattle.obs_ieee_cdf.specs.declared.fault.CdfFault.TheVariants.{NoBusSection, BusSectionOpen, NoBranchSection, BranchSectionOpen, BadBusNumber, BadType, BusTwice, UnknownBus, TooMany}
-use Rattle.obs_ieee_cdf.specs.Case.{AreBranchLines, AreBusLines}
+use Rattle.obs_ieee_cdf.specs.Case.{AreBranchLines, IsBranchLine}
 use Rattle.obs_ieee_cdf.specs.Fields.{bus_field, number_of, source_of, tap_field, type_field, z_field}
 use Rattle.obs_ieee_cdf.specs.IsFault.{AreAllBuses, BranchLineHas, BusLineHas, HasBranchFault, HasSectionFault, IsFault, IsNotAfter, SectionHas}
+use Rattle.obs_ieee_cdf.specs.Laws.{FirstFaultOfFile}
 use Rattle.obs_ieee_cdf.specs.Rows.{Bus, at_end, branch_of, branch_rows, bus_of, bus_rows, cdf_of, has_bus, on_ok, read_branch, read_bus, read_rows, tables_of_rows}
 use Rattle.obs_ieee_cdf.specs.Sections.{after_branch_heading, after_bus_heading, after_buses, end_fault, is_branch_heading, is_bus_heading, is_end}
-use Rattle.obs_ieee_cdf.proofs.FileLemmas.{read_rows-buses}
-use Rattle.obs_ieee_cdf.proofs.LawLemmas.{branch_lines-read, bus_lines-read, read-branch_lines, read-bus_lines}
-use Rattle.obs_ieee_cdf.proofs.NumberLemmas.{AreBuses-none}
-
--- what is read ends with a fault that isn't after another
-abbrev pub Met : {A : Type 0} → Result A CdfFault → CdfFault → Type 0
-Met read other = (fault : CdfFault) × (read ≡ Err fault) × IsNotAfter fault other
-
--- ---- lines that are read one after the other
-
-module _ {R : Type 0} (read : List R → ℕ → List ℕ → Result R CdfFault) where
-  pub rows_split : (earlier : List R) (xs ys : List (ℕ × List ℕ)) → read_rows read earlier (xs ++ ys) ≡ on_ok (read_rows read earlier xs) (λ rows. read_rows read rows ys)
-  rows_split earlier [] ys = refl
-  rows_split earlier (x ∷ xs) ys = by (read earlier x.0 x.1) (λ row. rows_split (earlier ++ row ∷ []) xs ys)
-    where
-      by : (r : Result R CdfFault)
-          → ((row : R) → read_rows read (earlier ++ row ∷ []) (xs ++ ys) ≡ on_ok (read_rows read (earlier ++ row ∷ []) xs) (λ rows. read_rows read rows ys))
-          → on_ok r (λ row. read_rows read (earlier ++ row ∷ []) (xs ++ ys)) ≡ on_ok (on_ok r (λ row. read_rows read (earlier ++ row ∷ []) xs)) (λ rows. read_rows read rows ys)
-      by (Ok row) next = next row
-      by (Err fault) next = refl
-
-  -- the line at which the reading stops
-  pub record Stops (earlier : List R) (lines : List (ℕ × List ℕ)) (fault : CdfFault) : Type 0 where
-    pub before : List (ℕ × List ℕ)
-    pub at : ℕ
-    pub line : List ℕ
-    pub after : List (ℕ × List ℕ)
-    pub lines_are : lines ≡ before ++ (at, line) ∷ after
-    pub rows : List R
-    pub rows_are : read_rows read earlier before ≡ Ok rows
-    pub refused : read rows at line ≡ Err fault
-
-  pub stops : (earlier : List R) (lines : List (ℕ × List ℕ)) (fault : CdfFault) → read_rows read earlier lines ≡ Err fault → Stops earlier lines fault
-  stops earlier [] fault is = cc
-  stops earlier (x ∷ xs) fault is = by (read earlier x.0 x.1) refl is (λ row h. stops (earlier ++ row ∷ []) xs fault h)
-    where
-      by : (r : Result R CdfFault) → read earlier x.0 x.1 ≡ r → on_ok r (λ row. read_rows read (earlier ++ row ∷ []) xs) ≡ Err fault
-          → ((row : R) → read_rows read (earlier ++ row ∷ []) xs ≡ Err fault → Stops (earlier ++ row ∷ []) xs fault) → Stops earlier (x ∷ xs) fault
-      by (Ok row) e h next =
-          let s = next row h in record {
-            before = x ∷ s.before;
-            at = s.at;
-            line = s.line;
-            after = s.after;
-            lines_are = ap (λ t. x ∷ t) s.lines_are;
-            rows = s.rows;
-            rows_are = ap (λ r. on_ok r (λ first. read_rows read (earlier ++ first ∷ []) s.before)) e ∙ s.rows_are;
-            refused = s.refused;
-          }
-      by (Err f) e h next =
-          let same : f ≡ fault = cc in
-          record { before = []; at = x.0; line = x.1; after = xs; lines_are = refl; rows = earlier; rows_are = refl; refused = e ∙ ap (λ g. Err g) same }
-
-  -- a line that is refused after lines that are read
-  pub refused_at : (lines before after : List (ℕ × List ℕ)) (at : ℕ) (line : List ℕ) (rows : List R) (other : CdfFault) → lines ≡ before ++ (at, line) ∷ after
-      → read_rows read [] before ≡ Ok rows → Met (read rows at line) other → Met (read_rows read [] lines) other
-  refused_at lines before after at line rows other are read_before met = (
-    met.0,
-    ap (read_rows read []) are ∙ rows_split [] before ((at, line) ∷ after)
-        ∙ ap (λ r. on_ok r (λ first. read_rows read first ((at, line) ∷ after))) read_before
-        ∙ ap (λ r. on_ok r (λ row. read_rows read (rows ++ row ∷ []) after)) met.1,
-    met.2,
-  )
-
--- a fault ends whatever comes after
-ends : {A B : Type 0} (r : Result A CdfFault) (next : A → Result B CdfFault) (other : CdfFault) → Met r other → Met (on_ok r next) other
-ends r next other met = (met.0, ap (λ x. on_ok x next) met.1, met.2)
+use Rattle.obs_ieee_cdf.proofs.LawLemmas.{branches_are, branches_read, buses_are, buses_read, few_branches}
+use Rattle.obs_ieee_cdf.proofs.RowsRead.{Met, ends, first_met, has_fault, row_met, same_length, stops}
 
 -- ---- bus lines
 
@@ -98,7 +34,7 @@ module _ (earlier : List Bus) (at : ℕ) (line : List ℕ) where
             | inr fresh ↦ (let t = rw fresh at h in cc)
           ]
 
-  bus_met : (other : CdfFault) → BusLineHas earlier at line other → Met (read_bus earlier at line) other
+  bus_met : (other : CdfFault) → BusLineHas earlier at line other → Met IsNotAfter (read_bus earlier at line) other
   bus_met NoBusSection has = absurd has
   bus_met BusSectionOpen has = absurd has
   bus_met NoBranchSection has = absurd has
@@ -107,58 +43,49 @@ module _ (earlier : List Bus) (at : ℕ) (line : List ℕ) where
       (BadBusNumber at, ap (λ number. bus_of earlier at number (source_of (type_field line))) has.1, record { same_line = sym has.0; not_higher = omega arith })
   bus_met (BadType n) has = by (number_of (bus_field line)) refl
     where
-      by : (number : Option ℕ) → number_of (bus_field line) ≡ number → Met (bus_of earlier at number (source_of (type_field line))) (BadType n)
+      by : (number : Option ℕ) → number_of (bus_field line) ≡ number → Met IsNotAfter (bus_of earlier at number (source_of (type_field line))) (BadType n)
       by None e = (BadBusNumber at, refl, record { same_line = sym has.0; not_higher = omega arith })
       by (Some number) e = (BadType at, ap (λ kind. bus_of earlier at (Some number) kind) has.1, record { same_line = sym has.0; not_higher = omega arith })
   bus_met (BusTwice n) has =
-      subst (λ number. Met (bus_of earlier at number (source_of (type_field line))) (BusTwice n)) (sym has.2) (by (source_of (type_field line)))
+      subst (λ number. Met IsNotAfter (bus_of earlier at number (source_of (type_field line))) (BusTwice n)) (sym has.2) (by (source_of (type_field line)))
     where
-      by : (kind : Option Bool) → Met (bus_of earlier at (Some has.1) kind) (BusTwice n)
+      by : (kind : Option Bool) → Met IsNotAfter (bus_of earlier at (Some has.1) kind) (BusTwice n)
       by None = (BadType at, refl, record { same_line = sym has.0; not_higher = omega arith })
       by (Some source) =
           (BusTwice at, ap (λ b. cond b (Err (BusTwice at)) (Ok (record { number = has.1; source = source }))) has.3, record { same_line = sym has.0; not_higher = omega arith })
   bus_met (UnknownBus n) has = absurd has
   bus_met (TooMany n) has = absurd has
 
--- bus lines that are buses are read, and those that are read are
-pub buses_read : (lines : List (ℕ × List ℕ)) (buses : List Bus) → AreAllBuses lines buses → read_rows read_bus [] lines ≡ Ok buses
-buses_read lines buses all = read-bus_lines [] lines buses all.are all.different
-
-buses_are : (lines : List (ℕ × List ℕ)) (buses : List Bus) → read_rows read_bus [] lines ≡ Ok buses → AreAllBuses lines buses
-buses_are lines buses is =
-    let part = bus_lines-read [] lines buses is in
-    record { are = subst (AreBusLines lines) (sym part.1) part.2; different = (read_rows-buses [] lines buses AreBuses-none is).different }
-
 -- ---- branch lines
 
 module _ (buses : List Bus) (earlier : List Branch) (at : ℕ) (line : List ℕ) where
-  branch_has : (fault : CdfFault) → length earlier ≤ most_rows → read_branch buses earlier at line ≡ Err fault → BranchLineHas buses (length earlier) at line fault
+  branch_has : (fault : CdfFault) → length earlier ≤ most_rows → read_branch buses earlier at line ≡ Err fault → BranchLineHas buses earlier at line fault
   branch_has fault few is =
       elim (cases_Bool (leb most_rows (length earlier))) [
         | inl full ↦ (
             let t = rw full at is in
             let same : TooMany at ≡ fault = cc in
-            subst (BranchLineHas buses (length earlier) at line) same (refl, omega (arith, few, leb-true most_rows (length earlier) full)))
+            subst (BranchLineHas buses earlier at line) same (refl, omega (arith, few, leb-true most_rows (length earlier) full)))
         | inr room ↦
             by (number_of (tap_field line)) (number_of (z_field line)) refl refl (leb-false most_rows (length earlier) room) (rw room at is)
       ]
     where
       by : (tap z : Option ℕ) → number_of (tap_field line) ≡ tap → number_of (z_field line) ≡ z → length earlier < most_rows
-          → branch_of buses (length earlier + 1) at tap z ≡ Err fault → BranchLineHas buses (length earlier) at line fault
-      by None z from to room h = (let same : BadBusNumber at ≡ fault = cc in subst (BranchLineHas buses (length earlier) at line) same (refl, room, inl from))
-      by (Some tap) None from to room h = (let same : BadBusNumber at ≡ fault = cc in subst (BranchLineHas buses (length earlier) at line) same (refl, room, inr to))
+          → branch_of buses (length earlier + 1) at tap z ≡ Err fault → BranchLineHas buses earlier at line fault
+      by None z from to room h = (let same : BadBusNumber at ≡ fault = cc in subst (BranchLineHas buses earlier at line) same (refl, room, inl from))
+      by (Some tap) None from to room h = (let same : BadBusNumber at ≡ fault = cc in subst (BranchLineHas buses earlier at line) same (refl, room, inr to))
       by (Some tap) (Some z) from to room h =
           elim (cases_Bool (has_bus buses tap)) [
             | inr absent ↦ (
                 let t = rw absent at h in
                 let same : UnknownBus at ≡ fault = cc in
-                subst (BranchLineHas buses (length earlier) at line) same (refl, room, tap, inl from, absent))
+                subst (BranchLineHas buses earlier at line) same (refl, room, tap, inl from, absent))
             | inl there ↦
                 elim (cases_Bool (has_bus buses z)) [
                   | inr absent ↦ (
                       let t = rw (there, absent) at h in
                       let same : UnknownBus at ≡ fault = cc in
-                      subst (BranchLineHas buses (length earlier) at line) same (refl, room, z, inr to, absent))
+                      subst (BranchLineHas buses earlier at line) same (refl, room, z, inr to, absent))
                   | inl both ↦ (let t = rw (there, both) at h in cc)
                 ]
           ]
@@ -176,10 +103,10 @@ module _ (buses : List Bus) (earlier : List Branch) (at : ℕ) (line : List ℕ)
       by (Some tap) (Some z) from to which = elim which [ inl e ↦ cc | inr e ↦ cc ]
 
   unknown_bus : (n number : ℕ) → n ≡ at → length earlier < most_rows → (number_of (tap_field line) ≡ Some number) ⊎ (number_of (z_field line) ≡ Some number) → has_bus buses number ≡ false
-      → Met (read_branch buses earlier at line) (UnknownBus n)
+      → Met IsNotAfter (read_branch buses earlier at line) (UnknownBus n)
   unknown_bus n number is room which absent = by (number_of (tap_field line)) (number_of (z_field line)) refl refl which
     where
-      by : (tap z : Option ℕ) → number_of (tap_field line) ≡ tap → number_of (z_field line) ≡ z → (tap ≡ Some number) ⊎ (z ≡ Some number) → Met (read_branch buses earlier at line) (UnknownBus n)
+      by : (tap z : Option ℕ) → number_of (tap_field line) ≡ tap → number_of (z_field line) ≡ z → (tap ≡ Some number) ⊎ (z ≡ Some number) → Met IsNotAfter (read_branch buses earlier at line) (UnknownBus n)
       by None z from to w = (BadBusNumber at, with_room room None z from to, record { same_line = sym is; not_higher = omega arith })
       by (Some tap) None from to w = (BadBusNumber at, with_room room (Some tap) None from to, record { same_line = sym is; not_higher = omega arith })
       by (Some tap) (Some z) from to w = (
@@ -197,7 +124,7 @@ module _ (buses : List Bus) (earlier : List Branch) (at : ℕ) (line : List ℕ)
                 | inr no_bus ↦ rw no_bus refl
               ]
 
-  branch_met : (other : CdfFault) → BranchLineHas buses (length earlier) at line other → Met (read_branch buses earlier at line) other
+  branch_met : (other : CdfFault) → BranchLineHas buses earlier at line other → Met IsNotAfter (read_branch buses earlier at line) other
   branch_met NoBusSection has = absurd has
   branch_met BusSectionOpen has = absurd has
   branch_met NoBranchSection has = absurd has
@@ -209,22 +136,16 @@ module _ (buses : List Bus) (earlier : List Branch) (at : ℕ) (line : List ℕ)
   branch_met (TooMany n) has =
       (TooMany at, rw (le-leb most_rows (length earlier) (omega (arith, has.1))) refl, record { same_line = sym has.0; not_higher = omega arith })
 
-few_before : (buses : List Bus) (before at : ℕ) (line : List ℕ) (fault : CdfFault) → BranchLineHas buses before at line fault → before ≤ most_rows
-few_before buses before at line NoBusSection has = absurd has
-few_before buses before at line BusSectionOpen has = absurd has
-few_before buses before at line NoBranchSection has = absurd has
-few_before buses before at line BranchSectionOpen has = absurd has
-few_before buses before at line (BadBusNumber n) has = omega (arith, has.1)
-few_before buses before at line (BadType n) has = absurd has
-few_before buses before at line (BusTwice n) has = absurd has
-few_before buses before at line (UnknownBus n) has = omega (arith, has.1)
-few_before buses before at line (TooMany n) has = omega (arith, has.1)
-
-same_length : (buses : List Bus) (k : ℕ) (lines : List (ℕ × List ℕ)) (branches : List Branch) → AreBranchLines buses k lines branches → length branches ≡ length lines
-same_length buses k [] [] are = refl
-same_length buses k [] (branch ∷ branches) are = absurd are
-same_length buses k (line ∷ lines) [] are = absurd are
-same_length buses k (line ∷ lines) (branch ∷ branches) are = ap suc (same_length buses (suc k) lines branches are.1)
+few_before : (buses : List Bus) (earlier : List Branch) (at : ℕ) (line : List ℕ) (fault : CdfFault) → BranchLineHas buses earlier at line fault → length earlier ≤ most_rows
+few_before buses earlier at line NoBusSection has = absurd has
+few_before buses earlier at line BusSectionOpen has = absurd has
+few_before buses earlier at line NoBranchSection has = absurd has
+few_before buses earlier at line BranchSectionOpen has = absurd has
+few_before buses earlier at line (BadBusNumber n) has = omega (arith, has.1)
+few_before buses earlier at line (BadType n) has = absurd has
+few_before buses earlier at line (BusTwice n) has = absurd has
+few_before buses earlier at line (UnknownBus n) has = omega (arith, has.1)
+few_before buses earlier at line (TooMany n) has = omega (arith, has.1)
 
 -- ---- sections
 
@@ -263,27 +184,24 @@ module _ (bytes : List ℕ) where
   after_bus_rows buses = on_ok (read_rows (read_branch buses) [] (branch_rows (ended_lines bytes))) (after_all buses)
 
   -- each fault of the file is met, or one that isn't after it
-  met_after : (buses : List Bus) (other : CdfFault) → HasBranchFault buses (branch_rows (ended_lines bytes)) other ⊎ HasSectionFault buses (ended_lines bytes) other → Met (after_bus_rows buses) other
+  met_after : (buses : List Bus) (other : CdfFault) → HasBranchFault buses (branch_rows (ended_lines bytes)) other ⊎ HasSectionFault buses (ended_lines bytes) other → Met IsNotAfter (after_bus_rows buses) other
   met_after buses other (inl has) =
-      let few = few_before buses (length has.before) has.at has.line other has.has in
-      let long = same_length buses 1 has.before has.branches has.branches_are in
-      let line_has : BranchLineHas buses (length has.branches) has.at has.line other = subst (λ n. BranchLineHas buses n has.at has.line other) (sym long) has.has in
-      ends (read_rows (read_branch buses) [] (branch_rows (ended_lines bytes))) (after_all buses) other
-      (refused_at (read_branch buses) (branch_rows (ended_lines bytes)) has.before has.after has.at has.line has.branches other has.lines_are
-      (read-branch_lines buses [] has.before has.branches has.branches_are (omega (arith, few)))
-      (branch_met buses has.branches has.at has.line other line_has))
+      let few = few_before buses has.done has.at has.row other has.has in
+      let long = same_length (IsBranchLine buses) 1 has.before has.done has.done_are in
+      ends IsNotAfter (read_rows (read_branch buses) [] (branch_rows (ended_lines bytes))) (after_all buses) other
+      (row_met IsNotAfter (read_branch buses) has (branches_read buses has.before has.done has.done_are (omega (arith, few, long)))
+      (branch_met buses has.done has.at has.row other has.has))
   met_after buses other (inr has) = (
     other,
-    ap (λ r. on_ok r (after_all buses)) (read-branch_lines buses [] (branch_rows (ended_lines bytes)) has.branches has.branches_are (omega (arith, has.few)))
+    ap (λ r. on_ok r (after_all buses)) (branches_read buses (branch_rows (ended_lines bytes)) has.branches has.branches_are has.few)
         ∙ ap (λ fault. at_end fault (tables_of_rows buses has.branches)) (sections_met (ended_lines bytes) other has.has),
     record { same_line = refl; not_higher = omega arith },
   )
 
-  pub fault_met : (other : CdfFault) → IsFault bytes other → Met (cdf_of bytes) other
+  fault_met : (other : CdfFault) → IsFault bytes other → Met IsNotAfter (cdf_of bytes) other
   fault_met other (inl has) =
-      ends (read_rows read_bus [] (bus_rows (ended_lines bytes))) after_bus_rows other
-      (refused_at read_bus (bus_rows (ended_lines bytes)) has.before has.after has.at has.line has.buses other has.lines_are
-      (buses_read has.before has.buses has.buses_are) (bus_met has.buses has.at has.line other has.has))
+      ends IsNotAfter (read_rows read_bus [] (bus_rows (ended_lines bytes))) after_bus_rows other
+      (row_met IsNotAfter read_bus has (buses_read has.before has.done has.done_are) (bus_met has.done has.at has.row other has.has))
   fault_met other (inr has) =
       let met = met_after has.0 other has.2 in
       (met.0, ap (λ r. on_ok r after_bus_rows) (buses_read (bus_rows (ended_lines bytes)) has.0 has.1) ∙ met.1, met.2)
@@ -294,27 +212,16 @@ module _ (bytes : List ℕ) where
   of_branches buses fault (Err f) e is =
       let same : f ≡ fault = cc in
       let s = stops (read_branch buses) [] (branch_rows (ended_lines bytes)) fault (e ∙ ap (λ g. Err g) same) in
-      let part = branch_lines-read buses [] s.before s.rows (omega arith) s.rows_are in
-      let are : AreBranchLines buses 1 s.before s.rows = subst (AreBranchLines buses 1 s.before) (sym part.1) part.2 in
-      let long = same_length buses 1 s.before s.rows are in
       inl
-      (record {
-        before = s.before;
-        at = s.at;
-        line = s.line;
-        after = s.after;
-        lines_are = s.lines_are;
-        branches = s.rows;
-        branches_are = are;
-        has = subst (λ n. BranchLineHas buses n s.at s.line fault) long (branch_has buses s.rows s.at s.line fault (omega (arith, long, part.3)) s.refused);
-      })
+      (has_fault (read_branch buses) (AreBranchLines buses) (BranchLineHas buses) s (branches_are buses s.before s.done s.done_are).0
+      (branch_has buses s.done s.at s.row fault (few_branches buses s.before s.done s.done_are) s.has))
   of_branches buses fault (Ok branches) e is =
-      let part = branch_lines-read buses [] (branch_rows (ended_lines bytes)) branches (omega arith) e in
+      let part = branches_are buses (branch_rows (ended_lines bytes)) branches e in
       inr
       (record {
         branches = branches;
-        branches_are = subst (AreBranchLines buses 1 (branch_rows (ended_lines bytes))) (sym part.1) part.2;
-        few = omega (arith, part.3);
+        branches_are = part.0;
+        few = part.1;
         has = sections_have (ended_lines bytes) fault (at_the_end (end_fault (ended_lines bytes)) is);
       })
     where
@@ -326,29 +233,12 @@ module _ (bytes : List ℕ) where
   of_buses fault (Err f) e is =
       let same : f ≡ fault = cc in
       let s = stops read_bus [] (bus_rows (ended_lines bytes)) fault (e ∙ ap (λ g. Err g) same) in
-      inl
-      (record {
-        before = s.before;
-        at = s.at;
-        line = s.line;
-        after = s.after;
-        lines_are = s.lines_are;
-        buses = s.rows;
-        buses_are = buses_are s.before s.rows s.rows_are;
-        has = bus_has s.rows s.at s.line fault s.refused;
-      })
+      inl (has_fault read_bus AreAllBuses BusLineHas s (buses_are s.before s.done s.done_are) (bus_has s.done s.at s.row fault s.has))
   of_buses fault (Ok buses) e is =
       inr (buses, buses_are (bus_rows (ended_lines bytes)) buses e, of_branches buses fault (read_rows (read_branch buses) [] (branch_rows (ended_lines bytes))) refl is)
 
-  pub fault_is : (fault : CdfFault) → cdf_of bytes ≡ Err fault → IsFault bytes fault
+  fault_is : (fault : CdfFault) → cdf_of bytes ≡ Err fault → IsFault bytes fault
   fault_is fault is = of_buses fault (read_rows read_bus [] (bus_rows (ended_lines bytes))) refl is
 
-  pub first_fault : MatchResult (cdf_of bytes) (λ tables. (fault : CdfFault) → IsFault bytes fault → ⊥) (λ fault. IsFault bytes fault × ((other : CdfFault) → IsFault bytes other → IsNotAfter fault other))
-  first_fault = by (cdf_of bytes) refl
-    where
-      by : (r : Result Tables CdfFault) → cdf_of bytes ≡ r → MatchResult r (λ tables. (fault : CdfFault) → IsFault bytes fault → ⊥) (λ fault. IsFault bytes fault × ((other : CdfFault) → IsFault bytes other → IsNotAfter fault other))
-      by (Ok tables) e = λ fault is. (let met = fault_met fault is in let both : Ok tables ≡ Err met.0 = sym e ∙ met.1 in cc)
-      by (Err fault) e = (
-        fault_is fault e,
-        λ other is. (let met = fault_met other is in let both : Err fault ≡ Err met.0 = sym e ∙ met.1 in let same : met.0 ≡ fault = cc in subst (λ f. IsNotAfter f other) same met.2),
-      )
+pub FirstFaultOfFile-holds : FirstFaultOfFile
+FirstFaultOfFile-holds bytes = first_met IsNotAfter (IsFault bytes) (cdf_of bytes) (fault_is bytes) (fault_met bytes)

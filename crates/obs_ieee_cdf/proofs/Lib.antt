@@ -6,6 +6,7 @@ pub mod LawLemmas
 pub mod NumberLemmas
 pub mod ReadLemmas
 pub mod RowLemmas
+pub mod RowsRead
 pub mod SearchLemmas
 pub mod SectionLemmas
 pub mod TableLemmas

@@ -15,7 +15,7 @@ use Rattle.obs_text.proofs.DecimalLemmas.{digits-name, length-decimal, numerals,
 use Rattle.obs_case.specs.Tables.{has_name, node_names, place_of}
 use Rattle.obs_case.specs.declared.rows.Branch.{Branch}
 use Rattle.obs_case.specs.declared.rows.Node.{Node}
-use Rattle.obs_ieee_cdf.specs.Reading.{AreBuses, AreNamed}
+use Rattle.obs_ieee_cdf.specs.Reading.{AreBuses, AreBusesBelow, AreNamed}
 use Rattle.obs_ieee_cdf.specs.Fields.{number_of}
 use Rattle.obs_ieee_cdf.specs.Rows.{Bus, branch_name, has_bus, node_of_bus, place_of_bus, tables_of_rows}
 
@@ -47,32 +47,32 @@ is_name-branch n small =
 
 -- tests that agree on each element of a list give one answer
 module _ {A B : Type 0} (p : A → Bool) (q : B → Bool) (f : B → A) where
-  pub list_any-same : (xs : List B) → AllByRecursion (λ x. p (f x) ≡ q x) xs → list_any p (map f xs) ≡ list_any q xs
+  list_any-same : (xs : List B) → AllByRecursion (λ x. p (f x) ≡ q x) xs → list_any p (map f xs) ≡ list_any q xs
   list_any-same [] same = refl
   list_any-same (x ∷ xs) (here, others) = rw (here, list_any-same xs others) refl
 
-  pub position_or_len-same : (xs : List B) → AllByRecursion (λ x. p (f x) ≡ q x) xs → position_or_len p (map f xs) ≡ position_or_len q xs
+  position_or_len-same : (xs : List B) → AllByRecursion (λ x. p (f x) ≡ q x) xs → position_or_len p (map f xs) ≡ position_or_len q xs
   position_or_len-same [] same = refl
   position_or_len-same (x ∷ xs) (here, others) = rw here (ap (λ n. cond (not (q x)) (1 + n) 0) (position_or_len-same xs others))
 
 -- the names of the buses' nodes are their numbers
-pub names_of : (buses : List Bus) → map (λ (row : Node). row.name) (map node_of_bus buses) ≡ map (λ (bus : Bus). decimal bus.number) buses
+names_of : (buses : List Bus) → map (λ (row : Node). row.name) (map node_of_bus buses) ≡ map (λ (bus : Bus). decimal bus.number) buses
 names_of [] = refl
 names_of (bus ∷ buses) = ap (λ names. decimal bus.number ∷ names) (names_of buses)
 
 -- what a case says of a number's name is what the buses say of the number
-module _ (n : ℕ) (small : n < 10000) where
-  same_names : (buses : List Bus) → AllByRecursion (λ (bus : Bus). bus.number < 10000) buses → AllByRecursion (λ (bus : Bus). bytes_eq (decimal n) (node_of_bus bus).name ≡ eqb bus.number n) buses
+module _ {limit : ℕ} (buses : List Bus) (branches : List Branch) (are : AreBusesBelow limit buses) (low : limit ≤ 2 ^ 64) (n : ℕ) (small : n < limit) where
+  same_names : (bs : List Bus) → AllByRecursion (λ (bus : Bus). bus.number < limit) bs → AllByRecursion (λ (bus : Bus). bytes_eq (decimal n) (node_of_bus bus).name ≡ eqb bus.number n) bs
   same_names [] below = tt
-  same_names (bus ∷ buses) (here, others) = (same_name bus.number n (omega arith) (omega arith), same_names buses others)
+  same_names (bus ∷ bs) (here, others) = (same_name bus.number n (omega (arith, here, low)) (omega (arith, small, low)), same_names bs others)
 
-  pub has_name-bus : (buses : List Bus) (branches : List Branch) → AreBuses buses → has_name (node_names (tables_of_rows buses branches)) (decimal n) ≡ has_bus buses n
-  has_name-bus buses branches are =
+  pub has_name-bus : has_name (node_names (tables_of_rows buses branches)) (decimal n) ≡ has_bus buses n
+  has_name-bus =
       ap (list_any (bytes_eq (decimal n))) (names_of buses)
       ∙ list_any-same (bytes_eq (decimal n)) (λ (bus : Bus). eqb bus.number n) (λ (bus : Bus). decimal bus.number) buses (same_names buses are.small)
 
-  pub place_of-bus : (buses : List Bus) (branches : List Branch) → AreBuses buses → place_of (node_names (tables_of_rows buses branches)) (decimal n) ≡ place_of_bus buses n
-  place_of-bus buses branches are =
+  pub place_of-bus : place_of (node_names (tables_of_rows buses branches)) (decimal n) ≡ place_of_bus buses n
+  place_of-bus =
       ap (position_or_len (bytes_eq (decimal n))) (names_of buses)
       ∙ position_or_len-same (bytes_eq (decimal n)) (λ (bus : Bus). eqb bus.number n) (λ (bus : Bus). decimal bus.number) buses (same_names buses are.small)
 
@@ -90,25 +90,25 @@ length-buses buses are =
     let few = length-le_from_distinct_below (map (λ (bus : Bus). bus.number) buses) 10000 are.different (numbers_below buses are.small) in
     omega (arith, few, length-map buses (λ (bus : Bus). bus.number))
 
-pub AreBuses-none : AreBuses []
+pub AreBuses-none : {limit : ℕ} → AreBusesBelow limit []
 unfolding IsDistinct
 AreBuses-none = record { small = tt; different = tt }
 
-pub all_push : {A : Type 0} (P : A → Type 0) (xs : List A) (x : A) → AllByRecursion P xs → P x → AllByRecursion P (xs ++ x ∷ [])
+all_push : {A : Type 0} (P : A → Type 0) (xs : List A) (x : A) → AllByRecursion P xs → P x → AllByRecursion P (xs ++ x ∷ [])
 all_push P [] x all more = (more, tt)
 all_push P (y ∷ xs) x (here, others) more = (here, all_push P xs x others more)
 
-pub symmetric : (n : ℕ) (buses : List Bus) → AllByRecursion (λ (b : Bus). eqb n b.number ≡ eqb b.number n) buses
+symmetric : (n : ℕ) (buses : List Bus) → AllByRecursion (λ (b : Bus). eqb n b.number ≡ eqb b.number n) buses
 symmetric n [] = tt
 symmetric n (bus ∷ buses) = (nat_eq_equiv.symm n bus.number, symmetric n buses)
 
 -- one bus more, with a number that no other has
-pub AreBuses-push : (buses : List Bus) (bus : Bus) → AreBuses buses → bus.number < 10000 → has_bus buses bus.number ≡ false → AreBuses (buses ++ bus ∷ [])
-AreBuses-push buses bus are small new =
+pub AreBuses-push : {limit : ℕ} (buses : List Bus) (bus : Bus) → AreBusesBelow limit buses → bus.number < limit → has_bus buses bus.number ≡ false → AreBusesBelow limit (buses ++ bus ∷ [])
+AreBuses-push {limit} buses bus are small new =
     let absent : list_any (eqb bus.number) (map (λ (b : Bus). b.number) buses) ≡ false =
     list_any-same (eqb bus.number) (λ (b : Bus). eqb b.number bus.number) (λ (b : Bus). b.number) buses (symmetric bus.number buses) ∙ new in
     record {
-      small = all_push (λ (b : Bus). b.number < 10000) buses bus are.small small;
+      small = all_push (λ (b : Bus). b.number < limit) buses bus are.small small;
       different = subst (λ numbers. IsDistinct eqb numbers) (sym (map-append (λ (b : Bus). b.number) buses (bus ∷ [])))
           (IsDistinct-push nat_eq_equiv (map (λ (b : Bus). b.number) buses) bus.number are.different absent);
     }

@@ -49,7 +49,7 @@ module _ (earlier : List Bus) (at : ℕ) (line : List ℕ) (n : ℕ) (source : B
   node_fault-bus : node_fault (tables_of_rows earlier []) (decimal n) ≡ cond (has_bus earlier n) (Some NameTwice) None
   node_fault-bus =
       name_fault-open (node_names (tables_of_rows earlier [])) (decimal n) (has_bus earlier n)
-      (omega (arith, node_names-length, length-buses earlier are)) (has_name-bus n (number_of-lt (bus_field line) n number) earlier [] are)
+      (omega (arith, node_names-length, length-buses earlier are)) (has_name-bus earlier [] are (omega arith) n (number_of-lt (bus_field line) n number))
 
   read_bus-is : read_bus earlier at line ≡ cond (has_bus earlier n) (Err (cdf.BusTwice at)) (Ok (record { number = n; source = source }))
   read_bus-is = rw (number, kind) refl
@@ -110,16 +110,16 @@ module _ (buses : List Bus) (earlier : List Branch) (at : ℕ) (line : List ℕ)
   branch_fault-is : branch_fault (tables_of_rows buses earlier) (branch_name (length earlier + 1)) (decimal tap) (decimal z) ≡ cond (has_bus buses tap && has_bus buses z) None (Some UnknownNode)
   branch_fault-is =
       ap (λ o. first_fault o (ends_fault (tables_of_rows buses earlier) (decimal tap) (decimal z))) new_branch
-      ∙ ap (λ b. cond (b && has_name (node_names (tables_of_rows buses earlier)) (decimal z)) None (Some UnknownNode)) (has_name-bus tap tap_small buses earlier are)
-      ∙ ap (λ b. cond (has_bus buses tap && b) None (Some UnknownNode)) (has_name-bus z z_small buses earlier are)
+      ∙ ap (λ b. cond (b && has_name (node_names (tables_of_rows buses earlier)) (decimal z)) None (Some UnknownNode)) (has_name-bus buses earlier are (omega arith) tap tap_small)
+      ∙ ap (λ b. cond (has_bus buses tap && b) None (Some UnknownNode)) (has_name-bus buses earlier are (omega arith) z z_small)
 
   read_branch-is : read_branch buses earlier at line ≡ cond (has_bus buses tap && has_bus buses z) (Ok row) (Err (cdf.UnknownBus at))
   read_branch-is = rw (lt-leb most_rows (length earlier) few, from, to) refl
 
   row-is : case.branch_of (tables_of_rows buses earlier) (branch_name (length earlier + 1)) (decimal tap) (decimal z) true ≡ row
   row-is =
-      ap (λ i. record row { from = i; to = place_of (node_names (tables_of_rows buses earlier)) (decimal z) }) (place_of-bus tap tap_small buses earlier are)
-      ∙ ap (λ i. record row { to = i }) (place_of-bus z z_small buses earlier are)
+      ap (λ i. record row { from = i; to = place_of (node_names (tables_of_rows buses earlier)) (decimal z) }) (place_of-bus buses earlier are (omega arith) tap tap_small)
+      ∙ ap (λ i. record row { to = i }) (place_of-bus buses earlier are (omega arith) z z_small)
 
   pub branch_accepted : (old new : Tables) → old ≡ tables_of_rows buses earlier → branch_fault old (branch_name (length earlier + 1)) (decimal tap) (decimal z) ≡ None →
       new ≡ with_branch old (case.branch_of old (branch_name (length earlier + 1)) (decimal tap) (decimal z) true) → Answers (read_branch buses earlier at line) tables new (Ok tt)

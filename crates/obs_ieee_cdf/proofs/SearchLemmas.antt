@@ -33,9 +33,6 @@ module _ (p : List ℕ → Bool) where
             rw e (one-add _ ∙ ap suc (first_at front line rest others here))
       ]
 
-  pub passed_none : (bytes : List ℕ) → Searched p bytes bytes 0
-  passed_none bytes = ([], record { lines = refl; none = refl; count = refl; bytes = refl })
-
   pub passed_more : (all left line rest : List ℕ) (passed : ℕ) (ended : List ℕ) → Searched p all left passed → IsNextLine left line rest ended → p ended ≡ false → Searched p all rest (passed + 1)
   passed_more all left line rest passed ended (front, so_far) next other = (
     front ++ ended ∷ [],
@@ -50,10 +47,6 @@ module _ (p : List ℕ → Bool) where
 
   pub passed_room : (all left : List ℕ) (passed : ℕ) → Searched p all left passed → length all ≤ most_file_bytes → passed ≤ most_file_bytes
   passed_room all left passed (front, so_far) few = omega (arith, so_far.count, ap length so_far.lines, length-append front (ended_lines left), length-ended_lines all)
-
-  pub passed_all : (all : List ℕ) (left : List ℕ) (passed : ℕ) → Searched p all left passed → left ≡ [] → list_any p (ended_lines all) ≡ false
-  passed_all all left passed (front, so_far) none_left =
-      ap (list_any p) (so_far.lines ∙ ap (λ r. front ++ ended_lines r) none_left ∙ append-nil front) ∙ so_far.none
 
   -- the line looked for is the next one
   pub found : (all left line rest : List ℕ) (passed : ℕ) (ended : List ℕ) → Searched p all left passed → IsNextLine left line rest ended → p ended ≡ true → IsFirstLine p all (take (length all - length left) all) rest (passed + 1)

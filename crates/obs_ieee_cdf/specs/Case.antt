@@ -15,40 +15,41 @@ pub record IsBusLine (line : List ℕ) (bus : Bus) : Type 0 where
   pub number : number_of (bus_field line) ≡ Some bus.number
   pub source : source_of (type_field line) ≡ Some bus.source
 
+-- each row is what stands at its place, where places are counted from k
+abbrev pub AreRows : {R : Type 0} → (ℕ → List ℕ → R → Type 0) → ℕ → List (ℕ × List ℕ) → List R → Type 0
+AreRows Is k [] [] = Unit {0}
+AreRows Is k [] (r ∷ rs) = ⊥
+AreRows Is k (row ∷ rows) [] = ⊥
+AreRows Is k (row ∷ rows) (r ∷ rs) = Is k row.1 r × AreRows Is (suc k) rows rs
+
 -- each bus line is the bus at its place
 abbrev pub AreBusLines : List (ℕ × List ℕ) → List Bus → Type 0
-AreBusLines [] [] = Unit {0}
-AreBusLines [] (bus ∷ buses) = ⊥
-AreBusLines (line ∷ lines) [] = ⊥
-AreBusLines (line ∷ lines) (bus ∷ buses) = IsBusLine line.1 bus × AreBusLines lines buses
+AreBusLines lines buses = AreRows (λ k. IsBusLine) 1 lines buses
 
--- a field has the number of the bus at this position
-pub record IsEnd (buses : List Bus) (digits : List ℕ) (position : ℕ) : Type 0 where
+-- a number that is said is that of the bus at this position
+pub record IsEnd (buses : List Bus) (said : Option ℕ) (position : ℕ) : Type 0 where
   pub number : ℕ
-  pub named : number_of digits ≡ Some number
+  pub named : said ≡ Some number
   pub there : has_bus buses number ≡ true
   pub place : position ≡ place_of_bus buses number
 
 -- a branch line is this branch, the k-th
 pub record IsBranchLine (buses : List Bus) (k : ℕ) (line : List ℕ) (branch : Branch) : Type 0 where
   pub name : branch.name ≡ branch_name k
-  pub from : IsEnd buses (tap_field line) branch.from
-  pub to : IsEnd buses (z_field line) branch.to
+  pub from : IsEnd buses (number_of (tap_field line)) branch.from
+  pub to : IsEnd buses (number_of (z_field line)) branch.to
   pub inservice : branch.inservice ≡ true
 
--- each branch line is the branch at its place, counted from k
-abbrev pub AreBranchLines : List Bus → ℕ → List (ℕ × List ℕ) → List Branch → Type 0
-AreBranchLines buses k [] [] = Unit {0}
-AreBranchLines buses k [] (branch ∷ branches) = ⊥
-AreBranchLines buses k (line ∷ lines) [] = ⊥
-AreBranchLines buses k (line ∷ lines) (branch ∷ branches) = IsBranchLine buses k line.1 branch × AreBranchLines buses (suc k) lines branches
+-- each branch line is the branch at its place
+abbrev pub AreBranchLines : List Bus → List (ℕ × List ℕ) → List Branch → Type 0
+AreBranchLines buses lines branches = AreRows (IsBranchLine buses) 1 lines branches
 
 -- the lines of a file are these buses and branches
 pub record AreLines (file : List (List ℕ)) (buses : List Bus) (branches : List Branch) : Type 0 where
   pub whole : end_fault file ≡ None
   pub bus_lines : AreBusLines (bus_rows file) buses
   pub different : IsDistinct nat_eq (map (λ (bus : Bus). bus.number) buses)
-  pub branch_lines : AreBranchLines buses 1 (branch_rows file) branches
+  pub branch_lines : AreBranchLines buses (branch_rows file) branches
   pub few : length (branch_rows file) ≤ most_rows
 
 -- a file's bytes are these nodes and branches

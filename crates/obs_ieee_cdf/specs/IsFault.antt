@@ -24,21 +24,21 @@ BusLineHas earlier at line (BusTwice n) = (n ≡ at) × (number : ℕ) × (numbe
 BusLineHas earlier at line (UnknownBus n) = ⊥
 BusLineHas earlier at line (TooMany n) = ⊥
 
--- a branch line with this number, after so many others, has the fault: an end is no number, or is that of no bus; the 20,001st has one
+-- a branch line with this number, after these others, has the fault: an end is no number, or is that of no bus; the 20,001st has one
 -- fault alone
-abbrev pub BranchLineHas : List Bus → ℕ → ℕ → List ℕ → CdfFault → Type 0
-BranchLineHas buses before at line NoBusSection = ⊥
-BranchLineHas buses before at line BusSectionOpen = ⊥
-BranchLineHas buses before at line NoBranchSection = ⊥
-BranchLineHas buses before at line BranchSectionOpen = ⊥
-BranchLineHas buses before at line (BadBusNumber n) =
-    (n ≡ at) × (before < most_rows) × ((number_of (tap_field line) ≡ None) ⊎ (number_of (z_field line) ≡ None))
-BranchLineHas buses before at line (BadType n) = ⊥
-BranchLineHas buses before at line (BusTwice n) = ⊥
-BranchLineHas buses before at line (UnknownBus n) =
-    (n ≡ at) × (before < most_rows) × (number : ℕ)
+abbrev pub BranchLineHas : List Bus → List Branch → ℕ → List ℕ → CdfFault → Type 0
+BranchLineHas buses earlier at line NoBusSection = ⊥
+BranchLineHas buses earlier at line BusSectionOpen = ⊥
+BranchLineHas buses earlier at line NoBranchSection = ⊥
+BranchLineHas buses earlier at line BranchSectionOpen = ⊥
+BranchLineHas buses earlier at line (BadBusNumber n) =
+    (n ≡ at) × (length earlier < most_rows) × ((number_of (tap_field line) ≡ None) ⊎ (number_of (z_field line) ≡ None))
+BranchLineHas buses earlier at line (BadType n) = ⊥
+BranchLineHas buses earlier at line (BusTwice n) = ⊥
+BranchLineHas buses earlier at line (UnknownBus n) =
+    (n ≡ at) × (length earlier < most_rows) × (number : ℕ)
     × ((number_of (tap_field line) ≡ Some number) ⊎ (number_of (z_field line) ≡ Some number)) × (has_bus buses number ≡ false)
-BranchLineHas buses before at line (TooMany n) = (n ≡ at) × (before ≡ most_rows)
+BranchLineHas buses earlier at line (TooMany n) = (n ≡ at) × (length earlier ≡ most_rows)
 
 -- a section isn't there or isn't ended
 abbrev pub SectionHas : List (List ℕ) → CdfFault → Type 0
@@ -61,32 +61,30 @@ pub record AreAllBuses (lines : List (ℕ × List ℕ)) (buses : List Bus) : Typ
   pub are : AreBusLines lines buses
   pub different : IsDistinct nat_eq (map (λ (bus : Bus). bus.number) buses)
 
--- a bus line has the fault, and the bus lines before it are buses
-pub record HasBusFault (lines : List (ℕ × List ℕ)) (fault : CdfFault) : Type 0 where
+-- a row of these has the fault, and the rows before it have none. `Are` says what rows without a fault are, and `Has` which fault a row
+-- has that stands after what these are
+pub record HasRowFault {R F : Type 0} (Are : List (ℕ × List ℕ) → List R → Type 0) (Has : List R → ℕ → List ℕ → F → Type 0) (rows : List (ℕ × List ℕ)) (fault : F) : Type 0 where
   pub before : List (ℕ × List ℕ)
   pub at : ℕ
-  pub line : List ℕ
+  pub row : List ℕ
   pub after : List (ℕ × List ℕ)
-  pub lines_are : lines ≡ before ++ (at, line) ∷ after
-  pub buses : List Bus
-  pub buses_are : AreAllBuses before buses
-  pub has : BusLineHas buses at line fault
+  pub rows_are : rows ≡ before ++ (at, row) ∷ after
+  pub done : List R
+  pub done_are : Are before done
+  pub has : Has done at row fault
+
+-- a bus line has the fault, and the bus lines before it are buses
+abbrev pub HasBusFault : List (ℕ × List ℕ) → CdfFault → Type 0
+HasBusFault lines fault = HasRowFault AreAllBuses BusLineHas lines fault
 
 -- a branch line has the fault, and the branch lines before it are branches between buses
-pub record HasBranchFault (buses : List Bus) (lines : List (ℕ × List ℕ)) (fault : CdfFault) : Type 0 where
-  pub before : List (ℕ × List ℕ)
-  pub at : ℕ
-  pub line : List ℕ
-  pub after : List (ℕ × List ℕ)
-  pub lines_are : lines ≡ before ++ (at, line) ∷ after
-  pub branches : List Branch
-  pub branches_are : AreBranchLines buses 1 before branches
-  pub has : BranchLineHas buses (length before) at line fault
+abbrev pub HasBranchFault : List Bus → List (ℕ × List ℕ) → CdfFault → Type 0
+HasBranchFault buses lines fault = HasRowFault (AreBranchLines buses) (BranchLineHas buses) lines fault
 
 -- a section has the fault, and all branch lines are branches between buses
 pub record HasSectionFault (buses : List Bus) (file : List (List ℕ)) (fault : CdfFault) : Type 0 where
   pub branches : List Branch
-  pub branches_are : AreBranchLines buses 1 (branch_rows file) branches
+  pub branches_are : AreBranchLines buses (branch_rows file) branches
   pub few : length (branch_rows file) ≤ most_rows
   pub has : SectionHas file fault
 

@@ -16,10 +16,14 @@ Answers {A} stated tables after (Ok done) = (rows : A) × (stated ≡ Ok rows) �
 Answers stated tables after (Err (Fault fault)) = stated ≡ Err fault
 Answers stated tables after (Err NoMemory) = Unit {0}
 
--- buses with numbers of at most four digits, no two of which are equal
-pub record AreBuses (buses : List Bus) : Type 0 where
-  pub small : AllByRecursion (λ (bus : Bus). bus.number < 10000) buses
+-- buses with numbers below a limit, no two of which are equal
+pub record AreBusesBelow (limit : ℕ) (buses : List Bus) : Type 0 where
+  pub small : AllByRecursion (λ (bus : Bus). bus.number < limit) buses
   pub different : IsDistinct nat_eq (map (λ (bus : Bus). bus.number) buses)
+
+-- buses with numbers of at most four digits, no two of which are equal
+abbrev pub AreBuses : List Bus → Type 0
+AreBuses buses = AreBusesBelow 10000 buses
 
 -- branches that are named in order, from this number on
 abbrev pub AreNamed : ℕ → List Branch → Type 0

@@ -11,7 +11,7 @@ use Rattle.obs_ieee_cdf.specs.Fields.{bus_field, number_of, is_blank_line, sourc
 use Rattle.obs_ieee_cdf.specs.Sections.{branch_lines, branches_from, bus_lines, buses_from, end_fault}
 
 -- what comes after an answer, where that is no fault
-abbrev pub on_ok : {A B : Type 0} → Result A CdfFault → (A → Result B CdfFault) → Result B CdfFault
+abbrev pub on_ok : {A B F : Type 0} → Result A F → (A → Result B F) → Result B F
 on_ok (Ok x) next = next x
 on_ok (Err fault) next = Err fault
 
@@ -20,10 +20,10 @@ abbrev pub numbered : ℕ → List (List ℕ) → List (ℕ × List ℕ)
 numbered at [] = []
 numbered at (line ∷ lines) = if is_blank_line line then numbered (at + 1) lines else (at, line) ∷ numbered (at + 1) lines
 
--- the rows that lines are, each read after those before it, or the first fault
-abbrev pub read_rows : {R : Type 0} → (List R → ℕ → List ℕ → Result R CdfFault) → List R → List (ℕ × List ℕ) → Result (List R) CdfFault
+-- what rows with the numbers of their lines are, each read after those before it, or the first fault
+abbrev pub read_rows : {R F : Type 0} → (List R → ℕ → List ℕ → Result R F) → List R → List (ℕ × List ℕ) → Result (List R) F
 read_rows read earlier [] = Ok earlier
-read_rows read earlier (line ∷ lines) = on_ok (read earlier line.0 line.1) (λ row. read_rows read (earlier ++ row ∷ []) lines)
+read_rows read earlier (row ∷ rows) = on_ok (read earlier row.0 row.1) (λ r. read_rows read (earlier ++ r ∷ []) rows)
 
 -- a bus: its number, and whether it has a source
 pub record Bus : Type 0 where
@@ -84,10 +84,10 @@ bus_rows file = numbered (buses_from file) (map content (bus_lines file))
 abbrev pub branch_rows : List (List ℕ) → List (ℕ × List ℕ)
 branch_rows file = numbered (branches_from file) (map content (branch_lines file))
 
--- the tables, where nothing is met at the end of the file
-abbrev pub at_end : Option CdfFault → Tables → Result Tables CdfFault
-at_end None tables = Ok tables
-at_end (Some fault) tables = Err fault
+-- the answer, unless there is a fault at its end
+abbrev pub at_end : {A F : Type 0} → Option F → A → Result A F
+at_end None x = Ok x
+at_end (Some fault) x = Err fault
 
 -- the nodes and branches that a file's bytes are, or the first fault from its top
 abbrev pub cdf_of : List ℕ → Result Tables CdfFault

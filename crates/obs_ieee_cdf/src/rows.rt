@@ -1,7 +1,7 @@
 // The lines of the sections, read into a case.
-ghost use Rattle.std.specs.Prelude.{◌≡◌, ◌+◌, ◌<◌, ◌^◌, ℕ, List, [], ◌∷◌, ◌++◌, length, map};
+ghost use Rattle.std.specs.Prelude.{◌≡◌, ◌+◌, ◌<◌, ◌^◌, List, [], ◌∷◌, ◌++◌, length};
 ghost use Rattle.obs_text.specs.Lines.{lines_of};
-ghost use Rattle.obs_case.specs.Tables.{branch_names, no_rows};
+ghost use Rattle.obs_case.specs.Tables.{no_rows};
 ghost use Rattle.obs_case.specs.declared.rows.Branch.{Branch};
 ghost use Rattle.obs_ieee_cdf.specs.Reading.{Answers, AreBuses, AreNamed, stop_of};
 ghost use Rattle.obs_ieee_cdf.specs.Rows.{Bus, branch_name, numbered, read_branch, read_bus, read_rows, tables_of_rows};

@@ -1,13 +1,12 @@
+// Files that are read, the first fault of those that are no case, and what is borrowed from a file.
 ghost use Rattle.std.specs.Prelude.{◌≤◌, length};
 
 use crate::{CdfEnd, CdfFault, branch_fields, bus_fields, read_cdf, sections};
 use obs_case::Case;
 use obs_case_csv::{RowFault, Table, TableFault};
-use obs_text::InputFault;
+use obs_text::{InputFault, MOST_FILE_BYTES};
 use std::alloc::Global;
 use std::test::Fail;
-
-const MOST_BYTES: usize = 16_777_216;
 
 // The topology of the IEEE 14 bus system.
 fn ieee14() -> &'static [u8] {
@@ -90,14 +89,14 @@ fn front(bytes: &[u8], count: usize) -> &[u8]
 
 fn read(alloc: Global, cdf: &[u8], meters: &[u8]) -> Result<Case, CdfEnd> {
     let candidates = b"candidate,kind,at,price\nC1,zero,1,5\n".as_slice();
-    read_cdf(alloc, front(cdf, MOST_BYTES), meters, Some(candidates))
+    read_cdf(alloc, front(cdf, MOST_FILE_BYTES), meters, Some(candidates))
 }
 
 // How a file ends whose meters are fine.
 fn end_of(alloc: Global, cdf: &[u8]) -> Option<CdfEnd> {
     read_cdf(
         alloc,
-        front(cdf, MOST_BYTES),
+        front(cdf, MOST_FILE_BYTES),
         b"meter,kind,at,inservice\n",
         None,
     )
@@ -339,7 +338,7 @@ fn faults_of_tables(rt: HostRuntime) {
     let candidates = b"candidate,kind,at,price\nC1,zero,15,5\n".as_slice();
     let end = read_cdf(
         rt.alloc(),
-        front(ieee14(), MOST_BYTES),
+        front(ieee14(), MOST_FILE_BYTES),
         METERS,
         Some(candidates),
     )
@@ -349,7 +348,7 @@ fn faults_of_tables(rt: HostRuntime) {
 
 #[test]
 fn borrowed_parts(rt: HostRuntime) {
-    let parts = sections(front(full(), MOST_BYTES));
+    let parts = sections(front(full(), MOST_FILE_BYTES));
     assert!(rt;
         parts.buses.starts_with(b"   1 Bus 1     HV") && parts.buses.ends_with(b"\n   \r\n")
     );

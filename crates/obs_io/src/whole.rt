@@ -1,5 +1,5 @@
 // Files read whole, and bytes written whole.
-ghost use Rattle.std.specs.Prelude.{◌≡◌, ◌≢◌, ◌<◌, ◌≤◌, ◌-◌, ◌+◌, ℕ, length, IfOk, IsErrOf, IsOk, vec_len};
+ghost use Rattle.std.specs.Prelude.{◌≡◌, ◌≢◌, ◌<◌, ◌≤◌, ◌+◌, ℕ, length, IfOk, IsErrOf, IsOk, vec_len};
 ghost use Rattle.obs_io.specs.Causes.{Rose, HasCause};
 ghost use Rattle.obs_io.specs.Bytes.{AddsPart, Writes};
 ghost use Rattle.obs_io.specs.Limits.{most_place};

@@ -1,6 +1,5 @@
 -- Which touches straddle, and what remains of them.
 use Rattle.std.proofs.Common.{◌≡◌, ℕ, zero, suc, ◌<◌, ◌≤◌, List, [], ◌∷◌, length, get_or, refl, ◌∙◌, inl, inr, ◌⊎◌, Bool, true, false, ◌&&◌, Option, Some, None, arith}
-use Rattle.std.specs.Prelude.{All}
 use Rattle.std.specs.List.{list_any}
 use Rattle.std.proofs.lemmas.Bool.{and_from, and_parts, cases_Bool, or_left, or_right}
 use Rattle.std.proofs.lemmas.List.{get_or_default}
@@ -13,7 +12,7 @@ use Rattle.obs_matroid.proofs.Lists.{clash, In-map_from}
 use Rattle.obs_meter.specs.declared.Touch.{Touch}
 use Rattle.obs_meter.specs.declared.Touch.TheVariants.{Nothing, Edge, Star}
 use Rattle.obs_meter.specs.Touches.{AreInRange, IsInRange}
-use Rattle.obs_islands.specs.Rounds.{IsStarBelow, is_between, is_crossed, kept, remaining, straddles}
+use Rattle.obs_islands.specs.Rounds.{is_between, is_crossed, kept, remaining, straddles}
 
 -- what straddles is a star
 pub straddles-from : (crossed : ℕ → Bool) (t : Touch) → straddles crossed t ≡ true → (v : ℕ) × (t ≡ Star v) × (crossed v ≡ true)
@@ -96,12 +95,3 @@ pub remaining_in_range : (g : Graph) (crossed : ℕ → Bool) (touches : List To
 remaining_in_range g crossed touches h =
     All-from_In (IsInRange g) (remaining crossed touches) (λ t i. let p = In-map_from (kept crossed) t touches i in
     rw p.2 (kept_in_range g crossed p.0 (In-from_All (IsInRange g) touches h p.0 p.1)))
-
-star_below : (g : Graph) (n : ℕ) (t : Touch) → n ≡ g.vertices → IsInRange g t → IsStarBelow n t
-star_below g n Nothing e h = tt
-star_below g n (Edge p) e h = tt
-star_below g n (Star v) e h = omega (arith, e, h)
-
--- stars in range are below the number of vertices
-pub stars_below : (g : Graph) (n : ℕ) (touches : List Touch) → n ≡ g.vertices → AreInRange g touches → All (IsStarBelow n) touches
-stars_below g n touches e h = All-from_In (IsStarBelow n) touches (λ t i. star_below g n t e (In-from_All (IsInRange g) touches h t i))

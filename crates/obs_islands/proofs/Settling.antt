@@ -1,5 +1,5 @@
 -- Between two rounds.
-use Rattle.std.proofs.Common.{◌≡◌, ℕ, ◌<◌, List, length, get_or, refl, ap, ◌∙◌, inl, inr, Bool, true, arith}
+use Rattle.std.proofs.Common.{◌≡◌, ℕ, ◌<◌, List, length, get_or, ap, ◌∙◌, inl, inr, Bool, true, arith}
 use Rattle.std.specs.List.{list_any}
 use Rattle.std.proofs.lemmas.List.{length-map}
 use Rattle.obs_graph.specs.Graph.{Graph}
@@ -26,20 +26,6 @@ pub record IsSettling (g : Graph) (ts us : List Touch) (first : Assignment) (sta
   pub holds : HoldsAll g ts us
   pub same_room : HasRoomOf first a
   pub same_sizes : w.sizes ≡ start.sizes
-
-pub Settling-begun : (g : Graph) (ts : List Touch) (a : Assignment) (w : Work) → StandsOver a g ts → AreInRange g ts → HasRoomFor w.sizes g ts → IsThawed a
-    → IsSettling g ts ts a w a w
-Settling-begun g ts a w stands in_range room thawed = record {
-  stands = stands;
-  in_range = in_range;
-  room = room;
-  thawed = thawed;
-  one_each = refl;
-  used = λ m. inl refl;
-  holds = λ T t m i j. i;
-  same_room = record { meters = refl; vertices = refl; branches = refl };
-  same_sizes = refl;
-}
 
 still_used : (ts us : List Touch) (crossed : ℕ → Bool) → IsUsedOf ts us → IsUsedOf ts (remaining crossed us)
 still_used ts us crossed used m = elim (kept_cases crossed (get_or us m Nothing)) [

@@ -1,5 +1,5 @@
 // The items that stay used.
-ghost use Rattle.std.specs.Prelude.{◌≡◌, ◌<◌, ◌≤◌, All, length};
+ghost use Rattle.std.specs.Prelude.{◌≡◌, All, length};
 ghost use Rattle.std.specs.List.{list_any};
 ghost use Rattle.obs_meter.specs.Touches.{AreInRange};
 ghost use Rattle.obs_assign.specs.Assignment.{has_flag};

@@ -1,5 +1,5 @@
 // The pieces of a forest, and the vertices at which a branch lies between two of them.
-ghost use Rattle.std.specs.Prelude.{◌≡◌, ◌<◌, ◌^◌, ◌||◌, ◌&&◌, ℕ, IfSome, false, length, slice_index_or};
+ghost use Rattle.std.specs.Prelude.{◌≡◌, ◌<◌, ◌^◌, ◌||◌, ◌&&◌, ℕ, IfSome, length};
 ghost use Rattle.obs_graph.specs.Positions.{has_end};
 ghost use Rattle.obs_assign.specs.Assignment.{has_flag};
 ghost use Rattle.obs_islands.specs.Rounds.{AreFirsts, is_between, is_crossed};

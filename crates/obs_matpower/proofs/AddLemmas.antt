@@ -12,6 +12,7 @@ use Rattle.obs_case.specs.declared.table.AddFault.{AddFault}
 use Rattle.obs_case.specs.declared.table.AddFault.TheVariants.{NameTwice, UnknownNode, UnknownPlace, TooMany, NoMemory}
 use Rattle.obs_case.proofs.NameLemmas.{missed, position-some}
 use Rattle.obs_ieee_cdf.specs.Rows.{branch_name, has_bus, node_of_bus, place_of_bus, tables_of_rows}
+use Rattle.obs_ieee_cdf.proofs.NumberLemmas.{has_name-bus, place_of-bus}
 use Rattle.obs_ieee_cdf.proofs.RowLemmas.{name_fault-open, new_name, old_name}
 use Rattle.obs_matpower.specs.declared.fault.MatFault.{MatFault}
 use Rattle.obs_matpower.specs.declared.fault.MatFault.TheVariants as mat
@@ -22,7 +23,7 @@ use Rattle.obs_matpower.specs.declared.stop.Stop.TheVariants as stop
 use Rattle.obs_matpower.specs.Fields.{is_isolated, is_short, is_source, number_in, type_in}
 use Rattle.obs_matpower.specs.Read.{BusRow, branch_between, branch_of, buses_of, isolated_of, read_bus, with_status}
 use Rattle.obs_matpower.specs.Reading.{Answers, AreBuses, held_branches, held_buses, stop_of}
-use Rattle.obs_matpower.proofs.NumberLemmas.{has_name-bus, number_in-lt, place_of-bus}
+use Rattle.obs_matpower.proofs.NumberLemmas.{number_in-lt}
 
 -- an answer for a cause that was met
 stopped : {A S : Type 0} (stated : Result A MatFault) (held : A → S) (after : S) (fault : AddFault) (cause : MatFault) → stated ≡ Err cause → Answers stated held after (Err (stop_of fault cause))
@@ -56,7 +57,7 @@ module _ (earlier : List BusRow) (at : ℕ) (row : List ℕ) (n : ℕ) (kind : B
   node_fault-bus : node_fault before (decimal n) ≡ cond (has_bus (buses_of earlier) n) (Some NameTwice) None
   node_fault-bus =
       name_fault-open (node_names before) (decimal n) (has_bus (buses_of earlier) n)
-      (omega (arith, node_names-length, few)) (has_name-bus n (number_in-lt 1 row n number) (buses_of earlier) [] are)
+      (omega (arith, node_names-length, few)) (has_name-bus (buses_of earlier) [] are (omega arith) n (number_in-lt 1 row n number))
 
   read_bus-is : read_bus earlier at row ≡ cond (has_bus (buses_of earlier) n) (Err (mat.BusTwice at)) (Ok bus)
   read_bus-is = rw (lt-leb most_rows (length earlier) few, long, number, typed) refl
@@ -91,19 +92,16 @@ module _ (earlier : List BusRow) (at : ℕ) (row : List ℕ) (n : ℕ) (kind : B
 module _ (buses : List BusRow) (earlier : List Branch) (at from to : ℕ) (from_small : from < 1000000000) (to_small : to < 1000000000) (are : AreBuses (buses_of buses)) (old : Tables) (is : old ≡ held_branches buses earlier) where
   -- a name that the case has is that of a bus, and one that it hasn't is not
   absent : (n : ℕ) → n < 1000000000 → None ≡ position_of (node_names old) (decimal n) → has_bus (buses_of buses) n ≡ false
-  absent n small none = sym (has_name-bus n small (buses_of buses) earlier are) ∙ ap (λ t. has_name (node_names t) (decimal n)) (sym is) ∙ missed (node_names old) (decimal n) none
+  absent n small none = sym (has_name-bus (buses_of buses) earlier are (omega arith) n small) ∙ ap (λ t. has_name (node_names t) (decimal n)) (sym is) ∙ missed (node_names old) (decimal n) none
 
   there : (n i : ℕ) → n < 1000000000 → Some i ≡ position_of (node_names old) (decimal n) → (has_bus (buses_of buses) n ≡ true) × (i ≡ place_of_bus (buses_of buses) n)
   there n i small some =
       let at_name = position-some (bytes_eq (decimal n)) (node_names old) i (sym some) in (
-        sym (has_name-bus n small (buses_of buses) earlier are) ∙ ap (λ t. has_name (node_names t) (decimal n)) (sym is) ∙ at_name.0,
-        at_name.1 ∙ ap (λ t. place_of (node_names t) (decimal n)) is ∙ place_of-bus n small (buses_of buses) earlier are,
+        sym (has_name-bus (buses_of buses) earlier are (omega arith) n small) ∙ ap (λ t. has_name (node_names t) (decimal n)) (sym is) ∙ at_name.0,
+        at_name.1 ∙ ap (λ t. place_of (node_names t) (decimal n)) is ∙ place_of-bus (buses_of buses) earlier are (omega arith) n small,
       )
 
   module _ (k : ℕ) (status : Option Bool) where
-    branch_of-is : branch_of buses k at (Some from) (Some to) status ≡ cond (has_bus (buses_of buses) from && has_bus (buses_of buses) to) (with_status buses k at from to status) (Err (mat.UnknownBus at))
-    branch_of-is = refl
-
     pub first_unknown : None ≡ position_of (node_names old) (decimal from) → branch_of buses k at (Some from) (Some to) status ≡ Err (mat.UnknownBus at)
     first_unknown none = rw (absent from from_small none) refl
 
@@ -126,8 +124,8 @@ module _ (buses : List BusRow) (earlier : List Branch) (at from to : ℕ) (from_
         → case.branch_of old (branch_name k) (decimal from) (decimal to) inservice ≡ branch_between buses k from to status
     row-is k status inservice service =
         ap (λ t. case.branch_of t (branch_name k) (decimal from) (decimal to) inservice) is
-        ∙ ap (λ i. record { name = branch_name k; from = i; to = place_of (node_names (held_branches buses earlier)) (decimal to); inservice = inservice }) (place_of-bus from from_small (buses_of buses) earlier are)
-        ∙ ap (λ i. record { name = branch_name k; from = place_of_bus (buses_of buses) from; to = i; inservice = inservice }) (place_of-bus to to_small (buses_of buses) earlier are)
+        ∙ ap (λ i. record { name = branch_name k; from = i; to = place_of (node_names (held_branches buses earlier)) (decimal to); inservice = inservice }) (place_of-bus (buses_of buses) earlier are (omega arith) from from_small)
+        ∙ ap (λ i. record { name = branch_name k; from = place_of_bus (buses_of buses) from; to = i; inservice = inservice }) (place_of-bus (buses_of buses) earlier are (omega arith) to to_small)
         ∙ ap (λ on. record { name = branch_name k; from = place_of_bus (buses_of buses) from; to = place_of_bus (buses_of buses) to; inservice = on })
         (service ∙ ap (λ f. status && not (get_or f first false) && not (get_or f second false)) flags_are
         ∙ ap (λ i. status && not (get_or (isolated_of buses) i false) && not (get_or (isolated_of buses) second false)) (there from first from_small first_is).1

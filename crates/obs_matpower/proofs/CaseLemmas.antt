@@ -6,8 +6,7 @@ use Rattle.obs_case_csv.specs.declared.faults.TableFault.{TableFault}
 use Rattle.obs_case_csv.specs.Read.{then_read}
 use Rattle.obs_case_csv.specs.Rows.{names_in}
 use Rattle.obs_ieee_cdf.specs.Read.{tables_after}
-use Rattle.obs_ieee_cdf.proofs.CaseLemmas.{given_valid, tables_are, tables_read}
-use Rattle.obs_matpower.specs.declared.fault.MatEnd.{MatEnd}
+use Rattle.obs_ieee_cdf.proofs.CaseLemmas.{fault_where_none, given_valid, tables_are, tables_read}
 use Rattle.obs_matpower.specs.declared.fault.MatFault.{MatFault}
 use Rattle.obs_matpower.specs.declared.part.MatTable.TheVariants as table
 use Rattle.obs_matpower.specs.Case.{IsCase, IsFile}
@@ -15,15 +14,14 @@ use Rattle.obs_matpower.specs.Laws.{CaseIsRead, CasesAreValid, FaultWhereNoCase}
 use Rattle.obs_matpower.specs.Read.{as_end, case_in, mat_of, with_tables}
 use Rattle.obs_matpower.specs.Whole.{table_rows}
 use Rattle.obs_matpower.proofs.LawLemmas.{branches_read, buses_read, file_is, file_read}
-use Rattle.obs_matpower.proofs.ValidLemmas.{branches-valid, buses-valid}
+use Rattle.obs_matpower.proofs.ValidLemmas.{valid-rows}
 
 -- a file's nodes and branches are valid, and there are no other rows
 valid-file : (bytes : List ℕ) (file : Tables) → IsFile bytes file → IsValid file × (names_in Meters file ≡ []) × (names_in Candidates file ≡ [])
 valid-file bytes file (buses, branches, are, is) = (
   subst IsValid (sym is)
-      (branches-valid buses (table_rows table.Branch bytes) branches
-      (buses-valid (table_rows table.Bus bytes) buses (buses_read (table_rows table.Bus bytes) buses are.buses_are)).valid
-      (branches_read buses (table_rows table.Branch bytes) branches are.branches_are)),
+      (valid-rows (table_rows table.Bus bytes) buses (table_rows table.Branch bytes) branches
+      (buses_read (table_rows table.Bus bytes) buses are.buses_are) (branches_read buses (table_rows table.Branch bytes) branches are.branches_are)),
   ap (names_in Meters) is,
   ap (names_in Candidates) is,
 )
@@ -48,16 +46,8 @@ case_read matpower meters candidates tables (file, metered, of_file, is, has) =
 pub CaseIsRead-holds : CaseIsRead
 CaseIsRead-holds matpower meters candidates tables = (case_is matpower meters candidates tables (mat_of matpower) refl, case_read matpower meters candidates tables)
 
-found_fault : (matpower meters : List ℕ) (candidates : Option (List ℕ)) (r : Result Tables MatEnd) → case_in matpower meters candidates ≡ r → ((tables : Tables) → ¬ IsCase matpower meters candidates tables)
-    → (fault : MatEnd) × (case_in matpower meters candidates ≡ Err fault)
-found_fault matpower meters candidates (Err fault) read none = (fault, read)
-found_fault matpower meters candidates (Ok tables) read none = absurd (none tables (case_is matpower meters candidates tables (mat_of matpower) refl read))
-
 pub FaultWhereNoCase-holds : FaultWhereNoCase
-FaultWhereNoCase-holds matpower meters candidates = (
-  λ fault is tables case. (let read = case_read matpower meters candidates tables case in cc),
-  found_fault matpower meters candidates (case_in matpower meters candidates) refl,
-)
+FaultWhereNoCase-holds matpower meters candidates = fault_where_none (case_in matpower meters candidates) (IsCase matpower meters candidates) (CaseIsRead-holds matpower meters candidates)
 
 pub CasesAreValid-holds : CasesAreValid
 CasesAreValid-holds matpower meters candidates tables is =

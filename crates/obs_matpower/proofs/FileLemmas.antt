@@ -9,19 +9,20 @@ use Rattle.obs_text.specs.Lines.{ended_lines}
 use Rattle.obs_text.proofs.LineLaws.{joined, length-ended_lines}
 use Rattle.obs_case.specs.Tables.{Tables}
 use Rattle.obs_case.proofs.NameLemmas.{place-there}
-use Rattle.obs_ieee_cdf.specs.Rows.{tables_of_rows}
+use Rattle.obs_ieee_cdf.specs.Rows.{at_end, on_ok, read_rows, tables_of_rows}
+use Rattle.obs_ieee_cdf.proofs.NumberLemmas.{AreBuses-none}
+use Rattle.obs_ieee_cdf.proofs.RowsRead.{read_rows-good}
 use Rattle.obs_matpower.specs.declared.fault.MatFault.{MatFault}
 use Rattle.obs_matpower.specs.declared.part.MatTable.{MatTable}
 use Rattle.obs_matpower.specs.declared.part.MatTable.TheVariants as table
 use Rattle.obs_matpower.specs.declared.stop.Stop.{Stop}
 use Rattle.obs_matpower.specs.declared.stop.Stop.TheVariants.{Fault, NoMemory}
 use Rattle.obs_matpower.specs.Lines.{closes, is_closing, is_opening, opens}
-use Rattle.obs_matpower.specs.Read.{BusRow, at_end, buses_of, mat_of, on_ok, read_branch, read_bus, read_rows, read_table}
+use Rattle.obs_matpower.specs.Read.{BusRow, buses_of, mat_of, read_branch, read_bus, read_table}
 use Rattle.obs_matpower.specs.Reading.{Answers, AreBuses, held_branches, read_text}
 use Rattle.obs_matpower.specs.Table.{after_opening, end_of, from_first, is_there, line_of, text_of, until_closing}
 use Rattle.obs_matpower.specs.Whole.{table_rows}
-use Rattle.obs_matpower.proofs.NumberLemmas.{AreBuses-none}
-use Rattle.obs_matpower.proofs.RowReads.{read_bus-good, read_rows-good}
+use Rattle.obs_matpower.proofs.RowReads.{read_bus-good}
 use Rattle.obs_matpower.proofs.WholeLemmas.{table_rows-are}
 
 -- ---- how long the text of a table is, and where it starts

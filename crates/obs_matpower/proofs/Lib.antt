@@ -5,7 +5,7 @@ pub mod FirstLemmas
 pub mod FoundLemmas
 pub mod LawLemmas
 pub mod NumberLemmas
-pub mod ReadLemmas
+pub mod RowFaults
 pub mod RowReads
 pub mod RowSteps
 pub mod SplitLemmas

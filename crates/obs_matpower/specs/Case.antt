@@ -1,12 +1,12 @@
 -- When bytes are the nodes and branches of a case: a relation on the whole lists of rows.
-use Rattle.std.specs.Prelude.{◌≡◌, ℕ, suc, ◌≤◌, ◌&&◌, Bool, true, false, not, nat_eq, List, [], ◌∷◌, length, map, get_or, Option, None, Some}
+use Rattle.std.specs.Prelude.{◌≡◌, ℕ, ◌≤◌, ◌&&◌, Bool, false, not, nat_eq, List, length, map, get_or, Option, None, Some}
 use Rattle.std.specs.List.{IsDistinct}
 use Rattle.obs_case.specs.Tables.{Tables, most_rows}
 use Rattle.obs_case.specs.declared.rows.Branch.{Branch}
 use Rattle.obs_case_csv.specs.declared.faults.Table.TheVariants.{Meters}
 use Rattle.obs_case_csv.specs.OneTable.{IsTableOf}
-use Rattle.obs_ieee_cdf.specs.Case.{HasCandidates}
-use Rattle.obs_ieee_cdf.specs.Rows.{branch_name, has_bus, place_of_bus, tables_of_rows}
+use Rattle.obs_ieee_cdf.specs.Case.{AreRows, HasCandidates, IsEnd}
+use Rattle.obs_ieee_cdf.specs.Rows.{branch_name, tables_of_rows}
 use Rattle.obs_matpower.specs.declared.part.MatTable.TheVariants as table
 use Rattle.obs_matpower.specs.Fields.{is_short, number_in, status_in, type_in}
 use Rattle.obs_matpower.specs.Read.{BusRow, buses_of, isolated_of}
@@ -21,17 +21,7 @@ pub record IsBusRow (row : List ℕ) (bus : BusRow) : Type 0 where
 
 -- each row is the bus at its place
 abbrev pub AreBusRows : List (ℕ × List ℕ) → List BusRow → Type 0
-AreBusRows [] [] = Unit {0}
-AreBusRows [] (bus ∷ buses) = ⊥
-AreBusRows (row ∷ rows) [] = ⊥
-AreBusRows (row ∷ rows) (bus ∷ buses) = IsBusRow row.1 bus × AreBusRows rows buses
-
--- the number in a column is that of the bus at this position
-pub record IsEnd (buses : List BusRow) (column : ℕ) (row : List ℕ) (position : ℕ) : Type 0 where
-  pub number : ℕ
-  pub named : number_in column row ≡ Some number
-  pub there : has_bus (buses_of buses) number ≡ true
-  pub place : position ≡ place_of_bus (buses_of buses) number
+AreBusRows rows buses = AreRows (λ k. IsBusRow) 1 rows buses
 
 -- whether the bus at this position is isolated
 abbrev pub isolated_at : List BusRow → ℕ → Bool
@@ -41,18 +31,15 @@ isolated_at buses position = get_or (isolated_of buses) position false
 pub record IsBranchRow (buses : List BusRow) (k : ℕ) (row : List ℕ) (branch : Branch) : Type 0 where
   pub long : is_short 11 row ≡ false
   pub name : branch.name ≡ branch_name k
-  pub from : IsEnd buses 1 row branch.from
-  pub to : IsEnd buses 2 row branch.to
+  pub from : IsEnd (buses_of buses) (number_in 1 row) branch.from
+  pub to : IsEnd (buses_of buses) (number_in 2 row) branch.to
   pub status : Bool
   pub stated : status_in 11 row ≡ Some status
   pub inservice : branch.inservice ≡ (status && not (isolated_at buses branch.from) && not (isolated_at buses branch.to))
 
--- each row is the branch at its place, counted from k
-abbrev pub AreBranchRows : List BusRow → ℕ → List (ℕ × List ℕ) → List Branch → Type 0
-AreBranchRows buses k [] [] = Unit {0}
-AreBranchRows buses k [] (branch ∷ branches) = ⊥
-AreBranchRows buses k (row ∷ rows) [] = ⊥
-AreBranchRows buses k (row ∷ rows) (branch ∷ branches) = IsBranchRow buses k row.1 branch × AreBranchRows buses (suc k) rows branches
+-- each row is the branch at its place
+abbrev pub AreBranchRows : List BusRow → List (ℕ × List ℕ) → List Branch → Type 0
+AreBranchRows buses rows branches = AreRows (IsBranchRow buses) 1 rows branches
 
 -- rows are these buses, with different numbers
 pub record AreAllBuses (rows : List (ℕ × List ℕ)) (buses : List BusRow) : Type 0 where
@@ -62,7 +49,7 @@ pub record AreAllBuses (rows : List (ℕ × List ℕ)) (buses : List BusRow) : T
 
 -- rows are these branches between buses
 pub record AreAllBranches (buses : List BusRow) (rows : List (ℕ × List ℕ)) (branches : List Branch) : Type 0 where
-  pub are : AreBranchRows buses 1 rows branches
+  pub are : AreBranchRows buses rows branches
   pub few : length rows ≤ most_rows
 
 -- a file has both tables, and they are these buses and branches

@@ -1,7 +1,8 @@
 -- Which rows of a file have which faults, given that the rows before them have none; a table has its own where no row has one.
-use Rattle.std.specs.Prelude.{◌≡◌, ◌<◌, ◌≤◌, ◌⊎◌, ℕ, true, false, List, ◌∷◌, ◌++◌, length, None, Some}
+use Rattle.std.specs.Prelude.{◌≡◌, ◌<◌, ◌≤◌, ◌⊎◌, ℕ, true, false, List, length, None, Some}
 use Rattle.obs_case.specs.Tables.{most_rows}
 use Rattle.obs_case.specs.declared.rows.Branch.{Branch}
+use Rattle.obs_ieee_cdf.specs.IsFault.{HasRowFault}
 use Rattle.obs_ieee_cdf.specs.Rows.{has_bus}
 use Rattle.obs_matpower.specs.declared.fault.MatFault.{MatFault}
 use Rattle.obs_matpower.specs.declared.fault.MatFault.TheVariants.{NoBusTable, BusTableOpen, NoBranchTable, BranchTableOpen, BadBusNumber, BadType, BusTwice, UnknownBus, TooMany, ShortRow, BadStatus}
@@ -33,22 +34,22 @@ BusRowHas earlier at row (TooMany n) = (n ≡ at) × (length earlier ≡ most_ro
 BusRowHas earlier at row (ShortRow n) = (n ≡ at) × (length earlier < most_rows) × (is_short 2 row ≡ true)
 BusRowHas earlier at row (BadStatus n) = ⊥
 
--- a branch row on this line, after so many others, has the fault
-abbrev pub BranchRowHas : List BusRow → ℕ → ℕ → List ℕ → MatFault → Type 0
-BranchRowHas buses before at row NoBusTable = ⊥
-BranchRowHas buses before at row BusTableOpen = ⊥
-BranchRowHas buses before at row NoBranchTable = ⊥
-BranchRowHas buses before at row BranchTableOpen = ⊥
-BranchRowHas buses before at row (BadBusNumber n) =
-    (n ≡ at) × IsWhole before 11 row × ((number_in 1 row ≡ None) ⊎ (number_in 2 row ≡ None))
-BranchRowHas buses before at row (BadType n) = ⊥
-BranchRowHas buses before at row (BusTwice n) = ⊥
-BranchRowHas buses before at row (UnknownBus n) =
-    (n ≡ at) × IsWhole before 11 row × (number : ℕ)
+-- a branch row on this line, after these others, has the fault
+abbrev pub BranchRowHas : List BusRow → List Branch → ℕ → List ℕ → MatFault → Type 0
+BranchRowHas buses earlier at row NoBusTable = ⊥
+BranchRowHas buses earlier at row BusTableOpen = ⊥
+BranchRowHas buses earlier at row NoBranchTable = ⊥
+BranchRowHas buses earlier at row BranchTableOpen = ⊥
+BranchRowHas buses earlier at row (BadBusNumber n) =
+    (n ≡ at) × IsWhole (length earlier) 11 row × ((number_in 1 row ≡ None) ⊎ (number_in 2 row ≡ None))
+BranchRowHas buses earlier at row (BadType n) = ⊥
+BranchRowHas buses earlier at row (BusTwice n) = ⊥
+BranchRowHas buses earlier at row (UnknownBus n) =
+    (n ≡ at) × IsWhole (length earlier) 11 row × (number : ℕ)
     × ((number_in 1 row ≡ Some number) ⊎ (number_in 2 row ≡ Some number)) × (has_bus (buses_of buses) number ≡ false)
-BranchRowHas buses before at row (TooMany n) = (n ≡ at) × (before ≡ most_rows)
-BranchRowHas buses before at row (ShortRow n) = (n ≡ at) × (before < most_rows) × (is_short 11 row ≡ true)
-BranchRowHas buses before at row (BadStatus n) = (n ≡ at) × IsWhole before 11 row × (status_in 11 row ≡ None)
+BranchRowHas buses earlier at row (TooMany n) = (n ≡ at) × (length earlier ≡ most_rows)
+BranchRowHas buses earlier at row (ShortRow n) = (n ≡ at) × (length earlier < most_rows) × (is_short 11 row ≡ true)
+BranchRowHas buses earlier at row (BadStatus n) = (n ≡ at) × IsWhole (length earlier) 11 row × (status_in 11 row ≡ None)
 
 -- the bus table isn't there or isn't ended
 abbrev pub BusTableHas : List ℕ → MatFault → Type 0
@@ -78,39 +79,18 @@ BranchTableHas bytes (TooMany n) = ⊥
 BranchTableHas bytes (ShortRow n) = ⊥
 BranchTableHas bytes (BadStatus n) = ⊥
 
--- a row of these has the fault, and the rows before it are buses
-pub record HasBusFault (rows : List (ℕ × List ℕ)) (fault : MatFault) : Type 0 where
-  pub before : List (ℕ × List ℕ)
-  pub at : ℕ
-  pub row : List ℕ
-  pub after : List (ℕ × List ℕ)
-  pub rows_are : rows ≡ before ++ (at, row) ∷ after
-  pub buses : List BusRow
-  pub buses_are : AreAllBuses before buses
-  pub has : BusRowHas buses at row fault
-
--- a row of these has the fault, and the rows before it are branches between the buses
-pub record HasBranchFault (buses : List BusRow) (rows : List (ℕ × List ℕ)) (fault : MatFault) : Type 0 where
-  pub before : List (ℕ × List ℕ)
-  pub at : ℕ
-  pub row : List ℕ
-  pub after : List (ℕ × List ℕ)
-  pub rows_are : rows ≡ before ++ (at, row) ∷ after
-  pub branches : List Branch
-  pub branches_are : AreAllBranches buses before branches
-  pub has : BranchRowHas buses (length before) at row fault
-
--- a fault of the branch table, after these buses: of one of its rows, or, where all of them are branches, of the table
+-- a fault of the branch table, after these buses: of one of its rows, where those before it are branches, or, where all of them are,
+-- of the table
 abbrev pub IsBranchFault : List BusRow → List ℕ → MatFault → Type 0
 IsBranchFault buses bytes fault =
-    HasBranchFault buses (table_rows table.Branch bytes) fault
+    HasRowFault (AreAllBranches buses) (BranchRowHas buses) (table_rows table.Branch bytes) fault
     ⊎ ((branches : List Branch) × AreAllBranches buses (table_rows table.Branch bytes) branches × BranchTableHas bytes fault)
 
--- a fault of a file's bytes: of a row of the bus table, or, where all of them are buses, of that table, or, where it is there and
--- ended, of the branch table
+-- a fault of a file's bytes: of a row of the bus table, where those before it are buses, or, where all of them are, of that table, or,
+-- where it is there and ended, of the branch table
 abbrev pub IsFault : List ℕ → MatFault → Type 0
 IsFault bytes fault =
-    HasBusFault (table_rows table.Bus bytes) fault
+    HasRowFault AreAllBuses BusRowHas (table_rows table.Bus bytes) fault
     ⊎ ((buses : List BusRow) × AreAllBuses (table_rows table.Bus bytes) buses
     × (BusTableHas bytes fault ⊎ ((end_of table.Bus bytes ≡ None) × IsBranchFault buses bytes fault)))
 

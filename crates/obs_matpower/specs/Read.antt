@@ -1,10 +1,10 @@
 -- The buses and branches that a file's bytes are, or its first fault; and the case that it is with its tables.
-use Rattle.std.specs.Prelude.{◌≡◌, ℕ, ◌+◌, ◌&&◌, Bool, false, not, nat_le, List, [], ◌∷◌, ◌++◌, length, map, get_or, Option, None, Some, Result, Ok, Err, if◌then◌else◌}
+use Rattle.std.specs.Prelude.{◌≡◌, ℕ, ◌+◌, ◌&&◌, Bool, false, not, nat_le, List, [], length, map, get_or, Option, None, Some, Result, Ok, Err, if◌then◌else◌}
 use Rattle.obs_case.specs.Tables.{Tables, most_rows}
 use Rattle.obs_case.specs.declared.rows.Branch.{Branch}
 use Rattle.obs_case_csv.specs.declared.faults.TableFault.{TableFault}
 use Rattle.obs_ieee_cdf.specs.Read.{tables_after}
-use Rattle.obs_ieee_cdf.specs.Rows.{Bus, branch_name, has_bus, place_of_bus, tables_of_rows}
+use Rattle.obs_ieee_cdf.specs.Rows.{Bus, at_end, branch_name, has_bus, on_ok, place_of_bus, read_rows, tables_of_rows}
 use Rattle.obs_matpower.specs.declared.fault.MatEnd.{MatEnd}
 use Rattle.obs_matpower.specs.declared.fault.MatEnd.TheVariants.{Mat, Table, NoMemory}
 use Rattle.obs_matpower.specs.declared.fault.MatFault.{MatFault}
@@ -15,21 +15,6 @@ use Rattle.obs_matpower.specs.declared.part.MatTable.TheVariants as table
 use Rattle.obs_matpower.specs.Fields.{is_isolated, is_short, is_source, number_in, status_in, type_in}
 use Rattle.obs_matpower.specs.Table.{end_of}
 use Rattle.obs_matpower.specs.Whole.{table_rows}
-
--- what comes after an answer, where that is no fault
-abbrev pub on_ok : {A B : Type 0} → Result A MatFault → (A → Result B MatFault) → Result B MatFault
-on_ok (Ok x) next = next x
-on_ok (Err fault) next = Err fault
-
--- the answer, unless there is a fault at its end
-abbrev pub at_end : {A : Type 0} → Option MatFault → A → Result A MatFault
-at_end None x = Ok x
-at_end (Some fault) x = Err fault
-
--- what rows with the numbers of their lines are, each read after those before it, or the first fault
-abbrev pub read_rows : {R : Type 0} → (List R → ℕ → List ℕ → Result R MatFault) → List R → List (ℕ × List ℕ) → Result (List R) MatFault
-read_rows read earlier [] = Ok earlier
-read_rows read earlier (row ∷ rows) = on_ok (read earlier row.0 row.1) (λ r. read_rows read (earlier ++ r ∷ []) rows)
 
 -- what the rows of a table are, or its first fault
 abbrev pub read_table : {R : Type 0} → (List R → ℕ → List ℕ → Result R MatFault) → MatTable → List ℕ → Result (List R) MatFault

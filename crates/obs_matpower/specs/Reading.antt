@@ -1,15 +1,15 @@
 -- What reading one row, or the rows of a table, answers and leaves.
-use Rattle.std.specs.Prelude.{◌≡◌, ℕ, ◌<◌, nat_eq, List, [], map, Bool, Option, Result, Ok, Err}
-use Rattle.std.specs.List.{AllByRecursion, IsDistinct}
+use Rattle.std.specs.Prelude.{◌≡◌, ℕ, List, [], Bool, Option, Result, Ok, Err}
 use Rattle.obs_case.specs.Tables.{Tables}
 use Rattle.obs_case.specs.declared.rows.Branch.{Branch}
 use Rattle.obs_case.specs.declared.table.AddFault.{AddFault}
 use Rattle.obs_case.specs.declared.table.AddFault.TheVariants as add
-use Rattle.obs_ieee_cdf.specs.Rows.{Bus, tables_of_rows}
+use Rattle.obs_ieee_cdf.specs.Reading.{AreBusesBelow}
+use Rattle.obs_ieee_cdf.specs.Rows.{Bus, at_end, on_ok, read_rows, tables_of_rows}
 use Rattle.obs_matpower.specs.declared.fault.MatFault.{MatFault}
 use Rattle.obs_matpower.specs.declared.stop.Stop.{Stop}
 use Rattle.obs_matpower.specs.declared.stop.Stop.TheVariants.{Fault, NoMemory}
-use Rattle.obs_matpower.specs.Read.{BusRow, at_end, buses_of, isolated_of, on_ok, read_rows}
+use Rattle.obs_matpower.specs.Read.{BusRow, buses_of, isolated_of}
 use Rattle.obs_matpower.specs.Rows.{rows_of}
 
 -- what is stated was read and is held, or the stated fault was met; memory may be wanting at any point
@@ -31,9 +31,8 @@ abbrev pub read_text : {R : Type 0} → (List R → ℕ → List ℕ → Result 
 read_text read ended line text end = on_ok (read_rows read [] (rows_of ended line text)) (at_end end)
 
 -- buses with numbers of at most nine digits, no two of which are equal
-pub record AreBuses (buses : List Bus) : Type 0 where
-  pub small : AllByRecursion (λ (bus : Bus). bus.number < 1000000000) buses
-  pub different : IsDistinct nat_eq (map (λ (bus : Bus). bus.number) buses)
+abbrev pub AreBuses : List Bus → Type 0
+AreBuses buses = AreBusesBelow 1000000000 buses
 
 -- why reading stops at a row that a case refuses for this cause
 abbrev pub stop_of : AddFault → MatFault → Stop

@@ -27,4 +27,6 @@ pub use value_iter::Values;
 pub use value_start::values;
 
 #[cfg(test)]
+mod part_tests;
+#[cfg(test)]
 mod tests;

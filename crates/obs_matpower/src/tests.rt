@@ -1,13 +1,12 @@
+// Files that are read, and the first fault of those that aren't a case.
 ghost use Rattle.std.specs.Prelude.{◌≤◌, length};
 
-use crate::{MatEnd, MatFault, MatPart, MatRow, MatTable, read_matpower, rows, table, values};
+use crate::{MatEnd, MatFault, read_matpower};
 use obs_case::Case;
 use obs_case_csv::{RowFault, Table, TableFault};
-use obs_text::{Digits, InputFault};
+use obs_text::{Digits, MOST_FILE_BYTES};
 use std::alloc::Global;
 use std::test::Fail;
-
-const MOST_BYTES: usize = 16_777_216;
 
 const FIFTH: &[u8] = b" 2 1 0 0; 3,1,0,0\n";
 
@@ -32,7 +31,7 @@ fn three(alloc: Global, fifth: &[u8], ninth: &[u8], last: &[u8]) -> Result<Vec<u
 }
 
 // The same with tabs, carriage returns and comments.
-fn with_tabs() -> &'static [u8] {
+pub(crate) fn with_tabs() -> &'static [u8] {
     b"function mpc = three\r\nmpc.version = '2';\r\n%% bus data\r\n%\tbus_i\ttype\r\nmpc.bus = [\r
 \t1\t3\t0\t0;\r\n\t2\t1\t0\t0;\t3,1,0,0\r\n\t4\t4\t0\t0;\r\n];\r\nmpc.branch = [\r
 \t1\t2\t0\t0\t0\t0\t0\t0\t0\t0\t1;\r\n\t2\t3\t0\t0\t0\t0\t0\t0\t0\t0\t1;\t%\tsecond\r
@@ -40,7 +39,7 @@ fn with_tabs() -> &'static [u8] {
 }
 
 // The file's first bytes.
-fn front(bytes: &[u8], count: usize) -> &[u8]
+pub(crate) fn front(bytes: &[u8], count: usize) -> &[u8]
     ensures short { length result.now ≤ count }
 {
     if count <= bytes.len() {
@@ -52,13 +51,18 @@ fn front(bytes: &[u8], count: usize) -> &[u8]
 
 fn read(alloc: Global, matpower: &[u8]) -> Result<Case, MatEnd> {
     let candidates = b"candidate,kind,at,price\nC1,zero,4,5\n".as_slice();
-    read_matpower(alloc, front(matpower, MOST_BYTES), METERS, Some(candidates))
+    read_matpower(
+        alloc,
+        front(matpower, MOST_FILE_BYTES),
+        METERS,
+        Some(candidates),
+    )
 }
 
 // How a file ends whose meters are fine.
 fn end_of(alloc: Global, matpower: &[u8]) -> Option<MatEnd> {
     let meters = b"meter,kind,at,inservice\n".as_slice();
-    read_matpower(alloc, front(matpower, MOST_BYTES), meters, None).err()
+    read_matpower(alloc, front(matpower, MOST_FILE_BYTES), meters, None).err()
 }
 
 fn has_node(case: &Case, at: usize, name: &[u8], source: bool) -> bool {
@@ -323,7 +327,7 @@ fn table_end(table: Table) -> Option<MatEnd> {
 
 #[test]
 fn faults_of_tables(rt: HostRuntime) {
-    let file = front(with_tabs(), MOST_BYTES);
+    let file = front(with_tabs(), MOST_FILE_BYTES);
     let meters = b"meter,kind,at,inservice\nF1,flow,L5,1\n".as_slice();
     let candidates = b"candidate,kind,at,price\nC1,zero,5,5\n".as_slice();
     let end = read_matpower(rt.alloc(), file, meters, Some(candidates)).err();
@@ -332,82 +336,4 @@ fn faults_of_tables(rt: HostRuntime) {
     assert!(rt; end == table_end(Table::Candidates));
     let end = read_matpower(rt.alloc(), front(file, 9), meters, None).err();
     assert!(rt; end == Some(MatEnd::Mat(MatFault::NoBusTable)));
-}
-
-#[test]
-fn borrowed_tables(rt: HostRuntime) {
-    let part = table(front(with_tabs(), MOST_BYTES), MatTable::Bus);
-    assert!(rt; part.line == 5 && part.end.is_none());
-    assert!(rt; part.text.starts_with(b"\r\n\t1") && part.text.ends_with(b"0;\r\n"));
-    let bytes = b"a\nmpc.branch=[ 1,2 % ]\n\n3\t;;4\r]\n".as_slice();
-    let part = table(front(bytes, MOST_BYTES), MatTable::Branch);
-    assert!(rt; part.text == b" 1,2 % ]\n\n3\t;;4\r".as_slice() && part.line == 2);
-    let missing = table(front(bytes, MOST_BYTES), MatTable::Bus);
-    assert!(rt; missing.text.is_empty() && missing.line == 0);
-    assert!(rt; missing.end == Some(MatFault::NoBusTable));
-}
-
-fn is_row(row: Option<MatRow>, line: u32, bytes: &[u8]) -> bool {
-    match row {
-        Some(row) => row.line == line && row.bytes == bytes,
-        None => false,
-    }
-}
-
-#[test]
-fn borrowed_rows(rt: HostRuntime) {
-    let part = MatPart {
-        text: b" 1,2 % ]\n\n3\t;;4\r",
-        line: 2,
-        end: None,
-    };
-    let mut all = rows(&part);
-    assert!(rt; is_row(all.next(), 2, b" 1,2 "));
-    assert!(rt; is_row(all.next(), 4, b"3\t"));
-    assert!(rt; is_row(all.next(), 4, b"4\r"));
-    assert!(rt; all.next().is_none());
-    let mut some = values(b", 1,2 \t3");
-    assert!(rt; some.next() == Some(b"1".as_slice()));
-    assert!(rt; some.next() == Some(b"2".as_slice()));
-    assert!(rt; some.next() == Some(b"3".as_slice()));
-    assert!(rt; some.next().is_none());
-}
-
-// A fault, and its line, number and name.
-fn fault_case(i: u8) -> (MatFault, u32, u32, &'static [u8]) {
-    match i {
-        0 => (MatFault::NoBusTable, 0, 1, b"NoBusTable"),
-        1 => (MatFault::BusTableOpen, 0, 2, b"BusTableOpen"),
-        2 => (MatFault::NoBranchTable, 0, 3, b"NoBranchTable"),
-        3 => (MatFault::BranchTableOpen, 0, 4, b"BranchTableOpen"),
-        4 => (MatFault::BadBusNumber(4), 4, 5, b"BadBusNumber"),
-        5 => (MatFault::BadType(4), 4, 6, b"BadType"),
-        6 => (MatFault::BusTwice(5), 5, 7, b"BusTwice"),
-        7 => (MatFault::UnknownBus(4), 4, 8, b"UnknownBus"),
-        8 => (MatFault::TooMany(20_005), 20_005, 9, b"TooMany"),
-        9 => (MatFault::ShortRow(9), 9, 10, b"ShortRow"),
-        _ => (MatFault::BadStatus(9), 9, 11, b"BadStatus"),
-    }
-}
-
-#[test]
-fn faults_become_input_faults(rt: HostRuntime) {
-    for i in 0..11u8 {
-        let (fault, line, number, name) = fault_case(i);
-        let given = InputFault::from(fault);
-        assert!(rt; given.part == b"matpower".as_slice() && given.name == name);
-        assert!(rt; given.place == line && given.code == number);
-        assert!(rt; MatEnd::Mat(fault).fault() == Some(given));
-    }
-}
-
-#[test]
-fn ends_have_faults(rt: HostRuntime) {
-    let fault = TableFault {
-        table: Table::Meters,
-        row: 1,
-        code: RowFault::UnknownPlace,
-    };
-    assert!(rt; MatEnd::Table(fault).fault() == Some(InputFault::from(fault)));
-    assert!(rt; MatEnd::NoMemory.fault().is_none());
 }

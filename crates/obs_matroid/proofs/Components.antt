@@ -1,15 +1,15 @@
 -- A closed set bounds each component by itself.
-use Rattle.std.proofs.Common.{◌≡◌, ℕ, ◌≤◌, List, length, refl, sym, ap, ◌∙◌, Bool, eqb, ◌||◌}
+use Rattle.std.proofs.Common.{◌≡◌, ℕ, ◌≤◌, List, [], ◌∷◌, ◌++◌, length, refl, sym, ap, ◌∙◌, inl, inr, Bool, false, eqb, ◌||◌}
 use Rattle.std.specs.List.{filter}
-use Rattle.std.proofs.lemmas.Bool.{eqb-true, eq-eqb}
+use Rattle.std.proofs.lemmas.Bool.{cases_Bool, eqb-true, eq-eqb}
 use Rattle.obs_matroid.specs.Lists.{In, IsDistinct}
-use Rattle.obs_matroid.specs.Matroid.{Matroid, IsMatroid}
+use Rattle.obs_matroid.specs.Matroid.{Matroid, IsIndependent, IsMatroid}
 use Rattle.obs_matroid.specs.Assignments.{Pair, items, branches, part, IsAssignment}
 use Rattle.obs_matroid.specs.Bounds.{bound}
 use Rattle.obs_matroid.specs.Closed.{IsClosed, HoldsSources, none, every}
 use Rattle.obs_matroid.specs.Graphic.{IsJoining, graphic}
 use Rattle.obs_matroid.specs.Components.{IsSumOfKinds, is_of}
-use Rattle.obs_matroid.proofs.Lists.{In_same, In-filter, In-filter_from, IsDistinct-filter}
+use Rattle.obs_matroid.proofs.Lists.{In_same, In-append_cases, In-filter, In-filter_from, IsDistinct-filter, clash}
 use Rattle.obs_matroid.proofs.Spans.{spans_more}
 use Rattle.obs_matroid.proofs.Pairs.{In-items, In-items_from, In-branches, In-branches_from, In-part, In-part_from}
 use Rattle.obs_matroid.proofs.Critical.{longest_from_closed, closed_tight}
@@ -23,6 +23,26 @@ pub IsSumOfKinds-graphic : (ends : ℕ → ℕ × ℕ) (joined : List ℕ → �
 IsSumOfKinds-graphic ends joined rank joining component within L e t =
     (stays_in ends joined joining (λ v. eqb (component v) (component (ends e).0)) L (λ x i. ap (λ (c : ℕ). eqb c (component (ends e).0)) (within x))
     (ends e).0 (ends e).1 (eq-eqb (component (ends e).0) (component (ends e).0) refl) t).0
+
+module _ (g : Matroid) (laws : IsMatroid g) (kind : ℕ → ℕ) (local : IsSumOfKinds g kind) (K : ℕ) where
+  -- a branch of the kind K that some branches do not span, they do not span together with branches of other kinds
+  free_of_others : (e : ℕ) (L N : List ℕ) → kind e ≡ K → ((x : ℕ) → In x N → kind x ≡ K → ⊥) → g.spans L e ≡ false → g.spans (L ++ N) e ≡ false
+  free_of_others e L N same other free =
+      let alike : ℕ → Bool = λ x. eqb (kind x) (kind e) in
+      elim (cases_Bool (g.spans (L ++ N) e)) [
+        | inl s ↦
+            clash (spans_more g laws (filter alike (L ++ N)) L e
+            (λ x i.
+            let u = In-filter_from alike x (L ++ N) i in
+            elim (In-append_cases x L N u.0) [ inl j ↦ j | inr j ↦ absurd (other x j (eqb-true (kind x) (kind e) u.1 ∙ same)) ])
+            (local (L ++ N) e s)) free
+        | inr f ↦ f
+      ]
+
+  -- independent branches of the kind K and of other kinds are independent together
+  pub free_together : (L N : List ℕ) → IsIndependent g L → IsIndependent g N → ((e : ℕ) → In e L → kind e ≡ K) → ((e : ℕ) → In e N → kind e ≡ K → ⊥) → IsIndependent g (L ++ N)
+  free_together [] N i j same other = j
+  free_together (e ∷ L) N i j same other = (free_of_others e L N (same e (inl refl)) other i.0, free_together L N i.1 j (λ x h. same x (inr h)) other)
 
 module _ (g : Matroid) (laws : IsMatroid g) (touch : ℕ → List ℕ) (kind : ℕ → ℕ) (of : ℕ → ℕ)
     (local : IsSumOfKinds g kind)

@@ -1,10 +1,8 @@
 -- Membership in std's words.
 use Rattle.std.proofs.Common.{ℕ, zero, suc, ◌<◌, List, [], ◌∷◌, length, get_or, refl, sym, inl, inr, ◌≢◌, arith}
 use Rattle.std.specs.List.{Contains, All, AllPairs}
-use Rattle.std.specs.List.Sorted.{IsStrictlyIncreasing}
-use Rattle.std.proofs.lemmas.List.Kept.{AllPairs-from_increasing}
 use Rattle.std.proofs.lemmas.List.Elements.{All-contains}
-use Rattle.obs_matroid.specs.Lists.{In, IsDistinct, IsRising}
+use Rattle.obs_matroid.specs.Lists.{In, IsDistinct}
 use Rattle.obs_matroid.proofs.Lists.{In_same}
 
 -- `In` is std's `Contains`
@@ -42,14 +40,3 @@ module _ {X : Type 0} where
   pairs_from_IsDistinct (x ∷ xs) d i zero e l m = absurd (omega (arith, l))
   pairs_from_IsDistinct (x ∷ xs) d zero (suc j) e l m = λ s. d.0 (In_same x (get_or xs j e) xs s (In-get_or xs j e (omega (arith, m))))
   pairs_from_IsDistinct (x ∷ xs) d (suc i) (suc j) e l m = pairs_from_IsDistinct xs d.1 i j e (omega (arith, l)) (omega (arith, m))
-
--- `IsRising` is std's `IsStrictlyIncreasing`
-rising_from_pairs : (xs : List ℕ) → AllPairs (λ a b. a < b) xs → IsRising xs
-rising_from_pairs [] h = tt
-rising_from_pairs (x ∷ xs) h = (
-  (λ y i. let c = Contains-from_In y xs i in let l = c.1 in let e = c.2 in let k = h 0 (suc c.0) y (omega arith) (omega (arith, l)) in rw e at k),
-  rising_from_pairs xs (λ i j d l m. h (suc i) (suc j) d (omega (arith, l)) (omega (arith, m))),
-)
-
-pub IsRising-from_increasing : (xs : List ℕ) → IsStrictlyIncreasing xs → IsRising xs
-IsRising-from_increasing xs s = rising_from_pairs xs (AllPairs-from_increasing xs s)

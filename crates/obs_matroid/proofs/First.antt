@@ -1,14 +1,13 @@
 -- The first assignment, found item by item: what is known when some items are decided, and how the next one is.
-use Rattle.std.proofs.Common.{refl, ◌≡◌, ℕ, ◌≤◌, ◌<◌, List, [], ◌∷◌, ◌++◌, length, sym, ap, ◌∙◌, inl, inr, Bool, true, false, ◌||◌, ◌&&◌, arith, Some, None, eqb}
-use Rattle.std.proofs.lemmas.Bool.{cases_Bool, cases_order, or_cases, and_parts, and_from, eqb-true}
+use Rattle.std.proofs.Common.{refl, ◌≡◌, ℕ, ◌≤◌, ◌<◌, List, [], ◌∷◌, ◌++◌, length, sym, ap, ◌∙◌, inl, inr, Bool, true, ◌&&◌, arith, Some, None}
+use Rattle.std.proofs.lemmas.Bool.{cases_order, and_parts, and_from}
 use Rattle.obs_matroid.specs.Lists.{In}
-use Rattle.obs_matroid.specs.Matroid.{Matroid, IsMatroid}
-use Rattle.obs_matroid.specs.Assignments.{Pair, items, part, branches, IsAssignment}
-use Rattle.obs_matroid.specs.Closed.{Extends, IsRegrown}
-use Rattle.obs_matroid.specs.First.{branch_at, IsNotAfter, IsFirst}
-use Rattle.obs_matroid.proofs.Lists.{In_same, is_in, is_in_from, is_in_at}
-use Rattle.obs_matroid.proofs.Pairs.{In-items, In-items_from, same_pair}
-use Rattle.obs_matroid.proofs.Pin.{pin_impossible}
+use Rattle.obs_matroid.specs.Matroid.{Matroid}
+use Rattle.obs_matroid.specs.Assignments.{Pair, items, IsAssignment}
+use Rattle.obs_matroid.specs.Closed.{Extends}
+use Rattle.obs_matroid.specs.First.{branch_at, IsNotAfter}
+use Rattle.obs_matroid.proofs.Lists.{is_in, is_in_from, is_in_at}
+use Rattle.obs_matroid.proofs.Pairs.{In-items}
 use Rattle.obs_matroid.proofs.Comparing.{branch_at_in, branch_at_from, cases_Option, Agree, IsNotAfter-push, IsNotAfter-same, Agree-from}
 
 module _ (g : Matroid) (touch : ℕ → List ℕ) (M : List ℕ) where
@@ -17,14 +16,6 @@ module _ (g : Matroid) (touch : ℕ → List ℕ) (M : List ℕ) where
     pub assigns : IsAssignment g touch M A
     pub longest : (B : List Pair) → IsAssignment g touch M B → length B ≤ length A
     pub least : (B : List Pair) → IsAssignment g touch M B → length B ≡ length A → IsNotAfter P A B
-
-  -- a longest assignment, before an item is decided
-  pub IsLeastBy-none : (A : List Pair) → IsAssignment g touch M A → ((B : List Pair) → IsAssignment g touch M B → length B ≤ length A) → IsLeastBy [] A
-  IsLeastBy-none A a l = record { assigns = a; longest = l; least = λ B b k. tt }
-
-  -- all items decided: the first assignment
-  pub IsFirst-from_least : (A : List Pair) → IsLeastBy M A → IsFirst g touch M A
-  IsFirst-from_least A a = record { assigns = a.assigns; longest = a.longest; least = a.least }
 
 -- the decided items of P that have a pair: those to freeze
 abbrev pub decided : List ℕ → List Pair → ℕ → Bool
@@ -35,9 +26,6 @@ decided_from P A x t = let u = and_parts (is_in P x) (is_in (items A) x) t in (i
 
 pub decided_at : (P : List ℕ) (A : List Pair) (x : ℕ) → In x P → In x (items A) → decided P A x ≡ true
 decided_at P A x p q = and_from (is_in P x) (is_in (items A) x) (is_in_at P x p) (is_in_at (items A) x q)
-
-pub not_decided : (P : List ℕ) (A : List Pair) (m : ℕ) → (In m P → ⊥) → decided P A m ≡ false
-not_decided P A m out = elim (cases_Bool (decided P A m)) [ inr f ↦ f | inl t ↦ absurd (out (decided_from P A m t).0) ]
 
 -- no longest assignment that has the decided pairs gives e to m, where A is one that has them
 abbrev pub Impossible : Matroid → (ℕ → List ℕ) → List ℕ → List ℕ → ℕ → List Pair → ℕ → Type 0
@@ -98,19 +86,3 @@ module _ (g : Matroid) (touch : ℕ → List ℕ) (M P : List ℕ) (m : ℕ) (A 
             IsNotAfter-push P m C B (IsNotAfter-same P A C B B ac (λ x i. refl) (a.least B b kb)) (λ cb.
             inr (bare C c l ac ∙ sym (bare B b kb (λ y q. ac y q ∙ cb y q))));
       }
-
-  -- a branch that the decided ones span is impossible
-  pub impossible_spanned : IsMatroid g → (In m P → ⊥) → (e : ℕ) → g.spans (branches (part (decided P A) A)) e ≡ true → Impossible g touch M P m A e
-  impossible_spanned laws out e s B b l x j = pin_impossible g laws touch M (decided P A) A B m e b x (not_decided P A m out) s j
-
-  -- a branch is impossible where, after it is pinned, what is regrown is too short
-  pub impossible_short : (e : ℕ) (D C : List Pair) → IsAssignment g touch M D → Extends (decided P A) A D → In (m, e) D
-      → IsRegrown g touch M (λ x. decided P A x || eqb x m) D C → length C < length A → Impossible g touch M P m A e
-  impossible_short e D C d y i r s B b l x j =
-      let w = r.longest B b (λ q u t. elim (or_cases (decided P A q.0) (eqb q.0 m) t) [
-        | inl z ↦ let v = In-items_from A q.0 (decided_from P A q.0 z).1 in
-            let f : decided P A v.0.0 ≡ true = rw (← v.2) z in
-            In_same q v.0 B (same_pair D q v.0 d.different u (y v.0 v.1 f) v.2) (x v.0 v.1 f)
-        | inr z ↦ In_same q (m, e) B (same_pair D q (m, e) d.different u i (eqb-true q.0 m z)) j
-      ]) in
-      omega (arith, w, l, s)

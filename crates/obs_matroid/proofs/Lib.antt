@@ -4,7 +4,6 @@ pub mod Contained
 pub mod Spans
 pub mod Ranks
 pub mod Pairs
-pub mod Others
 pub mod Exchange
 pub mod Bounds
 pub mod Closed

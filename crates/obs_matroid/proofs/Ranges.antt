@@ -1,7 +1,9 @@
 -- Numbers in a row.
-use Rattle.std.proofs.Common.{◌≡◌, ℕ, zero, suc, ◌+◌, ◌<◌, ◌≤◌, [], ◌∷◌, ◌++◌, ap, ◌∙◌, inl, inr, arith}
+use Rattle.std.proofs.Common.{◌≡◌, ℕ, zero, suc, ◌+◌, ◌-◌, ◌<◌, ◌≤◌, Bool, true, false, List, [], ◌∷◌, ◌++◌, length, set, take, refl, ap, ◌∙◌, inl, inr, arith, append_assoc}
+use Rattle.std.specs.Prelude.{filter}
 use Rattle.std.specs.List.{range_with_len}
 use Rattle.std.proofs.lemmas.Bool.{cases_eq}
+use Rattle.std.proofs.lemmas.List.{take_more_set}
 use Rattle.obs_matroid.specs.Lists.{In, IsDistinct, IsRising}
 
 pub range_in : (a n x : ℕ) → a ≤ x → x < a + n → In x (range_with_len a n)
@@ -43,3 +45,21 @@ range_append a (suc n) k =
     let more : suc n + k ≡ suc (n + k) = omega arith in
     let on : a + 1 + n ≡ a + suc n = omega arith in
     ap (range_with_len a) more ∙ ap (λ l. a ∷ l) (range_append (a + 1) n k ∙ ap (λ b. range_with_len (a + 1) n ++ range_with_len b k) on)
+
+-- the numbers from i on, below n
+abbrev pub later : ℕ → ℕ → List ℕ
+later n i = range_with_len i (n - i)
+
+pub later_next : (n i : ℕ) → i < n → later n i ≡ i ∷ later n (i + 1)
+later_next n i l = let e : n - i ≡ suc (n - (i + 1)) = omega arith in ap (range_with_len i) e
+
+-- of the numbers from i on, i itself fails the test or passes it
+pub later_over : (passes : ℕ → Bool) (n i : ℕ) → i < n → passes i ≡ false → filter passes (later n i) ≡ filter passes (later n (i + 1))
+later_over passes n i l f = rw (later_next n i l, f) refl
+
+pub later_listed : (passes : ℕ → Bool) (n i : ℕ) → i < n → passes i ≡ true → filter passes (later n i) ≡ i ∷ filter passes (later n (i + 1))
+later_listed passes n i l t = rw (later_next n i l, t) refl
+
+-- the next number is put behind those that are listed
+pub listed_more : (list : List ℕ) (count i : ℕ) (rest whole : List ℕ) → count < length list → take count list ++ i ∷ rest ≡ whole → take (count + 1) (set list count i) ++ rest ≡ whole
+listed_more list count i rest whole l is = ap (λ xs. xs ++ rest) (take_more_set list count i l) ∙ (append_assoc (take count list) (i ∷ []) rest ∙ is)

@@ -1,9 +1,8 @@
 -- What lists of branches span.
-use Rattle.std.proofs.Common.{◌≡◌, ℕ, List, ◌∷◌, ◌↔◌, inl, inr, true, false}
+use Rattle.std.proofs.Common.{◌≡◌, ℕ, List, ◌∷◌, inl, inr, true, false}
 use Rattle.std.proofs.lemmas.Bool.{cases_Bool}
 use Rattle.obs_matroid.specs.Lists.{In}
 use Rattle.obs_matroid.specs.Matroid.{Matroid, IsMatroid}
-use Rattle.std.specs.Cmp.Derive.{one_truth}
 use Rattle.obs_matroid.proofs.Lists.{clash}
 
 module _ (g : Matroid) (laws : IsMatroid g) where
@@ -17,7 +16,3 @@ module _ (g : Matroid) (laws : IsMatroid g) where
   -- if f is added and then spans e, which it did not before, then e added spans f
   pub swapped : (L : List ℕ) (e f : ℕ) → g.spans (f ∷ L) e ≡ true → g.spans (e ∷ L) f ≡ false → g.spans L e ≡ true
   swapped L e f t n = elim (cases_Bool (g.spans L e)) [ inl y ↦ y | inr r ↦ clash (laws.swaps L e f t r) n ]
-
-  -- two lists of the same branches span the same
-  pub spans_same : (L K : List ℕ) (e : ℕ) → ((x : ℕ) → In x L ↔ In x K) → g.spans L e ≡ g.spans K e
-  spans_same L K e h = one_truth (g.spans L e) (g.spans K e) (spans_more L K e (λ x i. (h x).0 i)) (spans_more K L e (λ x i. (h x).1 i))

@@ -2,7 +2,7 @@
 ghost use Rattle.std.specs.Prelude.{◌≡◌, ◌<◌, ◌⊎◌, ◌↔◌, ℕ, Bool, Option, None, List, All, AllPairs, IsSome, slice_index_or};
 ghost use Rattle.obs_graph.specs.declared.Ends.{Ends};
 ghost use Rattle.obs_graph.specs.Positions.{AreBranches, IsForestAt};
-ghost use Rattle.obs_matroid.specs.Lists.{In, IsDistinct};
+ghost use Rattle.obs_matroid.specs.Lists.{IsDistinct};
 ghost use Rattle.obs_matroid.specs.Matroid.{IsIndependent, IsMatroid};
 ghost use Rattle.obs_matroid.specs.Assignments.{IsAssignment, IsRho, Pair};
 ghost use Rattle.obs_matroid.specs.Bounds.{bound};

@@ -106,10 +106,6 @@ kept_by_buses t after v from to buses count = record {
   ends = ends_renamed t after (λ b. b) v from to (λ u l. ap (λ bs. get_or bs u 0) buses);
 }
 
--- nothing is edited
-pub kept_itself : (t : Tables) → IsValid t → AreKept t t
-kept_itself t v = kept_by_buses t t v refl refl refl refl
-
 -- a branch put in service or taken out
 pub kept_with_branch : (t : Tables) → IsValid t → (at : ℕ) (inservice : Bool) → AreKept t (with_branch_inservice t at inservice)
 kept_with_branch t v at inservice =

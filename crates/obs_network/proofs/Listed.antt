@@ -4,6 +4,7 @@ use Rattle.std.specs.Prelude.{All, IsSome, nat_lt, slice_index, slice_index_or, 
 use Rattle.std.specs.List.{range_with_len}
 use Rattle.std.proofs.lemmas.Bool.{cases_Bool, cases_lt, eq-eqb, eqb-true, ne_eqb}
 use Rattle.std.proofs.lemmas.List.{get_or-map, get_or_append_left, get_or_past, length-map}
+use Rattle.std.proofs.lemmas.Option.{same_Some}
 use Rattle.obs_graph.specs.declared.Ends.{Ends}
 use Rattle.obs_graph.specs.Positions.{positions_from}
 use Rattle.obs_graph.specs.Graph.{Graph}
@@ -119,9 +120,6 @@ present_component t e (Some x) same s = refl
 pub branch_in : (t : Tables) (e : ℕ) → IsSome (slice_index_or (case_branches t) e None) → component_of_branch (network_of t) e ≡ Some (branch_component t e)
 branch_in t e s = present_component t e (get_or (case_branches t) e None) refl s
 
-same_some : (c d : ℕ) → Some c ≡ Some d → c ≡ d
-same_some c d e = cc e
-
 -- the live meters of a component are those that touch one of its branches
 pub live_meters-touch : (t : Tables) → IsValid t → (c m : ℕ)
     → In m (live_meters_of (network_of t) c) ↔ (e : ℕ) × In e (touch_at (case_branches t) (case_meters t) m) × (component_of_branch (network_of t) e ≡ Some c)
@@ -134,7 +132,7 @@ live_meters-touch t v c m = (
       (b.0, b.1, branch_in t b.0 there ∙ ap (λ (k : ℕ). Some k) same)),
   (λ b.
       let there = touched-present (case_branches t) (slice_index_or (case_meters t) m Nothing) b.0 b.1 in
-      let same : branch_component t b.0 ≡ c = same_some (branch_component t b.0) c (sym (branch_in t b.0 there) ∙ b.2) in
+      let same : branch_component t b.0 ≡ c = same_Some (branch_component t b.0) c (sym (branch_in t b.0 there) ∙ b.2) in
       let home : item_component t (case_meters t) m ≡ c = sym (touched_component t v (case_meters t) m b.0 b.1) ∙ same in
       In-filter (is_meter_in (network_of t) c) m (case_live_meters t) (live_in t m (live-from_In (case_branches t) (case_meters t) m b.0 b.1)) (eq-eqb (item_component t (case_meters t) m) c home)),
 )
@@ -167,7 +165,7 @@ fed_from t v e c (Some x) h same = refl
 pub component_with_branch : (t : Tables) → IsValid t → (e c : ℕ) → component_of_branch (network_of t) e ≡ Some c → (c < case_component_count t) × (is_energised_component t c ≡ true)
 component_with_branch t v e c h =
     let there : IsSome (slice_index_or (case_branches t) e None) = fed_from t v e c (get_or (case_branches t) e None) refl h in
-    let same : branch_component t e ≡ c = same_some (branch_component t e) c (sym (branch_in t e there) ∙ h) in
+    let same : branch_component t e ≡ c = same_Some (branch_component t e) c (sym (branch_in t e there) ∙ h) in
     let low = branch_component-below t v e there in
     (omega (arith, low, same), sym (ap (is_energised_component t) same) ∙ present_energised t e there)
 

@@ -5,7 +5,7 @@ use Rattle.obs_graph.specs.declared.Ends.{Ends}
 use Rattle.obs_graph.specs.Joined.{Chain}
 use Rattle.obs_switch.specs.declared.link.Link.{Link}
 use Rattle.obs_switch.specs.Buses.{ends_of_links}
-use Rattle.obs_switch.proofs.FirstNodes.{bus_of-below, bus_of-order, same_first-from_same_bus, bus_at, numbered_next, counted_first, counted_other, bus_count-le, one_bus}
+use Rattle.obs_switch.proofs.FirstNodes.{bus_of-below, bus_of-order, bus_at, numbered_next, counted_first, counted_other, bus_count-le, one_bus}
 use Rattle.obs_network.specs.Components.{component_count, component_of, components_of, first_bus}
 
 -- the branches as links
@@ -23,9 +23,6 @@ component_of-below n live b l = subst (λ es. component_of es b < component_coun
 
 pub component_of-order : (live : List Ends) (b c : ℕ) → first_bus live b < first_bus live c → component_of live b < component_of live c
 component_of-order live b c = subst (λ es. first_bus es b < first_bus es c → component_of es b < component_of es c) (same_ends live) (bus_of-order (links_of live) b c)
-
-pub same_first-from_same_component : (live : List Ends) (b c : ℕ) → component_of live b ≡ component_of live c → first_bus live b ≡ first_bus live c
-same_first-from_same_component live b c = subst (λ es. component_of es b ≡ component_of es c → first_bus es b ≡ first_bus es c) (same_ends live) (same_first-from_same_bus (links_of live) b c)
 
 pub one_component : (live : List Ends) (b c : ℕ) → (component_of live b ≡ component_of live c) ↔ Chain live b c
 one_component live b c = subst (λ es. (component_of es b ≡ component_of es c) ↔ Chain es b c) (same_ends live) (one_bus (links_of live) b c)

@@ -8,14 +8,14 @@ use Rattle.std.proofs.lemmas.List.Sums.{length-filter}
 use Rattle.obs_graph.specs.Positions.{present, sum_below}
 use Rattle.obs_case.specs.Tables.{Tables, IsValid}
 use Rattle.obs_matroid.specs.Lists.{In, IsDistinct}
-use Rattle.obs_matroid.specs.Matroid.{Matroid, IsMatroid, IsIndependent}
+use Rattle.obs_matroid.specs.Matroid.{IsMatroid, IsIndependent}
 use Rattle.obs_matroid.specs.Assignments.{Pair, branches, items}
 use Rattle.obs_matroid.proofs.Lists.{In-filter, In-filter_from, In-append_cases, IsDistinct-append, IsDistinct-filter}
 use Rattle.obs_matroid.proofs.Bounds.{length-branches}
+use Rattle.obs_matroid.proofs.Components.{free_together}
 use Rattle.obs_matroid.proofs.Order.{independent_within}
 use Rattle.obs_matroid.proofs.Pairs.{In-branches_from, In-items_from, IsDistinct-filter_items}
 use Rattle.obs_matroid.proofs.Pieces.{firsts}
-use Rattle.obs_matroid.proofs.Spans.{spans_more}
 use Rattle.obs_matroid.proofs.Ranges.{range_distinct, range_in}
 use Rattle.obs_meter.specs.declared.Touch.{Touch}
 use Rattle.obs_meter.specs.declared.Touch.TheVariants.{Nothing}
@@ -75,9 +75,6 @@ some_long [] x i = absurd i
 some_long (y ∷ ys) x i = omega arith
 
 module _ (t : Tables) (v : IsValid t) where
-  graph : Matroid
-  graph = graph_matroid (case_bus_count t) (case_branches t)
-
   laws : IsMatroid (graph_matroid (case_bus_count t) (case_branches t))
   laws = IsMatroid-graph (case_bus_count t) (case_branches t) (case_branches-are t v)
 
@@ -148,31 +145,6 @@ module _ (t : Tables) (v : IsValid t) where
       let same = sum_below-same (λ k. length (pairs_in t k A)) need_at (case_component_count t) (few_at touches M A a) (sym (split_pairs touches M A a) ∙ long) c l in
       record { pairs = A; assigns = a; enough = same ∙ cond-true (is_energised_component t c) (need_of (case_sizes t) c) 0 fed }
 
-  -- independent branches of different components are independent together
-  alone : (k e : ℕ) (L K : List ℕ) → branch_component t e ≡ k → ((x : ℕ) → In x K → branch_component t x ≡ k → ⊥)
-      → (graph_matroid (case_bus_count t) (case_branches t)).spans L e ≡ false → (graph_matroid (case_bus_count t) (case_branches t)).spans (L ++ K) e ≡ false
-  alone k e L K own other free =
-      let g = graph_matroid (case_bus_count t) (case_branches t) in
-      let same : ℕ → Bool = λ x. branch_component t x == branch_component t e in
-      elim (cases_Bool (g.spans (L ++ K) e)) [
-        | inl s ↦
-            let less = spans_more g laws (filter same (L ++ K)) L e
-            (λ x i.
-            let u = In-filter_from same x (L ++ K) i in
-            elim (In-append_cases x L K u.0) [
-              | inl here ↦ here
-              | inr there ↦ absurd (other x there (eqb-true (branch_component t x) (branch_component t e) u.1 ∙ own))
-            ])
-            (kinds_sum t v (L ++ K) e s) in
-            absurd (cc (less, free))
-        | inr s ↦ s
-      ]
-
-  together : (k : ℕ) (L K : List ℕ) → IsIndependent (graph_matroid (case_bus_count t) (case_branches t)) L → IsIndependent (graph_matroid (case_bus_count t) (case_branches t)) K
-      → ((e : ℕ) → In e L → branch_component t e ≡ k) → ((e : ℕ) → In e K → branch_component t e ≡ k → ⊥) → IsIndependent (graph_matroid (case_bus_count t) (case_branches t)) (L ++ K)
-  together k [] K i j own other = j
-  together k (e ∷ L) K i j own other = (alone k e L K (own e (inl refl)) other i.0, together k L K i.1 j (λ x h. own x (inr h)) other)
-
   -- pairs of the components below k, as many as these need
   record Built (k : ℕ) : Type 0 where
     built : List Pair
@@ -195,7 +167,7 @@ module _ (t : Tables) (v : IsValid t) where
       let y = to_matroid n ends touches M b.built b.assigns in
       let different = IsDistinct-filter_items q o.pairs o.assigns.different in
       let free = independent_within (graph_matroid n ends) laws o.pairs P x.independent o.assigns.different different from in
-      let all : IsIndependent (graph_matroid n ends) (branches P ++ branches b.built) = together k (branches P) (branches b.built) free y.independent
+      let all : IsIndependent (graph_matroid n ends) (branches P ++ branches b.built) = free_together (graph_matroid n ends) laws (branch_component t) (kinds_sum t v) k (branches P) (branches b.built) free y.independent
       (λ e i. let w = In-branches_from P e i in ap (branch_component t) w.2 ∙ kind w.0 w.1)
       (λ e i own. let w = In-branches_from b.built e i in let low = b.below w.0 w.1 in omega (arith, low, ap (branch_component t) w.2, own)) in
       let cases : (p : Pair) → In p (P ++ b.built) → In p P ⊎ In p b.built = λ p i. In-append_cases p P b.built i in

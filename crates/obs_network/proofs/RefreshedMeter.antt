@@ -98,7 +98,7 @@ meter_edited n m changed before low =
 -- the lists of meters, where one of them moved to the list of what it touches now
 pub lists-set : (components : Components) (graph : Graph) (meters after : Meters) (m : ℕ) (touch kind : Touch) → m < length meters.touches → after ≡ record meters { touches = set meters.touches m touch } → kind ≡ get_or after.touches m Nothing
     → (old new : List ℕ) → old ≡ lists_of components graph meters → new ≡ set old m (list_of (length components.first_buses) (touch_component components.of_buses graph.ends kind)) → new ≡ lists_of components graph after
-lists-set components graph meters after m touch kind low is is_kind old new was made =
+lists-set components graph meters changed m touch kind low is is_kind old new was made =
     let list : Touch → ℕ = λ t. list_of (length components.first_buses) (touch_component components.of_buses graph.ends t) in
     let same : kind ≡ touch = is_kind ∙ ap (λ (i : Meters). get_or i.touches m Nothing) is ∙ get_or-set_same meters.touches m touch Nothing low in
     made ∙ ap (λ k. set old m (list k)) same ∙ ap (λ l. set l m (list touch)) was ∙ sym (map-set list meters.touches m touch) ∙ ap (λ (i : Meters). lists_of components graph i) (sym is)

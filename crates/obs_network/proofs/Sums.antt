@@ -3,7 +3,7 @@ use Rattle.std.proofs.Common.{◌≡◌, ℕ, zero, suc, ◌<◌, ◌≤◌, Boo
 use Rattle.std.specs.Prelude.{cond, ◌==◌}
 use Rattle.std.proofs.lemmas.Bool.{cases_eq, eq-eqb, ne_eqb}
 use Rattle.obs_graph.specs.Positions.{sum_below}
-use Rattle.obs_graph.proofs.FlatParts.{sum_below-agree}
+use Rattle.obs_graph.proofs.FlatParts.{sum_below-agree, sum_below-zero}
 use Rattle.obs_matroid.specs.Lists.{In}
 
 pub sum_below-le : (f g : ℕ → ℕ) (n : ℕ) → ((c : ℕ) → c < n → f c ≤ g c) → sum_below f n ≤ sum_below g n
@@ -24,10 +24,6 @@ sum_below-same f g (suc n) h e c l =
       | inr other ↦ sum_below-same f g n (λ k m. h k (omega arith)) (omega (arith, rest, here, e)) c (omega arith)
     ]
 
-sum_of_none : (n : ℕ) → sum_below (λ c. 0) n ≡ 0
-sum_of_none zero = refl
-sum_of_none (suc n) = omega (arith, sum_of_none n)
-
 -- one term is greater by one
 one_more : (h : ℕ → ℕ) (m n : ℕ) → m < n → sum_below (λ c. cond (m == c) (suc (h c)) (h c)) n ≡ suc (sum_below h n)
 one_more h m zero l = absurd (omega arith)
@@ -47,7 +43,7 @@ length_cond false x xs = refl
 
 -- a list is as long as its parts by number are together
 pub split_by : {X : Type 0} (f : X → ℕ) (n : ℕ) (xs : List X) → ((x : X) → In x xs → f x < n) → length xs ≡ sum_below (λ c. length (filter (λ x. f x == c) xs)) n
-split_by {X} f n [] h = sym (sum_of_none n)
+split_by {X} f n [] h = sym (sum_below-zero n)
 split_by {X} f n (x ∷ xs) h =
     let part : ℕ → ℕ = λ c. length (filter (λ (y : X). f y == c) xs) in
     ap suc (split_by f n xs (λ y i. h y (inr i)))

@@ -1,5 +1,5 @@
 // The laws of networks.
-ghost use Rattle.std.specs.Prelude.{◌≡◌, ◌↔◌, ◌⊎◌, ◌<◌, ◌≤◌, ◌+◌, ℕ, Bool, true, false, List, Option, Some, None, [], IsTrue, Contains, length, filter, sum_by, slice_index, slice_index_or, slice_set};
+ghost use Rattle.std.specs.Prelude.{◌≡◌, ◌↔◌, ◌⊎◌, ◌<◌, ◌≤◌, ◌+◌, ℕ, Bool, true, false, List, Some, None, [], IsTrue, Contains, length, filter, sum_by, slice_index, slice_index_or, slice_set};
 ghost use Rattle.std.specs.List.{range_with_len};
 ghost use Rattle.obs_graph.specs.declared.Ends.{Ends};
 ghost use Rattle.obs_graph.specs.Joined.{is_joined};
@@ -20,7 +20,7 @@ ghost use Rattle.obs_meter.specs.Touches.{AreInRange, touch_at};
 ghost use Rattle.obs_network.specs.Switched.{case_bus_count};
 ghost use Rattle.obs_network.specs.Components.{AreOneComponent, component_count, component_of, components_of, first_bus, first_buses_of, is_energised, need_of, needed_of, sizes_of, source_nodes};
 ghost use Rattle.obs_network.specs.Located.{component_of_branch, component_of_item, live_meters_of};
-ghost use Rattle.obs_network.specs.Network.{Network, case_branches, case_component_count, case_components, case_live, case_meters, case_needed, case_offered, case_sizes, network_of, rows_of};
+ghost use Rattle.obs_network.specs.Network.{Network, case_branches, case_component_count, case_components, case_live, case_meters, case_needed, case_offered, network_of, rows_of};
 ghost use Rattle.obs_network.specs.Edited.{AreKept, AreMerged, ArePresent};
 ghost use Rattle.obs_network.specs.Observable.{IsObservableCase, branch_component, case_live_meters, is_energised_component, item_component};
 

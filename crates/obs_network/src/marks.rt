@@ -1,9 +1,9 @@
 // What is known of each component, and of all, by one pass over the buses, the nodes or the components.
-ghost use Rattle.std.specs.Prelude.{◌≡◌, ◌≢◌, ◌<◌, ◌≤◌, ◌^◌, ◌+◌, ◌*◌, ℕ, All, count_by, ◌==◌, length, slice_index, take, false, slice_index_or, IfSome};
+ghost use Rattle.std.specs.Prelude.{◌≡◌, ◌≢◌, ◌<◌, ◌≤◌, ◌^◌, ℕ, All, length, slice_index, take, IfSome};
 ghost use Rattle.obs_graph.specs.Positions.{present};
 ghost use Rattle.obs_case.specs.Tables.{most_rows};
 ghost use Rattle.obs_graph.specs.Joined.{first_joined};
-ghost use Rattle.obs_network.specs.Components.{component_count, component_of, components_of, energised_branches, energised_of, first_buses_of, if_energised, is_energised, needed_of, sizes_of};
+ghost use Rattle.obs_network.specs.Components.{component_count, components_of, energised_branches, energised_of, first_buses_of, if_energised, needed_of, sizes_of};
 
 use obs_case::Node;
 use obs_graph::Ends;

@@ -1,9 +1,6 @@
 // The network of a case.
-ghost use Rattle.std.specs.Prelude.{◌≡◌, ◌-◌, ◌<◌, ◌≤◌, ◌^◌, ◌+◌, [], ℕ, All, IfOk, IfSome, IsTrue, length, slice_index, slice_index_or, take, false};
-ghost use Rattle.obs_graph.specs.Positions.{AreBranches};
-ghost use Rattle.obs_switch.specs.Buses.{LinksBelow};
+ghost use Rattle.std.specs.Prelude.{◌≡◌, ◌-◌, ◌<◌, All, IfOk, IfSome, IsTrue, length, slice_index, slice_index_or, false};
 ghost use Rattle.obs_meter.specs.Touches.{AreInRange};
-ghost use Rattle.obs_network.specs.Switched.{case_bus_count, case_buses, closed_links};
 ghost use Rattle.obs_network.specs.Components.{need_of};
 ghost use Rattle.obs_network.specs.Edited.{IsBeforeMeter};
 ghost use Rattle.obs_network.specs.Located.{component_of_branch, component_of_item, live_meters_of};
@@ -24,8 +21,8 @@ use obs_switch::{Buses, Link};
 use std::alloc::Global;
 use std::marker::Model;
 
-/// The network of a case: its buses, its components, the graph of the live branches that are fed, and
-/// what its items touch there. It keeps the numbers of rows of the case that it was made for.
+/// The network of a case: its buses, its components, the graph of the live branches of energised
+/// components, and what its items touch there. It keeps the numbers of rows of the case that it was made for.
 pub struct Network {
     buses: Buses,
     components: Components,

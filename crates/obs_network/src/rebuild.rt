@@ -1,7 +1,6 @@
 // The parts of the network of a case, made anew one after another.
-ghost use Rattle.std.specs.Prelude.{◌≡◌, ◌-◌, ◌<◌, ◌≤◌, ◌^◌, ◌+◌, ℕ, All, IsTrue, length, slice_index_or, slice_set, take};
+ghost use Rattle.std.specs.Prelude.{◌≡◌, ◌<◌, ◌≤◌, ◌+◌, IsTrue, length, slice_index_or, slice_set, take};
 ghost use Rattle.obs_graph.specs.Search.{room_of};
-ghost use Rattle.obs_switch.specs.Buses.{LinksBelow};
 ghost use Rattle.obs_network.specs.Switched.{case_bus_count, case_buses, closed_links};
 ghost use Rattle.obs_network.specs.Network.{case_branches, case_components, case_energised, case_first_buses, case_live, case_meters, case_offered, case_sizes};
 

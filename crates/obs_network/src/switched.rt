@@ -1,5 +1,5 @@
 // The buses of a case.
-ghost use Rattle.std.specs.Prelude.{◌≡◌, ◌<◌, ◌≤◌, ◌++◌, ◌∷◌, All, IfOk, OnOk, length, if◌then◌else◌};
+ghost use Rattle.std.specs.Prelude.{◌≡◌, ◌<◌, All, IfOk};
 ghost use Rattle.obs_switch.specs.Buses.{LinksBelow};
 ghost use Rattle.obs_network.specs.Switched.{case_bus_count, case_buses, closed_links};
 

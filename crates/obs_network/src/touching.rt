@@ -1,6 +1,6 @@
 // What the items of a case touch.
-ghost use Rattle.std.specs.Prelude.{◌≡◌, ◌<◌, ◌+◌, ◌≢◌, ℕ, All, length, take, map};
-ghost use Rattle.obs_network.specs.Touching.{candidate_touch, meter_touch, meter_touches, offered_touches, touch_of};
+ghost use Rattle.std.specs.Prelude.{◌≡◌, ◌<◌, ◌≢◌, All, length, map};
+ghost use Rattle.obs_network.specs.Touching.{candidate_touch, meter_touch, meter_touches, touch_of};
 
 use obs_case::{Candidate, Kind, Meter};
 use obs_meter::Touch;

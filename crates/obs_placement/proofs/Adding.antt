@@ -1,15 +1,16 @@
 -- The items that a layer adds are listed after those of the layers before it.
-use Rattle.std.proofs.Common.{◌≡◌, ℕ, zero, suc, ◌+◌, ◌-◌, ◌<◌, ◌≤◌, ◌&&◌, Bool, true, false, not, List, [], ◌∷◌, ◌++◌, length, set, take, refl, sym, ap, ◌∙◌, arith, append_assoc, inl, inr, ltb}
+use Rattle.std.proofs.Common.{◌≡◌, ℕ, ◌+◌, ◌-◌, ◌<◌, ◌≤◌, ◌&&◌, Bool, true, false, not, List, [], ◌∷◌, ◌++◌, length, set, take, refl, sym, ap, ◌∙◌, arith, inl, inr, ltb}
 use Rattle.std.specs.Prelude.{filter}
 use Rattle.std.specs.List.{range_with_len}
+use Rattle.std.proofs.lemmas.List.FromFn.{length-range_with_len}
 use Rattle.std.proofs.lemmas.Bool.{cases_Bool, cases_lt, le-ltb, lt-ltb}
-use Rattle.std.proofs.lemmas.List.{append-nil, length-set, take_more_set}
+use Rattle.std.proofs.lemmas.List.{length-set}
 use Rattle.obs_graph.specs.Graph.{Graph}
 use Rattle.obs_matroid.proofs.Lists.{filter_same, length-split}
+use Rattle.obs_matroid.proofs.Ranges.{later, later_listed, later_over, listed_more}
 use Rattle.obs_meter.specs.declared.Touch.{Touch}
 use Rattle.obs_placement.specs.Layers.{added_items, count_known, is_added}
 use Rattle.obs_placement.specs.Taking.{AreKnown, is_listed_at, never, since_at}
-use Rattle.obs_placement.proofs.Listing.{later, later_next}
 
 module _ (since : List ℕ) where
   abbrev n : ℕ
@@ -29,14 +30,10 @@ module _ (since : List ℕ) where
         ]
       ]
 
-  range_length : (a k : ℕ) → length (range_with_len a k) ≡ k
-  range_length a zero = refl
-  range_length a (suc k) = ap suc (range_length (a + 1) k)
-
   pub known_most : (t : ℕ) → count_known since t ≤ n
   known_most t =
       let s = length-split (λ m. ltb (since_at since m) t) (range_with_len 0 n) in
-      let k = range_length 0 n in
+      let k = length-range_with_len 0 n in
       omega (arith, s, k)
 
   pub known_split : (f t : ℕ) → f ≤ t → count_known since t ≡ count_known since f + length (filter (is_added since f t) (range_with_len 0 n))
@@ -63,35 +60,23 @@ module _ (since : List ℕ) where
     module _ (inside : List ℕ) (count i : ℕ) (h : IsAdding inside count i) (low : i < n) where
       pub IsAdding-over : is_added since f t i ≡ false → IsAdding inside count (i + 1)
       IsAdding-over e =
-          let rest : filter (is_added since f t) (later n i) ≡ filter (is_added since f t) (later n (i + 1)) = rw (later_next n i low, e) refl in
+          let rest = later_over (is_added since f t) n i low e in
           record { size = h.size; lists = rw (← rest) h.lists; counts = rw (← rest) h.counts }
 
-      more : is_added since f t i ≡ true → filter (is_added since f t) (later n i) ≡ i ∷ filter (is_added since f t) (later n (i + 1))
-      more e = rw (later_next n i low, e) refl
-
       pub IsAdding-room : n ≤ length before → is_added since f t i ≡ true → count < length inside
-      IsAdding-room room e = let r = ap length (more e) in let c = h.counts in let k = known_most t in let s = h.size in omega (arith, r, c, k, s, room)
+      IsAdding-room room e = let r = ap length (later_listed (is_added since f t) n i low e) in let c = h.counts in let k = known_most t in let s = h.size in omega (arith, r, c, k, s, room)
 
       pub IsAdding-more : n ≤ length before → is_added since f t i ≡ true → IsAdding (set inside count i) (count + 1) (i + 1)
       IsAdding-more room e =
-          let r = ap length (more e) in
+          let more = later_listed (is_added since f t) n i low e in
+          let r = ap length more in
           let c = h.counts in record {
             size = length-set inside count i ∙ h.size;
             lists =
-                ap (λ xs. xs ++ filter (is_added since f t) (later n (i + 1))) (take_more_set inside count i (IsAdding-room room e))
-                ∙ (append_assoc (take count inside) (i ∷ []) (filter (is_added since f t) (later n (i + 1))) ∙ (ap (λ xs. take count inside ++ xs) (sym (more e)) ∙ h.lists));
+                listed_more inside count i (filter (is_added since f t) (later n (i + 1))) (take upto before ++ filter (is_added since f t) (range_with_len 0 n)) (IsAdding-room room e)
+                (ap (λ xs. take count inside ++ xs) (sym more) ∙ h.lists);
             counts = omega (arith, r, c);
           }
-
-    module _ (inside : List ℕ) (count i : ℕ) (h : IsAdding inside count i) (end : n ≤ i) where
-      none : later n i ≡ []
-      none = let e : n - i ≡ 0 = omega (arith, end) in ap (range_with_len i) e
-
-      pub IsAdding-list : take count inside ≡ take upto before ++ filter (is_added since f t) (range_with_len 0 n)
-      IsAdding-list = sym (append-nil (take count inside)) ∙ (ap (λ xs. take count inside ++ filter (is_added since f t) xs) (sym none) ∙ h.lists)
-
-      pub IsAdding-count : count ≡ count_known since t
-      IsAdding-count = let e = ap (λ xs. length (filter (is_added since f t) xs)) none in let c = h.counts in omega (arith, e, c)
 
 and_swap : (a b : Bool) → (a && b) ≡ (b && a)
 and_swap a b = elim (cases_Bool a) [

@@ -2,7 +2,7 @@
 use Rattle.std.proofs.Common.{◌≡◌, ℕ, ◌+◌, ◌≤◌, ◌<◌, Bool, true, false, ◌||◌, ◌&&◌, not, List, [], ◌∷◌, length, get_or, set, refl, sym, ap, ◌∙◌, inl, inr, arith, subst, eqb, ltb, get_or-set_same, get_or-set_other}
 use Rattle.std.specs.Prelude.{nat_lt}
 use Rattle.std.specs.Cmp.Derive.{one_truth}
-use Rattle.std.proofs.lemmas.Bool.{cases_Bool, cases_eq, cases_lt, and_parts, and_from, lt-ltb, le-ltb, ltb-true, not-true}
+use Rattle.std.proofs.lemmas.Bool.{cases_Bool, cases_eq, cases_lt, and_parts, and_from, lt-ltb, le-ltb, ltb-false, ltb-true, not-true}
 use Rattle.std.proofs.lemmas.Bool.Decides.{nat_tests}
 use Rattle.std.proofs.lemmas.List.{length-set}
 use Rattle.obs_graph.specs.Positions.{AreBranches}
@@ -30,9 +30,6 @@ earlier_cheap p q a b = grind (arith, nat_tests)
 
 pub earlier_not_both : (p q a b : ℕ) → (ltb p q || (eqb p q && ltb a b)) ≡ true → (ltb q p || (eqb q p && ltb b a)) ≡ true → ⊥
 earlier_not_both p q a b h k = absurd (grind (arith, nat_tests, h, k))
-
-not_below : (s t : ℕ) → ltb s t ≡ false → t ≤ s
-not_below s t f = elim (cases_lt s t) [ inl l ↦ clash (lt-ltb s t l) f | inr l ↦ l ]
 
 -- an idle item is not chosen
 pub idle_chosen : (g : Graph) (touches : List Touch) (price : ℕ → ℕ) (c : ℕ) → is_live g.ends touches c ≡ false → is_chosen g.vertices g.ends touches price c ≡ false
@@ -203,7 +200,7 @@ module _ (g : Graph) (touches : List Touch) (price : ℕ → ℕ) (keys : List (
         | inl l ↦
             let same : nat_lt (since_at after m) t ≡ is_known after m = elim (cases_Bool (is_known after m)) [
               | inl y ↦ let v = reached_after m y in let d = dear v.0 v.1 in let e = v.2 in lt-ltb (since_at after m) t (omega (arith, d, e, l)) ∙ sym y
-              | inr f ↦ le-ltb (since_at after m) t (let n = not_below (since_at after m) never f in omega (arith, n, tl)) ∙ sym f
+              | inr f ↦ le-ltb (since_at after m) t (let n = ltb-false (since_at after m) never f in omega (arith, n, tl)) ∙ sym f
             ] in
             same ∙ known_own t b after (taken (scope_of g.ends touches price t) (scope_first t l h)) m
         | inr l ↦

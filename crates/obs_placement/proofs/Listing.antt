@@ -1,10 +1,10 @@
 -- The chosen candidates are listed, and what they cost is added up.
-use Rattle.std.proofs.Common.{◌≡◌, ℕ, suc, ◌+◌, ◌-◌, ◌*◌, ◌<◌, ◌≤◌, Bool, true, false, List, [], ◌∷◌, ◌++◌, length, get_or, set, take, refl, sym, ap, ◌∙◌, arith, append_assoc, All, inl, inr, subst, replicate}
+use Rattle.std.proofs.Common.{◌≡◌, ℕ, ◌+◌, ◌-◌, ◌*◌, ◌<◌, ◌≤◌, Bool, true, false, List, [], ◌++◌, length, get_or, set, take, sym, ap, ◌∙◌, arith, All, inl, inr, subst, replicate}
 use Rattle.std.specs.Prelude.{filter}
 use Rattle.std.specs.List.{range_with_len}
 use Rattle.std.proofs.lemmas.Bool.{and_parts, cases_Bool, cases_lt, le-ltb, lt-ltb}
 use Rattle.std.proofs.lemmas.List.Sums.{sum_by-cons}
-use Rattle.std.proofs.lemmas.List.{append-nil, get_or-replicate, get_or_past, length-replicate, take_more_set}
+use Rattle.std.proofs.lemmas.List.{get_or-replicate, get_or_past, length-replicate}
 use Rattle.obs_graph.specs.Graph.{Graph}
 use Rattle.obs_graph.specs.Positions.{AreBranches}
 use Rattle.obs_matroid.specs.Lists.{In}
@@ -14,7 +14,7 @@ use Rattle.obs_matroid.specs.Values.{rho_of}
 use Rattle.obs_matroid.proofs.Computed.{rho_of_is}
 use Rattle.obs_matroid.proofs.Critical.{rho_same}
 use Rattle.obs_matroid.proofs.Lists.{In-filter, filter_same}
-use Rattle.obs_matroid.proofs.Ranges.{below_from, range_in}
+use Rattle.obs_matroid.proofs.Ranges.{below_from, later, later_listed, later_over, listed_more, range_in}
 use Rattle.obs_meter.specs.declared.Touch.{Touch}
 use Rattle.obs_meter.specs.Assignments.{rho_at}
 use Rattle.obs_meter.specs.Spanned.{graph_matroid}
@@ -31,13 +31,6 @@ use Rattle.obs_placement.specs.Taking.{AreTaken, IsStanding, is_known, is_raised
 use Rattle.obs_placement.proofs.Taken.{IsTaken-rho}
 use Rattle.obs_exchange.proofs.AtGraph.{live_low}
 
--- the numbers from i on, below n
-abbrev pub later : ℕ → ℕ → List ℕ
-later n i = range_with_len i (n - i)
-
-pub later_next : (n i : ℕ) → i < n → later n i ≡ i ∷ later n (i + 1)
-later_next n i l = let e : n - i ≡ suc (n - (i + 1)) = omega arith in ap (range_with_len i) e
-
 module _ (passes : ℕ → Bool) (prices : List ℕ) where
   -- of the candidates before i those that pass are listed, with their cost
   pub record AreListed (list : List ℕ) (count cost i : ℕ) : Type 0 where
@@ -46,18 +39,10 @@ module _ (passes : ℕ → Bool) (prices : List ℕ) where
     pub costs : cost + cost_of prices (filter passes (later (length prices) i)) ≡ cost_of prices (filter passes (range_with_len 0 (length prices)))
     pub cheap : cost ≤ i * most_price
 
-  pub AreListed-begun : (list : List ℕ) → AreListed list 0 0 0
-  AreListed-begun list = record {
-    bound = omega arith;
-    lists = let e : length prices - 0 ≡ length prices = omega arith in ap (λ k. filter passes (range_with_len 0 k)) e;
-    costs = let e : length prices - 0 ≡ length prices = omega arith in let k = ap (λ k. cost_of prices (filter passes (range_with_len 0 k))) e in omega (arith, k);
-    cheap = omega arith;
-  }
-
   module _ (list : List ℕ) (count cost i : ℕ) (h : AreListed list count cost i) where
     pub AreListed-over : i < length prices → passes i ≡ false → AreListed list count cost (i + 1)
     AreListed-over low f =
-        let rest : filter passes (later (length prices) i) ≡ filter passes (later (length prices) (i + 1)) = rw (later_next (length prices) i low, f) refl in
+        let rest = later_over passes (length prices) i low f in
         record {
           bound = let b = h.bound in omega arith;
           lists = rw (← rest) h.lists;
@@ -69,28 +54,16 @@ module _ (passes : ℕ → Bool) (prices : List ℕ) where
         → AreListed (set list count i) (count + 1) (cost + get_or prices i 0) (i + 1)
     AreListed-more low long t dear =
         let b = h.bound in
-        let more : take (count + 1) (set list count i) ≡ take count list ++ i ∷ [] = take_more_set list count i (omega arith) in
-        let rest : filter passes (later (length prices) i) ≡ i ∷ filter passes (later (length prices) (i + 1)) = rw (later_next (length prices) i low, t) refl in
+        let rest = later_listed passes (length prices) i low t in
         let k : cost_of prices (filter passes (later (length prices) i)) ≡ get_or prices i 0 + cost_of prices (filter passes (later (length prices) (i + 1))) = ap (cost_of prices) rest ∙ sum_by-cons (λ k. get_or prices k 0) i (filter passes (later (length prices) (i + 1))) in
         let s = h.costs in
         let m = h.cheap in
         record {
           bound = omega arith;
-          lists =
-              ap (λ xs. xs ++ filter passes (later (length prices) (i + 1))) more
-              ∙ (append_assoc (take count list) (i ∷ []) (filter passes (later (length prices) (i + 1))) ∙ (ap (λ xs. take count list ++ xs) (sym rest) ∙ h.lists));
+          lists = listed_more list count i (filter passes (later (length prices) (i + 1))) (filter passes (range_with_len 0 (length prices))) (omega arith) (ap (λ xs. take count list ++ xs) (sym rest) ∙ h.lists);
           costs = omega (arith, k, s);
           cheap = omega (arith, m, dear);
         }
-
-    pub AreListed-ended : length prices ≤ i → i ≤ length prices → (take count list ≡ filter passes (range_with_len 0 (length prices))) × (cost ≡ cost_of prices (filter passes (range_with_len 0 (length prices))))
-    AreListed-ended end most =
-        let none : later (length prices) i ≡ [] = let e : length prices - i ≡ 0 = omega arith in ap (range_with_len i) e in
-        let k = ap (λ xs. cost_of prices (filter passes xs)) none in
-        let s = h.costs in (
-          sym (append-nil (take count list)) ∙ (ap (λ xs. take count list ++ filter passes xs) (sym none) ∙ h.lists),
-          omega (arith, k, s),
-        )
 
 -- each price is below the one that says that an item isn't known
 pub cheap_price : (meters : ℕ) (prices : List ℕ) → All (λ p. p ≤ most_price) prices → (m : ℕ) → price_of meters prices m < never

@@ -1,8 +1,6 @@
 -- Flags of the items of a price, and what is measured by them.
-use Rattle.std.proofs.Common.{◌≡◌, ℕ, ◌+◌, ◌≤◌, ◌<◌, Bool, false, not, List, length, set, ap, ◌∙◌, inl, inr, arith, ltb, get_or, get_or-set_same, get_or-set_other}
+use Rattle.std.proofs.Common.{◌≡◌, ℕ, ◌≤◌, ◌<◌, Bool, not, List, length, ap, ◌∙◌, ltb}
 use Rattle.std.specs.Prelude.{filter, flat_map}
-use Rattle.std.proofs.lemmas.Bool.{cases_eq}
-use Rattle.std.proofs.lemmas.List.{get_or_default, length-set}
 use Rattle.obs_graph.specs.Graph.{Graph}
 use Rattle.obs_matroid.specs.Lists.{In}
 use Rattle.obs_matroid.proofs.Lists.{In-filter_from, filter_same}
@@ -19,18 +17,6 @@ use Rattle.obs_placement.specs.Taking.{AreKnown, is_below, is_listed_at, never, 
 pub record AreTested (P : ℕ → Bool) (n i : ℕ) (flags : List Bool) : Type 0 where
   pub count : length flags ≡ n
   pub is : (m : ℕ) → m < i → marked flags m ≡ P m
-
-pub AreTested-more : (P : ℕ → Bool) (n i : ℕ) (b : Bool) (flags : List Bool) → i < n → b ≡ P i → AreTested P n i flags → AreTested P n (i + 1) (set flags i b)
-AreTested-more P n i b flags l e h = let c = h.count in record {
-  count = length-set flags i b ∙ h.count;
-  is = λ m k. elim (cases_eq m i) [
-    | inl w ↦ rw (w, get_or-set_same flags i b false (omega (arith, l, c))) e
-    | inr w ↦ get_or-set_other flags i m b false w ∙ h.is m (omega (arith, k, w))
-  ];
-}
-
-pub since_same : (since : List ℕ) (m t d : ℕ) → m < length since → ltb (get_or since m d) t ≡ ltb (since_at since m) t
-since_same since m t d l = ap (λ (s : ℕ). ltb s t) (get_or_default since m d never l)
 
 module _ (g : Graph) (touches : List Touch) (price : ℕ → ℕ) (since : List ℕ) (t : ℕ) (marks scope : List Bool) (known : AreKnown g touches price since) (high : t ≤ never)
     (marks_are : (m : ℕ) → m < length touches → marked marks m ≡ ltb (since_at since m) t) (scope_is : (m : ℕ) → m < length touches → marked scope m ≡ is_below price t m) where

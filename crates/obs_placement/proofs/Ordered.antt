@@ -1,10 +1,10 @@
 -- Items in the order of their prices and numbers.
-use Rattle.std.proofs.Common.{◌≡◌, ℕ, ◌+◌, ◌<◌, true, false, ◌||◌, ◌&&◌, List, length, get_or, set, sym, ap, ◌∙◌, inl, inr, arith, IsPermutation, IsSorted, Ordering, nat_cmp, is_lt, eqb, ltb, subst, get_or-set_same, get_or-set_other}
+use Rattle.std.proofs.Common.{◌≡◌, ℕ, ◌<◌, true, false, ◌||◌, ◌&&◌, List, length, get_or, sym, ap, ◌∙◌, arith, IsPermutation, IsSorted, Ordering, nat_cmp, is_lt, eqb, ltb, subst}
 use Rattle.std.specs.Ordering.{ordering_then}
 use Rattle.std.specs.Cmp.{IsTotalOrder}
-use Rattle.std.proofs.lemmas.List.{get_or_default, length-set}
+use Rattle.std.proofs.lemmas.List.{get_or_default}
 use Rattle.std.proofs.lemmas.List.Elements.{Contains-get_or}
-use Rattle.std.proofs.lemmas.Bool.{cases_eq, ne_eqb}
+use Rattle.std.proofs.lemmas.Bool.{ne_eqb}
 use Rattle.std.proofs.lemmas.Bool.Decides.{nat_tests}
 use Rattle.std.proofs.lemmas.Cmp.{nat_cmp_total, then_total, on_total}
 use Rattle.std.proofs.lemmas.List.MinMax.{ranks_by}
@@ -95,12 +95,3 @@ module _ (price : ℕ → ℕ) where
   pub record AreWritten (n i : ℕ) (keys : List Key) : Type 0 where
     pub count : length keys ≡ n
     pub is : (m : ℕ) → m < i → get_or keys m (0, 0) ≡ (price m, m)
-
-  pub AreWritten-more : (n i p : ℕ) (keys : List Key) → i < n → p ≡ price i → AreWritten n i keys → AreWritten n (i + 1) (set keys i (p, i))
-  AreWritten-more n i p keys l e h = let c = h.count in record {
-    count = length-set keys i (p, i) ∙ h.count;
-    is = λ m k. elim (cases_eq m i) [
-      | inl w ↦ rw (w, get_or-set_same keys i (p, i) (0, 0) (omega (arith, l, c))) (ap (λ (x : ℕ). (x, i)) e)
-      | inr w ↦ get_or-set_other keys i m (p, i) (0, 0) w ∙ h.is m (omega (arith, k, w))
-    ];
-  }

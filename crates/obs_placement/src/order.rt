@@ -1,5 +1,5 @@
 // The order in which the items are taken.
-ghost use Rattle.std.specs.Prelude.{◌≡◌, ◌+◌, ◌<◌, ◌^◌, ℕ, length, slice_index_or};
+ghost use Rattle.std.specs.Prelude.{◌≡◌, ◌+◌, ◌<◌, ◌^◌, length};
 ghost use Rattle.obs_placement.specs.Order.{AreNumbered, IsOrder, price_of};
 
 /// The price of an item: a meter costs nothing.

@@ -1,5 +1,4 @@
 // What a placement gives.
-ghost use Rattle.std.specs.Prelude.{◌≡◌};
 
 use obs_rankcut::Bound;
 

@@ -1,10 +1,10 @@
 // Items are taken one after the other: each that raises the greatest length gets a pair, and of each other one it is
 // kept which items aren't critical from its price on.
-ghost use Rattle.std.specs.Prelude.{◌≡◌, ◌<◌, ◌≤◌, ◌∷◌, ℕ, false, true, length};
+ghost use Rattle.std.specs.Prelude.{◌≡◌, ◌<◌, ◌≤◌, ◌∷◌, ℕ, true, length};
 ghost use Rattle.obs_graph.specs.Search.{room_of};
 ghost use Rattle.obs_meter.specs.Sizes.{HasRoomFor};
 ghost use Rattle.obs_meter.specs.Touches.{AreInRange, is_live};
-ghost use Rattle.obs_assign.specs.Assignment.{HasRoomOf, pairs};
+ghost use Rattle.obs_assign.specs.Assignment.{HasRoomOf};
 ghost use Rattle.obs_placement.specs.Answer.{earlier_items, is_chosen};
 ghost use Rattle.obs_placement.specs.Holding.{AreOfKnown, IsJoinedByKnown};
 ghost use Rattle.obs_placement.specs.Order.{IsOrder, price_of};

@@ -1,8 +1,8 @@
 -- Flags that are set one after another.
-use Rattle.std.proofs.Common.{◌≡◌, ℕ, ◌+◌, ◌<◌, Bool, true, false, List, [], ◌∷◌, ◌++◌, length, get_or, set, take, replicate, Option, sym, ap, ◌∙◌, subst, inl, inr, arith, get_or-set_same, get_or-set_other}
+use Rattle.std.proofs.Common.{◌≡◌, ℕ, ◌+◌, ◌<◌, Bool, true, false, List, [], ◌∷◌, ◌++◌, length, get_or, set, take, Option, sym, ap, ◌∙◌, subst, inl, inr, get_or-set_same, get_or-set_other}
 use Rattle.std.specs.Prelude.{All}
-use Rattle.std.proofs.lemmas.Bool.{cases_eq, cases_lt}
-use Rattle.std.proofs.lemmas.List.{take_more, get_or_past, get_or-replicate, length-replicate}
+use Rattle.std.proofs.lemmas.Bool.{cases_eq}
+use Rattle.std.proofs.lemmas.List.{take_more}
 use Rattle.obs_graph.specs.declared.Ends.{Ends}
 use Rattle.obs_graph.specs.Positions.{branches_at}
 use Rattle.obs_matroid.specs.Lists.{In}
@@ -48,21 +48,6 @@ pub AreStarsMarked-set : (ends : List (Option Ends)) (stars flags after : List B
 AreStarsMarked-set ends stars flags after v done h w e t i = elim (cases_eq w v) [
   | inl y ↦ h.added e (subst (λ u. In e (branches_at ends u)) y i)
   | inr n ↦ h.kept e (done w e (sym (get_or-set_other stars v w true false n) ∙ t) i)
-]
-
--- a vertex whose branches are marked already
-pub AreMarkedToo-done : (ends : List (Option Ends)) (stars flags : List Bool) (v : ℕ) → AreStarsMarked ends stars flags → marked stars v ≡ true → AreMarkedToo flags (branches_at ends v) flags
-AreMarkedToo-done ends stars flags v done t = record { added = λ e i. done v e t i; kept = λ e k. k; only = λ e k. inl k }
-
--- whatever was marked of vertices stays so
-pub AreStarsMarked-more : (ends : List (Option Ends)) (stars flags after : List Bool) (L : List ℕ) → AreStarsMarked ends stars flags → AreMarkedToo flags L after → AreStarsMarked ends stars after
-AreStarsMarked-more ends stars flags after L done h v e t i = h.kept e (done v e t i)
-
--- no flag
-pub no_flag : (n k : ℕ) → marked (replicate n false) k ≡ false
-no_flag n k = elim (cases_lt k n) [
-  | inl l ↦ get_or-replicate n k false false l
-  | inr l ↦ get_or_past (replicate n false) k false (let e = length-replicate n false in omega arith)
 ]
 
 -- touched branches have flags

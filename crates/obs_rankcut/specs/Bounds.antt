@@ -1,5 +1,5 @@
 -- The bound of a list of meters over a scope, and what it is made of. Marks and scopes are tests.
-use Rattle.std.specs.Prelude.{ℕ, Bool, not, Option, List, length, filter, flat_map}
+use Rattle.std.specs.Prelude.{ℕ, Bool, not, Option, List, filter, flat_map}
 use Rattle.obs_graph.specs.declared.Ends.{Ends}
 use Rattle.obs_meter.specs.declared.Touch.{Touch}
 use Rattle.obs_meter.specs.Sizes.{Sizes}

@@ -1,6 +1,6 @@
 // One pass over the meters: the marked ones of the scope are listed with the branches that they touch, and the others
 // counted.
-ghost use Rattle.std.specs.Prelude.{◌≡◌, ◌<◌, ◌≤◌, ◌&&◌, ℕ, All, false, flat_map, length, not, replicate, take};
+ghost use Rattle.std.specs.Prelude.{◌≡◌, ◌<◌, ◌≤◌, ◌&&◌, All, false, flat_map, length, not, replicate, take};
 ghost use Rattle.obs_meter.specs.Touches.{AreInRange, IsInRange, touch_at, touched};
 ghost use Rattle.obs_graph.specs.Positions.{branches_at};
 ghost use Rattle.obs_rankcut.specs.Bounds.{listed, listed_rank, unlisted};

@@ -4,20 +4,22 @@ use Rattle.std.specs.Prelude.{IfSome, IsSome, slice_index_or, ◌==◌}
 use Rattle.std.specs.List.{flat_map, range_with_len}
 use Rattle.std.proofs.lemmas.Bool.{cases_Bool}
 use Rattle.obs_case.specs.Tables.{Tables, IsValid}
-use Rattle.obs_graph.specs.Graph.{Graph}
+use Rattle.obs_graph.specs.declared.Ends.{Ends}
 use Rattle.obs_graph.proofs.Present.{present_low}
 use Rattle.obs_matroid.specs.Assignments.{Pair}
+use Rattle.obs_matroid.specs.Lists.{In}
 use Rattle.obs_matroid.specs.Slots.{pairs_from, pairs_of}
 use Rattle.obs_meter.specs.declared.Touch.{Touch}
 use Rattle.obs_meter.specs.declared.Touch.TheVariants.{Nothing}
-use Rattle.obs_meter.specs.Touches.{is_live}
+use Rattle.obs_meter.specs.Touches.{is_live, touch_at}
 use Rattle.obs_meter.proofs.Touched.{live-from_In, touched-present}
 use Rattle.obs_assign.specs.Assignment.{Assignment, StandsOver, branch_at}
-use Rattle.obs_network.specs.Network.{case_branches, case_meters, network_of}
+use Rattle.obs_network.specs.Network.{case_branches, case_meters, case_offered, network_of}
 use Rattle.obs_network.specs.Located.{is_meter_in, live_meters_of}
 use Rattle.obs_network.proofs.InComponents.{touched_component}
-use Rattle.obs_network.proofs.OfCase.{length-case_branches}
+use Rattle.obs_network.proofs.OfCase.{length-case_branches, length-case_offered}
 use Rattle.obs_report.specs.Items.{pair_line}
+use Rattle.obs_report.specs.Placements.{ArePairsOf}
 use Rattle.obs_report.specs.Trees.{lies_in, pair_lines}
 
 -- a present branch has a row in the table
@@ -25,20 +27,26 @@ pub branch_low : (t : Tables) (e : ℕ) → IsSome (slice_index_or (case_branche
 branch_low t e s = omega (arith, present_low (case_branches t) e s, length-case_branches t)
 
 -- the branch of a pair is present
-pub held_present : (a : Assignment) (g : Graph) (touches : List Touch) → StandsOver a g touches → (m : ℕ) → IfSome (branch_at a m) (λ e. IsSome (slice_index_or g.ends e None))
-held_present a g touches s m = by (branch_at a m) refl
+pub held_present : (a : Assignment) (ends : List (Option Ends)) (touches : List Touch) → ((m e : ℕ) → branch_at a m ≡ Some e → In e (touch_at ends touches m))
+    → (m : ℕ) → IfSome (branch_at a m) (λ e. IsSome (slice_index_or ends e None))
+held_present a ends touches touched m = by (branch_at a m) refl
   where
-    by : (o : Option ℕ) → branch_at a m ≡ o → IfSome o (λ e. IsSome (slice_index_or g.ends e None))
+    by : (o : Option ℕ) → branch_at a m ≡ o → IfSome o (λ e. IsSome (slice_index_or ends e None))
     by None h = tt
-    by (Some e) h = touched-present g.ends (slice_index_or touches m Nothing) e (s.touched m e h)
+    by (Some e) h = touched-present ends (slice_index_or touches m Nothing) e (touched m e h)
 
 -- the branch of a pair has a row in the table
-pub held_low : (t : Tables) (a : Assignment) (touches : List Touch) → StandsOver a (network_of t).graph touches → (m : ℕ) → IfSome (branch_at a m) (λ e. e < length t.branches)
-held_low t a touches s m = by (branch_at a m) (held_present a (network_of t).graph touches s m)
+pub held_low : (t : Tables) (a : Assignment) (touches : List Touch) → ((m e : ℕ) → branch_at a m ≡ Some e → In e (touch_at (case_branches t) touches m))
+    → (m : ℕ) → IfSome (branch_at a m) (λ e. e < length t.branches)
+held_low t a touches touched m = by (branch_at a m) (held_present a (case_branches t) touches touched m)
   where
     by : (o : Option ℕ) → IfSome o (λ e. IsSome (slice_index_or (case_branches t) e None)) → IfSome o (λ e. e < length t.branches)
     by None h = tt
     by (Some e) h = branch_low t e h
+
+-- pairs that stand over what is offered are pairs of the case's items
+pub standing_pairs : (t : Tables) (a : Assignment) → StandsOver a (network_of t).graph (case_offered t) → ArePairsOf t a
+standing_pairs t a s = record { items = sym s.meters ∙ length-case_offered t; touched = s.touched }
 
 -- the lines of a meter's pair, where it has one
 abbrev pub slot_lines : Tables → Assignment → ℕ → List ℕ

@@ -22,13 +22,6 @@ part_longer a b text more (part, rest, whole, wrote) = (part, rest ++ more, ap (
 part_behind : (a b d : Option (List ℕ)) (sent text : List ℕ) → Wrote a b sent → WrotePart b d text → WrotePart a d (sent ++ text)
 part_behind a b d sent text w (part, rest, whole, wrote) = (sent ++ part, rest, ap (λ t. sent ++ t) whole ∙ sym (append_assoc sent part rest), wrote_then a b d sent part w wrote)
 
-pub held_failed : (T : Type 0) {E : Type 0} (a b : Option (List ℕ)) (held : List ℕ) (e : E) (front text : List ℕ) → HoldsSince {T = T} a b held (Err e) front → HoldsSince {T = T} a b held (Err e) (front ++ text)
-held_failed T a b held e front text h = part_longer a b front text h
-
--- more bytes are held
-pub held_more : {T : Type 0} (E : Type 0) (a b : Option (List ℕ)) (held : List ℕ) (x : T) (front bytes : List ℕ) → HoldsSince {E = E} a b held (Ok x) front → HoldsSince {E = E} a b (held ++ bytes) (Ok x) (front ++ bytes)
-held_more E a b held x front bytes (sent, whole, wrote) = (sent, ap (λ t. t ++ bytes) whole ∙ append_assoc sent held bytes, wrote)
-
 -- what is held is sent
 pub held_sent : {T E : Type 0} (a b d : Option (List ℕ)) (held : List ℕ) (x : T) (r : Result T E) (front : List ℕ) → HoldsSince {E = E} a b held (Ok x) front → Writes b d r held → HoldsSince a d [] r front
 held_sent a b d held x (Ok y) front (sent, whole, wrote) writes = (sent ++ held, whole ∙ sym (append-nil (sent ++ held)), wrote_then a b d sent held wrote writes)
@@ -168,13 +161,3 @@ failed_call {T = T} {E = E} {e = e} {a = a} {b = b} {p = p} {one = one} two u = 
   where
     no : IsOk {T = T} {E = E} (Err e) → ⊥
     no ok = absurd cc
-
--- a piece behind a failure
-pub failed_printed : {T U E F : Type 0} {e : E} {d : F} {a : Option (List ℕ)} {f : ℕ} {p : ℕ → Type 0} (held later text : List ℕ) → PrintsAt {T = T} {U = U} a a held later f f p p (Err e) (Err d) text
-failed_printed {a = a} held later text = record {
-  written = λ start front h. part_longer start a front text h;
-  later = omega arith;
-  cause = λ ok. absurd (cc ok);
-  quiet = λ ok. absurd (cc ok);
-  room = λ ok. absurd (cc ok);
-}

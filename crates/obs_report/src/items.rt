@@ -1,5 +1,5 @@
 // The lines on items: meters and then candidates.
-ghost use Rattle.std.specs.Prelude.{◌≡◌, ◌+◌, ◌<◌, All, IfSome, [], ◌∷◌, length};
+ghost use Rattle.std.specs.Prelude.{◌≡◌, ◌<◌, All, IfSome, [], ◌∷◌, length};
 ghost use Rattle.std.specs.List.{flat_map};
 ghost use Rattle.obs_matroid.specs.Slots.{pairs_from};
 ghost use Rattle.obs_report.specs.Items.{inside_line, item_count, item_name, item_word, pair_line};

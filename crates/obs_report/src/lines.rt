@@ -1,5 +1,4 @@
 // Whole lines that stand in several answers.
-ghost use Rattle.std.specs.Prelude.{◌≡◌};
 ghost use Rattle.obs_report.specs.Lines.{count_line, fault_line, last_line, ok_line, refused_line};
 ghost use Rattle.obs_report.specs.Printed.{Appends, Prints};
 

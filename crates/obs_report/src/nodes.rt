@@ -1,8 +1,7 @@
 // The lines of nodes.
-ghost use Rattle.std.specs.Prelude.{◌≡◌, ◌<◌, ◌≤◌, length, slice_index, slice_index_or};
-ghost use Rattle.obs_case.specs.Tables.{node_names};
-ghost use Rattle.obs_network.specs.Switched.{case_buses, case_bus_count, case_first_node};
-ghost use Rattle.obs_report.specs.Nodes.{node_line, node_lines, node_name};
+ghost use Rattle.std.specs.Prelude.{◌≡◌, ◌<◌, length};
+ghost use Rattle.obs_network.specs.Switched.{case_buses, case_first_node};
+ghost use Rattle.obs_report.specs.Nodes.{node_line, node_lines};
 ghost use Rattle.obs_report.specs.Printed.{Appends, Prints};
 
 use crate::line_buffer::LineBuffer;

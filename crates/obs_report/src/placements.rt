@@ -1,12 +1,10 @@
 // The lines on placements.
-ghost use Rattle.std.specs.Prelude.{◌≡◌, ◌<◌, ◌≤◌, ◌++◌, All, length};
+ghost use Rattle.std.specs.Prelude.{◌<◌, ◌≤◌, ◌++◌, All, length};
 ghost use Rattle.std.specs.List.{flat_map};
 ghost use Rattle.obs_matroid.specs.Slots.{pairs_of};
-ghost use Rattle.obs_assign.specs.Assignment.{StandsOver};
-ghost use Rattle.obs_network.specs.Network.{case_offered, network_of};
 ghost use Rattle.obs_placement.specs.Placed.{placed_of};
 ghost use Rattle.obs_report.specs.Items.{inside_line, item_count, pair_line};
-ghost use Rattle.obs_report.specs.Placements.{AreCountsOf, IsWithin, chosen_line, cost_line, layer_line, layers_text, listed_between, placement_text, plan_text, shortfall_line};
+ghost use Rattle.obs_report.specs.Placements.{AreCountsOf, ArePairsOf, IsWithin, chosen_line, cost_line, layer_line, layers_text, listed_between, placement_text, plan_text, shortfall_line};
 ghost use Rattle.obs_report.specs.Printed.{Appends, Prints};
 
 use crate::items::{print_list, print_pair};
@@ -50,7 +48,7 @@ fn print_chosen<W: Sink>(lines: &mut LineBuffer, output: &mut W, case: &Case, ch
 
 // Prints a line for each item that has a branch.
 fn print_pairs<W: Sink>(lines: &mut LineBuffer, output: &mut W, case: &Case, pairs: &Assignment)
-    requires pairs { StandsOver pairs.now (network_of case.now).graph (case_offered case.now) }
+    requires pairs { ArePairsOf case.now pairs.now }
     ensures printed { Prints W.written W.faults W.has_room output.old output.new lines.old lines.new
         (flat_map (pair_line case.now) (pairs_of pairs.now.slots)) }
 {
@@ -130,7 +128,7 @@ fn print_plan<W: Sink>(
     requires chosen { All (λ k. k < length case.now.candidates) plan.now.chosen.now }
     requires inside { All (λ m. m < item_count case.now) plan.now.inside.now }
     requires counts { AreCountsOf (length plan.now.inside.now) 0 plan.now.layers.now }
-    requires pairs { StandsOver pairs.now (network_of case.now).graph (case_offered case.now) }
+    requires pairs { ArePairsOf case.now pairs.now }
     ensures appends { Appends W.written W.faults W.has_room output.old output.new result
         (plan_text case.now (record {
           chosen = plan.now.chosen.now;
@@ -184,7 +182,7 @@ pub fn print_placement<W: Sink>(
     pairs: &Assignment,
 ) -> Result<(), Failed>
     requires within { IsWithin case.now (placed_of found.now) }
-    requires pairs { StandsOver pairs.now (network_of case.now).graph (case_offered case.now) }
+    requires pairs { ArePairsOf case.now pairs.now }
     ensures appends { Appends W.written W.faults W.has_room output.old output.new result
         (placement_text case.now (placed_of found.now) (pairs_of pairs.now.slots)) }
 {

@@ -1,5 +1,4 @@
 // Words of a line, one call for each.
-ghost use Rattle.std.specs.Prelude.{◌≡◌};
 ghost use Rattle.obs_report.specs.Lines.{end_text, number_text, word_text};
 ghost use Rattle.obs_report.specs.Printed.{Appends};
 

@@ -1,18 +1,13 @@
 -- Labels that sweeps lower.
-use Rattle.std.proofs.Common.{◌≡◌, ℕ, ◌+◌, ◌<◌, ◌≤◌, Bool, true, false, ⊎_elim, List, length, get_or, refl, sym, ◌∙◌, subst, arith}
+use Rattle.std.proofs.Common.{◌≡◌, ℕ, ◌<◌, ◌≤◌, Bool, true, List, length, get_or, refl, sym, ◌∙◌, subst, arith}
 use Rattle.std.specs.List.{Contains}
-use Rattle.std.proofs.lemmas.Bool.{cases_eq}
-use Rattle.std.proofs.lemmas.List.{get_or-map, get_or_default, length-map}
+use Rattle.std.proofs.lemmas.List.{get_or-map, length-map}
 use Rattle.obs_graph.specs.declared.Ends.{Ends}
 use Rattle.obs_graph.proofs.Chains.{Chain-first, same_from_Chain}
 use Rattle.obs_switch.specs.declared.link.Link.{Link}
 use Rattle.obs_switch.specs.Buses.{ends_of_link, ends_of_links, first_node}
 use Rattle.obs_switch.specs.Labels.{AreLabels, AreSettled, AreLowered}
 use Rattle.obs_switch.proofs.FirstNodes.{first_node-le, first_node-first_node}
-
--- nothing is lowered yet
-pub lowered_none : (links : List Link) (labels : List ℕ) → AreLabels links labels → AreLowered links labels labels false
-lowered_none links labels are = record { labels = are; sum = omega arith; falls = λ e. absurd cc; same = λ e. refl }
 
 -- a label more is lowered
 pub lowered_more : (links : List Link) (a b c : List ℕ) (p : Bool) → AreLowered links a b p → AreLowered links b c true → AreLowered links a c true
@@ -22,10 +17,6 @@ lowered_more links a b c p f g = record {
   falls = λ e. omega (arith, f.sum, g.falls refl);
   same = λ e. absurd cc;
 }
-
--- none more is
-pub lowered_still : (links : List Link) (a b c : List ℕ) (p : Bool) → AreLowered links a b p → AreLowered links b c false → AreLowered links a c p
-lowered_still links a b c p f g = subst (λ t. AreLowered links a t p) (sym (g.same refl)) f
 
 -- settled labels are first nodes
 pub settled_first : (links : List Link) (labels : List ℕ) → AreLabels links labels → AreSettled links labels → (u : ℕ) → u < length labels → get_or labels u 0 ≡ first_node links u
@@ -46,12 +37,3 @@ settled_first links labels are settled u l =
         let below : k < length links = omega (arith, length-map links ends_of_link) in
         let is : ends_of_link (get_or links k z) ≡ e = sym (get_or-map ends_of_link links k z e below) ∙ h in
         subst (λ (x : Ends). get_or labels x.a 0 ≡ get_or labels x.b 0) is (settled k z below)
-
--- a fact of each link so far, and of one more
-pub links_more : (P : Link → Type 0) (links : List Link) (i : ℕ) (z : Link) → i < length links → ((k : ℕ) (d : Link) → k < i → P (get_or links k d)) → P (get_or links i z)
-    → (k : ℕ) (d : Link) → k < i + 1 → P (get_or links k d)
-links_more P links i z l below here k d le =
-    ⊎_elim
-    (λ (same : k ≡ i). subst (λ n. P (get_or links n d)) (sym same) (subst P (get_or_default links i z d l) here))
-    (λ (other : k ≡ i → ⊥). below k d (omega arith))
-    (cases_eq k i)

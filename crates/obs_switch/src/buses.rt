@@ -1,5 +1,5 @@
 // Buses.
-ghost use Rattle.std.specs.Prelude.{◌≡◌, ◌<◌, ◌≤◌, [], ℕ, length, slice_index, IfOk};
+ghost use Rattle.std.specs.Prelude.{◌≡◌, ◌<◌, ◌≤◌, [], length, slice_index, IfOk};
 ghost use Rattle.obs_switch.specs.Buses.{buses_of, bus_count, LinksBelow, members_of};
 
 use crate::group::group_of;

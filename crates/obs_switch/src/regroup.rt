@@ -1,5 +1,5 @@
 // Items in the order of their keys, where the key of one item changes.
-ghost use Rattle.std.specs.Prelude.{◌≡◌, ◌<◌, ◌≤◌, ◌==◌, ◌+◌, ◌-◌, ◌^◌, ◌++◌, ◌∷◌, ℕ, suc, List, length, slice_index, slice_set, count_by};
+ghost use Rattle.std.specs.Prelude.{◌≡◌, ◌<◌, ◌≤◌, ◌==◌, ◌+◌, ◌^◌, ◌++◌, ◌∷◌, ℕ, List, length, slice_index, slice_set, count_by};
 ghost use Rattle.obs_switch.specs.Groups.{AreGroups};
 
 // How many items have the key.

@@ -1,5 +1,5 @@
 // Labels that are lowered, sweep by sweep, until a whole sweep changes nothing.
-ghost use Rattle.std.specs.Prelude.{◌≡◌, ◌<◌, ◌≤◌, ◌+◌, ◌^◌, true, false, length, sum_by, slice_index, ℕ};
+ghost use Rattle.std.specs.Prelude.{◌≡◌, ◌<◌, ◌≤◌, ◌^◌, false, length, slice_index, ℕ};
 ghost use Rattle.obs_switch.specs.Buses.{first_node, LinksBelow};
 ghost use Rattle.obs_switch.specs.Labels.{AreLabels, AreLowered, AreOwn, AreSettled};
 

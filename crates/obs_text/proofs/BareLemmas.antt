@@ -6,9 +6,6 @@ use Rattle.std.proofs.Math.Seq.{take-append_seam}
 use Rattle.std.specs.List.{prefix_len, suffix_len}
 use Rattle.obs_text.specs.Columns.{bare_of, is_blank, without_first_blanks, without_last_blanks}
 
-drop_blank : (bytes : List ℕ) → drop (1 + prefix_len is_blank bytes) (0x20 ∷ bytes) ≡ without_first_blanks bytes
-drop_blank bytes = ap (λ n. drop n (0x20 ∷ bytes)) (one-add (prefix_len is_blank bytes))
-
 -- the first blanks, and the bytes after them
 pub first_blanks : (bytes : List ℕ) → bytes ≡ replicate (prefix_len is_blank bytes) 0x20 ++ without_first_blanks bytes
 first_blanks [] = refl

@@ -1,6 +1,6 @@
 -- Lines with their ends, joined up.
-use Rattle.std.proofs.Common.{◌≡◌, ◌≢◌, ℕ, suc, ◌+◌, ◌-◌, ◌≤◌, Bool, true, false, not, List, [], ◌∷◌, ◌++◌, length, take, get_or, refl, sym, ap, ◌∙◌, inl, inr, append_assoc, append-nil, add-zero, arith}
-use Rattle.std.proofs.lemmas.Bool.{and_from, and_parts, cases_Bool, eqb-true}
+use Rattle.std.proofs.Common.{◌≡◌, ◌≢◌, ℕ, suc, ◌+◌, ◌-◌, ◌≤◌, true, false, not, List, [], ◌∷◌, ◌++◌, length, take, get_or, refl, sym, ap, ◌∙◌, inl, inr, append_assoc, append-nil, add-zero, arith}
+use Rattle.std.proofs.lemmas.Bool.{and_from, and_parts, cases_Bool, eqb-true, not-true, not_from_false}
 use Rattle.std.proofs.lemmas.List.{length-append, length-map}
 use Rattle.std.proofs.Math.Seq.{take-append_seam}
 use Rattle.std.specs.List.{before_first, concat, list_all, onto_first, position_or_len}
@@ -37,22 +37,14 @@ length-ended_lines (b ∷ bs) =
 pub length-lines_of : (bytes : List ℕ) → length (lines_of bytes) ≤ length bytes
 length-lines_of bytes = omega (arith, length-map (ended_lines bytes) content, length-ended_lines bytes)
 
-not_false : (b : Bool) → b ≡ false → not b ≡ true
-not_false true is = cc
-not_false false is = refl
-
-not_true : (b : Bool) → not b ≡ true → b ≡ false
-not_true true is = cc
-not_true false is = refl
-
 -- one byte more that is no line feed
 more : (b : ℕ) (line : List ℕ) → is_feed b ≡ false → HasNoFeed line → HasNoFeed (b ∷ line)
-more b line other none = and_from (not (is_feed b)) (list_all (λ byte. not (is_feed byte)) line) (not_false (is_feed b) other) none
+more b line other none = and_from (not (is_feed b)) (list_all (λ byte. not (is_feed byte)) line) (not_from_false (is_feed b) other) none
 
 -- what the first of these bytes says, and what the others say
 pub parts : (b : ℕ) (line : List ℕ) → HasNoFeed (b ∷ line) → (is_feed b ≡ false) × HasNoFeed line
 parts b line none =
-    let both = and_parts (not (is_feed b)) (list_all (λ byte. not (is_feed byte)) line) none in (not_true (is_feed b) both.0, both.1)
+    let both = and_parts (not (is_feed b)) (list_all (λ byte. not (is_feed byte)) line) none in (not-true (is_feed b) both.0, both.1)
 
 ended_more : (b : ℕ) (line : List ℕ) → is_feed b ≡ false → IsEnded line → IsEnded (b ∷ line)
 ended_more b line other ended = (b ∷ ended.0, more b ended.0 other ended.1, ap (λ t. b ∷ t) ended.2)

@@ -1,5 +1,5 @@
 // The generator of numbers.
-ghost use Rattle.std.specs.Prelude.{◌≡◌, ◌/◌};
+ghost use Rattle.std.specs.Prelude.{◌≡◌};
 ghost use Rattle.obs_trial.specs.Draws.{drawn, next_state, state_after};
 
 const MODULUS: u64 = 2_147_483_648;

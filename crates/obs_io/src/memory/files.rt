@@ -1,5 +1,5 @@
 // Files in memory.
-ghost use Rattle.std.specs.Prelude.{◌≡◌, ◌≢◌, ◌<◌, ◌≤◌, [], ℕ, List, IfOk, IsOk, IsSome, is_ok, slice_index, length, option_map};
+ghost use Rattle.std.specs.Prelude.{◌≡◌, ◌≢◌, ◌<◌, ◌≤◌, [], ℕ, IfOk, IsOk, IsSome, is_ok, slice_index, length, option_map};
 ghost use Rattle.obs_io.specs.Bytes.{ReadsPart};
 ghost use Rattle.obs_io.specs.Causes.{HasCause};
 ghost use Rattle.obs_io.specs.Limits.{most_place};

@@ -1,5 +1,5 @@
 // What an answer of the outside is here.
-ghost use Rattle.std.specs.Prelude.{◌≡◌, ◌+◌, ◌-◌, ◌<◌, ◌^◌, ◌&&◌, Ok, IfOk, is_ok, nat_lt, min, if◌then◌else◌};
+ghost use Rattle.std.specs.Prelude.{◌≡◌, ◌+◌, ◌-◌, ◌^◌, IfOk, is_ok, min, if◌then◌else◌};
 ghost use Rattle.obs_io.specs.Causes.{HasCause};
 
 use crate::Failed;

@@ -1,5 +1,5 @@
-use Rattle.std.proofs.Common.{sym}
-use Rattle.obs.proofs.Named.{named}
+use Rattle.std.proofs.Common.{inl, inr, sym}
+use Rattle.obs.proofs.Named.{named_file, named_input}
 use Rattle.obs.proofs.Said.{writes_part}
 use Rattle.obs.proofs.serve.serve.Goals as goal
 
@@ -7,4 +7,9 @@ pub returns-clause-says : goal.returns-clause-says
 returns-clause-says g c = rw (sym c.failed.ensures.word) (writes_part _ _ c.say-said.result _ c.say-said.ensures.says)
 
 pub returns-clause-named : goal.returns-clause-named
-returns-clause-named g c = λ e. named _ c.run-status.new.files.faults _ _ _ _ c.requires.fresh (c.run-status.ensures.read e)
+returns-clause-named g c = λ e.
+    let counts = c.run-status.new.files.faults in
+    elim (c.run-status.ensures.read e) [
+      | inl failed ↦ named_file _ counts _ _ _ _ c.requires.fresh failed.file
+      | inr failed ↦ named_input counts _ _ failed.rose
+    ]

@@ -4,8 +4,7 @@ use Rattle.obs_cert.specs.Claims.{Item}
 use Rattle.obs_cert.specs.Numbered.{item_of, items_of}
 use Rattle.obs_cert.specs.Said.{item_said}
 use Rattle.obs_cert.specs.Scopes.{touches_of}
-use Rattle.obs_cert.proofs.JoinLemmas.{IsJoining, joining_end, joining_none}
-use Rattle.obs_cert.proofs.RankLemmas.{joining_some}
+use Rattle.obs_cert.proofs.JoinLemmas.{IsJoining, joining_end, joining_none, joining_some}
 use Rattle.obs_cert.proofs.lists.join_items.Goals as goal
 
 pub loop-item-init : goal.loop-item-init

@@ -1,8 +1,8 @@
-use Rattle.std.proofs.Common.{◌≡◌, ◌∷◌, ◌+◌, List, sym, subst, inl, inr}
+use Rattle.std.proofs.Common.{◌≡◌, ◌∷◌, ◌+◌, [], List, sym, subst, inl, inr}
 use Rattle.obs_matroid.specs.Assignments.{branches}
 use Rattle.obs_cert.specs.Claims.{Pair}
 use Rattle.obs_cert.specs.Numbered.{pairs_of}
-use Rattle.obs_cert.proofs.JoinLemmas.{IsJoining, joining_at}
+use Rattle.obs_cert.proofs.JoinLemmas.{IsJoining, joining_some}
 use Rattle.obs_cert.proofs.PairLemmas.{IsPairing, pairing_grows, pairing_stays}
 use Rattle.obs_cert.proofs.pairs.join_pairs.Goals as goal
 use Rattle.obs_cert.proofs.pairs.join_pairs.Goals.{After-join_one-joined}
@@ -20,7 +20,7 @@ after : (c : After-join_one-joined) → IsJoining c.args.g.now.ends (branches (p
 after c =
     let l = c.loop-pair in
     let j = c.join_one-joined in
-    joining_at c.args.g.now.ends c.branch_of.result (branches (pairs_of c.args.case.now c.next.new.self)) (branches (pairs_of c.args.case.now c.args.pairs))
+    joining_some c.args.g.now.ends (c.branch_of.result ∷ []) (branches (pairs_of c.args.case.now c.next.new.self)) (branches (pairs_of c.args.case.now c.args.pairs))
     c.args.ups.now c.args.moved.now 0 l.ups l.moved l.count j.new.ups j.new.moved j.result (before c).joining j.ensures.count j.auto.ups j.auto.moved j.ensures.joined
 
 pub loop-pair-preserved-then-joined-count : goal.loop-pair-preserved-then-joined-count

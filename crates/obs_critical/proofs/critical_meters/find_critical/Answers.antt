@@ -1,4 +1,4 @@
-use Rattle.std.proofs.Common.{◌≡◌, ◌++◌, ◌∙◌, ap, length, take, drop, arith}
+use Rattle.std.proofs.Common.{◌≡◌, ◌++◌, ◌∙◌, ap, length, take, drop}
 use Rattle.obs_graph.proofs.Stored.{written_back}
 use Rattle.obs_assign.specs.Assignment.{has_flag}
 use Rattle.obs_critical.proofs.Marks.{unmarked_critical}

@@ -2,7 +2,8 @@ use Rattle.std.proofs.Common.{◌∙◌, ap, subst, sym}
 use Rattle.obs_case.specs.Tables.{Tables}
 use Rattle.obs_placement.specs.Placed.{Placed, placed_of}
 use Rattle.obs_matroid.specs.Slots.{pairs_of}
-use Rattle.obs_report.specs.Placements.{IsWithin, placement_text}
+use Rattle.obs_report.specs.Placements.{ArePairsOf, IsWithin, placement_text}
+use Rattle.obs_report.proofs.OfPairs.{standing_pairs}
 use Rattle.obs_engine.specs.declared.blocks.Block.TheVariants.{Placement}
 use Rattle.obs_engine.specs.Asks.{block_text}
 use Rattle.obs_engine.proofs.Asked.{appends_as}
@@ -14,6 +15,12 @@ print_placement-requires-clause-within g c =
     let t = c.find_placement.new.self.tables in
     subst (λ (x : Tables). IsWithin x (placed_of c.found_placement.result)) (sym c.present-2.ensures.case)
     (subst (λ (p : Placed). IsWithin t p) (sym c.found_placement.ensures.placed) (placement_within t))
+
+pub print_placement-requires-clause-pairs : goal.print_placement-requires-clause-pairs
+print_placement-requires-clause-pairs g c =
+    let t = c.find_placement.new.self.tables in
+    let pairs = c.found_plan_pairs.result.now in
+    subst (λ (x : Tables). ArePairsOf x pairs) (sym c.present-2.ensures.case) (standing_pairs t pairs c.found_plan_pairs.ensures.stands)
 
 pub returns-clause-appends : goal.returns-clause-appends
 returns-clause-appends g c =

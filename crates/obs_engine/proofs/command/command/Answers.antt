@@ -32,13 +32,12 @@ returns-in-Err-clause-ran g c =
           (refused.room _ s.0 fits.0 (taken.stated told.file tells.files) (refused_reply (IsCaseReply form told.input (certificate_in form told.file)) (case_in_files form told.file) s.0 s.1) fits.1)
           _ (behind_of _ _ _ _ _ (nothing_before form told left tells.input) (refused.ends _ s.0 (taken.stated told.file tells.files) (refused_reply (IsCaseReply form told.input (certificate_in form told.file)) (case_in_files form told.file) s.0 s.1)));
       statuses = inr refused.statuses;
-      read = λ e. inl (taken.read (ap Err (refused.read e)));
+      read = λ e. inl (record { file = taken.read (ap Err (refused.read e)); input = refl; input_faults = refl; output = refused.unread e });
       write = refused.write;
       quiet_files = λ none w. taken.quiet (λ e. none (refused.unanswered (read_is _ e))) w;
       quiet_input = λ none. refl;
       quiet_output = refused.quiet;
       memory = refused.memory;
       memory_input = λ e. refl;
-      unread = λ none e. refused.unread e;
       taken = λ takes input is. nothing_taken left refused.statuses input is;
     }

@@ -26,6 +26,5 @@ returns g c =
       memory = ran.memory;
       memory_input = ran.memory_input;
       taken = ran.taken;
-      unread = ran.unread;
       input = λ none. c.command.ensures.input (λ takes. none (subst (λ (o : Option Form). TakesInput o) c.in-Some.ensures.form takes));
     }

@@ -1,5 +1,5 @@
-use Rattle.obs_ieee_cdf.proofs.FirstLemmas.{first_fault}
+use Rattle.obs_ieee_cdf.proofs.FirstLemmas.{FirstFaultOfFile-holds}
 use Rattle.obs_ieee_cdf.proofs.laws.first_fault.Goals as goal
 
 pub returns : goal.returns
-returns c = record { first = first_fault }
+returns c = record { first = FirstFaultOfFile-holds }

@@ -1,10 +1,12 @@
-use Rattle.std.proofs.Common.{◌+◌, length, sym, ap, ◌∙◌, subst, arith}
+use Rattle.std.proofs.Common.{◌+◌, true, false, length, sym, ap, ◌∙◌, subst, arith}
+use Rattle.obs_text.specs.Lines.{lines_of}
+use Rattle.obs_text.proofs.LineLaws.{length-lines_of}
 use Rattle.obs_ieee_cdf.specs.Reading.{AreNamed}
-use Rattle.obs_ieee_cdf.specs.Rows.{read_branch, tables_of_rows}
-use Rattle.obs_ieee_cdf.proofs.ReadLemmas.{ReadSoFar, pass_over, read_branch-good, read_one}
+use Rattle.obs_ieee_cdf.specs.Rows.{numbered, read_branch, tables_of_rows}
+use Rattle.obs_ieee_cdf.proofs.ReadLemmas.{numbered_next, read_branch-good}
+use Rattle.obs_ieee_cdf.proofs.RowsRead.{ReadSoFar, read_one}
 use Rattle.obs_ieee_cdf.proofs.rows.add_branches.Goals as goal
 use Rattle.obs_ieee_cdf.proofs.rows.add_branches.Goals.{then-not-is_passed_over+in_ok-add_branch, else-not-is_passed_over}
-use Rattle.obs_text.proofs.LineLaws.{length-lines_of}
 
 pub overflow_add-at : goal.overflow_add-at
 overflow_add-at c =
@@ -15,15 +17,19 @@ loop-line-preserved c = (
   omega (arith, c.loop-line.invariant.0, ap length c.in-Some.ensures.steps.first),
   λ buses are is.
       let so_far = c.loop-line.invariant.1 buses are is in
+      let all = numbered c.args.first (lines_of c.args.section.now) in
+      let left = numbered c.loop-line.at (lines_of c.loop-line.line-iterator) in
+      let rest = numbered (c.loop-line.at + 1) (lines_of c.next.new.self) in
+      let next = numbered_next c.loop-line.at c.loop-line.line-iterator c.in-Some.line.now c.next.new.self c.in-Some.ensures.steps.first in
       elim c.if-not-is_passed_over.branch [
         | then-not-is_passed_over+in_ok-add_branch w ↦
-            read_one (read_branch buses) (tables_of_rows buses) (AreNamed 1) c.args.first c.args.section.now
-            c.loop-line.case c.loop-line.at c.loop-line.line-iterator c.in-Some.line.now c.next.new.self so_far c.in-Some.ensures.steps.first (sym c.is_passed_over.ensures.blank ∙ w.if-not-is_passed_over.true) c.if-not-is_passed_over.case
+            read_one (read_branch buses) (tables_of_rows buses) (AreNamed 1) all c.loop-line.case left rest c.loop-line.at c.in-Some.line.now so_far
+            (next false (sym c.is_passed_over.ensures.blank ∙ w.if-not-is_passed_over.true)) c.if-not-is_passed_over.case
             (read_branch-good buses so_far.0 c.loop-line.at c.in-Some.line.now so_far.1.good)
-            (rw w.case-is (w.in_ok-add_branch.ensures.read buses so_far.0 are so_far.1.good so_far.1.held))
+            (rw w.case-is (w.in_ok-add_branch.ensures.read buses so_far.0 are so_far.1.good so_far.1.is_held))
         | else-not-is_passed_over w ↦
-            subst (λ case. ReadSoFar (read_branch buses) (tables_of_rows buses) (AreNamed 1) c.args.first c.args.section.now case (c.loop-line.at + 1) c.next.new.self) (sym w.case-is)
-            (pass_over (read_branch buses) (tables_of_rows buses) (AreNamed 1) c.args.first c.args.section.now
-            c.loop-line.case c.loop-line.at c.loop-line.line-iterator c.in-Some.line.now c.next.new.self so_far c.in-Some.ensures.steps.first (sym c.is_passed_over.ensures.blank ∙ w.if-not-is_passed_over.false))
+            subst (λ case. ReadSoFar (read_branch buses) (tables_of_rows buses) (AreNamed 1) all case rest) (sym w.case-is)
+            (subst (ReadSoFar (read_branch buses) (tables_of_rows buses) (AreNamed 1) all c.loop-line.case)
+            (next true (sym c.is_passed_over.ensures.blank ∙ w.if-not-is_passed_over.false)) so_far)
       ],
 )

@@ -1,12 +1,12 @@
 use Rattle.std.proofs.Common.{◌≡◌, ◌+◌, List, [], length}
 use Rattle.obs_text.specs.Lines.{lines_of}
 use Rattle.obs_ieee_cdf.specs.Reading.{AreBuses, AreNamed}
-use Rattle.obs_ieee_cdf.specs.Rows.{Bus, read_branch, tables_of_rows}
-use Rattle.obs_ieee_cdf.proofs.ReadLemmas.{ReadSoFar}
+use Rattle.obs_ieee_cdf.specs.Rows.{Bus, numbered, read_branch, tables_of_rows}
+use Rattle.obs_ieee_cdf.proofs.RowsRead.{ReadSoFar}
 use Rattle.obs_ieee_cdf.proofs.rows.add_branches.Given as goal
 
 abbrev pub invariant-loop-line : goal.invariant-loop-line
 invariant-loop-line l =
     (l.at + length (lines_of l.line-iterator) ≡ l.first + length (lines_of l.section))
     × ((buses : List Bus) → AreBuses buses → l.initial.case ≡ tables_of_rows buses [] →
-    ReadSoFar (read_branch buses) (tables_of_rows buses) (AreNamed 1) l.first l.section l.case l.at l.line-iterator)
+    ReadSoFar (read_branch buses) (tables_of_rows buses) (AreNamed 1) (numbered l.first (lines_of l.section)) l.case (numbered l.at (lines_of l.line-iterator)))

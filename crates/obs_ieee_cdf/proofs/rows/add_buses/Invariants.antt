@@ -1,8 +1,11 @@
-use Rattle.std.proofs.Common.{[]}
+use Rattle.std.proofs.Common.{◌≡◌, ◌+◌, [], length}
+use Rattle.obs_text.specs.Lines.{lines_of}
 use Rattle.obs_ieee_cdf.specs.Reading.{AreBuses}
-use Rattle.obs_ieee_cdf.specs.Rows.{read_bus, tables_of_rows}
-use Rattle.obs_ieee_cdf.proofs.ReadLemmas.{ReadSoFar}
+use Rattle.obs_ieee_cdf.specs.Rows.{numbered, read_bus, tables_of_rows}
+use Rattle.obs_ieee_cdf.proofs.RowsRead.{ReadSoFar}
 use Rattle.obs_ieee_cdf.proofs.rows.add_buses.Given as goal
 
 abbrev pub invariant-loop-line : goal.invariant-loop-line
-invariant-loop-line l = ReadSoFar read_bus (λ buses. tables_of_rows buses []) AreBuses l.first l.section l.case l.at l.line-iterator
+invariant-loop-line l =
+    (l.at + length (lines_of l.line-iterator) ≡ l.first + length (lines_of l.section))
+    × ReadSoFar read_bus (λ buses. tables_of_rows buses []) AreBuses (numbered l.first (lines_of l.section)) l.case (numbered l.at (lines_of l.line-iterator))

@@ -1,10 +1,10 @@
 use Rattle.std.proofs.Common.{is_none}
 use Rattle.obs_ieee_cdf.specs.Reading.{AreNamed}
+use Rattle.obs_ieee_cdf.proofs.RowsRead.{read_one}
 use Rattle.obs_matpower.specs.Left.{rows_left}
 use Rattle.obs_matpower.specs.Read.{read_branch}
 use Rattle.obs_matpower.specs.Reading.{held_branches}
 use Rattle.obs_matpower.specs.Rows.{rows_of}
-use Rattle.obs_matpower.proofs.ReadLemmas.{read_one}
 use Rattle.obs_matpower.proofs.RowReads.{read_branch-good}
 use Rattle.obs_matpower.proofs.add.add_branches.Goals as goal
 

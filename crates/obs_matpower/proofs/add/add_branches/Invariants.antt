@@ -1,10 +1,10 @@
 use Rattle.std.proofs.Common.{◌≡◌, List, [], is_none}
 use Rattle.obs_ieee_cdf.specs.Reading.{AreNamed}
+use Rattle.obs_ieee_cdf.proofs.RowsRead.{ReadSoFar}
 use Rattle.obs_matpower.specs.Left.{rows_left}
 use Rattle.obs_matpower.specs.Read.{BusRow, buses_of, isolated_of, read_branch}
 use Rattle.obs_matpower.specs.Reading.{AreBuses, held_branches}
 use Rattle.obs_matpower.specs.Rows.{rows_of}
-use Rattle.obs_matpower.proofs.ReadLemmas.{ReadSoFar}
 use Rattle.obs_matpower.proofs.add.add_branches.Given as goal
 
 abbrev pub invariant-loop-row : goal.invariant-loop-row

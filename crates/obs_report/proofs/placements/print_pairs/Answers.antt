@@ -2,7 +2,6 @@ use Rattle.std.proofs.Common.{◌<◌, ◌≤◌, ◌++◌, [], ◌∷◌, None,
 use Rattle.std.specs.List.{flat_map}
 use Rattle.obs_matroid.specs.Slots.{pairs_from, pairs_of}
 use Rattle.obs_network.specs.Network.{case_offered}
-use Rattle.obs_network.proofs.OfCase.{length-case_offered}
 use Rattle.obs_report.specs.Items.{pair_line}
 use Rattle.obs_report.proofs.OfPairs.{held_low}
 use Rattle.obs_report.proofs.Printing.{nothing_printed, then_printed}
@@ -14,11 +13,11 @@ loop-m-init g c = ([], nothing_printed c.args.lines.now.outcome, refl)
 
 pub branch_of-branch-requires : goal.branch_of-branch-requires
 branch_of-branch-requires g c =
-    record { m = omega (arith, c.loop-m-test.true, c.requires.pairs.meters, length-case_offered c.args.case.now, ap length c.meters.ensures.rows, ap length c.candidates.ensures.rows) }
+    record { m = omega (arith, c.loop-m-test.true, c.requires.pairs.items, ap length c.meters.ensures.rows, ap length c.candidates.ensures.rows) }
 
 pub print_pair-requires-clause-branch : goal.print_pair-requires-clause-branch
 print_pair-requires-clause-branch g c =
-    rw c.branch_of-branch.ensures.branch (held_low c.args.case.now c.args.pairs.now (case_offered c.args.case.now) c.requires.pairs c.loop-m.m)
+    rw c.branch_of-branch.ensures.branch (held_low c.args.case.now c.args.pairs.now (case_offered c.args.case.now) c.requires.pairs.touched c.loop-m.m)
 
 pub loop-m-preserved : goal.loop-m-preserved
 loop-m-preserved g c =
@@ -26,7 +25,7 @@ loop-m-preserved g c =
     let line = pair_line c.args.case.now in
     let slots = c.args.pairs.now.slots in
     let m = c.loop-m.m in
-    let low : m < length slots = omega (arith, c.loop-m-test.true, c.requires.pairs.meters, length-case_offered c.args.case.now, ap length c.meters.ensures.rows, ap length c.candidates.ensures.rows) in
+    let low : m < length slots = omega (arith, c.loop-m-test.true, c.requires.pairs.items, ap length c.meters.ensures.rows, ap length c.candidates.ensures.rows) in
     let here = rw c.branch_of-branch.ensures.branch at c.print_pair.ensures.printed in (
       inv.0 ++ flat_map line (pairs_from m (get_or slots m None ∷ [])),
       then_printed inv.1 here,
@@ -38,6 +37,6 @@ returns g c =
     let inv = c.loop-m.invariant in
     let line = pair_line c.args.case.now in
     let slots = c.args.pairs.now.slots in
-    let past : length slots ≤ c.loop-m.m = omega (arith, c.loop-m-test.false, c.requires.pairs.meters, length-case_offered c.args.case.now, ap length c.meters.ensures.rows, ap length c.candidates.ensures.rows) in
+    let past : length slots ≤ c.loop-m.m = omega (arith, c.loop-m-test.false, c.requires.pairs.items, ap length c.meters.ensures.rows, ap length c.candidates.ensures.rows) in
     let done = slot_none line slots c.loop-m.m inv.0 (flat_map line (pairs_of slots)) past inv.2 in
     record { printed = rw done at inv.1 }

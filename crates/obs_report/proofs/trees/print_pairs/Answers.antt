@@ -19,7 +19,7 @@ print_pair-requires-clause-item g c = let low = c.requires.meters c.loop-m.m-ind
 
 pub print_pair-requires-clause-branch : goal.print_pair-requires-clause-branch
 print_pair-requires-clause-branch g c =
-    rw c.branch_of.ensures.branch (held_low c.args.case.now c.args.pairs.now (case_meters c.args.case.now) c.requires.pairs (get_or c.args.meters.now c.loop-m.m-index 0))
+    rw c.branch_of.ensures.branch (held_low c.args.case.now c.args.pairs.now (case_meters c.args.case.now) c.requires.pairs.touched (get_or c.args.meters.now c.loop-m.m-index 0))
 
 pub loop-m-preserved : goal.loop-m-preserved
 loop-m-preserved g c =

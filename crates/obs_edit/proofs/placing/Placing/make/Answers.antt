@@ -1,5 +1,5 @@
 use Rattle.std.proofs.Common.{rules, ap, ◌∙◌}
-use Rattle.obs_edit.specs.Planned.{prices_of}
+use Rattle.obs_case.specs.Tables.{prices_of}
 use Rattle.obs_edit.proofs.Priced.{cheap_prices, few_prices}
 use Rattle.obs_edit.proofs.placing.Placing.make.Goals as goal
 
