@@ -1,0 +1,176 @@
+"""What the program is to answer to a small case, from the definitions alone.
+
+It shares nothing with the program: buses, components and islands are sets that are closed under joining, and every assignment, every
+set of buses and every set of candidates is tried. Cases of up to about eight branches and a dozen items take milliseconds.
+"""
+import functools
+import itertools
+
+
+class Case:
+    """Rows of five tables; ends and places are positions.
+
+    nodes: (name, is a source); switches and branches: [name, from, to, closed or in service];
+    meters: [name, kind, at, in service]; candidates: [name, kind, at, price].
+    """
+
+    def __init__(self, nodes, switches, branches, meters, candidates):
+        self.nodes = nodes
+        self.switches = switches
+        self.branches = branches
+        self.meters = meters
+        self.candidates = candidates
+
+
+def firsts(count, links):
+    """For each of so many things the first one that it is joined with."""
+    joined = [{i} for i in range(count)]
+    changed = True
+    while changed:
+        changed = False
+        for a, b in links:
+            both = joined[a] | joined[b]
+            for i in both:
+                if joined[i] != both:
+                    joined[i] = both
+                    changed = True
+    return [min(others) for others in joined]
+
+
+class Network:
+    """The network of a case, and what can be assigned there."""
+
+    def __init__(self, case):
+        self.case = case
+        of_nodes = firsts(len(case.nodes), [(row[1], row[2]) for row in case.switches if row[3]])
+        self.names = sorted(set(of_nodes))
+        self.bus = [self.names.index(first) for first in of_nodes]
+        self.ends = {}
+        for e, row in enumerate(case.branches):
+            if row[3] and self.bus[row[1]] != self.bus[row[2]]:
+                self.ends[e] = (self.bus[row[1]], self.bus[row[2]])
+        self.component = firsts(len(self.names), list(self.ends.values()))
+        sources = {self.component[self.bus[i]] for i, row in enumerate(case.nodes) if row[1]}
+        self.energised = sorted(sources)
+        self.need = {c: self.component.count(c) - 1 for c in self.energised}
+        self.needed = sum(self.need.values())
+        self.live_branches = [e for e in self.ends if self.component[self.ends[e][0]] in sources]
+        rows = [tuple(row) for row in case.meters] + [(*row[:3], True) for row in case.candidates]
+        self.touches = [self.touch(*row[1:]) for row in rows]
+        self.meters = [m for m in range(len(case.meters)) if self.touches[m]]
+        self.candidates = [m for m in range(len(case.meters), len(rows)) if self.touches[m]]
+        self.kept = {}
+
+    def touch(self, kind, at, inservice):
+        if not inservice:
+            return []
+        if kind == "flow":
+            return [e for e in self.live_branches if e == at]
+        return [e for e in self.live_branches if self.bus[at] in self.ends[e]]
+
+    def rank(self, branches):
+        of = firsts(len(self.names), [self.ends[e] for e in branches])
+        return sum(1 for u in range(len(of)) if of[u] != u)
+
+    def forests(self, items):
+        """The sets of branches that assignments of these items have."""
+        key = tuple(sorted(items))
+        if key not in self.kept:
+            if not key:
+                self.kept[key] = {frozenset()}
+            else:
+                found = set(self.forests(key[:-1]))
+                for branches in list(found):
+                    for e in self.touches[key[-1]]:
+                        more = branches | {e}
+                        if e not in branches and self.rank(more) == len(more):
+                            found.add(more)
+                self.kept[key] = found
+        return self.kept[key]
+
+    def rho(self, items):
+        return max(len(branches) for branches in self.forests(items))
+
+    def critical(self, items):
+        return [m for m in items if self.rho([x for x in items if x != m]) < self.rho(items)]
+
+    def bound(self, inside, scope):
+        touched = {e for m in inside for e in self.touches[m]}
+        return self.rank(touched), len([m for m in scope if m not in inside])
+
+    def first(self, items):
+        """The first of the longest assignments: item by item a lower branch before a higher one, and a branch before none."""
+        items = sorted(items)
+
+        def choices(k, branches):
+            for e in self.touches[items[k]]:
+                more = branches | {e}
+                if e not in branches and self.rank(more) == len(more):
+                    yield e, more
+
+        @functools.cache
+        def most(k, branches):
+            if k == len(items):
+                return 0
+            taken = [1 + most(k + 1, more) for _, more in choices(k, branches)]
+            return max([most(k + 1, branches), *taken])
+
+        pairs, branches = [], frozenset()
+        for k, item in enumerate(items):
+            for e, more in choices(k, branches):
+                if 1 + most(k + 1, more) == most(k, branches):
+                    pairs.append((item, e))
+                    branches = more
+                    break
+        return pairs
+
+    def component_of(self, item):
+        return self.component[self.ends[self.touches[item][0]][0]]
+
+    def meters_of(self, c):
+        return [m for m in self.meters if self.component_of(m) == c]
+
+    def is_observable(self, c):
+        return self.rho(self.meters_of(c)) == self.need[c]
+
+    def all_observable(self):
+        return all(self.is_observable(c) for c in self.energised)
+
+    def islands(self):
+        """For each bus the first bus of the largest set around it that is spanned from inside."""
+        spanned = []
+        for count in range(1, len(self.names) + 1):
+            for some in itertools.combinations(range(len(self.names)), count):
+                inside = [m for m in self.meters if all(set(self.ends[e]) <= set(some) for e in self.touches[m])]
+                if self.rho(inside) >= count - 1:
+                    spanned.append(set(some))
+        largest = [s for s in spanned if not any(s < other for other in spanned)]
+        assert sum(map(len, largest)) == len(self.names)
+        return [min(next(s for s in largest if u in s)) for u in range(len(self.names))]
+
+    def price(self, item):
+        return self.case.candidates[item - len(self.case.meters)][3]
+
+    def cheapest(self):
+        """The chosen candidates and the layers (from, to, list, rank, outside), or None where no set completes the meters."""
+        every = self.meters + self.candidates
+        if self.rho(every) < self.needed:
+            return None
+        order = sorted(self.candidates, key=lambda m: (self.price(m), m))
+        chosen = []
+        for k, m in enumerate(order):
+            if self.rho(self.meters + order[: k + 1]) > self.rho(self.meters + order[:k]):
+                chosen.append(m)
+        cost = sum(map(self.price, chosen))
+        for count in range(len(order) + 1):
+            for some in itertools.combinations(order, count):
+                if self.rho(self.meters + list(some)) == self.needed:
+                    assert sum(map(self.price, some)) >= cost
+        layers, start = [], 0
+        for end in sorted({self.price(m) for m in chosen} - {0}):
+            scope = self.meters + [m for m in self.candidates if self.price(m) < end]
+            inside = [m for m in scope if m not in self.critical(scope)]
+            layers.append((start, end, inside, *self.bound(inside, scope)))
+            start = end
+        assert sum((self.needed - layer[3] - layer[4]) * (layer[1] - layer[0]) for layer in layers) == cost
+        return sorted(chosen), layers
