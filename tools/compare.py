@@ -19,7 +19,7 @@ import tempfile
 import model_claims
 import model_reads
 from model import Case
-from model_text import ASKS, EDITS, Text, session, trial
+from model_text import ASKS, EDITS, Text, line, session, trial
 
 NAMES = ["a", "b", "Bus 1", "x y", "9", "Z", "node,7", 'q"', "é", "k" * 64, "mm", "#h"]
 PRICES = [0, 1, 2, 2, 3, 5, 10**9]
@@ -146,6 +146,13 @@ def session_lines(r, case):
     return b"\n".join(lines) + (b"\n" if r.random() < 0.8 else b"")
 
 
+def all_bounds(text):
+    """A bound for each energised component, observable or not, whose list are all its live meters."""
+    n = text.network
+    owned = [(c, n.meters_of(c)) for c in n.energised]
+    return "".join(line("bound", text.bus(c), *n.bound(own, own)) + text.inside(own) for c, own in owned) + "end\n"
+
+
 def spoilt_claims(r, case, text):
     """A certificate of which up to three lines are left out, repeated, exchanged, or have another word."""
     lines = [one.split("\t") for one in text.split("\n")[:-1]]
@@ -267,7 +274,7 @@ def compare_case(number, runs):
         words = ["session", *form, *(["with", FILES[4]] if offered else [])]
         runs.compare(number, kind, words, *session(case, offered, given), given)
     elif kind == "verify":
-        printed = r.choice([text.ask("cert"), text.ask("place"), text.claims() + text.ask("place")])
+        printed = r.choice([text.ask("cert"), text.ask("place"), text.claims() + text.ask("place"), all_bounds(text)])
         claims = spoilt_claims(r, case, printed).encode()
         runs.write("claims", claims)
         runs.compare(number, kind, ["verify", *form, "with", FILES[4], "claims"], *model_claims.verify(case, claims))
