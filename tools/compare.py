@@ -10,6 +10,7 @@ are to be those of tools/model.py and the files beside it, which share nothing w
 each kind and fault, and stops at the first that differs.
 """
 import collections
+import os
 import random
 import re
 import subprocess
@@ -180,7 +181,7 @@ class Runs:
     """Runs the program in a folder, and counts the cases."""
 
     def __init__(self, program, folder):
-        self.program, self.folder = program, folder
+        self.program, self.folder = os.path.abspath(program), folder
         self.count = collections.Counter()
 
     def write(self, name, content):

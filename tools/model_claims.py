@@ -148,7 +148,7 @@ class Claim:
             ("WrongRank", lambda: self.kind != b"tree" and any(b[0] != n.bound(b[2], b[3])[0] for b in self.bounds())),
             ("WrongOutside", lambda: self.kind != b"tree" and any(b[1] != n.bound(b[2], b[3])[1] for b in self.bounds())),
             ("NotBelow", lambda: self.kind != b"tree" and any(b[0] + b[1] >= b[4] for b in self.bounds())),
-            ("WrongLayers", lambda: any(l[0][0] != end or l[0][0] >= l[0][1] for l, end in zip(self.layers, ends))),
+            ("WrongLayers", lambda: any(start != end or start >= to for ((start, to, _, _), _), end in zip(self.layers, ends))),
             ("WrongCost", lambda: self.kind == b"cost" and self.sums_are_wrong()),
         ]
         return next((name for name, fails in tests if fails()), None)
