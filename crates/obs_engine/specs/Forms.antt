@@ -81,7 +81,7 @@ pub record ReadFailed (words : List ℕ) (content : ℕ → Option (List ℕ)) (
   pub others : (w : ℕ) → w ≢ word → now w ≡ before w
   pub fits : (w : ℕ) → In w before_it → (bytes : List ℕ) → content w ≡ Some bytes → is_too_long bytes ≡ false
 
--- reading a file of a form failed: nothing of the input was asked for, and nothing is written
+-- reading a file of a form failed: nothing of the input is taken, no read of it failed, and nothing is written
 pub record FileFailed
     (form : Option Form) (content : ℕ → Option (List ℕ)) (before now : ℕ → ℕ) (left left_now : Option (List ℕ)) (input_before input_now : ℕ)
     (written written_now : Option (List ℕ)) : Type 0 where

@@ -37,7 +37,7 @@ pub fn run<F: Files, S: Source, W: Sink>(
 
     // Which answers the words can have, and the cause of each that says that something failed. Files are read in the
     // order of their words, and no word is asked behind the first whose file fails or is too long. After a file that
-    // failed nothing is written, and the input isn't asked for.
+    // failed nothing is written and nothing of the input taken.
     ensures statuses { CanAnswer (form_of (map string_bytes words.now)) result }
     ensures read { result ≡ Status.ReadFault
         → AnyReadFailed (form_of (map string_bytes words.now)) (F.content files.old)
