@@ -72,15 +72,19 @@ IsMoved-made now path g touches meters slots new frozen turns after_turns forest
           (subst (λ (s : List (Option ℕ)). HF (take meters frozen) s) (sym first) has);
     }
 
+-- the branches of a part of the pairs are a forest
+pub forest_within : (ends : List (Option Ends)) (slots new : List (Option ℕ)) → ((m e : ℕ) → get_or new m None ≡ Some e → get_or slots m None ≡ Some e) → IsForestAt ends (branches (pairs_of slots))
+    → IsForestAt ends (branches (pairs_of new))
+forest_within ends slots new within f =
+    let L = branches (pairs_of slots) in
+    let K = branches (pairs_of new) in
+    let apart : SlotsApart new = λ k n e h j. slots_apart ends slots f k n e (within k e h) (within n e j) in
+    IsForestAt-among ends L K f (λ q c. let s = branch_slot new q (In-from_Contains q K c) in Contains-from_In q L (slot_branch slots s.0 q (within s.0 q s.1)))
+    (pairs_from_IsDistinct K (distinct-from_apart new apart))
+
 -- the branches without those of a meter are a forest
 pub forest_dropped : (ends : List (Option Ends)) (slots : List (Option ℕ)) (m : ℕ) → IsForestAt ends (branches (pairs_of slots)) → IsForestAt ends (branches (pairs_of (set slots m None)))
-forest_dropped ends slots m f =
-    let L = branches (pairs_of slots) in
-    let K = branches (pairs_of (set slots m None)) in
-    let apart : SlotsApart (set slots m None) = λ k n e h j. slots_apart ends slots f k n e (slot_without slots m k e h).1 (slot_without slots m n e j).1 in
-    IsForestAt-among ends L K f
-    (λ q c. let s = branch_slot (set slots m None) q (In-from_Contains q K c) in Contains-from_In q L (slot_branch slots s.0 q (slot_without slots m s.0 q s.1).1))
-    (pairs_from_IsDistinct K (distinct-from_apart (set slots m None) apart))
+forest_dropped ends slots m f = forest_within ends slots (set slots m None) (λ k e h. (slot_without slots m k e h).1) f
 
 pub record IsDropped (now : Assignment) (m : ℕ) (g : Graph) (new : Assignment) : Type 0 where
   pub slots_are : new.slots ≡ set now.slots m None

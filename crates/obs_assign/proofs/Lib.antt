@@ -17,3 +17,4 @@ pub mod Afterwards
 pub mod Handing
 pub mod Unlisting
 pub mod Losing
+pub mod Stepping

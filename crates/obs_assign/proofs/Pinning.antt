@@ -12,7 +12,7 @@ use Rattle.obs_assign.specs.Pins.{pinned_slots}
 use Rattle.obs_assign.proofs.Slotted.{branch_slot, none_some, slot_branch, some_same}
 
 -- nothing was written
-nothing : (slots : List (Option ℕ)) (x : ℕ) → get_or (set slots x None) x None ≡ None
+pub nothing : (slots : List (Option ℕ)) (x : ℕ) → get_or (set slots x None) x None ≡ None
 nothing slots x = elim (cases_lt x (length slots)) [
   | inl l ↦ get_or-set_same slots x None None l
   | inr l ↦ get_or_past (set slots x None) x None (omega (arith, l, length-set slots x None))

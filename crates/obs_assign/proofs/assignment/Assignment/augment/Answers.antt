@@ -1,4 +1,6 @@
 use Rattle.std.proofs.Common.{◌≡◌, ◌++◌, length, take, drop, refl, ap, sym, ◌∙◌, subst}
+use Rattle.obs_matroid.specs.Assignments.{branches}
+use Rattle.obs_matroid.specs.Slots.{pairs_of}
 use Rattle.obs_forest.specs.Forest.{Forest}
 use Rattle.obs_forest.specs.Forest.{StandsOver as ForestStandsOver}
 use Rattle.obs_forest.proofs.Lent.{lent_back, lent_len}
@@ -7,6 +9,7 @@ use Rattle.obs_assign.specs.Kept.{seen}
 use Rattle.obs_assign.specs.Moves.{moved}
 use Rattle.obs_assign.proofs.Keeping.{HasArrays-same, IsKept-by, held_listed, path_different, path_some}
 use Rattle.obs_assign.proofs.Changes.{IsMoved, IsMoved-made}
+use Rattle.obs_assign.proofs.Slotted.{IsForestAt-over}
 use Rattle.obs_assign.proofs.assignment.Assignment.augment.Goals as goal
 use Rattle.obs_assign.proofs.assignment.Assignment.augment.Given.{Over}
 use Rattle.obs_assign.proofs.assignment.Assignment.augment.Goals.{After-turn-self-inside}
@@ -26,6 +29,12 @@ take_path-self-inside-requires-clause-held g c =
     let stands = take_path-self-inside-requires-clause-stands g c in
     rw c.deref_mut-3.ensures.value
     (held_listed ins.forest c.args.g.now (take ins.meters ins.slots.items) (take ins.count ins.list.items) stands c.self.invariant.whole.paired.holds c.self.invariant.listed)
+
+pub take_path-self-inside-requires-clause-before : goal.take_path-self-inside-requires-clause-before
+take_path-self-inside-requires-clause-before g c =
+    let ins = c.self.inside in
+    let stands = take_path-self-inside-requires-clause-stands g c in
+    rw c.deref_mut.ensures.value (IsForestAt-over ins.forest.held c.args.g.now.ends (branches (pairs_of (take ins.meters ins.slots.items))) stands.held c.self.invariant.whole.paired.holds.forest)
 
 -- as many slots after the call, and the vector has them as the call left them
 length_new : (g : Over) (c : After-turn-self-inside g) → length c.take_path-self-inside.new.slots ≡ length c.self.inside.slots.items
