@@ -198,20 +198,17 @@ module _ (ends : List (Option Ends)) (slots : List (Option ℕ)) (frozen : List 
   no_owner f y t h = clash (joins-own ends (branches (part (has_flag frozen) (pairs_of slots))) e
       (In-branches (part (has_flag frozen) (pairs_of slots)) (y, e) (In-part (has_flag frozen) (pairs_of slots) (y, e) (slot_at slots y e h) t))) f
 
-  pub spare_some : (spare : Option ℕ) → joins ends (branches (part (has_flag frozen) (pairs_of slots))) e ≡ false
-      → MatchOption spare (joins ends (branches (part (has_flag frozen) (pairs_of slots))) e ≡ true) (λ x. IsSpare ends slots frozen m e x) → (x : ℕ) × (spare ≡ Some x) × IsSpare ends slots frozen m e x
-  spare_some None f h = clash h f
-  spare_some (Some x) f h = (x, refl, h)
-
-may_core : (a : Assignment) (ends : List (Option Ends)) (m e : ℕ) (spare : Option ℕ) → is_frozen a m ≡ false
+spare_core : (a : Assignment) (ends : List (Option Ends)) (m e : ℕ) (spare : Option ℕ) → is_frozen a m ≡ false
     → MatchOption spare (joins ends (frozen_branches a) e ≡ true) (λ x. IsSpare ends a.slots a.frozen m e x)
-    → (IsSome spare → MayPin a ends m e) × (MayPin a ends m e → IsSome spare)
-may_core a ends m e None fm h = ((λ s. absurd cc), (λ p. clash h p.apart))
-may_core a ends m e (Some x) fm h =
+    → IfSome spare (λ x. IsSpare ends a.slots a.frozen m e x) × ((IsSome spare → MayPin a ends m e) × (MayPin a ends m e → IsSome spare))
+spare_core a ends m e None fm h = (tt, ((λ s. absurd cc), (λ p. clash h p.apart)))
+spare_core a ends m e (Some x) fm h =
     let off = spare_apart ends a.slots a.frozen m e x fm h in
-    ((λ s. record { thawed = fm; free = no_owner ends a.slots a.frozen m e off; apart = off }), (λ p. refl))
+    (h, ((λ s. record { thawed = fm; free = no_owner ends a.slots a.frozen m e off; apart = off }), (λ p. refl)))
 
-pub may_from : (a now : Assignment) (ends : List (Option Ends)) (m e : ℕ) (spare : Option ℕ) → a ≡ now → is_frozen a m ≡ false
+-- what is found says whether a pin may be made, and which meter gives up its pair
+pub spare_from : (a now : Assignment) (ends : List (Option Ends)) (m e : ℕ) (spare : Option ℕ) → a ≡ now → is_frozen a m ≡ false
     → MatchOption spare (joins ends (frozen_branches a) e ≡ true) (λ x. IsSpare ends a.slots a.frozen m e x)
-    → (IsSome spare → MayPin now ends m e) × (MayPin now ends m e → IsSome spare)
-may_from a now ends m e spare is fm h = subst (λ (b : Assignment). (IsSome spare → MayPin b ends m e) × (MayPin b ends m e → IsSome spare)) is (may_core a ends m e spare fm h)
+    → IfSome spare (λ x. IsSpare ends now.slots now.frozen m e x) × ((IsSome spare → MayPin now ends m e) × (MayPin now ends m e → IsSome spare))
+spare_from a now ends m e spare is fm h =
+    subst (λ (b : Assignment). IfSome spare (λ x. IsSpare ends b.slots b.frozen m e x) × ((IsSome spare → MayPin b ends m e) × (MayPin b ends m e → IsSome spare))) is (spare_core a ends m e spare fm h)

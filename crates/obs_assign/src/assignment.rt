@@ -8,8 +8,9 @@ ghost use Rattle.obs_meter.specs.Touches.{every_item, touch_at};
 ghost use Rattle.obs_forest.specs.Forest.{StandsOver as ForestStandsOver};
 ghost use Rattle.obs_assign.specs.Assignment.{Fits, HasRoomOf, IsWhole, StandsOver, branch_at, is_frozen, pairs};
 ghost use Rattle.obs_assign.specs.Moves.{ArePath, moved, turned};
-ghost use Rattle.obs_assign.specs.Pins.{IsPinnedAt, MayPin};
 ghost use Rattle.obs_assign.specs.Still.{AreRetained};
+
+mod pins;
 
 use crate::Move;
 use crate::hold::{clear_flags, empty, hold_pairs};
@@ -17,7 +18,6 @@ use crate::lose::lose_pair;
 use crate::memory::NoMemory;
 use crate::path::take_path;
 use crate::retain::retain;
-use crate::spare::{spare_for, take_pin};
 use crate::steps::{Steps, turn};
 use obs_forest::Forest;
 use obs_graph::search::Search;
@@ -197,7 +197,7 @@ impl Assignment {
         self.frozen[m as usize]
     }
 
-    /// How many calls of `augment` and `pin` there were. It stands at the last value of a u64 rather than begin anew.
+    /// How many paths were put in and pins made. It stands at the last value of a u64 rather than begin anew.
     pub fn turns(&self) -> u64
         ensures turns { result ≡ self.now.turns }
     {
@@ -270,78 +270,6 @@ impl Assignment {
             self.count,
             m,
         );
-    }
-
-    /// Whether `pin` may be called for m and e, a present branch: whether m isn't frozen, no frozen meter has e, and
-    /// the frozen branches don't join the ends of e.
-    pub fn may_pin(&mut self, g: &Graph, m: u32, e: u32) -> bool
-        requires stands { ForestStandsOver self.old.forest g.now }
-        requires m { m < length self.old.slots }
-        requires present { IsSome (slice_index_or g.now.ends e None) }
-        ensures may { IsTrue result ↔ MayPin self.old g.now.ends m e }
-        ensures same { self.new ≡ self.old }
-    {
-        if self.frozen[m as usize] {
-            return false;
-        }
-        let spare = spare_for(
-            g,
-            &self.forest,
-            &self.slots[..self.meters],
-            &self.owners,
-            &self.frozen[..self.meters],
-            &mut self.path,
-            m,
-            e,
-        );
-        spare.is_some()
-    }
-
-    /// Makes m and e a frozen pair, and ticks once. Any other pair of m or of e is given up, and else at most one,
-    /// which isn't frozen.
-    pub fn pin<L: Ledger>(&mut self, g: &Graph, ms: &Meters, m: u32, e: u32, steps: &mut Steps<L>)
-        requires stands { StandsOver self.old g.now ms.now.touches }
-        requires m { m < length self.old.slots }
-        requires touched { In e (touch_at g.now.ends ms.now.touches m) }
-        requires may { MayPin self.old g.now.ends m e }
-        ensures pinned { (x : ℕ) × IsPinnedAt self.old g.now.ends m e self.new.slots x }
-        ensures frozen { self.new.frozen ≡ slice_set self.old.frozen m true }
-        ensures bound { length (pairs self.new) ≤ length (pairs self.old) + 1 }
-        ensures turns { self.new.turns ≡ turned self.old.turns }
-        ensures tick { steps.new ≡ steps.old + 1 }
-        ensures stands { StandsOver self.new g.now ms.now.touches }
-        ensures whole { IsWhole self.new }
-        ensures same_room { HasRoomOf self.old self.new }
-    {
-        let _ = ms;
-        let _ = g.vertices();
-        let x = spare_for(
-            g,
-            &self.forest,
-            &self.slots[..self.meters],
-            &self.owners,
-            &self.frozen[..self.meters],
-            &mut self.path,
-            m,
-            e,
-        )
-        .unwrap();
-        self.count = take_pin(
-            g,
-            self.meters,
-            &mut self.slots,
-            &mut self.owners,
-            &mut self.list,
-            &mut self.forest,
-            self.count,
-            Move {
-                meter: m,
-                branch: e,
-            },
-            x,
-        );
-        self.frozen[m as usize] = true;
-        self.turns = turn(self.turns, steps);
     }
 
     /// Carries the pairs over to a new network, of as many meters and positions, and thaws all. Gives up each pair

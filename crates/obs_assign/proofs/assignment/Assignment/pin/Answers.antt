@@ -1,189 +1,31 @@
-use Rattle.std.proofs.Common.{◌≡◌, ◌++◌, ◌<◌, ◌≤◌, ◌+◌, ℕ, Bool, List, Option, None, length, take, drop, set, refl, true, ap, sym, ◌∙◌, subst, get_or, length-set, arith}
-use Rattle.std.specs.Prelude.{MatchOption, is_some}
-use Rattle.std.proofs.lemmas.List.{length-take-le}
-use Rattle.obs_graph.specs.Positions.{IsForestAt}
-use Rattle.obs_graph.specs.Graph.{Graph}
-use Rattle.obs_matroid.specs.Assignments.{branches, part}
-use Rattle.obs_matroid.specs.Slots.{pairs_of}
-use Rattle.obs_meter.specs.declared.Touch.{Touch}
-use Rattle.obs_forest.specs.Forest.{Forest}
-use Rattle.obs_forest.specs.Forest.{StandsOver as ForestStandsOver}
-use Rattle.obs_forest.proofs.Lent.{lent_back, lent_len}
-use Rattle.obs_forest.proofs.Refilled.{StandsOver-taken}
-use Rattle.obs_assign.specs.Assignment.{Assignment, HoldsPairs, StandsOver, has_flag, pairs}
-use Rattle.obs_assign.specs.Kept.{seen}
-use Rattle.obs_assign.specs.Pins.{IsPinnedAt, MayPin, joins, pinned_slots}
+use Rattle.std.proofs.Common.{◌≡◌, Option, ℕ, false, sym, subst}
+use Rattle.std.specs.Prelude.{IfSome, slice_index_or}
+use Rattle.obs_meter.specs.declared.Touch.TheVariants.{Nothing}
+use Rattle.obs_meter.proofs.Touched.{touched-present}
+use Rattle.obs_assign.specs.Assignment.{Assignment, StandsOver, is_frozen}
+use Rattle.obs_assign.specs.Pins.{IsPinnedAt}
 use Rattle.obs_assign.specs.Spare.{IsSpare}
-use Rattle.obs_assign.proofs.Keeping.{HasArrays-same, IsKept-by, held_listed}
-use Rattle.obs_assign.proofs.Paths.{spare_some}
-use Rattle.obs_assign.proofs.Pinned.{IsPinnedNew, IsPinnedNew-core, forest_pinned, spare_owner}
-use Rattle.obs_assign.proofs.Pinning.{take-pinned}
-use Rattle.obs_assign.proofs.Slotted.{HoldsPairs-taken, IsForestAt-over}
 use Rattle.obs_assign.proofs.assignment.Assignment.pin.Goals as goal
-use Rattle.obs_assign.proofs.assignment.Assignment.pin.Given.{Over}
-use Rattle.obs_assign.proofs.assignment.Assignment.pin.Goals.{After-unwrap-x, After-take_pin-self-inside}
 
--- what is known before the pairs change: the pin may be made, and x is spare for it
-record IsReady (a : Assignment) (g : Graph) (touches : List Touch) (m e x : ℕ) : Type 0 where
-  stands : StandsOver a g touches
-  low : m < length a.slots
-  may : MayPin a g.ends m e
-  spare : IsSpare g.ends a.slots a.frozen m e x
-
-ready : (g : Over) (c : After-unwrap-x g)
-    → IsReady (seen c.self.inside.meters c.self.inside.slots.items c.self.inside.frozen.items c.self.inside.turns c.self.inside.forest) c.args.g.now c.args.ms.now.touches c.args.m c.args.e c.unwrap-x.result
-ready g c =
-    let ins = c.self.inside in
-    let ends = c.args.g.now.ends in
-    let m = c.args.m in
-    let e = c.args.e in
-    let P : List (Option ℕ) → List Bool → Option ℕ → Type 0 = λ s f o. MatchOption o (joins ends (branches (part (has_flag (take ins.meters f)) (pairs_of (take ins.meters s)))) e ≡ true) (λ x. IsSpare ends (take ins.meters s) (take ins.meters f) m e x) in
-    record {
-      stands = subst (λ (b : Assignment). StandsOver b c.args.g.now c.args.ms.now.touches) (sym c.self.view_is) c.requires.stands;
-      low = subst (λ (b : Assignment). m < length b.slots) (sym c.self.view_is) c.requires.m;
-      may = subst (λ (b : Assignment). MayPin b ends m e) (sym c.self.view_is) c.requires.may;
-      spare = subst (λ (o : Option ℕ). P ins.slots.items ins.frozen.items o) c.unwrap-x.ensures
-          (subst (λ f. P ins.slots.items f c.spare_for.result) c.deref-3.ensures.value (subst (λ s. P s c.deref-3.result.now c.spare_for.result) c.deref.ensures.value c.spare_for.ensures.spare));
-    }
+pub spare-requires-clause-present : goal.spare-requires-clause-present
+spare-requires-clause-present g c = touched-present c.args.g.now.ends (slice_index_or c.args.ms.now.touches c.args.m Nothing) c.args.e c.requires.touched
 
 pub unwrap-x-requires : goal.unwrap-x-requires
-unwrap-x-requires g c =
-    let ins = c.self.inside in
+unwrap-x-requires g c = c.spare.ensures.may.1 c.requires.may
+
+pub pin_for-requires-clause-stands : goal.pin_for-requires-clause-stands
+pin_for-requires-clause-stands g c = subst (λ (b : Assignment). StandsOver b c.args.g.now c.args.ms.now.touches) (sym c.spare.ensures.same) c.requires.stands
+
+pub pin_for-requires-clause-thawed : goal.pin_for-requires-clause-thawed
+pin_for-requires-clause-thawed g c = subst (λ (b : Assignment). is_frozen b c.args.m ≡ false) (sym c.spare.ensures.same) c.requires.may.thawed
+
+pub pin_for-requires-clause-spare : goal.pin_for-requires-clause-spare
+pin_for-requires-clause-spare g c =
     let ends = c.args.g.now.ends in
     let m = c.args.m in
     let e = c.args.e in
-    let may : MayPin (seen ins.meters ins.slots.items ins.frozen.items ins.turns ins.forest) ends m e = subst (λ (b : Assignment). MayPin b ends m e) (sym c.self.view_is) c.requires.may in
-    let P : List (Option ℕ) → List Bool → Type 0 = λ s f. MatchOption c.spare_for.result (joins ends (branches (part (has_flag (take ins.meters f)) (pairs_of (take ins.meters s)))) e ≡ true) (λ x. IsSpare ends (take ins.meters s) (take ins.meters f) m e x) in
-    let h : P ins.slots.items ins.frozen.items = subst (λ f. P ins.slots.items f) c.deref-3.ensures.value (subst (λ s. P s c.deref-3.result.now) c.deref.ensures.value c.spare_for.ensures.spare) in
-    let some = spare_some ends (take ins.meters ins.slots.items) (take ins.meters ins.frozen.items) m e c.spare_for.result may.apart h in
-    ap is_some some.1
-
-pub take_pin-self-inside-requires-clause-held : goal.take_pin-self-inside-requires-clause-held
-take_pin-self-inside-requires-clause-held g c =
-    let ins = c.self.inside in
-    let r = ready g (goal.at.take_pin-self-inside-requires-clause-held g c).After-unwrap-x in
-    rw c.deref_mut-4.ensures.value
-    (held_listed ins.forest c.args.g.now (take ins.meters ins.slots.items) (take ins.count ins.list.items) r.stands.forest c.self.invariant.whole.paired.holds c.self.invariant.listed)
-
-pub take_pin-self-inside-requires-clause-before : goal.take_pin-self-inside-requires-clause-before
-take_pin-self-inside-requires-clause-before g c =
-    let ins = c.self.inside in
-    let r = ready g (goal.at.take_pin-self-inside-requires-clause-before g c).After-unwrap-x in
-    rw c.deref_mut-2.ensures.value (IsForestAt-over ins.forest.held c.args.g.now.ends (branches (pairs_of (take ins.meters ins.slots.items))) r.stands.forest.held c.self.invariant.whole.paired.holds.forest)
-
-pub take_pin-self-inside-requires-clause-spare : goal.take_pin-self-inside-requires-clause-spare
-take_pin-self-inside-requires-clause-spare g c =
-    let ins = c.self.inside in
-    let r = ready g (goal.at.take_pin-self-inside-requires-clause-spare g c).After-unwrap-x in
-    let a : Assignment = seen ins.meters ins.slots.items ins.frozen.items ins.turns ins.forest in
-    λ y h. spare_owner c.args.g.now.vertices c.args.g.now c.args.ms.now.touches a c.vertices-self-inside.ensures.branches c.self.invariant.whole r.stands c.args.m c.args.e c.unwrap-x.result r.low c.requires.touched r.may.thawed r.spare y
-    (ap (λ (s : List (Option ℕ)). get_or (take ins.meters s) y None) (sym c.deref_mut-2.ensures.value) ∙ h)
-
-pinned_forest : (g : Over) (c : After-unwrap-x g) → IsForestAt c.args.g.now.ends (branches (pairs_of (pinned_slots (take c.self.inside.meters c.self.inside.slots.items) c.args.m c.args.e c.unwrap-x.result)))
-pinned_forest g c =
-    let ins = c.self.inside in
-    let r = ready g c in
-    let a : Assignment = seen ins.meters ins.slots.items ins.frozen.items ins.turns ins.forest in
-    forest_pinned c.args.g.now.vertices c.args.g.now c.args.ms.now.touches a c.vertices-self-inside.ensures.branches c.self.invariant.whole r.stands c.args.m c.args.e c.unwrap-x.result r.low c.requires.touched r.may.thawed r.spare
-
-pub take_pin-self-inside-requires-clause-forest : goal.take_pin-self-inside-requires-clause-forest
-take_pin-self-inside-requires-clause-forest g c =
-    let ins = c.self.inside in
-    subst (λ (s : List (Option ℕ)). IsForestAt c.args.g.now.ends (branches (pairs_of (pinned_slots (take ins.meters s) c.args.m c.args.e c.unwrap-x.result)))) (sym c.deref_mut-2.ensures.value)
-    (pinned_forest g (goal.at.take_pin-self-inside-requires-clause-forest g c).After-unwrap-x)
-
--- the slots after the call, and as the vector has them
-new_is : (g : Over) (c : After-take_pin-self-inside g) → c.take_pin-self-inside.new.slots ≡ pinned_slots c.self.inside.slots.items c.args.m c.args.e c.unwrap-x.result
-new_is g c = c.take_pin-self-inside.ensures.slots ∙ ap (λ (s : List (Option ℕ)). pinned_slots s c.args.m c.args.e c.unwrap-x.result) c.deref_mut-2.ensures.value
-
-length_new : (g : Over) (c : After-take_pin-self-inside g) → length c.take_pin-self-inside.new.slots ≡ length c.self.inside.slots.items
-length_new g c = lent_len c.take_pin-self-inside.new.slots c.take_pin-self-inside.auto.slots c.deref_mut-2.ensures.value
-
-slots_back : (g : Over) (c : After-take_pin-self-inside g) → take c.self.inside.slots.len (c.take_pin-self-inside.new.slots ++ drop (length c.take_pin-self-inside.new.slots) c.self.inside.slots.items) ≡ c.take_pin-self-inside.new.slots
-slots_back g c = let slots = c.self.inside.slots in lent_back slots.len c.take_pin-self-inside.new.slots slots.items c.take_pin-self-inside.auto.slots c.deref_mut-2.ensures.value slots.ok.0
-
--- the assignment that is seen afterwards
-made : (g : Over) (c : After-take_pin-self-inside g) (turns : ℕ)
-    → IsReady (seen c.self.inside.meters c.self.inside.slots.items c.self.inside.frozen.items c.self.inside.turns c.self.inside.forest) c.args.g.now c.args.ms.now.touches c.args.m c.args.e c.unwrap-x.result
-    → IsForestAt c.args.g.now.ends (branches (pairs_of (pinned_slots (take c.self.inside.meters c.self.inside.slots.items) c.args.m c.args.e c.unwrap-x.result)))
-    → IsPinnedNew (seen c.self.inside.meters c.self.inside.slots.items c.self.inside.frozen.items c.self.inside.turns c.self.inside.forest) c.args.g.now c.args.ms.now.touches c.args.m c.args.e c.unwrap-x.result
-    (seen c.self.inside.meters c.take_pin-self-inside.new.slots (set c.self.inside.frozen.items c.args.m true) turns c.take_pin-self-inside.new.forest)
-made g c turns r forest =
-    let ins = c.self.inside in
-    let kept = c.self.invariant in
-    let t = c.take_pin-self-inside in
-    let x = c.unwrap-x.result in
-    let m = c.args.m in
-    let e = c.args.e in
-    let lt = length-take-le ins.meters ins.slots.items kept.arrays.meters_low in
-    let first : take ins.meters t.new.slots ≡ pinned_slots (take ins.meters ins.slots.items) m e x =
-    ap (take ins.meters) (new_is g c) ∙ take-pinned ins.meters ins.slots.items m e x (omega (arith, lt, r.low)) (omega (arith, lt, r.spare.low)) in
-    let list = branches (pairs_of (take ins.meters t.new.slots)) in
-    let holds : HoldsPairs (take ins.meters t.new.slots) t.new.forest.held =
-    subst (λ (h : Forest). HoldsPairs (take ins.meters t.new.slots) h.held) (sym t.ensures.forest)
-    (HoldsPairs-taken c.args.g.now.ends (take ins.meters t.new.slots) (subst (λ (s : List (Option ℕ)). IsForestAt c.args.g.now.ends (branches (pairs_of s))) (sym first) forest)) in
-    let over : ForestStandsOver t.new.forest c.args.g.now = subst (λ (h : Forest). ForestStandsOver h c.args.g.now) (sym t.ensures.forest) (StandsOver-taken ins.forest c.args.g.now list) in
-    IsPinnedNew-core c.args.g.now.vertices c.args.g.now c.args.ms.now.touches ins.meters ins.slots.items t.new.slots ins.frozen.items ins.turns turns ins.forest t.new.forest m e x
-    c.vertices-self-inside.ensures.branches kept.whole kept.arrays.meters_low kept.arrays.frozen (length_new g c) r.stands r.low c.requires.touched r.may.thawed r.spare first holds over
-    (ap (λ (h : Forest). h.most_vertices) t.ensures.forest) (ap (λ (h : Forest). h.most_branches) t.ensures.forest)
-
-pub invariant_of-self : goal.invariant_of-self
-invariant_of-self g c =
-    let a = (goal.at.invariant_of-self g c).After-take_pin-self-inside in
-    let u = (goal.at.invariant_of-self g c).After-unwrap-x in
-    let ins = c.self.inside in
-    let kept = c.self.invariant in
-    let t = c.take_pin-self-inside in
-    let owners = t.new.owners in
-    let list = t.new.list in
-    let path = c.spare_for.new.path in
-    let most_v = ap (λ (h : Forest). h.most_vertices) t.ensures.forest in
-    let most_b = ap (λ (h : Forest). h.most_branches) t.ensures.forest in
-    let back_owners = lent_back ins.owners.len owners ins.owners.items t.auto.owners c.deref_mut-3.ensures.value ins.owners.ok.0 in
-    let back_list = lent_back ins.list.len list ins.list.items t.auto.list c.deref_mut-4.ensures.value ins.list.ok.0 in
-    let back_path = lent_back ins.path.len path ins.path.items c.spare_for.auto.path c.deref_mut.ensures.value ins.path.ok.0 in
-    rw (slots_back g a, back_owners, back_list, back_path) (IsKept-by _ (made g a c.turn-self-inside.result (ready g u) (pinned_forest g u)).whole _ _ _ _ _
-    (HasArrays-same _ _ _ _ _ _ kept.arrays (length_new g a) most_v most_b kept.arrays.meters_low
-    (record {
-      frozen = length-set ins.frozen.items c.args.m true;
-      list = lent_len list t.auto.list c.deref_mut-4.ensures.value;
-      path = lent_len path c.spare_for.auto.path c.deref_mut.ensures.value;
-      candidates = refl;
-      search = refl;
-    }))
-    t.ensures.count t.ensures.inverse (lent_len owners t.auto.owners c.deref_mut-3.ensures.value ∙ (kept.owners_len ∙ sym most_b)) t.ensures.listed)
+    subst (λ (b : Assignment). IsSpare ends b.slots b.frozen m e c.unwrap-x.result) (sym c.spare.ensures.same)
+    (subst (λ (o : Option ℕ). IfSome o (λ x. IsSpare ends c.args.self.now.slots c.args.self.now.frozen m e x)) c.unwrap-x.ensures c.spare.ensures.spare)
 
 pub returns-clause-pinned : goal.returns-clause-pinned
-returns-clause-pinned g c =
-    let a = (goal.at.returns-clause-pinned g c).After-take_pin-self-inside in
-    let u = (goal.at.returns-clause-pinned g c).After-unwrap-x in
-    let meters = c.self.inside.meters in (
-      c.unwrap-x.result,
-      rw (slots_back g a) (subst (λ (b : Assignment). IsPinnedAt b c.args.g.now.ends c.args.m c.args.e (take meters c.take_pin-self-inside.new.slots) c.unwrap-x.result) c.self.view_is
-          (made g a c.turn-self-inside.result (ready g u) (pinned_forest g u)).pinned_is),
-    )
-
-pub returns-clause-frozen : goal.returns-clause-frozen
-returns-clause-frozen g c =
-    let a = (goal.at.returns-clause-frozen g c).After-take_pin-self-inside in
-    let u = (goal.at.returns-clause-frozen g c).After-unwrap-x in
-    (made g a c.turn-self-inside.result (ready g u) (pinned_forest g u)).frozen_is ∙ ap (λ (b : Assignment). set b.frozen c.args.m true) c.self.view_is
-
-pub returns-clause-bound : goal.returns-clause-bound
-returns-clause-bound g c =
-    let a = (goal.at.returns-clause-bound g c).After-take_pin-self-inside in
-    let u = (goal.at.returns-clause-bound g c).After-unwrap-x in
-    let new = take c.self.inside.meters c.take_pin-self-inside.new.slots in
-    rw (slots_back g a) (subst (λ (b : Assignment). length (pairs_of new) ≤ length (pairs b) + 1) c.self.view_is (made g a c.turn-self-inside.result (ready g u) (pinned_forest g u)).bound)
-
-pub returns-clause-stands : goal.returns-clause-stands
-returns-clause-stands g c =
-    let a = (goal.at.returns-clause-stands g c).After-take_pin-self-inside in
-    let u = (goal.at.returns-clause-stands g c).After-unwrap-x in
-    rw (slots_back g a) (made g a c.turn-self-inside.result (ready g u) (pinned_forest g u)).stands
-
-pub returns-clause-whole : goal.returns-clause-whole
-returns-clause-whole g c =
-    let a = (goal.at.returns-clause-whole g c).After-take_pin-self-inside in
-    let u = (goal.at.returns-clause-whole g c).After-unwrap-x in
-    rw (slots_back g a) (made g a c.turn-self-inside.result (ready g u) (pinned_forest g u)).whole
+returns-clause-pinned g c = (c.unwrap-x.result, subst (λ (b : Assignment). IsPinnedAt b c.args.g.now.ends c.args.m c.args.e c.pin_for.new.self.slots c.unwrap-x.result) c.spare.ensures.same c.pin_for.ensures.pinned)
