@@ -11,6 +11,7 @@ use Rattle.obs_assign.specs.Assignment.{Assignment, HasRoomOf, StandsOver}
 use Rattle.obs_exchange.specs.Found.{Work}
 use Rattle.obs_exchange.specs.Laws.{HasClosedSet, IsThawed}
 use Rattle.obs_exchange.proofs.Lengthening.{room_again, rooms}
+use Rattle.obs_islands.specs.GivenUp.{GivesUp}
 use Rattle.obs_islands.specs.Rounds.{AreFirsts, is_crossed, kept, remaining, straddles}
 use Rattle.obs_islands.proofs.Crossing.{fewer_stars, kept_cases, remaining_at, remaining_in_range, stars}
 use Rattle.obs_islands.proofs.Discarding.{HoldsAll, IsUsedOf, round_holds}
@@ -37,24 +38,25 @@ room_less : (g : Graph) (us vs : List Touch) (w : Work) → length vs ≡ length
 room_less g us vs w e r = record { meters = let m = r.meters in omega (arith, e, m); branches = r.branches; vertices = r.vertices }
 
 module _ (g : Graph) (ts us vs : List Touch) (first : Assignment) (start : Work) (a b c : Assignment) (w x : Work) (S : ℕ → Bool) (firsts : List ℕ)
-    (h : IsSettling g ts us first start a w) (closed : HasClosedSet b g us S) (thawed : IsThawed b) (named : AreFirsts g.vertices b.forest.held firsts)
-    (remains : vs ≡ remaining (is_crossed g.ends firsts) us) (room : HasRoomOf a b) (size : x.sizes ≡ w.sizes) where
+    (h : IsSettling g ts us first start a w) (marked : ℕ → Bool)
+    (closed : HasClosedSet b g us S) (thawed : IsThawed b) (named : AreFirsts g.vertices b.forest.held firsts)
+    (gives_up : GivesUp g.ends us b (is_crossed g.ends firsts) marked) (remains : vs ≡ remaining marked us) (room : HasRoomOf a b) (size : x.sizes ≡ w.sizes) where
   pub remain-length : length vs ≡ length us
-  remain-length = ap (λ (ys : List Touch). length ys) remains ∙ length-map us (kept (is_crossed g.ends firsts))
+  remain-length = ap (λ (ys : List Touch). length ys) remains ∙ length-map us (kept marked)
 
   pub Settling-next : StandsOver c g vs → IsThawed c → HasRoomOf b c → IsSettling g ts vs first start c x
   Settling-next stands thaw more = record {
     stands = stands;
-    in_range = rw remains (remaining_in_range g (is_crossed g.ends firsts) us h.in_range);
+    in_range = rw remains (remaining_in_range g marked us h.in_range);
     room = room_less g us vs x remain-length (room_again g us w.sizes x.sizes size h.room);
     thawed = thaw;
     one_each = remain-length ∙ h.one_each;
-    used = rw remains (still_used ts us (is_crossed g.ends firsts) h.used);
-    holds = rw remains (round_holds g ts us h.used b S closed thawed firsts named h.holds);
+    used = rw remains (still_used ts us marked h.used);
+    holds = rw remains (round_holds g ts us h.used b S closed thawed firsts named marked gives_up h.holds);
     same_room = rooms first b c (rooms first a b h.same_room room) more;
     same_sizes = size ∙ h.same_sizes;
   }
 
   -- where a star straddles, fewer stars remain
-  pub Settling-smaller : list_any (straddles (is_crossed g.ends firsts)) us ≡ true → stars vs < stars us
-  Settling-smaller t = rw remains (fewer_stars (is_crossed g.ends firsts) us t)
+  pub Settling-smaller : list_any (straddles marked) us ≡ true → stars vs < stars us
+  Settling-smaller t = rw remains (fewer_stars marked us t)

@@ -2,3 +2,4 @@ pub mod Islands
 pub mod Firsts
 pub mod IslandWork
 pub mod Rounds
+pub mod GivenUp

@@ -2,10 +2,13 @@
 ghost use Rattle.std.specs.Prelude.{◌≡◌, All, length};
 ghost use Rattle.std.specs.List.{list_any};
 ghost use Rattle.obs_meter.specs.Touches.{AreInRange};
-ghost use Rattle.obs_assign.specs.Assignment.{has_flag};
+ghost use Rattle.obs_assign.specs.Assignment.{StandsOver, has_flag};
+ghost use Rattle.obs_islands.specs.GivenUp.{GivesUp};
 ghost use Rattle.obs_islands.specs.Rounds.{IsStarBelow, is_crossed, remaining, straddles};
 
+use crate::follow::follow;
 use crate::pieces::mark_crossed;
+use obs_assign::Assignment;
 use obs_graph::Graph;
 use obs_meter::{Meters, Touch};
 
@@ -52,22 +55,29 @@ fn keep_others(ms: &Meters, crossed: &[bool], touches: &mut [Touch]) -> bool
     some
 }
 
-/// Writes what each item touches, and nothing where it touches all branches at a vertex and one of these lies between
-/// two pieces. Says whether there is such an item.
+/// Marks the vertices at which a branch lies between two pieces and those that are given up after them. Writes what
+/// each item touches, and nothing where it touches all branches at a marked vertex. Says whether there is such an item.
 pub(crate) fn discard(
     g: &Graph,
     ms: &Meters,
+    pairs: &Assignment,
     firsts: &[u32],
     crossed: &mut [bool],
+    queue: &mut [u32],
     touches: &mut [Touch],
 ) -> bool
+    requires stands { StandsOver pairs.now g.now ms.now.touches }
     requires in_range { AreInRange g.now ms.now.touches }
     requires firsts { length firsts.now ≡ g.now.vertices }
     requires crossed { length crossed.old ≡ g.now.vertices }
+    requires queue { length queue.old ≡ g.now.vertices }
     requires one_each { length touches.old ≡ length ms.now.touches }
-    ensures remaining { touches.new ≡ remaining (is_crossed g.now.ends firsts.now) ms.now.touches }
-    ensures some { result ≡ list_any (straddles (is_crossed g.now.ends firsts.now)) ms.now.touches }
+    ensures gives_up { GivesUp g.now.ends ms.now.touches pairs.now
+        (is_crossed g.now.ends firsts.now) (has_flag crossed.new) }
+    ensures remaining { touches.new ≡ remaining (has_flag crossed.new) ms.now.touches }
+    ensures some { result ≡ list_any (straddles (has_flag crossed.new)) ms.now.touches }
 {
     mark_crossed(g, firsts, crossed);
+    follow(g, ms, pairs, crossed, queue);
     keep_others(ms, crossed, touches)
 }

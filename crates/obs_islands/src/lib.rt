@@ -2,6 +2,7 @@
 #![tactic(auto)]
 
 mod discard;
+mod follow;
 pub mod laws;
 mod memory;
 mod pieces;

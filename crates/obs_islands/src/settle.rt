@@ -6,6 +6,7 @@ ghost use Rattle.obs_meter.specs.Touches.{AreInRange};
 ghost use Rattle.obs_assign.specs.Assignment.{Fits, HasRoomOf, StandsOver, has_flag};
 ghost use Rattle.obs_exchange.specs.Laws.{HasClosedSet, IsThawed};
 ghost use Rattle.obs_islands.specs.Firsts.{islands_of};
+ghost use Rattle.obs_islands.specs.GivenUp.{GivesUp};
 ghost use Rattle.obs_islands.specs.Rounds.{AreFirsts, is_crossed, remaining, straddles};
 
 use crate::discard::{copy_touches, discard};
@@ -26,6 +27,7 @@ fn round<L: Ledger>(
     search: &mut Work,
     firsts: &mut [u32],
     crossed: &mut [bool],
+    queue: &mut [u32],
     steps: &mut Steps<L>,
 ) -> bool
     requires stands { StandsOver pairs.old g.now used.now.touches }
@@ -34,19 +36,22 @@ fn round<L: Ledger>(
     requires thawed { IsThawed pairs.old }
     requires firsts { length firsts.old ≡ g.now.vertices }
     requires crossed { length crossed.old ≡ g.now.vertices }
+    requires queue { length queue.old ≡ g.now.vertices }
     requires one_each { length touches.old ≡ length used.now.touches }
     ensures closed { HasClosedSet pairs.new g.now used.now.touches (has_flag search.new.reached) }
     ensures thawed { IsThawed pairs.new }
     ensures firsts { AreFirsts g.now.vertices pairs.new.forest.held firsts.new }
-    ensures remaining { touches.new ≡ remaining (is_crossed g.now.ends firsts.new) used.now.touches }
-    ensures some { result ≡ list_any (straddles (is_crossed g.now.ends firsts.new)) used.now.touches }
+    ensures gives_up { GivesUp g.now.ends used.now.touches pairs.new
+        (is_crossed g.now.ends firsts.new) (has_flag crossed.new) }
+    ensures remaining { touches.new ≡ remaining (has_flag crossed.new) used.now.touches }
+    ensures some { result ≡ list_any (straddles (has_flag crossed.new)) used.now.touches }
     ensures same_room { HasRoomOf pairs.old pairs.new }
     ensures same_sizes { search.new.sizes ≡ search.old.sizes }
 {
     let _ = g.vertices();
     let _ = lengthen(g, used, pairs, u32::MAX, search, steps);
     name_pieces(pairs.forest(), firsts);
-    discard(g, used, firsts, crossed, touches)
+    discard(g, used, pairs, firsts, crossed, queue, touches)
 }
 
 /// Discards items, round by round, until none of those that are used touches a branch between two pieces. The pieces
@@ -59,6 +64,7 @@ fn settle<L: Ledger>(
     search: &mut Work,
     firsts: &mut [u32],
     crossed: &mut [bool],
+    queue: &mut [u32],
     steps: &mut Steps<L>,
 )
     requires stands { StandsOver pairs.old g.now used.old.touches }
@@ -69,6 +75,7 @@ fn settle<L: Ledger>(
     requires thawed { IsThawed pairs.old }
     requires firsts { length firsts.old ≡ g.now.vertices }
     requires crossed { length crossed.old ≡ g.now.vertices }
+    requires queue { length queue.old ≡ g.now.vertices }
     requires one_each { length touches.old ≡ length used.old.touches }
     ensures firsts { firsts.new ≡ islands_of g.now.vertices g.now.ends used.old.touches }
     ensures meters { length pairs.new.slots ≡ length used.old.touches }
@@ -77,7 +84,9 @@ fn settle<L: Ledger>(
     ensures same_room { HasRoomOf pairs.old pairs.new }
     ensures same_sizes { search.new.sizes ≡ search.old.sizes }
 {
-    while round(g, used, touches, pairs, search, firsts, crossed, steps) {
+    while round(
+        g, used, touches, pairs, search, firsts, crossed, queue, steps,
+    ) {
         used.refill(touches);
         pairs.retain_touching(g, used);
     }
@@ -113,6 +122,7 @@ pub(crate) fn find_firsts<L: Ledger>(
     search: &mut Work,
     firsts: &mut [u32],
     crossed: &mut [bool],
+    queue: &mut [u32],
     steps: &mut Steps<L>,
 )
     requires in_range { AreInRange g.now ms.now.touches }
@@ -124,6 +134,7 @@ pub(crate) fn find_firsts<L: Ledger>(
     requires touches { length ms.now.touches ≤ length touches.old }
     requires firsts { g.now.vertices ≤ length firsts.old }
     requires crossed { g.now.vertices ≤ length crossed.old }
+    requires queue { g.now.vertices ≤ length queue.old }
     ensures firsts { take g.now.vertices firsts.new ≡ islands_of g.now.vertices g.now.ends ms.now.touches }
     ensures meters { length pairs.new.slots ≡ length ms.now.touches }
     ensures positions { length pairs.new.forest.held ≡ length g.now.ends }
@@ -144,6 +155,7 @@ pub(crate) fn find_firsts<L: Ledger>(
         search,
         &mut firsts[..n],
         &mut crossed[..n],
+        &mut queue[..n],
         steps,
     );
 }

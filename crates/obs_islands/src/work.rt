@@ -22,8 +22,9 @@ pub struct IslandWork {
     positions: u32,
     // the first vertex of the island of each vertex
     firsts: Vec<u32>,
-    // whether the branch lies between two pieces
+    // whether what touches all branches at the vertex is given up, and the vertices at which it is
     crossed: Vec<bool>,
+    queue: Vec<u32>,
     // what each meter touches, as long as it is used, and the same as items
     touches: Vec<Touch>,
     used: Meters,
@@ -45,6 +46,7 @@ impl Model for IslandWork {
       meters : w.meters ≡ length w.pairs.slots;
       positions : w.positions ≡ length w.pairs.forest.held;
       crossed : length w.crossed.items ≡ length w.firsts.items;
+      queue : length w.queue.items ≡ length w.firsts.items;
       touches : w.search.sizes.meters ≡ length w.touches.items;
       used : w.used.most ≡ length w.touches.items;
       pair_meters : w.pairs.most_meters ≡ length w.touches.items;
@@ -63,6 +65,7 @@ impl Drop for IslandWork {
             positions: _,
             firsts: _,
             crossed: _,
+            queue: _,
             touches: _,
             used: _,
             pairs: _,
@@ -90,6 +93,7 @@ impl IslandWork {
             positions: 0,
             firsts: vec![in alloc; 0; most_vertices as usize]?,
             crossed: vec![in alloc; false; most_vertices as usize]?,
+            queue: vec![in alloc; 0; most_vertices as usize]?,
             touches: vec![in alloc; Touch::Nothing; most_meters as usize]?,
             used: Meters::make(alloc, most_meters)?,
             pairs: Assignment::make(alloc, most_meters, most_branches, most_vertices)?,
@@ -123,6 +127,7 @@ pub fn find_islands<L: Ledger>(g: &Graph, ms: &Meters, work: &mut IslandWork, st
         &mut work.search,
         &mut work.firsts,
         &mut work.crossed,
+        &mut work.queue,
         steps,
     );
     work.vertices = g.vertices() as usize;
