@@ -1,5 +1,5 @@
 #!/usr/bin/env python3
-"""Makes sessions to measure the program with, over tables that tools/tables.py made.
+"""Makes sessions to measure the program with, over tables that tools/shapes.py made.
 
 Usage: tools/edits.py TABLES FOLDER
 

@@ -1,7 +1,7 @@
 #!/usr/bin/env python3
 """Makes full tables to measure the program with.
 
-Usage: tools/tables.py SHAPE FOLDER [SIZE]
+Usage: tools/shapes.py SHAPE FOLDER [SIZE]
 
 Writes nodes.csv, switches.csv, branches.csv and meters.csv into FOLDER; few.csv, which has each tenth of the meters; candidates.csv,
 with a candidate for each branch, a flow on it or an injection at an end, at prices from 1 to 1000; and the same network as a MATPOWER

@@ -1,0 +1,68 @@
+"""Runs the program over files in a folder, and holds what it answers against what is wanted."""
+import collections
+import os
+import shlex
+import shutil
+import subprocess
+import sys
+
+MOST_SECONDS = 600
+
+
+class Runs:
+    """Runs the program in a folder, and counts the cases. The first that differs is kept in the folder `kept`, if there is one."""
+
+    def __init__(self, program, folder, kept=None):
+        if not os.access(program, os.X_OK):
+            sys.exit(f"there is no program {program}")
+        self.program, self.folder, self.kept = os.path.abspath(program), folder, kept
+        self.count = collections.Counter()
+
+    def write(self, name, content):
+        with open(os.path.join(self.folder, name), "wb") as file:
+            file.write(content)
+
+    def run(self, words, given=b""):
+        """What is written, and the status, or a word where the run doesn't end."""
+        try:
+            done = subprocess.run([self.program, *words], cwd=self.folder, input=given, capture_output=True, timeout=MOST_SECONDS)
+        except subprocess.TimeoutExpired:
+            return b"", "none: it didn't end"
+        return done.stdout, done.returncode
+
+    def compare(self, number, kind, words, text, status, given=b""):
+        """Runs the words; what is written and the status are to be these."""
+        found = self.run(words, given)
+        last = text.rstrip("\n").split("\t")[-1] if text.startswith(("fault", "flaw")) else "answered"
+        self.count[f"{kind}: {last}"] += 1
+        wanted = (text.encode("utf-8", "surrogateescape"), status)
+        if found != wanted:
+            self.differs(number, words, given, found, wanted)
+
+    def differs(self, number, words, given, found, wanted):
+        """Says what differs, keeps the files of the case, and ends."""
+        print(f"case {number}: {words}\n found {found[1]} {found[0][:2000]}\nwanted {wanted[1]} {wanted[0][:2000]}")
+        if self.kept:
+            folder = os.path.join(self.kept, str(number))
+            shutil.rmtree(folder, ignore_errors=True)
+            shutil.copytree(self.folder, folder)
+            line = shlex.join(os.fsdecode(word) for word in words)
+            files = {"words": os.fsencode(line) + b"\n", "input": given, "found": found[0], "wanted": wanted[0]}
+            for name, content in files.items():
+                with open(os.path.join(folder, f"{name}.txt"), "wb") as file:
+                    file.write(content)
+            print(f"kept in {folder}: its files, words.txt, input.txt, found.txt and wanted.txt")
+        sys.exit(1)
+
+    def summary(self):
+        for kind, found in sorted(self.count.items()):
+            print(f"{found}\t{kind}")
+
+
+def number_of(word):
+    """A number, or that which the first digits of the commit's name are."""
+    if word != "commit":
+        return int(word)
+    here = os.path.dirname(os.path.abspath(__file__))
+    named = subprocess.run(["git", "rev-parse", "--short=8", "HEAD"], cwd=here, capture_output=True, text=True).stdout.strip()
+    return int(named[:8], 16) if named else 0
