@@ -10,12 +10,8 @@ cases are trials, a few have a file that isn't there, and a few have words witho
 those of tools/model.py and the files beside it, which share nothing with the program. It says how many cases there were of each kind
 and fault, and stops at the first that differs: its files are kept in the folder `differs`.
 """
-import os
 import random
 import re
-import sys
-import tempfile
-import time
 
 import model_claims
 import model_reads
@@ -23,7 +19,7 @@ from cases import FILES, all_bounds, bytes_of, cdf_of, csv_of, items_of, matpowe
 from cases import spoil_lines, spoil_records, spoilt_claims
 from model_text import Text, session, trial
 from model_words import have_form, usage
-from runs import Runs, number_of
+from runs import run_cases
 
 COMMANDS = ["topology", "report", "place", "place", "session", "session", "verify", "verify", "verify"]
 ODD_WORDS = ["", "with", "tables", "cdf", "matpower", "report", "place", "session", "verify", "trial", "Report", "--help", "0", "101"]
@@ -138,19 +134,5 @@ def compare_case(number, runs):
         compare_command(r, number, runs, *given)
 
 
-def main():
-    program, first, count, seconds = sys.argv[1], *(sys.argv[2:] + ["0", "1000", "inf"][len(sys.argv) - 2 :])
-    first, last = number_of(first), time.monotonic() + float(seconds)
-    kept = os.path.join(os.path.dirname(os.path.abspath(__file__)), "..", "differs")
-    print(f"cases from number {first} on")
-    with tempfile.TemporaryDirectory() as folder:
-        runs, number = Runs(program, folder, os.path.normpath(kept)), first
-        while number < first + int(count) and time.monotonic() < last:
-            compare_case(number, runs)
-            number += 1
-    runs.summary()
-    print(f"{number - first} of {count} cases compared, all alike")
-
-
 if __name__ == "__main__":
-    main()
+    run_cases(compare_case)

@@ -151,21 +151,26 @@ class Network:
     def price(self, item):
         return self.case.candidates[item - len(self.case.meters)][3]
 
+    def chosen(self, order):
+        """Candidates that raise the rank of the meters and all candidates before them."""
+        least = lambda k: self.rho(self.meters + order[:k])
+        return [m for k, m in enumerate(order) if least(k + 1) > least(k)]
+
+    def try_cheaper(self, order, cost):
+        for count in range(len(order) + 1):
+            for some in itertools.combinations(order, count):
+                if self.rho(self.meters + list(some)) == self.needed:
+                    assert sum(map(self.price, some)) >= cost
+
     def cheapest(self):
         """The chosen candidates and the layers (from, to, list, rank, outside), or None where no set completes the meters."""
         every = self.meters + self.candidates
         if self.rho(every) < self.needed:
             return None
         order = sorted(self.candidates, key=lambda m: (self.price(m), m))
-        chosen = []
-        for k, m in enumerate(order):
-            if self.rho(self.meters + order[: k + 1]) > self.rho(self.meters + order[:k]):
-                chosen.append(m)
+        chosen = self.chosen(order)
         cost = sum(map(self.price, chosen))
-        for count in range(len(order) + 1):
-            for some in itertools.combinations(order, count):
-                if self.rho(self.meters + list(some)) == self.needed:
-                    assert sum(map(self.price, some)) >= cost
+        self.try_cheaper(order, cost)
         layers, start = [], 0
         for end in sorted({self.price(m) for m in chosen} - {0}):
             scope = self.meters + [m for m in self.candidates if self.price(m) < end]

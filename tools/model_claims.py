@@ -154,11 +154,11 @@ class Claim:
         return next((name for name, fails in tests if fails()), None)
 
 
-def verify(case, content):
+def verify(case, content, network_of=Network):
     claims, fault = read_claims(content)
     if claims is None:
         return fault, 3
-    network = Network(case)
+    network = network_of(case)
     for number, lines in enumerate(claims, 1):
         flaw = Claim(network, lines).flaw()
         if flaw:

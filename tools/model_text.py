@@ -21,11 +21,11 @@ def line(*words):
 
 
 class Text:
-    """The blocks that are printed of a case."""
+    """The blocks that are printed of a case. Its network answers what is determined: that of model.py, or one that goes another way."""
 
-    def __init__(self, case):
+    def __init__(self, case, network_of=Network):
         self.case = case
-        self.network = Network(case)
+        self.network = network_of(case)
 
     def bus(self, u):
         return self.case.nodes[self.network.names[u]][0]
@@ -118,13 +118,13 @@ def content_lines(content):
     return [one[:-1] if one.endswith(b"\r") else one for one in lines]
 
 
-def answer_line(case, offered, content):
+def answer_line(case, offered, content, network_of):
     """The answer to a session line, which may change a flag of the case."""
     if len(content) > 256:
         return line("refused", 2, "LineTooLong")
     if content.decode("latin-1") in ASKS:
         what = content.decode()
-        return line("refused", 8, "NoCandidates") if what == "place" and not offered else Text(case).ask(what)
+        return line("refused", 8, "NoCandidates") if what == "place" and not offered else Text(case, network_of).ask(what)
     word, blank, name = content.partition(b" ")
     if word.decode("latin-1") not in EDITS:
         return line("refused", 1, "UnknownCommand")
@@ -137,15 +137,15 @@ def answer_line(case, offered, content):
     if not rows:
         return line("refused", refusal)
     rows[0][3] = value
-    network = Network(case)
+    network = network_of(case)
     return line("ok", network.rho(network.meters), network.needed)
 
 
-def session(case, offered, content):
+def session(case, offered, content, network_of=Network):
     case = copy.deepcopy(case)
     lines = [one for one in content_lines(content) if one and not one.startswith(b"#")]
-    text = "".join(answer_line(case, offered, one) for one in lines)
-    return text, Text(case).status()
+    text = "".join(answer_line(case, offered, one, network_of) for one in lines)
+    return text, Text(case, network_of).status()
 
 
 def trial_case(size, seed):

@@ -5,8 +5,11 @@ import shlex
 import shutil
 import subprocess
 import sys
+import tempfile
+import time
 
 MOST_SECONDS = 600
+KEPT = os.path.normpath(os.path.join(os.path.dirname(os.path.abspath(__file__)), "..", "differs"))
 
 
 class Runs:
@@ -39,6 +42,12 @@ class Runs:
         if found != wanted:
             self.differs(number, words, given, found, wanted)
 
+    def alike(self, number, kind, words, given, found, wanted):
+        """Counts a case of which two answers are to be the same, and what was run last for the one that is judged."""
+        self.count[kind] += 1
+        if found != wanted:
+            self.differs(number, words, given, found, wanted)
+
     def differs(self, number, words, given, found, wanted):
         """Says what differs, keeps the files of the case, and ends."""
         print(f"case {number}: {words}\n found {found[1]} {found[0][:2000]}\nwanted {wanted[1]} {wanted[0][:2000]}")
@@ -66,3 +75,17 @@ def number_of(word):
     here = os.path.dirname(os.path.abspath(__file__))
     named = subprocess.run(["git", "rev-parse", "--short=8", "HEAD"], cwd=here, capture_output=True, text=True).stdout.strip()
     return int(named[:8], 16) if named else 0
+
+
+def run_cases(compare_case):
+    """Compares the cases that the words of the call ask for: PROGRAM [FIRST [COUNT [SECONDS]]]."""
+    program, first, count, seconds = sys.argv[1], *(sys.argv[2:] + ["0", "1000", "inf"][len(sys.argv) - 2 :])
+    first, last = number_of(first), time.monotonic() + float(seconds)
+    print(f"{os.path.basename(sys.argv[0])}: cases from number {first} on", flush=True)
+    with tempfile.TemporaryDirectory() as folder:
+        runs, number = Runs(program, folder, KEPT), first
+        while number < first + int(count) and time.monotonic() < last:
+            compare_case(number, runs)
+            number += 1
+    runs.summary()
+    print(f"{number - first} of {count} cases compared, all alike")
