@@ -51,7 +51,15 @@ def hub(size):
     return size, [0], branches, [("injection", "n0")], [], repeated(claim)
 
 
-SHAPES = {"alone": (alone, 20000), "tree": (tree, 20000), "layers": (layers, 20000), "hub": (hub, 20000)}
+def listed(size):
+    """A hub with as many injection meters as a table has, and two nodes behind a leaf: as many bounds that list all meters as fit in."""
+    branches = [(0, v) for v in range(1, size - 2)] + [(1, size - 2), (1, size - 1)]
+    meters = [("injection", "n0")] * (size - 1)
+    claim = f"bound\tn0\t{size - 3}\t0\n" + "".join(f"inside\tmeter\tm{m}\n" for m in range(len(meters)))
+    return size, [0], branches, meters, [], repeated(claim)
+
+
+SHAPES = {"alone": (alone, 20000), "tree": (tree, 20000), "layers": (layers, 20000), "hub": (hub, 20000), "listed": (listed, 20000)}
 
 
 def table(folder, name, header, rows):
