@@ -1,8 +1,8 @@
 -- The queue of a search, as the theory has it, and the closed set that a search without an end leaves.
-use Rattle.std.proofs.Common.{◌≡◌, ℕ, ◌≤◌, Bool, true, false, ◌==◌, ◌&&◌, Option, Some, None, List, length, take, refl, sym, ap, ◌∙◌, subst, inl, inr, arith, eq-eqb}
+use Rattle.std.proofs.Common.{◌≡◌, ℕ, ◌<◌, ◌≤◌, Bool, true, false, ◌==◌, ◌&&◌, Option, Some, None, List, length, get_or, take, refl, sym, ap, ◌∙◌, subst, inl, inr, arith, eq-eqb}
 use Rattle.std.specs.Prelude.{MatchOption}
 use Rattle.std.proofs.lemmas.Bool.{cases_lt, cases_Bool, eqb-true, and_parts, and_from}
-use Rattle.std.proofs.lemmas.List.{get_or_past, get_or-take, length-take-le}
+use Rattle.std.proofs.lemmas.List.{get_or_default, get_or_past, get_or-take, length-take-le}
 use Rattle.obs_graph.specs.declared.Ends.{Ends}
 use Rattle.obs_graph.specs.Positions.{AreBranches}
 use Rattle.obs_graph.specs.Graph.{Graph}
@@ -11,6 +11,7 @@ use Rattle.obs_matroid.specs.Lists.{In}
 use Rattle.obs_matroid.specs.Assignments.{Pair, others}
 use Rattle.obs_matroid.specs.Closed.{HoldsSources, IsClosed, IsLeastClosed}
 use Rattle.obs_matroid.proofs.Closed.{closed_adds_none}
+use Rattle.obs_matroid.proofs.Contained.{Contains-from_In, In-get_or, IsDistinct-from_pairs}
 use Rattle.obs_matroid.proofs.Queue.{IsQueue, queue_closed}
 use Rattle.obs_meter.specs.declared.Touch.{Touch}
 use Rattle.obs_meter.specs.Spanned.{graph_matroid}
@@ -26,7 +27,7 @@ use Rattle.obs_assign.proofs.Standing.{In-every, IsAssignmentAt-standing}
 use Rattle.obs_exchange.specs.declared.Sources.{Sources}
 use Rattle.obs_exchange.specs.declared.Sources.TheVariants.{All, One}
 use Rattle.obs_exchange.specs.Closed.{HoldsSourcesAt, IsClosedAt, IsLeastClosedAt, IsSource}
-use Rattle.obs_exchange.specs.Found.{AddsSource, HasClosed}
+use Rattle.obs_exchange.specs.Found.{AddsSource, AreListed, HasClosed}
 use Rattle.obs_exchange.specs.Searching.{AreMarked, IsParent, IsSearching, end_of, first_of, parent_at, place_in}
 use Rattle.obs_exchange.proofs.Beginning.{source_bare}
 use Rattle.obs_exchange.proofs.Queued.{has_pair}
@@ -132,6 +133,57 @@ module _ (g : Graph) (touches : List Touch) (from : Sources) (a : Assignment)
         rw (d, e) (s.in_order x y p.0 q.0 tx p.1 ty q.1 k);
   }
 
+  flag_taken : (m : ℕ) → has_flag marks m ≡ has_flag (take (length touches) marks) m
+  flag_taken m = elim (cases_lt m (length touches)) [
+    | inl l ↦ sym (get_or-take (length touches) marks m false l)
+    | inr l ↦ elim (cases_Bool (has_flag marks m)) [
+      | inl t ↦ let k = s.low m t in absurd (omega (arith, k, l))
+      | inr f ↦ f ∙ sym (get_or_past (take (length touches) marks) m false (let e = length-take-le (length touches) marks s.marks_len in omega (arith, e, l)))
+    ]
+  ]
+
+  -- the entries of the queue
+  queue_len : length (take tail queue) ≡ tail
+  queue_len = let l = tail_low in let q = s.queue_len in length-take-le tail queue (omega (arith, l, q))
+
+  entry_at : (k d : ℕ) → k < length (take tail queue) → get_or (take tail queue) k d ≡ get_or queue k 0
+  entry_at k d l =
+      let e = queue_len in
+      let low = tail_low in
+      let q = s.queue_len in
+      get_or-take tail queue k d (omega (arith, e, l)) ∙ get_or_default queue k d 0 (omega (arith, e, l, low, q))
+
+  place_of : (k : ℕ) → k < length (take tail queue) → place_in queue tail (get_or queue k 0) ≡ k
+  place_of k l = let e = queue_len in (s.entries k (omega (arith, e, l))).1
+
+  -- the first entries of the queue are just the marked meters, each once
+  pub AreListed-queue : AreListed (take (length touches) marks) (take tail queue)
+  AreListed-queue = record {
+    once = IsDistinct-from_pairs (take tail queue) (λ i j d l m e.
+        let p = place_of i (omega (arith, l, m)) in
+        let q = place_of j m in
+        let same : get_or queue i 0 ≡ get_or queue j 0 = sym (entry_at i d (omega (arith, l, m))) ∙ (e ∙ entry_at j d m) in
+        let is : i ≡ j = sym p ∙ (ap (place_in queue tail) same ∙ q) in
+        omega (arith, is, l));
+    exactly = λ m. (in_queue m, from_queue m);
+  }
+    where
+      in_queue : (m : ℕ) → In m (take tail queue) → has_flag (take (length touches) marks) m ≡ true
+      in_queue m i =
+          let c = Contains-from_In m (take tail queue) i in
+          let e = queue_len in
+          let l = c.1 in
+          let is : get_or queue c.0 0 ≡ m = sym (entry_at c.0 m l) ∙ c.2 in
+          sym (flag_taken m) ∙ (ap (has_flag marks) (sym is) ∙ (s.entries c.0 (omega (arith, e, l))).0)
+
+      from_queue : (m : ℕ) → has_flag (take (length touches) marks) m ≡ true → In m (take tail queue)
+      from_queue m t =
+          let p = s.placed m (flag_taken m ∙ t) in
+          let e = queue_len in
+          let b = p.0 in
+          let l : place_in queue tail m < length (take tail queue) = omega (arith, e, b) in
+          subst (λ x. In x (take tail queue)) (entry_at (place_in queue tail m) 0 l ∙ p.1) (In-get_or (take tail queue) (place_in queue tail m) 0 l)
+
   -- a marked meter is live
   pub marked_live : StandsOver a g touches → (x : ℕ) → has_flag marks x ≡ true → is_live g.ends touches x ≡ true
   marked_live stands x t = elim (cases_Bool (root_at parents x)) [
@@ -180,18 +232,9 @@ module _ (g : Graph) (touches : List Touch) (from : Sources) (a : Assignment) (o
       least = λ T c h m t. l.least T (to_closed T c) (to_holds T h) m t;
     }
 
-    flag_taken : (m : ℕ) → has_flag marks m ≡ has_flag (take (length touches) marks) m
-    flag_taken m = elim (cases_lt m (length touches)) [
-      | inl l ↦ sym (get_or-take (length touches) marks m false l)
-      | inr l ↦ elim (cases_Bool (has_flag marks m)) [
-        | inl t ↦ let k = s.low m t in absurd (omega (arith, k, l))
-        | inr f ↦ f ∙ sym (get_or_past (take (length touches) marks) m false (let e = length-take-le (length touches) marks s.marks_len in omega (arith, e, l)))
-      ]
-    ]
-
     -- the flags of the meters are the least closed set
     pub IsLeastClosedAt-search : IsLeastClosedAt g.ends touches from a (has_flag (take (length touches) marks))
-    IsLeastClosedAt-search = let same : has_flag marks ≡ has_flag (take (length touches) marks) = λ i m. flag_taken m i in
+    IsLeastClosedAt-search = let same : has_flag marks ≡ has_flag (take (length touches) marks) = λ i m. flag_taken g touches from a marks parents queue tail tail walked s m i in
         subst (λ S. IsLeastClosedAt g.ends touches from a S) same least_marked
 
 -- the flags of a closed search

@@ -1,7 +1,7 @@
 -- What a search finds: one pair more, or a closed set that shows that there is none.
-use Rattle.std.specs.Prelude.{◌≡◌, ◌≢◌, ℕ, ◌+◌, ◌<◌, Bool, true, Option, None, List, length}
+use Rattle.std.specs.Prelude.{◌≡◌, ◌≢◌, ◌↔◌, ℕ, ◌+◌, ◌<◌, Bool, true, Option, None, List, length}
 use Rattle.obs_graph.specs.declared.Ends.{Ends}
-use Rattle.obs_matroid.specs.Lists.{In}
+use Rattle.obs_matroid.specs.Lists.{In, IsDistinct}
 use Rattle.obs_matroid.specs.Assignments.{Pair, items}
 use Rattle.obs_matroid.specs.Closed.{Extends}
 use Rattle.obs_meter.specs.declared.Touch.{Touch}
@@ -52,7 +52,14 @@ abbrev pub IsFound : List (Option Ends) → List Touch → Sources → Assignmen
 IsFound ends touches from a b flags (Grown m) = HasGrown ends touches from a b m
 IsFound ends touches from a b flags Closed = HasClosed ends touches from a b flags
 
--- what a work value is seen as: a flag for each meter that the last closed search reached, and the sizes that it was made for
+-- the list has just the meters whose flag is set, each once
+pub record AreListed (flags : List Bool) (listed : List ℕ) : Type 0 where
+  pub once : IsDistinct listed
+  pub exactly : (m : ℕ) → In m listed ↔ (has_flag flags m ≡ true)
+
+-- what a work value is seen as: a flag for each meter that the last closed search reached, these meters in the order in which it
+-- reached them, and the sizes that it was made for
 pub record Work : Type 0 where
   pub reached : List Bool
+  pub listed : List ℕ
   pub sizes : Sizes

@@ -3,7 +3,8 @@ ghost use Rattle.std.specs.Prelude.{◌≡◌, ◌+◌};
 ghost use Rattle.obs_meter.specs.Sizes.{HasRoomFor};
 ghost use Rattle.obs_meter.specs.Touches.{AreInRange};
 ghost use Rattle.obs_assign.specs.Assignment.{HasRoomOf, IsWhole, StandsOver};
-ghost use Rattle.obs_exchange.specs.Found.{CanBegin, IsFound};
+ghost use Rattle.obs_exchange.specs.declared.Found.{Found};
+ghost use Rattle.obs_exchange.specs.Found.{AreListed, CanBegin, IsFound};
 
 use crate::{Found, Sources, Work};
 use obs_assign::{Assignment, Steps};
@@ -26,6 +27,7 @@ pub fn search<L: Ledger>(
     requires room { HasRoomFor work.old.sizes g.now ms.now.touches }
     requires begins { CanBegin from a.old }
     ensures found { IsFound g.now.ends ms.now.touches from a.old a.new work.new.reached result }
+    ensures listed { result ≡ Found.Closed → AreListed work.new.reached work.new.listed }
     ensures tick { steps.new ≡ steps.old + 1 }
     ensures stands { StandsOver a.new g.now ms.now.touches }
     ensures whole { IsWhole a.new }

@@ -1,18 +1,18 @@
 // The path of moves by which the assignment grows.
-ghost use Rattle.std.specs.Prelude.{◌≡◌, ◌+◌, ◌<◌, ◌≤◌, Bool, List, ℕ, false, IfSome, MatchOption, length, drop, replicate, slice_index, take};
+ghost use Rattle.std.specs.Prelude.{◌≡◌, ◌+◌, ◌<◌, ◌≤◌, ℕ, false, IfErr, IfOk, IfSome, MatchResult, length, drop, replicate, slice_index, take};
 ghost use Rattle.obs_graph.specs.Positions.{AreBranches};
 ghost use Rattle.obs_meter.specs.Touches.{AreInRange};
 ghost use Rattle.obs_assign.specs.Assignment.{HasRoomOf, IsWhole, StandsOver, has_flag};
 ghost use Rattle.obs_exchange.specs.Closed.{IsLeastClosedAt, IsSource};
-ghost use Rattle.obs_exchange.specs.Found.{IsFound};
+ghost use Rattle.obs_exchange.specs.Found.{AreListed, HasGrown};
 ghost use Rattle.obs_exchange.specs.Searching.{IsEnd, IsFreeFor, IsReady, end_of, first_of};
 
+use crate::Sources;
 use crate::begin::spread_all;
 use crate::blanks::{Blanks, clear, set_counts};
 use crate::free::untried_branch;
 use crate::queue::{first_source, is_source, sources_end};
 use crate::tops::separate;
-use crate::{Found, Sources};
 use obs_assign::{Assignment, Move, Steps};
 use obs_graph::Graph;
 use obs_meter::Meters;
@@ -92,7 +92,8 @@ fn trace(
 }
 
 /// Looks for a path of moves that gives a source a pair, writes it at the end of the array and says where it begins.
-/// None where there is no such path; the marks are then the least closed set. The sources from the first given meter on
+/// Where there is no such path, it says how many meters it reached: these are the first of the queue, and the marks are
+/// the least closed set. The sources from the first given meter on
 /// are tried for a free branch; where this isn't the first source, the counts tell how many branches at a vertex
 /// earlier searches tried in vain. Where none is found, it searches from the sources, those from the second given meter
 /// on before the others.
@@ -112,7 +113,7 @@ pub fn find(
     path: &mut [Move],
     tops: &mut [u32],
     blanks: &Blanks<'_>,
-) -> Option<usize>
+) -> Result<usize, usize>
     requires stands { StandsOver a.now g.now ms.now.touches }
     requires in_range { AreInRange g.now ms.now.touches }
     requires low { end_of from (length ms.now.touches) ≤ length ms.now.touches }
@@ -133,10 +134,12 @@ pub fn find(
     requires counts { length tried.old ≤ length blanks.now.counts.now }
     requires numbered { g.now.vertices ≤ length blanks.now.numbers.now }
     requires numbers { (v : ℕ) → v < length blanks.now.numbers.now → slice_index blanks.now.numbers.now v ≡ v }
-    ensures bound { IfSome result (λ k. k ≤ length path.new) }
-    ensures found { MatchOption result
-        (IsLeastClosedAt g.now.ends ms.now.touches from a.now (has_flag (take (length ms.now.touches) marks.new)))
-        (λ k. IsReady g.now.ends ms.now.touches from a.now (drop k path.new)) }
+    ensures bound { IfOk result (λ k. k ≤ length path.new) }
+    ensures few { IfErr result (λ count. count ≤ length queue.new) }
+    ensures found { MatchResult result
+        (λ k. IsReady g.now.ends ms.now.touches from a.now (drop k path.new))
+        (λ _. IsLeastClosedAt g.now.ends ms.now.touches from a.now (has_flag (take (length ms.now.touches) marks.new))) }
+    ensures listed { IfErr result (λ count. AreListed (take (length ms.now.touches) marks.new) (take count queue.new)) }
 {
     let _ = g.vertices();
     let _ = a.length();
@@ -146,7 +149,7 @@ pub fn find(
     if let Some(x) = free_move(g, ms, a, from, first, tried) {
         let last = path.len() - 1;
         path[last] = x;
-        return Some(last);
+        return Ok(last);
     }
     clear(marks, blanks.flags);
     clear(walked, blanks.flags);
@@ -158,12 +161,12 @@ pub fn find(
     match spread_all(
         g, ms, a, from, middle, marks, parents, queue, &mut tail, walked, stars, tried, ways, tops,
     ) {
-        Some(x) => Some(trace(g, ms, a, from, x, marks, parents, queue, tail, walked, path)),
-        None => None,
+        Some(x) => Ok(trace(g, ms, a, from, x, marks, parents, queue, tail, walked, path)),
+        None => Err(tail),
     }
 }
 
-/// Puts the moves of a path in, and ticks once.
+/// Puts the moves of a path in, and ticks once. Says which source has a pair then.
 pub fn grow<L: Ledger>(
     g: &Graph,
     ms: &Meters,
@@ -171,10 +174,10 @@ pub fn grow<L: Ledger>(
     from: Sources,
     path: &[Move],
     steps: &mut Steps<L>,
-) -> Found
+) -> u32
     requires stands { StandsOver a.old g.now ms.now.touches }
     requires ready { IsReady g.now.ends ms.now.touches from a.old path.now }
-    ensures found { (flags : List Bool) → IsFound g.now.ends ms.now.touches from a.old a.new flags result }
+    ensures grown { HasGrown g.now.ends ms.now.touches from a.old a.new result }
     ensures tick { steps.new ≡ steps.old + 1 }
     ensures stands { StandsOver a.new g.now ms.now.touches }
     ensures whole { IsWhole a.new }
@@ -184,5 +187,5 @@ pub fn grow<L: Ledger>(
     let _ = a.length();
     let first = path[0].meter;
     a.augment(g, ms, path, steps);
-    Found::Grown(first)
+    first
 }

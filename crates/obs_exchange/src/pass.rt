@@ -2,7 +2,7 @@
 ghost use Rattle.std.specs.Prelude.{◌≤◌};
 ghost use Rattle.obs_exchange.specs.Searching.{first_of};
 
-use crate::{Found, Sources};
+use crate::Sources;
 use obs_assign::{Assignment, Move};
 
 /// Two meters at which a search goes on, as long as the pairs are those of so many turns and so many pairs. Pairs that
@@ -29,15 +29,15 @@ impl Pass {
     }
 
     /// Goes on at the given meter, and at the one for which a search from all sources found the last of these pairs.
-    pub(crate) fn after(a: &Assignment, from: Sources, next: u32, found: Found) -> Pass {
-        match (from, found) {
-            (Sources::All, Found::Grown(searched)) => Pass {
+    pub(crate) fn after(a: &Assignment, from: Sources, next: u32, searched: u32) -> Pass {
+        match from {
+            Sources::All => Pass {
                 next,
                 searched,
                 turns: a.turns(),
                 pairs: a.length(),
             },
-            _ => Pass::new(),
+            Sources::One(_) => Pass::new(),
         }
     }
 

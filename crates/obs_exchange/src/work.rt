@@ -3,7 +3,8 @@ ghost use Rattle.std.specs.Prelude.{◌≡◌, ◌+◌, [], length, IfOk};
 ghost use Rattle.obs_meter.specs.Sizes.{HasRoomFor};
 ghost use Rattle.obs_meter.specs.Touches.{AreInRange};
 ghost use Rattle.obs_assign.specs.Assignment.{HasRoomOf, IsWhole, StandsOver};
-ghost use Rattle.obs_exchange.specs.Found.{CanBegin, IsFound};
+ghost use Rattle.obs_exchange.specs.declared.Found.{Found};
+ghost use Rattle.obs_exchange.specs.Found.{AreListed, CanBegin, IsFound};
 
 use crate::blanks::{Blanks, number};
 use crate::find::{find, grow};
@@ -21,6 +22,8 @@ use std::sync::ledger::Ledger;
 pub struct Work {
     // how many meters the last search was over
     meters: usize,
+    // how many the last closed search reached
+    count: usize,
     // whether it reached the meter
     reached: Vec<bool>,
     // the move by which the meter was reached
@@ -55,6 +58,7 @@ impl Model for Work {
     ghost view = { λ w.
         record {
           reached = take w.meters w.reached.items;
+          listed = take w.count w.queue.items;
           sizes = record {
             meters = length w.reached.items;
             branches = length w.walked.items;
@@ -63,7 +67,8 @@ impl Model for Work {
         } };
 
     ghost invariant = { λ w.
-        (w.meters ≤ length w.reached.items) × (length w.parents.items ≡ length w.reached.items)
+        (w.meters ≤ length w.reached.items) × (w.count ≤ length w.queue.items)
+        × (length w.parents.items ≡ length w.reached.items)
         × (length w.queue.items ≡ length w.reached.items) × (length w.path.items ≡ length w.reached.items)
         × (length w.tops.items ≡ length w.stars.items) × (length w.tried.items ≡ length w.stars.items)
         × AreBlank (length w.reached.items) (length w.walked.items) (length w.stars.items)
@@ -75,6 +80,7 @@ impl Drop for Work {
     fn drop(self) {
         let Work {
             meters: _,
+            count: _,
             reached: _,
             parents: _,
             queue: _,
@@ -101,6 +107,7 @@ impl Work {
     ) -> Result<Work, NoMemory>
         ensures empty { IfOk result (λ w. w ≡ record {
           reached = [];
+          listed = [];
           sizes = record { meters = most_meters; branches = most_branches; vertices = most_vertices };
         }) }
     {
@@ -113,6 +120,7 @@ impl Work {
         number(&mut numbers);
         Ok(Work {
             meters: 0,
+            count: 0,
             reached: vec![in alloc; false; most_meters as usize]?,
             parents: vec![in alloc; None; most_meters as usize]?,
             queue: vec![in alloc; 0; most_meters as usize]?,
@@ -135,6 +143,13 @@ impl Work {
         &self.reached[..self.meters]
     }
 
+    /// The meters that the last search reached, in the order in which it did, where that search ended with `Closed`.
+    pub fn listed(&self) -> &[u32]
+        ensures listed { result.now ≡ self.now.listed }
+    {
+        &self.queue[..self.count]
+    }
+
     /// The body of `search`.
     pub(crate) fn run<L: Ledger>(
         &mut self,
@@ -149,6 +164,7 @@ impl Work {
         requires room { HasRoomFor self.old.sizes g.now ms.now.touches }
         requires begins { CanBegin from a.old }
         ensures found { IsFound g.now.ends ms.now.touches from a.old a.new self.new.reached result }
+        ensures listed { result ≡ Found.Closed → AreListed self.new.reached self.new.listed }
         ensures tick { steps.new ≡ steps.old + 1 }
         ensures stands { StandsOver a.new g.now ms.now.touches }
         ensures whole { IsWhole a.new }
@@ -183,13 +199,14 @@ impl Work {
             },
         );
         match start {
-            Some(k) => {
+            Ok(k) => {
                 let next = next_tried(&self.path[k..], ms.count());
-                let found = grow(g, ms, a, from, &self.path[k..], steps);
-                self.pass = Pass::after(a, from, next, found);
-                found
+                let m = grow(g, ms, a, from, &self.path[k..], steps);
+                self.pass = Pass::after(a, from, next, m);
+                Found::Grown(m)
             }
-            None => {
+            Err(count) => {
+                self.count = count;
                 self.pass = Pass::new();
                 steps.tick();
                 Found::Closed

@@ -2,7 +2,7 @@ use Rattle.std.proofs.Common.{◌≡◌, ◌-◌, length, take, sym, ◌∙◌, 
 use Rattle.std.proofs.lemmas.List.{length-take-le}
 use Rattle.obs_forest.specs.Cycle.{AreWays}
 use Rattle.obs_exchange.specs.Searching.{IsReady}
-use Rattle.obs_exchange.proofs.Closing.{IsLeastClosedAt-search, all_marked}
+use Rattle.obs_exchange.proofs.Closing.{AreListed-queue, IsLeastClosedAt-search, all_marked, tail_low}
 use Rattle.obs_exchange.proofs.Growing.{IsReady-one}
 use Rattle.obs_exchange.proofs.Tracing.{drop_last}
 use Rattle.obs_exchange.proofs.Upward.{AreClasses-own}
@@ -19,6 +19,15 @@ returns-in-None-clause-found c = let f = c.in-None.ensures.found in
     IsLeastClosedAt-search c.args.g.now c.args.ms.now.touches c.args.from c.args.a.now c.vertices.ensures.branches c.length.ensures.whole c.requires.stands
     c.spread_all.new.marks c.spread_all.new.parents c.spread_all.new.queue c.spread_all.new.tail c.spread_all.new.walked f.0
     (all_marked c.args.g.now.ends c.args.ms.now.touches c.args.from c.args.a.now c.spread_all.new.marks f.1)
+
+pub returns-in-None-clause-few : goal.returns-in-None-clause-few
+returns-in-None-clause-few c = let n = c.spread_all.new in let s = c.in-None.ensures.found.0 in
+    let t = tail_low c.args.g.now c.args.ms.now.touches c.args.from c.args.a.now n.marks n.parents n.queue n.tail n.tail n.walked s in
+    omega (arith, t, s.queue_len)
+
+pub returns-in-None-clause-listed : goal.returns-in-None-clause-listed
+returns-in-None-clause-listed c = let n = c.spread_all.new in
+    AreListed-queue c.args.g.now c.args.ms.now.touches c.args.from c.args.a.now n.marks n.parents n.queue n.tail n.tail n.walked c.in-None.ensures.found.0
 
 pub spread_all-requires-clause-classes : goal.spread_all-requires-clause-classes
 spread_all-requires-clause-classes c =

@@ -26,6 +26,7 @@ invariant_of-result c =
       omega arith,
       omega arith,
       omega arith,
+      omega arith,
       rw back (record {
         meters_le = omega (arith, c.max.ensures, c.max-most.ensures);
         branches_le = omega (arith, c.max.ensures, c.max-most.ensures);

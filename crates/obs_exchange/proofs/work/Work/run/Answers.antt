@@ -4,11 +4,8 @@ use Rattle.obs_exchange.proofs.Closing.{HasClosed-flags}
 use Rattle.obs_exchange.proofs.work.Work.run.Goals as goal
 use Rattle.obs_graph.proofs.Stored.{written_back}
 
-pub returns-in-Some-clause-found : goal.returns-in-Some-clause-found
-returns-in-Some-clause-found g c = c.grow-found.ensures.found _
-
-pub returns-in-None-clause-found : goal.returns-in-None-clause-found
-returns-in-None-clause-found g c =
+pub returns-in-Err-clause-found : goal.returns-in-Err-clause-found
+returns-in-Err-clause-found g c =
     let ins = c.self.inside in
     let marks = c.find-start.new.marks in
     let len : length marks ≡ length ins.reached.items = c.find-start.auto.marks ∙ ap (λ (s : List Bool). length s) c.deref_mut.ensures.value in
@@ -17,4 +14,4 @@ returns-in-None-clause-found g c =
     let room = c.requires.room.meters in
     let low : length c.args.ms.now.touches ≤ length marks = omega (arith, len, most, room) in
     rw back
-    (HasClosed-flags c.args.g.now c.args.ms.now.touches c.args.from c.args.a.now c.vertices.ensures.branches c.length.ensures.whole c.requires.stands marks c.count.result c.count.ensures.count low c.in-None.ensures.found)
+    (HasClosed-flags c.args.g.now c.args.ms.now.touches c.args.from c.args.a.now c.vertices.ensures.branches c.length.ensures.whole c.requires.stands marks c.count.result c.count.ensures.count low c.in-Err.ensures.found)
