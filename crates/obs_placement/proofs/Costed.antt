@@ -113,7 +113,7 @@ module _ (n : ℕ) (ends : List (Option Ends)) (touches : List Touch) (meters : 
       ∙ (filter-append (is_below price t) metered candidates ∙ ap (λ ys. ys ++ below price t candidates) free)
 
   -- the bound of the own items is the greatest length of the items below the price
-  tight_scope : (t : ℕ) → IsRho (graph_matroid n ends) (touch_at ends touches) (scope_of ends touches price t) (layer_rank n ends touches price t + layer_outside n ends touches price t)
+  pub tight_scope : (t : ℕ) → IsRho (graph_matroid n ends) (touch_at ends touches) (scope_of ends touches price t) (layer_rank n ends touches price t + layer_outside n ends touches price t)
   tight_scope t =
       let mat = graph_matroid n ends in
       let touch = touch_at ends touches in

@@ -88,7 +88,7 @@ module _ (n : ℕ) (ends : List (Option Ends)) (touches : List Touch) (ok : AreB
     (λ y. In-filter (own t) m (scope t) (own_parts t m y).0 y),
   )
 
-  own_low : (t m : ℕ) → own t m ≡ true → m < length touches
+  pub own_low : (t m : ℕ) → own t m ≡ true → m < length touches
   own_low t m y = live_low ends touches m (scope_from t m (own_parts t m y).0).0
 
   abbrev is_new : ℕ → ℕ → ℕ → Bool

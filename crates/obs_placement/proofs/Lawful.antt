@@ -100,7 +100,7 @@ module _ (price : ℕ → ℕ) where
   sorted_from [] x i = i
   sorted_from (c ∷ es) x i = elim (insert_from c (sorted es) x i) [ inl e ↦ inl e | inr j ↦ inr (sorted_from es x j) ]
 
-  sorted_order : (es : List ℕ) → IsDistinct es → InOrder (sorted es)
+  pub sorted_order : (es : List ℕ) → IsDistinct es → InOrder (sorted es)
   sorted_order [] d = tt
   sorted_order (c ∷ es) d = insert_order c (sorted es) (λ i. d.0 (sorted_from es c i)) (sorted_order es d.1)
 
@@ -108,7 +108,7 @@ module _ (price : ℕ → ℕ) where
   order_price [] o = tt
   order_price (c ∷ es) o = ((λ x i. earlier_cheap (price c) (price x) c x (o.0 x i)), order_price es o.1)
 
-  order_distinct : (es : List ℕ) → InOrder es → IsDistinct es
+  pub order_distinct : (es : List ℕ) → InOrder es → IsDistinct es
   order_distinct [] o = tt
   order_distinct (c ∷ es) o = ((λ i. earlier_not_both (price c) (price c) c c (o.0 c i) (o.0 c i)), order_distinct es o.1)
 
@@ -142,7 +142,7 @@ module _ (n : ℕ) (ends : List (Option Ends)) (touches : List Touch) (ok : AreB
   laws = IsMatroid-graph n ends ok
 
   -- over any order by price and position the chosen ones are the answer
-  is_answer : (N es : List ℕ) → IsDistinct N → InOrder price es → ((x : ℕ) → In x es → is_live ends touches x ≡ true) → ((x : ℕ) → In x N → is_live ends touches x ≡ true)
+  pub is_answer : (N es : List ℕ) → IsDistinct N → InOrder price es → ((x : ℕ) → In x es → is_live ends touches x ≡ true) → ((x : ℕ) → In x N → is_live ends touches x ≡ true)
       → ((x : ℕ) → is_live ends touches x ≡ true → In x N ⊎ In x es) → ((x y : ℕ) → In x N → In y es → is_earlier price y x ≡ true)
       → IsAnswer (graph_matroid n ends) (touch_at ends touches) N es (filter (is_chosen n ends touches price) es)
   is_answer N [] d o le ln cover before = finished

@@ -13,3 +13,4 @@ pub mod Lacking
 pub mod Growing
 pub mod Refuting
 pub mod Costed
+pub mod Tallied

@@ -1,19 +1,18 @@
 // The layers of a plan, read off the prices from which on items aren't critical.
 ghost use Rattle.std.specs.Prelude.{◌≡◌, ◌+◌, ◌<◌, ◌≤◌, ◌++◌, ◌^◌, ℕ, filter, length, set, take};
 ghost use Rattle.std.specs.List.{range_with_len};
-ghost use Rattle.obs_meter.specs.Sizes.{HasRoomFor};
 ghost use Rattle.obs_meter.specs.Touches.{AreInRange};
 ghost use Rattle.obs_assign.specs.Assignment.{has_flag};
 ghost use Rattle.obs_placement.specs.Answer.{chosen_of, is_chosen};
+ghost use Rattle.obs_placement.specs.Counting.{live_below, raised_below};
 ghost use Rattle.obs_placement.specs.Layers.{added_items, count_known, inside_of, is_added, layer_of, layers_of, prices_above};
 ghost use Rattle.obs_placement.specs.Order.{IsOrder, price_of};
 ghost use Rattle.obs_placement.specs.Taking.{AreKnown};
 
-use crate::measuring::measure_own;
+use crate::counting::{Tally, count_item, nothing_counted};
 use crate::plans::Layer;
 use obs_graph::Graph;
 use obs_meter::Meters;
-use obs_rankcut::CutWork;
 
 /// Whether the item isn't critical from a price on that is at least `from` and below `to`.
 fn is_new(since: &[u64], from: u64, to: u64, m: usize) -> bool
@@ -55,20 +54,17 @@ fn add_layer(
     since: &[u64],
     from: u64,
     to: u64,
-    marks: &mut [bool],
-    scope: &mut [bool],
-    cut: &mut CutWork,
+    tally: Tally,
     layers: &mut [Layer],
     count: usize,
     inside: &mut [u32],
     upto: usize,
 ) -> usize
     requires in_range { AreInRange g.now offered.now.touches }
-    requires items { length offered.now.touches ≡ meters + length prices.now }
     requires since { length since.now ≡ length offered.now.touches }
-    requires marks { length marks.old ≡ length offered.now.touches }
-    requires scope { length scope.old ≡ length offered.now.touches }
-    requires room { HasRoomFor cut.old.sizes g.now offered.now.touches }
+    requires live { tally.live_below ≡ live_below g.now.ends offered.now.touches (price_of meters prices.now) to }
+    requires raised { tally.raised_below
+        ≡ raised_below g.now.vertices g.now.ends offered.now.touches (price_of meters prices.now) to }
     requires known { AreKnown g.now offered.now.touches (price_of meters prices.now) since.now }
     requires rising { from ≤ to }
     requires count { count < length layers.old }
@@ -82,18 +78,18 @@ fn add_layer(
     ensures listed { take result inside.new ≡ take upto inside.old
         ++ added_items g.now.vertices g.now.ends offered.now.touches (price_of meters prices.now) from to }
     ensures inside { length inside.new ≡ length inside.old }
-    ensures marks { length marks.new ≡ length marks.old }
-    ensures scope { length scope.new ≡ length scope.old }
-    ensures same_sizes { cut.new.sizes ≡ cut.old.sizes }
 {
+    let _ = g.vertices();
     let _ = offered.count();
+    let _ = meters;
+    let _ = prices;
     let listed = list_added(since, from, to, inside, upto);
-    let measured = measure_own(g, offered, meters, prices, since, to, marks, scope, cut);
+    let outside = tally.live_below - listed as u32;
     layers[count] = Layer {
         from,
         to,
-        rank: measured.rank,
-        outside: measured.outside,
+        rank: tally.raised_below - outside,
+        outside,
         upto: listed as u32,
     };
     listed
@@ -115,9 +111,6 @@ pub fn add_layers(
     keys: &[(u64, u32)],
     raised: &[bool],
     since: &[u64],
-    marks: &mut [bool],
-    scope: &mut [bool],
-    cut: &mut CutWork,
     layers: &mut [Layer],
     inside: &mut [u32],
 ) -> Counts
@@ -128,9 +121,6 @@ pub fn add_layers(
     requires raised { (m : ℕ) → m < length offered.now.touches → has_flag raised.now m
         ≡ is_chosen g.now.vertices g.now.ends offered.now.touches (price_of meters prices.now) m }
     requires since { length since.now ≡ length offered.now.touches }
-    requires marks { length marks.old ≡ length offered.now.touches }
-    requires scope { length scope.old ≡ length offered.now.touches }
-    requires room { HasRoomFor cut.old.sizes g.now offered.now.touches }
     requires known { AreKnown g.now offered.now.touches (price_of meters prices.now) since.now }
     requires layers { length offered.now.touches ≤ length layers.old }
     requires inside { length offered.now.touches ≤ length inside.old }
@@ -144,18 +134,19 @@ pub fn add_layers(
     ensures inside_room { result.inside ≤ length inside.new }
     ensures layers_count { length layers.new ≡ length layers.old }
     ensures inside_count { length inside.new ≡ length inside.old }
-    ensures same_sizes { cut.new.sizes ≡ cut.old.sizes }
 {
     let _ = g.vertices();
+    let _ = offered.count();
     let mut last = 0;
     let mut count = 0;
     let mut upto = 0;
+    let mut tally = nothing_counted();
     for k in 0..keys.len() {
         let (price, c) = keys[k];
+        tally = count_item(g, offered, meters, prices, keys, raised, k, tally);
         if last < price && raised[c as usize] {
             upto = add_layer(
-                g, offered, meters, prices, since, last, price, marks, scope, cut, layers, count,
-                inside, upto,
+                g, offered, meters, prices, since, last, price, tally, layers, count, inside, upto,
             );
             count += 1;
             last = price;

@@ -3,6 +3,7 @@
 #![tactic(auto)]
 
 mod choosing;
+mod counting;
 mod holding;
 pub mod laws;
 mod layering;

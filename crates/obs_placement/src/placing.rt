@@ -114,7 +114,7 @@ fn place_in<L: Ledger>(
         }
     } else {
         let counts = add_layers(
-            g, offered, meters, prices, keys, raised, since, marks, scope, cut, layers, inside,
+            g, offered, meters, prices, keys, raised, since, layers, inside,
         );
         Laid {
             short: false,
