@@ -22,7 +22,7 @@ use Rattle.obs_assign.specs.Assignment.{Assignment, has_flag, pairs}
 use Rattle.obs_exchange.proofs.AtGraph.{In-live, live-from_live_items, live_low}
 use Rattle.obs_placement.specs.Answer.{earlier_items, is_chosen}
 use Rattle.obs_placement.specs.Order.{IsOrder, is_earlier, item_at}
-use Rattle.obs_placement.specs.Taking.{AreAdded, AreFirst, AreHeld, AreTaken, IsStanding, IsTakenAt, IsUnderWay, is_below, is_known, is_listed_at, never, scope_of, since_at}
+use Rattle.obs_placement.specs.Taking.{AreAdded, AreFirst, AreHeld, AreTaken, IsTakenAt, IsUnderWay, StandsWithKnown, is_below, is_known, is_listed_at, never, scope_of, since_at}
 use Rattle.obs_placement.proofs.Taken.{IsTaken-same}
 
 pub earlier_cheap : (p q a b : ℕ) → (ltb p q || (eqb p q && ltb a b)) ≡ true → p ≤ q
@@ -151,7 +151,7 @@ module _ (g : Graph) (touches : List Touch) (price : ℕ → ℕ) (keys : List (
     })
 
     module _ (b : Assignment) (after : List ℕ) (flags : List Bool) (p : ℕ) (cheap : p < never) (is_price : p ≡ price next_item) (counted : length after ≡ length touches) (flagged : length flags ≡ length touches)
-        (stand : IsStanding g touches b) (hold : AreHeld g touches price b) (taken : (N : List ℕ) → AreFirst g.ends touches keys (i + 1) N → IsTakenAt g touches N b after)
+        (stand : StandsWithKnown g touches b after) (hold : AreHeld g touches price b) (taken : (N : List ℕ) → AreFirst g.ends touches keys (i + 1) N → IsTakenAt g touches N b after)
         (added : AreAdded p since after) (mine : has_flag flags next_item ≡ is_chosen g.vertices g.ends touches price next_item)
         (theirs : (m : ℕ) → (m ≡ next_item → ⊥) → has_flag flags m ≡ has_flag raised m) where
       dear : (k : ℕ) → k < i + 1 → price (item_at keys k) ≤ price next_item
@@ -231,7 +231,7 @@ module _ (g : Graph) (touches : List Touch) (price : ℕ → ℕ) (keys : List (
       }
 
     -- a live item is taken, and an idle one
-    pub live_step : (b : Assignment) (after : List ℕ) (p : ℕ) (r : Bool) → p < never → p ≡ price next_item → length after ≡ length since → IsStanding g touches b → AreHeld g touches price b
+    pub live_step : (b : Assignment) (after : List ℕ) (p : ℕ) (r : Bool) → p < never → p ≡ price next_item → length after ≡ length since → StandsWithKnown g touches b after → AreHeld g touches price b
         → IsTakenAt g touches (next_item ∷ earlier_items g.ends touches price next_item) b after → AreAdded p since after
         → r ≡ is_chosen g.vertices g.ends touches price next_item → is_live g.ends touches next_item ≡ true
         → IsUnderWay g touches price keys (i + 1) b after (set raised next_item r)
@@ -252,7 +252,7 @@ cheap_items price n keys order cheap k l = let e = order.priced k l in let b = c
 -- nothing is taken yet
 pub IsUnderWay-begun : (g : Graph) (touches : List Touch) (price : ℕ → ℕ) (keys : List (ℕ × ℕ)) (ok : AreBranches g.vertices g.ends) (a : Assignment) (since : List ℕ) (raised : List Bool)
     → length since ≡ length touches → length raised ≡ length touches → ((m : ℕ) → since_at since m ≡ never) → ((m : ℕ) → has_flag raised m ≡ false)
-    → IsStanding g touches a → pairs a ≡ [] → IsOrder price (length touches) keys → IsUnderWay g touches price keys 0 a since raised
+    → StandsWithKnown g touches a since → pairs a ≡ [] → IsOrder price (length touches) keys → IsUnderWay g touches price keys 0 a since raised
 IsUnderWay-begun g touches price keys ok a since raised sc rc s f stand bare order = record {
   since_count = sc;
   raised_count = rc;

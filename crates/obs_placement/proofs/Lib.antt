@@ -1,7 +1,7 @@
 pub mod Taken
 pub mod Ordered
 pub mod Stepped
-pub mod Joining
+pub mod Flagged
 pub mod Going
 pub mod Listing
 pub mod Lawful

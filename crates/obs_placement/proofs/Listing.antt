@@ -2,7 +2,7 @@
 use Rattle.std.proofs.Common.{◌≡◌, ℕ, ◌+◌, ◌-◌, ◌*◌, ◌<◌, ◌≤◌, Bool, true, false, List, [], ◌++◌, length, get_or, set, take, sym, ap, ◌∙◌, arith, All, inl, inr, subst, replicate}
 use Rattle.std.specs.Prelude.{filter}
 use Rattle.std.specs.List.{range_with_len}
-use Rattle.std.proofs.lemmas.Bool.{and_parts, cases_Bool, cases_lt, le-ltb, lt-ltb}
+use Rattle.std.proofs.lemmas.Bool.{and_parts, cases_lt, le-ltb, lt-ltb}
 use Rattle.std.proofs.lemmas.List.Sums.{sum_by-cons}
 use Rattle.std.proofs.lemmas.List.{get_or-replicate, get_or_past, length-replicate}
 use Rattle.obs_graph.specs.Graph.{Graph}
@@ -27,7 +27,7 @@ use Rattle.obs_placement.specs.Answer.{chosen_of, cost_of, earlier_items, is_cho
 use Rattle.obs_placement.specs.Choosing.{HavePairsOnly}
 use Rattle.obs_placement.specs.Limits.{most_price}
 use Rattle.obs_placement.specs.Order.{price_of}
-use Rattle.obs_placement.specs.Taking.{AreTaken, IsStanding, is_known, is_raised, never, since_at}
+use Rattle.obs_placement.specs.Taking.{AreTaken, IsStanding, StandsWithKnown, is_known, is_raised, never, since_at}
 use Rattle.obs_placement.proofs.Taken.{IsTaken-rho}
 use Rattle.obs_exchange.proofs.AtGraph.{live_low}
 
@@ -75,14 +75,19 @@ cheap_price meters prices h m = elim (cases_lt m meters) [
   ])
 ]
 
-pub cleared_standing : (g : Graph) (touches : List Touch) (a : Assignment) → StandsOver a g touches → IsWhole a → pairs a ≡ [] → IsStanding g touches a
-cleared_standing g touches a s w e = record {
+pub cleared_standing : (g : Graph) (touches : List Touch) (a : Assignment) (since : List ℕ) → StandsOver a g touches → IsWhole a → pairs a ≡ [] → StandsWithKnown g touches a since
+cleared_standing g touches a since s w e = record {
   stands = s;
   whole = w;
-  thawed = λ m. elim (cases_Bool (is_frozen a m)) [
-    | inl y ↦ absurd (subst (λ (A : List Pair). In m (items A)) e (w.paired.frozen_have m y))
-    | inr f ↦ f
-  ];
+  frozen = λ m y. absurd (subst (λ (A : List Pair). In m (items A)) e (w.paired.frozen_have m y));
+}
+
+-- the pairs stand on where all are thawed
+pub thawed_standing : (g : Graph) (touches : List Touch) (a b : Assignment) (n : ℕ) → StandsOver a g touches → IsWhole b → b ≡ record a { frozen = replicate n false } → IsStanding g touches b
+thawed_standing g touches a b n s w e = record {
+  stands = subst (λ (x : Assignment). StandsOver x g touches) (sym e) (record { forest = s.forest; meters = s.meters; touched = s.touched });
+  whole = w;
+  thawed = λ m. ap (λ (x : Assignment). is_frozen x m) e ∙ flags_clear n m;
 }
 
 pub replicated : (n m : ℕ) → since_at (replicate n never) m ≡ never

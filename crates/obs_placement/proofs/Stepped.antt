@@ -1,30 +1,27 @@
 -- One item over a graph: what the search from it says.
-use Rattle.std.proofs.Common.{◌≡◌, ℕ, ◌≤◌, ◌<◌, Bool, true, false, ◌||◌, ◌&&◌, Option, None, Some, List, ◌∷◌, length, set, refl, sym, ap, ◌∙◌, inl, inr, arith, subst, eqb, ltb, eq-eqb, get_or-set_same, get_or-set_other}
-use Rattle.std.specs.Prelude.{Contains, IfSome, nat_lt, slice_index_or}
+use Rattle.std.proofs.Common.{◌≡◌, ℕ, ◌≤◌, ◌<◌, Bool, true, false, ◌||◌, ◌&&◌, Option, None, List, ◌∷◌, length, set, refl, sym, ap, ◌∙◌, inl, inr, arith, subst, eqb, ltb, eq-eqb, get_or-set_same, get_or-set_other}
+use Rattle.std.specs.Prelude.{nat_lt}
 use Rattle.std.proofs.lemmas.Bool.{cases_eq, cases_lt, or_cases, or_right, or_left, and_parts, and_from, ne_eqb, lt-ltb, le-ltb}
 use Rattle.std.proofs.lemmas.Bool.Decides.{nat_tests}
 use Rattle.obs_graph.specs.declared.Ends.{Ends}
-use Rattle.obs_graph.specs.Joined.{first_joined, is_joined}
-use Rattle.obs_graph.specs.Positions.{AreBranches, ends_of, present}
+use Rattle.obs_graph.specs.Positions.{AreBranches}
 use Rattle.obs_graph.specs.Graph.{Graph}
-use Rattle.obs_graph.proofs.Chains.{same_first-more}
-use Rattle.obs_graph.proofs.IsJoined.{same-from_true, true-from_same}
-use Rattle.obs_graph.proofs.Present.{present_contains}
 use Rattle.obs_matroid.specs.Lists.{In, IsDistinct}
 use Rattle.obs_matroid.specs.Matroid.{Matroid, IsMatroid}
 use Rattle.obs_matroid.specs.Assignments.{items, branches, part, IsRho}
 use Rattle.obs_matroid.specs.Closed.{IsClosed, none}
 use Rattle.obs_matroid.specs.Placement.{is_raising}
+use Rattle.obs_matroid.specs.Slots.{pairs_of}
 use Rattle.obs_matroid.specs.Values.{rho_of}
 use Rattle.obs_matroid.proofs.Computed.{rho_of_is}
 use Rattle.obs_matroid.proofs.Critical.{rho_same}
 use Rattle.obs_matroid.proofs.Lists.{clash, In_same, In-filter_from, is_in, is_in_from, is_in_at}
 use Rattle.obs_matroid.proofs.Pairs.{In-items_from, In-part, In-part_from, more_pairs}
 use Rattle.obs_meter.specs.declared.Touch.{Touch}
-use Rattle.obs_meter.specs.Spanned.{both_ends, graph_matroid}
+use Rattle.obs_meter.specs.Spanned.{graph_matroid}
 use Rattle.obs_meter.specs.Touches.{is_live, live_items, touch_at}
 use Rattle.obs_meter.proofs.Instance.{IsMatroid-graph}
-use Rattle.obs_assign.specs.Assignment.{Assignment, branch_at, has_flag, is_frozen, pairs}
+use Rattle.obs_assign.specs.Assignment.{Assignment, IsWhole, StandsOver, branch_at, has_flag, is_frozen, pairs}
 use Rattle.obs_exchange.specs.declared.Sources.TheVariants.{One}
 use Rattle.obs_exchange.specs.Closed.{IsClosedAt, IsLeastClosedAt}
 use Rattle.obs_exchange.specs.Found.{AddsSource, HasClosed, HasGrown}
@@ -32,15 +29,9 @@ use Rattle.obs_exchange.proofs.AtGraph.{IsAssignment-live, IsClosed-to_matroid, 
 use Rattle.obs_exchange.proofs.Lawful.{AddsSource-grown}
 use Rattle.obs_placement.specs.Answer.{earlier_items, is_chosen}
 use Rattle.obs_placement.specs.Order.{is_earlier}
-use Rattle.obs_placement.specs.Holding.{AreOfKnown, JoinTouched}
-use Rattle.obs_placement.specs.Taking.{AreAdded, AreHeld, IsStanding, IsTaken, IsTakenAt, is_known, never, since_after, since_at}
+use Rattle.obs_placement.specs.Holding.{IsTouchedByKnown}
+use Rattle.obs_placement.specs.Taking.{AreAdded, AreHeld, IsTaken, IsTakenAt, StandsWithKnown, is_known, never, since_after, since_at}
 use Rattle.obs_placement.proofs.Taken.{IsReached, grown_only, joined_rho, known_spanned, IsTaken-grown, IsTaken-joined, IsTaken-passed, IsTaken-rho, IsTaken-same, passed_rho}
-
--- the first i places are marked
-pub record AreMarked (reached : ℕ → Bool) (price : ℕ) (before : List ℕ) (i : ℕ) (since : List ℕ) : Type 0 where
-  pub count : length since ≡ length before
-  pub marked : (m : ℕ) → m < i → since_at since m ≡ since_after (reached m) price (since_at before m)
-  pub rest : (m : ℕ) → i ≤ m → since_at since m ≡ since_at before m
 
 not_itself : (p c : ℕ) → (ltb p p || (eqb p p && ltb c c)) ≡ false
 not_itself p c = grind (arith, nat_tests)
@@ -54,8 +45,8 @@ raising_by g laws touch M c r s d p q =
     let b = rho_same g touch (c ∷ M) s (rho_of g touch (c ∷ M)) q (rho_of_is g laws touch (c ∷ M) d) in
     rw (a, b) refl
 
-module _ (a : Assignment) (g : Graph) (touches : List Touch) (ok : AreBranches g.vertices g.ends) (standing : IsStanding g touches a) (N : List ℕ) (c : ℕ)
-    (S : ℕ → Bool) (taken : IsTaken (graph_matroid g.vertices g.ends) (touch_at g.ends touches) N (pairs a) S)
+module _ (a : Assignment) (g : Graph) (touches : List Touch) (ok : AreBranches g.vertices g.ends) (since : List ℕ) (standing : StandsWithKnown g touches a since) (N : List ℕ) (c : ℕ)
+    (taken : IsTakenAt g touches N a since)
     (lives : (x : ℕ) → In x N → is_live g.ends touches x ≡ true) (out : In c N → ⊥) (live : is_live g.ends touches c ≡ true) where
   abbrev pub mat : Matroid
   mat = graph_matroid g.vertices g.ends
@@ -66,8 +57,8 @@ module _ (a : Assignment) (g : Graph) (touches : List Touch) (ok : AreBranches g
   pub bare_source : branch_at a c ≡ None
   bare_source = bare-from_out a c (λ i. out (item_in c i))
 
-  thawed_same : is_frozen a ≡ none
-  thawed_same = λ i m. standing.thawed m i
+  abbrev S : ℕ → Bool
+  S = is_known since
 
   module _ (R : ℕ → Bool) (h : IsLeastClosedAt g.ends touches (One c) a R) where
     source : R c ≡ true
@@ -75,7 +66,7 @@ module _ (a : Assignment) (g : Graph) (touches : List Touch) (ok : AreBranches g
 
     -- the set that T and the items have in common holds the reached ones, where T is closed
     within_closed : (T : ℕ → Bool) → ((m e : ℕ) → In m (c ∷ N) → T m ≡ true → In e (touch_at g.ends touches m)
-        → mat.spans (branches (part (λ x. T x || none x) (pairs a))) e ≡ true) → T c ≡ true
+        → mat.spans (branches (part (λ x. T x || is_frozen a x) (pairs a))) e ≡ true) → T c ≡ true
         → (m : ℕ) → R m ≡ true → (T m && is_in (c ∷ N) m) ≡ true
     within_closed T spanned t m r =
         let U : ℕ → Bool = λ x. T x && is_in (c ∷ N) x in
@@ -84,20 +75,20 @@ module _ (a : Assignment) (g : Graph) (touches : List Touch) (ok : AreBranches g
         let closed : IsClosedAt g.ends touches a U = record {
           live = λ x u. lives_too x (at x u);
           joined = λ x e u j.
-              more_pairs mat (IsMatroid-graph g.vertices g.ends ok) (part (λ z. T z || none z) (pairs a)) (part (λ z. U z || is_frozen a z) (pairs a)) e
-              (λ p i. let w = In-part_from (λ z. T z || none z) (pairs a) p i in
-              In-part (λ z. U z || is_frozen a z) (pairs a) p w.0 (or_left (U p.0) (is_frozen a p.0)
-              (and_from (T p.0) (is_in (c ∷ N) p.0) (elim (or_cases (T p.0) (none p.0) w.1) [ inl y ↦ y | inr f ↦ clash f refl ])
-              (is_in_at (c ∷ N) p.0 (inr (taken.assigns.of_items p w.0))))))
+              more_pairs mat (IsMatroid-graph g.vertices g.ends ok) (part (λ z. T z || is_frozen a z) (pairs a)) (part (λ z. U z || is_frozen a z) (pairs a)) e
+              (λ p i. let w = In-part_from (λ z. T z || is_frozen a z) (pairs a) p i in
+              In-part (λ z. U z || is_frozen a z) (pairs a) p w.0 (elim (or_cases (T p.0) (is_frozen a p.0) w.1) [
+                | inl y ↦ or_left (U p.0) (is_frozen a p.0) (and_from (T p.0) (is_in (c ∷ N) p.0) y (is_in_at (c ∷ N) p.0 (inr (taken.assigns.of_items p w.0))))
+                | inr y ↦ or_right (U p.0) (is_frozen a p.0) y
+              ]))
               (spanned x e (at x u) (and_parts (T x) (is_in (c ∷ N) x) u).0 j);
         } in
         h.least U closed (λ x k. subst (λ (y : ℕ). U y ≡ true) (sym k.0) (and_from (T c) (is_in (c ∷ N) c) t (is_in_at (c ∷ N) c (inl refl)))) m r
 
-    reached_closed : IsClosed mat (touch_at g.ends touches) (c ∷ N) none (pairs a) R
-    reached_closed = subst (λ (f : ℕ → Bool). IsClosed mat (touch_at g.ends touches) (c ∷ N) f (pairs a) R) thawed_same
-        (IsClosed-to_matroid g.vertices a g touches standing.stands (c ∷ N) R h.closed)
+    reached_closed : IsClosed mat (touch_at g.ends touches) (c ∷ N) (is_frozen a) (pairs a) R
+    reached_closed = IsClosed-to_matroid g.vertices a g touches standing.stands (c ∷ N) R h.closed
 
-    pub IsReached-closed : IsReached mat (touch_at g.ends touches) N c (pairs a) R
+    pub IsReached-closed : IsReached mat (touch_at g.ends touches) N c (is_frozen a) (pairs a) R
     IsReached-closed = record {
       closed = reached_closed;
       source = source;
@@ -106,33 +97,19 @@ module _ (a : Assignment) (g : Graph) (touches : List Touch) (ok : AreBranches g
     }
 
     pub passed_taken : IsTaken mat (touch_at g.ends touches) (c ∷ N) (pairs a) (λ m. S m || R m)
-    passed_taken = IsTaken-passed mat (IsMatroid-graph g.vertices g.ends ok) (touch_at g.ends touches) N c (pairs a) S taken out R IsReached-closed
+    passed_taken = IsTaken-passed mat (IsMatroid-graph g.vertices g.ends ok) (touch_at g.ends touches) N c (pairs a) S taken out (is_frozen a) standing.frozen R IsReached-closed
 
     pub passed_not_raising : is_raising mat (touch_at g.ends touches) N c ≡ false
     passed_not_raising =
         raising_by mat (IsMatroid-graph g.vertices g.ends ok) (touch_at g.ends touches) N c (length (pairs a)) (length (pairs a)) (out, taken.distinct)
         (IsTaken-rho mat (IsMatroid-graph g.vertices g.ends ok) (touch_at g.ends touches) N (pairs a) S taken)
-        (passed_rho mat (IsMatroid-graph g.vertices g.ends ok) (touch_at g.ends touches) N c (pairs a) S taken out R IsReached-closed)
+        (passed_rho mat (IsMatroid-graph g.vertices g.ends ok) (touch_at g.ends touches) N c (pairs a) S taken out (is_frozen a) standing.frozen R IsReached-closed)
         ∙ le-ltb (length (pairs a)) (length (pairs a)) (omega arith)
 
-  -- where the held branches join all that the item touches, so do the pairs of the known items
-  module _ (since : List ℕ) (is : (m : ℕ) → S m ≡ is_known since m) (held : List (Option Ends)) (of : AreOfKnown g touches since held) (joins : JoinTouched held g.ends touches c) where
+  -- where known items touch all that the item touches, the pairs of the known items span it
+  module _ (joins : (e : ℕ) → In e (touch_at g.ends touches c) → IsTouchedByKnown g.ends touches since e) where
     joins_own : (e : ℕ) → In e (touch_at g.ends touches c) → mat.spans (branches (part (λ x. S x || none x) (pairs a))) e ≡ true
-    joins_own e i = spans_ends (slice_index_or g.ends e None) (joins e i)
-      where
-        kept : List Ends
-        kept = ends_of g.ends (branches (part (λ x. S x || none x) (pairs a)))
-
-        held_joined : (x : Ends) → Contains (present held) x → first_joined kept x.a ≡ first_joined kept x.b
-        held_joined x i =
-            let v = present_contains held x i in
-            let k = of.known v.0 x v.1 in
-            let s = known_spanned mat (IsMatroid-graph g.vertices g.ends ok) (touch_at g.ends touches) N c (pairs a) S taken out k.0 v.0 (is k.0 ∙ k.1) k.2 in
-            same-from_true kept x.a x.b (rw (of.part v.0 x v.1) at s)
-
-        spans_ends : (o : Option Ends) → IfSome o (λ x. first_joined (present held) x.a ≡ first_joined (present held) x.b) → is_joined kept (both_ends o).0 (both_ends o).1 ≡ true
-        spans_ends None u = true-from_same kept 0 0 refl
-        spans_ends (Some x) u = true-from_same kept x.a x.b (same_first-more (present held) kept held_joined x.a x.b u)
+    joins_own e i = let v = joins e i in known_spanned mat (IsMatroid-graph g.vertices g.ends ok) (touch_at g.ends touches) N c (pairs a) S taken out v.0 e v.1 v.2
 
     pub joined_taken : IsTaken mat (touch_at g.ends touches) (c ∷ N) (pairs a) (λ m. S m || eqb m c)
     joined_taken = IsTaken-joined mat (IsMatroid-graph g.vertices g.ends ok) (touch_at g.ends touches) N c (pairs a) S taken out joins_own
@@ -144,18 +121,18 @@ module _ (a : Assignment) (g : Graph) (touches : List Touch) (ok : AreBranches g
         (joined_rho mat (IsMatroid-graph g.vertices g.ends ok) (touch_at g.ends touches) N c (pairs a) S taken out joins_own)
         ∙ le-ltb (length (pairs a)) (length (pairs a)) (omega arith)
 
-  module _ (b : Assignment) (m : ℕ) (later : IsStanding g touches b) (h : HasGrown g.ends touches (One c) a b m) where
+  module _ (b : Assignment) (m : ℕ) (whole : IsWhole b) (stands : StandsOver b g touches) (h : HasGrown g.ends touches (One c) a b m) where
     added : AddsSource g.ends touches (One c) a (pairs b)
-    added = AddsSource-grown a b g touches (One c) m later.whole later.stands h
+    added = AddsSource-grown a b g touches (One c) m whole stands h
 
     pub grown_taken : IsTaken mat (touch_at g.ends touches) (c ∷ N) (pairs b) S
     grown_taken = IsTaken-grown mat (IsMatroid-graph g.vertices g.ends ok) (touch_at g.ends touches) N c (pairs a) S taken out (live_items g.ends touches) (pairs b)
-        (IsAssignment-live g.vertices b g touches later.whole later.stands) h.longer (In_same c added.source (items (pairs b)) (sym added.is_source.0) added.adds) added.keeps
+        (IsAssignment-live g.vertices b g touches whole stands) h.longer (In_same c added.source (items (pairs b)) (sym added.is_source.0) added.adds) added.keeps
 
     pub grown_held : (price : ℕ → ℕ) → AreHeld g touches price a → is_chosen g.vertices g.ends touches price c ≡ true → AreHeld g touches price b
     grown_held price old mine x i =
         elim (grown_only mat (IsMatroid-graph g.vertices g.ends ok) (touch_at g.ends touches) N c (pairs a) S taken out (live_items g.ends touches) (pairs b)
-        (IsAssignment-live g.vertices b g touches later.whole later.stands) h.longer (In_same c added.source (items (pairs b)) (sym added.is_source.0) added.adds) added.keeps x i) [
+        (IsAssignment-live g.vertices b g touches whole stands) h.longer (In_same c added.source (items (pairs b)) (sym added.is_source.0) added.adds) added.keeps x i) [
           | inl e ↦ subst (λ (y : ℕ). is_chosen g.vertices g.ends touches price y ≡ true) (sym e) mine
           | inr j ↦ old x j
         ]
@@ -193,19 +170,26 @@ known_after reached price before after low e b m = rw (e m) (core (reached m) (s
     ]
 
 -- the closed answer of a search from one item, with the mark after it
-pub passed_at : (a b : Assignment) (g : Graph) (touches : List Touch) (ok : AreBranches g.vertices g.ends) (standing : IsStanding g touches a) (price : ℕ → ℕ) (c p : ℕ)
-    (before after : List ℕ) (reached : List Bool) → is_live g.ends touches c ≡ true → p < never → ((m : ℕ) → since_at before m ≤ never)
+pub passed_at : (a b : Assignment) (g : Graph) (touches : List Touch) (ok : AreBranches g.vertices g.ends) (before : List ℕ) (standing : StandsWithKnown g touches a before) (price : ℕ → ℕ) (c p : ℕ)
+    (after : List ℕ) (reached : List Bool) → is_live g.ends touches c ≡ true → p < never → ((m : ℕ) → since_at before m ≤ never)
     → IsTakenAt g touches (earlier_items g.ends touches price c) a before → HasClosed g.ends touches (One c) a b reached
     → ((m : ℕ) → since_at after m ≡ since_after (has_flag reached m) p (since_at before m))
     → IsTakenAt g touches (c ∷ earlier_items g.ends touches price c) b after
-passed_at a b g touches ok standing price c p before after reached live low fits taken closed marked =
+passed_at a b g touches ok before standing price c p after reached live low fits taken closed marked =
     let N = earlier_items g.ends touches price c in
     let mat = graph_matroid g.vertices g.ends in
     let known = known_after (has_flag reached) p before after low marked fits in
-    let t = passed_taken a g touches ok standing N c (is_known before) taken (earlier-live g.ends touches price c) (earlier-out g.ends touches price c) live (has_flag reached) closed.least in
+    let t = passed_taken a g touches ok before standing N c taken (earlier-live g.ends touches price c) (earlier-out g.ends touches price c) live (has_flag reached) closed.least in
     subst (λ (x : Assignment). IsTakenAt g touches (c ∷ N) x after) (sym closed.same)
     (IsTaken-same mat (IsMatroid-graph g.vertices g.ends ok) (touch_at g.ends touches) (c ∷ N) (c ∷ N) (pairs a) (λ m. is_known before m || has_flag reached m) (is_known after)
     t.distinct (λ x i. i) (λ x i. i) known t)
+
+-- only the pairs count
+pub taken_slots : (g : Graph) (touches : List Touch) (N since : List ℕ) (a b : Assignment) → b.slots ≡ a.slots → IsTakenAt g touches N a since → IsTakenAt g touches N b since
+taken_slots g touches N since a b e t = subst (λ (s : List (Option ℕ)). IsTaken (graph_matroid g.vertices g.ends) (touch_at g.ends touches) N (pairs_of s) (is_known since)) (sym e) t
+
+pub held_slots : (g : Graph) (touches : List Touch) (price : ℕ → ℕ) (a b : Assignment) → b.slots ≡ a.slots → AreHeld g touches price a → AreHeld g touches price b
+held_slots g touches price a b e h m i = h m (subst (λ (s : List (Option ℕ)). In m (items (pairs_of s))) e i)
 
 -- a live item is chosen where it raises the greatest length
 pub chosen_by : (g : Graph) (touches : List Touch) (price : ℕ → ℕ) (c : ℕ) (r : Bool) → is_live g.ends touches c ≡ true
@@ -219,15 +203,15 @@ known_with before c p m l low = elim (cases_eq m c) [
   | inr n ↦ rw (get_or-set_other before c m p never n, ne_eqb m c n) (or_none (is_known before m))
 ]
 
--- a live item whose branches' ends are joined by held ones, with its price after it
-pub joined_at : (a : Assignment) (g : Graph) (touches : List Touch) (ok : AreBranches g.vertices g.ends) (standing : IsStanding g touches a) (price : ℕ → ℕ) (c p : ℕ)
-    (before : List ℕ) (held : List (Option Ends)) → is_live g.ends touches c ≡ true → p < never → c < length before
-    → IsTakenAt g touches (earlier_items g.ends touches price c) a before → AreOfKnown g touches before held → JoinTouched held g.ends touches c
+-- a live item of which known ones touch all that it touches, with its price after it
+pub joined_at : (a : Assignment) (g : Graph) (touches : List Touch) (ok : AreBranches g.vertices g.ends) (before : List ℕ) (standing : StandsWithKnown g touches a before) (price : ℕ → ℕ) (c p : ℕ)
+    → is_live g.ends touches c ≡ true → p < never → c < length before
+    → IsTakenAt g touches (earlier_items g.ends touches price c) a before → ((e : ℕ) → In e (touch_at g.ends touches c) → IsTouchedByKnown g.ends touches before e)
     → IsTakenAt g touches (c ∷ earlier_items g.ends touches price c) a (set before c p)
-joined_at a g touches ok standing price c p before held live low l taken of joins =
+joined_at a g touches ok before standing price c p live low l taken joins =
     let N = earlier_items g.ends touches price c in
     let mat = graph_matroid g.vertices g.ends in
-    let t = joined_taken a g touches ok standing N c (is_known before) taken (earlier-live g.ends touches price c) (earlier-out g.ends touches price c) live before (λ m. refl) held of joins in
+    let t = joined_taken a g touches ok before standing N c taken (earlier-live g.ends touches price c) (earlier-out g.ends touches price c) live joins in
     IsTaken-same mat (IsMatroid-graph g.vertices g.ends ok) (touch_at g.ends touches) (c ∷ N) (c ∷ N) (pairs a) (λ m. is_known before m || eqb m c) (is_known (set before c p))
     t.distinct (λ x i. i) (λ x i. i) (λ m. known_with before c p m l low) t
 

@@ -9,18 +9,17 @@ use Rattle.obs_matroid.specs.Critical.{IsCritical}
 use Rattle.obs_matroid.proofs.Lists.{clash, In_same, cases_In, length-within, other_true, other_self, filter_out, IsDistinct-filter}
 use Rattle.obs_matroid.proofs.Pairs.{In-items, In-items_from, In-part, In-part_from, more_pairs}
 use Rattle.obs_matroid.proofs.Bounds.{length-items}
-use Rattle.obs_matroid.proofs.Closed.{IsClosed-union}
 use Rattle.obs_matroid.proofs.Critical.{rho_exists, rho_same, marks_critical}
 use Rattle.obs_matroid.proofs.Least.{grows_or_closes}
 use Rattle.obs_matroid.proofs.Placement.{IsAssignment-items, rho_more, still_longest}
 use Rattle.obs_matroid.proofs.Heredity.{critical_with, IsCritical-same}
 use Rattle.obs_placement.specs.Taking.{IsTaken}
 
--- a closed set that the search from c alone leaves, as seen by the items c and N
-pub record IsReached (g : Matroid) (touch : ℕ → List ℕ) (N : List ℕ) (c : ℕ) (A : List Pair) (R : ℕ → Bool) : Type 0 where
-  pub closed : IsClosed g touch (c ∷ N) none A R
+-- a closed set that the search from c alone leaves, as seen by the items c and N, where some are frozen
+pub record IsReached (g : Matroid) (touch : ℕ → List ℕ) (N : List ℕ) (c : ℕ) (frozen : ℕ → Bool) (A : List Pair) (R : ℕ → Bool) : Type 0 where
+  pub closed : IsClosed g touch (c ∷ N) frozen A R
   pub source : R c ≡ true
-  pub least : (T : ℕ → Bool) → IsClosed g touch (c ∷ N) none A T → T c ≡ true → (m : ℕ) → R m ≡ true → T m ≡ true
+  pub least : (T : ℕ → Bool) → IsClosed g touch (c ∷ N) frozen A T → T c ≡ true → (m : ℕ) → R m ≡ true → T m ≡ true
   pub within : (m : ℕ) → R m ≡ true → In m (c ∷ N)
 
 same_tests : (x y : Bool) (P : Type 0) → (x ≡ false) ↔ P → (y ≡ false) ↔ P → x ≡ y
@@ -196,10 +195,37 @@ module _ (g : Matroid) (laws : IsMatroid g) (touch : ℕ → List ℕ) where
         within = λ m s. elim (or_cases (S m) (eqb m c) s) [ inl y ↦ inr (t.within m y) | inr y ↦ inl (eqb-true m c y) ];
       }
 
-    module _ (R : ℕ → Bool) (k : IsReached g touch N c A R) where
+    module _ (frozen : ℕ → Bool) (sub : (m : ℕ) → frozen m ≡ true → S m ≡ true) (R : ℕ → Bool) (k : IsReached g touch N c frozen A R) where
+      -- what the reached ones touch, their own pairs span and those of the known ones
+      reached_spanned : (e : ℕ) → g.spans (branches (part (λ x. R x || frozen x) A)) e ≡ true → g.spans (branches (part (λ x. (S x || R x) || none x) A)) e ≡ true
+      reached_spanned e w = more_pairs g laws (part (λ x. R x || frozen x) A) (part (λ x. (S x || R x) || none x) A) e
+          (λ p i. let u = In-part_from (λ x. R x || frozen x) A p i in
+          In-part (λ x. (S x || R x) || none x) A p u.0 (or_left (S p.0 || R p.0) (none p.0) (elim (or_cases (R p.0) (frozen p.0) u.1) [
+            | inl y ↦ or_right (S p.0) (R p.0) y
+            | inr y ↦ or_left (S p.0) (R p.0) (sub p.0 y)
+          ])))
+          w
+
+      both_closed : IsClosed g touch (c ∷ N) none A (λ m. S m || R m)
+      both_closed = record {
+        spanned = λ m e i s j. elim (or_cases (S m) (R m) s) [
+          | inl y ↦ larger S (λ x. S x || R x) e (λ x _ z. or_left (S x) (R x) z) (known_spanned m e y j)
+          | inr y ↦ reached_spanned e (k.closed.spanned m e i y j)
+        ];
+      }
+
+      -- a set that is closed where nothing is frozen is so where some are
+      still_closed : (T : ℕ → Bool) → IsClosed g touch (c ∷ N) none A T → IsClosed g touch (c ∷ N) frozen A T
+      still_closed T h = record {
+        spanned = λ m e i s j. more_pairs g laws (part (λ x. T x || none x) A) (part (λ x. T x || frozen x) A) e
+            (λ p q. let u = In-part_from (λ x. T x || none x) A p q in
+            In-part (λ x. T x || frozen x) A p u.0 (or_left (T p.0) (frozen p.0) (elim (or_cases (T p.0) (none p.0) u.1) [ inl y ↦ y | inr f ↦ clash f refl ])))
+            (h.spanned m e i s j);
+      }
+
       both_least : IsLeastClosed g touch (c ∷ N) none every A (λ m. S m || R m)
       both_least = record {
-        closed = IsClosed-union g laws touch none A (c ∷ N) S R known_closed k.closed;
+        closed = both_closed;
         holds = λ m i f free. elim i [
           | inl w ↦ or_right (S m) (R m) (ap R w ∙ k.source)
           | inr h ↦ or_left (S m) (R m) (same m h ∙ own.1.holds m h f free)
@@ -208,12 +234,12 @@ module _ (g : Matroid) (laws : IsMatroid g) (touch : ℕ → List ℕ) where
           | inl y ↦
               let h = t.within m y in
               own.1.least U (record { spanned = λ x e i w j. cu.spanned x e (inr i) w j }) (λ x i f o. hu x (inr i) f o) m (sym (same m h) ∙ y)
-          | inr y ↦ k.least U cu (hu c (inl refl) refl bare) m y
+          | inr y ↦ k.least U (still_closed U cu) (hu c (inl refl) refl bare) m y
         ];
       }
 
       passed_longest : (B : List Pair) → IsAssignment g touch (c ∷ N) B → length B ≤ length A
-      passed_longest = still_longest g laws touch N c A R (out, t.distinct) t.assigns t.longest k.closed k.source
+      passed_longest = still_longest g laws touch N c A (λ m. S m || R m) (out, t.distinct) t.assigns t.longest both_closed (or_right (S c) (R c) k.source)
 
       pub passed_rho : IsRho g touch (c ∷ N) (length A)
       passed_rho = record { longest = A; assigns = assigned; long = refl; none_longer = passed_longest }

@@ -45,9 +45,20 @@ pub record IsStanding (g : Graph) (touches : List Touch) (a : Assignment) : Type
   pub whole : IsWhole a
   pub thawed : (m : ℕ) → is_frozen a m ≡ false
 
+-- the pairs stand, and only items that are known not to be critical are frozen
+pub record StandsWithKnown (g : Graph) (touches : List Touch) (a : Assignment) (since : List ℕ) : Type 0 where
+  pub stands : StandsOver a g touches
+  pub whole : IsWhole a
+  pub frozen : (m : ℕ) → is_frozen a m ≡ true → is_known since m ≡ true
+
 -- from which price on an item isn't critical, after a search from an item of this price has reached it or not
 abbrev pub since_after : Bool → ℕ → ℕ → ℕ
 since_after reached price s = if reached && (s == never) then price else s
+
+-- the listed items that weren't known are known from the price on, and nothing else changed
+pub record AreKept (listed : List ℕ) (price : ℕ) (before after : List ℕ) : Type 0 where
+  pub kept : (m : ℕ) → In m listed → since_at after m ≡ since_after true price (since_at before m)
+  pub others : (m : ℕ) → (In m listed → ⊥) → since_at after m ≡ since_at before m
 
 -- each item with a pair is chosen
 abbrev pub AreHeld : Graph → List Touch → (ℕ → ℕ) → Assignment → Type 0
@@ -82,7 +93,7 @@ pub record IsUnderWay (g : Graph) (touches : List Touch) (price : ℕ → ℕ) (
   pub since_count : length since ≡ length touches
   pub raised_count : length raised ≡ length touches
   pub bounded : (m : ℕ) → since_at since m ≤ never
-  pub standing : IsStanding g touches a
+  pub standing : StandsWithKnown g touches a since
   pub held : AreHeld g touches price a
   pub taken : (N : List ℕ) → AreFirst g.ends touches keys i N → IsTakenAt g touches N a since
   pub chosen : (k : ℕ) → k < i → has_flag raised (item_at keys k) ≡ is_chosen g.vertices g.ends touches price (item_at keys k)

@@ -1,11 +1,10 @@
 // The answer: which candidates are chosen, and what they cost.
 ghost use Rattle.std.specs.Prelude.{◌≡◌, ◌+◌, ◌<◌, ◌≤◌, ◌^◌, ℕ, All, false, filter, length, replicate, take};
 ghost use Rattle.std.specs.List.{range_with_len};
-ghost use Rattle.obs_graph.specs.Search.{room_of};
 ghost use Rattle.obs_meter.specs.Assignments.{rho_at};
 ghost use Rattle.obs_meter.specs.Sizes.{HasRoomFor};
 ghost use Rattle.obs_meter.specs.Touches.{AreInRange, live_items};
-ghost use Rattle.obs_assign.specs.Assignment.{Fits, HasRoomOf, has_flag};
+ghost use Rattle.obs_assign.specs.Assignment.{Fits, HasRoomOf, StandsOver, has_flag};
 ghost use Rattle.obs_assign.specs.Assignment.{pairs as pairs_at};
 ghost use Rattle.obs_placement.specs.Limits.{most_candidates, most_price};
 ghost use Rattle.obs_placement.specs.Answer.{chosen_of, cost_of, is_chosen};
@@ -13,13 +12,11 @@ ghost use Rattle.obs_placement.specs.Choosing.{HavePairsOnly};
 ghost use Rattle.obs_placement.specs.Order.{IsOrder, price_of};
 ghost use Rattle.obs_placement.specs.Taking.{AreKnown, IsStanding, is_raised, never};
 
-use crate::holding::hold_none;
 use crate::order::put_in_order;
 use crate::taking::{NEVER, take_all};
 use obs_assign::{Assignment, Steps};
 use obs_exchange::Work;
-use obs_graph::search::Search;
-use obs_graph::{Ends, Graph};
+use obs_graph::Graph;
 use obs_meter::Meters;
 use std::sync::ledger::Ledger;
 
@@ -56,12 +53,30 @@ fn list_raised(meters: u32, prices: &[u64], raised: &[bool], list: &mut [u32]) -
 }
 
 /// Takes all flags back, and forgets from which price on an item isn't critical.
-fn begin(since: &mut [u64], raised: &mut [bool])
+fn begin(since: &mut [u64], raised: &mut [bool], touched: &mut [bool], stars: &mut [bool])
     ensures since { since.new ≡ replicate (length since.old) never }
     ensures raised { raised.new ≡ replicate (length raised.old) false }
+    ensures touched { touched.new ≡ replicate (length touched.old) false }
+    ensures stars { stars.new ≡ replicate (length stars.old) false }
 {
     since.fill(NEVER);
     raised.fill(false);
+    touched.fill(false);
+    stars.fill(false);
+}
+
+/// Thaws all items, and keeps the pairs.
+#[tactic(auto, using(crate::proofs::Listing::thawed_standing))]
+fn thaw(g: &Graph, offered: &Meters, pairs: &mut Assignment)
+    requires stands { StandsOver pairs.old g.now offered.now.touches }
+    ensures slots { pairs.new.slots ≡ pairs.old.slots }
+    ensures standing { IsStanding g.now offered.now.touches pairs.new }
+    ensures same_room { HasRoomOf pairs.old pairs.new }
+{
+    let _ = g;
+    let _ = offered;
+    pairs.unpin_all();
+    let _ = pairs.length();
 }
 
 /// Takes all items in their order, and lists the chosen candidates.
@@ -74,8 +89,8 @@ pub fn choose_in<L: Ledger>(
     pairs: &mut Assignment,
     search: &mut Work,
     since: &mut [u64],
-    held: &mut [Option<Ends>],
-    joined: &mut Search,
+    touched: &mut [bool],
+    stars: &mut [bool],
     raised: &mut [bool],
     list: &mut [u32],
     steps: &mut Steps<L>,
@@ -90,8 +105,8 @@ pub fn choose_in<L: Ledger>(
     requires since { length since.old ≡ length offered.now.touches }
     requires raised { length raised.old ≡ length offered.now.touches }
     requires list { length prices.now ≤ length list.old }
-    requires held { length held.old ≡ length g.now.ends }
-    requires joined { g.now.vertices ≤ room_of joined.old }
+    requires touched { length touched.old ≡ length g.now.ends }
+    requires stars { length stars.old ≡ g.now.vertices }
     ensures bound { result.count ≤ length prices.now }
     ensures chosen { take result.count list.new
         ≡ chosen_of g.now.vertices g.now.ends offered.now.touches meters prices.now }
@@ -108,16 +123,15 @@ pub fn choose_in<L: Ledger>(
         ≡ is_chosen g.now.vertices g.now.ends offered.now.touches (price_of meters prices.now) m }
     ensures same_room { HasRoomOf pairs.old pairs.new }
     ensures same_sizes { search.new.sizes ≡ search.old.sizes }
-    ensures same_joined { room_of joined.new ≡ room_of joined.old }
 {
     let _ = offered.count();
     let _ = g.vertices();
     pairs.clear(g, offered);
     put_in_order(meters, prices, keys);
-    begin(since, raised);
-    hold_none(g, held, joined);
+    begin(since, raised, touched, stars);
     take_all(
-        g, offered, meters, prices, keys, pairs, search, since, held, joined, raised, steps,
+        g, offered, meters, prices, keys, pairs, search, since, touched, stars, raised, steps,
     );
+    thaw(g, offered, pairs);
     list_raised(meters, prices, raised, list)
 }

@@ -38,11 +38,3 @@ impl From<obs_rankcut::NoMemory> for NoMemory {
         NoMemory
     }
 }
-
-impl From<obs_graph::NoMemory> for NoMemory {
-    ghost from_gives = { λ _ e. e ≡ e };
-
-    fn from(_: obs_graph::NoMemory) -> Self {
-        NoMemory
-    }
-}

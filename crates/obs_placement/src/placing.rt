@@ -1,6 +1,5 @@
 // A placement, worked out in arrays.
 ghost use Rattle.std.specs.Prelude.{◌≡◌, ◌+◌, ◌≤◌, All, length, take};
-ghost use Rattle.obs_graph.specs.Search.{room_of};
 ghost use Rattle.obs_meter.specs.Assignments.{rho_at};
 ghost use Rattle.obs_meter.specs.Sizes.{HasRoomFor};
 ghost use Rattle.obs_meter.specs.Touches.{AreInRange, live_items};
@@ -20,8 +19,7 @@ use crate::plans::Layer;
 use crate::taking::NEVER;
 use obs_assign::{Assignment, Steps};
 use obs_exchange::Work;
-use obs_graph::search::Search;
-use obs_graph::{Ends, Graph};
+use obs_graph::Graph;
 use obs_meter::Meters;
 use obs_rankcut::CutWork;
 use std::sync::ledger::Ledger;
@@ -51,8 +49,8 @@ fn place_in<L: Ledger>(
     pairs: &mut Assignment,
     search: &mut Work,
     since: &mut [u64],
-    held: &mut [Option<Ends>],
-    joined: &mut Search,
+    touched: &mut [bool],
+    stars: &mut [bool],
     raised: &mut [bool],
     list: &mut [u32],
     marks: &mut [bool],
@@ -77,8 +75,8 @@ fn place_in<L: Ledger>(
     requires cut { HasRoomFor cut.old.sizes g.now offered.now.touches }
     requires layers { length offered.now.touches ≤ length layers.old }
     requires inside { length offered.now.touches ≤ length inside.old }
-    requires held { length held.old ≡ length g.now.ends }
-    requires joined { g.now.vertices ≤ room_of joined.old }
+    requires touched { length touched.old ≡ length g.now.ends }
+    requires stars { length stars.old ≡ g.now.vertices }
     ensures placed { laid_in result list.new cut.new.inside layers.new inside.new
         ≡ placement_of g.now.vertices g.now.ends offered.now.touches meters prices.now needed }
     ensures chosen { take result.count list.new
@@ -95,10 +93,9 @@ fn place_in<L: Ledger>(
     ensures same_room { HasRoomOf pairs.old pairs.new }
     ensures same_sizes { search.new.sizes ≡ search.old.sizes }
     ensures same_cut { cut.new.sizes ≡ cut.old.sizes }
-    ensures same_joined { room_of joined.new ≡ room_of joined.old }
 {
     let listed = choose_in(
-        g, offered, meters, prices, keys, pairs, search, since, held, joined, raised, list, steps,
+        g, offered, meters, prices, keys, pairs, search, since, touched, stars, raised, list, steps,
     );
     if pairs.length() < needed {
         let bound = measure_own(g, offered, meters, prices, since, NEVER, marks, scope, cut);
@@ -140,8 +137,8 @@ pub fn place_first<L: Ledger>(
     pairs: &mut Assignment,
     search: &mut Work,
     since: &mut [u64],
-    held: &mut [Option<Ends>],
-    joined: &mut Search,
+    touched: &mut [bool],
+    stars: &mut [bool],
     raised: &mut [bool],
     list: &mut [u32],
     marks: &mut [bool],
@@ -166,8 +163,8 @@ pub fn place_first<L: Ledger>(
     requires cut { HasRoomFor cut.old.sizes g.now offered.now.touches }
     requires layers { length offered.now.touches ≤ length layers.old }
     requires inside { length offered.now.touches ≤ length inside.old }
-    requires held { length g.now.ends ≤ length held.old }
-    requires joined { g.now.vertices ≤ room_of joined.old }
+    requires touched { length g.now.ends ≤ length touched.old }
+    requires stars { g.now.vertices ≤ length stars.old }
     ensures placed { laid_in result list.new cut.new.inside layers.new inside.new
         ≡ placement_of g.now.vertices g.now.ends offered.now.touches meters prices.now needed }
     ensures chosen { take result.count list.new
@@ -185,7 +182,6 @@ pub fn place_first<L: Ledger>(
     ensures same_room { HasRoomOf pairs.old pairs.new }
     ensures same_sizes { search.new.sizes ≡ search.old.sizes }
     ensures same_cut { cut.new.sizes ≡ cut.old.sizes }
-    ensures same_joined { room_of joined.new ≡ room_of joined.old }
 {
     let n = offered.count() as usize;
     place_in(
@@ -198,8 +194,8 @@ pub fn place_first<L: Ledger>(
         pairs,
         search,
         &mut since[..n],
-        &mut held[..g.positions() as usize],
-        joined,
+        &mut touched[..g.positions() as usize],
+        &mut stars[..g.vertices() as usize],
         &mut raised[..n],
         list,
         &mut marks[..n],

@@ -1,20 +1,18 @@
 // Items are taken one after the other: each that raises the greatest length gets a pair, and of each other one it is
 // kept which items aren't critical from its price on.
 ghost use Rattle.std.specs.Prelude.{◌≡◌, ◌<◌, ◌≤◌, ◌∷◌, ℕ, true, length};
-ghost use Rattle.obs_graph.specs.Search.{room_of};
 ghost use Rattle.obs_meter.specs.Sizes.{HasRoomFor};
 ghost use Rattle.obs_meter.specs.Touches.{AreInRange, is_live};
 ghost use Rattle.obs_assign.specs.Assignment.{HasRoomOf};
 ghost use Rattle.obs_placement.specs.Answer.{earlier_items, is_chosen};
-ghost use Rattle.obs_placement.specs.Holding.{AreOfKnown, IsJoinedByKnown};
+ghost use Rattle.obs_placement.specs.Holding.{AreStarsOfKnown, AreTouchedByKnown};
 ghost use Rattle.obs_placement.specs.Order.{IsOrder, price_of};
-ghost use Rattle.obs_placement.specs.Taking.{AreAdded, AreHeld, AreTaken, IsStanding, IsTakenAt, IsUnderWay, never, since_at};
+ghost use Rattle.obs_placement.specs.Taking.{AreAdded, AreHeld, AreTaken, IsTakenAt, IsUnderWay, StandsWithKnown, never, since_at};
 
-use crate::holding::{join_touched, keep};
+use crate::holding::{keep, touches_known};
 use obs_assign::{Assignment, Steps};
 use obs_exchange::{Found, Sources, Work, search};
-use obs_graph::search::Search;
-use obs_graph::{Ends, Graph};
+use obs_graph::Graph;
 use obs_meter::Meters;
 use std::sync::ledger::Ledger;
 
@@ -30,9 +28,8 @@ fn search_item<L: Ledger>(
     a: &mut Assignment,
     work: &mut Work,
     since: &mut [u64],
-    held: &mut [Option<Ends>],
-    joined: &mut Search,
-    waiting: &mut usize,
+    touched: &mut [bool],
+    stars: &mut [bool],
     price: u64,
     c: u32,
     steps: &mut Steps<L>,
@@ -40,7 +37,7 @@ fn search_item<L: Ledger>(
     requires c { c < length offered.now.touches }
     requires in_range { AreInRange g.now offered.now.touches }
     requires room { HasRoomFor work.old.sizes g.now offered.now.touches }
-    requires standing { IsStanding g.now offered.now.touches a.old }
+    requires standing { StandsWithKnown g.now offered.now.touches a.old since.old }
     requires live { is_live g.now.ends offered.now.touches c ≡ true }
     requires count { length since.old ≡ length offered.now.touches }
     requires price { price < never }
@@ -48,20 +45,19 @@ fn search_item<L: Ledger>(
     requires taken { IsTakenAt g.now offered.now.touches
         (earlier_items g.now.ends offered.now.touches (price_of meters prices.now) c) a.old since.old }
     requires held { AreHeld g.now offered.now.touches (price_of meters prices.now) a.old }
-    requires known { AreOfKnown g.now offered.now.touches since.old held.old }
-    requires joined { IsJoinedByKnown g.now offered.now.touches since.old joined.old }
+    requires touched { AreTouchedByKnown g.now offered.now.touches since.old touched.old }
+    requires stars { AreStarsOfKnown g.now offered.now.touches since.old stars.old }
     ensures taken { IsTakenAt g.now offered.now.touches
         (c ∷ earlier_items g.now.ends offered.now.touches (price_of meters prices.now) c) a.new since.new }
     ensures chosen { result ≡ is_chosen g.now.vertices g.now.ends offered.now.touches (price_of meters prices.now) c }
     ensures held { AreHeld g.now offered.now.touches (price_of meters prices.now) a.new }
     ensures added { AreAdded price since.old since.new }
     ensures count { length since.new ≡ length since.old }
-    ensures standing { IsStanding g.now offered.now.touches a.new }
+    ensures standing { StandsWithKnown g.now offered.now.touches a.new since.new }
     ensures same_room { HasRoomOf a.old a.new }
     ensures same_sizes { work.new.sizes ≡ work.old.sizes }
-    ensures known { AreOfKnown g.now offered.now.touches since.new held.new }
-    ensures joined { IsJoinedByKnown g.now offered.now.touches since.new joined.new }
-    ensures same_joined { room_of joined.new ≡ room_of joined.old }
+    ensures touched { AreTouchedByKnown g.now offered.now.touches since.new touched.new }
+    ensures stars { AreStarsOfKnown g.now offered.now.touches since.new stars.new }
 {
     let _ = g.vertices();
     let _ = meters;
@@ -72,20 +68,21 @@ fn search_item<L: Ledger>(
             keep(
                 g,
                 offered,
-                work.reached(),
+                a,
+                work.listed(),
                 price,
                 since,
-                held,
-                joined,
-                waiting,
+                touched,
+                stars,
+                steps,
             );
             false
         }
     }
 }
 
-/// Takes a live item, and says whether it raises the greatest length. Where the held branches join the ends of all that
-/// it touches, it raises nothing, and no other item becomes known: so no search is made.
+/// Takes a live item, and says whether it raises the greatest length. Where known items touch all that it touches, it
+/// raises nothing, and no other item becomes known: so no search is made.
 fn take_item<L: Ledger>(
     g: &Graph,
     offered: &Meters,
@@ -94,9 +91,8 @@ fn take_item<L: Ledger>(
     a: &mut Assignment,
     work: &mut Work,
     since: &mut [u64],
-    held: &mut [Option<Ends>],
-    joined: &mut Search,
-    waiting: &mut usize,
+    touched: &mut [bool],
+    stars: &mut [bool],
     price: u64,
     c: u32,
     steps: &mut Steps<L>,
@@ -104,7 +100,7 @@ fn take_item<L: Ledger>(
     requires c { c < length offered.now.touches }
     requires in_range { AreInRange g.now offered.now.touches }
     requires room { HasRoomFor work.old.sizes g.now offered.now.touches }
-    requires standing { IsStanding g.now offered.now.touches a.old }
+    requires standing { StandsWithKnown g.now offered.now.touches a.old since.old }
     requires live { is_live g.now.ends offered.now.touches c ≡ true }
     requires count { length since.old ≡ length offered.now.touches }
     requires price { price < never }
@@ -112,28 +108,27 @@ fn take_item<L: Ledger>(
     requires taken { IsTakenAt g.now offered.now.touches
         (earlier_items g.now.ends offered.now.touches (price_of meters prices.now) c) a.old since.old }
     requires held { AreHeld g.now offered.now.touches (price_of meters prices.now) a.old }
-    requires known { AreOfKnown g.now offered.now.touches since.old held.old }
-    requires joined { IsJoinedByKnown g.now offered.now.touches since.old joined.old }
+    requires touched { AreTouchedByKnown g.now offered.now.touches since.old touched.old }
+    requires stars { AreStarsOfKnown g.now offered.now.touches since.old stars.old }
     ensures taken { IsTakenAt g.now offered.now.touches
         (c ∷ earlier_items g.now.ends offered.now.touches (price_of meters prices.now) c) a.new since.new }
     ensures chosen { result ≡ is_chosen g.now.vertices g.now.ends offered.now.touches (price_of meters prices.now) c }
     ensures held { AreHeld g.now offered.now.touches (price_of meters prices.now) a.new }
     ensures added { AreAdded price since.old since.new }
     ensures count { length since.new ≡ length since.old }
-    ensures standing { IsStanding g.now offered.now.touches a.new }
+    ensures standing { StandsWithKnown g.now offered.now.touches a.new since.new }
     ensures same_room { HasRoomOf a.old a.new }
     ensures same_sizes { work.new.sizes ≡ work.old.sizes }
-    ensures known { AreOfKnown g.now offered.now.touches since.new held.new }
-    ensures joined { IsJoinedByKnown g.now offered.now.touches since.new joined.new }
-    ensures same_joined { room_of joined.new ≡ room_of joined.old }
+    ensures touched { AreTouchedByKnown g.now offered.now.touches since.new touched.new }
+    ensures stars { AreStarsOfKnown g.now offered.now.touches since.new stars.new }
 {
     let _ = g.vertices();
-    if join_touched(g, offered, c, joined) {
+    if touches_known(g, offered, c, since, touched, stars) {
         since[c as usize] = price;
         return false;
     }
     search_item(
-        g, offered, meters, prices, a, work, since, held, joined, waiting, price, c, steps,
+        g, offered, meters, prices, a, work, since, touched, stars, price, c, steps,
     )
 }
 
@@ -147,8 +142,8 @@ pub fn take_all<L: Ledger>(
     a: &mut Assignment,
     work: &mut Work,
     since: &mut [u64],
-    held: &mut [Option<Ends>],
-    joined: &mut Search,
+    touched: &mut [bool],
+    stars: &mut [bool],
     raised: &mut [bool],
     steps: &mut Steps<L>,
 )
@@ -158,33 +153,19 @@ pub fn take_all<L: Ledger>(
     requires order { IsOrder (price_of meters prices.now) (length offered.now.touches) keys.now }
     requires begun { IsUnderWay g.now offered.now.touches
         (price_of meters prices.now) keys.now 0 a.old since.old raised.old }
-    requires known { AreOfKnown g.now offered.now.touches since.old held.old }
-    requires joined { IsJoinedByKnown g.now offered.now.touches since.old joined.old }
+    requires touched { AreTouchedByKnown g.now offered.now.touches since.old touched.old }
+    requires stars { AreStarsOfKnown g.now offered.now.touches since.old stars.old }
     ensures taken { AreTaken g.now offered.now.touches (price_of meters prices.now) a.new since.new raised.new }
-    ensures standing { IsStanding g.now offered.now.touches a.new }
+    ensures standing { StandsWithKnown g.now offered.now.touches a.new since.new }
     ensures same_room { HasRoomOf a.old a.new }
     ensures same_sizes { work.new.sizes ≡ work.old.sizes }
-    ensures same_joined { room_of joined.new ≡ room_of joined.old }
 {
     let _ = g.vertices();
-    let mut waiting = 0;
     for k in 0..keys.len() {
         let (price, c) = keys[k];
         if offered.live(g, c) {
             raised[c as usize] = take_item(
-                g,
-                offered,
-                meters,
-                prices,
-                a,
-                work,
-                since,
-                held,
-                joined,
-                &mut waiting,
-                price,
-                c,
-                steps,
+                g, offered, meters, prices, a, work, since, touched, stars, price, c, steps,
             );
         }
     }

@@ -16,8 +16,7 @@ use crate::placing::{Laid, place_first};
 use crate::plans::{Layer, Placement, Plan};
 use obs_assign::{Assignment, Steps};
 use obs_exchange::Work;
-use obs_graph::search::Search;
-use obs_graph::{Ends, Graph};
+use obs_graph::Graph;
 use obs_meter::Meters;
 use obs_rankcut::{Bound, CutWork};
 use std::alloc::Global;
@@ -53,9 +52,9 @@ pub struct PlaceWork {
     keys: Vec<(u64, u32)>,
     // the price from which on the item is not critical, or `NEVER`
     since: Vec<u64>,
-    // the branches that items known not to be critical touch, and the pieces that they join
-    held: Vec<Option<Ends>>,
-    joined: Search,
+    // whether an item that is known not to be critical touches the branch, and whether one is a star at the vertex
+    touched: Vec<bool>,
+    stars: Vec<bool>,
     // whether the item raised the greatest length
     raised: Vec<bool>,
     // the positions of the chosen candidates, at the front
@@ -106,8 +105,8 @@ impl Model for PlaceWork {
       vertices : w.pairs.forest.most_vertices ≡ w.search.sizes.vertices;
       search : w.search.sizes.meters ≡ length w.since.items;
       cut : w.cut.sizes ≡ w.search.sizes;
-      held : length w.held.items ≡ w.search.sizes.branches;
-      joined : length w.joined.piece ≡ w.search.sizes.vertices;
+      touched : length w.touched.items ≡ w.search.sizes.branches;
+      stars : length w.stars.items ≡ w.search.sizes.vertices;
     } };
 }
 
@@ -119,8 +118,8 @@ impl Drop for PlaceWork {
             laid: _,
             keys: _,
             since: _,
-            held: _,
-            joined: _,
+            touched: _,
+            stars: _,
             raised: _,
             list: _,
             marks: _,
@@ -150,8 +149,8 @@ impl PlaceWork {
             laid: NOTHING,
             keys: vec![in alloc; (0, 0); most_offered as usize]?,
             since: vec![in alloc; 0; most_offered as usize]?,
-            held: vec![in alloc; None; most_branches as usize]?,
-            joined: Search::make(alloc, most_vertices)?,
+            touched: vec![in alloc; false; most_branches as usize]?,
+            stars: vec![in alloc; false; most_vertices as usize]?,
             raised: vec![in alloc; false; most_offered as usize]?,
             list: vec![in alloc; 0; most_offered as usize]?,
             marks: vec![in alloc; false; most_offered as usize]?,
@@ -241,8 +240,8 @@ pub fn find_placement<L: Ledger>(
         &mut work.pairs,
         &mut work.search,
         &mut work.since,
-        &mut work.held,
-        &mut work.joined,
+        &mut work.touched,
+        &mut work.stars,
         &mut work.raised,
         &mut work.list,
         &mut work.marks,

@@ -1,8 +1,11 @@
-use Rattle.std.proofs.Common.{length, ap, ◌∙◌}
+use Rattle.std.proofs.Common.{ℕ, Option, List, length, ap, ◌∙◌, subst}
+use Rattle.obs_matroid.specs.Assignments.{items}
+use Rattle.obs_matroid.specs.Lists.{In}
+use Rattle.obs_matroid.specs.Slots.{pairs_of}
 use Rattle.obs_placement.specs.Answer.{cost_of}
 use Rattle.obs_placement.specs.Order.{price_of}
 use Rattle.obs_placement.proofs.Going.{IsUnderWay-begun}
-use Rattle.obs_placement.proofs.Joining.{AreOfKnown-none}
+use Rattle.obs_placement.proofs.Flagged.{AreStarsOfKnown-none, AreTouchedByKnown-none}
 use Rattle.obs_placement.proofs.Listing.{chosen_list, cheap_price, cleared_standing, only_chosen, rank_of_all, replicated_at, unset_at}
 use Rattle.obs_placement.proofs.choosing.choose_in.Goals as goal
 
@@ -14,23 +17,21 @@ take_all-requires-clause-begun g c =
     IsUnderWay-begun c.args.g.now c.args.offered.now.touches (price_of c.args.meters c.args.prices.now) c.put_in_order.new.keys c.vertices.ensures.branches c.clear.new.self
     c.begin.new.since c.begin.new.raised (c.begin.auto.since ∙ c.requires.since) (c.begin.auto.raised ∙ c.requires.raised)
     (replicated_at (length c.args.since.now) c.begin.new.since c.begin.ensures.since) (unset_at (length c.args.raised.now) c.begin.new.raised c.begin.ensures.raised)
-    (cleared_standing c.args.g.now c.args.offered.now.touches c.clear.new.self c.clear.ensures.stands c.clear.ensures.whole c.clear.ensures.no_pair) c.clear.ensures.no_pair
+    (cleared_standing c.args.g.now c.args.offered.now.touches c.clear.new.self c.begin.new.since c.clear.ensures.stands c.clear.ensures.whole c.clear.ensures.no_pair) c.clear.ensures.no_pair
     (rw c.requires.items c.put_in_order.ensures.order)
 
-pub take_all-requires-clause-known : goal.take_all-requires-clause-known
-take_all-requires-clause-known g c =
-    AreOfKnown-none c.args.g.now c.args.offered.now.touches c.begin.new.since (length c.args.held.now) c.hold_none.new.held c.requires.held c.hold_none.ensures.held
+pub take_all-requires-clause-touched : goal.take_all-requires-clause-touched
+take_all-requires-clause-touched g c =
+    AreTouchedByKnown-none c.args.g.now c.args.offered.now.touches c.begin.new.since (length c.args.touched.now) c.begin.new.touched c.requires.touched c.begin.ensures.touched
 
-pub take_all-requires-clause-joined : goal.take_all-requires-clause-joined
-take_all-requires-clause-joined g c = record {
-  held = c.hold_none.new.held;
-  known = take_all-requires-clause-known g c;
-  rooted = c.hold_none.ensures.rooted;
-}
+pub take_all-requires-clause-stars : goal.take_all-requires-clause-stars
+take_all-requires-clause-stars g c =
+    AreStarsOfKnown-none c.args.g.now c.args.offered.now.touches c.begin.new.since (length c.args.stars.now) c.begin.new.stars c.requires.stars c.begin.ensures.stars
 
 pub returns-clause-rank : goal.returns-clause-rank
 returns-clause-rank g c =
-    rank_of_all c.args.g.now c.args.offered.now.touches c.args.meters c.args.prices.now c.take_all.new.a c.take_all.new.since c.take_all.new.raised c.vertices.ensures.branches
+    ap (λ (s : List (Option ℕ)). length (pairs_of s)) c.thaw.ensures.slots
+    ∙ rank_of_all c.args.g.now c.args.offered.now.touches c.args.meters c.args.prices.now c.take_all.new.a c.take_all.new.since c.take_all.new.raised c.vertices.ensures.branches
     c.take_all.ensures.taken c.requires.items
 
 pub returns-clause-chosen : goal.returns-clause-chosen
@@ -46,9 +47,9 @@ returns-clause-cost g c =
     c.vertices.ensures.branches c.take_all.ensures.taken c.requires.items)
 
 pub returns-clause-only_chosen : goal.returns-clause-only_chosen
-returns-clause-only_chosen g c =
+returns-clause-only_chosen g c m i =
     only_chosen c.args.g.now c.args.offered.now.touches c.args.meters c.args.prices.now c.take_all.new.a c.take_all.new.since c.take_all.new.raised c.vertices.ensures.branches
-    c.take_all.ensures.taken c.requires.items
+    c.take_all.ensures.taken c.requires.items m (subst (λ (s : List (Option ℕ)). In m (items (pairs_of s))) c.thaw.ensures.slots i)
 
 pub returns-clause-raised : goal.returns-clause-raised
 returns-clause-raised g c = c.take_all.ensures.taken.chosen

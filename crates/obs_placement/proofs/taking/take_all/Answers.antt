@@ -26,32 +26,28 @@ loop-k-preserved g c =
     let cheap = c.requires.cheap in
     let room = l.invariant.1 in
     let sizes = l.invariant.2 in
-    let of = l.invariant.3 in
-    let joined = l.invariant.4 in
-    let wide = l.invariant.5 in
+    let touched = l.invariant.3 in
+    let stars = l.invariant.4 in
     elim c.if-live.branch [
       | then-live b ↦
           let e = b.take_item.ensures in
           let same_room = e.same_room in
           let same_sizes = e.same_sizes in
-          let same_joined = e.same_joined in
-          rw (b.a-is, b.work-is, b.since-is, b.held-is, b.joined-is, b.raised-is) (
+          rw (b.a-is, b.work-is, b.since-is, b.touched-is, b.stars-is, b.raised-is) (
             live_step G T price keys ok order l.k l.a l.since l.raised low w b.take_item.new.a b.take_item.new.since (slice_index_or keys l.k (0, 0)).0 b.take_item.result
                 (cheap_items price (length T) keys order cheap l.k low) (order.priced l.k low) e.count e.standing e.held e.taken e.added e.chosen (sym c.live.ensures.live ∙ b.if-live.true),
             record { meters = same_room.meters ∙ room.meters; vertices = same_room.vertices ∙ room.vertices; branches = same_room.branches ∙ room.branches },
             same_sizes ∙ sizes,
-            e.known,
-            e.joined,
-            same_joined ∙ wide,
+            e.touched,
+            e.stars,
           )
       | else-live b ↦
-          rw (b.a-is, b.work-is, b.since-is, b.held-is, b.joined-is, b.raised-is) (
+          rw (b.a-is, b.work-is, b.since-is, b.touched-is, b.stars-is, b.raised-is) (
             idle_step G T price keys ok order l.k l.a l.since l.raised low w (cheap (item_at keys l.k)) (sym c.live.ensures.live ∙ b.if-live.false),
             room,
             sizes,
-            of,
-            joined,
-            wide,
+            touched,
+            stars,
           )
     ]
 

@@ -1,0 +1,13 @@
+use Rattle.std.proofs.Common.{sym}
+use Rattle.obs_placement.proofs.Flagged.{MayPin-own, pinned_same}
+use Rattle.obs_placement.proofs.holding.freeze.Goals as goal
+
+pub pin-requires-clause-may : goal.pin-requires-clause-may
+pin-requires-clause-may g c =
+    MayPin-own c.args.g.now c.args.offered.now.touches c.vertices.ensures.branches c.args.a.now c.requires.whole c.requires.stands c.args.m c.in-Some.e (sym c.in-Some.ensures.branch) c.requires.thawed
+
+pub returns-in-Some-clause-slots : goal.returns-in-Some-clause-slots
+returns-in-Some-clause-slots g c =
+    let p = c.pin.ensures.pinned in
+    pinned_same c.args.g.now c.args.offered.now.touches c.vertices.ensures.branches c.args.a.now c.requires.whole c.requires.stands c.args.m c.in-Some.e (sym c.in-Some.ensures.branch) c.requires.thawed
+    c.pin.new.self.slots p.0 p.1
