@@ -2,12 +2,13 @@
 // more than most searches do.
 ghost use Rattle.std.specs.Prelude.{◌≡◌, ◌<◌, ◌≤◌, ◌^◌, ℕ, false, length, replicate, slice_index};
 
-/// No flag, the numbers of the vertices, and no count.
+/// No flag, the numbers of the vertices, and no count; and whether the counts begin anew.
 #[derive(Clone, Copy)]
 pub struct Blanks<'a> {
     pub flags: &'a [bool],
     pub numbers: &'a [u32],
     pub counts: &'a [u32],
+    pub anew: bool,
 }
 
 /// Takes all flags back.

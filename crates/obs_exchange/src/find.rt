@@ -11,7 +11,7 @@ use crate::Sources;
 use crate::begin::spread_all;
 use crate::blanks::{Blanks, clear, set_counts};
 use crate::free::untried_branch;
-use crate::queue::{first_source, is_source, sources_end};
+use crate::queue::{is_source, sources_end};
 use crate::tops::separate;
 use obs_assign::{Assignment, Move, Steps};
 use obs_graph::Graph;
@@ -93,10 +93,9 @@ fn trace(
 
 /// Looks for a path of moves that gives a source a pair, writes it at the end of the array and says where it begins.
 /// Where there is no such path, it says how many meters it reached: these are the first of the queue, and the marks are
-/// the least closed set. The sources from the first given meter on
-/// are tried for a free branch; where this isn't the first source, the counts tell how many branches at a vertex
-/// earlier searches tried in vain. Where none is found, it searches from the sources, those from the second given meter
-/// on before the others.
+/// the least closed set. The sources from the first given meter on are tried for a free branch; the counts tell how many
+/// branches at a vertex earlier searches tried in vain. Where none is found, it searches from the sources, those from the
+/// second given meter on before the others.
 pub fn find(
     g: &Graph,
     ms: &Meters,
@@ -143,7 +142,7 @@ pub fn find(
 {
     let _ = g.vertices();
     let _ = a.length();
-    if first == first_source(from) {
+    if blanks.anew {
         set_counts(tried, blanks.counts);
     }
     if let Some(x) = free_move(g, ms, a, from, first, tried) {

@@ -51,6 +51,15 @@ impl Pass {
     }
 }
 
+/// Whether a search counts the branches at the vertices anew: a pass over all sources does where it begins, and a search
+/// from one meter where the pairs are fewer than at the search before. Nothing rests on the counts.
+pub(crate) fn counts_anew(pass: Pass, from: Sources, pairs: u32, before: u32) -> bool {
+    match from {
+        Sources::All => pass.next == 0,
+        Sources::One(_) => pairs == 0 || pairs < before,
+    }
+}
+
 /// The first meter that a search tries for a free branch.
 pub(crate) fn first_tried(pass: Pass, from: Sources) -> u32
     ensures first { first_of from ≤ result }

@@ -9,7 +9,7 @@ ghost use Rattle.obs_exchange.specs.Found.{AreListed, CanBegin, IsFound};
 use crate::blanks::{Blanks, number};
 use crate::find::{find, grow};
 use crate::memory::NoMemory;
-use crate::pass::{Pass, first_searched, first_tried, next_tried};
+use crate::pass::{Pass, counts_anew, first_searched, first_tried, next_tried};
 use crate::{Found, Sources};
 use obs_assign::{Assignment, Move, Steps};
 use obs_graph::Graph;
@@ -44,6 +44,8 @@ pub struct Work {
     no_flags: Vec<bool>,
     numbers: Vec<u32>,
     no_counts: Vec<u32>,
+    // how many pairs there were at the last search
+    pairs: u32,
     // where the next search begins to try sources
     pass: Pass,
 }
@@ -92,6 +94,7 @@ impl Drop for Work {
             no_flags: _,
             numbers: _,
             no_counts: _,
+            pairs: _,
             pass: _,
         } = self;
     }
@@ -132,6 +135,7 @@ impl Work {
             no_flags: vec![in alloc; false; most as usize]?,
             numbers,
             no_counts: vec![in alloc; 0; most_vertices as usize]?,
+            pairs: 0,
             pass: Pass::new(),
         })
     }
@@ -177,6 +181,8 @@ impl Work {
         let pass = self.pass.resumed(a);
         let first = first_tried(pass, from);
         let middle = first_searched(pass, from);
+        let anew = counts_anew(pass, from, a.length(), self.pairs);
+        self.pairs = a.length();
         let start = find(
             g,
             ms,
@@ -196,6 +202,7 @@ impl Work {
                 flags: &self.no_flags,
                 numbers: &self.numbers,
                 counts: &self.no_counts,
+                anew,
             },
         );
         match start {
