@@ -10,3 +10,4 @@ pub mod Growing
 pub mod AtGraph
 pub mod Lawful
 pub mod Lengthening
+pub mod Noting

@@ -15,6 +15,7 @@ use Rattle.obs_exchange.specs.declared.Found.TheVariants.{Grown, Closed}
 use Rattle.obs_exchange.specs.declared.Sources.{Sources}
 use Rattle.obs_exchange.specs.declared.Sources.TheVariants.{All, One}
 use Rattle.obs_exchange.specs.Closed.{IsLeastClosedAt, IsSource}
+use Rattle.obs_exchange.specs.Noting.{Noted}
 
 -- the one meter that is asked for is one that has no pair
 abbrev pub CanBegin : Sources → Assignment → Type 0
@@ -58,8 +59,9 @@ pub record AreListed (flags : List Bool) (listed : List ℕ) : Type 0 where
   pub exactly : (m : ℕ) → In m listed ↔ (has_flag flags m ≡ true)
 
 -- what a work value is seen as: a flag for each meter that the last closed search reached, these meters in the order in which it
--- reached them, and the sizes that it was made for
+-- reached them, the meters that are noted, and the sizes that it was made for
 pub record Work : Type 0 where
   pub reached : List Bool
   pub listed : List ℕ
+  pub noted : Noted
   pub sizes : Sizes

@@ -1,6 +1,7 @@
 pub mod Closed
 pub mod Found
 pub mod Lengthened
+pub mod Noting
 pub mod Searching
 pub mod Classes
 pub mod Critical

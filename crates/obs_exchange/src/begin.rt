@@ -4,9 +4,11 @@ ghost use Rattle.obs_meter.specs.Touches.{AreInRange};
 ghost use Rattle.obs_assign.specs.Assignment.{IsWhole, StandsOver, has_flag};
 ghost use Rattle.obs_exchange.specs.Closed.{IsSource};
 ghost use Rattle.obs_exchange.specs.Classes.{AreClasses};
+ghost use Rattle.obs_exchange.specs.Noting.{AreNoted};
 ghost use Rattle.obs_exchange.specs.Searching.{AreMarked, AreStarred, IsEnd, IsSearching, Keeps, end_of, first_of};
 
 use crate::Sources;
+use crate::noted::Noted;
 use crate::queue::{first_source, is_source, push, sources_end};
 use crate::visit::spread;
 use obs_assign::{Assignment, Move};
@@ -73,6 +75,7 @@ fn spread_range(
     ms: &Meters,
     a: &Assignment,
     from: Sources,
+    noted: &Noted,
     first: u32,
     limit: u32,
     marks: &mut [bool],
@@ -92,6 +95,8 @@ fn spread_range(
     requires tried { g.now.vertices ≤ length tried.old }
     requires flags { length g.now.ends ≤ length walked.old }
     requires low { end_of from (length ms.now.touches) ≤ length ms.now.touches }
+    requires noted { AreNoted g.now.ends ms.now.touches from a.now noted.now }
+    requires noted_room { length ms.now.touches ≤ length noted.now.flags }
     requires first { first_of from ≤ first }
     requires limit { limit ≤ end_of from (length ms.now.touches) }
     requires searching { IsSearching g.now.ends ms.now.touches from a.now
@@ -106,12 +111,14 @@ fn spread_range(
     ensures classes { AreClasses g.now.vertices ways.now.ups.now ways.now.depths.now a.now marks.new tops.new }
     ensures keeps { Keeps marks.old marks.new }
 {
-    for m in first..limit {
+    let mut m = noted.next(first, limit);
+    while m < limit {
         if let Some(x) = spread_source(
             g, ms, a, from, m, marks, parents, queue, tail, walked, stars, tried, ways, tops,
         ) {
             return Some(x);
         }
+        m = noted.next(m + 1, limit);
     }
     None
 }
@@ -123,6 +130,7 @@ pub fn spread_all(
     ms: &Meters,
     a: &Assignment,
     from: Sources,
+    noted: &Noted,
     middle: u32,
     marks: &mut [bool],
     parents: &mut [Option<Move>],
@@ -141,6 +149,8 @@ pub fn spread_all(
     requires tried { g.now.vertices ≤ length tried.old }
     requires flags { length g.now.ends ≤ length walked.old }
     requires low { end_of from (length ms.now.touches) ≤ length ms.now.touches }
+    requires noted { AreNoted g.now.ends ms.now.touches from a.now noted.now }
+    requires noted_room { length ms.now.touches ≤ length noted.now.flags }
     requires middle { first_of from ≤ middle }
     requires searching { IsSearching g.now.ends ms.now.touches from a.now
         marks.old parents.old queue.old tail.old tail.old walked.old }
@@ -154,7 +164,8 @@ pub fn spread_all(
 {
     let end = sources_end(from, ms.count());
     if let Some(x) = spread_range(
-        g, ms, a, from, middle, end, marks, parents, queue, tail, walked, stars, tried, ways, tops,
+        g, ms, a, from, noted, middle, end, marks, parents, queue, tail, walked, stars, tried,
+        ways, tops,
     ) {
         return Some(x);
     }
@@ -163,6 +174,7 @@ pub fn spread_all(
         ms,
         a,
         from,
+        noted,
         first_source(from),
         end,
         marks,

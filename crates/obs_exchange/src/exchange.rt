@@ -34,5 +34,6 @@ pub fn search<L: Ledger>(
     ensures same_room { HasRoomOf a.old a.new }
     ensures same_sizes { work.new.sizes ≡ work.old.sizes }
 {
+    work.note_all();
     work.run(g, ms, a, from, steps)
 }

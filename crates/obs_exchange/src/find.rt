@@ -5,12 +5,14 @@ ghost use Rattle.obs_meter.specs.Touches.{AreInRange};
 ghost use Rattle.obs_assign.specs.Assignment.{HasRoomOf, IsWhole, StandsOver, has_flag};
 ghost use Rattle.obs_exchange.specs.Closed.{IsLeastClosedAt, IsSource};
 ghost use Rattle.obs_exchange.specs.Found.{AreListed, HasGrown};
+ghost use Rattle.obs_exchange.specs.Noting.{AreNoted};
 ghost use Rattle.obs_exchange.specs.Searching.{IsEnd, IsFreeFor, IsReady, end_of, first_of};
 
 use crate::Sources;
 use crate::begin::spread_all;
 use crate::blanks::{Blanks, clear, set_counts};
 use crate::free::untried_branch;
+use crate::noted::Noted;
 use crate::queue::{is_source, sources_end};
 use crate::tops::separate;
 use obs_assign::{Assignment, Move, Steps};
@@ -18,12 +20,13 @@ use obs_graph::Graph;
 use obs_meter::Meters;
 use std::sync::ledger::Ledger;
 
-/// The move of the first source that touches a free branch. Sources before the given meter are passed over.
+/// The move of the first noted source that touches a free branch. Sources before the given meter are passed over.
 fn free_move(
     g: &Graph,
     ms: &Meters,
     a: &Assignment,
     from: Sources,
+    noted: &Noted,
     first: u32,
     tried: &mut [u32],
 ) -> Option<Move>
@@ -31,13 +34,16 @@ fn free_move(
     requires whole { IsWhole a.now }
     requires in_range { AreInRange g.now ms.now.touches }
     requires low { end_of from (length ms.now.touches) ≤ length ms.now.touches }
+    requires noted_room { length ms.now.touches ≤ length noted.now.flags }
     requires first { first_of from ≤ first }
     requires tried { g.now.vertices ≤ length tried.old }
     ensures free { IfSome result
         (λ x. (x.meter < length ms.now.touches) × IsSource g.now.ends ms.now.touches from a.now x.meter
         × IsFreeFor g.now.ends ms.now.touches a.now x.meter x.branch) }
 {
-    for m in first..sources_end(from, ms.count()) {
+    let limit = sources_end(from, ms.count());
+    let mut m = noted.next(first, limit);
+    while m < limit {
         if is_source(g, ms, a, from, m) {
             if let Some(e) = untried_branch(g, ms, a, m, tried) {
                 return Some(Move {
@@ -46,6 +52,7 @@ fn free_move(
                 });
             }
         }
+        m = noted.next(m + 1, limit);
     }
     None
 }
@@ -101,6 +108,7 @@ pub fn find(
     ms: &Meters,
     a: &Assignment,
     from: Sources,
+    noted: &Noted,
     first: u32,
     middle: u32,
     marks: &mut [bool],
@@ -118,6 +126,8 @@ pub fn find(
     requires low { end_of from (length ms.now.touches) ≤ length ms.now.touches }
     requires first { first_of from ≤ first }
     requires middle { first_of from ≤ middle }
+    requires noted { AreNoted g.now.ends ms.now.touches from a.now noted.now }
+    requires noted_room { length ms.now.touches ≤ length noted.now.flags }
     requires marks { length ms.now.touches ≤ length marks.old }
     requires parents { length ms.now.touches ≤ length parents.old }
     requires queue { length ms.now.touches ≤ length queue.old }
@@ -145,7 +155,7 @@ pub fn find(
     if blanks.anew {
         set_counts(tried, blanks.counts);
     }
-    if let Some(x) = free_move(g, ms, a, from, first, tried) {
+    if let Some(x) = free_move(g, ms, a, from, noted, first, tried) {
         let last = path.len() - 1;
         path[last] = x;
         return Ok(last);
@@ -158,7 +168,8 @@ pub fn find(
     separate(tops, blanks.numbers);
     let mut tail = 0;
     match spread_all(
-        g, ms, a, from, middle, marks, parents, queue, &mut tail, walked, stars, tried, ways, tops,
+        g, ms, a, from, noted, middle, marks, parents, queue, &mut tail, walked, stars, tried,
+        ways, tops,
     ) {
         Some(x) => Ok(trace(g, ms, a, from, x, marks, parents, queue, tail, walked, path)),
         None => Err(tail),

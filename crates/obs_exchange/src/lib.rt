@@ -29,6 +29,7 @@ mod find;
 mod free;
 pub mod laws;
 mod memory;
+mod noted;
 mod pass;
 mod queue;
 mod repeated;
@@ -39,5 +40,5 @@ mod work;
 
 pub use exchange::search;
 pub use memory::NoMemory;
-pub use repeated::lengthen;
+pub use repeated::{lengthen, lengthen_from};
 pub use work::Work;

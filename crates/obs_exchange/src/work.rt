@@ -1,14 +1,17 @@
 // The arrays of a search.
-ghost use Rattle.std.specs.Prelude.{◌≡◌, ◌+◌, [], length, IfOk};
+ghost use Rattle.std.specs.Prelude.{◌≡◌, ◌+◌, ◌<◌, true, false, [], length, replicate, slice_set, IfOk};
 ghost use Rattle.obs_meter.specs.Sizes.{HasRoomFor};
 ghost use Rattle.obs_meter.specs.Touches.{AreInRange};
 ghost use Rattle.obs_assign.specs.Assignment.{HasRoomOf, IsWhole, StandsOver};
 ghost use Rattle.obs_exchange.specs.declared.Found.{Found};
+ghost use Rattle.obs_exchange.specs.declared.Sources.TheVariants.{All};
 ghost use Rattle.obs_exchange.specs.Found.{AreListed, CanBegin, IsFound};
+ghost use Rattle.obs_exchange.specs.Noting.{AreNoted};
 
 use crate::blanks::{Blanks, number};
 use crate::find::{find, grow};
 use crate::memory::NoMemory;
+use crate::noted::Noted;
 use crate::pass::{Pass, counts_anew, first_searched, first_tried, next_tried};
 use crate::{Found, Sources};
 use obs_assign::{Assignment, Move, Steps};
@@ -46,6 +49,8 @@ pub struct Work {
     no_counts: Vec<u32>,
     // how many pairs there were at the last search
     pairs: u32,
+    // the meters among which it looks for sources
+    noted: Noted,
     // where the next search begins to try sources
     pass: Pass,
 }
@@ -61,6 +66,7 @@ impl Model for Work {
         record {
           reached = take w.meters w.reached.items;
           listed = take w.count w.queue.items;
+          noted = w.noted;
           sizes = record {
             meters = length w.reached.items;
             branches = length w.walked.items;
@@ -70,7 +76,7 @@ impl Model for Work {
 
     ghost invariant = { λ w.
         (w.meters ≤ length w.reached.items) × (w.count ≤ length w.queue.items)
-        × (length w.parents.items ≡ length w.reached.items)
+        × (length w.noted.flags ≡ length w.reached.items) × (length w.parents.items ≡ length w.reached.items)
         × (length w.queue.items ≡ length w.reached.items) × (length w.path.items ≡ length w.reached.items)
         × (length w.tops.items ≡ length w.stars.items) × (length w.tried.items ≡ length w.stars.items)
         × AreBlank (length w.reached.items) (length w.walked.items) (length w.stars.items)
@@ -95,6 +101,7 @@ impl Drop for Work {
             numbers: _,
             no_counts: _,
             pairs: _,
+            noted: _,
             pass: _,
         } = self;
     }
@@ -111,6 +118,7 @@ impl Work {
         ensures empty { IfOk result (λ w. w ≡ record {
           reached = [];
           listed = [];
+          noted = record { all = true; flags = replicate most_meters false };
           sizes = record { meters = most_meters; branches = most_branches; vertices = most_vertices };
         }) }
     {
@@ -136,6 +144,7 @@ impl Work {
             numbers,
             no_counts: vec![in alloc; 0; most_vertices as usize]?,
             pairs: 0,
+            noted: Noted::make(alloc, most_meters)?,
             pass: Pass::new(),
         })
     }
@@ -154,7 +163,36 @@ impl Work {
         &self.queue[..self.count]
     }
 
-    /// The body of `search`.
+    /// Notes the live meters without a pair, and no others, for `lengthen_from`.
+    pub fn note_sources(&mut self, g: &Graph, ms: &Meters, a: &Assignment)
+        requires stands { StandsOver a.now g.now ms.now.touches }
+        requires in_range { AreInRange g.now ms.now.touches }
+        requires room { HasRoomFor self.old.sizes g.now ms.now.touches }
+        ensures noted { AreNoted g.now.ends ms.now.touches All a.now self.new.noted }
+        ensures same_sizes { self.new.sizes ≡ self.old.sizes }
+    {
+        self.noted.put_sources(g, ms, a);
+    }
+
+    /// Notes a meter too, or notes it no more, for `lengthen_from`.
+    pub fn note(&mut self, m: u32, noted: bool)
+        requires m { m < self.old.sizes.meters }
+        ensures noted { self.new ≡ record self.old {
+          noted = record self.old.noted { flags = slice_set self.old.noted.flags m noted };
+        } }
+        ensures low { m < length self.old.noted.flags }
+    {
+        self.noted.put(m, noted);
+    }
+
+    /// Notes all meters.
+    pub(crate) fn note_all(&mut self)
+        ensures all { self.new ≡ record self.old { noted = record self.old.noted { all = true } } }
+    {
+        self.noted.put_all();
+    }
+
+    /// The body of `search`, over the noted meters.
     pub(crate) fn run<L: Ledger>(
         &mut self,
         g: &Graph,
@@ -167,8 +205,10 @@ impl Work {
         requires in_range { AreInRange g.now ms.now.touches }
         requires room { HasRoomFor self.old.sizes g.now ms.now.touches }
         requires begins { CanBegin from a.old }
+        requires noted { AreNoted g.now.ends ms.now.touches from a.old self.old.noted }
         ensures found { IsFound g.now.ends ms.now.touches from a.old a.new self.new.reached result }
         ensures listed { result ≡ Found.Closed → AreListed self.new.reached self.new.listed }
+        ensures noted { self.new.noted ≡ self.old.noted }
         ensures tick { steps.new ≡ steps.old + 1 }
         ensures stands { StandsOver a.new g.now ms.now.touches }
         ensures whole { IsWhole a.new }
@@ -188,6 +228,7 @@ impl Work {
             ms,
             a,
             from,
+            &self.noted,
             first,
             middle,
             &mut self.reached,

@@ -1,5 +1,6 @@
 use Rattle.std.proofs.Common.{◌≡◌, ◌++◌, ℕ, false, length, replicate, take, drop, ap, sym, ◌∙◌, arith}
 use Rattle.std.proofs.lemmas.List.{length-replicate}
+use Rattle.obs_exchange.specs.Noting.{Noted}
 use Rattle.obs_exchange.proofs.work.Work.make.Goals as goal
 use Rattle.obs_graph.proofs.Stored.{written_back}
 
@@ -19,9 +20,12 @@ invariant_of-result c =
     let v = c.in_ok-numbers.numbers in
     let none = c.in_ok-vec-9.ensures.items_if_clones_equal (λ y e. e) in
     let same : length c.number.new.numbers ≡ length v.items = c.number.ensures.length ∙ ap length c.deref_mut.ensures.value in
-    let back : take v.len (c.number.new.numbers ++ drop (length c.number.new.numbers) v.items) ≡ c.number.new.numbers = written_back v.len c.number.new.numbers v.items same v.ok.0 in (
+    let back : take v.len (c.number.new.numbers ++ drop (length c.number.new.numbers) v.items) ≡ c.number.new.numbers = written_back v.len c.number.new.numbers v.items same v.ok.0 in
+    let noted : length c.in_ok-make.field-0.flags ≡ c.args.most_meters =
+    ap (λ (n : Noted). length n.flags) c.in_ok-make.ensures.made ∙ length-replicate c.args.most_meters false in (
       omega arith,
       omega arith,
+      omega (arith, noted, reached),
       omega arith,
       omega arith,
       omega arith,

@@ -1,0 +1,27 @@
+use Rattle.std.proofs.Common.{◌≡◌, ◌∙◌, false, set, sym, ap, subst, arith}
+use Rattle.obs_meter.specs.Sizes.{Sizes}
+use Rattle.obs_exchange.specs.declared.Sources.TheVariants.{All}
+use Rattle.obs_exchange.specs.Found.{Work}
+use Rattle.obs_exchange.specs.Noting.{AreNoted, Noted}
+use Rattle.obs_exchange.proofs.AtGraph.{live_low}
+use Rattle.obs_exchange.proofs.Noting.{AreNoted-grown}
+use Rattle.obs_exchange.proofs.repeated.search_noted.Goals as goal
+
+pub note-requires : goal.note-requires
+note-requires g c =
+    let l = live_low c.args.g.now.ends c.args.ms.now.touches c.in-Grown.m c.in-Grown.ensures.found.source.0 in
+    let same = ap (λ (s : Sizes). s.meters) c.run.ensures.same_sizes in
+    record { m = omega (arith, l, same, c.requires.room.meters) }
+
+pub returns-in-Grown-clause-noted : goal.returns-in-Grown-clause-noted
+returns-in-Grown-clause-noted g c =
+    let ends = c.args.g.now.ends in
+    let touches = c.args.ms.now.touches in
+    let a = c.args.a.now in
+    let b = c.run.new.a in
+    let n = c.args.work.now.noted in
+    let m = c.in-Grown.m in
+    let kept : c.run.new.self.noted ≡ n = c.run.ensures.noted in
+    let is : c.note.new.self.noted ≡ record n { flags = set n.flags m false } =
+    ap (λ (w : Work). w.noted) c.note.ensures.noted ∙ ap (λ (k : Noted). record k { flags = set k.flags m false }) kept in
+    subst (λ (k : Noted). AreNoted ends touches All b k) (sym is) (AreNoted-grown ends touches All a b m n c.in-Grown.ensures.found c.requires.noted)
