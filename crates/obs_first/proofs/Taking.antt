@@ -1,7 +1,8 @@
 -- A meter takes a branch, or is refused it.
-use Rattle.std.proofs.Common.{◌≡◌, ℕ, ◌<◌, Bool, true, false, Option, None, List, length, get_or, set, refl, sym, ap, ◌∙◌, inl, inr, get_or-set_other, set-set}
+use Rattle.std.proofs.Common.{◌≡◌, ℕ, ◌<◌, Bool, true, false, Option, None, Some, List, length, get_or, set, refl, sym, ap, ◌∙◌, inl, inr, get_or-set_other, length-set, set-set}
 use Rattle.std.proofs.lemmas.Bool.{cases_Bool}
-use Rattle.std.proofs.lemmas.List.{set-get_or}
+use Rattle.std.proofs.lemmas.List.{get_or-set_same, set-get_or}
+use Rattle.obs_graph.specs.declared.Ends.{Ends}
 use Rattle.obs_graph.specs.Positions.{AreBranches}
 use Rattle.obs_graph.specs.Graph.{Graph}
 use Rattle.obs_matroid.specs.Lists.{In}
@@ -15,10 +16,14 @@ use Rattle.obs_meter.specs.Spanned.{graph_matroid}
 use Rattle.obs_meter.specs.Touches.{every_item, touch_at}
 use Rattle.obs_meter.proofs.Assigned.{to_matroid}
 use Rattle.obs_meter.proofs.Instance.{IsMatroid-graph}
-use Rattle.obs_assign.specs.Assignment.{Assignment, frozen_branches, has_flag, is_frozen, pairs}
-use Rattle.obs_assign.specs.Pins.{IsPinnedAt, MayPin, joins}
+use Rattle.obs_assign.specs.Assignment.{Assignment, branch_at, frozen_branches, has_flag, is_frozen, pairs}
+use Rattle.obs_assign.specs.Pins.{IsPinnedAt, MayPin, joins, pinned_slots}
 use Rattle.obs_assign.proofs.Paths.{joins-own}
 use Rattle.obs_assign.proofs.Pinning.{pinned-from}
+use Rattle.obs_assign.proofs.Slotted.{none_some}
+use Rattle.obs_exchange.specs.declared.Sources.TheVariants.{All}
+use Rattle.obs_exchange.specs.Noting.{AreNoted, Noted}
+use Rattle.obs_exchange.proofs.Noting.{AreNoted-less, AreNoted-more}
 use Rattle.obs_first.specs.Deciding.{HasFrozenOf, HasRefused, NoneSoLong}
 
 module _ (g : Graph) (touches : List Touch) (ok : AreBranches g.vertices g.ends) (a : Assignment) (m e : ℕ) (thawed : is_frozen a m ≡ false) where
@@ -64,3 +69,20 @@ module _ (g : Graph) (touches : List Touch) (ok : AreBranches g.vertices g.ends)
           ∙ (set-set a.frozen m true false ∙ (ap (set a.frozen m) (sym thawed) ∙ set-get_or a.frozen m false)));
       none = λ B h i. none B (HasFrozenOf-pinned B h i);
     }
+
+-- after a pin the meter that gave up its pair is noted too, and the pinned one no more
+pub AreNoted-pinned : (ends : List (Option Ends)) (touches : List Touch) (a b : Assignment) (m e x : ℕ) (n : Noted) → m < length a.slots → IsPinnedAt a ends m e b.slots x → x < length n.flags
+    → AreNoted ends touches All a n → AreNoted ends touches All b (record n { flags = set (set n.flags x true) m false })
+AreNoted-pinned ends touches a b m e x n l p lx h =
+    let at : (k : ℕ) → branch_at b k ≡ get_or (pinned_slots a.slots m e x) k None = λ k. ap (λ (s : List (Option ℕ)). get_or s k None) p.pairs_are in
+    let own : branch_at b m ≡ Some e = at m ∙ get_or-set_same (set a.slots x None) m (Some e) None (rw (length-set a.slots x None) l) in
+    AreNoted-less ends touches All b m (record n { flags = set n.flags x true }) (λ none. none_some e (sym none ∙ own))
+    (AreNoted-more ends touches a b x n lx (λ k none ne.
+    let other : k ≡ m → ⊥ = λ is. none_some e (sym none ∙ (ap (branch_at b) is ∙ own)) in
+    sym (at k ∙ (get_or-set_other (set a.slots x None) m k (Some e) None other ∙ get_or-set_other a.slots x k None None ne)) ∙ none) h)
+
+-- and after a pair was dropped its meter is
+pub AreNoted-dropped : (ends : List (Option Ends)) (touches : List Touch) (a b : Assignment) (m : ℕ) (n : Noted) → b.slots ≡ set a.slots m None → m < length n.flags
+    → AreNoted ends touches All a n → AreNoted ends touches All b (record n { flags = set n.flags m true })
+AreNoted-dropped ends touches a b m n is l h = AreNoted-more ends touches a b m n l
+    (λ k none ne. sym (ap (λ (s : List (Option ℕ)). get_or s k None) is ∙ get_or-set_other a.slots m k None None ne) ∙ none) h

@@ -5,10 +5,12 @@ ghost use Rattle.obs_meter.specs.declared.Touch.TheVariants.{Nothing};
 ghost use Rattle.obs_meter.specs.Sizes.{HasRoomFor};
 ghost use Rattle.obs_meter.specs.Touches.{AreInRange, touch_at};
 ghost use Rattle.obs_assign.specs.Assignment.{HasRoomOf, IsWhole, StandsOver, is_frozen, pairs};
+ghost use Rattle.obs_exchange.specs.declared.Sources.TheVariants.{All};
+ghost use Rattle.obs_exchange.specs.Noting.{AreNoted};
 ghost use Rattle.obs_first.specs.Deciding.{HasRefused, HasTaken, IsDecided, IsPassed, KeepsFrozen, NoneSoLong, frozen_pairs};
 
 use obs_assign::{Assignment, Steps};
-use obs_exchange::{Work, lengthen};
+use obs_exchange::{Work, lengthen_from};
 use obs_graph::Graph;
 use obs_meter::Meters;
 use std::sync::ledger::Ledger;
@@ -28,6 +30,7 @@ fn regrow<L: Ledger>(
     requires stands { StandsOver a.old g.now ms.now.touches }
     requires in_range { AreInRange g.now ms.now.touches }
     requires room { HasRoomFor work.old.sizes g.now ms.now.touches }
+    requires noted { AreNoted g.now.ends ms.now.touches All a.old work.old.noted }
     ensures grown { MatchBool result (rank ≤ length (pairs a.new)) (NoneSoLong g.now.ends ms.now.touches a.old rank) }
     ensures frozen { a.new.frozen ≡ a.old.frozen }
     ensures keeps { KeepsFrozen a.old a.new }
@@ -35,9 +38,10 @@ fn regrow<L: Ledger>(
     ensures whole { IsWhole a.new }
     ensures same_room { HasRoomOf a.old a.new }
     ensures same_sizes { work.new.sizes ≡ work.old.sizes }
+    ensures noted { AreNoted g.now.ends ms.now.touches All a.new work.new.noted }
 {
     let _ = g.vertices();
-    !lengthen(g, ms, a, rank, work, steps).closed
+    !lengthen_from(g, ms, a, rank, work, steps).closed
 }
 
 /// Gives the meter the branch and freezes the pair, where the pairs can be so many then. Says whether that is so.
@@ -54,6 +58,7 @@ fn take_branch<L: Ledger>(
     requires stands { StandsOver a.old g.now ms.now.touches }
     requires in_range { AreInRange g.now ms.now.touches }
     requires room { HasRoomFor work.old.sizes g.now ms.now.touches }
+    requires noted { AreNoted g.now.ends ms.now.touches All a.old work.old.noted }
     requires m { m < length a.old.slots }
     requires thawed { is_frozen a.old m ≡ false }
     requires touched { In e (touch_at g.now.ends ms.now.touches m) }
@@ -65,17 +70,21 @@ fn take_branch<L: Ledger>(
     ensures whole { IsWhole a.new }
     ensures same_room { HasRoomOf a.old a.new }
     ensures same_sizes { work.new.sizes ≡ work.old.sizes }
+    ensures noted { AreNoted g.now.ends ms.now.touches All a.new work.new.noted }
 {
     let _ = g.vertices();
     let _ = a.length();
-    if !a.may_pin(g, m, e) {
+    let Some(x) = a.spare(g, m, e) else {
         return false;
-    }
-    a.pin(g, ms, m, e, steps);
+    };
+    a.pin_for(g, ms, m, e, x, steps);
+    work.note(x, true);
+    work.note(m, false);
     if regrow(g, ms, a, rank, work, steps) {
         return true;
     }
     a.drop_pair(g, m);
+    work.note(m, true);
     false
 }
 
@@ -127,6 +136,7 @@ pub fn decide<L: Ledger>(
     requires stands { StandsOver a.old g.now ms.now.touches }
     requires in_range { AreInRange g.now ms.now.touches }
     requires room { HasRoomFor work.old.sizes g.now ms.now.touches }
+    requires noted { AreNoted g.now.ends ms.now.touches All a.old work.old.noted }
     requires m { m < length ms.now.touches }
     requires decided { IsDecided g.now.ends ms.now.touches a.old m rank }
     requires taken { taken ≡ length (frozen_pairs a.old) }
@@ -136,6 +146,7 @@ pub fn decide<L: Ledger>(
     ensures whole { IsWhole a.new }
     ensures same_room { HasRoomOf a.old a.new }
     ensures same_sizes { work.new.sizes ≡ work.old.sizes }
+    ensures noted { AreNoted g.now.ends ms.now.touches All a.new work.new.noted }
 {
     let _ = g.vertices();
     let _ = a.length();

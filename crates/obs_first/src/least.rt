@@ -47,6 +47,7 @@ pub fn first<L: Ledger>(
 {
     let _ = g.vertices();
     let rank = thaw(a);
+    work.note_sources(g, ms, a);
     let mut taken = 0;
     for m in 0..ms.count() {
         taken = decide(g, ms, a, m, rank, taken, work, steps);

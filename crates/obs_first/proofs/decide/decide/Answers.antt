@@ -46,6 +46,7 @@ loop-e-preserved g c =
       room = search rules;
       same_room = search rules;
       same_sizes = search rules;
+      noted = c.take_branch.ensures.noted;
     }
 
 pub loop-e-preserved-then-e-low : goal.loop-e-preserved-then-e-low
@@ -63,6 +64,7 @@ loop-e-preserved-then-e-low g c =
       room = l.invariant.room;
       same_room = l.invariant.same_room;
       same_sizes = l.invariant.same_sizes;
+      noted = l.invariant.noted;
     }
 
 pub returns-clause-decided : goal.returns-clause-decided

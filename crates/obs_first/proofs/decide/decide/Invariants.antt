@@ -2,6 +2,8 @@ use Rattle.std.proofs.Common.{◌≡◌, take}
 use Rattle.obs_assign.specs.Assignment.{HasRoomOf}
 use Rattle.obs_meter.specs.Sizes.{HasRoomFor}
 use Rattle.obs_meter.specs.Touches.{touch_at}
+use Rattle.obs_exchange.specs.declared.Sources.TheVariants.{All}
+use Rattle.obs_exchange.specs.Noting.{AreNoted}
 use Rattle.obs_first.proofs.Deciding.{IsTrying}
 use Rattle.obs_first.proofs.decide.decide.Given as goal
 
@@ -11,4 +13,5 @@ invariant-loop-e g l = record {
   room : HasRoomFor l.work.sizes l.g l.ms.touches;
   same_room : HasRoomOf l.fn.a l.a;
   same_sizes : l.work.sizes ≡ l.fn.work.sizes;
+  noted : AreNoted l.g.ends l.ms.touches All l.a l.work.noted;
 }

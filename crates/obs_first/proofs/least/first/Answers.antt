@@ -23,6 +23,7 @@ loop-m-init g c =
       room = search rules;
       same_room = search rules;
       same_sizes = search rules;
+      noted = c.note_sources.ensures.noted;
     }
 
 pub returns-clause-first : goal.returns-clause-first

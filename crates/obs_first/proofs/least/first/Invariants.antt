@@ -1,6 +1,8 @@
 use Rattle.std.proofs.Common.{◌≡◌, length}
 use Rattle.obs_assign.specs.Assignment.{HasRoomOf, IsWhole, StandsOver}
 use Rattle.obs_meter.specs.Sizes.{HasRoomFor}
+use Rattle.obs_exchange.specs.declared.Sources.TheVariants.{All}
+use Rattle.obs_exchange.specs.Noting.{AreNoted}
 use Rattle.obs_first.specs.Deciding.{IsDecided, frozen_pairs}
 use Rattle.obs_first.proofs.least.first.Given as goal
 
@@ -13,4 +15,5 @@ invariant-loop-m g l = record {
   room : HasRoomFor l.work.sizes l.g l.ms.touches;
   same_room : HasRoomOf l.fn.a l.a;
   same_sizes : l.work.sizes ≡ l.fn.work.sizes;
+  noted : AreNoted l.g.ends l.ms.touches All l.a l.work.noted;
 }
