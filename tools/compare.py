@@ -3,13 +3,14 @@
 
 Usage: tools/compare.py PROGRAM [FIRST [COUNT [SECONDS]]]
 
-Each number from FIRST (0) on makes one case, for COUNT (1000) cases, as long as SECONDS aren't over; FIRST may be the word `commit`, which
-stands for a number that the name of the commit gives. All commands are run over all forms: tables, files in the IEEE format and MATPOWER
-files, of which many are spoilt, with and without candidates, sessions with edits and asks, certificates of which most are spoilt. A few
-cases are trials, a few have a file that isn't there, and a few have words without a form. What is written and the status are to be
-those of tools/model.py and the files beside it, which share nothing with the program. It says how many cases there were of each kind
-and fault, and stops at the first that differs: its files are kept in the folder `differs`.
+Each number from FIRST (0) on makes one case, for COUNT (1000) cases, as long as SECONDS aren't over; FIRST may be the word `commit`,
+which stands for a number that the name of the commit gives. All commands are run over all forms: tables, files in the IEEE format and
+MATPOWER files, of which many are spoilt, with and without candidates, sessions with edits and asks, certificates of which most are
+spoilt. A few cases are trials, a few have a file or an input that isn't there or is too long, and a few have words without a form. What
+is written and the status are to be those of tools/model.py and the files beside it, which share nothing with the program. It says how
+many cases there were of each kind and fault, and stops at the first that differs: its files are kept in the folder `differs`.
 """
+import os
 import random
 import re
 
@@ -17,10 +18,11 @@ import model_claims
 import model_reads
 from cases import FILES, all_bounds, bytes_of, cdf_of, csv_of, items_of, matpower_of, random_case, records_of, session_lines
 from cases import spoil_lines, spoil_records, spoilt_claims
-from model_text import Text, session, trial
+from model_text import Text, line, session, trial
 from model_words import have_form, usage
 from runs import run_cases
 
+MOST_BYTES = 16777216
 COMMANDS = ["topology", "report", "place", "place", "session", "session", "verify", "verify", "verify"]
 ODD_WORDS = ["", "with", "tables", "cdf", "matpower", "report", "place", "session", "verify", "trial", "Report", "--help", "0", "101"]
 
@@ -96,10 +98,23 @@ def compare_command(r, number, runs, form, read):
         text, status = Text(case).topology(), 0
     else:
         text, status = Text(case).ask(command), Text(case).status(command)
-    if r.random() < 0.01:
-        at = r.choice([k for k, word in enumerate(words) if word in (*FILES, "case", "claims") and k > 0])
-        runs.compare(number, "no such file", [*words[:at], "absent", *words[at + 1 :]], "", 4, lines)
     runs.compare(number, f"{command} {form[0]}", words, text, status, lines)
+    if r.random() < 0.02:
+        compare_outside(r, number, runs, words, lines, text if status < 2 else None)
+
+
+def compare_outside(r, number, runs, words, lines, text):
+    """The same words with a file that isn't there, or one that is too long, or with too many bytes for a session that had this text."""
+    at = r.choice([k for k, word in enumerate(words) if word in (*FILES, "case", "claims")])
+    what = r.choice(["no such file", "a long file", "a long session"])
+    if what == "no such file":
+        runs.compare(number, what, [*words[:at], "absent", *words[at + 1 :]], "", 4, lines)
+    elif what == "a long file":
+        os.truncate(os.path.join(runs.folder, words[at]), MOST_BYTES + 1)
+        part = {"case": words[1], "claims": "certificate"}.get(words[at], words[at])
+        runs.compare(number, what, words, line("fault", part, 0, 14, "TooLong"), 3, lines)
+    elif words[0] == "session" and text is not None and lines.endswith(b"\n"):
+        runs.compare(number, what, words, text, 7, lines + b"#" * MOST_BYTES)
 
 
 def compare_trial(r, number, runs):

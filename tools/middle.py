@@ -3,10 +3,10 @@
 
 Usage: tools/middle.py PROGRAM [FIRST [COUNT [SECONDS]]]
 
-The words are those of tools/compare.py. The model is that of tools/model_middle.py, which finds assignments by matroid intersection and sees
-bounds on the spot. Reports, placements and sessions are to be as it says. A certificate of which one word was changed is to be answered as
-it says; where it is valid still, what it claims is to be true by the model. What tools/relations.py sees is seen here too, and some
-small cases are given to both models.
+The words are those of tools/compare.py. The model is that of tools/model_middle.py, which finds assignments by matroid intersection and
+sees bounds on the spot. Reports, placements and sessions are to be as it says. A certificate of which one word was changed is to be
+answered as it says; where it is valid still, what it claims is to be true by the model. What tools/relations.py sees is seen here too,
+and some small cases are given to both models.
 """
 import random
 
@@ -110,6 +110,8 @@ def are_true(network, content):
         if claim.kind == b"shortfall" and found is not None:
             return False
         if claim.kind == b"cost" and (found is None or sum(map(network.price, found[0])) != claim.numbers[0]):
+            return False
+        if claim.kind == b"cost" and network.rho(network.meters + sorted(claim.chosen)) != network.needed:
             return False
     return True
 
