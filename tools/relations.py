@@ -82,10 +82,18 @@ def grouped(topology, report):
     return sorted(sorted(some) for some in sets.values())
 
 
-def by_names(runs, form):
+def answered(runs, number, words, given=b""):
+    """What is written, and the status, which is to be that of an answer."""
+    found = runs.run(words, given)
+    if found[1] not in (0, 1):
+        runs.differs(number, words, given, found, (b"an answer", "0 or 1"))
+    return found
+
+
+def by_names(runs, number, form):
     """What an order of the rows must not change: counts, verdict, critical meters, islands."""
-    topology = runs.run(["topology", *form[1:3]])[0]
-    report, status = runs.run(["report", *form])
+    topology = answered(runs, number, ["topology", *form[1:3]])[0]
+    report, status = answered(runs, number, ["report", *form])
     kept = sorted(words for words in words_of(report) if words[0] in ("count", "verdict", "critical"))
     return repr((kept, grouped(topology, report))).encode(), status
 
@@ -93,18 +101,18 @@ def by_names(runs, form):
 def hold_order(number, runs, tables, r):
     form, _ = tables.write(runs)
     other, _ = tables.shuffled(r).write(runs, "other-")
-    runs.alike(number, "rows in another order", ["report", *other], b"", by_names(runs, other), by_names(runs, form))
+    runs.alike(number, "rows in another order", ["report", *other], b"", by_names(runs, number, other), by_names(runs, number, form))
 
 
 def hold_undoing(number, runs, tables, r, count):
     form, _ = tables.write(runs)
-    after, edits = tables.some_edits(r, count, apart=True)
+    _, edits = tables.some_edits(r, count, apart=True)
     undone = [f"{WORDS[part][int(tables.rows[part][k][-1])]} {tables.rows[part][k][0]}" for part, k, _ in edits]
     given = lines_of([line for _, _, line in edits] + r.sample(undone, len(undone)) + ["report"])
-    found, status = runs.run(["session", *form], given)
+    found, status = answered(runs, number, ["session", *form], given)
     answers = found.split(b"\n", 2 * len(edits))
     is_ok = all(answer.startswith(b"ok\t") for answer in answers[:-1])
-    wanted = runs.run(["report", *form])
+    wanted = answered(runs, number, ["report", *form])
     runs.alike(number, "edits and their undoing", ["session", *form], given, (answers[-1], status if is_ok else "refused"), wanted)
 
 
@@ -113,19 +121,20 @@ def hold_session(number, runs, tables, r, count, asks=ASKS):
     form, offered = tables.write(runs)
     after, edits = tables.some_edits(r, count)
     fresh, fresh_offered = after.write(runs, "fresh-")
-    given = lines_of([line for _, _, line in edits] + asks)
-    found, status = runs.run(["session", *form, "with", offered], given)
+    given, words = lines_of([line for _, _, line in edits] + asks), ["session", *form, "with", offered]
+    found, status = answered(runs, number, words, given)
     found = found.split(b"\n", len(edits))[-1]
-    words = ["session", *fresh, "with", fresh_offered]
-    runs.alike(number, "a session and a fresh one", words, given, (found, status), runs.run(words, lines_of(asks)))
-    report = runs.run(["session", *fresh, "with", fresh_offered], b"report\n")
-    runs.alike(number, "a session's report and a report", words, given, report, runs.run(["report", *fresh]))
+    fresh_words = ["session", *fresh, "with", fresh_offered]
+    wanted = answered(runs, number, fresh_words, lines_of(asks))
+    runs.alike(number, "a session and a fresh one", words, given, (found, status), wanted)
+    report = answered(runs, number, fresh_words, b"report\n")
+    runs.alike(number, "a session's report and a report", fresh_words, b"report\n", report, answered(runs, number, ["report", *fresh]))
 
 
 def hold_plan(number, runs, tables, r, most):
     """The chosen ones as meters are enough, all are critical, and each of `most` that are lost in a session lowers the rank by one."""
     form, offered = tables.write(runs)
-    plan, status = runs.run(["place", *form, offered])
+    plan, status = answered(runs, number, ["place", *form, offered])
     chosen = {words[1] for words in words_of(plan) if words[0] == "chosen"}
     if status == 1:
         runs.count["a shortfall"] += 1
@@ -134,7 +143,7 @@ def hold_plan(number, runs, tables, r, most):
     rows = [["+" + row[0], *row[1:3], "1"] for row in tables.rows["candidates"] if row[0] in chosen]
     bought.rows["meters"] += rows
     form, _ = bought.write(runs, "bought-")
-    report, status = runs.run(["report", *form])
+    report, status = answered(runs, number, ["report", *form])
     lines = words_of(report)
     needed = next(int(words[2]) for words in lines if words[:2] == ["count", "needed"])
     critical = {words[1] for words in lines if words[0] == "critical"}
@@ -143,18 +152,18 @@ def hold_plan(number, runs, tables, r, most):
     lost = [row[0] for row in r.sample(rows, min(most, len(rows)))]
     given = lines_of(line for name in lost for line in (f"lose {name}", f"regain {name}"))
     wanted = b"".join(b"ok\t%d\t%d\nok\t%d\t%d\n" % (needed - 1, needed, needed, needed) for _ in lost), 0
-    runs.alike(number, "a plan without one", ["session", *form], given, runs.run(["session", *form], given), wanted)
+    runs.alike(number, "a plan without one", ["session", *form], given, answered(runs, number, ["session", *form], given), wanted)
 
 
 def hold_answers(number, runs, tables, asks=("tree", "bound", "cert", "place")):
     """What these asks print passes `verify`."""
     form, offered = tables.write(runs)
     for ask in asks:
-        text = runs.run(["session", *form, "with", offered], lines_of([ask]))[0]
+        text = answered(runs, number, ["session", *form, "with", offered], lines_of([ask]))[0]
         runs.write("claims", text)
         count = sum(1 for words in words_of(text) if words[0] in ("tree", "bound", "cost", "shortfall"))
         words = ["verify", *form, "with", offered, "claims"]
-        runs.alike(number, f"{ask} verified", words, b"", runs.run(words), (b"valid\t%d\n" % count, 0))
+        runs.alike(number, f"{ask} verified", words, b"", answered(runs, number, words), (b"valid\t%d\n" % count, 0))
 
 
 def main():
