@@ -6,8 +6,8 @@ Usage: tools/soak.py PROGRAM FOLDER [EDITS [SECONDS [SEED]]]
 FOLDER has nodes.csv, switches.csv, branches.csv, meters.csv and candidates.csv. A session is given EDITS (1,000,000) edits as long as
 SECONDS aren't over and the lines stay below the bytes that a session takes: of a hundred 90 of meters and 5 each of branches and
 switches, with few rows out at once, and an ask after about each thousandth. At each 50,000th edit and at the end all asks are held
-against a fresh session and a fresh report, and the memory of the session is read. It stops at the first that differs. It needs the
-folder /proc.
+against a fresh session and a fresh report, and the memory of the session is read. It stops at the first that differs, and fails where
+the session took memory after it had begun. It needs the folder /proc.
 """
 import os
 import random
@@ -58,13 +58,16 @@ class Session:
         self.bytes = 0
 
     def send(self, lines):
-        """Writes lines, fewer than a pipe holds, and gives what answers each."""
+        """Writes lines, fewer than a pipe holds, and gives what answers each: nothing where the session ended."""
         content = lines_of(lines)
         self.bytes += len(content)
         self.kept.write(content)
         self.kept.flush()
-        self.process.stdin.write(content)
-        self.process.stdin.flush()
+        try:
+            self.process.stdin.write(content)
+            self.process.stdin.flush()
+        except BrokenPipeError:
+            pass
         return [self.answer(" " not in line) for line in lines]
 
     def answer(self, is_ask):
@@ -75,10 +78,10 @@ class Session:
         return b"".join(lines)
 
     def memory(self):
-        """The megabytes that are resident now, and that were at the peak."""
+        """The kilobytes of data that it has taken, and that were resident at the peak."""
         with open(f"/proc/{self.process.pid}/status", encoding="utf-8") as file:
             found = dict(line.split(":", 1) for line in file if line.startswith("Vm"))
-        return [int(found[name].split()[0]) / 1024 for name in ("VmRSS", "VmHWM")]
+        return [int(found[name].split()[0]) for name in ("VmData", "VmHWM")]
 
     def end(self):
         self.process.stdin.close()
@@ -96,17 +99,17 @@ def check(runs, session, tables, edits):
     runs.alike(edits, "checkpoints", words, b"", (b"".join(found), status), (fresh, status))
     report = runs.run(["report", *form])
     runs.alike(edits, "reports at checkpoints", words, b"", (found[ASKS.index("report")], status), report)
-    now, peak = session.memory()
-    print(f"{edits} edits, {session.bytes} bytes: alike, {now:.1f} MB now, {peak:.1f} MB at the peak", flush=True)
-    return status
+    taken, peak = session.memory()
+    print(f"{edits} edits, {session.bytes} bytes: alike, {taken} kB of data, {peak} kB resident at the peak", flush=True)
+    return status, taken
 
 
 def soak(runs, tables, most, seconds, r):
-    """How many edits and asks there were."""
+    """Runs the session, and says how many edits and asks there were."""
     form, offered = tables.write(runs)
     session, editor = Session(runs, ["session", *form, "with", offered]), Editor(tables, r)
     edits, asks, last = 0, 0, time.monotonic() + seconds
-    status = check(runs, session, tables, edits)
+    status, at_first = check(runs, session, tables, edits)
     while edits < most and time.monotonic() < last and session.bytes < MOST_BYTES - RESERVE - 40 * BATCH:
         lines = [editor.line() for _ in range(min(BATCH, most - edits))]
         edits += len(lines)
@@ -117,12 +120,13 @@ def soak(runs, tables, most, seconds, r):
             if " " in line and not answer.startswith(b"ok\t"):
                 runs.differs(edits, [line], b"", (answer, None), (b"ok", None))
         if edits % CHECK_EACH == 0:
-            status = check(runs, session, tables, edits)
-    if edits % CHECK_EACH:
-        status = check(runs, session, tables, edits)
+            check(runs, session, tables, edits)
+    status, at_last = check(runs, session, tables, edits)
     rest, ended = session.end()
     runs.alike(edits, "ends", ["session"], b"", (rest, ended), (b"", status))
     print(f"{edits} edits and {asks} asks at random, {session.bytes / (edits + asks):.1f} bytes a line")
+    if at_last > at_first:
+        sys.exit(f"the session took more memory: {at_first} kB at first, {at_last} kB at last")
 
 
 def main():
