@@ -46,7 +46,7 @@ def fault_of_row(part, fields, seen, names):
         ("BadPrice", part == "candidates" and not (whole(fields[3]) or 0) <= 10**9),
         ("BadPrice", part == "candidates" and whole(fields[3]) is None),
         ("NameTwice", fields[0] in seen),
-        ("UnknownNode", part in ("switches", "branches") and not {fields[1], fields[2]} <= set(names["nodes"])),
+        ("UnknownNode", part in ("switches", "branches") and not {fields[1], fields[2]} <= names["nodes"].keys()),
         ("UnknownPlace", of_items and fields[2] not in places),
     ]
     return next((name for name, fails in tests if fails), None)
@@ -198,7 +198,7 @@ def read_matpower(content):
         words = [whole_value(word) for word in values[:2] + values[10:11]]
         tests = [
             ("BadBusNumber", lambda w=words: None in w[:2]),
-            ("UnknownBus", lambda w=words: not set(w[:2]) <= set(buses)),
+            ("UnknownBus", lambda w=words: not set(w[:2]) <= buses.keys()),
             ("BadStatus", lambda w=words: w[2] not in (0, 1)),
         ]
         fault = fault_of_matpower_row(branches, values[10:], tests)
