@@ -1,0 +1,148 @@
+"""The answer of obs in sentences: sections, each with a title and entries. An entry is a sentence with a list of what it speaks of."""
+from answer import fault_text
+from beware import all_warnings, file_warnings
+from wording import counted, quoted
+
+
+def sections_of(answer, words):
+    """At most as many parts that fall short have a section of their own as a list has names."""
+    first, others = answer.short_parts[: words.most], answer.short_parts[words.most :]
+    found = [("Beware", all_warnings(answer, words)), ("Verdict", verdict(answer, words))]
+    found += [short_part(answer, words, part) for part in first]
+    more = [f"{words.bus(part)}, {counted(len(answer.parts[part]), 'bus', 'buses')}: {answer.missing(part):,} missing" for part in others]
+    found += [("Further parts that fall short", [(f"There are {len(more):,}:", more)])] if more else []
+    found += [("Critical meters", critical(answer, words)), *placement(answer, words)]
+    return with_lists(found)
+
+
+def fault_sections(failure):
+    """The fault of a file, and what else of the files may have to do with it."""
+    return with_lists([("No answer", [fault_text(failure.printed)]), ("Beware", file_warnings(failure.form, failure.contents))])
+
+
+def with_lists(sections):
+    """The sections that have entries, each entry with a list."""
+    return [(title, [one if isinstance(one, tuple) else (one, []) for one in entries]) for title, entries in sections if entries]
+
+
+def text_of(sections, most):
+    """The sections as lines of text. No list has more than `most` items."""
+    lines = []
+    for title, entries in sections:
+        lines += ([""] if lines else []) + [title]
+        for sentence, items in entries:
+            lines.append(f"  {sentence}")
+            lines += [f"    - {item}" for item in items[:most]]
+            lines += [f"    - and {len(items) - most:,} more (--all lists them)"] if len(items) > most else []
+    return "".join(line + "\n" for line in lines)
+
+
+def verdict(answer, words):
+    counts = answer.counts
+    needed, rank = counts["needed"], counts["rank"]
+    buses, branches = counted(counts["energised"], "bus", "buses"), counted(counts["branches"], "branch", "branches")
+    parts, meters = counted(len(answer.parts), "part has a source", "parts have a source"), counted(counts["meters"], "live meter")
+    size = f"{parts}: {buses}, {branches} in service, {meters}."
+    need = counted(needed, "branch of a tree needs a meter of its own", "branches of a tree need a meter of their own")
+    if answer.verdict == "observable":
+        if not needed:
+            return ["obs says observable, since nothing is needed."] + ([size] if answer.parts else [])
+        return [f"obs says observable: the meters suffice. {need}, and can have it.", size]
+    missing = counted(needed - rank, "such pair is", "such pairs are")
+    entries = [f"obs says short: the meters don't suffice. {need}, and {rank:,} can have one: {missing} missing.", size]
+    good = len(answer.trees)
+    enough = counted(good, "part has enough meters", "parts have enough meters")
+    return entries + ([f"{enough}: {words.list(map(quoted, answer.trees))}."] if good else [])
+
+
+def short_part(answer, words, part):
+    """What a short component lacks, and where a meter would help."""
+    buses, bound = answer.parts[part], answer.bounds[answer.names[part]]
+    islands = sorted(answer.islands_of[part], key=lambda i: -len(answer.islands[i]))
+    alone = [island for island in islands if len(answer.islands[island]) == 1]
+    several = [f"island {words.bus(i)}, {counted(len(answer.islands[i]), 'bus', 'buses')}: {words.buses(answer.islands[i])}"
+               for i in islands if len(answer.islands[i]) > 1]
+    entries = [(f"It falls into {len(islands):,} islands. What lies inside of one can be estimated, what lies between two can't.", several)]
+    entries += [f"{counted(len(alone), 'bus stands', 'buses stand')} alone: {words.buses(alone)}."] if alone else []
+    entries += tied(answer, words, part) if len(islands) > 1 else []
+    needed = f"{answer.need(part):,} {'is' if answer.need(part) == 1 else 'are'} needed"
+    others = counted(bound.outside, "other live meter is", "other live meters are")
+    if bound.inside:
+        listed = [words.meter(answer.meter_at[name]) for name in bound.inside]
+        most = counted(bound.rank + bound.outside, "pair", "pairs")
+        branches = counted(bound.rank, "branch", "branches")
+        entries.append((f"Why: all of these together stand for {branches} of a tree, and {others} there. That makes {most} at the most, "
+                        f"and {needed}.", listed))
+    else:
+        entries.append(f"Why: {counted(bound.outside, 'live meter is', 'live meters are')} there, and {needed}.")
+    missing = counted(answer.missing(part), "pair is", "pairs are")
+    return f"The part of {words.bus(part)}, {counted(len(buses), 'bus', 'buses')}: {missing} missing", entries
+
+
+def tied(answer, words, part):
+    """The branches between islands, and the meters out of service that stand there."""
+    ties = answer.ties_of.get(part, [])
+    free = {u for e in ties for u in answer.ends[e]} - answer.injected
+    items = [tie(answer, words, e, free) for e in ties]
+    one = "it" if len(ties) == 1 else "any of them"
+    sentence = f"{counted(len(ties), 'branch ties', 'branches tie')} two islands. A flow meter on {one} makes one pair more, and so does " \
+               "an injection meter at a bus that is named as free. Then ask again, since the islands are others."
+    at = set(ties)
+    out = [m for m, row in enumerate(answer.case.meters) if not row[3] and (
+        row[2] in at if row[1] == "flow" else row[1] == "injection" and answer.place(row) in free)]
+    entries = [(sentence, items)]
+    return entries + ([("Meters out of service that would do so:", [words.meter(m) for m in out])] if out else [])
+
+
+def tie(answer, words, e, free):
+    u, v = answer.ends[e]
+    end = lambda w: f"{words.bus(w)} (island {words.bus(answer.island[w])})"
+    some = " and ".join(words.bus(w) for w in (u, v) if w in free)
+    text = f"free for an injection: {some}" if some else "no end is free for an injection"
+    return f"{words.branch_name(e)}, from {end(u)} to {end(v)}; {text}"
+
+
+def critical(answer, words):
+    rows = [answer.meter_at[name] for name in answer.critical]
+    zeros = [m for m in rows if answer.case.meters[m][1] == "zero"]
+    meters = [m for m in rows if answer.case.meters[m][1] != "zero"]
+    loss = "the meters don't suffice any more" if answer.verdict == "observable" else "one pair more is missing"
+    entries = []
+    if meters:
+        any_one = "this one" if len(meters) == 1 else f"any one of these {len(meters):,}"
+        entries.append((f"If {any_one} fails, {loss}:", [words.meter(m) for m in meters]))
+    elif answer.live_meters:
+        entries.append("Any one meter may fail, and as many pairs are left.")
+    if zeros:
+        entries.append(("These rows of zero count as much. They can't fail, but have to be true:", [words.meter(m) for m in zeros]))
+    return entries
+
+
+def placement(answer, words):
+    if answer.plan:
+        return [("What to buy", plan(answer, words))]
+    return [("What could be bought", shortfall(answer, words))] if answer.shortfall else []
+
+
+def plan(answer, words):
+    chosen = [answer.candidate_at[name] for name in answer.plan.chosen]
+    if not chosen:
+        return ["Nothing: the meters suffice."]
+    these = "this one" if len(chosen) == 1 else f"these {len(chosen):,}"
+    return [
+        (f"The meters suffice with {these}, for {answer.plan.cost:,}. No candidates that suffice cost less.",
+         [words.candidate(c) for c in chosen]),
+        "No spare is among them. To use one write its row into the table of meters, with inservice 1 in place of the price.",
+    ]
+
+
+def shortfall(answer, words):
+    found = answer.shortfall
+    missing = answer.counts["needed"] - found.rank - found.outside
+    bought, lacking = counted(len(answer.case.candidates), "candidate"), counted(missing, "pair")
+    rest = answer.remaining
+    islands = lambda e: " and ".join(words.bus(rest.island[u]) for u in rest.ends[e])
+    ties = counted(len(rest.ties), "branch would tie", "branches would tie")
+    items = [f"{words.branch(e)}, islands {islands(e)}" for e in rest.ties]
+    return [f"Not enough: with all {bought} bought {lacking} would still be missing.",
+            (f"Even then {ties} two islands. Offer a flow meter on such a one:", items)]
