@@ -1,0 +1,214 @@
+"""A drawing of a case and of what obs answered, in Graphviz's language."""
+import collections
+import math
+
+from wording import counted, shown
+
+# colours that people with any kind of colour vision tell apart (by Okabe and Ito), and what can be read on them
+COLOURS = [("#56B4E9", "black"), ("#E69F00", "black"), ("#009E73", "black"), ("#F0E442", "black"), ("#CC79A7", "black"),
+           ("#0072B2", "white"), ("#D55E00", "black")]
+UNSOURCED = ("#D9D9D9", "black")
+CHOSEN = "#0072B2"
+CAPTIONS = {
+    "!": "! critical meter, thick: without it the rank falls",
+    "=": "= meter listed in a bound: redundant, in a part that falls short",
+    "-": "- other meter",
+    "+": "+ candidate to buy, thick and blue",
+    "alone": "bus without the name of an island: stands alone",
+    "tie": "dashed line: between two islands",
+    "metered": "solid line: black with a flow meter, grey without",
+    "injected": "box: has an injection or zero",
+    "source": "double outline: has a source",
+    "dead": "grey bus, dotted line: in a part without a source",
+}
+MOST_WITH_NAMES = 60
+MOST_BY_NEATO = 60
+
+
+def text(value):
+    """A text in quotes, of which Graphviz takes no part for a sign of its own."""
+    for sign, escaped in [("\\", "\\\\"), ('"', '\\"'), ("&", "&amp;"), ("\n", "\\n")]:
+        value = value.replace(sign, escaped)
+    return f'"{value}"'
+
+
+def attributes(**values):
+    return "[" + ", ".join(f"{name}={value if isinstance(value, (int, float)) else text(value)}" for name, value in values.items()) + "]"
+
+
+def colours_of(answer):
+    """A colour for each island: another one than those of the islands that branches tie it to, as long as there are enough."""
+    beside = collections.defaultdict(set)
+    for e in answer.ties:
+        a, b = (answer.island[u] for u in answer.ends[e])
+        beside[a].add(b)
+        beside[b].add(a)
+    used, found = collections.Counter(), {}
+    for island in sorted(answer.islands, key=lambda i: -len(answer.islands[i])):
+        near = collections.Counter(found[other] for other in beside[island] if other in found)
+        found[island] = min(range(len(COLOURS)), key=lambda k: (near[k], used[k]))
+        used[found[island]] += 1
+    return {island: COLOURS[k] for island, k in found.items()}
+
+
+class Marks:
+    """What is marked at each branch and each bus: pairs of a sign and a name."""
+
+    def __init__(self, answer):
+        critical = set(answer.critical)
+        listed = {name for bound in answer.bounds.values() for name in bound.inside}
+        self.at_branch, self.at_bus = collections.defaultdict(list), collections.defaultdict(list)
+        for m in answer.live_meters:
+            row = answer.case.meters[m]
+            sign = "!" if row[0] in critical else "=" if row[0] in listed else "-"
+            self.add(answer, row, sign, row[0] + (" (zero)" if row[1] == "zero" else ""))
+        for name in answer.plan.chosen if answer.plan else []:
+            row = answer.case.candidates[answer.candidate_at[name]]
+            self.add(answer, row, "+", f"{name}, {row[3]:,}")
+
+    def add(self, answer, row, sign, name):
+        (self.at_branch if row[1] == "flow" else self.at_bus)[answer.place(row)].append((sign, name))
+
+    def signs(self):
+        return {sign for some in (*self.at_branch.values(), *self.at_bus.values()) for sign, _ in some}
+
+
+def outline(signs):
+    return {"color": CHOSEN if "+" in signs else "black", "penwidth": 3 if signs & {"!", "+"} else 1}
+
+
+class Drawing:
+    """The lines of a drawing. Where it is folded, an island or a dead part is one node."""
+
+    def __init__(self, answer, words, folded=False, has_caption=True):
+        self.answer, self.words, self.folded, self.has_caption = answer, words, folded, has_caption
+        self.marks = Marks(answer)
+        self.colours = colours_of(answer)
+        self.ties = set(answer.ties)
+        self.sources = {answer.bus[node] for node, row in enumerate(answer.case.nodes) if row[1]}
+        self.has_names = len(answer.names) <= MOST_WITH_NAMES
+
+    def text(self):
+        return "".join(line + "\n" for line in self.lines())
+
+    def lines(self):
+        size = len(self.answer.islands) + len(self.answer.dead_parts) if self.folded else len(self.answer.names)
+        layout, splines = ("neato", "true") if size <= MOST_BY_NEATO else ("sfdp", "line")
+        caption = "".join(line + "\\l" for line in ["", *self.caption()]) if self.has_caption else ""
+        yield "graph obs {"
+        yield f'  graph [layout={layout}, overlap="prism", splines="{splines}", sep="+16", outputorder="edgesfirst", start=1,'
+        yield f'    fontname="Helvetica", fontsize=11, labelloc="b", labeljust="l", label="{caption}"];'
+        yield '  node [fontname="Helvetica", fontsize=11, style="filled", margin="0.06,0.03", width=0.3, height=0.25];'
+        yield '  edge [fontname="Helvetica", fontsize=9];'
+        title = lambda island: f"island {shown(self.answer.names[island])}"
+        groups = [(f"island_{i}", title(i), self.colours[i], some) for i, some in self.answer.islands.items()]
+        groups += [(f"part_{p}", "no source", UNSOURCED, some) for p, some in self.answer.dead_parts.items()]
+        for name, title, colours, buses in groups:
+            yield from self.folded_group(name, title, colours, buses) if self.folded else self.group(name, title, colours, buses)
+        yield from self.folded_ties() if self.folded else map(self.edge, self.answer.ends)
+        yield "}"
+
+    def caption(self):
+        """What the signs of this drawing mean."""
+        counts = self.answer.counts
+        lacking = counts["needed"] - counts["rank"]
+        missing = f": {lacking:,} of {counted(counts['needed'], 'pair')} missing" if lacking else ""
+        used = self.marks.signs() | ({"tie"} if self.ties else set()) | ({"dead"} if self.answer.dead_parts else set())
+        if self.folded or not self.has_names:
+            used.discard("-")
+        if not self.folded:
+            used |= {"metered"} | ({"injected"} if self.answer.injected else set()) | ({"source"} if self.sources else set())
+        first = f"{counted(counts['buses'], 'bus', 'buses')}. obs says {self.answer.verdict}{missing}. Buses of one island have one colour."
+        used |= {"alone"} if not self.folded and any(len(some) == 1 for some in self.answer.islands.values()) else set()
+        return [first] + [line for sign, line in CAPTIONS.items() if sign in used]
+
+    def group(self, name, title, colours, buses):
+        is_titled = colours == UNSOURCED or len(buses) > 1 and len(self.answer.islands) > 1
+        yield f"  subgraph {name} {{"
+        for u in buses:
+            yield "    " + self.bus(u, title, colours, is_titled)
+        yield "  }"
+
+    def bus(self, u, title, colours, is_titled):
+        marks = self.marks.at_bus[u]
+        lines = [shown(self.answer.names[u])] + ([title] if is_titled else [])
+        hint = [f"bus {self.words.nodes(u)}, {title}"] + [f"{sign} {shown(name)}" for sign, name in marks]
+        return f"b{u} " + attributes(
+            label="\n".join(lines + self.labels(marks)),
+            tooltip="\n".join(hint),
+            id=f"bus_{u}",
+            shape="box" if any(sign != "+" for sign, _ in marks) else "ellipse",
+            peripheries=2 if u in self.sources else 1,
+            fillcolor=colours[0],
+            fontcolor=colours[1],
+            **outline({sign for sign, _ in marks}),
+        ) + ";"
+
+    def labels(self, marks):
+        """The marks of a bus or a branch: with names in a small drawing, else the signs alone."""
+        if self.has_names:
+            return [f"{sign} {shown(name)}" for sign, name in marks]
+        signs = " ".join(sign for sign, _ in marks if sign != "-")
+        return [signs] if signs else []
+
+    def edge(self, e):
+        u, v = self.answer.ends[e]
+        marks = self.marks.at_branch[e]
+        name = [shown(self.answer.case.branches[e][0])] if self.has_names else []
+        hint = [f"branch {self.words.branch(e)}"] + [f"{sign} {shown(item)}" for sign, item in marks]
+        return f"  b{u} -- b{v} " + attributes(
+            label="\n".join(name + self.labels(marks)),
+            tooltip="\n".join(hint),
+            labeltooltip="\n".join(hint),
+            id=f"branch_{e}",
+            **self.line_of(e, {sign for sign, _ in marks}),
+        ) + ";"
+
+    def line_of(self, e, signs):
+        """How the line of a branch is drawn."""
+        is_dead = not self.answer.is_live(e)
+        return {
+            "style": "dotted" if is_dead else "dashed" if e in self.ties else "solid",
+            "color": CHOSEN if "+" in signs else "black" if signs or e in self.ties else "#808080",
+            "penwidth": 3.5 if signs & {"!", "+"} else 1.8 if signs or e in self.ties else 1,
+        }
+
+    def folded_group(self, name, title, colours, buses):
+        """An island as one node, with the numbers of its buses and marks."""
+        inside = [mark for u in buses for mark in self.marks.at_bus[u]]
+        inside += [mark for e in self.inner.get(self.key(buses[0]), []) for mark in self.marks.at_branch[e]]
+        signs = collections.Counter(sign for sign, _ in inside)
+        lines = [shown(self.answer.names[buses[0]])] if len(buses) == 1 else []
+        lines += [title] if colours == UNSOURCED or len(buses) > 1 else []
+        lines += [counted(len(buses), "bus", "buses")]
+        lines += [f"{sign} {signs[sign]:,}" for sign in CAPTIONS if signs[sign] and sign != "-"]
+        size = f"{0.4 + 0.06 * math.sqrt(len(buses)):.2f}"
+        yield "  " + f"{name} " + attributes(
+            label="\n".join(lines), tooltip=f"{title}: {self.words.buses(buses)}", id=name, shape="ellipse", width=size, height=size,
+            fillcolor=colours[0], fontcolor=colours[1], **outline(set(signs))) + ";"
+
+    def key(self, u):
+        """The group of a bus: its island, or its dead part."""
+        return ("island", self.answer.island[u]) if self.answer.island[u] is not None else ("part", self.answer.part[u])
+
+    @property
+    def inner(self):
+        """The branches inside of each group."""
+        if not hasattr(self, "kept_inner"):
+            self.kept_inner = collections.defaultdict(list)
+            for e, (u, _) in self.answer.ends.items():
+                if e not in self.ties:
+                    self.kept_inner[self.key(u)].append(e)
+        return self.kept_inner
+
+    def folded_ties(self):
+        """One line for all branches between two islands."""
+        between = collections.defaultdict(list)
+        for e in sorted(self.ties):
+            between[tuple(sorted(self.answer.island[u] for u in self.answer.ends[e]))].append(e)
+        for (a, b), some in between.items():
+            signs = {sign for e in some for sign, _ in self.marks.at_branch[e]}
+            label = self.words.branch_name(some[0]) if len(some) == 1 else counted(len(some), "branch", "branches")
+            yield f"  island_{a} -- island_{b} " + attributes(
+                label="\n".join([label] + sorted(signs - {"-"})), tooltip="\n".join(self.words.branch(e) for e in some[: self.words.most]),
+                id=f"branch_{some[0]}", **self.line_of(some[0], signs)) + ";"
