@@ -59,11 +59,12 @@ field.addEventListener('input', () => {
 
 
 def origin():
-    """The program, and the commit of the sources beside these tools."""
+    """The commit of these tools: that of an unpacked archive, or that of the repository."""
     try:
         with open(os.path.join(HOME, "VERSION"), encoding="utf-8") as file:
-            return ", ".join(file.read().split("\n")).strip(", ")
-    except OSError:
+            words = [line.rstrip("\n").split("\t") for line in file]
+        return "commit " + next(word[1] for word in words if word[0] == "commit")
+    except (OSError, StopIteration):
         pass
     git = lambda *words: subprocess.run(["git", "-C", HOME, *words], capture_output=True, text=True, check=True).stdout.strip()
     try:
