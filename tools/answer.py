@@ -18,8 +18,8 @@ FORMS = {"tables": ["nodes", "switches", "branches", "meters"], "cdf": ["case", 
 OWN_FAILURE = 70
 
 Bound = collections.namedtuple("Bound", "rank outside inside")
-Plan = collections.namedtuple("Plan", "cost chosen pairs")
-Shortfall = collections.namedtuple("Shortfall", "rank outside inside")
+Plan = collections.namedtuple("Plan", "cost chosen")
+Shortfall = collections.namedtuple("Shortfall", "rank outside")
 
 
 class Failure(Exception):
@@ -50,7 +50,11 @@ class Form:
             self.files["candidates"] = behind[1]
 
     def read(self):
-        return {part: open(path, "rb").read() for part, path in self.files.items()}
+        found = {}
+        for part, path in self.files.items():
+            with open(path, "rb") as file:
+                found[part] = file.read()
+        return found
 
     def words(self, files):
         """The words of a report on these files, and what stands behind `place`."""
@@ -186,11 +190,13 @@ class Answer:
             self.take_placement(lines)
 
     def with_all_bought(self, program):
-        """The answer where all candidates are meters."""
-        rows = [(f"m{m}", *row[1:3], row[3]) for m, row in enumerate(self.case.meters)]
-        rows += [(f"c{c}", *row[1:3], True) for c, row in enumerate(self.case.candidates)]
+        """The answer where all live candidates are meters, or None where no table takes as many."""
+        rows = [(f"m{m}", *self.case.meters[m][1:3]) for m in self.live_meters]
+        rows += [(f"c{c}", *self.case.candidates[c][1:3]) for c in self.live_candidates]
+        if len(rows) > model_reads.MOST_ROWS:
+            return None
         place = lambda kind, at: (self.case.branches if kind == "flow" else self.case.nodes)[at][0]
-        records = [[name, kind, place(kind, at), str(int(is_on))] for name, kind, at, is_on in rows]
+        records = [[name, kind, place(kind, at), "1"] for name, kind, at in rows]
         contents = {part: content for part, content in self.contents.items() if part != "candidates"}
         return Answer(program, self.form, contents | {"meters": table_of("meters", records)})
 
@@ -199,25 +205,20 @@ class Answer:
         self.verdict = next(line[1] for line in lines if line[0] == "verdict")
         self.island_lines = [(line[1], line[2]) for line in lines if line[0] == "island"]
         self.critical = [line[1] for line in lines if line[0] == "critical"]
-        self.bounds, self.trees = {}, {}
+        self.trees = [line[1] for line in lines if line[0] == "tree"]
+        self.bounds = {}
         for word, *rest in lines:
             if word == "bound":
                 listed = []
                 self.bounds[rest[0]] = Bound(int(rest[1]), int(rest[2]), listed)
             elif word == "inside":
                 listed.append(rest[1])
-            elif word == "tree":
-                pairs = self.trees[rest[0]] = []
-            elif word == "pair":
-                pairs.append((rest[1], rest[2]))
 
     def take_placement(self, lines):
-        pairs = [tuple(line[1:]) for line in lines if line[0] == "pair"]
-        inside = [tuple(line[1:]) for line in lines if line[0] == "inside"]
         if lines[0][0] == "cost":
-            self.plan = Plan(int(lines[0][1]), [line[1] for line in lines if line[0] == "chosen"], pairs)
+            self.plan = Plan(int(lines[0][1]), [line[1] for line in lines if line[0] == "chosen"])
         else:
-            self.shortfall = Shortfall(int(lines[0][1]), int(lines[0][2]), inside)
+            self.shortfall = Shortfall(int(lines[0][1]), int(lines[0][2]))
 
     def find_network(self):
         """Buses by their first nodes, live branches, components, and the islands that were printed."""
@@ -281,7 +282,6 @@ class Answer:
         """How many pairs a short component lacks: its bound is what it can have."""
         bound = self.bounds[self.names[part]]
         return self.need(part) - bound.rank - bound.outside
-
 
 
 def joined(count, links):

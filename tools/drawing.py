@@ -78,7 +78,7 @@ def outline(signs):
 
 
 class Drawing:
-    """The lines of a drawing. Where it is folded, an island or a dead part is one node."""
+    """A drawing. Where it is folded, an island or a dead part is one node."""
 
     def __init__(self, answer, words, folded=False, has_caption=True):
         self.answer, self.words, self.folded, self.has_caption = answer, words, folded, has_caption
@@ -87,6 +87,10 @@ class Drawing:
         self.ties = set(answer.ties)
         self.sources = {answer.bus[node] for node, row in enumerate(answer.case.nodes) if row[1]}
         self.has_names = len(answer.names) <= MOST_WITH_NAMES
+        self.inner = collections.defaultdict(list)
+        for e, (u, _) in answer.ends.items():
+            if folded and e not in self.ties:
+                self.inner[self.group_of(u)].append(e)
 
     def text(self):
         return "".join(line + "\n" for line in self.lines())
@@ -176,7 +180,7 @@ class Drawing:
     def folded_group(self, name, title, colours, buses):
         """An island as one node, with the numbers of its buses and marks."""
         inside = [mark for u in buses for mark in self.marks.at_bus[u]]
-        inside += [mark for e in self.inner.get(self.key(buses[0]), []) for mark in self.marks.at_branch[e]]
+        inside += [mark for e in self.inner[name] for mark in self.marks.at_branch[e]]
         signs = collections.Counter(sign for sign, _ in inside)
         lines = [shown(self.answer.names[buses[0]])] if len(buses) == 1 else []
         lines += [title] if colours == UNSOURCED or len(buses) > 1 else []
@@ -187,19 +191,9 @@ class Drawing:
             label="\n".join(lines), tooltip=f"{title}: {self.words.buses(buses)}", id=name, shape="ellipse", width=size, height=size,
             fillcolor=colours[0], fontcolor=colours[1], **outline(set(signs))) + ";"
 
-    def key(self, u):
-        """The group of a bus: its island, or its dead part."""
-        return ("island", self.answer.island[u]) if self.answer.island[u] is not None else ("part", self.answer.part[u])
-
-    @property
-    def inner(self):
-        """The branches inside of each group."""
-        if not hasattr(self, "kept_inner"):
-            self.kept_inner = collections.defaultdict(list)
-            for e, (u, _) in self.answer.ends.items():
-                if e not in self.ties:
-                    self.kept_inner[self.key(u)].append(e)
-        return self.kept_inner
+    def group_of(self, u):
+        """The name of the group of a bus: its island, or its dead part."""
+        return f"part_{self.answer.part[u]}" if self.answer.island[u] is None else f"island_{self.answer.island[u]}"
 
     def folded_ties(self):
         """One line for all branches between two islands."""

@@ -140,9 +140,11 @@ def shortfall(answer, words):
     found = answer.shortfall
     missing = answer.counts["needed"] - found.rank - found.outside
     bought, lacking = counted(len(answer.case.candidates), "candidate"), counted(missing, "pair")
+    entries = [f"Not enough: with all {bought} bought {lacking} would still be missing."]
     rest = answer.remaining
+    if rest is None:
+        return entries
     islands = lambda e: " and ".join(words.bus(rest.island[u]) for u in rest.ends[e])
     ties = counted(len(rest.ties), "branch would tie", "branches would tie")
     items = [f"{words.branch(e)}, islands {islands(e)}" for e in rest.ties]
-    return [f"Not enough: with all {bought} bought {lacking} would still be missing.",
-            (f"Even then {ties} two islands. Offer a flow meter on such a one:", items)]
+    return entries + [(f"Even then {ties} two islands. Offer a flow meter on such a one:", items)]

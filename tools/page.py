@@ -130,11 +130,11 @@ def tables(found, words):
     ])
 
 
-def names_of(found, words, folded):
+def names_of(found, words, drawing):
     """For the search: each name, what it is of, and the node or line of the picture."""
-    group = lambda u: f"island_{found.island[u]}" if found.island[u] is not None else f"part_{found.part[u]}"
-    bus_target = lambda u: group(u) if folded else f"bus_{u}"
-    branch_target = lambda e: bus_target(found.bus[found.case.branches[e][1]]) if folded or e not in found.ends else f"branch_{e}"
+    bus_target = lambda u: drawing.group_of(u) if drawing.folded else f"bus_{u}"
+    has_line = lambda e: not drawing.folded and e in found.ends
+    branch_target = lambda e: f"branch_{e}" if has_line(e) else bus_target(found.bus[found.case.branches[e][1]])
     island = lambda u: f"in island {words.bus(found.island[u])}" if found.island[u] is not None else "in a part without a source"
     rows = []
     for node, row in enumerate(found.case.nodes):
@@ -168,7 +168,7 @@ def title_of(form):
 
 def page_of(found, picture, drawing, program):
     words = Words(found, MOST)
-    names = json.dumps(names_of(found, words, drawing.folded), ensure_ascii=False).replace("<", "\\u003c")
+    names = json.dumps(names_of(found, words, drawing), ensure_ascii=False).replace("<", "\\u003c")
     missing = found.counts["needed"] - found.counts["rank"]
     verdict = "observable" if found.verdict == "observable" else f"short: {counted(missing, 'pair is', 'pairs are')} missing"
     now = datetime.datetime.now().strftime("%Y-%m-%d %H:%M")
