@@ -13,7 +13,7 @@ MOST = 40
 STYLE = """
 :root { color-scheme: light; font: 15px/1.45 Helvetica, Arial, sans-serif; color: #111; background: #fff }
 body { max-width: 75rem; margin: 1rem auto; padding: 0 1rem }
-h1 { font-size: 1.5rem } h2 { font-size: 1.15rem; margin: 1.6rem 0 .3rem }
+h1 { font-size: 1.5rem } h2 { font-size: 1.15rem; margin: 1.6rem 0 .3rem; break-after: avoid }
 .verdict { font-weight: bold; border: 2px solid #111; padding: .2rem .6rem; display: inline-block }
 .origin { color: #444; font-size: .85rem }
 .picture { border: 1px solid #999; overflow: auto; max-height: 85vh }
