@@ -1,7 +1,8 @@
 """The answer of obs in sentences: sections, each with a title and entries. An entry is a sentence with a list of what it speaks of."""
-from answer import fault_text
-from beware import all_warnings, file_warnings
-from wording import counted, quoted
+from answer import fault_text, records_of
+from beware import all_warnings, file_warnings, lines_of
+from model_reads import text_of
+from wording import counted, quoted, shown
 
 
 def sections_of(answer, words):
@@ -16,8 +17,19 @@ def sections_of(answer, words):
 
 
 def fault_sections(failure):
-    """The fault of a file, and what else of the files may have to do with it."""
-    return with_lists([("No answer", [fault_text(failure.printed)]), ("Beware", file_warnings(failure.form, failure.contents))])
+    """The fault of a file with the row or the line where it is, and what else of the files may have to do with it."""
+    fault = fault_text(failure.printed), faulty_row(failure)
+    return with_lists([("No answer", [fault]), ("Beware", file_warnings(failure.form, failure.contents))])
+
+
+def faulty_row(failure):
+    """The row or the line of a fault, or nothing where it has none."""
+    _, part, place, *_ = failure.printed.split("\t")
+    if part in failure.contents:
+        rows = [", ".join(quoted(text_of(field)) for field in record) for record in records_of(failure.contents[part])]
+    else:
+        rows = [""] + [shown(" ".join(text_of(line).split())) for line in lines_of(failure.contents["case"])]
+    return [row for row in rows[int(place) :][:1] if row]
 
 
 def with_lists(sections):
@@ -25,7 +37,7 @@ def with_lists(sections):
     return [(title, [one if isinstance(one, tuple) else (one, []) for one in entries]) for title, entries in sections if entries]
 
 
-def text_of(sections, most):
+def plain_text(sections, most):
     """The sections as lines of text. No list has more than `most` items."""
     lines = []
     for title, entries in sections:
