@@ -1,7 +1,8 @@
 // The claims on the components of a session's case, printed.
 // Each call finds what is not at hand, and leaves the case as it is.
-ghost use Rattle.std.specs.Prelude.{◌≡◌, ◌<◌};
-ghost use Rattle.obs_network.specs.Network.{case_component_count};
+ghost use Rattle.std.specs.Prelude.{◌≡◌, ◌<◌, []};
+ghost use Rattle.obs_network.specs.Located.{live_meters_of};
+ghost use Rattle.obs_network.specs.Network.{case_component_count, network_of};
 ghost use Rattle.obs_report.specs.Printed.{Appends};
 ghost use Rattle.obs_engine.specs.Asks.{bound_claim, claims_text, component_claim, tree_claim};
 
@@ -11,8 +12,24 @@ use obs_io::{Failed, Sink};
 use obs_report::{print_bound, print_tree};
 use std::sync::ledger::Ledger;
 
-// Prints the tree of a component.
-fn print_component_tree<W: Sink, L: Ledger>(
+// Prints the tree of a component without a live meter: its line alone, since no pair lies in it.
+fn print_lone_tree<W: Sink>(output: &mut W, session: &Session, c: u32) -> Result<(), Failed>
+    requires component { c < case_component_count session.now.tables }
+    requires lone { live_meters_of (network_of session.now.tables) c ≡ [] }
+    ensures appends { Appends W.written W.faults W.has_room output.old output.new result
+        (tree_claim session.now.tables c) }
+{
+    print_tree(
+        output,
+        session.present(),
+        session.network(),
+        c,
+        session.pairs(),
+    )
+}
+
+// Prints the tree of a component, by the first pairs of the case.
+fn print_first_tree<W: Sink, L: Ledger>(
     output: &mut W,
     session: &mut Session,
     c: u32,
@@ -33,6 +50,26 @@ fn print_component_tree<W: Sink, L: Ledger>(
         c,
         session.found_pairs(),
     )
+}
+
+// Prints the tree of a component. Where no live meter lies in it, no first pairs are needed.
+fn print_component_tree<W: Sink, L: Ledger>(
+    output: &mut W,
+    session: &mut Session,
+    c: u32,
+    steps: &mut Steps<L>,
+) -> Result<(), Failed>
+    requires component { c < case_component_count session.old.tables }
+    ensures tables { session.new.tables ≡ session.old.tables }
+    ensures offered { session.new.offered ≡ session.old.offered }
+    ensures appends { Appends W.written W.faults W.has_room output.old output.new result
+        (tree_claim session.old.tables c) }
+{
+    let _nodes = session.present().nodes();
+    if session.network().live_meters(c).is_empty() {
+        return print_lone_tree(output, session, c);
+    }
+    print_first_tree(output, session, c, steps)
 }
 
 // Prints the bound of a component.

@@ -1,5 +1,5 @@
 // Meters with what each of them touches.
-ghost use Rattle.std.specs.Prelude.{◌≡◌, ◌<◌, ◌≤◌, [], length, All, IfOk, slice_index_or, take};
+ghost use Rattle.std.specs.Prelude.{◌≡◌, ◌<◌, ◌≤◌, [], length, All, IfOk, slice_index_or, slice_set, take};
 ghost use Rattle.obs_meter.specs.Touches.{IsInRange, is_live, touch_at};
 
 use crate::Touch;
@@ -54,6 +54,15 @@ impl Meters {
     {
         write_first(touches, &mut self.touches);
         self.count = touches.len();
+    }
+
+    /// Makes one item touch this. The others stay.
+    pub fn set(&mut self, m: u32, touch: Touch)
+        requires item { m < length self.old.touches }
+        ensures set { self.new ≡ record self.old { touches = slice_set self.old.touches m touch } }
+    {
+        let item = m as usize;
+        self.touches[item] = touch;
     }
 
     /// How many items there are.

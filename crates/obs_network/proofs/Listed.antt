@@ -10,11 +10,13 @@ use Rattle.obs_graph.specs.Positions.{positions_from}
 use Rattle.obs_graph.specs.Graph.{Graph}
 use Rattle.obs_case.specs.Tables.{Tables, IsValid}
 use Rattle.obs_matroid.specs.Lists.{In, IsRising}
+use Rattle.obs_matroid.specs.Assignments.{Pair}
 use Rattle.obs_matroid.proofs.Contained.{All-from_In}
 use Rattle.obs_matroid.proofs.Lists.{In-filter, In-filter_from}
 use Rattle.obs_matroid.proofs.Ranges.{range_in, range_rising}
 use Rattle.obs_meter.specs.declared.Touch.{Touch}
 use Rattle.obs_meter.specs.declared.Touch.TheVariants.{Nothing}
+use Rattle.obs_meter.specs.Assignments.{IsAssignmentAt}
 use Rattle.obs_meter.specs.Held.{Meters}
 use Rattle.obs_meter.specs.Spanned.{both_ends, common_vertex}
 use Rattle.obs_meter.specs.Touches.{every_item, is_live, live_items, touch_at, touched}
@@ -136,6 +138,21 @@ live_meters-touch t v c m = (
       let home : item_component t (case_meters t) m ≡ c = sym (touched_component t v (case_meters t) m b.0 b.1) ∙ same in
       In-filter (is_meter_in (network_of t) c) m (case_live_meters t) (live_in t m (live-from_In (case_branches t) (case_meters t) m b.0 b.1)) (eq-eqb (item_component t (case_meters t) m) c home)),
 )
+
+nothing_in : (A : List Pair) → ((p : Pair) → In p A → ⊥) → A ≡ []
+nothing_in [] none = refl
+nothing_in (p ∷ A) none = absurd (none p (inl refl))
+
+-- no pair of an assignment lies in a component without a live meter
+pub no_pairs_in : (t : Tables) → IsValid t → (c : ℕ) → live_meters_of (network_of t) c ≡ [] → (M : List ℕ) (A : List Pair) → IsAssignmentAt (case_branches t) (case_meters t) M A
+    → filter (λ p. branch_component t p.1 == c) A ≡ []
+no_pairs_in t v c lone M A assigns =
+    nothing_in (filter (λ p. branch_component t p.1 == c) A) (λ p i.
+    let lies = In-filter_from (λ (q : Pair). branch_component t q.1 == c) p A i in
+    let e = assigns.touched p lies.0 in
+    let there = touched-present (case_branches t) (slice_index_or (case_meters t) p.0 Nothing) p.1 e in
+    let home = branch_in t p.1 there ∙ ap (λ (k : ℕ). Some k) (eqb-true (branch_component t p.1) c lies.1) in
+    subst (λ (l : List ℕ). In p.0 l) lone ((live_meters-touch t v c p.0).1 (p.1, e, home)))
 
 pub some_list : (t : Tables) → IsValid t → (m : ℕ) → In m (case_live_meters t) → (c : ℕ) × (c < case_component_count t) × In m (live_meters_of (network_of t) c)
 some_list t v m i =

@@ -1,7 +1,6 @@
 -- A network after the flag of one meter was set.
-use Rattle.std.proofs.Common.{◌≡◌, ◌≢◌, ℕ, ◌+◌, ◌<◌, ◌≤◌, Bool, List, length, get_or, set, take, ⊎_elim, refl, sym, ap, ◌∙◌, subst, arith}
-use Rattle.std.proofs.lemmas.Bool.{cases_lt}
-use Rattle.std.proofs.lemmas.List.{get_or-map, get_or-set_same, length-map, map-set, take_all, take-take}
+use Rattle.std.proofs.Common.{◌≡◌, ◌≢◌, ℕ, ◌+◌, ◌<◌, ◌≤◌, Bool, List, length, get_or, set, take, refl, sym, ap, ◌∙◌, subst, arith}
+use Rattle.std.proofs.lemmas.List.{get_or-map, get_or-set_same, length-map, map-set}
 use Rattle.std.proofs.Math.Seq.{take-set-lt}
 use Rattle.obs_case.specs.declared.rows.Meter.{Meter}
 use Rattle.obs_case.specs.Flags.{with_meter_inservice}
@@ -108,18 +107,8 @@ length-lists_of components graph meters = length-map meters.touches (λ t. list_
 
 -- what all items touch, where the meters are the first of them and one of these touches something else
 module _ (touches offered meters : List Touch) (m : ℕ) (touch : Touch) (kept : take (length offered) touches ≡ offered) (front : take (length meters) offered ≡ meters) (low : m < length meters) (low_offered : m < length offered) where
-  fewer : length meters ≤ length offered
-  fewer =
-      ⊎_elim
-      (λ (less : length offered < length meters). let all = ap length (sym (take_all (length meters) offered (omega arith)) ∙ front) in omega (arith, all))
-      (λ (more : length meters ≤ length offered). more)
-      (cases_lt (length offered) (length meters))
-
   pub offered-set : take (length offered) (set touches m touch) ≡ set offered m touch
   offered-set = take-set-lt (length offered) touches m touch low_offered ∙ ap (λ l. set l m touch) kept
-
-  pub meters-set : take (length meters) (set touches m touch) ≡ set meters m touch
-  meters-set = take-set-lt (length meters) touches m touch low ∙ ap (λ l. set l m touch) (sym (take-take (length meters) (length offered) touches fewer) ∙ (ap (take (length meters)) kept ∙ front))
 
   pub front-set : take (length meters) (set offered m touch) ≡ set meters m touch
   front-set = take-set-lt (length meters) offered m touch low ∙ ap (λ l. set l m touch) front

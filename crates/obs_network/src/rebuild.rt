@@ -153,17 +153,8 @@ pub(crate) fn refill_items(
     offered.refill(touches);
 }
 
-// Makes the items anew, as many as they are, from what they touch now.
-fn renew(items: &mut Meters, touches: &[Touch])
-    requires room { length items.old.touches ≤ length touches.now }
-    requires most { length items.old.touches ≤ items.old.most }
-    ensures whole { items.new ≡ record items.old { touches = take (length items.old.touches) touches.now } }
-{
-    items.refill(&touches[..items.count() as usize]);
-}
-
-/// Makes one meter that of the case, among the meters and among these with the candidates behind them. What all touch
-/// stands in the array still, from when they were made.
+/// Makes one meter that of the case: among the meters, among these with the candidates behind them, and in the array
+/// from which both were made.
 pub(crate) fn change_item(
     case: &Case,
     buses: &Buses,
@@ -176,8 +167,6 @@ pub(crate) fn change_item(
     requires meter { m < length case.now.meters }
     requires meters { m < length meters.old.touches }
     requires offered { m < length offered.old.touches }
-    requires few { length meters.old.touches ≤ meters.old.most }
-    requires few_offered { length offered.old.touches ≤ offered.old.most }
     requires room_offered { length offered.old.touches ≤ length touches.old }
     requires kept { take (length offered.old.touches) touches.old ≡ offered.old.touches }
     requires front { take (length meters.old.touches) offered.old.touches ≡ meters.old.touches }
@@ -191,7 +180,8 @@ pub(crate) fn change_item(
     ensures kept { take (length offered.new.touches) touches.new ≡ offered.new.touches }
     ensures front { take (length meters.new.touches) offered.new.touches ≡ meters.new.touches }
 {
-    touches[m as usize] = touch_of_meter(&case.meters()[m as usize], buses);
-    renew(meters, touches);
-    renew(offered, touches);
+    let touch = touch_of_meter(&case.meters()[m as usize], buses);
+    touches[m as usize] = touch;
+    meters.set(m, touch);
+    offered.set(m, touch);
 }

@@ -15,7 +15,6 @@ pub change_item-requires : goal.change_item-requires
 change_item-requires c =
     let f = meter_edited c.args.self.now c.args.m c.args.case.now c.requires.before c.requires.meter in
     let is = c.self.view_is in
-    let few = subst (λ (x : Network). length x.meters.touches ≤ x.meters.most) (sym is) f.few in
     let few_offered = subst (λ (x : Network). length x.offered.touches ≤ x.offered.most) (sym is) f.few_offered in
     let room = c.self.invariant.touches_len in
     let same = ap length c.deref_mut.ensures.value in
@@ -24,8 +23,6 @@ change_item-requires c =
       meter = c.requires.meter;
       meters = subst (λ (x : Network). c.args.m < length x.meters.touches) (sym is) f.item;
       offered = subst (λ (x : Network). c.args.m < length x.offered.touches) (sym is) f.item_offered;
-      few = few;
-      few_offered = few_offered;
       room_offered = omega (arith, few_offered, room, same);
       kept = ap (take (length c.self.inside.offered.touches)) c.deref_mut.ensures.value ∙ c.self.invariant.touches_are;
       front = c.self.invariant.front;

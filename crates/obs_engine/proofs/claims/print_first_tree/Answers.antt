@@ -6,7 +6,7 @@ use Rattle.obs_report.specs.Trees.{tree_text}
 use Rattle.obs_engine.specs.Asks.{tree_claim}
 use Rattle.obs_engine.proofs.Asked.{appends_as, tree_is}
 use Rattle.obs_network.proofs.OfCase.{count_of}
-use Rattle.obs_engine.proofs.claims.print_component_tree.Goals as goal
+use Rattle.obs_engine.proofs.claims.print_first_tree.Goals as goal
 
 pub print_tree-requires-clause-component : goal.print_tree-requires-clause-component
 print_tree-requires-clause-component g c =
