@@ -129,7 +129,7 @@ def see_case(r, number, folder, case):
     for row in case.branches:
         row[0] += r.choice(["", *HARD_NAMES])
     for name, records in zip(FILES, records_of_bytes(case)):
-        write(folder, name, csv_of(random.Random(0), records))
+        write(folder, name, csv_of(r, records))
     words = ["tables", *FILES[:4], *(["with", FILES[4]] if r.random() < 0.5 else [])]
     found = answer.ask(PROGRAM, answer.Form([os.path.join(folder, word) if word in FILES else word for word in words]))
     network = Network(case)
