@@ -136,7 +136,7 @@ class Drawing:
     def bus(self, u, title, colours, is_titled):
         marks = self.marks.at_bus[u]
         lines = [shown(self.answer.names[u])] + ([title] if is_titled else [])
-        hint = [f"bus {self.words.nodes(u)}, {title}"] + [f"{sign} {shown(name)}" for sign, name in marks]
+        hint = [f"bus {self.words.nodes(u)}, {title}"] + self.named(marks)
         return f"b{u} " + attributes(
             label="\n".join(lines + self.labels(marks)),
             tooltip="\n".join(hint),
@@ -151,15 +151,20 @@ class Drawing:
     def labels(self, marks):
         """The marks of a bus or a branch: with names in a small drawing, else the signs alone."""
         if self.has_names:
-            return [f"{sign} {shown(name)}" for sign, name in marks]
-        signs = " ".join(sign for sign, _ in marks if sign != "-")
-        return [signs] if signs else []
+            return self.named(marks)
+        counts = collections.Counter(sign for sign, _ in marks if sign != "-")
+        return [f"{sign} {count:,}" if count > 1 else sign for sign, count in counts.items()]
+
+    def named(self, marks):
+        some = [f"{sign} {shown(name)}" for sign, name in marks[: self.words.most]]
+        rest = len(marks) - len(some)
+        return some + ([f"and {rest:,} more"] if rest else [])
 
     def edge(self, e):
         u, v = self.answer.ends[e]
         marks = self.marks.at_branch[e]
         name = [shown(self.answer.case.branches[e][0])] if self.has_names else []
-        hint = [f"branch {self.words.branch(e)}"] + [f"{sign} {shown(item)}" for sign, item in marks]
+        hint = [f"branch {self.words.branch(e)}"] + self.named(marks)
         return f"  b{u} -- b{v} " + attributes(
             label="\n".join(name + self.labels(marks)),
             tooltip="\n".join(hint),
