@@ -29,12 +29,11 @@ use Rattle.obs_edit.specs.declared.edit.Meant.TheVariants.{Edits, Asks}
 use Rattle.obs_edit.specs.declared.edit.Refusal.{Refusal}
 use Rattle.obs_edit.specs.declared.edit.Refusal.TheVariants.{NoCandidates, UnknownBranch, UnknownMeter, UnknownSwitch}
 use Rattle.obs_edit.specs.declared.hand.AtHand.{AtHand}
-use Rattle.obs_edit.specs.declared.edit.Applied.{Applied}
-use Rattle.obs_edit.specs.Edits.{HasRow, IsEdited, IsRepaired, TakesOne, edited, nothing_at_hand}
+use Rattle.obs_edit.specs.Edits.{HasRow, IsRepaired, TakesOne, edited, nothing_at_hand}
 use Rattle.obs_edit.specs.Lines.{edit_at, is_place, meaning_of, meant_by, meant_of, refusal_of}
 use Rattle.obs_edit.specs.Planned.{Planning, offered_rows}
 use Rattle.obs_edit.specs.Repairing.{CostsOwnPair}
-use Rattle.obs_edit.specs.Sessions.{AreAnswers, BoundOf, HasRoom, HasRoomToAnswer, IsPlacing, Session, case_rows}
+use Rattle.obs_edit.specs.Sessions.{AreAnswers, BoundOf, HasRoom, HasRoomToAnswer, IsPlacing, case_rows}
 use Rattle.obs_edit.proofs.Flagged.{rows-edited, same_candidates}
 use Rattle.obs_edit.proofs.Repaired.{AreKept-by, IsRepaired-by, few_standing}
 
@@ -116,21 +115,15 @@ no_answers t a flags listing found measured hand none = record {
   bound = λ c h. absurd (none_some c (sym (ap (λ (x : AtHand). x.bound) none) ∙ h));
 }
 
--- the placing of a session after an edit
-pub placing-edited : (k : Session) (e : Edit) (after : Session) (said : Applied) (p : Planning) → IsEdited k e after said → IsPlacing k.tables k.at_hand.placed p → IsPlacing after.tables after.at_hand.placed p
-placing-edited k e after said p h was =
-    elim h.flag [
-      | inl same ↦ subst (λ (x : Session). IsPlacing x.tables x.at_hand.placed p) (sym same.0) was
-      | inr new ↦
-          let none = ap (λ (x : AtHand). x.placed) new.1 in
-          record {
-            prices = was.prices ∙ sym (ap (λ (x : Tables). prices_of x.candidates) h.tables ∙ ap prices_of (same_candidates k.tables e));
-            sizes = was.sizes ∙ (offered_sizes k.tables (edited k.tables e) (sym (rows-edited k.tables e)) ∙ ap offered_rows (sym h.tables));
-            placed = λ y. absurd (false≢true (sym none ∙ y));
-            pairs = λ y. absurd (false≢true (sym none ∙ y));
-            stands = λ y. absurd (false≢true (sym none ∙ y));
-          }
-    ]
+-- a placement after an edit, where none is at hand
+pub placing-edited : (t after : Tables) (e : Edit) (offered before now : Bool) (p : Planning) → after ≡ edited t e → now ≡ false → IsPlacing t offered before p → IsPlacing after offered now p
+placing-edited t after e offered before now p same none was = record {
+  prices = was.prices ∙ sym (ap (λ (x : Tables). prices_of x.candidates) same ∙ ap prices_of (same_candidates t e));
+  sizes = λ some. was.sizes some ∙ (offered_sizes t (edited t e) (sym (rows-edited t e)) ∙ ap offered_rows (sym same));
+  placed = λ y. absurd (false≢true (sym none ∙ y));
+  pairs = λ y. absurd (false≢true (sym none ∙ y));
+  stands = λ y. absurd (false≢true (sym none ∙ y));
+}
 
 abbrev same_meaning : Result Meant Refusal → Result Meant Refusal → Type 0
 same_meaning x y = x ≡ y

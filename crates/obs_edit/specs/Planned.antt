@@ -1,5 +1,5 @@
 -- The plan of a placement: its items, what these touch, and its pairs.
-use Rattle.std.specs.Prelude.{◌≡◌, ℕ, ◌+◌, if◌then◌else◌, Option, List, [], ◌++◌, length, map, slice_index_or}
+use Rattle.std.specs.Prelude.{◌≡◌, ℕ, ◌+◌, Bool, if◌then◌else◌, Option, List, [], ◌++◌, length, map, slice_index_or}
 use Rattle.std.specs.List.{range_with_len}
 use Rattle.obs_graph.specs.declared.Ends.{Ends}
 use Rattle.obs_graph.specs.Positions.{AreBranches}
@@ -58,6 +58,10 @@ case_placed_pairs t =
 abbrev pub offered_rows : Tables → Sizes
 offered_rows t = record { meters = length t.meters + length t.candidates; branches = length t.branches; vertices = length t.nodes }
 
+-- no rows
+abbrev pub no_rows : Sizes
+no_rows = record { meters = 0; branches = 0; vertices = 0 }
+
 -- what the pairs of a placement are kept in: those that were found last, and the sizes that it was made for
 pub record Paired : Type 0 where
   pub pairs : Assignment
@@ -75,6 +79,10 @@ pub record Planning : Type 0 where
   pub prices : List ℕ
   pub sizes : Sizes
 
--- as it is made for a case
-abbrev pub new_planning : Tables → Planning
-new_planning t = record { placed = nothing_placed; pairs = no_pairs (offered_rows t); prices = prices_of t.candidates; sizes = offered_rows t }
+-- as it is made with room for these sizes
+abbrev pub planning_of : Sizes → List ℕ → Planning
+planning_of sizes prices = record { placed = nothing_placed; pairs = no_pairs sizes; prices = prices; sizes = sizes }
+
+-- as it is made for a case: there is room for a placement where candidates were given
+abbrev pub new_planning : Bool → Tables → Planning
+new_planning offered t = planning_of (if offered then offered_rows t else no_rows) (prices_of t.candidates)

@@ -72,10 +72,11 @@ pub record AreAnswers (t : Tables) (a : Assignment) (flags : List Bool) (listing
   pub islands : hand.islands ≡ true → found.firsts ≡ case_islands t
   pub bound : (c : ℕ) → hand.bound ≡ Some c → measured ≡ case_bound t c
 
--- a placement is of these prices and sizes, and where it is said to be at hand it is the one of the case, with its pairs
-pub record IsPlacing (t : Tables) (at_hand : Bool) (p : Planning) : Type 0 where
+-- a placement is of these prices, and where candidates were given of these sizes; where it is said to be at hand it is the one
+-- of the case, with its pairs
+pub record IsPlacing (t : Tables) (offered at_hand : Bool) (p : Planning) : Type 0 where
   pub prices : p.prices ≡ prices_of t.candidates
-  pub sizes : p.sizes ≡ offered_rows t
+  pub sizes : offered ≡ true → p.sizes ≡ offered_rows t
   pub placed : at_hand ≡ true → p.placed ≡ case_placement t
   pub pairs : at_hand ≡ true → pairs p.pairs ≡ case_placed_pairs t
   pub stands : at_hand ≡ true → StandsOver p.pairs (network_of t).graph (case_offered t)

@@ -1,12 +1,12 @@
 //! Sessions: a case, its network, a longest assignment of its live meters, and the answers to it.
 #![tactic(auto)]
 
-mod analysis;
 mod answers;
 mod asks;
 mod components;
 mod counted;
 mod edit;
+mod finding;
 mod hand;
 mod kept;
 pub mod laws;
@@ -18,8 +18,7 @@ mod repair;
 mod seen;
 mod session;
 
-pub use analysis::State;
 pub use edit::{Applied, Done, Edit, Meant, Refusal};
 pub use memory::NoMemory;
 pub use seen::{Placed, Seen};
-pub use session::Session;
+pub use session::{Session, State};

@@ -6,7 +6,7 @@ ghost use Rattle.obs_meter.specs.Touches.{AreInRange};
 ghost use Rattle.obs_assign.specs.Assignment.{StandsOver, pairs as pairs_at};
 ghost use Rattle.obs_placement.specs.Placed.{placed_of, placement_of};
 ghost use Rattle.obs_network.specs.Network.{network_of};
-ghost use Rattle.obs_edit.specs.Planned.{case_placed_pairs, case_placement, new_planning, offered_rows, placed_pairs};
+ghost use Rattle.obs_edit.specs.Planned.{case_placed_pairs, case_placement, new_planning, offered_rows, placed_pairs, planning_of};
 
 use crate::memory::NoMemory;
 use crate::pairing::Pairing;
@@ -82,18 +82,36 @@ fn list_prices(alloc: Global, candidates: &[Candidate]) -> Result<Vec<u64>, NoMe
 }
 
 impl Placing {
-    /// Room for the placement of every case with the rows of this one and the same prices.
-    pub(crate) fn make(alloc: Global, case: &Case) -> Result<Placing, NoMemory>
-        ensures empty { IfOk result (λ p. p ≡ new_planning case.now) }
+    // Room for a placement of so many items, branches and nodes, with the prices of this case.
+    fn with_room(
+        alloc: Global,
+        case: &Case,
+        items: u32,
+        branches: u32,
+        nodes: u32,
+    ) -> Result<Placing, NoMemory>
+        ensures empty { IfOk result (λ p. p ≡ planning_of
+            (record { meters = items; branches = branches; vertices = nodes }) (prices_of case.now.candidates)) }
     {
-        let offered = case.meters().len() as u32 + case.candidates().len() as u32;
-        let branches = case.branches().len() as u32;
-        let nodes = case.nodes().len() as u32;
+        let _nodes = case.nodes();
         Ok(Placing {
             prices: list_prices(alloc, case.candidates())?,
-            work: PlaceWork::make(alloc, offered, branches, nodes)?,
-            paired: Pairing::make(alloc, offered, branches, nodes)?,
+            work: PlaceWork::make(alloc, items, branches, nodes)?,
+            paired: Pairing::make(alloc, items, branches, nodes)?,
         })
+    }
+
+    /// Room for the placement of every case with the rows of this one and the same prices, where candidates were given.
+    pub(crate) fn make(alloc: Global, case: &Case, offered: bool) -> Result<Placing, NoMemory>
+        ensures empty { IfOk result (λ p. p ≡ new_planning offered case.now) }
+    {
+        if !offered {
+            return Placing::with_room(alloc, case, 0, 0, 0);
+        }
+        let items = case.meters().len() as u32 + case.candidates().len() as u32;
+        let branches = case.branches().len() as u32;
+        let nodes = case.nodes().len() as u32;
+        Placing::with_room(alloc, case, items, branches, nodes)
     }
 
     /// Finds the placement of so many meters and then the candidates, and its pairs. No memory is taken.

@@ -1,9 +1,24 @@
-use Rattle.std.proofs.Common.{ap}
+use Rattle.std.proofs.Common.{ap, sym, ◌∙◌}
+use Rattle.obs_matroid.proofs.Lists.{clash}
 use Rattle.obs_edit.specs.declared.hand.AtHand.{AtHand}
 use Rattle.obs_edit.proofs.Plans.{placing_begun}
 use Rattle.obs_edit.proofs.session.Session.begin.Goals as goal
+use Rattle.obs_assign.proofs.Slotted.{none_some}
 
 pub invariant_of-result : goal.invariant_of-result
 invariant_of-result g c =
-    let a = c.in_ok-analysis in
-    placing_begun c.args.case a.analysis.tables a.analysis.at_hand.placed c.in_ok-placing.placing a.ensures.case (ap (λ (hand : AtHand). hand.placed) a.ensures.nothing) c.in_ok-placing.ensures.empty
+    let nothing = c.in_ok-answers.ensures.nothing in
+    record {
+      network = c.in_ok-network.ensures.whole;
+      longest = c.fill.ensures.longest;
+      room = c.fill.ensures.room;
+      answer_room = c.in_ok-answers.ensures.room;
+      answers = record {
+        first = λ is. clash is (ap (λ (h : AtHand). h.first) nothing);
+        marks = λ is. clash is (ap (λ (h : AtHand). h.critical) nothing);
+        critical = λ is. clash is (ap (λ (h : AtHand). h.critical) nothing);
+        islands = λ is. clash is (ap (λ (h : AtHand). h.islands) nothing);
+        bound = λ k is. absurd (none_some k (sym (ap (λ (h : AtHand). h.bound) nothing) ∙ is));
+      };
+      placing = placing_begun c.args.case c.args.offered c.in_ok-answers.answers.hand.placed c.in_ok-placing.placing (ap (λ (h : AtHand). h.placed) nothing) c.in_ok-placing.ensures.empty;
+    }

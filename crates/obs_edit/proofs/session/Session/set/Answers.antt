@@ -1,5 +1,61 @@
-use Rattle.obs_edit.proofs.Sets.{placing-edited}
+use Rattle.std.proofs.Common.{ap, inl, ◌≡◌, refl, sym, subst}
+use Rattle.std.specs.Prelude.{take}
+use Rattle.obs_case.specs.Tables.{Tables}
+use Rattle.obs_assign.specs.Assignment.{StandsOver}
+use Rattle.obs_network.specs.Network.{case_meters, network_of}
+use Rattle.obs_edit.specs.declared.hand.AtHand.{AtHand}
+use Rattle.obs_edit.specs.Edits.{HasRow, edited}
+use Rattle.obs_edit.specs.Sessions.{HasRoom, HasRoomToAnswer, Session}
+use Rattle.obs_edit.proofs.Sets.{answer_room-edited, no_answers, placing-edited, repaired-same, room-edited, takes_none}
 use Rattle.obs_edit.proofs.session.Session.set.Goals as goal
 
+pub returns-then-is_set-clause-edited : goal.returns-then-is_set-clause-edited
+returns-then-is_set-clause-edited g c = record {
+  tables = subst (λ (k : Session). k.tables ≡ edited k.tables c.args.edit) c.self.view_is (sym c.if-is_set.ensures.set);
+  offered = refl;
+  rank = c.applied.ensures.rank;
+  computed = c.applied.ensures.computed;
+  needed = c.applied.ensures.needed;
+  repaired = repaired-same c.args.self.now.tables c.args.edit c.args.self.now.pairs c.applied.result.rank c.applied.result.searches
+      (subst (λ (k : Session). StandsOver k.pairs (network_of k.tables).graph (case_meters k.tables)) c.self.view_is c.self.invariant.longest.stands) c.applied.ensures.length c.applied.ensures.searches;
+  meter = takes_none c.args.edit c.args.self.now.pairs c.applied.result.searches c.applied.ensures.searches;
+  without_pair = λ at is none. (c.applied.ensures.searches, refl);
+  flag = inl (refl, c.applied.ensures.searches);
+}
+
+pub follow-requires : goal.follow-requires
+follow-requires g c = record {
+  before = record {
+    before = c.self.inside.case;
+    row = subst (λ (k : Session). HasRow k.tables c.args.edit) (sym c.self.view_is) c.requires.row;
+    network = c.self.invariant.network;
+    same = c.set_flag.ensures.edited;
+  };
+}
+
+pub repair-searches-requires-clause-before : goal.repair-searches-requires-clause-before
+repair-searches-requires-clause-before g c = record {
+  before = c.self.inside.case;
+  valid = c.nodes-nodes.ensures.valid;
+  row = subst (λ (k : Session). HasRow k.tables c.args.edit) (sym c.self.view_is) c.requires.row;
+  same = c.set_flag.ensures.edited;
+  longest = c.self.invariant.longest;
+}
+
+pub repair-searches-requires-clause-room : goal.repair-searches-requires-clause-room
+repair-searches-requires-clause-room g c =
+    subst (λ (t : Tables). HasRoom t c.self.inside.held.pairs c.self.inside.held.work) (sym c.set_flag.ensures.edited) (room-edited c.self.inside.case c.args.edit c.self.inside.held.pairs c.self.inside.held.work c.self.invariant.room)
+
 pub invariant_of-self : goal.invariant_of-self
-invariant_of-self g c = placing-edited c.self.inside.analysis c.args.edit c.set.new.self c.set.result c.self.inside.placing c.set.ensures.edited c.self.invariant
+invariant_of-self g c = record {
+  network = c.follow.ensures.network;
+  longest = c.repair-searches.ensures.longest;
+  room = c.repair-searches.ensures.room;
+  answer_room = subst (λ (t : Tables). HasRoomToAnswer t c.self.inside.answers.marks.items c.self.inside.answers.critical c.self.inside.answers.islands c.self.inside.answers.inside.items c.self.inside.answers.measured.listed) (sym c.set_flag.ensures.edited)
+      (answer_room-edited c.self.inside.case c.args.edit c.self.inside.answers.marks.items c.self.inside.answers.critical c.self.inside.answers.islands c.self.inside.answers.inside.items c.self.inside.answers.measured.listed c.self.invariant.answer_room);
+  answers = no_answers c.set_flag.new.case c.repair-searches.new.a c.self.inside.answers.marks.items c.self.inside.answers.critical c.self.inside.answers.islands
+      (record { inside = take c.self.inside.answers.measured.listed c.self.inside.answers.inside.items; rank = c.self.inside.answers.measured.rank; outside = c.self.inside.answers.measured.outside })
+      c.nothing-self-inside.result c.nothing-self-inside.ensures.nothing;
+  placing = placing-edited c.self.inside.case c.set_flag.new.case c.args.edit c.self.inside.offered c.self.inside.answers.hand.placed c.nothing-self-inside.result.placed c.self.inside.placing c.set_flag.ensures.edited
+      (ap (λ (h : AtHand). h.placed) c.nothing-self-inside.ensures.nothing) c.self.invariant.placing;
+}

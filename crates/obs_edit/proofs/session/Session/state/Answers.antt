@@ -2,7 +2,7 @@ use Rattle.std.proofs.Common.{◌∙◌, ap}
 use Rattle.obs_edit.specs.Answers.{case_rank}
 use Rattle.obs_edit.specs.Sessions.{Session}
 use Rattle.obs_edit.proofs.Answered.{rank_of_longest}
-use Rattle.obs_edit.proofs.analysis.Analysis.state.Goals as goal
+use Rattle.obs_edit.proofs.session.Session.state.Goals as goal
 
 pub returns-clause-computed : goal.returns-clause-computed
 returns-clause-computed c =

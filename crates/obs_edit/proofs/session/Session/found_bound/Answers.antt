@@ -2,7 +2,7 @@ use Rattle.std.proofs.Common.{ap, arith}
 use Rattle.obs_network.specs.Network.{case_component_count}
 use Rattle.obs_edit.specs.Sessions.{Session}
 use Rattle.obs_network.proofs.OfCase.{count_of}
-use Rattle.obs_edit.proofs.analysis.Analysis.found_bound.Goals as goal
+use Rattle.obs_edit.proofs.session.Session.found_bound.Goals as goal
 
 pub need-requires : goal.need-requires
 need-requires c = record {
