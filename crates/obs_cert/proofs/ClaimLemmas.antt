@@ -28,9 +28,9 @@ more_below stamp marks b x = let l = b x in omega (arith, l)
 -- after marks of the stamp were made
 pub ready_more : (t : Tables) (stamp : ℕ) (w w2 : Work) → IsReady t stamp w
     → length w2.chosen.items ≡ length w.chosen.items → length w2.paired.items ≡ length w.paired.items → length w2.listed.items ≡ length w.listed.items → length w2.taken.items ≡ length w.taken.items
-    → w2.ups.items ≡ w.ups.items → w2.moved.items ≡ w.moved.items
+    → w2.ups.items ≡ w.ups.items → w2.moved.items ≡ w.moved.items → w2.stars.items ≡ w.stars.items
     → AreBelow (suc stamp) w2.chosen.items → AreBelow (suc stamp) w2.paired.items → AreBelow (suc stamp) w2.listed.items → AreBelow (suc stamp) w2.taken.items → IsReady t (suc stamp) w2
-ready_more t stamp w w2 r e1 e2 e3 e4 e5 e6 b1 b2 b3 b4 =
+ready_more t stamp w w2 r e1 e2 e3 e4 e5 e6 e7 b1 b2 b3 b4 =
     let m = r.room in
     record {
       room = record {
@@ -41,12 +41,14 @@ ready_more t stamp w w2 r e1 e2 e3 e4 e5 e6 b1 b2 b3 b4 =
         ups = omega (arith, m.ups, ap length e5);
         few = omega (arith, m.few, ap length e5);
         moved = omega (arith, m.moved, ap length e5, ap length e6);
+        stars = omega (arith, m.stars, ap length e5, ap length e7);
       };
       chosen = b1;
       paired = b2;
       listed = b3;
       taken = b4;
       clear = rw e5 r.clear;
+      known = rw e7 r.known;
     }
 
 -- what the clauses on the branches say is the whole
@@ -94,14 +96,14 @@ pub ready_pairs : (t : Tables) (stamp : ℕ) (w : Work) (paired taken : List ℕ
 ready_pairs t stamp w paired taken r e f a b =
     let p = back w.paired paired e in
     let k = back w.taken taken f in
-    ready_more t stamp w (record w { paired = with_items w.paired paired; taken = with_items w.taken taken }) r refl (ap length p ∙ e) refl (ap length k ∙ f) refl refl
+    ready_more t stamp w (record w { paired = with_items w.paired paired; taken = with_items w.taken taken }) r refl (ap length p ∙ e) refl (ap length k ∙ f) refl refl refl
     (more_below stamp w.chosen.items r.chosen) (subst (AreBelow (suc stamp)) (sym p) a) (more_below stamp w.listed.items r.listed) (subst (AreBelow (suc stamp)) (sym k) b)
 
 pub ready_listed : (t : Tables) (stamp : ℕ) (w : Work) (listed : List ℕ) → IsReady t stamp w → length listed ≡ length w.listed.items
     → AreBelow (suc stamp) listed → IsReady t (suc stamp) (record w { listed = with_items w.listed listed })
 ready_listed t stamp w listed r e a =
     let p = back w.listed listed e in
-    ready_more t stamp w (record w { listed = with_items w.listed listed }) r refl refl (ap length p ∙ e) refl refl refl
+    ready_more t stamp w (record w { listed = with_items w.listed listed }) r refl refl (ap length p ∙ e) refl refl refl refl
     (more_below stamp w.chosen.items r.chosen) (more_below stamp w.paired.items r.paired) (subst (AreBelow (suc stamp)) (sym p) a) (more_below stamp w.taken.items r.taken)
 
 pub ready_plan : (t : Tables) (stamp : ℕ) (w : Work) (chosen paired listed taken : List ℕ) → IsReady t stamp w → length chosen ≡ length w.chosen.items → length paired ≡ length w.paired.items → length listed ≡ length w.listed.items → length taken ≡ length w.taken.items
@@ -113,7 +115,7 @@ ready_plan t stamp w chosen paired listed taken r e f g h a b c d =
     let s = back w.listed listed g in
     let k = back w.taken taken h in
     ready_more t stamp w (record w { chosen = with_items w.chosen chosen; paired = with_items w.paired paired; listed = with_items w.listed listed; taken = with_items w.taken taken }) r
-    (ap length p ∙ e) (ap length q ∙ f) (ap length s ∙ g) (ap length k ∙ h) refl refl
+    (ap length p ∙ e) (ap length q ∙ f) (ap length s ∙ g) (ap length k ∙ h) refl refl refl
     (subst (AreBelow (suc stamp)) (sym p) a) (subst (AreBelow (suc stamp)) (sym q) b) (subst (AreBelow (suc stamp)) (sym s) c) (subst (AreBelow (suc stamp)) (sym k) d)
 
 -- no clause on the cost is false

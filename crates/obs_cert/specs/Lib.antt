@@ -17,6 +17,7 @@ pub mod Ready
 pub mod Said
 pub mod Scopes
 pub mod Seen
+pub mod Stars
 pub mod Truths
 pub mod Walked
 pub mod Words

@@ -5,6 +5,7 @@ use Rattle.obs_network.specs.Network.{Rows, rows_of}
 use Rattle.obs_cert.specs.declared.work.Work.{Work}
 use Rattle.obs_cert.specs.Joins.{AreJoined}
 use Rattle.obs_cert.specs.Marks.{AreBelow}
+use Rattle.obs_cert.specs.Stars.{AreStarRanks}
 
 -- the arrays have room for a case with so many rows
 pub record HasRoom (rows : Rows) (w : Work) : Type 0 where
@@ -15,8 +16,9 @@ pub record HasRoom (rows : Rows) (w : Work) : Type 0 where
   pub ups : rows.nodes ≤ length w.ups.items
   pub few : length w.ups.items < 2 ^ 32
   pub moved : length w.ups.items ≤ length w.moved.items
+  pub stars : length w.ups.items ≤ length w.stars.items
 
--- they have room, each mark is below the stamp, and nothing is joined
+-- they have room, each mark is below the stamp, nothing is joined, and the ranks that are known are those of the case
 pub record IsReady (t : Tables) (stamp : ℕ) (w : Work) : Type 0 where
   pub room : HasRoom (rows_of t) w
   pub chosen : AreBelow stamp w.chosen.items
@@ -24,3 +26,4 @@ pub record IsReady (t : Tables) (stamp : ℕ) (w : Work) : Type 0 where
   pub listed : AreBelow stamp w.listed.items
   pub taken : AreBelow stamp w.taken.items
   pub clear : AreJoined [] w.ups.items []
+  pub known : AreStarRanks t w.stars.items

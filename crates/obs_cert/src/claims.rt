@@ -7,14 +7,16 @@ ghost use Rattle.obs_cert.specs.Keys.{AreKeys};
 ghost use Rattle.obs_cert.specs.Numbered.{items_of};
 ghost use Rattle.obs_cert.specs.Ready.{HasRoom, IsReady};
 ghost use Rattle.obs_cert.specs.Scopes.{OfItems, is_live_item, scope_of};
+ghost use Rattle.obs_cert.specs.Stars.{AreStarRanks};
 ghost use Rattle.obs_cert.specs.Walked.{claim_said, parts_in};
 
 use crate::flaw::FlawCode;
 use crate::forests::{forest, has_pair_twice, has_unknown_pair};
-use crate::lists::{count, has_outside, has_twice, has_unknown, measure_items};
+use crate::lists::{count, has_outside, has_twice, has_unknown};
 use crate::pairs::has_untouched;
 use crate::plans::plan;
 use crate::scopes::{Scope, component_named};
+use crate::stars::measure_listed;
 use crate::walk::{ClaimLines, Sort, walk_items, walk_pairs};
 use crate::work::Work;
 use obs_case::Case;
@@ -77,6 +79,7 @@ fn numbers(
     requires of_case { network.now ≡ network_of case.now }
     requires room { HasRoom (rows_of case.now) work.old }
     requires clear { AreJoined [] work.old.ups.items [] }
+    requires kept { AreStarRanks case.now work.old.stars.items }
     requires once { twice (items_of case.now (parts_in rest.now).inside) ≡ false }
     ensures flaw { (test : ℕ → Bool) → scope ≡ length (scope_of case.now test) → OfItems case.now test
         → not_inside test (items_of case.now (parts_in rest.now).inside) ≡ false
@@ -84,8 +87,8 @@ fn numbers(
         stated.rank stated.outside stated.need) }
     ensures ready { (stamp : ℕ) → IsReady case.now stamp work.old → IsReady case.now stamp work.new }
 {
-    let items = walk_items(Sort::Inside, rest);
-    let rank = measure_items(case, network, items, &mut work.ups, &mut work.moved);
+    let (stars, ups, moved) = (&mut work.stars, &mut work.ups, &mut work.moved);
+    let rank = measure_listed(case, network, rest, stars, ups, moved);
     if u64::from(rank) != stated.rank {
         return Some(FlawCode::WrongRank);
     }

@@ -20,6 +20,7 @@ mod pairs;
 mod place;
 mod plans;
 mod scopes;
+mod stars;
 mod walk;
 mod words;
 mod work;

@@ -9,7 +9,7 @@ use crate::memory::NoMemory;
 use obs_case::Case;
 use std::alloc::Global;
 
-/// Marks of items and branches, and the ways up of vertices.
+/// Marks of items and branches, the ways up of vertices, and ranks that are known.
 pub(crate) struct Work {
     // the stamp of the claim that last chose the item, had it in a pair, or listed it
     pub(crate) chosen: Vec<u32>,
@@ -20,6 +20,8 @@ pub(crate) struct Work {
     // where the vertex leads to, towards the first one that is joined with it, and the vertices that lead on
     pub(crate) ups: Vec<u32>,
     pub(crate) moved: Vec<u32>,
+    // one more than the rank of the branches at the vertex, or 0 where it wasn't measured yet
+    pub(crate) stars: Vec<u32>,
 }
 
 // Written out: so a caller's proof sees one call, and not the drop of each field.
@@ -32,6 +34,7 @@ impl Drop for Work {
             taken: _,
             ups: _,
             moved: _,
+            stars: _,
         } = self;
     }
 }
@@ -51,10 +54,11 @@ impl Work {
             taken: vec![in alloc; 0; branches]?,
             ups: vec![in alloc; 0; nodes]?,
             moved: vec![in alloc; 0; nodes]?,
+            stars: vec![in alloc; 0; nodes]?,
         })
     }
 
-    /// Nothing is marked or joined.
+    /// Nothing is marked or joined, and no rank is known.
     pub(crate) fn begin(&mut self)
         requires few { length self.old.ups.items < 2 ^ 32 }
         ensures ready { (t : Tables) → HasRoom (rows_of t) self.old → IsReady t 1 self.new }
@@ -65,5 +69,6 @@ impl Work {
         self.listed.fill(0);
         self.taken.fill(0);
         begin(&mut self.ups);
+        self.stars.fill(0);
     }
 }

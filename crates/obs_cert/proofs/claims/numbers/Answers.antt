@@ -8,7 +8,7 @@ use Rattle.obs_cert.proofs.claims.numbers.Goals as goal
 use Rattle.obs_cert.proofs.claims.numbers.Goals.{After-from-2}
 
 rank_is : (c : After-from-2) → rank_of_items c.args.case.now (items_of c.args.case.now (parts_in c.args.rest.now).inside) ≡ c.args.stated.rank
-rank_is c = rw (sym c.walk_items-items.ensures.items) (sym c.measure_items-rank.ensures.rank ∙ sym c.from.ensures ∙ c.if-from-stated.false)
+rank_is c = sym c.measure_listed-rank.ensures.rank ∙ sym c.from.ensures ∙ c.if-from-stated.false
 
 outside_is : (c : After-from-2) (test : ℕ → Bool) → c.args.scope ≡ length (scope_of c.args.case.now test) → OfItems c.args.case.now test
     → not_inside test (items_of c.args.case.now (parts_in c.args.rest.now).inside) ≡ false → outside_of c.args.case.now test (items_of c.args.case.now (parts_in c.args.rest.now).inside) ≡ c.from-2.result
