@@ -1,11 +1,12 @@
 -- What is said of a command, from what was taken from its files and what was answered.
-use Rattle.std.proofs.Common.{ℕ, ◌≡◌, ◌∙◌, ◌⊎◌, ap, inl, inr, refl, sym, subst, arith, Bool, true, false, List, [], Option, Some, Result, Ok}
+use Rattle.std.proofs.Common.{ℕ, ◌≡◌, ◌∙◌, ◌⊎◌, ap, inl, inr, refl, sym, subst, arith, Bool, List, [], Option, Some, Result, Ok}
 use Rattle.obs_case.specs.Tables.{Tables}
 use Rattle.obs_engine.specs.declared.status.Status.{Status}
 use Rattle.obs_engine.specs.declared.status.Status.TheVariants.{Done, Short, InputFault, ReadFault, WriteFault, NoMemory, SessionTooLong}
 use Rattle.obs_engine.specs.declared.words.CaseForm.{CaseForm}
+use Rattle.obs_engine.specs.declared.words.CaseCommand.TheVariants.{Session}
 use Rattle.obs_engine.specs.declared.words.Form.{Form}
-use Rattle.obs_engine.specs.declared.words.Form.TheVariants.{Session, SessionWith}
+use Rattle.obs_engine.specs.declared.words.Form.TheVariants.{Case}
 use Rattle.obs_engine.specs.Commands.{IsCaseReply, IsFilesReply}
 use Rattle.obs_engine.specs.Ending.{answered_before, answered_in}
 use Rattle.obs_engine.specs.Files.{case_in_files, certificate_in}
@@ -68,11 +69,8 @@ widened : {P : Type 0} (status : Status) → P ⊎ ((status ≡ ReadFault) ⊎ (
 widened status (inl h) = inl h
 widened status (inr h) = inr (inr h)
 
-pub session_form : (from : CaseForm) → IsSessionForm (Session from) false
-session_form from = record { takes = tt; replies = λ input certificate t. refl; behind = λ told left. refl; can = λ status h. widened status h }
-
-pub session_with_form : (from : CaseForm) → IsSessionForm (SessionWith from) true
-session_with_form from = record { takes = tt; replies = λ input certificate t. refl; behind = λ told left. refl; can = λ status h. widened status h }
+pub session_form : (offered : Bool) (from : CaseForm) → IsSessionForm (Case (Session offered) from) offered
+session_form offered from = record { takes = tt; replies = λ input certificate t. refl; behind = λ told left. refl; can = λ status h. widened status h }
 
 -- the lines of an input were answered for a case
 pub session_answered : {left left_now : Option (List ℕ)} {i j : ℕ} {is_steady : Type 0} {a b : Option (List ℕ)} {f k : ℕ} {room : ℕ → Type 0} {status : Status} (form : Form) (offered : Bool) (t : Tables)

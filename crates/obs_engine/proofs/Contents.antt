@@ -1,11 +1,11 @@
 -- Files that are taken one after the other, and the case that their contents are.
-use Rattle.std.proofs.Common.{ℕ, zero, suc, ◌≡◌, ◌≢◌, ◌∙◌, ◌+◌, ◌-◌, ◌<◌, ◌≤◌, ◌⊎◌, ap, refl, sym, subst, true, false, List, [], ◌∷◌, ◌++◌, length, map, take, drop, get_or, add-one, Option, None, Some, Result, Ok, Err, inl, inr, arith, Vec}
+use Rattle.std.proofs.Common.{ℕ, zero, suc, ◌≡◌, ◌≢◌, ◌∙◌, ◌+◌, ◌<◌, ◌≤◌, ◌⊎◌, ap, refl, sym, subst, true, false, List, [], ◌∷◌, ◌++◌, length, map, take, drop, get_or, add-one, Option, Some, Result, Ok, Err, inl, inr, arith, Vec}
 use Rattle.std.specs.Prelude.{All, IsErrAnd, vec_len}
 use Rattle.std.specs.List.{range_with_len}
 use Rattle.std.specs.declared.alloc.Global.{Global}
 use Rattle.std.proofs.Math.Seq.{take-append_seam, take-length}
-use Rattle.std.proofs.lemmas.List.{get_or-map, get_or-take, length-append, length-map, map-append, take-append-drop}
-use Rattle.std.proofs.lemmas.List.FromFn.{get_or-map-range_with_len, length-range_with_len, take-map-range_with_len}
+use Rattle.std.proofs.lemmas.List.{get_or-map, get_or-take, length-map, map-append, take-append-drop}
+use Rattle.std.proofs.lemmas.List.FromFn.{get_or-map-range_with_len, length-range_with_len}
 use Rattle.obs_io.specs.Causes.{Rose}
 use Rattle.obs_matroid.specs.Lists.{In}
 use Rattle.obs_text.specs.Faults.{Fault, fault_of, too_long}
@@ -29,12 +29,13 @@ use Rattle.obs_trial.specs.Trial.{trial_of}
 use Rattle.obs_engine.specs.Replies.{fault_reply}
 use Rattle.obs_engine.specs.declared.words.CaseForm.{CaseForm}
 use Rattle.obs_engine.specs.declared.words.CaseForm.TheVariants.{Cdf, Matpower}
+use Rattle.obs_engine.specs.declared.words.CaseCommand.{CaseCommand}
 use Rattle.obs_engine.specs.declared.words.Form.{Form}
-use Rattle.obs_engine.specs.declared.words.Form.TheVariants.{Topology, Report, Place, Session, SessionWith, Verify, VerifyWith, Trial}
-use Rattle.obs_engine.specs.Files.{case_in, case_in_files, case_with_tables, first_too_long, is_too_long, parsed, switching_case, unless_fault}
+use Rattle.obs_engine.specs.declared.words.Form.TheVariants.{Topology, Case, Trial}
+use Rattle.obs_engine.specs.Files.{candidates_in, case_in, case_in_files, case_with_tables, first_too_long, is_too_long, parsed, switching_case, unless_fault}
 use Rattle.obs_engine.specs.Forms.{AreTold, ReadFailed}
 use Rattle.obs_engine.specs.Taken.{AreContents, IsNext, IsOfFiles, IsTaken, IsCaseError, bytes_of}
-use Rattle.obs_engine.specs.Words.{case_parts, case_words, parts_of, words_of, words_with}
+use Rattle.obs_engine.specs.Words.{candidates_at, case_parts, certificate_at, is_offered, item_if, parts_of, takes_certificate, words_of}
 use Rattle.obs_engine.proofs.Taking.{Fits}
 
 -- one element more of a front
@@ -212,111 +213,35 @@ module _ (contents : List (Vec ℕ Global)) (file : ℕ → List ℕ) (x y : Vec
       subst (λ (f : CaseForm). length (case_parts f) ≤ length contents → take (length (case_parts f)) (bytes_of contents) ≡ map file (range_with_len 2 (length (case_parts f))) → IsTaken (case_in f candidates file) r) (sym e)
       (two_at (λ u v. IsTaken (case_with_tables mat_fault v candidates (mat_of u)) r) taken)
 
-at_seam : (xs : List (List ℕ)) (y : List ℕ) (ys : List (List ℕ)) (n : ℕ) → length xs ≡ n → get_or (xs ++ (y ∷ ys)) n [] ≡ y
-at_seam [] y ys n e = rw (sym e) refl
-at_seam (x ∷ xs) y ys zero e = absurd cc
-at_seam (x ∷ xs) y ys (suc n) e = at_seam xs y ys n (cc e)
-
 -- the files of a case, and behind them those of candidates and of a certificate
 module _ (contents : List (Vec ℕ Global)) (file : ℕ → List ℕ) (r : Result Tables CaseError) (from : CaseForm) where
   abbrev IsRead : Option (List ℕ) → Type 0
   IsRead candidates = take (length (case_parts from)) (bytes_of contents) ≡ map file (range_with_len 2 (length (case_parts from))) → IsTaken (case_in from candidates file) r
 
-  case_alone : IsRead None → bytes_of contents ≡ map file (case_words from) → IsTaken (case_in from None file) r
-  case_alone read told =
-      let n = length (case_parts from) in
-      read (ap (λ (xs : List (List ℕ)). take n xs) told ∙ take-map-range_with_len file 2 n n (omega arith))
-
-  report_at : IsRead None → bytes_of contents ≡ map file (words_of (Report from)) → IsTaken (parsed (Report from) file) r
-  unfolding parsed
-  report_at read = case_alone read
-
-  session_at : IsRead None → bytes_of contents ≡ map file (words_of (Session from)) → IsTaken (parsed (Session from) file) r
-  unfolding parsed
-  session_at read = case_alone read
-
-  pub report_taken : (form : Form) → form ≡ Report from → IsRead None → bytes_of contents ≡ map file (words_of form) → IsTaken (parsed form file) r
-  report_taken form e read = subst (λ (f : Form). bytes_of contents ≡ map file (words_of f) → IsTaken (parsed f file) r) (sym e) (report_at read)
-
-  pub session_taken : (form : Form) → form ≡ Session from → IsRead None → bytes_of contents ≡ map file (words_of form) → IsTaken (parsed form file) r
-  session_taken form e read = subst (λ (f : Form). bytes_of contents ≡ map file (words_of f) → IsTaken (parsed f file) r) (sym e) (session_at read)
-
-  front_long : length (map file (case_words from)) ≡ length (case_parts from)
-  front_long = length-map (case_words from) file ∙ length-range_with_len 2 (length (case_parts from))
+  front_long : length (map file (range_with_len 2 (length (case_parts from)))) ≡ length (case_parts from)
+  front_long = length-map (range_with_len 2 (length (case_parts from))) file ∙ length-range_with_len 2 (length (case_parts from))
 
   -- behind them stand other words
-  front_told : (rest : List ℕ) → bytes_of contents ≡ map file (case_words from ++ rest) → take (length (case_parts from)) (bytes_of contents) ≡ map file (case_words from)
+  front_told : (rest : List ℕ) → bytes_of contents ≡ map file (range_with_len 2 (length (case_parts from)) ++ rest) → take (length (case_parts from)) (bytes_of contents) ≡ map file (range_with_len 2 (length (case_parts from)))
   front_told rest told =
       let n = length (case_parts from) in
-      let front = map file (case_words from) in
-      let split : bytes_of contents ≡ front ++ map file rest = told ∙ map-append file (case_words from) rest in
+      let front = map file (range_with_len 2 (length (case_parts from))) in
+      let split : bytes_of contents ≡ front ++ map file rest = told ∙ map-append file (range_with_len 2 (length (case_parts from))) rest in
       ap (λ (xs : List (List ℕ)). take n xs) split ∙ (ap (λ (k : ℕ). take k (front ++ map file rest)) (sym front_long) ∙ take-append_seam front (map file rest))
 
-  -- the first of them is that of the candidates
-  case_offered : (k last : ℕ) (more : List ℕ) (x : Vec ℕ Global) (a : List ℕ) → x ≡ get_or contents k x → k ≡ length (case_parts from) → a ≡ x.items → IsRead (Some a)
-      → length contents ≡ length (case_words from ++ (last ∷ more)) → bytes_of contents ≡ map file (case_words from ++ (last ∷ more)) → IsTaken (case_in from (Some (file last)) file) r
-  case_offered k last more x a xi at ax read count told =
-      let n = length (case_parts from) in
-      let front = map file (case_words from) in
-      let many : length (case_words from) ≡ n = length-range_with_len 2 n in
-      let total = length-append (case_words from) (last ∷ more) in
-      let split : bytes_of contents ≡ front ++ (file last ∷ map file more) = told ∙ map-append file (case_words from) (last ∷ more) in
-      let low : n < length contents = omega (arith, count, total, many) in
-      let here : a ≡ get_or (bytes_of contents) n [] =
-      ax ∙ (ap (λ (v : Vec ℕ Global). v.items) (xi ∙ ap (λ (i : ℕ). get_or contents i x) at) ∙ sym (get_or-map (λ (content : Vec ℕ Global). content.items) contents n x [] low)) in
-      let last_one : a ≡ file last = here ∙ (ap (λ (xs : List (List ℕ)). get_or xs n []) split ∙ at_seam front (file last) (map file more) n front_long) in
-      subst (λ (u : List ℕ). IsTaken (case_in from (Some u) file) r) last_one (read (front_told (last ∷ more) told))
-
-  -- where one word stands behind those of a case, and where two do
-  one_more : (last : ℕ) → length contents ≡ length (case_words from ++ (last ∷ [])) → length contents - 1 ≡ length (case_parts from)
-  one_more last count =
-      let many = length-range_with_len 2 (length (case_parts from)) in
-      let total = length-append (case_words from) (last ∷ []) in
-      omega (arith, count, total, many)
-
-  two_more : (last final : ℕ) → length contents ≡ length (case_words from ++ (last ∷ final ∷ [])) → length contents - 2 ≡ length (case_parts from)
-  two_more last final count =
-      let many = length-range_with_len 2 (length (case_parts from)) in
-      let total = length-append (case_words from) (last ∷ final ∷ []) in
-      omega (arith, count, total, many)
-
-  place_at : (x : Vec ℕ Global) (a : List ℕ) → x ≡ get_or contents (length contents - 1) x → a ≡ x.items → IsRead (Some a)
-      → length contents ≡ length (words_of (Place from)) → bytes_of contents ≡ map file (words_of (Place from)) → IsTaken (parsed (Place from) file) r
+  -- and they are read with the candidates, where these stand with the case
+  case_at : (command : CaseCommand) (candidates : Option (List ℕ)) → candidates ≡ candidates_in (Case command from) file → IsRead candidates
+      → bytes_of contents ≡ map file (words_of (Case command from)) → IsTaken (parsed (Case command from) file) r
   unfolding parsed
-  place_at x a xi ax read count = case_offered (length contents - 1) (words_with from) [] x a xi (one_more (words_with from) count) ax read count
+  case_at command candidates is read told =
+      subst (λ (o : Option (List ℕ)). IsTaken (case_in from o file) r) is
+      (read (front_told (item_if (is_offered (Case command from)) (candidates_at (Case command from)) ++ item_if (takes_certificate (Case command from)) (certificate_at (Case command from))) told))
 
-  session_with_at : (x : Vec ℕ Global) (a : List ℕ) → x ≡ get_or contents (length contents - 1) x → a ≡ x.items → IsRead (Some a)
-      → length contents ≡ length (words_of (SessionWith from)) → bytes_of contents ≡ map file (words_of (SessionWith from)) → IsTaken (parsed (SessionWith from) file) r
-  unfolding parsed
-  session_with_at x a xi ax read count = case_offered (length contents - 1) (words_with from + 1) [] x a xi (one_more (words_with from + 1) count) ax read count
-
-  verify_at : IsRead None → bytes_of contents ≡ map file (words_of (Verify from)) → IsTaken (parsed (Verify from) file) r
-  unfolding parsed
-  verify_at read told = read (front_told (words_with from ∷ []) told)
-
-  verify_with_at : (x : Vec ℕ Global) (a : List ℕ) → x ≡ get_or contents (length contents - 2) x → a ≡ x.items → IsRead (Some a)
-      → length contents ≡ length (words_of (VerifyWith from)) → bytes_of contents ≡ map file (words_of (VerifyWith from)) → IsTaken (parsed (VerifyWith from) file) r
-  unfolding parsed
-  verify_with_at x a xi ax read count =
-      case_offered (length contents - 2) (words_with from + 1) ((words_with from + 2) ∷ []) x a xi (two_more (words_with from + 1) (words_with from + 2) count) ax read count
-
-  pub place_taken : (form : Form) (x : Vec ℕ Global) (a : List ℕ) → form ≡ Place from → x ≡ get_or contents (length contents - 1) x → a ≡ x.items → IsRead (Some a)
-      → length contents ≡ length (words_of form) → bytes_of contents ≡ map file (words_of form) → IsTaken (parsed form file) r
-  place_taken form x a e xi ax read =
-      subst (λ (f : Form). length contents ≡ length (words_of f) → bytes_of contents ≡ map file (words_of f) → IsTaken (parsed f file) r) (sym e) (place_at x a xi ax read)
-
-  pub session_with_taken : (form : Form) (x : Vec ℕ Global) (a : List ℕ) → form ≡ SessionWith from → x ≡ get_or contents (length contents - 1) x → a ≡ x.items → IsRead (Some a)
-      → length contents ≡ length (words_of form) → bytes_of contents ≡ map file (words_of form) → IsTaken (parsed form file) r
-  session_with_taken form x a e xi ax read =
-      subst (λ (f : Form). length contents ≡ length (words_of f) → bytes_of contents ≡ map file (words_of f) → IsTaken (parsed f file) r) (sym e) (session_with_at x a xi ax read)
-
-  pub verify_taken : (form : Form) → form ≡ Verify from → IsRead None → bytes_of contents ≡ map file (words_of form) → IsTaken (parsed form file) r
-  verify_taken form e read = subst (λ (f : Form). bytes_of contents ≡ map file (words_of f) → IsTaken (parsed f file) r) (sym e) (verify_at read)
-
-  pub verify_with_taken : (form : Form) (x : Vec ℕ Global) (a : List ℕ) → form ≡ VerifyWith from → x ≡ get_or contents (length contents - 2) x → a ≡ x.items → IsRead (Some a)
-      → length contents ≡ length (words_of form) → bytes_of contents ≡ map file (words_of form) → IsTaken (parsed form file) r
-  verify_with_taken form x a e xi ax read =
-      subst (λ (f : Form). length contents ≡ length (words_of f) → bytes_of contents ≡ map file (words_of f) → IsTaken (parsed f file) r) (sym e) (verify_with_at x a xi ax read)
+  pub case_taken : (form : Form) (command : CaseCommand) (candidates : Option (List ℕ)) → form ≡ Case command from
+      → (bytes_of contents ≡ map file (words_of (Case command from)) → candidates ≡ candidates_in (Case command from) file) → IsRead candidates
+      → bytes_of contents ≡ map file (words_of form) → IsTaken (parsed form file) r
+  case_taken form command candidates e is read =
+      subst (λ (f : Form). bytes_of contents ≡ map file (words_of f) → IsTaken (parsed f file) r) (sym e) (λ told. case_at command candidates (is told) read told)
 
 -- a generated case
 trial_at : (rows seed : ℕ) (file : ℕ → List ℕ) (r : Result Tables CaseError) → IsTaken (Ok (trial_of rows seed)) r → IsTaken (parsed (Trial rows seed) file) r

@@ -8,6 +8,7 @@ pub mod Asked
 pub mod Worded
 pub mod Commanded
 pub mod Contents
+pub mod Filed
 pub mod Placed
 pub mod Ran
 pub mod Folding

@@ -28,11 +28,12 @@ use Rattle.obs_engine.specs.declared.status.Status.{Status}
 use Rattle.obs_engine.specs.declared.status.Status.TheVariants.{Done, Short, InputFault, SessionTooLong}
 use Rattle.obs_engine.specs.declared.words.CaseForm.{CaseForm}
 use Rattle.obs_engine.specs.declared.words.CaseForm.TheVariants.{Csv, Cdf, Matpower}
+use Rattle.obs_engine.specs.declared.words.CaseCommand.TheVariants.{Report, Place, Session, Verify}
 use Rattle.obs_engine.specs.declared.words.Form.{Form}
-use Rattle.obs_engine.specs.declared.words.Form.TheVariants.{Topology, Report, Place, Session, SessionWith, Verify, VerifyWith, Trial}
+use Rattle.obs_engine.specs.declared.words.Form.TheVariants.{Topology, Case, Trial}
 use Rattle.obs_engine.specs.Asks.{ask_reply, ask_status, placed_status, report_status}
 use Rattle.obs_engine.specs.Commands.{IsCaseReply, IsFilesReply}
-use Rattle.obs_engine.specs.Files.{case_in, case_in_files, case_of_tables, case_with_tables, certificate_in, first_too_long, parsed, unless_fault}
+use Rattle.obs_engine.specs.Files.{candidates_in, case_in, case_in_files, case_of_tables, case_with_tables, certificate_in, first_too_long, parsed, unless_fault}
 use Rattle.obs_engine.specs.Ending.{answered_before, answered_in}
 use Rattle.obs_engine.specs.Forms.{CanEnd, TakesInput}
 use Rattle.obs_engine.specs.Lines.{lines_case}
@@ -42,7 +43,7 @@ use Rattle.obs_engine.specs.Replies.{IsRefused, IsReplyTo, Reply}
 use Rattle.obs_engine.specs.Topology.{topology_reply}
 use Rattle.obs_engine.specs.Trials.{dips_of, trial_reply}
 use Rattle.obs_engine.specs.Verify.{checked_reply, claims_reply, verify_reply}
-use Rattle.obs_engine.specs.Words.{parts_of, words_of, words_with}
+use Rattle.obs_engine.specs.Words.{parts_of, words_of}
 use Rattle.obs_engine.proofs.Endings.{IsFailure}
 use Rattle.obs_engine.proofs.Turned.{dips_few}
 
@@ -67,12 +68,7 @@ case-refuses Matpower candidates file = with_tables-refuses mat_fault (file 3) c
 parsed-refuses : (form : Form) (file : ℕ → List ℕ) → RefusesInput (parsed form file)
 unfolding parsed
 parsed-refuses Topology file = tables-refuse _
-parsed-refuses (Report from) file = case-refuses from None file
-parsed-refuses (Place from) file = case-refuses from (Some (file (words_with from))) file
-parsed-refuses (Session from) file = case-refuses from None file
-parsed-refuses (SessionWith from) file = case-refuses from (Some (file (words_with from + 1))) file
-parsed-refuses (Verify from) file = case-refuses from None file
-parsed-refuses (VerifyWith from) file = case-refuses from (Some (file (words_with from + 1))) file
+parsed-refuses (Case command from) file = case-refuses from (candidates_in (Case command from) file) file
 parsed-refuses (Trial rows seed) file = tt
 
 unless-refuses : (fault : Option Fault) (next : Result Tables Reply) → RefusesInput next → RefusesInput (unless_fault fault next)
@@ -141,12 +137,10 @@ verify-can t bytes = claims-can t (claims_of bytes)
 -- the status of the reply to a case
 pub case-can : (form : Form) (input certificate : List ℕ) (t : Tables) (reply : Reply) → IsCaseReply form input certificate t reply → CanEnd form reply.status
 case-can Topology input certificate t reply is = ap (λ (r : Reply). r.status) is
-case-can (Report from) input certificate t reply is = subst (λ (r : Reply). IsVerdict r.status) (sym is) (report_status-is t)
-case-can (Place from) input certificate t reply is = subst (λ (r : Reply). IsVerdict r.status) (sym is) (placed_status-is (case_placement t))
-case-can (Session from) input certificate t reply is = subst (λ (r : Reply). CanReply r.status) (sym is) (session-can false t input)
-case-can (SessionWith from) input certificate t reply is = subst (λ (r : Reply). CanReply r.status) (sym is) (session-can true t input)
-case-can (Verify from) input certificate t reply is = subst (λ (r : Reply). CanVerify r.status) (sym is) (verify-can t certificate)
-case-can (VerifyWith from) input certificate t reply is = subst (λ (r : Reply). CanVerify r.status) (sym is) (verify-can t certificate)
+case-can (Case Report from) input certificate t reply is = subst (λ (r : Reply). IsVerdict r.status) (sym is) (report_status-is t)
+case-can (Case Place from) input certificate t reply is = subst (λ (r : Reply). IsVerdict r.status) (sym is) (placed_status-is (case_placement t))
+case-can (Case (Session offered) from) input certificate t reply is = subst (λ (r : Reply). CanReply r.status) (sym is) (session-can offered t input)
+case-can (Case (Verify offered) from) input certificate t reply is = subst (λ (r : Reply). CanVerify r.status) (sym is) (verify-can t certificate)
 case-can (Trial rows seed) input certificate t reply (searches, few, most, is) = subst (λ (r : Reply). IsVerdict r.status) (sym is) (report_status-is t)
 
 pub verdict_no_failure : (status : Status) → IsVerdict status → IsFailure status → ⊥
@@ -176,12 +170,10 @@ verify_no_failure status (inr (inr s)) f = refused_no_failure status s f
 
 end_no_failure : (form : Form) (status : Status) → CanEnd form status → IsFailure status → ⊥
 end_no_failure Topology status e = verdict_no_failure status (inl e)
-end_no_failure (Report from) status e = verdict_no_failure status e
-end_no_failure (Place from) status e = verdict_no_failure status e
-end_no_failure (Session from) status e = reply_no_failure status e
-end_no_failure (SessionWith from) status e = reply_no_failure status e
-end_no_failure (Verify from) status e = verify_no_failure status e
-end_no_failure (VerifyWith from) status e = verify_no_failure status e
+end_no_failure (Case Report from) status e = verdict_no_failure status e
+end_no_failure (Case Place from) status e = verdict_no_failure status e
+end_no_failure (Case (Session offered) from) status e = reply_no_failure status e
+end_no_failure (Case (Verify offered) from) status e = verify_no_failure status e
 end_no_failure (Trial rows seed) status e = verdict_no_failure status e
 
 pub case_no_failure : (form : Form) (input certificate : List ℕ) (t : Tables) (reply : Reply) → IsCaseReply form input certificate t reply → IsFailure reply.status → ⊥
@@ -198,12 +190,10 @@ stated_no_failure form told reply is = no_failure form told.input (certificate_i
 -- there is a reply to each case
 some_reply : (form : Form) (input certificate : List ℕ) (t : Tables) → (reply : Reply) × IsCaseReply form input certificate t reply
 some_reply Topology input certificate t = (topology_reply t, refl)
-some_reply (Report from) input certificate t = (ask_reply ReportAsk t, refl)
-some_reply (Place from) input certificate t = (ask_reply PlaceAsk t, refl)
-some_reply (Session from) input certificate t = (session_reply false t input, refl)
-some_reply (SessionWith from) input certificate t = (session_reply true t input, refl)
-some_reply (Verify from) input certificate t = (verify_reply t certificate, refl)
-some_reply (VerifyWith from) input certificate t = (verify_reply t certificate, refl)
+some_reply (Case Report from) input certificate t = (ask_reply ReportAsk t, refl)
+some_reply (Case Place from) input certificate t = (ask_reply PlaceAsk t, refl)
+some_reply (Case (Session offered) from) input certificate t = (session_reply offered t input, refl)
+some_reply (Case (Verify offered) from) input certificate t = (verify_reply t certificate, refl)
 some_reply (Trial rows seed) input certificate t = (trial_reply rows seed t (dips_of t), (dips_of t, omega arith, dips_few t, refl))
 
 -- and so one that is stated for the files of a form
@@ -227,12 +217,8 @@ nothing_in offered (Err reply) input = refl
 -- nothing is answered before the first byte of the input is taken
 pub nothing_before : (form : Form) (told : Told) (left : Option (List ℕ)) → (TakesInput (Some form) → left ≡ Some told.input) → answered_before (Some form) told left ≡ []
 nothing_before Topology told left is = refl
-nothing_before (Report from) told left is = refl
-nothing_before (Place from) told left is = refl
-nothing_before (Session from) told left is =
-    ap (λ (l : Option (List ℕ)). answered_in false (case_in_files (Session from) told.file) told.input l) (is tt) ∙ nothing_in false (case_in_files (Session from) told.file) told.input
-nothing_before (Verify from) told left is = refl
-nothing_before (VerifyWith from) told left is = refl
+nothing_before (Case Report from) told left is = refl
+nothing_before (Case Place from) told left is = refl
+nothing_before (Case (Session offered) from) told left is = ap (λ (l : Option (List ℕ)). answered_in offered (case_in_files (Case (Session offered) from) told.file) told.input l) (is tt) ∙ nothing_in offered (case_in_files (Case (Session offered) from) told.file) told.input
+nothing_before (Case (Verify offered) from) told left is = refl
 nothing_before (Trial rows seed) told left is = refl
-nothing_before (SessionWith from) told left is =
-    ap (λ (l : Option (List ℕ)). answered_in true (case_in_files (SessionWith from) told.file) told.input l) (is tt) ∙ nothing_in true (case_in_files (SessionWith from) told.file) told.input

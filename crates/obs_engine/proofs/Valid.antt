@@ -1,5 +1,5 @@
 -- Cases that files are are valid.
-use Rattle.std.proofs.Common.{◌≡◌, ◌∙◌, ◌+◌, ap, ℕ, List, None, Option, Some, Result, Ok, Err, refl, subst}
+use Rattle.std.proofs.Common.{◌≡◌, ◌∙◌, ap, ℕ, List, None, Option, Some, Result, Ok, Err, refl, subst}
 use Rattle.std.specs.Result.{MatchResult}
 use Rattle.obs_case.specs.Tables.{IsValid, Tables, no_rows}
 use Rattle.obs_case_csv.specs.declared.faults.Table.TheVariants.{Nodes, Switches}
@@ -23,12 +23,12 @@ use Rattle.obs_trial.proofs.ValidLemmas.{valid_trial}
 use Rattle.obs_engine.specs.declared.words.CaseForm.{CaseForm}
 use Rattle.obs_engine.specs.declared.words.CaseForm.TheVariants.{Csv, Cdf, Matpower}
 use Rattle.obs_engine.specs.declared.words.Form.{Form}
-use Rattle.obs_engine.specs.declared.words.Form.TheVariants.{Topology, Report, Place, Session, SessionWith, Verify, VerifyWith, Trial}
-use Rattle.obs_engine.specs.Files.{case_in, case_in_files, case_of_tables, case_with_tables, first_too_long, parsed, unless_fault}
+use Rattle.obs_engine.specs.declared.words.Form.TheVariants.{Topology, Case, Trial}
+use Rattle.obs_engine.specs.Files.{candidates_in, case_in, case_in_files, case_of_tables, case_with_tables, first_too_long, parsed, unless_fault}
 use Rattle.obs_engine.specs.Forms.{HasRows}
 use Rattle.obs_engine.specs.Laws.{CasesAreValid}
 use Rattle.obs_engine.specs.Replies.{Reply}
-use Rattle.obs_engine.specs.Words.{parts_of, words_of, words_with}
+use Rattle.obs_engine.specs.Words.{parts_of, words_of}
 
 -- a case, where there is one, is valid
 abbrev HoldsValid : Result Tables Reply → Type 0
@@ -66,12 +66,7 @@ in_form : (form : Form) (file : ℕ → List ℕ) → HasRows form → HoldsVali
 unfolding parsed
 in_form Topology file some =
     of_tables _ (reads _ _ (λ t h. h.0.valid) (then_read Switches (file 2) (then_read Nodes (file 1) (Ok no_rows))) (SwitchingIsRead-holds (file 1) (file 2)))
-in_form (Report from) file some = in_case from None file
-in_form (Place from) file some = in_case from (Some (file (words_with from))) file
-in_form (Session from) file some = in_case from None file
-in_form (SessionWith from) file some = in_case from (Some (file (words_with from + 1))) file
-in_form (Verify from) file some = in_case from None file
-in_form (VerifyWith from) file some = in_case from (Some (file (words_with from + 1))) file
+in_form (Case command from) file some = in_case from (candidates_in (Case command from) file) file
 in_form (Trial rows seed) file some = valid_trial rows seed some.0 some.1
 
 unless : (fault : Option Fault) (next : Result Tables Reply) → HoldsValid next → HoldsValid (unless_fault fault next)

@@ -1,17 +1,22 @@
 -- Which words have which form.
-use Rattle.std.proofs.Common.{◌≡◌, ◌↔◌, ◌∙◌, ◌⊎◌, inl, inr, ℕ, zero, suc, ◌+◌, ◌≤◌, Bool, true, false, ◌&&◌, Option, Some, None, List, [], ◌∷◌, ◌++◌, length, codes, refl, sym, ap, subst, arith}
+use Rattle.std.proofs.Common.{◌≡◌, ◌↔◌, ◌∙◌, ◌⊎◌, inl, inr, ℕ, zero, suc, ◌+◌, ◌≤◌, Bool, true, false, ◌&&◌, Option, Some, None, List, [], ◌∷◌, ◌++◌, length, codes, refl, sym, ap, subst, arith, map, take, drop}
 use Rattle.std.specs.Prelude.{◌==◌, if◌then◌else◌, nat_lt, slice_index_or}
+use Rattle.std.specs.List.{find}
 use Rattle.std.specs.Str.{bytes_eq}
 use Rattle.std.proofs.lemmas.Bool.{and_from, and_parts, eqb-true, lt-ltb, ltb-true}
+use Rattle.std.proofs.lemmas.List.{length-append, length-take-le, take-append-drop}
 use Rattle.obs_text.specs.Numbers.{whole_of}
 use Rattle.obs_text.proofs.ByteLemmas.{same_bytes}
 use Rattle.obs_engine.specs.declared.words.CaseForm.{CaseForm}
 use Rattle.obs_engine.specs.declared.words.CaseForm.TheVariants.{Csv, Cdf, Matpower}
+use Rattle.obs_engine.specs.declared.words.CaseCommand.{CaseCommand}
+use Rattle.obs_engine.specs.declared.words.CaseCommand.TheVariants.{Report, Place, Session, Verify}
 use Rattle.obs_engine.specs.declared.words.Form.{Form}
-use Rattle.obs_engine.specs.declared.words.Form.TheVariants.{Topology, Report, Place, Session, SessionWith, Verify, VerifyWith, Trial}
+use Rattle.obs_engine.specs.declared.words.Form.TheVariants.{Topology, Case, Trial}
 use Rattle.obs_engine.specs.Forms.{HasRows}
-use Rattle.obs_engine.specs.Laws.{IsFormOf}
-use Rattle.obs_engine.specs.Words.{case_form_of, case_parts, case_word, form_of, form_with, is_word, trial_form, words_with}
+use Rattle.obs_engine.specs.Laws.{IsFormOf, IsInUsage}
+use Rattle.obs_engine.proofs.Filed.{parts_length}
+use Rattle.obs_engine.specs.Words.{behind_case, case_commands, case_form_of, case_parts, case_word, command_word, fits, form_of, form_with, has_with, is_offered, is_word, item_if, one_if, parts_behind, takes_certificate, trial_form, word_count}
 
 -- the first test that is met
 picked : (a : Bool) (x : Form) (o : Option Form) (form : Form) → (if a then Some x else o) ≡ Some form → ((a ≡ true) × (x ≡ form)) ⊎ (o ≡ Some form)
@@ -21,6 +26,15 @@ picked false x o form e = inr e
 named : (a : Bool) (x : CaseForm) (o : Option CaseForm) (from : CaseForm) → (if a then Some x else o) ≡ Some from → ((a ≡ true) × (x ≡ from)) ⊎ (o ≡ Some from)
 named true x o from e = inl (refl, cc e)
 named false x o from e = inr e
+
+-- what a search among commands finds passes the test
+found : (test : Form → Bool) (make : CaseCommand → Form) (commands : List CaseCommand) (form : Form) → find test (map make commands) ≡ Some form
+    → (command : CaseCommand) × (make command ≡ form) × (test (make command) ≡ true)
+found test make [] form e = absurd (cc e)
+found test make (command ∷ commands) form e = elim (picked (test (make command)) (make command) (find test (map make commands)) form e) [
+  | inl h ↦ (command, h.1, h.0)
+  | inr o ↦ found test make commands form o
+]
 
 -- the case's form is that of its word
 names_case : (words : List (List ℕ)) (from : CaseForm) → case_form_of words ≡ Some from → is_word words 1 (case_word from) ≡ true
@@ -47,14 +61,11 @@ two_before [] n l = absurd (omega (arith, l))
 two_before (a ∷ []) n l = absurd (omega (arith, l))
 two_before (a ∷ b ∷ rest) n l = (a, b, rest, omega (arith, l), refl)
 
--- the last of some words
-last_of : (words : List (List ℕ)) (n : ℕ) → length words ≡ n + 1
-    → (front : List (List ℕ)) × (last : List ℕ) × (length front ≡ n) × (words ≡ front ++ (last ∷ []))
-last_of [] n l = absurd (omega (arith, l))
-last_of (a ∷ []) n l = ([], a, omega (arith, l), refl)
-last_of (a ∷ b ∷ rest) n l =
-    let t = last_of (b ∷ rest) (length rest) (omega arith) in
-    (a ∷ t.0, t.1, omega (arith, l, t.2), ap (λ (ws : List (List ℕ)). a ∷ ws) t.3)
+-- the word `with`, where it is tested
+with_at : (b : Bool) (words : List (List ℕ)) (at : ℕ) (x : List ℕ) → (if b then is_word words at (codes "with") else true) ≡ true → slice_index_or words at [] ≡ x
+    → b ≡ true → x ≡ codes "with"
+with_at true words at x t e y = word_at words at (codes "with") x t e
+with_at false words at x t e y = absurd cc
 
 -- words that name a case: the command, the word for its form, and the others
 module _ (words : List (List ℕ)) (from : CaseForm) (command : List ℕ) (n : ℕ) (many : length words ≡ 2 + n) (first : is_word words 0 command ≡ true)
@@ -66,28 +77,9 @@ module _ (words : List (List ℕ)) (from : CaseForm) (command : List ℕ) (n : �
       let b : t.1 ≡ case_word from = word_at words 1 (case_word from) t.1 second (ap (λ (ws : List (List ℕ)). slice_index_or ws 1 []) t.4) in
       (t.2, t.3, t.4 ∙ (ap (λ (x : List ℕ). x ∷ t.1 ∷ t.2) a ∙ ap (λ (x : List ℕ). command ∷ x ∷ t.2) b))
 
-report_words : (words : List (List ℕ)) (from : CaseForm) → is_word words 1 (case_word from) ≡ true
-    → ((length words == words_with from) && is_word words 0 (codes "report")) ≡ true → IsFormOf (Report from) words
-report_words words from second h =
-    let p = and_parts (length words == words_with from) (is_word words 0 (codes "report")) h in
-    words_of words from (codes "report") (length (case_parts from)) (eqb-true (length words) (words_with from) p.0) p.1 second
-
--- one word behind those that name a case
-one_behind : (words : List (List ℕ)) (from : CaseForm) (command : List ℕ) → is_word words 1 (case_word from) ≡ true
-    → ((length words == words_with from + 1) && is_word words 0 command) ≡ true
-    → (files : List (List ℕ)) × (last : List ℕ) × (length files ≡ length (case_parts from)) × (words ≡ command ∷ case_word from ∷ (files ++ (last ∷ [])))
-one_behind words from command second h =
-    let p = and_parts (length words == words_with from + 1) (is_word words 0 command) h in
-    let l = eqb-true (length words) (words_with from + 1) p.0 in
-    let t = words_of words from command (length (case_parts from) + 1) (omega (arith, l)) p.1 second in
-    let s = last_of t.0 (length (case_parts from)) t.1 in
-    (s.0, s.1, s.2, t.2 ∙ ap (λ (ws : List (List ℕ)). command ∷ case_word from ∷ ws) s.3)
-
-session_words : (words : List (List ℕ)) (from : CaseForm) → is_word words 1 (case_word from) ≡ true
-    → ((length words == words_with from) && is_word words 0 (codes "session")) ≡ true → IsFormOf (Session from) words
-session_words words from second h =
-    let p = and_parts (length words == words_with from) (is_word words 0 (codes "session")) h in
-    words_of words from (codes "session") (length (case_parts from)) (eqb-true (length words) (words_with from) p.0) p.1 second
+none : (words : List (List ℕ)) → length words ≡ 0 → words ≡ []
+none [] l = refl
+none (a ∷ words) l = absurd (omega (arith, l))
 
 two : (words : List (List ℕ)) → length words ≡ 2 → (a : List ℕ) × (b : List ℕ) × (words ≡ a ∷ b ∷ [])
 two [] l = absurd (omega (arith, l))
@@ -117,65 +109,40 @@ behind_front (x ∷ front) a rest (suc n) e = behind_front front a rest n (cc e)
 behind_two : (a b : List ℕ) (rest : List (List ℕ)) (n : ℕ) → slice_index_or (a ∷ b ∷ rest) (2 + n) [] ≡ slice_index_or rest n []
 behind_two a b rest n = let e : 2 + n ≡ suc (suc n) = omega arith in rw e refl
 
--- the word `with` and others behind those that name a case
-with_behind : (words : List (List ℕ)) (from : CaseForm) (command : List ℕ) (more : ℕ) → is_word words 1 (case_word from) ≡ true
-    → (((length words == words_with from + suc more) && is_word words 0 command) && is_word words (words_with from) (codes "with")) ≡ true
-    → (files rest : List (List ℕ)) × (length files ≡ length (case_parts from)) × (length rest ≡ more)
-    × (words ≡ command ∷ case_word from ∷ (files ++ (codes "with" ∷ rest)))
-with_behind words from command more second h =
+-- words behind those that name a case, of which the first is `with` where it stands before candidates
+rest_parted : (b : Bool) (rest : List (List ℕ)) (n more : ℕ) → length rest ≡ n + (one_if b + more) → (b ≡ true → slice_index_or rest n [] ≡ codes "with")
+    → (files behind : List (List ℕ)) × (length files ≡ n) × (length behind ≡ more) × (rest ≡ files ++ (item_if b (codes "with") ++ behind))
+rest_parted true rest n more l is =
+    let s = parted rest n more (omega (arith, l)) in
+    let word : s.1 ≡ codes "with" = sym (ap (λ (ws : List (List ℕ)). slice_index_or ws n []) s.5 ∙ behind_front s.0 s.1 s.2 n s.3) ∙ is refl in
+    (s.0, s.2, s.3, s.4, s.5 ∙ ap (λ (w : List ℕ). s.0 ++ (w ∷ s.2)) word)
+rest_parted false rest n more l is =
+    let front = length-take-le n rest (omega (arith, l)) in
+    let total = ap length (take-append-drop n rest) in
+    let sum = length-append (take n rest) (drop n rest) in
+    (take n rest, drop n rest, front, omega (arith, l, front, total, sum), sym (take-append-drop n rest))
+
+-- the words of a command over a case that they fit
+case_words : (words : List (List ℕ)) (from : CaseForm) (command : CaseCommand) → is_word words 1 (case_word from) ≡ true → fits words (Case command from) ≡ true
+    → IsFormOf (Case command from) words
+case_words words from command second h =
+    let form = Case command from in
     let n = length (case_parts from) in
-    let q = and_parts ((length words == words_with from + suc more) && is_word words 0 command) (is_word words (words_with from) (codes "with")) h in
-    let p = and_parts (length words == words_with from + suc more) (is_word words 0 command) q.0 in
-    let l = eqb-true (length words) (words_with from + suc more) p.0 in
-    let t = words_of words from command (n + suc more) (omega (arith, l)) p.1 second in
-    let s = parted t.0 n more t.1 in
-    let all : words ≡ command ∷ case_word from ∷ (s.0 ++ (s.1 ∷ s.2)) = t.2 ∙ ap (λ (ws : List (List ℕ)). command ∷ case_word from ∷ ws) s.5 in
-    let at : slice_index_or words (words_with from) [] ≡ s.1 = ap (λ (ws : List (List ℕ)). slice_index_or ws (words_with from) []) all ∙ (behind_two command (case_word from) (s.0 ++ (s.1 ∷ s.2)) n ∙ behind_front s.0 s.1 s.2 n s.3) in
-    let word : s.1 ≡ codes "with" = word_at words (words_with from) (codes "with") s.1 q.1 at in
-    (s.0, s.2, s.3, s.4, all ∙ ap (λ (w : List ℕ). command ∷ case_word from ∷ (s.0 ++ (w ∷ s.2))) word)
-
-session_with_words : (words : List (List ℕ)) (from : CaseForm) → is_word words 1 (case_word from) ≡ true
-    → (((length words == words_with from + 2) && is_word words 0 (codes "session")) && is_word words (words_with from) (codes "with")) ≡ true
-    → IsFormOf (SessionWith from) words
-session_with_words words from second h =
-    let t = with_behind words from (codes "session") 1 second h in
-    let o = one t.1 t.3 in
-    (t.0, o.0, t.2, t.4 ∙ ap (λ (ws : List (List ℕ)). codes "session" ∷ case_word from ∷ (t.0 ++ (codes "with" ∷ ws))) o.1)
-
-verify_with_words : (words : List (List ℕ)) (from : CaseForm) → is_word words 1 (case_word from) ≡ true
-    → (((length words == words_with from + 3) && is_word words 0 (codes "verify")) && is_word words (words_with from) (codes "with")) ≡ true
-    → IsFormOf (VerifyWith from) words
-verify_with_words words from second h =
-    let t = with_behind words from (codes "verify") 2 second h in
-    let o = two t.1 t.3 in
-    (t.0, o.0, o.1, t.2, t.4 ∙ ap (λ (ws : List (List ℕ)). codes "verify" ∷ case_word from ∷ (t.0 ++ (codes "with" ∷ ws))) o.2)
-
-checks_case : (words : List (List ℕ)) (from : CaseForm) (form : Form) → is_word words 1 (case_word from) ≡ true
-    → (if (length words == words_with from + 1) && is_word words 0 (codes "verify") then Some (Verify from)
-    else if ((length words == words_with from + 3) && is_word words 0 (codes "verify")) && is_word words (words_with from) (codes "with") then Some (VerifyWith from)
-    else None) ≡ Some form → IsFormOf form words
-checks_case words from form second e = elim (picked ((length words == words_with from + 1) && is_word words 0 (codes "verify")) (Verify from) _ form e) [
-  | inl h ↦ subst (λ (f : Form). IsFormOf f words) h.1 (one_behind words from (codes "verify") second h.0)
-  | inr o ↦ elim (picked (((length words == words_with from + 3) && is_word words 0 (codes "verify")) && is_word words (words_with from) (codes "with")) (VerifyWith from) None form o) [
-    | inl h ↦ subst (λ (f : Form). IsFormOf f words) h.1 (verify_with_words words from second h.0)
-    | inr n ↦ absurd (cc n)
-  ]
-]
+    let q = and_parts ((length words == word_count form) && is_word words 0 (command_word form)) (if has_with form then is_word words (behind_case form) (codes "with") else true) h in
+    let p = and_parts (length words == word_count form) (is_word words 0 (command_word form)) q.0 in
+    let l = eqb-true (length words) (word_count form) p.0 in
+    let o = one_if (is_offered form) in
+    let c = one_if (takes_certificate form) in
+    let t = words_of words from (command_word form) (n + (one_if (has_with form) + (o + c))) (omega (arith, l)) p.1 second in
+    let at : slice_index_or words (behind_case form) [] ≡ slice_index_or t.0 n [] =
+    ap (λ (ws : List (List ℕ)). slice_index_or ws (behind_case form) []) t.2 ∙ behind_two (command_word form) (case_word from) t.0 n in
+    let s = rest_parted (has_with form) t.0 n (o + c) t.1 (with_at (has_with form) words (behind_case form) (slice_index_or t.0 n []) q.1 at) in
+    (s.0, s.1, s.2, s.3 ∙ sym (parts_length form), t.2 ∙ ap (λ (ws : List (List ℕ)). command_word form ∷ case_word from ∷ ws) s.4)
 
 with_case : (words : List (List ℕ)) (from : CaseForm) (form : Form) → is_word words 1 (case_word from) ≡ true → form_with words (Some from) ≡ Some form → IsFormOf form words
-with_case words from form second e = elim (picked ((length words == words_with from) && is_word words 0 (codes "report")) (Report from) _ form e) [
-  | inl h ↦ subst (λ (f : Form). IsFormOf f words) h.1 (report_words words from second h.0)
-  | inr o ↦ elim (picked ((length words == words_with from + 1) && is_word words 0 (codes "place")) (Place from) _ form o) [
-    | inl h ↦ subst (λ (f : Form). IsFormOf f words) h.1 (one_behind words from (codes "place") second h.0)
-    | inr p ↦ elim (picked ((length words == words_with from) && is_word words 0 (codes "session")) (Session from) _ form p) [
-      | inl h ↦ subst (λ (f : Form). IsFormOf f words) h.1 (session_words words from second h.0)
-      | inr q ↦ elim (picked (((length words == words_with from + 2) && is_word words 0 (codes "session")) && is_word words (words_with from) (codes "with")) (SessionWith from) _ form q) [
-        | inl h ↦ subst (λ (f : Form). IsFormOf f words) h.1 (session_with_words words from second h.0)
-        | inr r ↦ checks_case words from form second r
-      ]
-    ]
-  ]
-]
+with_case words from form second e =
+    let f = found (fits words) (λ command. Case command from) case_commands form e in
+    subst (λ (x : Form). IsFormOf x words) f.1 (case_words words from f.0 second f.2)
 
 with_any : (words : List (List ℕ)) (form : Form) (o : Option CaseForm) → case_form_of words ≡ o → form_with words o ≡ Some form → IsFormOf form words
 with_any words form None is e = absurd (cc e)
@@ -225,8 +192,8 @@ picked_else true x o form e = inl (refl, e)
 picked_else false x o form e = inr e
 
 to_form : (words : List (List ℕ)) (form : Form) → form_of words ≡ Some form → IsFormOf form words
-to_form words form h = elim (picked ((length words == 3) && is_word words 0 (codes "topology")) Topology _ form h) [
-  | inl t ↦ subst (λ (f : Form). IsFormOf f words) t.1 (three_of words (codes "topology") t.0)
+to_form words form h = elim (picked (fits words Topology) Topology _ form h) [
+  | inl t ↦ subst (λ (f : Form). IsFormOf f words) t.1 (three_of words (codes "topology") (and_parts ((length words == 3) && is_word words 0 (codes "topology")) true t.0).0)
   | inr o ↦ elim (picked_else ((length words == 3) && is_word words 0 (codes "trial")) (trial_form (whole_of (slice_index_or words 1 [])) (whole_of (slice_index_or words 2 [])))
       (form_with words (case_form_of words)) form o) [
         | inl t ↦ trial_words words form t.0 t.1
@@ -237,12 +204,7 @@ to_form words form h = elim (picked ((length words == 3) && is_word words 0 (cod
 -- a trial has as many rows as it may have
 rows_in : (words : List (List ℕ)) (form : Form) → IsFormOf form words → HasRows form
 rows_in words Topology h = tt
-rows_in words (Report from) h = tt
-rows_in words (Place from) h = tt
-rows_in words (Session from) h = tt
-rows_in words (SessionWith from) h = tt
-rows_in words (Verify from) h = tt
-rows_in words (VerifyWith from) h = tt
+rows_in words (Case command from) h = tt
 rows_in words (Trial rows seed) (n, s, is, first, low, high, second) = (low, high)
 
 pub rows_of : (words : List (List ℕ)) (form : Form) → form_of words ≡ Some form → HasRows form
@@ -252,53 +214,36 @@ four : (words : List (List ℕ)) → length words ≡ 4 → (a : List ℕ) × (b
 four [] l = absurd (omega (arith, l))
 four (a ∷ words) l = let t = three words (omega (arith, l)) in (a, t.0, t.1, t.2, ap (λ (ws : List (List ℕ)). a ∷ ws) t.3)
 
--- words that are made of two or of four files have a form where they have it for any such files
-by_two : (f : List (List ℕ) → List (List ℕ)) (form : Form) (words files : List (List ℕ)) → length files ≡ 2 → words ≡ f files
-    → ((a b : List ℕ) → form_of (f (a ∷ b ∷ [])) ≡ Some form) → form_of words ≡ Some form
-by_two f form words files many is each = let t = two files many in subst (λ ws. form_of ws ≡ Some form) (sym (is ∙ ap f t.2)) (each t.0 t.1)
+-- what holds of any files of each form of a case
+of_files : (P : CaseForm → List (List ℕ) → Type 0) → ((a b d e : List ℕ) → P Csv (a ∷ b ∷ d ∷ e ∷ [])) → ((a b : List ℕ) → P Cdf (a ∷ b ∷ [])) → ((a b : List ℕ) → P Matpower (a ∷ b ∷ []))
+    → (from : CaseForm) (files : List (List ℕ)) → length files ≡ length (case_parts from) → P from files
+of_files P csv cdf mat Csv files l = let t = four files l in subst (P Csv) (sym t.4) (csv t.0 t.1 t.2 t.3)
+of_files P csv cdf mat Cdf files l = let t = two files l in subst (P Cdf) (sym t.2) (cdf t.0 t.1)
+of_files P csv cdf mat Matpower files l = let t = two files l in subst (P Matpower) (sym t.2) (mat t.0 t.1)
 
-by_four : (f : List (List ℕ) → List (List ℕ)) (form : Form) (words files : List (List ℕ)) → length files ≡ 4 → words ≡ f files
-    → ((a b d e : List ℕ) → form_of (f (a ∷ b ∷ d ∷ e ∷ [])) ≡ Some form) → form_of words ≡ Some form
-by_four f form words files many is each = let t = four files many in subst (λ ws. form_of ws ≡ Some form) (sym (is ∙ ap f t.4)) (each t.0 t.1 t.2 t.3)
+-- words of a command that are made of any files of a case have its form
+abbrev Has : CaseCommand → (List (List ℕ) → List (List ℕ)) → CaseForm → List (List ℕ) → Type 0
+Has command behind from files = form_of (command_word (Case command from) ∷ case_word from ∷ behind files) ≡ Some (Case command from)
+
+from_case : (command : CaseCommand) (from : CaseForm) (files behind : List (List ℕ)) → length files ≡ length (case_parts from) → length behind ≡ length (parts_behind (Case command from))
+    → Has command (λ fs. fs ++ (item_if (has_with (Case command from)) (codes "with") ++ behind)) from files
+from_case Report from files behind l m = let e = none behind m in
+    subst (λ bs. Has Report (λ fs. fs ++ bs) from files) (sym e) (of_files (Has Report (λ fs. fs ++ [])) (λ a b d e. refl) (λ a b. refl) (λ a b. refl) from files l)
+from_case Place from files behind l m = let t = one behind m in
+    subst (λ bs. Has Place (λ fs. fs ++ bs) from files) (sym t.1) (of_files (Has Place (λ fs. fs ++ (t.0 ∷ []))) (λ a b d e. refl) (λ a b. refl) (λ a b. refl) from files l)
+from_case (Session false) from files behind l m = let e = none behind m in
+    subst (λ bs. Has (Session false) (λ fs. fs ++ bs) from files) (sym e) (of_files (Has (Session false) (λ fs. fs ++ [])) (λ a b d e. refl) (λ a b. refl) (λ a b. refl) from files l)
+from_case (Session true) from files behind l m = let t = one behind m in
+    subst (λ bs. Has (Session true) (λ fs. fs ++ (codes "with" ∷ bs)) from files) (sym t.1) (of_files (Has (Session true) (λ fs. fs ++ (codes "with" ∷ t.0 ∷ []))) (λ a b d e. refl) (λ a b. refl) (λ a b. refl) from files l)
+from_case (Verify false) from files behind l m = let t = one behind m in
+    subst (λ bs. Has (Verify false) (λ fs. fs ++ bs) from files) (sym t.1) (of_files (Has (Verify false) (λ fs. fs ++ (t.0 ∷ []))) (λ a b d e. refl) (λ a b. refl) (λ a b. refl) from files l)
+from_case (Verify true) from files behind l m = let t = two behind m in
+    subst (λ bs. Has (Verify true) (λ fs. fs ++ (codes "with" ∷ bs)) from files) (sym t.2) (of_files (Has (Verify true) (λ fs. fs ++ (codes "with" ∷ t.0 ∷ t.1 ∷ []))) (λ a b d e. refl) (λ a b. refl) (λ a b. refl) from files l)
 
 from_form : (words : List (List ℕ)) (form : Form) → IsFormOf form words → form_of words ≡ Some form
 from_form words Topology h = subst (λ (ws : List (List ℕ)). form_of ws ≡ Some Topology) (sym h.2) refl
-from_form words (Report Csv) (files, many, is) =
-    by_four (λ fs. codes "report" ∷ codes "tables" ∷ fs) (Report Csv) words files many is (λ a b d e. refl)
-from_form words (Report Cdf) (files, many, is) =
-    by_two (λ fs. codes "report" ∷ codes "cdf" ∷ fs) (Report Cdf) words files many is (λ a b. refl)
-from_form words (Report Matpower) (files, many, is) =
-    by_two (λ fs. codes "report" ∷ codes "matpower" ∷ fs) (Report Matpower) words files many is (λ a b. refl)
-from_form words (Place Csv) (files, candidates, many, is) =
-    by_four (λ fs. codes "place" ∷ codes "tables" ∷ (fs ++ (candidates ∷ []))) (Place Csv) words files many is (λ a b d e. refl)
-from_form words (Place Cdf) (files, candidates, many, is) =
-    by_two (λ fs. codes "place" ∷ codes "cdf" ∷ (fs ++ (candidates ∷ []))) (Place Cdf) words files many is (λ a b. refl)
-from_form words (Place Matpower) (files, candidates, many, is) =
-    by_two (λ fs. codes "place" ∷ codes "matpower" ∷ (fs ++ (candidates ∷ []))) (Place Matpower) words files many is (λ a b. refl)
-from_form words (Session Csv) (files, many, is) =
-    by_four (λ fs. codes "session" ∷ codes "tables" ∷ fs) (Session Csv) words files many is (λ a b d e. refl)
-from_form words (Session Cdf) (files, many, is) =
-    by_two (λ fs. codes "session" ∷ codes "cdf" ∷ fs) (Session Cdf) words files many is (λ a b. refl)
-from_form words (Session Matpower) (files, many, is) =
-    by_two (λ fs. codes "session" ∷ codes "matpower" ∷ fs) (Session Matpower) words files many is (λ a b. refl)
-from_form words (SessionWith Csv) (files, candidates, many, is) =
-    by_four (λ fs. codes "session" ∷ codes "tables" ∷ (fs ++ (codes "with" ∷ candidates ∷ []))) (SessionWith Csv) words files many is (λ a b d e. refl)
-from_form words (SessionWith Cdf) (files, candidates, many, is) =
-    by_two (λ fs. codes "session" ∷ codes "cdf" ∷ (fs ++ (codes "with" ∷ candidates ∷ []))) (SessionWith Cdf) words files many is (λ a b. refl)
-from_form words (SessionWith Matpower) (files, candidates, many, is) =
-    by_two (λ fs. codes "session" ∷ codes "matpower" ∷ (fs ++ (codes "with" ∷ candidates ∷ []))) (SessionWith Matpower) words files many is (λ a b. refl)
-from_form words (Verify Csv) (files, certificate, many, is) =
-    by_four (λ fs. codes "verify" ∷ codes "tables" ∷ (fs ++ (certificate ∷ []))) (Verify Csv) words files many is (λ a b d e. refl)
-from_form words (Verify Cdf) (files, certificate, many, is) =
-    by_two (λ fs. codes "verify" ∷ codes "cdf" ∷ (fs ++ (certificate ∷ []))) (Verify Cdf) words files many is (λ a b. refl)
-from_form words (Verify Matpower) (files, certificate, many, is) =
-    by_two (λ fs. codes "verify" ∷ codes "matpower" ∷ (fs ++ (certificate ∷ []))) (Verify Matpower) words files many is (λ a b. refl)
-from_form words (VerifyWith Csv) (files, candidates, certificate, many, is) =
-    by_four (λ fs. codes "verify" ∷ codes "tables" ∷ (fs ++ (codes "with" ∷ candidates ∷ certificate ∷ []))) (VerifyWith Csv) words files many is (λ a b d e. refl)
-from_form words (VerifyWith Cdf) (files, candidates, certificate, many, is) =
-    by_two (λ fs. codes "verify" ∷ codes "cdf" ∷ (fs ++ (codes "with" ∷ candidates ∷ certificate ∷ []))) (VerifyWith Cdf) words files many is (λ a b. refl)
-from_form words (VerifyWith Matpower) (files, candidates, certificate, many, is) =
-    by_two (λ fs. codes "verify" ∷ codes "matpower" ∷ (fs ++ (codes "with" ∷ candidates ∷ certificate ∷ []))) (VerifyWith Matpower) words files many is (λ a b. refl)
+from_form words (Case command from) (files, behind, many, more, is) =
+    subst (λ (ws : List (List ℕ)). form_of ws ≡ Some (Case command from)) (sym is) (from_case command from files behind many more)
 from_form words (Trial rows seed) (n, s, is, first, low, high, second) =
     subst (λ (ws : List (List ℕ)). form_of ws ≡ Some (Trial rows seed)) (sym is)
     (subst (λ (o : Option ℕ). trial_form o (whole_of s) ≡ Some (Trial rows seed)) (sym first)
@@ -307,3 +252,14 @@ from_form words (Trial rows seed) (n, s, is, first, low, high, second) =
 
 pub form_exactly : (words : List (List ℕ)) (form : Form) → (form_of words ≡ Some form) ↔ IsFormOf form words
 form_exactly words form = (to_form words form, from_form words form)
+
+-- the usage line names each form
+pub in_usage : (form : Form) → IsInUsage form
+in_usage Topology = (codes "usage: obs", codes " | report FORM | place FORM CAND | session FORM | verify FORM CERT | trial N SEED\n", refl)
+in_usage (Case Report from) = (codes "usage: obs topology N S |", codes " | place FORM CAND | session FORM | verify FORM CERT | trial N SEED\n", refl)
+in_usage (Case Place from) = (codes "usage: obs topology N S | report FORM |", codes " | session FORM | verify FORM CERT | trial N SEED\n", refl)
+in_usage (Case (Session false) from) = (codes "usage: obs topology N S | report FORM | place FORM CAND |", codes " | verify FORM CERT | trial N SEED\n", refl)
+in_usage (Case (Session true) from) = (codes "usage: obs topology N S | report FORM | place FORM CAND |", codes " | verify FORM CERT | trial N SEED\n", refl)
+in_usage (Case (Verify false) from) = (codes "usage: obs topology N S | report FORM | place FORM CAND | session FORM |", codes " | trial N SEED\n", refl)
+in_usage (Case (Verify true) from) = (codes "usage: obs topology N S | report FORM | place FORM CAND | session FORM |", codes " | trial N SEED\n", refl)
+in_usage (Trial rows seed) = (codes "usage: obs topology N S | report FORM | place FORM CAND | session FORM | verify FORM CERT |", codes "\n", refl)

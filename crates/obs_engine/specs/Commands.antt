@@ -1,9 +1,10 @@
 -- What each command answers.
-use Rattle.std.specs.Prelude.{ℕ, ◌≡◌, true, false, List}
+use Rattle.std.specs.Prelude.{ℕ, ◌≡◌, List}
 use Rattle.obs_case.specs.Tables.{Tables}
 use Rattle.obs_script.specs.declared.command.Ask.TheVariants.{Report as ReportAsk, Place as PlaceAsk}
+use Rattle.obs_engine.specs.declared.words.CaseCommand.TheVariants.{Report, Place, Session, Verify}
 use Rattle.obs_engine.specs.declared.words.Form.{Form}
-use Rattle.obs_engine.specs.declared.words.Form.TheVariants.{Topology, Report, Place, Session, SessionWith, Verify, VerifyWith, Trial}
+use Rattle.obs_engine.specs.declared.words.Form.TheVariants.{Topology, Case, Trial}
 use Rattle.obs_engine.specs.Asks.{ask_reply}
 use Rattle.obs_engine.specs.Files.{case_in_files, certificate_in}
 use Rattle.obs_engine.specs.Replies.{IsReplyTo, Reply}
@@ -16,12 +17,10 @@ use Rattle.obs_engine.specs.Verify.{verify_reply}
 -- free, that of the searches
 abbrev pub IsCaseReply : Form → List ℕ → List ℕ → Tables → Reply → Type 0
 IsCaseReply Topology input certificate t reply = reply ≡ topology_reply t
-IsCaseReply (Report from) input certificate t reply = reply ≡ ask_reply ReportAsk t
-IsCaseReply (Place from) input certificate t reply = reply ≡ ask_reply PlaceAsk t
-IsCaseReply (Session from) input certificate t reply = reply ≡ session_reply false t input
-IsCaseReply (SessionWith from) input certificate t reply = reply ≡ session_reply true t input
-IsCaseReply (Verify from) input certificate t reply = reply ≡ verify_reply t certificate
-IsCaseReply (VerifyWith from) input certificate t reply = reply ≡ verify_reply t certificate
+IsCaseReply (Case Report from) input certificate t reply = reply ≡ ask_reply ReportAsk t
+IsCaseReply (Case Place from) input certificate t reply = reply ≡ ask_reply PlaceAsk t
+IsCaseReply (Case (Session offered) from) input certificate t reply = reply ≡ session_reply offered t input
+IsCaseReply (Case (Verify offered) from) input certificate t reply = reply ≡ verify_reply t certificate
 IsCaseReply (Trial rows seed) input certificate t reply = IsTrialReply rows seed t reply
 
 -- the reply to the contents of a form's files, and in a session to an input

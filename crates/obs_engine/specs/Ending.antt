@@ -1,11 +1,12 @@
 -- How a run may end, where the outside tells its bytes.
-use Rattle.std.specs.Prelude.{ℕ, ◌≡◌, ◌+◌, Bool, true, false, List, [], length, Option, None, Some, Result, Ok, Err}
+use Rattle.std.specs.Prelude.{ℕ, ◌≡◌, ◌+◌, Bool, List, [], length, Option, Some, Result, Ok, Err}
 use Rattle.obs_case.specs.Tables.{Tables}
 use Rattle.obs_io.specs.Bytes.{Wrote, WrotePart}
 use Rattle.obs_engine.specs.declared.status.Status.{Status}
 use Rattle.obs_engine.specs.declared.status.Status.TheVariants.{Done, Short, Usage, InputFault, ReadFault, WriteFault, NoMemory, SessionTooLong}
+use Rattle.obs_engine.specs.declared.words.CaseCommand.TheVariants.{Session}
 use Rattle.obs_engine.specs.declared.words.Form.{Form}
-use Rattle.obs_engine.specs.declared.words.Form.TheVariants.{Topology, Report, Place, Session, SessionWith, Verify, VerifyWith, Trial}
+use Rattle.obs_engine.specs.declared.words.Form.TheVariants.{Case}
 use Rattle.obs_engine.specs.Files.{case_in_files}
 use Rattle.obs_engine.specs.Replies.{Reply}
 use Rattle.obs_engine.specs.Sessions.{answered_within}
@@ -18,15 +19,9 @@ answered_in offered (Err reply) input left = []
 
 -- what had been answered when a read failed and these bytes of the input were left: nothing, but for forms that take the input
 abbrev pub answered_before : Option Form → Told → Option (List ℕ) → List ℕ
-answered_before None told left = []
-answered_before (Some Topology) told left = []
-answered_before (Some (Report from)) told left = []
-answered_before (Some (Place from)) told left = []
-answered_before (Some (Session from)) told left = answered_in false (case_in_files (Session from) told.file) told.input left
-answered_before (Some (SessionWith from)) told left = answered_in true (case_in_files (SessionWith from) told.file) told.input left
-answered_before (Some (Verify from)) told left = []
-answered_before (Some (VerifyWith from)) told left = []
-answered_before (Some (Trial rows seed)) told left = []
+answered_before (Some (Case (Session offered) from)) told left =
+    answered_in offered (case_in_files (Case (Session offered) from) told.file) told.input left
+answered_before form told left = []
 
 -- the run wrote the whole stated text and answered the stated status
 abbrev pub Answers : Option Form → Told → Status → Option (List ℕ) → Option (List ℕ) → Type 0

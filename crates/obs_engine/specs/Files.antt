@@ -1,5 +1,5 @@
 -- What files hold: a case, or the reply that they get where they are none.
-use Rattle.std.specs.Prelude.{ℕ, ◌+◌, Bool, nat_lt, List, [], ◌∷◌, length, Option, None, Some, Result, Ok, Err, if◌then◌else◌}
+use Rattle.std.specs.Prelude.{ℕ, Bool, nat_lt, List, [], ◌∷◌, length, Option, None, Some, Result, Ok, Err, if◌then◌else◌}
 use Rattle.obs_text.specs.Faults.{Fault, too_long}
 use Rattle.obs_text.specs.Limits.{most_file_bytes}
 use Rattle.obs_case.specs.Tables.{Tables, no_rows}
@@ -16,9 +16,9 @@ use Rattle.obs_trial.specs.Trial.{trial_of}
 use Rattle.obs_engine.specs.declared.words.CaseForm.{CaseForm}
 use Rattle.obs_engine.specs.declared.words.CaseForm.TheVariants.{Csv, Cdf, Matpower}
 use Rattle.obs_engine.specs.declared.words.Form.{Form}
-use Rattle.obs_engine.specs.declared.words.Form.TheVariants.{Topology, Report, Place, Session, SessionWith, Verify, VerifyWith, Trial}
+use Rattle.obs_engine.specs.declared.words.Form.TheVariants.{Topology, Case, Trial}
 use Rattle.obs_engine.specs.Replies.{Reply, fault_reply}
-use Rattle.obs_engine.specs.Words.{parts_of, words_of, words_with}
+use Rattle.obs_engine.specs.Words.{candidates_at, certificate_at, is_offered, parts_of, takes_certificate, words_of}
 
 -- whether bytes are more than a file may have
 abbrev pub is_too_long : List ℕ → Bool
@@ -51,15 +51,14 @@ case_in Csv candidates file = case_of_tables (tables_in (file 2) (file 3) (file 
 case_in Cdf candidates file = case_with_tables cdf_fault (file 3) candidates (cdf_of (file 2))
 case_in Matpower candidates file = case_with_tables mat_fault (file 3) candidates (mat_of (file 2))
 
+-- the bytes of the candidates, where they stand with the case
+abbrev pub candidates_in : Form → (ℕ → List ℕ) → Option (List ℕ)
+candidates_in form file = if is_offered form then Some (file (candidates_at form)) else None
+
 -- the case that files of this form are, none of which is too long. That of a trial is generated
 unfoldable pub parsed : Form → (ℕ → List ℕ) → Result Tables Reply
 parsed Topology file = switching_case (file 1) (file 2)
-parsed (Report from) file = case_in from None file
-parsed (Place from) file = case_in from (Some (file (words_with from))) file
-parsed (Session from) file = case_in from None file
-parsed (SessionWith from) file = case_in from (Some (file (words_with from + 1))) file
-parsed (Verify from) file = case_in from None file
-parsed (VerifyWith from) file = case_in from (Some (file (words_with from + 1))) file
+parsed (Case command from) file = case_in from (candidates_in (Case command from) file) file
 parsed (Trial rows seed) file = Ok (trial_of rows seed)
 
 -- what comes next, unless there is a fault
@@ -73,11 +72,4 @@ case_in_files form file = unless_fault (first_too_long (parts_of form) file (wor
 
 -- the bytes of the certificate, which is the last file; none of a form that takes none
 abbrev pub certificate_in : Form → (ℕ → List ℕ) → List ℕ
-certificate_in Topology file = []
-certificate_in (Report from) file = []
-certificate_in (Place from) file = []
-certificate_in (Session from) file = []
-certificate_in (SessionWith from) file = []
-certificate_in (Verify from) file = file (words_with from)
-certificate_in (VerifyWith from) file = file (words_with from + 2)
-certificate_in (Trial rows seed) file = []
+certificate_in form file = if takes_certificate form then file (certificate_at form) else []

@@ -5,8 +5,9 @@ use Rattle.obs_io.specs.Causes.{Rose}
 use Rattle.obs_matroid.specs.Lists.{In}
 use Rattle.obs_engine.specs.declared.status.Status.{Status}
 use Rattle.obs_engine.specs.declared.status.Status.TheVariants.{Done, Short, Usage, InputFault, ReadFault, WriteFault, NoMemory, SessionTooLong}
+use Rattle.obs_engine.specs.declared.words.CaseCommand.TheVariants.{Session, Verify}
 use Rattle.obs_engine.specs.declared.words.Form.{Form}
-use Rattle.obs_engine.specs.declared.words.Form.TheVariants.{Topology, Report, Place, Session, SessionWith, Verify, VerifyWith, Trial}
+use Rattle.obs_engine.specs.declared.words.Form.TheVariants.{Topology, Case, Trial}
 use Rattle.obs_engine.specs.Files.{case_in_files, is_too_long}
 use Rattle.obs_engine.specs.Words.{file_words}
 
@@ -15,37 +16,20 @@ IsFileWord form w = In w (file_words form)
 
 -- whether a form takes the input
 abbrev pub TakesInput : Option Form → Type 0
-TakesInput None = ⊥
-TakesInput (Some Topology) = ⊥
-TakesInput (Some (Report from)) = ⊥
-TakesInput (Some (Place from)) = ⊥
-TakesInput (Some (Session from)) = Unit {0}
-TakesInput (Some (SessionWith from)) = Unit {0}
-TakesInput (Some (Verify from)) = ⊥
-TakesInput (Some (VerifyWith from)) = ⊥
-TakesInput (Some (Trial rows seed)) = ⊥
+TakesInput (Some (Case (Session offered) from)) = Unit {0}
+TakesInput form = ⊥
 
 -- a trial has from 1 to 100 rows
 abbrev pub HasRows : Form → Type 0
-HasRows Topology = Unit {0}
-HasRows (Report from) = Unit {0}
-HasRows (Place from) = Unit {0}
-HasRows (Session from) = Unit {0}
-HasRows (SessionWith from) = Unit {0}
-HasRows (Verify from) = Unit {0}
-HasRows (VerifyWith from) = Unit {0}
 HasRows (Trial rows seed) = (1 ≤ rows) × (rows ≤ 100)
+HasRows form = Unit {0}
 
 -- the statuses of a form whose case was answered. Where a certificate is checked, its own fault is an answer too
 abbrev pub CanEnd : Form → Status → Type 0
 CanEnd Topology status = status ≡ Done
-CanEnd (Report from) status = (status ≡ Done) ⊎ (status ≡ Short)
-CanEnd (Place from) status = (status ≡ Done) ⊎ (status ≡ Short)
-CanEnd (Session from) status = (status ≡ Done) ⊎ (status ≡ Short) ⊎ (status ≡ SessionTooLong)
-CanEnd (SessionWith from) status = (status ≡ Done) ⊎ (status ≡ Short) ⊎ (status ≡ SessionTooLong)
-CanEnd (Verify from) status = (status ≡ Done) ⊎ (status ≡ Short) ⊎ (status ≡ InputFault)
-CanEnd (VerifyWith from) status = (status ≡ Done) ⊎ (status ≡ Short) ⊎ (status ≡ InputFault)
-CanEnd (Trial rows seed) status = (status ≡ Done) ⊎ (status ≡ Short)
+CanEnd (Case (Session offered) from) status = (status ≡ Done) ⊎ (status ≡ Short) ⊎ (status ≡ SessionTooLong)
+CanEnd (Case (Verify offered) from) status = (status ≡ Done) ⊎ (status ≡ Short) ⊎ (status ≡ InputFault)
+CanEnd form status = (status ≡ Done) ⊎ (status ≡ Short)
 
 -- the statuses of a form whose files are refused, or where something failed
 abbrev pub CanStop : Status → Type 0

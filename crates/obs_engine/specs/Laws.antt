@@ -6,12 +6,13 @@ use Rattle.obs_exchange.specs.Critical.{IsCriticalAt}
 use Rattle.obs_network.specs.Network.{case_branches, case_meters}
 use Rattle.obs_network.specs.Observable.{case_live_meters, item_component}
 use Rattle.obs_engine.specs.declared.words.CaseForm.{CaseForm}
+use Rattle.obs_engine.specs.declared.words.CaseCommand.TheVariants.{Report}
 use Rattle.obs_engine.specs.declared.words.Form.{Form}
-use Rattle.obs_engine.specs.declared.words.Form.TheVariants.{Topology, Report, Place, Session, SessionWith, Verify, VerifyWith, Trial}
+use Rattle.obs_engine.specs.declared.words.Form.TheVariants.{Topology, Case, Trial}
 use Rattle.obs_engine.specs.Files.{case_in_files}
 use Rattle.obs_engine.specs.Forms.{HasRows}
-use Rattle.obs_engine.specs.Replies.{Reply}
-use Rattle.obs_engine.specs.Words.{case_parts, case_word}
+use Rattle.obs_engine.specs.Replies.{Reply, usage_reply}
+use Rattle.obs_engine.specs.Words.{case_parts, case_word, command_word, has_with, item_if, parts_behind, usage_of}
 use Rattle.obs_network.specs.Network.{case_needed}
 use Rattle.obs_report.specs.Lines.{ok_line, refused_line}
 use Rattle.obs_script.specs.declared.command.Ask.{Ask}
@@ -39,28 +40,19 @@ ListsNonCritical =
 abbrev pub CasesAreValid : Type 0
 CasesAreValid = (form : Form) (file : ℕ → List ℕ) (t : Tables) → HasRows form → case_in_files form file ≡ Ok t → IsValid t
 
--- the words have this form: a command's word, where it takes a case the word of the case's form, and then a word for each file; of a
--- trial two numbers
+-- the words have this form: a command's word, where it takes a case the word of the case's form, and then a word for each file, with
+-- the word `with` before candidates where the command has it; of a trial two numbers
 abbrev pub IsFormOf : Form → List (List ℕ) → Type 0
 IsFormOf Topology words = (n : List ℕ) × (s : List ℕ) × (words ≡ codes "topology" ∷ n ∷ s ∷ [])
-IsFormOf (Report from) words =
-    (files : List (List ℕ)) × (length files ≡ length (case_parts from)) × (words ≡ codes "report" ∷ case_word from ∷ files)
-IsFormOf (Place from) words =
-    (files : List (List ℕ)) × (candidates : List ℕ) × (length files ≡ length (case_parts from))
-    × (words ≡ codes "place" ∷ case_word from ∷ (files ++ (candidates ∷ [])))
-IsFormOf (Session from) words =
-    (files : List (List ℕ)) × (length files ≡ length (case_parts from)) × (words ≡ codes "session" ∷ case_word from ∷ files)
-IsFormOf (SessionWith from) words =
-    (files : List (List ℕ)) × (candidates : List ℕ) × (length files ≡ length (case_parts from))
-    × (words ≡ codes "session" ∷ case_word from ∷ (files ++ (codes "with" ∷ candidates ∷ [])))
-IsFormOf (Verify from) words =
-    (files : List (List ℕ)) × (certificate : List ℕ) × (length files ≡ length (case_parts from))
-    × (words ≡ codes "verify" ∷ case_word from ∷ (files ++ (certificate ∷ [])))
-IsFormOf (VerifyWith from) words =
-    (files : List (List ℕ)) × (candidates certificate : List ℕ) × (length files ≡ length (case_parts from))
-    × (words ≡ codes "verify" ∷ case_word from ∷ (files ++ (codes "with" ∷ candidates ∷ certificate ∷ [])))
+IsFormOf (Case command from) words =
+    (files behind : List (List ℕ)) × (length files ≡ length (case_parts from)) × (length behind ≡ length (parts_behind (Case command from)))
+    × (words ≡ command_word (Case command from) ∷ case_word from ∷ (files ++ (item_if (has_with (Case command from)) (codes "with") ++ behind)))
 IsFormOf (Trial rows seed) words =
     (n s : List ℕ) × (words ≡ codes "trial" ∷ n ∷ s ∷ []) × (whole_of n ≡ Some rows) × (1 ≤ rows) × (rows ≤ 100) × (whole_of s ≡ Some seed)
+
+-- the usage line names a form: what it says of the form stands in it, behind a space
+abbrev pub IsInUsage : Form → Type 0
+IsInUsage form = (before behind : List ℕ) × (usage_reply.text ≡ before ++ (codes " " ++ (usage_of form ++ behind)))
 
 -- of a session's lines an edit alone changes the present case: it sets its flag
 pub record EditsAloneChange (offered : Bool) (t : Tables) (line : List ℕ) : Type 0 where
@@ -81,7 +73,7 @@ pub record IsAnswerTo (offered : Bool) (t : Tables) (line : List ℕ) : Type 0 w
 -- the answer to the line `report` is what the command prints of the present case
 abbrev pub ReportsAsTheCommand : Type 0
 ReportsAsTheCommand =
-    (offered : Bool) (t : Tables) (from : CaseForm) (input certificate : List ℕ) (reply : Reply) → IsCaseReply (Report from) input certificate t reply
+    (offered : Bool) (t : Tables) (from : CaseForm) (input certificate : List ℕ) (reply : Reply) → IsCaseReply (Case Report from) input certificate t reply
     → line_text offered t (codes "report") ≡ reply.text
 
 -- after lines that lead to one present case, in whatever order, all further lines get the same answers

@@ -1,12 +1,14 @@
 -- Which words have which form, and which of them name files.
-use Rattle.std.specs.Prelude.{ℕ, ◌+◌, ◌==◌, ◌&&◌, Bool, true, false, nat_lt, List, [], ◌∷◌, ◌++◌, length, codes, Option, None, Some, if◌then◌else◌, slice_index_or}
-use Rattle.std.specs.List.{range_with_len}
+use Rattle.std.specs.Prelude.{ℕ, ◌+◌, ◌==◌, ◌&&◌, not, Bool, true, false, nat_lt, List, [], ◌∷◌, ◌++◌, length, codes, map, Option, None, Some, if◌then◌else◌, slice_index_or}
+use Rattle.std.specs.List.{find, range_with_len}
 use Rattle.std.specs.Str.{bytes_eq}
 use Rattle.obs_text.specs.Numbers.{whole_of}
 use Rattle.obs_engine.specs.declared.words.CaseForm.{CaseForm}
 use Rattle.obs_engine.specs.declared.words.CaseForm.TheVariants.{Csv, Cdf, Matpower}
+use Rattle.obs_engine.specs.declared.words.CaseCommand.{CaseCommand}
+use Rattle.obs_engine.specs.declared.words.CaseCommand.TheVariants.{Report, Place, Session, Verify}
 use Rattle.obs_engine.specs.declared.words.Form.{Form}
-use Rattle.obs_engine.specs.declared.words.Form.TheVariants.{Topology, Report, Place, Session, SessionWith, Verify, VerifyWith, Trial}
+use Rattle.obs_engine.specs.declared.words.Form.TheVariants.{Topology, Case, Trial}
 
 -- the word that names a case's form
 abbrev pub case_word : CaseForm → List ℕ
@@ -20,47 +22,79 @@ case_parts Csv = codes "nodes" ∷ codes "switches" ∷ codes "branches" ∷ cod
 case_parts Cdf = codes "cdf" ∷ codes "meters" ∷ []
 case_parts Matpower = codes "matpower" ∷ codes "meters" ∷ []
 
--- the same for all files of a form of words
-abbrev pub parts_of : Form → List (List ℕ)
-parts_of Topology = codes "nodes" ∷ codes "switches" ∷ []
-parts_of (Report from) = case_parts from
-parts_of (Place from) = case_parts from ++ (codes "candidates" ∷ [])
-parts_of (Session from) = case_parts from
-parts_of (SessionWith from) = case_parts from ++ (codes "candidates" ∷ [])
-parts_of (Verify from) = case_parts from ++ (codes "certificate" ∷ [])
-parts_of (VerifyWith from) = case_parts from ++ (codes "candidates" ∷ codes "certificate" ∷ [])
-parts_of (Trial rows seed) = []
+-- a list of one item where a test is met, else none
+abbrev pub item_if : {A : Type 0} → Bool → A → List A
+item_if b x = if b then x ∷ [] else []
 
--- how many words name a case: the command, the word for its form, and its files
-abbrev pub words_with : CaseForm → ℕ
-words_with from = 2 + length (case_parts from)
+-- one where a test is met, else none
+abbrev pub one_if : Bool → ℕ
+one_if b = if b then 1 else 0
 
--- the positions of the words that name a case's files: they stand behind the command and the word for its form
-abbrev pub case_words : CaseForm → List ℕ
-case_words from = range_with_len 2 (length (case_parts from))
+-- the word of a form's command
+abbrev pub command_word : Form → List ℕ
+command_word Topology = codes "topology"
+command_word (Case Report from) = codes "report"
+command_word (Case Place from) = codes "place"
+command_word (Case (Session offered) from) = codes "session"
+command_word (Case (Verify offered) from) = codes "verify"
+command_word (Trial rows seed) = codes "trial"
 
--- the positions of the words that name a form's files, in the order in which these are read. In a session, and where a certificate is
--- checked, the word `with` stands before that of the candidates
-abbrev pub words_of : Form → List ℕ
-words_of Topology = 1 ∷ 2 ∷ []
-words_of (Report from) = case_words from
-words_of (Place from) = case_words from ++ (words_with from ∷ [])
-words_of (Session from) = case_words from
-words_of (SessionWith from) = case_words from ++ ((words_with from + 1) ∷ [])
-words_of (Verify from) = case_words from ++ (words_with from ∷ [])
-words_of (VerifyWith from) = case_words from ++ ((words_with from + 1) ∷ (words_with from + 2) ∷ [])
-words_of (Trial rows seed) = []
+-- whether candidates stand with the case, and the word `with` before that of theirs
+abbrev pub has_with : Form → Bool
+has_with (Case (Session offered) from) = offered
+has_with (Case (Verify offered) from) = offered
+has_with form = false
+
+-- whether candidates stand with the case, behind the word `with` or without it
+abbrev pub is_offered : Form → Bool
+is_offered (Case Place from) = true
+is_offered form = has_with form
 
 -- whether a form takes a certificate, which is its last file
 abbrev pub takes_certificate : Form → Bool
-takes_certificate Topology = false
-takes_certificate (Report from) = false
-takes_certificate (Place from) = false
-takes_certificate (Session from) = false
-takes_certificate (SessionWith from) = false
-takes_certificate (Verify from) = true
-takes_certificate (VerifyWith from) = true
-takes_certificate (Trial rows seed) = false
+takes_certificate (Case (Verify offered) from) = true
+takes_certificate form = false
+
+-- which part of the input each file of a form's case is, in the order of the words
+abbrev pub first_parts : Form → List (List ℕ)
+first_parts Topology = codes "nodes" ∷ codes "switches" ∷ []
+first_parts (Case command from) = case_parts from
+first_parts (Trial rows seed) = []
+
+-- the same of the files behind those of the case
+abbrev pub parts_behind : Form → List (List ℕ)
+parts_behind form = item_if (is_offered form) (codes "candidates") ++ item_if (takes_certificate form) (codes "certificate")
+
+-- the same of all files of a form
+abbrev pub parts_of : Form → List (List ℕ)
+parts_of form = first_parts form ++ parts_behind form
+
+-- the position of the first word that names a file: behind the command, and behind the word for the form of a case
+abbrev pub first_word : Form → ℕ
+first_word (Case command from) = 2
+first_word form = 1
+
+-- the position behind the words that name the files of a form's case
+abbrev pub behind_case : Form → ℕ
+behind_case form = first_word form + length (first_parts form)
+
+-- the position of the word that names the candidates, where they stand with the case
+abbrev pub candidates_at : Form → ℕ
+candidates_at form = behind_case form + one_if (has_with form)
+
+-- the position of the word that names the certificate, where the form takes one
+abbrev pub certificate_at : Form → ℕ
+certificate_at form = candidates_at form + one_if (is_offered form)
+
+-- how many words a form has whose words name files
+abbrev pub word_count : Form → ℕ
+word_count form = certificate_at form + one_if (takes_certificate form)
+
+-- the positions of the words that name a form's files, in the order in which these are read
+abbrev pub words_of : Form → List ℕ
+words_of form =
+    range_with_len (first_word form) (length (first_parts form))
+    ++ (item_if (is_offered form) (candidates_at form) ++ item_if (takes_certificate form) (certificate_at form))
 
 -- the same where the words have a form, and else none
 abbrev pub file_words : Option Form → List ℕ
@@ -79,19 +113,20 @@ case_form_of words =
     else if is_word words 1 (case_word Matpower) then Some Matpower
     else None
 
+-- the commands over a case, those with candidates behind the word `with` too
+abbrev pub case_commands : List CaseCommand
+case_commands = Report ∷ Place ∷ Session false ∷ Session true ∷ Verify false ∷ Verify true ∷ []
+
+-- whether words are those of a form: so many, the command first, and the word `with` where it stands before candidates
+abbrev pub fits : List (List ℕ) → Form → Bool
+fits words form =
+    ((length words == word_count form) && is_word words 0 (command_word form))
+    && (if has_with form then is_word words (behind_case form) (codes "with") else true)
+
 -- the form of words that name a case of this form, or none
 abbrev pub form_with : List (List ℕ) → Option CaseForm → Option Form
 form_with words None = None
-form_with words (Some from) =
-    if (length words == words_with from) && is_word words 0 (codes "report") then Some (Report from)
-    else if (length words == words_with from + 1) && is_word words 0 (codes "place") then Some (Place from)
-    else if (length words == words_with from) && is_word words 0 (codes "session") then Some (Session from)
-    else if ((length words == words_with from + 2) && is_word words 0 (codes "session")) && is_word words (words_with from) (codes "with")
-    then Some (SessionWith from)
-    else if (length words == words_with from + 1) && is_word words 0 (codes "verify") then Some (Verify from)
-    else if ((length words == words_with from + 3) && is_word words 0 (codes "verify")) && is_word words (words_with from) (codes "with")
-    then Some (VerifyWith from)
-    else None
+form_with words (Some from) = find (fits words) (map (λ command. Case command from) case_commands)
 
 -- a trial of a number of rows from 1 to 100 and of any seed, where both are numbers
 abbrev pub trial_form : Option ℕ → Option ℕ → Option Form
@@ -102,7 +137,18 @@ trial_form None seed = None
 -- the form that the words have
 abbrev pub form_of : List (List ℕ) → Option Form
 form_of words =
-    if (length words == 3) && is_word words 0 (codes "topology") then Some Topology
+    if fits words Topology then Some Topology
     else if (length words == 3) && is_word words 0 (codes "trial")
     then trial_form (whole_of (slice_index_or words 1 [])) (whole_of (slice_index_or words 2 []))
     else form_with words (case_form_of words)
+
+-- what the usage line says of a form: its words, with FORM for those that name a case and one word for each other file. That a case
+-- may stand with candidates behind the word `with` it doesn't say
+abbrev pub usage_of : Form → List ℕ
+usage_of Topology = codes "topology N S"
+usage_of (Case command from) =
+    command_word (Case command from)
+    ++ (codes " FORM"
+    ++ ((if is_offered (Case command from) && not (has_with (Case command from)) then codes " CAND" else [])
+    ++ (if takes_certificate (Case command from) then codes " CERT" else [])))
+usage_of (Trial rows seed) = codes "trial N SEED"

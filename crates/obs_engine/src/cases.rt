@@ -8,14 +8,14 @@ ghost use Rattle.obs_ieee_cdf.specs.Rows.{cdf_of};
 ghost use Rattle.obs_matpower.specs.Faults.{mat_fault};
 ghost use Rattle.obs_matpower.specs.Read.{mat_of};
 ghost use Rattle.obs_trial.specs.Trial.{trial_of};
-ghost use Rattle.obs_engine.specs.Files.{case_in, case_of_tables, case_with_tables, certificate_in, parsed, switching_case};
+ghost use Rattle.obs_engine.specs.Files.{candidates_in, case_in, case_of_tables, case_with_tables, certificate_in, parsed, switching_case};
 ghost use Rattle.obs_engine.specs.Forms.{AreFiles, HasRows, IsFileWord, ReadFailed};
 ghost use Rattle.obs_engine.specs.Taken.{IsOfFiles, IsTaken, bytes_of};
-ghost use Rattle.obs_engine.specs.Words.{case_parts, file_words, takes_certificate, words_of};
+ghost use Rattle.obs_engine.specs.Words.{case_parts, file_words, words_of};
 
 use crate::files::take_files;
 use crate::taken::{CaseError, Taken};
-use crate::words::{CaseForm, Form, file_words, parts};
+use crate::words::{CaseForm, Form};
 use obs_case::Case;
 use obs_case_csv::{Table, TableEnd, read_table, read_tables};
 use obs_ieee_cdf::{CdfEnd, read_cdf};
@@ -134,6 +134,19 @@ fn read_case(
     }
 }
 
+// The bytes of the candidates, where they stand with the case: their file is the first behind those of the case.
+fn candidates_of(form: Form, contents: &[Vec<u8>]) -> Option<&[u8]>
+    requires count { length contents.now ≡ length (words_of form) }
+    ensures candidates { (file : ℕ → List ℕ) → bytes_of contents.now ≡ map file (words_of form)
+        → option_map (λ bytes. bytes.now) result ≡ candidates_in form file }
+{
+    if form.is_offered() {
+        Some(&contents[form.case_files()])
+    } else {
+        None
+    }
+}
+
 // A generated case.
 fn generate(alloc: Global, rows: u32, seed: u64) -> Result<Case, CaseError>
     requires low { 1 ≤ rows }
@@ -159,32 +172,8 @@ fn read_form(alloc: Global, form: Form, contents: &[Vec<u8>]) -> Result<Case, Ca
 {
     match form {
         Form::Topology => read_switching(alloc, &contents[0], &contents[1]),
-        Form::Report(from) => read_case(alloc, from, contents, None),
-        Form::Place(from) => {
-            let candidates = &contents[contents.len() - 1];
-            read_case(alloc, from, contents, Some(candidates))
-        }
-        Form::Session(from) => read_case(alloc, from, contents, None),
-        Form::SessionWith(from) => {
-            let offered = &contents[contents.len() - 1];
-            read_case(alloc, from, contents, Some(offered))
-        }
-        Form::Verify(from) => read_case(alloc, from, contents, None),
-        Form::VerifyWith(from) => {
-            let beside = &contents[contents.len() - 2];
-            read_case(alloc, from, contents, Some(beside))
-        }
+        Form::Case(_, from) => { read_case(alloc, from, contents, candidates_of(form, contents)) }
         Form::Trial { rows, seed } => generate(alloc, rows, seed),
-    }
-}
-
-// Whether a form takes a certificate.
-fn is_verify(form: Form) -> bool
-    ensures is { result ≡ takes_certificate form }
-{
-    match form {
-        Form::Verify(_) | Form::VerifyWith(_) => true,
-        _ => false,
     }
 }
 
@@ -196,7 +185,7 @@ fn certificate_of(alloc: Global, form: Form, mut contents: Vec<Vec<u8>>) -> Vec<
         → result.items ≡ certificate_in form file }
     ensures short { vec_len result ≤ most_file_bytes }
 {
-    if !is_verify(form) {
+    if !form.takes_certificate() {
         return Vec::new(alloc);
     }
     match contents.pop() {
@@ -222,7 +211,7 @@ pub(crate) fn take_case<F: Files>(
     ensures steady { ((w : ℕ) → IsFileWord (Some form) w → F.steady files.old w) →
         IsErrOf result CaseError.Read → ⊥ }
 {
-    let contents = take_files(alloc, files, file_words(form), parts(form))?;
+    let contents = take_files(alloc, files, form)?;
     let case = read_form(alloc, form, &contents)?;
     let certificate = certificate_of(alloc, form, contents);
     Ok(Taken { case, certificate })

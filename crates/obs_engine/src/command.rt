@@ -11,7 +11,7 @@ use crate::status::Status;
 use crate::tasks::{Task, begin_task};
 use crate::topology::answer_topology;
 use crate::verify::answer_verify;
-use crate::words::Form;
+use crate::words::{CaseCommand, Form};
 use obs_case::Case;
 use obs_io::{Files, Sink, Source};
 use obs_script::Ask;
@@ -34,18 +34,20 @@ fn answer_case<S: Source, W: Sink>(
 {
     match form {
         Form::Topology => answer_topology(alloc, output, &case),
-        Form::Report(_) => {
-            let task = Task::Answer(Ask::Report);
-            begin_task(alloc, case, false, task, input, output)
-        }
-        Form::Place(_) => {
-            let task = Task::Answer(Ask::Place);
-            begin_task(alloc, case, true, task, input, output)
-        }
-        Form::Session(_) => begin_task(alloc, case, false, Task::Lines, input, output),
-        Form::SessionWith(_) => begin_task(alloc, case, true, Task::Lines, input, output),
-        Form::Verify(_) => answer_verify(alloc, output, &case, certificate),
-        Form::VerifyWith(_) => answer_verify(alloc, output, &case, certificate),
+        Form::Case(command, _) => match command {
+            CaseCommand::Report => {
+                let task = Task::Answer(Ask::Report);
+                begin_task(alloc, case, false, task, input, output)
+            }
+            CaseCommand::Place => {
+                let task = Task::Answer(Ask::Place);
+                begin_task(alloc, case, true, task, input, output)
+            }
+            CaseCommand::Session { offered } => {
+                begin_task(alloc, case, offered, Task::Lines, input, output)
+            }
+            CaseCommand::Verify { .. } => answer_verify(alloc, output, &case, certificate),
+        },
         Form::Trial { rows, seed } => {
             let task = Task::Trial { rows, seed };
             begin_task(alloc, case, false, task, input, output)

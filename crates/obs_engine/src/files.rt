@@ -1,12 +1,14 @@
 // Files, read whole one after the other.
-ghost use Rattle.std.specs.Prelude.{◌≡◌, ◌≢◌, ◌+◌, ◌≤◌, ◌<◌, ℕ, List, Some, All, IfOk, IsOk, IsErrOf, length, map, vec_len};
+ghost use Rattle.std.specs.Prelude.{◌≡◌, ◌≢◌, ◌+◌, ◌≤◌, ◌<◌, ℕ, List, Some, All, IfOk, IsOk, IsErrOf, length, vec_len};
 ghost use Rattle.obs_io.specs.Causes.{Rose};
 ghost use Rattle.obs_matroid.specs.Lists.{In};
 ghost use Rattle.obs_text.specs.Limits.{most_file_bytes};
 ghost use Rattle.obs_engine.specs.Forms.{AreTold, ReadFailed};
 ghost use Rattle.obs_engine.specs.Taken.{AreContents, IsFile, IsNext, bytes_of};
+ghost use Rattle.obs_engine.specs.Words.{parts_of, words_of};
 
 use crate::taken::CaseError;
+use crate::words::Form;
 use obs_io::{Files, ReadEnd, read_all};
 use obs_text::{InputFault, MOST_FILE_BYTES};
 use std::alloc::Global;
@@ -67,29 +69,27 @@ fn take_next<F: Files>(
     }
 }
 
-/// The contents of the files of these words, which are these parts of the input. Files are read in the order of their
-/// words, and the first that fails or is too long ends the reading.
+/// The contents of the files of a form. They are read in the order of their words, and the first that fails or is too
+/// long ends the reading.
 pub(crate) fn take_files<F: Files>(
     alloc: Global,
     files: &mut F,
-    words: &[usize],
-    parts: &[&'static [u8]],
+    form: Form,
 ) -> Result<Vec<Vec<u8>>, CaseError>
-    requires words { All (λ w. w < 16) words.now }
-    requires parts { length parts.now ≡ length words.now }
-    ensures stated { (file : ℕ → List ℕ) → AreTold (F.content files.old) file words.now
-        → AreContents (map (λ part. part.now) parts.now) file words.now result }
+    ensures stated { (file : ℕ → List ℕ) → AreTold (F.content files.old) file (words_of form)
+        → AreContents (parts_of form) file (words_of form) result }
     ensures short { IfOk result (λ contents. All (λ bytes. vec_len bytes ≤ most_file_bytes) contents.items) }
-    ensures count { IfOk result (λ contents. vec_len contents ≡ length words.now) }
+    ensures count { IfOk result (λ contents. vec_len contents ≡ length (words_of form)) }
     ensures read { IsErrOf result CaseError.Read
-        → ReadFailed words.now (F.content files.old) (F.faults files.old) (F.faults files.new) }
+        → ReadFailed (words_of form) (F.content files.old) (F.faults files.old) (F.faults files.new) }
     ensures quiet { (IsErrOf result CaseError.Read → ⊥) →
         (w : ℕ) → F.faults files.new w ≡ F.faults files.old w }
-    ensures steady { ((w : ℕ) → In w words.now → F.steady files.old w) → IsErrOf result CaseError.Read → ⊥ }
+    ensures steady { ((w : ℕ) → In w (words_of form) → F.steady files.old w) → IsErrOf result CaseError.Read → ⊥ }
 {
     let mut contents = Vec::new(alloc);
-    for k in 0..words.len() {
-        take_next(alloc, files, words[k], parts[k], &mut contents)?;
+    for k in 0..form.file_count() {
+        let (word, part) = form.file(k);
+        take_next(alloc, files, word, part, &mut contents)?;
     }
     Ok(contents)
 }

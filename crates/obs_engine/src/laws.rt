@@ -22,7 +22,7 @@ ghost use Rattle.obs_report.specs.Counts.{verdict_word};
 ghost use Rattle.obs_engine.specs.Asks.{report_status};
 ghost use Rattle.obs_engine.specs.Trials.{dip_meters, dips_of};
 ghost use Rattle.obs_engine.specs.Claimed.{AnswersHold};
-ghost use Rattle.obs_engine.specs.Laws.{CasesAreValid, EditsAloneChange, EndedOrLast, IsAnswerTo, IsFormOf, ListsNonCritical, OrderIsForgotten, ReportsAsTheCommand};
+ghost use Rattle.obs_engine.specs.Laws.{CasesAreValid, EditsAloneChange, EndedOrLast, IsAnswerTo, IsFormOf, IsInUsage, ListsNonCritical, OrderIsForgotten, ReportsAsTheCommand};
 ghost use Rattle.obs_edit.specs.Answers.{bound_outside, bound_rank, case_critical_meters, case_rank, component_meters, short_components};
 
 /// Every case that files are is valid. The other laws ask this of a case.
@@ -108,8 +108,10 @@ pub fn critical_lines_are_exact()
 
 /// The words have a form exactly where they are those of a command,
 /// each in its place, with a word for each of its files.
+/// The usage line names each form.
 pub fn forms_of_words()
     ensures exactly { (words : List (List ℕ)) (form : Form) → (form_of words ≡ Some form) ↔ IsFormOf form words }
+    ensures usage { (form : Form) → IsInUsage form }
 {}
 
 /// Of a session's lines an edit alone changes the present case, and sets one flag. An ask, a refused line and one that

@@ -1,8 +1,8 @@
 // The words of the command line.
-ghost use Rattle.std.specs.Prelude.{◌≡◌, ◌<◌, ◌+◌, ◌==◌, ◌&&◌, codes, map, string_bytes, Some, IfSome, length};
+ghost use Rattle.std.specs.Prelude.{◌≡◌, ◌<◌, ◌≤◌, [], map, string_bytes, Some, IfSome, length, slice_index, slice_index_or};
 ghost use Rattle.obs_text.specs.Numbers.{whole_of};
 ghost use Rattle.obs_engine.specs.Forms.{HasRows};
-ghost use Rattle.obs_engine.specs.Words.{case_form_of, form_of, form_with, is_word, parts_of, trial_form, words_of, words_with};
+ghost use Rattle.obs_engine.specs.Words.{behind_case, candidates_at, case_commands, case_form_of, certificate_at, command_word, first_parts, first_word, fits, form_of, form_with, has_with, is_offered, is_word, parts_of, takes_certificate, trial_form, word_count, words_of};
 
 use obs_text::whole;
 
@@ -15,33 +15,158 @@ pub(crate) enum CaseForm {
     Matpower,
 }
 
+/// What is asked of a case. Candidates that are offered to a session or beside a certificate stand behind the word
+/// `with`.
+#[derive(Clone, Copy, Debug, PartialEq, Eq)]
+pub(crate) enum CaseCommand {
+    Report,
+    Place,
+    /// The lines of the input are answered.
+    Session { offered: bool },
+    /// The claims of a certificate are checked.
+    Verify { offered: bool },
+}
+
 /// What the words ask for.
 #[derive(Clone, Copy, Debug, PartialEq, Eq)]
 pub(crate) enum Form {
     Topology,
-    Report(CaseForm),
-    Place(CaseForm),
-    /// The lines of the input are answered.
-    Session(CaseForm),
-    /// The same with candidates.
-    SessionWith(CaseForm),
-    /// The claims of a certificate are checked.
-    Verify(CaseForm),
-    /// The same with candidates.
-    VerifyWith(CaseForm),
+    /// Something is asked of a case of this form.
+    Case(CaseCommand, CaseForm),
     /// A case of so many rows of nodes is generated from a seed.
     Trial { rows: u32, seed: u64 },
 }
 
-impl CaseForm {
-    // How many words name a case: the command, the word for its form, and its files.
-    fn words(self) -> usize
-        ensures words { result ≡ words_with self }
+impl Form {
+    // The word of the command.
+    fn command_word(self) -> &'static str
+        ensures word { result.now ≡ command_word self }
     {
         match self {
-            CaseForm::Csv => 6,
-            CaseForm::Cdf => 4,
-            CaseForm::Matpower => 4,
+            Form::Topology => "topology",
+            Form::Case(CaseCommand::Report, _) => "report",
+            Form::Case(CaseCommand::Place, _) => "place",
+            Form::Case(CaseCommand::Session { .. }, _) => "session",
+            Form::Case(CaseCommand::Verify { .. }, _) => "verify",
+            Form::Trial { .. } => "trial",
+        }
+    }
+
+    // Whether candidates stand with the case, and the word `with` before that of theirs.
+    fn has_with(self) -> bool
+        ensures has { result ≡ has_with self }
+    {
+        match self {
+            Form::Case(CaseCommand::Session { offered }, _) => offered,
+            Form::Case(CaseCommand::Verify { offered }, _) => offered,
+            _ => false,
+        }
+    }
+
+    /// Whether candidates stand with the case, behind the word `with` or without it.
+    pub(crate) fn is_offered(self) -> bool
+        ensures is { result ≡ is_offered self }
+    {
+        match self {
+            Form::Case(CaseCommand::Place, _) => true,
+            _ => self.has_with(),
+        }
+    }
+
+    /// Whether a certificate is taken, which is the last file.
+    pub(crate) fn takes_certificate(self) -> bool
+        ensures takes { result ≡ takes_certificate self }
+    {
+        match self {
+            Form::Case(CaseCommand::Verify { .. }, _) => true,
+            _ => false,
+        }
+    }
+
+    // Which part of the input each file of the case is, in the order of the words.
+    fn first_parts(self) -> &'static [&'static [u8]]
+        ensures parts { map (λ part. part.now) result.now ≡ first_parts self }
+    {
+        match self {
+            Form::Topology => &[b"nodes", b"switches"],
+            Form::Case(_, CaseForm::Csv) => &[b"nodes", b"switches", b"branches", b"meters"],
+            Form::Case(_, CaseForm::Cdf) => &[b"cdf", b"meters"],
+            Form::Case(_, CaseForm::Matpower) => &[b"matpower", b"meters"],
+            Form::Trial { .. } => &[],
+        }
+    }
+
+    /// How many files the case has.
+    pub(crate) fn case_files(self) -> usize
+        ensures files { result ≡ length (first_parts self) }
+        ensures few { result ≤ 4 }
+    {
+        self.first_parts().len()
+    }
+
+    // The position of the first word that names a file.
+    fn first_word(self) -> usize
+        ensures word { result ≡ first_word self }
+        ensures few { result ≤ 2 }
+    {
+        match self {
+            Form::Case(..) => 2,
+            _ => 1,
+        }
+    }
+
+    // The position behind the words that name the files of the case.
+    fn behind_case(self) -> usize
+        ensures position { result ≡ behind_case self }
+        ensures few { result ≤ 6 }
+    {
+        self.first_word() + self.case_files()
+    }
+
+    // The position of the word that names the candidates.
+    fn candidates_at(self) -> usize
+        ensures position { result ≡ candidates_at self }
+        ensures few { result ≤ 7 }
+    {
+        self.behind_case() + self.has_with() as usize
+    }
+
+    // The position of the word that names the certificate.
+    fn certificate_at(self) -> usize
+        ensures position { result ≡ certificate_at self }
+        ensures few { result ≤ 8 }
+    {
+        self.candidates_at() + self.is_offered() as usize
+    }
+
+    // How many words there are, where they name files.
+    fn word_count(self) -> usize
+        ensures count { result ≡ word_count self }
+    {
+        self.certificate_at() + self.takes_certificate() as usize
+    }
+
+    /// How many files there are.
+    pub(crate) fn file_count(self) -> usize
+        ensures count { result ≡ length (words_of self) }
+    {
+        self.case_files() + self.is_offered() as usize + self.takes_certificate() as usize
+    }
+
+    /// The position of the word that names a file, and which part of the input the file is, by its place among the files.
+    pub(crate) fn file(self, at: usize) -> (usize, &'static [u8])
+        requires at { at < length (words_of self) }
+        ensures word { result.0 ≡ slice_index (words_of self) at }
+        ensures few { result.0 < 16 }
+        ensures part { result.1.now ≡ slice_index_or (parts_of self) at [] }
+    {
+        let parts = self.first_parts();
+        if at < parts.len() {
+            (self.first_word() + at, parts[at])
+        } else if at == parts.len() && self.is_offered() {
+            (self.candidates_at(), b"candidates")
+        } else {
+            (self.certificate_at(), b"certificate")
         }
     }
 }
@@ -68,13 +193,28 @@ fn case_form_of_words(words: &[String]) -> Option<CaseForm>
     }
 }
 
-// Whether the words are a command's, with so many behind those that name a case, of which the first is the word `with`.
-fn is_with(words: &[String], command: &str, count: usize, more: usize) -> bool
-    requires few { count + more < 256 }
-    ensures is { result ≡ (((length words.now == count + more) && is_word (map string_bytes words.now) 0 command.now)
-        && is_word (map string_bytes words.now) count (codes "with")) }
+// The commands over a case.
+fn case_commands() -> &'static [CaseCommand]
+    ensures commands { result.now ≡ case_commands }
 {
-    words.len() == count + more && is_word(words, 0, command) && is_word(words, count, "with")
+    &[
+        CaseCommand::Report,
+        CaseCommand::Place,
+        CaseCommand::Session { offered: false },
+        CaseCommand::Session { offered: true },
+        CaseCommand::Verify { offered: false },
+        CaseCommand::Verify { offered: true },
+    ]
+}
+
+// Whether the words are those of a form: so many, the command first, and the word `with` where it stands before
+// candidates.
+fn fits(words: &[String], form: Form) -> bool
+    ensures fits { result ≡ fits (map string_bytes words.now) form }
+{
+    words.len() == form.word_count()
+        && is_word(words, 0, form.command_word())
+        && (!form.has_with() || is_word(words, form.behind_case(), "with"))
 }
 
 // The form of words that name a case of this form.
@@ -82,22 +222,14 @@ fn form_with_case(words: &[String], from: CaseForm) -> Option<Form>
     ensures form { result ≡ form_with (map string_bytes words.now) (Some from) }
     ensures rows { IfSome result HasRows }
 {
-    let count = from.words();
-    if words.len() == count && is_word(words, 0, "report") {
-        Some(Form::Report(from))
-    } else if words.len() == count + 1 && is_word(words, 0, "place") {
-        Some(Form::Place(from))
-    } else if words.len() == count && is_word(words, 0, "session") {
-        Some(Form::Session(from))
-    } else if is_with(words, "session", count, 2) {
-        Some(Form::SessionWith(from))
-    } else if words.len() == count + 1 && is_word(words, 0, "verify") {
-        Some(Form::Verify(from))
-    } else if is_with(words, "verify", count, 3) {
-        Some(Form::VerifyWith(from))
-    } else {
-        None
+    let commands = case_commands();
+    for k in 0..commands.len() {
+        let form = Form::Case(commands[k], from);
+        if fits(words, form) {
+            return Some(form);
+        }
     }
+    None
 }
 
 // The form of a trial's two words, where they are a number of rows from 1 to 100 and a seed.
@@ -122,7 +254,7 @@ pub(crate) fn form_of_words(words: &[String]) -> Option<Form>
     ensures form { result ≡ form_of (map string_bytes words.now) }
     ensures rows { IfSome result HasRows }
 {
-    if words.len() == 3 && is_word(words, 0, "topology") {
+    if fits(words, Form::Topology) {
         return Some(Form::Topology);
     }
     if words.len() == 3 && is_word(words, 0, "trial") {
@@ -131,98 +263,5 @@ pub(crate) fn form_of_words(words: &[String]) -> Option<Form>
     match case_form_of_words(words) {
         Some(from) => form_with_case(words, from),
         None => None,
-    }
-}
-
-// Which part of the input each file is where a certificate is checked.
-fn verify_parts(from: CaseForm) -> &'static [&'static [u8]]
-    ensures parts { map (λ part. part.now) result.now ≡ parts_of (Form.Verify from) }
-{
-    match from {
-        CaseForm::Csv => {
-            &[
-                b"nodes",
-                b"switches",
-                b"branches",
-                b"meters",
-                b"certificate",
-            ]
-        }
-        CaseForm::Cdf => &[b"cdf", b"meters", b"certificate"],
-        CaseForm::Matpower => &[b"matpower", b"meters", b"certificate"],
-    }
-}
-
-// The same with candidates.
-fn verify_with_parts(from: CaseForm) -> &'static [&'static [u8]]
-    ensures parts { map (λ part. part.now) result.now ≡ parts_of (Form.VerifyWith from) }
-{
-    match from {
-        CaseForm::Csv => &[
-            b"nodes",
-            b"switches",
-            b"branches",
-            b"meters",
-            b"candidates",
-            b"certificate",
-        ],
-        CaseForm::Cdf => &[b"cdf", b"meters", b"candidates", b"certificate"],
-        CaseForm::Matpower => &[b"matpower", b"meters", b"candidates", b"certificate"],
-    }
-}
-
-/// Which part of the input each file of a form is, in the order of the words.
-pub(crate) fn parts(form: Form) -> &'static [&'static [u8]]
-    ensures parts { map (λ part. part.now) result.now ≡ parts_of form }
-{
-    match form {
-        Form::Topology => &[b"nodes", b"switches"],
-        Form::Report(CaseForm::Csv) => &[b"nodes", b"switches", b"branches", b"meters"],
-        Form::Report(CaseForm::Cdf) => &[b"cdf", b"meters"],
-        Form::Report(CaseForm::Matpower) => &[b"matpower", b"meters"],
-        Form::Place(CaseForm::Csv) => {
-            &[b"nodes", b"switches", b"branches", b"meters", b"candidates"]
-        }
-        Form::Place(CaseForm::Cdf) => &[b"cdf", b"meters", b"candidates"],
-        Form::Place(CaseForm::Matpower) => &[b"matpower", b"meters", b"candidates"],
-        Form::Session(CaseForm::Csv) => &[b"nodes", b"switches", b"branches", b"meters"],
-        Form::Session(CaseForm::Cdf) => &[b"cdf", b"meters"],
-        Form::Session(CaseForm::Matpower) => &[b"matpower", b"meters"],
-        Form::SessionWith(CaseForm::Csv) => {
-            &[b"nodes", b"switches", b"branches", b"meters", b"candidates"]
-        }
-        Form::SessionWith(CaseForm::Cdf) => &[b"cdf", b"meters", b"candidates"],
-        Form::SessionWith(CaseForm::Matpower) => &[b"matpower", b"meters", b"candidates"],
-        Form::Verify(from) => verify_parts(from),
-        Form::VerifyWith(from) => verify_with_parts(from),
-        Form::Trial { .. } => &[],
-    }
-}
-
-/// The positions of the words that name a form's files, in the order of the words.
-pub(crate) fn file_words(form: Form) -> &'static [usize]
-    ensures words { result.now ≡ words_of form }
-{
-    match form {
-        Form::Topology => &[1, 2],
-        Form::Report(CaseForm::Csv) => &[2, 3, 4, 5],
-        Form::Report(CaseForm::Cdf) => &[2, 3],
-        Form::Report(CaseForm::Matpower) => &[2, 3],
-        Form::Place(CaseForm::Csv) => &[2, 3, 4, 5, 6],
-        Form::Place(CaseForm::Cdf) => &[2, 3, 4],
-        Form::Place(CaseForm::Matpower) => &[2, 3, 4],
-        Form::Session(CaseForm::Csv) => &[2, 3, 4, 5],
-        Form::Session(CaseForm::Cdf) => &[2, 3],
-        Form::Session(CaseForm::Matpower) => &[2, 3],
-        Form::SessionWith(CaseForm::Csv) => &[2, 3, 4, 5, 7],
-        Form::SessionWith(CaseForm::Cdf) => &[2, 3, 5],
-        Form::SessionWith(CaseForm::Matpower) => &[2, 3, 5],
-        Form::Verify(CaseForm::Csv) => &[2, 3, 4, 5, 6],
-        Form::Verify(CaseForm::Cdf) => &[2, 3, 4],
-        Form::Verify(CaseForm::Matpower) => &[2, 3, 4],
-        Form::VerifyWith(CaseForm::Csv) => &[2, 3, 4, 5, 7, 8],
-        Form::VerifyWith(CaseForm::Cdf) => &[2, 3, 5, 6],
-        Form::VerifyWith(CaseForm::Matpower) => &[2, 3, 5, 6],
-        Form::Trial { .. } => &[],
     }
 }

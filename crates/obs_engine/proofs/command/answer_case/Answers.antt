@@ -1,12 +1,14 @@
-use Rattle.std.proofs.Common.{ap, refl, subst, sym, Some, true, false}
+use Rattle.std.proofs.Common.{◌∙◌, ap, refl, subst, sym, Some}
 use Rattle.obs_script.specs.declared.command.Ask.TheVariants.{Report as ReportAsk, Place as PlaceAsk}
+use Rattle.obs_engine.specs.declared.words.CaseCommand.{CaseCommand}
 use Rattle.obs_engine.specs.declared.words.Form.{Form}
+use Rattle.obs_engine.specs.declared.words.Form.TheVariants.{Case}
 use Rattle.obs_engine.specs.Asks.{ask_reply}
 use Rattle.obs_engine.specs.Commands.{IsCaseReply}
 use Rattle.obs_engine.specs.Forms.{TakesInput}
 use Rattle.obs_engine.specs.Topology.{topology_reply}
 use Rattle.obs_engine.specs.Verify.{verify_reply}
-use Rattle.obs_engine.proofs.Commanded.{IsSessionForm, replied_answered, session_answered, session_form, session_with_form}
+use Rattle.obs_engine.proofs.Commanded.{IsSessionForm, replied_answered, session_answered, session_form}
 use Rattle.obs_engine.proofs.command.answer_case.Goals as goal
 
 pub returns-in-Topology : goal.returns-in-Topology
@@ -25,7 +27,7 @@ pub returns-in-Report : goal.returns-in-Report
 returns-in-Report g c =
     let t = c.args.case in
     let beside = c.args.certificate.now in
-    let is = c.in-Report.is in
+    let is = c.in-Case.is ∙ ap (λ (command : CaseCommand). Case command c.in-Case.field-1) c.in-Report.is in
     let done = c.begin_task.ensures.done in
     let reply = ask_reply ReportAsk t in
     record {
@@ -39,7 +41,7 @@ pub returns-in-Place : goal.returns-in-Place
 returns-in-Place g c =
     let t = c.args.case in
     let beside = c.args.certificate.now in
-    let is = c.in-Place.is in
+    let is = c.in-Case.is ∙ ap (λ (command : CaseCommand). Case command c.in-Case.field-1) c.in-Place.is in
     let done = c.begin_task-in-Place.ensures.done in
     let reply = ask_reply PlaceAsk t in
     record {
@@ -51,17 +53,10 @@ returns-in-Place g c =
 
 pub returns-in-Session : goal.returns-in-Session
 returns-in-Session g c =
-    let is = subst (λ (f : Form). IsSessionForm f false) (sym c.in-Session.is) (session_form c.in-Session.field-0) in
+    let form = c.in-Case.is ∙ ap (λ (command : CaseCommand). Case command c.in-Case.field-1) c.in-Session.is in
+    let is = subst (λ (f : Form). IsSessionForm f c.in-Session.offered) (sym form) (session_form c.in-Session.offered c.in-Case.field-1) in
     record {
-      answered = session_answered c.args.form false c.args.case c.args.certificate.now is c.begin_task-in-Session.ensures.done;
-      input = λ none. absurd (none is.takes);
-    }
-
-pub returns-in-SessionWith : goal.returns-in-SessionWith
-returns-in-SessionWith g c =
-    let is = subst (λ (f : Form). IsSessionForm f true) (sym c.in-SessionWith.is) (session_with_form c.in-SessionWith.field-0) in
-    record {
-      answered = session_answered c.args.form true c.args.case c.args.certificate.now is c.begin_task-in-SessionWith.ensures.done;
+      answered = session_answered c.args.form c.in-Session.offered c.args.case c.args.certificate.now is c.begin_task-in-Session.ensures.done;
       input = λ none. absurd (none is.takes);
     }
 
@@ -69,25 +64,12 @@ pub returns-in-Verify : goal.returns-in-Verify
 returns-in-Verify g c =
     let t = c.args.case in
     let beside = c.args.certificate.now in
-    let is = c.in-Verify.is in
+    let is = c.in-Case.is ∙ ap (λ (command : CaseCommand). Case command c.in-Case.field-1) c.in-Verify.is in
     let reply = verify_reply t beside in
     record {
       answered =
           replied_answered c.args.form t beside reply (λ input. subst (λ (f : Form). IsCaseReply f input beside t reply) (sym is) refl)
           (λ takes. subst (λ (f : Form). TakesInput (Some f)) is takes) refl refl c.answer_verify.ensures.replied;
-      input = λ none. refl;
-    }
-
-pub returns-in-VerifyWith : goal.returns-in-VerifyWith
-returns-in-VerifyWith g c =
-    let t = c.args.case in
-    let beside = c.args.certificate.now in
-    let is = c.in-VerifyWith.is in
-    let reply = verify_reply t beside in
-    record {
-      answered =
-          replied_answered c.args.form t beside reply (λ input. subst (λ (f : Form). IsCaseReply f input beside t reply) (sym is) refl)
-          (λ takes. subst (λ (f : Form). TakesInput (Some f)) is takes) refl refl c.answer_verify-in-VerifyWith.ensures.replied;
       input = λ none. refl;
     }
 

@@ -1,60 +1,54 @@
-use Rattle.std.proofs.Common.{◌<◌, [], arith, Bor, Err, get_or, length, List, map, refl, subst, sym, ℕ}
-use Rattle.std.proofs.Math.Seq.{drop-cons}
-use Rattle.std.proofs.lemmas.List.{get_or-map, length-map}
+use Rattle.std.proofs.Common.{◌<◌, Err, arith, length, refl, subst, sym, ℕ}
 use Rattle.obs_matroid.proofs.Contained.{In-get_or}
+use Rattle.obs_matroid.specs.Lists.{In}
 use Rattle.obs_text.specs.Faults.{fault_of}
 use Rattle.obs_engine.specs.declared.taken.CaseError.{CaseError}
 use Rattle.obs_engine.specs.Taken.{IsNext, bytes_of}
+use Rattle.obs_engine.specs.Words.{parts_of, words_of}
 use Rattle.obs_engine.proofs.Contents.{contents_not_taken, reading_failed, reading_goes_on, reading_refused}
+use Rattle.obs_engine.proofs.Filed.{part_here, word_here}
 use Rattle.obs_engine.proofs.Taking.{is_read, ok_not_read}
 use Rattle.obs_engine.proofs.files.take_files.Goals as goal
 
 pub returns-in_err-take_next-clause-stated : goal.returns-in_err-take_next-clause-stated
 returns-in_err-take_next-clause-stated g c = λ file told.
-    let now = λ (part : Bor (List ℕ)). part.now in
-    let parts = c.args.parts.now in
-    let words = c.args.words.now in
-    let size = length-map parts now in
+    let form = c.args.form in
     let k = c.loop-k.k in
-    let low : k < length (map now parts) = omega (arith, size, c.loop-k-test.true, c.requires.parts) in
+    let low : k < length (words_of form) = omega (arith, c.loop-k-test.true, c.file_count-k-end.ensures.count) in
+    let part = c.file-word.result.1.now in
     let why = c.in_err-take_next.field-0.0 in
-    contents_not_taken (map now parts) file words why c.from_residual.result c.from_residual.ensures.1
-    (λ fault e. reading_refused (map now parts) words _ _ _ c.loop-k.invariant (get_or words k 0) (get_or (map now parts) k [])
-    (drop-cons words k 0 c.loop-k-test.true) (drop-cons (map now parts) k [] low) (fault_of fault)
-    (λ bytes is. subst (λ (w : CaseError). IsNext (get_or (map now parts) k []) bytes (bytes_of c.loop-k.contents.items) (bytes_of c.take_next.new.contents.items) (Err w)) e
-    (subst (λ (p : List ℕ). IsNext p bytes (bytes_of c.loop-k.contents.items) (bytes_of c.take_next.new.contents.items) (Err why)) (sym (get_or-map now parts k _ [] (omega (arith, c.loop-k-test.true, c.requires.parts))))
-    (c.in_err-take_next.ensures.stated bytes is)))
+    contents_not_taken (parts_of form) file (words_of form) why c.from_residual.result c.from_residual.ensures.1
+    (λ fault e. reading_refused (parts_of form) (words_of form) _ _ _ c.loop-k.invariant c.file-word.result.0 part
+    (word_here form k low c.file-word.result.0 c.file-word.ensures.word) (part_here form k low part c.file-word.ensures.part) (fault_of fault)
+    (λ bytes is. subst (λ (w : CaseError). IsNext part bytes (bytes_of c.loop-k.contents.items) (bytes_of c.take_next.new.contents.items) (Err w)) e
+    (c.in_err-take_next.ensures.stated bytes is))
     file told)
 
 pub returns-in_err-take_next-clause-read : goal.returns-in_err-take_next-clause-read
 returns-in_err-take_next-clause-read g c = λ e.
-    let now = λ (part : Bor (List ℕ)). part.now in
-    let parts = c.args.parts.now in
-    let words = c.args.words.now in
-    let size = length-map parts now in
+    let form = c.args.form in
     let k = c.loop-k.k in
-    let low : k < length (map now parts) = omega (arith, size, c.loop-k-test.true, c.requires.parts) in
-    reading_failed (map now parts) words _ _ _ c.loop-k.invariant (get_or words k 0) (get_or (map now parts) k [])
-    (drop-cons words k 0 c.loop-k-test.true) (drop-cons (map now parts) k [] low)
+    let low : k < length (words_of form) = omega (arith, c.loop-k-test.true, c.file_count-k-end.ensures.count) in
+    reading_failed (parts_of form) (words_of form) _ _ _ c.loop-k.invariant c.file-word.result.0 c.file-word.result.1.now
+    (word_here form k low c.file-word.result.0 c.file-word.ensures.word) (part_here form k low c.file-word.result.1.now c.file-word.ensures.part)
     (c.in_err-take_next.ensures.read (is_read _ c.from_residual.result c.from_residual.ensures.1 e)) c.in_err-take_next.ensures.others
 
 pub returns-in_err-take_next-clause-steady : goal.returns-in_err-take_next-clause-steady
 returns-in_err-take_next-clause-steady g c = λ all e.
-    let words = c.args.words.now in
-    let word = get_or words c.loop-k.k 0 in
-    c.in_err-take_next.ensures.succeeds (c.loop-k.invariant.calm word (all word (In-get_or words c.loop-k.k 0 c.loop-k-test.true)))
+    let form = c.args.form in
+    let k = c.loop-k.k in
+    let low : k < length (words_of form) = omega (arith, c.loop-k-test.true, c.file_count-k-end.ensures.count) in
+    let named = subst (λ (w : ℕ). In w (words_of form)) (sym c.file-word.ensures.word) (In-get_or (words_of form) k 0 low) in
+    c.in_err-take_next.ensures.succeeds (c.loop-k.invariant.calm c.file-word.result.0 (all c.file-word.result.0 named))
     (is_read _ c.from_residual.result c.from_residual.ensures.1 e)
 
 pub loop-k-preserved : goal.loop-k-preserved
 loop-k-preserved g c =
-    let now = λ (part : Bor (List ℕ)). part.now in
-    let parts = c.args.parts.now in
-    let words = c.args.words.now in
-    let size = length-map parts now in
+    let form = c.args.form in
     let k = c.loop-k.k in
-    let low : k < length (map now parts) = omega (arith, size, c.loop-k-test.true, c.requires.parts) in
+    let low : k < length (words_of form) = omega (arith, c.loop-k-test.true, c.file_count-k-end.ensures.count) in
     let next = c.in_ok-take_next.ensures in
-    reading_goes_on (map now parts) words _ _ _ c.loop-k.invariant (get_or words k 0) (get_or (map now parts) k [])
-    (drop-cons words k 0 c.loop-k-test.true) (drop-cons (map now parts) k [] low)
+    reading_goes_on (parts_of form) (words_of form) _ _ _ c.loop-k.invariant c.file-word.result.0 c.file-word.result.1.now
+    (word_here form k low c.file-word.result.0 c.file-word.ensures.word) (part_here form k low c.file-word.result.1.now c.file-word.ensures.part)
     next.stated
     next.same (next.quiet (ok_not_read _)) next.steady (next.count refl) next.short
