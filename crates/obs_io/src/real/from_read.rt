@@ -1,5 +1,8 @@
 // A source over a reader.
-ghost use Rattle.std.specs.Prelude.{◌≡◌, None};
+ghost use Rattle.std.specs.Prelude.{◌≡◌, ◌<◌, ◌≤◌, None, IfOk, IsOk, length};
+ghost use Rattle.std.specs.Io.KnownBytes.{ReadConsumes};
+ghost use Rattle.obs_io.specs.Bytes.{TakesFront};
+ghost use Rattle.obs_io.specs.Causes.{HasCause};
 
 use crate::real::counted::counted;
 use crate::{Failed, Source};
@@ -28,7 +31,18 @@ impl<R: Read> Source for FromRead<R> {
 
     ghost steady = { λ m. ⊥ };
 
-    fn take(&mut self, into: &mut [u8]) -> Result<usize, Failed> {
+    fn take(&mut self, into: &mut [u8]) -> Result<usize, Failed>
+        requires room { 0 < length into.old }
+        // what each source says, where no bytes are told
+        ensures bound { IfOk result (λ n. n ≤ length into.new) }
+        ensures bytes { TakesFront None None result into.new }
+        ensures cause { HasCause self.old.faults self.new.faults result }
+        ensures quiet { IfOk result (λ _. self.new.faults ≡ self.old.faults) }
+        ensures steady { ⊥ → ⊥ }
+        ensures succeeds { ⊥ → IsOk result }
+        // the reader's own bytes are given: none only at their end, and a failure takes none
+        ensures reads { ReadConsumes (R.remaining self.old.inner) (R.remaining self.new.inner) result into.new }
+    {
         counted(self.inner.read(into), &mut self.faults)
     }
 }

@@ -1,6 +1,7 @@
 // A sink over a writer.
-ghost use Rattle.std.specs.Prelude.{◌≡◌, ◌&&◌, IfOk, None, is_ok};
-ghost use Rattle.obs_io.specs.Causes.{wrote_some};
+ghost use Rattle.std.specs.Prelude.{◌≡◌, ◌<◌, ◌≤◌, ◌-◌, ◌&&◌, ℕ, IfOk, IsOk, None, is_ok, length};
+ghost use Rattle.obs_io.specs.Bytes.{PutsFront, GivesFront};
+ghost use Rattle.obs_io.specs.Causes.{HasCause, wrote_some};
 
 use crate::real::counted::counted;
 use crate::{Failed, Sink};
@@ -45,7 +46,19 @@ impl<W: Write> Sink for ToWrite<W> {
 
     ghost has_room = { λ m room. ⊥ };
 
-    fn put(&mut self, bytes: &[u8]) -> Result<usize, Failed> {
+    fn put(&mut self, bytes: &[u8]) -> Result<usize, Failed>
+        requires bytes { 0 < length bytes.now }
+        // what each sink says, where no bytes are told
+        ensures some { IfOk result (λ n. 0 < n) }
+        ensures bound { IfOk result (λ n. n ≤ length bytes.now) }
+        ensures bytes { PutsFront None None result bytes.now }
+        ensures cause { HasCause self.old.faults self.new.faults result }
+        ensures quiet { IfOk result (λ _. self.new.faults ≡ self.old.faults) }
+        ensures room { (room : ℕ) → ⊥ → length bytes.now ≤ room → IfOk result (λ n. ⊥) }
+        ensures succeeds { (room : ℕ) → ⊥ → length bytes.now ≤ room → IsOk result }
+        // the writer's own bytes grow by as many as are answered; behind a failure by a front of these or none
+        ensures gives { GivesFront (W.contents self.old.inner) (W.contents self.new.inner) result bytes.now }
+    {
         let written = self.inner.write(bytes);
         let flush = if written.is_ok() {
             self.inner.flush()
