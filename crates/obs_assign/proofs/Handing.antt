@@ -1,9 +1,8 @@
 -- A path whose meters hand their branches on.
-use Rattle.std.proofs.Common.{◌≡◌, ◌≢◌, ℕ, ◌+◌, ◌-◌, ◌<◌, ◌≤◌, Option, Some, None, List, [], ◌∷◌, length, get_or, set, take, drop, refl, sym, ap, ◌∙◌, subst, inl, inr, ◌↔◌, arith, get_or-set_same, get_or-set_other, length-set}
+use Rattle.std.proofs.Common.{◌≡◌, ◌≢◌, ℕ, ◌+◌, ◌-◌, ◌<◌, Option, Some, None, List, [], ◌∷◌, length, get_or, set, drop, refl, sym, ap, ◌∙◌, inl, inr, ◌↔◌, arith, get_or-set_same, get_or-set_other, length-set}
 use Rattle.std.specs.Prelude.{All}
 use Rattle.std.proofs.lemmas.Bool.{cases_eq}
-use Rattle.std.proofs.lemmas.List.{drop_all, drop_more, get_or-take, length-take-le, same_lists}
-use Rattle.std.proofs.Math.Seq.{take-set-lt}
+use Rattle.std.proofs.lemmas.List.{drop_all, drop_more, same_lists}
 use Rattle.obs_matroid.specs.Lists.{In}
 use Rattle.obs_matroid.specs.Assignments.{branches}
 use Rattle.obs_matroid.specs.Slots.{pairs_of}
@@ -11,13 +10,11 @@ use Rattle.obs_matroid.proofs.Lists.{length-within}
 use Rattle.obs_matroid.proofs.Contained.{In-from_All}
 use Rattle.obs_matroid.proofs.Bounds.{length-branches}
 use Rattle.obs_assign.specs.declared.Move.{Move}
-use Rattle.obs_assign.specs.Kept.{IsInverse, IsListed, SlotsApart}
+use Rattle.obs_assign.specs.Kept.{IsInverse, SlotsApart}
 use Rattle.obs_assign.specs.Moves.{HandsOn, moved}
 use Rattle.obs_assign.specs.Pins.{pinned_slots}
-use Rattle.obs_assign.proofs.Slotted.{distinct-from_apart, none_some, slot_low, some_same}
-use Rattle.obs_assign.proofs.Keeping.{take-moved}
-use Rattle.obs_assign.proofs.Pinning.{inverse-swapped, pinned-other, same_branches, take-pinned}
-use Rattle.obs_assign.proofs.Listed.{IsListed-same}
+use Rattle.obs_assign.proofs.Slotted.{distinct-from_apart, none_some, some_same}
+use Rattle.obs_assign.proofs.Pinning.{pinned-other}
 use Rattle.obs_assign.proofs.Afterwards.{Differ, head_apart, tail_apart}
 
 -- slots that agree at the meters of the moves
@@ -56,108 +53,51 @@ set-pinned slots m e k f ne lm lk =
       ] ∙ sym (get_or-set_other old k j (Some f) d a))
     ])
 
--- the moves that are left put in what the path does, and the pairs are kept and listed
-pub record IsHanding (path : List Move) (before : List (Option ℕ)) (meters count room : ℕ) (list : List ℕ) (rest : List Move) (slots owners : List (Option ℕ)) : Type 0 where
-  pub low : (x : Move) → In x rest → x.meter < meters
+-- the moves that are left put in what the path does, and hand their branches on
+pub record IsHanding (path : List Move) (before : List (Option ℕ)) (rest : List Move) (slots : List (Option ℕ)) : Type 0 where
+  pub low : (x : Move) → In x rest → x.meter < length slots
   pub hands : HandsOn slots None rest
   pub different : Differ rest
-  pub slots_len : length slots ≡ length before
-  pub owners_len : length owners ≡ room
   pub moved_are : moved rest slots ≡ moved path before
-  pub counted : count ≡ length (pairs_of (take meters slots))
-  pub inverse : IsInverse (take meters slots) owners
-  pub listed : IsListed (take meters slots) (take count list)
 
 -- one step: the next meter hands its branch on
-module _ (path : List Move) (before : List (Option ℕ)) (meters count room : ℕ) (list : List ℕ) (x y : Move) (rest : List Move) (slots owners : List (Option ℕ))
-    (most : meters ≤ length before) (h : IsHanding path before meters count room list (x ∷ y ∷ rest) slots owners) where
-  abbrev old : List (Option ℕ)
-  old = take meters slots
-
-  lm : x.meter < meters
+module _ (path : List Move) (before : List (Option ℕ)) (x y : Move) (rest : List Move) (slots : List (Option ℕ)) (h : IsHanding path before (x ∷ y ∷ rest) slots) where
+  lm : x.meter < length slots
   lm = h.low x (inl refl)
 
-  lk : y.meter < meters
+  lk : y.meter < length slots
   lk = h.low y (inr (inl refl))
-
-  len : length old ≡ meters
-  len = length-take-le meters slots (omega (arith, most, h.slots_len))
 
   apart : x.meter ≢ y.meter
   apart = head_apart x (y ∷ rest) h.different y (inl refl)
 
-  has : get_or old y.meter None ≡ Some x.branch
-  has = get_or-take meters slots y.meter None lk ∙ h.hands.1.0
-
-  bare : get_or old x.meter None ≡ None
-  bare = get_or-take meters slots x.meter None lm ∙ h.hands.0
-
-  owned : get_or owners x.branch None ≡ Some y.meter
-  owned = (h.inverse y.meter x.branch).0 has
-
-  pub hand_branch : x.branch < room
-  hand_branch = let l = slot_low owners x.branch y.meter owned in omega (arith, l, h.owners_len)
-
-  abbrev new : List (Option ℕ)
-  new = pinned_slots old x.meter x.branch y.meter
-
-  first : take meters (pinned_slots slots x.meter x.branch y.meter) ≡ new
-  first = take-pinned meters slots x.meter x.branch y.meter lm lk
-
-  spare : (z : ℕ) → get_or old z None ≡ Some x.branch → z ≡ y.meter
-  spare z s = some_same z y.meter (sym ((h.inverse z x.branch).0 s) ∙ owned)
-
-  none : (f : ℕ) → get_or old x.meter None ≡ Some f → f ≡ x.branch
-  none f s = absurd (none_some f (sym bare ∙ s))
-
-  inside : x.meter < length old
-  inside = omega (arith, len, lm)
-
-  wide : x.branch < length owners
-  wide = slot_low owners x.branch y.meter owned
-
-  inverse : IsInverse new (set owners x.branch (Some x.meter))
-  inverse = inverse-swapped old x.meter x.branch y.meter inside owners h.inverse y.meter owned spare none wide
-
-  same : (f : ℕ) → In f (branches (pairs_of new)) ↔ In f (branches (pairs_of old))
-  same = same_branches old x.meter x.branch y.meter inside owners h.inverse y.meter owned spare none wide
+  pub hand_bare : (f : ℕ) → get_or slots x.meter None ≡ Some f → f ≡ x.branch
+  hand_bare f s = absurd (none_some f (sym h.hands.0 ∙ s))
 
   gone : get_or (pinned_slots slots x.meter x.branch y.meter) y.meter None ≡ None
-  gone = get_or-set_other (set slots y.meter None) x.meter y.meter (Some x.branch) None (λ s. apart (sym s)) ∙ get_or-set_same slots y.meter None None (omega (arith, lk, most, h.slots_len))
+  gone = get_or-set_other (set slots y.meter None) x.meter y.meter (Some x.branch) None (λ s. apart (sym s)) ∙ get_or-set_same slots y.meter None None lk
 
   after : (z : Move) → In z rest → get_or (pinned_slots slots x.meter x.branch y.meter) z.meter None ≡ get_or slots z.meter None
   after z i =
-      pinned-other slots x.meter x.branch y.meter (omega (arith, lm, most, h.slots_len)) z.meter
+      pinned-other slots x.meter x.branch y.meter lm z.meter
       (λ s. head_apart x (y ∷ rest) h.different z (inr i) (sym s))
       (λ s. head_apart y rest (tail_apart x (y ∷ rest) h.different) z i (sym s))
 
-  pub Handing-more : IsHanding path before meters count room list (y ∷ rest) (pinned_slots slots x.meter x.branch y.meter) (set owners x.branch (Some x.meter))
+  pub Handing-more : IsHanding path before (y ∷ rest) (pinned_slots slots x.meter x.branch y.meter)
   Handing-more = record {
-    low = λ z i. h.low z (inr i);
+    low = λ z i. omega (arith, h.low z (inr i), length-set (set slots y.meter None) x.meter (Some x.branch), length-set slots y.meter None);
     hands = (gone, HandsOn-kept slots (pinned_slots slots x.meter x.branch y.meter) (Some y.branch) rest after h.hands.1.1);
     different = tail_apart x (y ∷ rest) h.different;
-    slots_len = length-set (set slots y.meter None) x.meter (Some x.branch) ∙ (length-set slots y.meter None ∙ h.slots_len);
-    owners_len = length-set owners x.branch (Some x.meter) ∙ h.owners_len;
-    moved_are = ap (moved rest) (set-pinned slots x.meter x.branch y.meter y.branch apart (omega (arith, lm, most, h.slots_len)) (omega (arith, lk, most, h.slots_len))) ∙ h.moved_are;
-    counted = h.counted ∙ (sym (count-same old new (apart-inverse old owners h.inverse) (apart-inverse new (set owners x.branch (Some x.meter)) inverse) same) ∙ ap (λ (s : List (Option ℕ)). length (pairs_of s)) (sym first));
-    inverse = subst (λ (s : List (Option ℕ)). IsInverse s (set owners x.branch (Some x.meter))) (sym first) inverse;
-    listed = subst (λ (s : List (Option ℕ)). IsListed s (take count list)) (sym first) (IsListed-same old new (take count list) h.listed same);
+    moved_are = ap (moved rest) (set-pinned slots x.meter x.branch y.meter y.branch apart lm lk) ∙ h.moved_are;
   }
 
 -- before the first step
-pub Handing-begun : (path : List Move) (slots : List (Option ℕ)) (meters count : ℕ) (owners : List (Option ℕ)) (list : List ℕ) → All (λ (x : Move). x.meter < meters) path → HandsOn slots None path → Differ path
-    → count ≡ length (pairs_of (take meters slots)) → IsInverse (take meters slots) owners → IsListed (take meters slots) (take count list)
-    → IsHanding path slots meters count (length owners) list path slots owners
-Handing-begun path slots meters count owners list low hands different counted inverse listed = record {
-  low = In-from_All (λ (x : Move). x.meter < meters) path low;
+pub Handing-begun : (path : List Move) (slots : List (Option ℕ)) → All (λ (x : Move). x.meter < length slots) path → HandsOn slots None path → Differ path → IsHanding path slots path slots
+Handing-begun path slots low hands different = record {
+  low = In-from_All (λ (x : Move). x.meter < length slots) path low;
   hands = hands;
   different = different;
-  slots_len = refl;
-  owners_len = refl;
   moved_are = refl;
-  counted = counted;
-  inverse = inverse;
-  listed = listed;
 }
 
 -- two moves are left, and more
@@ -168,10 +108,3 @@ two_left path i d l = drop_more path i d (omega (arith, l)) ∙ ap (λ (rest : L
 pub one_left : (path : List Move) (d : Move) → 0 < length path → drop (length path - 1) path ≡ get_or path (length path - 1) d ∷ []
 one_left path d l =
     drop_more path (length path - 1) d (omega (arith, l)) ∙ ap (λ (rest : List Move). get_or path (length path - 1) d ∷ rest) (drop_all (length path - 1 + 1) path (omega (arith, l)))
-
--- the slots with the last move are those after the path
-pub last_slots : (path : List Move) (before : List (Option ℕ)) (meters count room : ℕ) (list : List ℕ) (x : Move) (slots owners : List (Option ℕ)) → All (λ (y : Move). y.meter < meters) path
-    → IsHanding path before meters count room list (x ∷ []) slots owners → set (take meters slots) x.meter (Some x.branch) ≡ moved path (take meters before)
-last_slots path before meters count room list x slots owners low h =
-    sym (take-set-lt meters slots x.meter (Some x.branch) (h.low x (inl refl)))
-    ∙ (ap (take meters) h.moved_are ∙ take-moved meters path before (In-from_All (λ (y : Move). y.meter < meters) path low))

@@ -18,3 +18,5 @@ pub mod Handing
 pub mod Unlisting
 pub mod Losing
 pub mod Stepping
+pub mod Over
+pub mod Storing

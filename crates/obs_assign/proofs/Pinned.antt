@@ -1,7 +1,7 @@
 -- An assignment after a pin, and after the pairs were carried over.
 use Rattle.std.proofs.Common.{◌≡◌, ℕ, zero, suc, ◌+◌, ◌<◌, ◌≤◌, Bool, true, false, Option, Some, None, List, [], ◌∷◌, length, get_or, set, take, refl, sym, ap, ◌∙◌, subst, inl, inr, arith, replicate, length-set, get_or-set_other}
 use Rattle.std.proofs.lemmas.Bool.{cases_eq}
-use Rattle.std.proofs.lemmas.List.{length-replicate, length-take-le}
+use Rattle.std.proofs.lemmas.List.{length-replicate}
 use Rattle.std.proofs.Math.Seq.{take-set-lt}
 use Rattle.obs_graph.specs.Positions.{AreBranches, IsForestAt}
 use Rattle.obs_graph.specs.Graph.{Graph}
@@ -20,14 +20,12 @@ use Rattle.obs_meter.specs.Touches.{every_item, touch_at}
 use Rattle.obs_meter.specs.Spanned.{graph_matroid}
 use Rattle.obs_meter.proofs.Assigned.{forest_at-from_independent, independent-from_forest_at, to_matroid}
 use Rattle.obs_meter.proofs.Instance.{IsMatroid-graph}
-use Rattle.obs_forest.specs.Forest.{Forest, taken}
-use Rattle.obs_forest.specs.Forest.{StandsOver as ForestStandsOver}
-use Rattle.obs_assign.specs.Assignment.{Assignment, HoldsPairs, IsWhole, StandsOver, has_flag, is_frozen, pairs}
-use Rattle.obs_assign.specs.Kept.{seen}
+use Rattle.obs_assign.specs.Assignment.{Assignment, IsWhole, StandsOver, has_flag, is_frozen, pairs}
+use Rattle.obs_assign.specs.Kept.{Kept, seen, with_slots}
 use Rattle.obs_assign.specs.Pins.{IsPinnedAt, pinned_slots}
 use Rattle.obs_assign.specs.Spare.{IsSpare}
 use Rattle.obs_assign.specs.Still.{AreRetained}
-use Rattle.obs_assign.proofs.Slotted.{IsForestAt-over, branch_low, item_slot, slot_item}
+use Rattle.obs_assign.proofs.Slotted.{IsForestAt-over, item_slot, slot_item}
 use Rattle.obs_assign.proofs.Moving.{length-put_bare, length-put_paired}
 use Rattle.obs_assign.proofs.Pinning.{pinned-at, pinned-from, pinned-other}
 use Rattle.obs_assign.proofs.Paths.{joins-own}
@@ -108,47 +106,31 @@ pub record IsPinnedNew (now : Assignment) (g : Graph) (touches : List Touch) (m 
   pub stands : StandsOver new g touches
   pub whole : IsWhole new
 
-pub IsPinnedNew-core : (n : ℕ) (g : Graph) (touches : List Touch) (meters : ℕ) (slots new : List (Option ℕ)) (frozen : List Bool) (turns after_turns : ℕ) (forest after : Forest) (m e x : ℕ)
-    → AreBranches n g.ends → IsWhole (seen meters slots frozen turns forest) → meters ≤ length slots → length frozen ≡ length slots → length new ≡ length slots
-    → StandsOver (seen meters slots frozen turns forest) g touches → m < length (take meters slots) → In e (touch_at g.ends touches m)
-    → has_flag (take meters frozen) m ≡ false → IsSpare g.ends (take meters slots) (take meters frozen) m e x
-    → take meters new ≡ pinned_slots (take meters slots) m e x → HoldsPairs (take meters new) after.held → ForestStandsOver after g
-    → after.most_vertices ≡ forest.most_vertices → after.most_branches ≡ forest.most_branches
-    → IsPinnedNew (seen meters slots frozen turns forest) g touches m e x (seen meters new (set frozen m true) after_turns after)
-IsPinnedNew-core n g touches meters slots new frozen turns after_turns forest after m e x ok whole low flags len stands lm touched thawed spare new_is holds over mv mb =
-    let a : Assignment = seen meters slots frozen turns forest in
-    let lt = length-take-le meters slots low in
-    let ln = length-take-le meters new (omega arith) in
+pub IsPinnedNew-made : (n : ℕ) (g : Graph) (touches : List Touch) (k : Kept) (frozen : List Bool) (turns after_turns m e x : ℕ)
+    → AreBranches n g.ends → IsWhole (seen k frozen turns) → length frozen ≡ k.most_meters
+    → StandsOver (seen k frozen turns) g touches → m < length k.slots → In e (touch_at g.ends touches m)
+    → has_flag (take (length k.slots) frozen) m ≡ false → IsSpare g.ends k.slots (take (length k.slots) frozen) m e x
+    → IsPinnedNew (seen k frozen turns) g touches m e x (seen (with_slots k g (pinned_slots k.slots m e x)) (set frozen m true) after_turns)
+IsPinnedNew-made n g touches k frozen turns after_turns m e x ok whole flags stands lm touched thawed spare =
+    let a : Assignment = seen k frozen turns in
+    let new = pinned_slots k.slots m e x in
+    let len : length new ≡ length k.slots = length-set (set k.slots x None) m (Some e) ∙ length-set k.slots x None in
     let lf = length-set frozen m true in
-    let lft = length-take-le meters (set frozen m true) (omega arith) in
-    let cut : take meters (set frozen m true) ≡ set (take meters frozen) m true = take-set-lt meters frozen m true (omega arith) in
+    let cut : take (length new) (set frozen m true) ≡ set (take (length k.slots) frozen) m true = ap (λ (i : ℕ). take i (set frozen m true)) len ∙ take-set-lt (length k.slots) frozen m true lm in
     let sv = stands.forest.vertices in
     let sp = stands.forest.positions in
-    let ov = over.vertices in
-    let op = over.positions in
+    let wm = whole.meters in
     let wv = whole.vertices in
     let wp = whole.positions in
     let sm = stands.meters in
+    let f = forest_pinned n g touches a ok whole stands m e x lm touched thawed spare in
     record {
-      pinned_is = record { low = spare.low; thawed = spare.thawed; needed = spare.needed; pairs_are = new_is };
+      pinned_is = record { low = spare.low; thawed = spare.thawed; needed = spare.needed; pairs_are = refl };
       frozen_is = cut;
-      bound = let b = length-pinned (take meters slots) m e x lm in subst (λ (s : List (Option ℕ)). length (pairs_of s) ≤ length (pairs_of (take meters slots)) + 1) (sym new_is) b;
-      stands = record {
-        forest = over;
-        meters = omega arith;
-        touched = λ k f h. touched_pinned n g touches a ok whole stands m e x lm touched thawed spare k f (ap (λ (s : List (Option ℕ)). get_or s k None) (sym new_is) ∙ h);
-      };
-      whole = record {
-        paired = record {
-          flags = omega arith;
-          holds = holds;
-          frozen_have = subst (λ (fs : List Bool). HasFrozen (has_flag fs) (pairs_of (take meters new))) (sym cut)
-              (subst (λ (s : List (Option ℕ)). HasFrozen (has_flag (set (take meters frozen) m true)) (pairs_of s)) (sym new_is) (HasFrozen-pinned n g touches a ok whole stands m e x lm touched thawed spare));
-        };
-        meters = omega arith;
-        vertices = omega arith;
-        positions = omega arith;
-      };
+      bound = length-pinned k.slots m e x lm;
+      stands = StandsOver-remade k g new (set frozen m true) after_turns f touches (omega arith) (touched_pinned n g touches a ok whole stands m e x lm touched thawed spare);
+      whole = IsWhole-remade k g new (set frozen m true) after_turns f (omega arith) (omega arith) (omega arith) (omega arith)
+          (subst (λ (fs : List Bool). HasFrozen (has_flag fs) (pairs_of new)) (sym cut) (HasFrozen-pinned n g touches a ok whole stands m e x lm touched thawed spare));
     }
 
 pub record IsCarried (now : Assignment) (g : Graph) (touches : List Touch) (new : Assignment) : Type 0 where
@@ -157,30 +139,21 @@ pub record IsCarried (now : Assignment) (g : Graph) (touches : List Touch) (new 
   pub stands : StandsOver new g touches
   pub whole : IsWhole new
 
-pub IsCarried-made : (now : Assignment) (g : Graph) (touches : List Touch) (meters : ℕ) (slots new : List (Option ℕ)) (frozen : List Bool) (k turns : ℕ) (forest after : Forest)
-    → seen meters slots frozen turns forest ≡ now → meters ≤ length slots → k ≡ length slots → length new ≡ length slots → length touches ≡ length now.slots → g.vertices ≤ now.forest.most_vertices → length g.ends ≤ now.forest.most_branches
-    → AreRetained g.ends touches (pairs_of (take meters slots)) (pairs_of (take meters new)) → IsForestAt g.ends (branches (pairs_of (take meters new)))
-    → after ≡ record forest { vertices = g.vertices; held = taken g.ends (branches (pairs_of (take meters new))) }
-    → IsCarried now g touches (seen meters new (replicate k false) turns after)
-IsCarried-made now g touches meters slots new frozen k turns forest after is low k_is len n v b retained f after_is =
-    let slots_are : take meters slots ≡ now.slots = ap (λ (a : Assignment). a.slots) is in
+pub IsCarried-made : (now : Assignment) (g : Graph) (touches : List Touch) (k : Kept) (new : List (Option ℕ)) (frozen : List Bool) (n turns : ℕ)
+    → seen k frozen turns ≡ now → IsWhole (seen k frozen turns) → n ≡ k.most_meters → length new ≡ length k.slots → length touches ≡ length now.slots → length g.ends ≡ length now.forest.held → g.vertices ≤ now.forest.most_vertices
+    → AreRetained g.ends touches (pairs_of k.slots) (pairs_of new) → IsForestAt g.ends (branches (pairs_of new))
+    → IsCarried now g touches (seen (with_slots k g new) (replicate n false) turns)
+IsCarried-made now g touches k new frozen n turns is whole n_is len meters positions vertices retained f =
     let len_now = ap (λ (a : Assignment). length a.slots) is in
-    let most_v = ap (λ (a : Assignment). a.forest.most_vertices) is in
-    let most_b = ap (λ (a : Assignment). a.forest.most_branches) is in
-    let lt = length-take-le meters slots low in
-    let lk = length-replicate k false in
-    record {
-      retained = subst (λ (s : List (Option ℕ)). AreRetained g.ends touches (pairs_of s) (pairs_of (take meters new))) slots_are retained;
-      thawed = λ m. clear_flag meters k m;
-      stands = StandsOver-remade forest after g meters new (replicate k false) turns after_is f (omega arith) touches (omega arith)
-          (λ m e h. (still_from g.ends touches (pairs_of (take meters slots)) (m, e) (retained.standing (m, e) (slot_at (take meters new) m e h))).1);
-      whole = IsWhole-remade forest after g meters new (replicate k false) turns after_is f (omega arith) (omega arith) (omega arith) (omega arith) (HasFrozen-clear meters k (pairs_of (take meters new)));
-    }
-
--- the pairs before they are carried over
-pub carried_low : (now : Assignment) (g : Graph) (meters : ℕ) (slots : List (Option ℕ)) (frozen : List Bool) (turns : ℕ) (forest : Forest) → seen meters slots frozen turns forest ≡ now → IsWhole (seen meters slots frozen turns forest)
-    → length g.ends ≡ length now.forest.held → (m e : ℕ) → get_or (take meters slots) m None ≡ Some e → e < length g.ends
-carried_low now g meters slots frozen turns forest is whole p m e h =
     let held = ap (λ (a : Assignment). length a.forest.held) is in
-    let l = branch_low forest.held (take meters slots) whole.paired.holds.forest m e h in
-    omega arith
+    let most_v = ap (λ (a : Assignment). a.forest.most_vertices) is in
+    let wm = whole.meters in
+    let wp = whole.positions in
+    let lk = length-replicate n false in
+    record {
+      retained = subst (λ (a : Assignment). AreRetained g.ends touches (pairs a) (pairs_of new)) is retained;
+      thawed = λ m. clear_flag (length new) n m;
+      stands = StandsOver-remade k g new (replicate n false) turns f touches (omega arith)
+          (λ m e h. (still_from g.ends touches (pairs_of k.slots) (m, e) (retained.standing (m, e) (slot_at new m e h))).1);
+      whole = IsWhole-remade k g new (replicate n false) turns f (omega arith) (omega arith) (omega arith) (omega arith) (HasFrozen-clear (length new) n (pairs_of new));
+    }

@@ -1,15 +1,29 @@
--- What the arrays of an assignment keep.
+-- The kept pairs as one value, and what its arrays keep.
 use Rattle.std.specs.Prelude.{◌≡◌, ◌↔◌, ℕ, ◌≤◌, ◌<◌, ◌^◌, Bool, Option, Some, None, List, length, take, slice_index_or}
+use Rattle.obs_graph.specs.Graph.{Graph}
 use Rattle.obs_matroid.specs.Lists.{In, IsDistinct}
 use Rattle.obs_matroid.specs.Assignments.{branches}
 use Rattle.obs_matroid.specs.Slots.{pairs_of}
-use Rattle.obs_forest.specs.Forest.{Forest}
-use Rattle.obs_assign.specs.Assignment.{Assignment, pairs, IsWhole}
+use Rattle.obs_forest.specs.Forest.{Forest, taken}
+use Rattle.obs_assign.specs.Assignment.{Assignment, HoldsPairs, IsWhole}
 
--- what is seen of the arrays, of which the first places are in use
-abbrev pub seen : ℕ → List (Option ℕ) → List Bool → ℕ → Forest → Assignment
-seen meters slots frozen turns forest =
-    record { slots = take meters slots; frozen = take meters frozen; turns = turns; forest = forest; most_meters = length slots }
+-- by meter its branch or none, the forest of the branches, and for how many meters there is room
+pub record Kept : Type 0 where
+  pub slots : List (Option ℕ)
+  pub forest : Forest
+  pub most_meters : ℕ
+
+-- other slots in the same room, whose branches of the graph are held
+abbrev pub with_slots : Kept → Graph → List (Option ℕ) → Kept
+with_slots k g slots =
+    record k {
+      slots = slots;
+      forest = record k.forest { vertices = g.vertices; held = taken g.ends (branches (pairs_of slots)) };
+    }
+
+-- the branches of the slots are held as the graph has them
+abbrev pub IsOver : Kept → Graph → Type 0
+IsOver k g = k ≡ with_slots k g k.slots
 
 -- each branch has the meter whose branch it is
 abbrev pub IsInverse : List (Option ℕ) → List (Option ℕ) → Type 0
@@ -24,29 +38,27 @@ pub record IsListed (slots : List (Option ℕ)) (list : List ℕ) : Type 0 where
   pub different : IsDistinct list
   pub exactly : (e : ℕ) → In e list ↔ In e (branches (pairs_of slots))
 
--- how many places the arrays have, and the search
-pub record Lengths : Type 0 where
-  pub frozen : ℕ
-  pub list : ℕ
-  pub path : ℕ
-  pub candidates : ℕ
-  pub search : ℕ
+-- the pairs are held and counted, and found by their branch, and their branches are listed at the front
+pub record IsKept (k : Kept) (meters count : ℕ) (owners : List (Option ℕ)) (list : List ℕ) : Type 0 where
+  pub few : k.most_meters < 2 ^ 32
+  pub meters_low : meters ≤ k.most_meters
+  pub holds : HoldsPairs k.slots k.forest.held
+  pub positions : length k.forest.held ≤ k.forest.most_branches
+  pub count_is : count ≡ length (pairs_of k.slots)
+  pub inverse : IsInverse k.slots owners
+  pub owners_len : length owners ≡ k.forest.most_branches
+  pub list_len : length list ≡ k.most_meters
+  pub listed : IsListed k.slots (take count list)
 
--- the arrays have room for what the assignment was made for
-pub record HasArrays (a : Assignment) (meters : ℕ) (n : Lengths) : Type 0 where
-  pub few : a.most_meters < 2 ^ 32
-  pub meters_low : meters ≤ a.most_meters
-  pub frozen : n.frozen ≡ a.most_meters
-  pub list : n.list ≡ a.most_meters
-  pub path : n.path ≡ a.forest.most_vertices
-  pub candidates : n.candidates ≡ a.forest.most_branches
-  pub search : n.search ≡ a.forest.most_vertices
+-- what is seen of the kept pairs and of the flags, of which the first are in use
+abbrev pub seen : Kept → List Bool → ℕ → Assignment
+seen k frozen turns =
+    record { slots = k.slots; frozen = take (length k.slots) frozen; turns = turns; forest = k.forest; most_meters = k.most_meters }
 
--- the pairs are counted, and found by their branch, and their branches are listed
-pub record IsKept (a : Assignment) (meters count : ℕ) (owners : List (Option ℕ)) (list : List ℕ) (n : Lengths) : Type 0 where
+-- the other arrays of an assignment have room for what it was made for
+pub record HasArrays (a : Assignment) (frozen path candidates search : ℕ) : Type 0 where
   pub whole : IsWhole a
-  pub arrays : HasArrays a meters n
-  pub count_is : count ≡ length (pairs a)
-  pub inverse : IsInverse a.slots owners
-  pub owners_len : length owners ≡ a.forest.most_branches
-  pub listed : IsListed a.slots list
+  pub frozen_len : frozen ≡ a.most_meters
+  pub path_len : path ≡ a.forest.most_vertices
+  pub candidates_len : candidates ≡ a.forest.most_branches
+  pub search_len : search ≡ a.forest.most_vertices

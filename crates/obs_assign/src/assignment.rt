@@ -13,11 +13,10 @@ ghost use Rattle.obs_assign.specs.Still.{AreRetained};
 mod pins;
 
 use crate::Move;
-use crate::hold::{clear_flags, empty, hold_pairs};
-use crate::lose::lose_pair;
+use crate::hold::clear_flags;
+use crate::kept::Kept;
 use crate::memory::NoMemory;
 use crate::path::take_path;
-use crate::retain::retain;
 use crate::steps::{Steps, turn};
 use obs_forest::Forest;
 use obs_graph::search::Search;
@@ -31,64 +30,43 @@ use std::sync::ledger::Ledger;
 /// frozen: their meters keep them until they are thawed. It means something only beside a graph and meters over which
 /// it stands.
 pub struct Assignment {
-    // how many meters and pairs there are, and how many turns were taken
-    meters: usize,
-    count: u32,
+    // how many turns were taken
     turns: u64,
-    // the branch of each meter that has a pair
-    slots: Vec<Option<u32>>,
     // whether the meter keeps its pair
     frozen: Vec<bool>,
-    // the meter of each branch that has one
-    owners: Vec<Option<u32>>,
-    // the branches of the pairs, at the front
-    list: Vec<u32>,
     // the branches between the ends of the one that is pinned
     path: Vec<u32>,
     // the branches that still pairs hold, while pairs are retained, and their pieces
     candidates: Vec<Option<Ends>>,
     search: Search,
-    // the branches of the pairs, held
-    forest: Forest,
+    // the pairs
+    kept: Kept,
 }
 
 impl Model for Assignment {
-    ghost use Rattle.std.specs.Prelude.{length, take};
+    ghost use Rattle.std.specs.Prelude.{length};
     ghost use Rattle.obs_graph.specs.Search.{room_of};
     ghost use Rattle.obs_assign.specs.Assignment.{Assignment};
-    ghost use Rattle.obs_assign.specs.Kept.{seen, IsKept};
+    ghost use Rattle.obs_assign.specs.Kept.{seen, HasArrays};
 
     ghost Value = { Assignment };
 
-    ghost view = { λ a. seen a.meters a.slots.items a.frozen.items a.turns a.forest };
+    ghost view = { λ a. seen a.kept a.frozen.items a.turns };
 
-    ghost invariant = { λ a.
-        IsKept (seen a.meters a.slots.items a.frozen.items a.turns a.forest) a.meters a.count a.owners.items
-        (take a.count a.list.items)
-        (record {
-          frozen = length a.frozen.items;
-          list = length a.list.items;
-          path = length a.path.items;
-          candidates = length a.candidates.items;
-          search = room_of a.search;
-        }) };
+    ghost invariant = { λ a. HasArrays (seen a.kept a.frozen.items a.turns)
+        (length a.frozen.items) (length a.path.items) (length a.candidates.items) (room_of a.search) };
 }
 
 // Written out: so a caller's proof sees one call, and not the drop of each field.
 impl Drop for Assignment {
     fn drop(self) {
         let Assignment {
-            meters: _,
-            count: _,
             turns: _,
-            slots: _,
             frozen: _,
-            owners: _,
-            list: _,
             path: _,
             candidates: _,
             search: _,
-            forest: _,
+            kept: _,
         } = self;
     }
 }
@@ -109,27 +87,18 @@ impl Assignment {
           most_meters = most_meters;
         }) }
     {
-        let slots = vec![in alloc; None; most_meters as usize]?;
         let frozen = vec![in alloc; false; most_meters as usize]?;
-        let mut owners = vec![in alloc; None; most_branches as usize]?;
-        empty(&mut owners);
-        let list = vec![in alloc; 0; most_meters as usize]?;
         let path = vec![in alloc; 0; most_vertices as usize]?;
         let candidates = vec![in alloc; None; most_branches as usize]?;
         let search = Search::make(alloc, most_vertices)?;
-        let forest = Forest::make(alloc, most_vertices, most_branches)?;
+        let kept = Kept::make(alloc, most_meters, most_branches, most_vertices)?;
         Ok(Assignment {
-            meters: 0,
-            count: 0,
             turns: 0,
-            slots,
             frozen,
-            owners,
-            list,
             path,
             candidates,
             search,
-            forest,
+            kept,
         })
     }
 
@@ -142,17 +111,8 @@ impl Assignment {
         ensures whole { IsWhole self.new }
         ensures same_room { HasRoomOf self.old self.new }
     {
-        self.meters = ms.count() as usize;
-        empty(&mut self.slots);
         clear_flags(&mut self.frozen);
-        self.count = hold_pairs(
-            g,
-            self.meters,
-            &self.slots,
-            &mut self.owners,
-            &mut self.list,
-            &mut self.forest,
-        );
+        self.kept.clear(g, ms.count());
     }
 
     /// The number of pairs.
@@ -160,7 +120,7 @@ impl Assignment {
         ensures length { result ≡ length (pairs self.now) }
         ensures whole { IsWhole self.now }
     {
-        self.count
+        self.kept.count()
     }
 
     /// The branch of the meter, or None where it has no pair.
@@ -168,7 +128,7 @@ impl Assignment {
         requires m { m < length self.now.slots }
         ensures branch { result ≡ branch_at self.now m }
     {
-        self.slots[m as usize]
+        self.kept.slots()[m as usize]
     }
 
     /// The meter that has the branch, or None where none has it.
@@ -178,7 +138,7 @@ impl Assignment {
         ensures none { IfNone result ((m : ℕ) → branch_at self.now m ≢ Some e) }
         ensures low { IfSome result (λ m. m < length self.now.slots) }
     {
-        self.owners[e as usize]
+        self.kept.owners()[e as usize]
     }
 
     /// The branches of the pairs as a forest.
@@ -186,7 +146,7 @@ impl Assignment {
         ensures forest { result.now ≡ self.now.forest }
         ensures whole { IsWhole self.now }
     {
-        &self.forest
+        self.kept.forest()
     }
 
     /// Whether the meter is frozen.
@@ -233,16 +193,7 @@ impl Assignment {
         ensures same_room { HasRoomOf self.old self.new }
     {
         let _ = ms;
-        self.count = take_path(
-            g,
-            self.meters,
-            &mut self.slots,
-            &mut self.owners,
-            &mut self.list,
-            &mut self.forest,
-            self.count,
-            path,
-        );
+        take_path(g, &mut self.kept, path);
         self.turns = turn(self.turns, steps);
     }
 
@@ -260,16 +211,7 @@ impl Assignment {
         ensures same_room { HasRoomOf self.old self.new }
     {
         self.frozen[m as usize] = false;
-        self.count = lose_pair(
-            g,
-            self.meters,
-            &mut self.slots,
-            &mut self.owners,
-            &mut self.list,
-            &mut self.forest,
-            self.count,
-            m,
-        );
+        self.kept.lose(g, m);
     }
 
     /// Carries the pairs over to a new network, of as many meters and positions, and thaws all. Gives up each pair
@@ -288,17 +230,8 @@ impl Assignment {
         ensures same_room { HasRoomOf self.old self.new }
     {
         clear_flags(&mut self.frozen);
-        self.count = retain(
-            g,
-            ms,
-            self.meters,
-            &mut self.slots,
-            &mut self.owners,
-            &mut self.list,
-            &mut self.candidates,
-            &mut self.search,
-            &mut self.forest,
-        );
-        self.count
+        self.kept
+            .retain(g, ms, &mut self.candidates, &mut self.search);
+        self.kept.count()
     }
 }

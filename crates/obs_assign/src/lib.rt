@@ -10,6 +10,7 @@ pub struct Move {
 
 mod assignment;
 mod hold;
+mod kept;
 pub mod laws;
 mod lose;
 mod memory;

@@ -42,16 +42,8 @@ impl Assignment {
         if self.frozen[m as usize] {
             return None;
         }
-        spare_for(
-            g,
-            &self.forest,
-            &self.slots[..self.meters],
-            &self.owners,
-            &self.frozen[..self.meters],
-            &mut self.path,
-            m,
-            e,
-        )
+        let meters = self.kept.slots().len();
+        spare_for(g, &self.kept, &self.frozen[..meters], &mut self.path, m, e)
     }
 
     /// Makes m and e a frozen pair, and ticks once. Any other pair of m or of e is given up, and else at most one,
@@ -100,20 +92,11 @@ impl Assignment {
     {
         let _ = ms;
         let _ = g.vertices();
-        self.count = take_pin(
-            g,
-            self.meters,
-            &mut self.slots,
-            &mut self.owners,
-            &mut self.list,
-            &mut self.forest,
-            self.count,
-            Move {
-                meter: m,
-                branch: e,
-            },
-            x,
-        );
+        let pin = Move {
+            meter: m,
+            branch: e,
+        };
+        take_pin(g, &mut self.kept, pin, x);
         self.frozen[m as usize] = true;
         self.turns = turn(self.turns, steps);
     }

@@ -1,6 +1,10 @@
-use Rattle.std.proofs.Common.{drop, length}
+use Rattle.std.proofs.Common.{◌≡◌, drop}
+use Rattle.obs_assign.specs.Kept.{with_slots}
 use Rattle.obs_assign.proofs.Handing.{IsHanding}
 use Rattle.obs_assign.proofs.path.hand_on.Given as goal
 
 abbrev pub invariant-loop-i : goal.invariant-loop-i
-invariant-loop-i l = IsHanding l.path l.fn.slots l.meters l.count (length l.fn.owners) l.list (drop l.i l.path) l.slots l.owners
+invariant-loop-i l = record {
+  held : l.kept ≡ with_slots l.fn.kept l.g l.kept.slots;
+  handing : IsHanding l.path l.fn.kept.slots (drop l.i l.path) l.kept.slots;
+}

@@ -1,6 +1,10 @@
-use Rattle.std.proofs.Common.{drop}
-use Rattle.obs_assign.proofs.Stepping.{AreHeld, IsLosing}
+use Rattle.std.proofs.Common.{◌≡◌, drop}
+use Rattle.obs_assign.specs.Kept.{with_slots}
+use Rattle.obs_assign.proofs.Stepping.{IsLosing}
 use Rattle.obs_assign.proofs.path.lose_pairs.Given as goal
 
 abbrev pub invariant-loop-x : goal.invariant-loop-x
-invariant-loop-x l = AreHeld l.g l.meters l.fn.forest l.slots l.owners l.list l.left l.forest × IsLosing l.g l.meters l.path l.fn.slots (drop l.x-index l.path) l.slots
+invariant-loop-x l = record {
+  held : l.kept ≡ with_slots l.fn.kept l.g l.kept.slots;
+  losing : IsLosing l.path l.fn.kept.slots (drop l.x-index l.path) l.kept.slots;
+}

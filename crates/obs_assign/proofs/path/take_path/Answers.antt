@@ -1,36 +1,34 @@
-use Rattle.std.proofs.Common.{◌≡◌, ◌<◌, ℕ, Option, List, take, sym, ap, ◌∙◌, subst}
+use Rattle.std.proofs.Common.{◌≡◌, ◌<◌, List, Option, ℕ, length, sym, subst}
+use Rattle.std.specs.Prelude.{All}
 use Rattle.obs_graph.specs.Positions.{IsForestAt}
 use Rattle.obs_matroid.specs.Assignments.{branches}
 use Rattle.obs_matroid.specs.Slots.{pairs_of}
-use Rattle.obs_matroid.proofs.Contained.{In-from_All}
 use Rattle.obs_assign.specs.declared.Move.{Move}
-use Rattle.obs_assign.specs.Moves.{moved}
-use Rattle.obs_assign.proofs.Keeping.{take-moved}
-use Rattle.obs_assign.proofs.Stepping.{AreHeld, held_list, held_stands}
+use Rattle.obs_assign.specs.Kept.{with_slots}
+use Rattle.obs_assign.specs.Moves.{HandsOn}
+use Rattle.std.specs.Prelude.{None}
+use Rattle.obs_assign.proofs.Over.{IsOver-new, over-next}
 use Rattle.obs_assign.proofs.path.take_path.Goals as goal
-use Rattle.obs_assign.proofs.path.take_path.Goals.{After-lose_pairs-left}
 
--- the pairs that are left
-left : (c : After-lose_pairs-left)
-    → AreHeld c.args.g.now c.args.meters c.args.forest.now c.lose_pairs-left.new.slots c.lose_pairs-left.new.owners c.lose_pairs-left.new.list c.lose_pairs-left.result c.lose_pairs-left.new.forest
-left c = let e = c.lose_pairs-left.ensures in record { counted = e.count; inverse = e.inverse; listed = e.listed; forest_is = e.forest }
+pub hands_on-requires : goal.hands_on-requires
+hands_on-requires c = record { low = subst (λ (s : List (Option ℕ)). All (λ (x : Move). x.meter < length s) c.args.path.now) (sym c.slots.ensures.slots) c.requires.low }
 
-pub add_pairs-requires-clause-stands : goal.add_pairs-requires-clause-stands
-add_pairs-requires-clause-stands c =
-    let new = c.lose_pairs-left.new in
-    held_stands c.args.g.now c.args.meters c.args.forest.now new.slots new.owners new.list c.lose_pairs-left.result new.forest (left (goal.at.add_pairs-requires-clause-stands c).After-lose_pairs-left)
+pub hand_on-requires-clause-hands : goal.hand_on-requires-clause-hands
+hand_on-requires-clause-hands c = subst (λ (s : List (Option ℕ)). HandsOn s None c.args.path.now) c.slots.ensures.slots (c.hands_on.ensures.hands c.if-hands_on.true)
 
-pub add_pairs-requires-clause-held : goal.add_pairs-requires-clause-held
-add_pairs-requires-clause-held c =
-    let new = c.lose_pairs-left.new in
-    held_list c.args.g.now c.args.meters c.args.forest.now new.slots new.owners new.list c.lose_pairs-left.result new.forest (left (goal.at.add_pairs-requires-clause-held c).After-lose_pairs-left)
+pub add_pairs-requires-clause-over : goal.add_pairs-requires-clause-over
+add_pairs-requires-clause-over c = let new = c.lose_pairs.new.kept in IsOver-new c.args.kept.now new c.args.g.now new.slots c.lose_pairs.ensures.held
+
+pub add_pairs-requires-clause-low : goal.add_pairs-requires-clause-low
+add_pairs-requires-clause-low c = subst (λ (n : ℕ). All (λ (x : Move). x.meter < n) c.args.path.now) (sym c.lose_pairs.ensures.meters) c.requires.low
 
 pub add_pairs-requires-clause-forest : goal.add_pairs-requires-clause-forest
-add_pairs-requires-clause-forest c =
-    let meters = c.args.meters in
-    let path = c.args.path.now in
-    let new = c.lose_pairs-left.new.slots in
-    let low = In-from_All (λ (x : Move). x.meter < meters) path c.requires.low in
-    let same : moved path (take meters new) ≡ moved path (take meters c.args.slots.now) =
-    sym (take-moved meters path new low) ∙ (ap (take meters) c.lose_pairs-left.ensures.moved ∙ take-moved meters path c.args.slots.now low) in
-    subst (λ (s : List (Option ℕ)). IsForestAt c.args.g.now.ends (branches (pairs_of s))) (sym same) c.requires.forest
+add_pairs-requires-clause-forest c = subst (λ (s : List (Option ℕ)). IsForestAt c.args.g.now.ends (branches (pairs_of s))) (sym c.lose_pairs.ensures.moved) c.requires.forest
+
+pub returns : goal.returns
+returns c =
+    let a = c.args in
+    record {
+      moved = subst (λ (s : List (Option ℕ)). c.add_pairs.new.kept ≡ with_slots a.kept.now a.g.now s) c.lose_pairs.ensures.moved
+          (over-next a.kept.now c.lose_pairs.new.kept c.add_pairs.new.kept a.g.now _ c.lose_pairs.ensures.held c.add_pairs.ensures.moved);
+    }

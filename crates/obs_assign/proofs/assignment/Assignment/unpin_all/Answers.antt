@@ -6,9 +6,9 @@ use Rattle.obs_assign.proofs.assignment.Assignment.unpin_all.Goals as goal
 pub returns : goal.returns
 returns c =
     let ins = c.self.inside in
-    let arrays = c.self.invariant.arrays in
+    let inv = c.self.invariant in
     let flags = c.clear_flags.new.flags in
     record {
-      thawed = seen-thawed ins.meters ins.slots.items ins.frozen.items (take ins.frozen.len (flags ++ drop (length flags) ins.frozen.items)) ins.turns ins.forest c.args.self.now c.self.view_is
-          (omega (arith, arrays.meters_low, arrays.frozen)) (filled_back false ins.frozen.len flags ins.frozen.items c.clear_flags.ensures.clear c.deref_mut.ensures.value ins.frozen.ok.0);
+      thawed = seen-thawed ins.kept ins.frozen.items (take ins.frozen.len (flags ++ drop (length flags) ins.frozen.items)) ins.turns c.args.self.now c.self.view_is
+          (omega (arith, inv.whole.meters, inv.frozen_len)) (filled_back false ins.frozen.len flags ins.frozen.items c.clear_flags.ensures.clear c.deref_mut.ensures.value ins.frozen.ok.0);
     }
