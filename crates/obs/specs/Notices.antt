@@ -1,5 +1,5 @@
 -- What is said on standard error: where no answer was given or not the whole one, what happened and what to do.
-use Rattle.std.specs.Prelude.{ℕ, ◌<◌, nat_lt, List, [], ◌++◌, codes, Option, None, Some, position, slice_index, slice_index_or}
+use Rattle.std.specs.Prelude.{ℕ, ◌+◌, ◌/◌, ◌%◌, ◌<◌, ◌==◌, ◌||◌, nat_lt, if◌then◌else◌, List, [], ◌∷◌, ◌++◌, codes, Option, None, Some, position, slice_index, slice_index_or}
 use Rattle.obs_engine.specs.declared.status.Status.{Status}
 use Rattle.obs_engine.specs.declared.status.Status.TheVariants.{Done, Short, Usage, InputFault, ReadFault, WriteFault, NoMemory, SessionTooLong}
 use Rattle.obs_io.specs.Causes.{Rose}
@@ -8,11 +8,27 @@ use Rattle.obs_io.specs.Causes.{Rose}
 abbrev pub failed_word : List ℕ → Option ℕ
 failed_word counts = position (λ count. nat_lt 0 count) counts
 
+-- the code of a digit of base 16
+abbrev pub digit_code : ℕ → ℕ
+digit_code value = if nat_lt value 10 then 48 + value else 87 + value
+
+-- a byte of a name as it is said: a control byte and a backslash as \xNN
+abbrev pub byte_said : ℕ → List ℕ
+byte_said byte =
+    if nat_lt byte 32 || (byte == 92) || (byte == 127)
+    then 92 ∷ 120 ∷ digit_code (byte / 16) ∷ digit_code (byte % 16) ∷ []
+    else byte ∷ []
+
+-- a name as it is said
+abbrev pub name_said : List ℕ → List ℕ
+name_said [] = []
+name_said (byte ∷ name) = byte_said byte ++ name_said name
+
 -- of a read that failed: the file, or the input where no file is named
 abbrev pub read_notice : List (List ℕ) → Option ℕ → List ℕ
 read_notice words None = codes "obs: the standard input could not be read. The lines that had ended before were answered.\n"
 read_notice words (Some word) =
-    codes "obs: this file could not be read: " ++ (slice_index_or words word []
+    codes "obs: this file could not be read: " ++ (name_said (slice_index_or words word [])
     ++ codes "\nobs: is it spelt right, and may you read it? It must be a plain file, no folder or pipe: it is opened more than once.\n")
 
 -- all that is said of a run with this status, where a read of the file of this word failed. Of a whole answer nothing is said

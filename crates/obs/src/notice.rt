@@ -1,7 +1,7 @@
 // What is said on standard error where no answer was given, or not the whole one.
-ghost use Rattle.std.specs.Prelude.{◌≡◌, ◌+◌, ◌++◌, ℕ, [], length, map, string_bytes, slice_index_or, IsOk};
+ghost use Rattle.std.specs.Prelude.{◌≡◌, ◌<◌, ◌+◌, ◌++◌, ℕ, [], length, map, string_bytes, slice_index_or, IsOk};
 ghost use Rattle.obs_io.specs.Bytes.{Writes};
-ghost use Rattle.obs.specs.Notices.{notice, read_notice};
+ghost use Rattle.obs.specs.Notices.{byte_said, digit_code, name_said, notice, read_notice};
 
 use obs_engine::Status;
 use obs_io::{Failed, Sink, write_all};
@@ -42,31 +42,67 @@ fn word_bytes(words: &[String], at: usize) -> &[u8]
     }
 }
 
-// Writes a text and then another.
-fn write_two<E: Sink>(errors: &mut E, first: &[u8], second: &[u8]) -> Result<(), Failed>
-    ensures writes { Writes (E.written errors.old) (E.written errors.new) result (first.now ++ second.now) }
-    ensures succeeds { (rest : ℕ) → E.has_room errors.old (length (first.now ++ second.now) + rest) → IsOk result }
+// A digit of a number in base 16.
+fn digit(value: u8) -> u8
+    requires value { value < 16 }
+    ensures digit { result ≡ digit_code value }
 {
-    match write_all(errors, first) {
+    if value < 10 { 48 + value } else { 87 + value }
+}
+
+// Writes a byte of a name, by its number where a terminal would act on it or a number could be meant.
+fn write_byte<E: Sink>(errors: &mut E, byte: u8) -> Result<(), Failed>
+    ensures writes { Writes (E.written errors.old) (E.written errors.new) result (byte_said byte) }
+    ensures succeeds { (rest : ℕ) → E.has_room errors.old (length (byte_said byte) + rest) → IsOk result }
+    ensures room { (rest : ℕ) → E.has_room errors.old (length (byte_said byte) + rest) → E.has_room errors.new rest }
+{
+    if byte < 32 || byte == 92 || byte == 127 {
+        let text = [92, 120, digit(byte / 16), digit(byte % 16)];
+        return write_all(errors, &text);
+    }
+    write_all(errors, &[byte])
+}
+
+// Writes a name.
+fn write_name<E: Sink>(errors: &mut E, name: &[u8]) -> Result<(), Failed>
+    ensures writes { Writes (E.written errors.old) (E.written errors.new) result (name_said name.now) }
+    ensures succeeds { (rest : ℕ) → E.has_room errors.old (length (name_said name.now) + rest) → IsOk result }
+    ensures room { (rest : ℕ) → E.has_room errors.old (length (name_said name.now) + rest) → E.has_room errors.new rest }
+{
+    let mut at = 0;
+    while at < name.len() {
+        write_byte(errors, name[at])?;
+        at += 1;
+    }
+    Ok(())
+}
+
+// Writes a name and then a text.
+fn write_two<E: Sink>(errors: &mut E, name: &[u8], second: &[u8]) -> Result<(), Failed>
+    ensures writes { Writes (E.written errors.old) (E.written errors.new) result (name_said name.now ++ second.now) }
+    ensures succeeds { (rest : ℕ) → E.has_room errors.old (length (name_said name.now ++ second.now) + rest)
+        → IsOk result }
+{
+    match write_name(errors, name) {
         Ok(()) => write_all(errors, second),
         Err(Failed) => Err(Failed),
     }
 }
 
-// Writes a text and then two others.
+// Writes a text, then a name and then a text.
 fn write_three<E: Sink>(
     errors: &mut E,
     first: &[u8],
-    second: &[u8],
+    name: &[u8],
     third: &[u8],
 ) -> Result<(), Failed>
     ensures writes { Writes (E.written errors.old) (E.written errors.new) result
-        (first.now ++ (second.now ++ third.now)) }
-    ensures succeeds { (rest : ℕ) → E.has_room errors.old (length (first.now ++ (second.now ++ third.now)) + rest)
+        (first.now ++ (name_said name.now ++ third.now)) }
+    ensures succeeds { (rest : ℕ) → E.has_room errors.old (length (first.now ++ (name_said name.now ++ third.now)) + rest)
         → IsOk result }
 {
     match write_all(errors, first) {
-        Ok(()) => write_two(errors, second, third),
+        Ok(()) => write_two(errors, name, third),
         Err(Failed) => Err(Failed),
     }
 }
