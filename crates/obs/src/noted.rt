@@ -6,15 +6,18 @@ use obs_io::{Failed, Files};
 
 /// Files that count the failed reads of each word.
 #[derive(Drop)]
-pub(crate) struct Noted<F> {
+pub(crate) struct Noted<F: Files> {
     inner: F,
     faults: [u64; 16],
     ghost counts: { length faults ≡ 16 },
+    // no read has failed beneath but of the words of which one is noted
+    ghost noted: { (w : ℕ) → slice_index faults w ≡ 0 → F.faults inner w ≡ 0 },
 }
 
 impl<F: Files> Noted<F> {
     /// These files, of which no read has failed yet.
     pub(crate) fn new(inner: F) -> Noted<F>
+        requires fresh { (w : ℕ) → F.faults inner w ≡ 0 }
         ensures inner { result.inner ≡ inner }
         ensures faults { (w : ℕ) → slice_index result.faults w ≡ 0 }
     {

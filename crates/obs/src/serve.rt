@@ -1,5 +1,5 @@
 // A run, and what is said of it on standard error.
-ghost use Rattle.std.specs.Prelude.{◌≡◌, ◌+◌, ℕ, length, map, slice_index, string_bytes};
+ghost use Rattle.std.specs.Prelude.{◌≡◌, ◌≢◌, ◌+◌, ℕ, length, map, slice_index, string_bytes};
 ghost use Rattle.obs_engine.specs.Forms.{TakesInput};
 ghost use Rattle.obs_engine.specs.Runs.{IsRun};
 ghost use Rattle.obs_engine.specs.Words.{form_of};
@@ -40,6 +40,8 @@ pub(crate) fn serve<F: Files, S: Source, W: Sink, E: Sink>(
     // and none is named only where one of the input failed
     ensures named { result ≡ Status.ReadFault
         → NamesFailure files.new.faults (S.faults input.old) (S.faults input.new) (failed_word files.new.faults) }
+    // where a run doesn't end for a failed read, no read of the files beneath has failed since they were noted
+    ensures beneath { result ≢ Status.ReadFault → (w : ℕ) → F.faults files.new.inner w ≡ 0 }
 {
     let status = run(alloc, words, files, input, output);
     let _said = say(errors, words, status, files.failed());

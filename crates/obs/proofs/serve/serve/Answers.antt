@@ -1,4 +1,4 @@
-use Rattle.std.proofs.Common.{inl, inr, sym}
+use Rattle.std.proofs.Common.{inl, inr, sym, ◌∙◌}
 use Rattle.obs.proofs.Named.{named_file, named_input}
 use Rattle.obs.proofs.Said.{writes_part}
 use Rattle.obs.proofs.serve.serve.Goals as goal
@@ -13,3 +13,6 @@ returns-clause-named g c = λ e.
       | inl failed ↦ named_file _ counts _ _ _ _ c.requires.fresh failed.file
       | inr failed ↦ named_input counts _ _ failed.rose
     ]
+
+pub returns-clause-beneath : goal.returns-clause-beneath
+returns-clause-beneath g c = λ no w. c.run-status.new.files.noted w (c.run-status.ensures.quiet_files no w ∙ c.requires.fresh w)
