@@ -92,6 +92,8 @@ def write(name, folder, size=None):
 
 
 def main():
+    if len(sys.argv) not in (3, 4) or sys.argv[1] not in SHAPES:
+        sys.exit(f"usage: tools/shapes.py SHAPE FOLDER [SIZE], where SHAPE is one of {' '.join(SHAPES)}")
     write(sys.argv[1], sys.argv[2], int(sys.argv[3]) if len(sys.argv) > 3 else None)
 
 
