@@ -10,6 +10,10 @@ use Rattle.std.proofs.lemmas.List.FromFn.{get_or-map-range_with_len, length-rang
 use Rattle.obs_case.specs.Tables.{IsValid, Tables}
 use Rattle.obs_io.specs.declared.outside.Failed.{Failed}
 use Rattle.obs_matroid.specs.Assignments.{Pair}
+use Rattle.obs_meter.specs.Touches.{every_item}
+use Rattle.obs_assign.specs.Assignment.{Assignment, pairs}
+use Rattle.obs_first.specs.First.{first_pairs}
+use Rattle.obs_first.proofs.Lawful.{first_pairs-is}
 use Rattle.obs_network.specs.Components.{need_of}
 use Rattle.obs_islands.specs.Firsts.{island_first}
 use Rattle.obs_islands.specs.Islands.{every_vertex}
@@ -17,14 +21,19 @@ use Rattle.obs_islands.proofs.Firsts.{first_in, partition}
 use Rattle.obs_network.specs.Network.{Network, case_branches, case_component_count, case_meters, case_sizes, network_of}
 use Rattle.obs_network.specs.Switched.{case_bus_count}
 use Rattle.obs_network.proofs.OfCase.{case_branches-are}
-use Rattle.obs_network.specs.Observable.{IsObservable, is_energised_component}
+use Rattle.obs_network.specs.Located.{live_meters_of}
+use Rattle.obs_network.specs.Observable.{IsObservable, case_live_meters, is_energised_component}
+use Rattle.obs_network.proofs.Listed.{no_pairs_in}
 use Rattle.obs_report.specs.Counts.{counts_text}
 use Rattle.obs_report.specs.Islands.{islands_text}
-use Rattle.obs_report.specs.Meters.{bound_text, critical_text}
+use Rattle.obs_report.specs.Meters.{bound_text, component_name, critical_text}
 use Rattle.obs_report.specs.Printed.{AppendsAt}
-use Rattle.obs_report.specs.Trees.{tree_text}
+use Rattle.obs_report.specs.Items.{pair_line}
+use Rattle.obs_report.specs.Trees.{tree_line, tree_text}
 use Rattle.obs_report.proofs.Printing.{and_then_none}
 use Rattle.obs_edit.specs.Answers.{bound_meters, bound_outside, bound_rank, case_critical_meters, case_first_pairs, case_islands, case_rank, component_rank}
+use Rattle.obs_edit.specs.Sessions.{AreLongest}
+use Rattle.obs_edit.proofs.Enough.{live_pairs}
 use Rattle.obs_edit.proofs.Tight.{observable-from, observable-to}
 use Rattle.obs_engine.specs.Asks.{block_text, blocks_text, bound_claim, claims_text, component_claim, text_if, tree_claim}
 use Rattle.obs_engine.specs.declared.blocks.Block.{Block}
@@ -43,6 +52,16 @@ appends_nothing x a f p = record {
 pub tree_is : (t : Tables) (c : ℕ) (pairs : List Pair) → pairs ≡ case_first_pairs t → tree_text t c pairs ≡ tree_claim t c
 unfolding tree_claim
 tree_is t c pairs e = ap (tree_text t c) e
+
+-- the text of the tree of a component without a live meter, from the kept pairs: no pair lies in it
+pub lone_tree_is : (t : Tables) → IsValid t → (c : ℕ) → live_meters_of (network_of t) c ≡ [] → (a : Assignment) → AreLongest t a → tree_text t c (pairs a) ≡ tree_claim t c
+unfolding tree_claim case_first_pairs
+lone_tree_is t v c lone a longest =
+    let touches = case_meters t in
+    let first = first_pairs-is (case_bus_count t) (case_branches t) touches (case_branches-are t v) in
+    let kept_none = no_pairs_in t v c lone (case_live_meters t) (pairs a) (live_pairs t v a longest) in
+    let first_none = no_pairs_in t v c lone (every_item touches) (first_pairs (case_bus_count t) (case_branches t) touches) first.assigns in
+    ap (λ (l : List Pair). tree_line (component_name t c) ++ flat_map (pair_line t) l) (kept_none ∙ sym first_none)
 
 -- the text of the bound, from its parts
 pub bound_is : (t : Tables) (c rank outside : ℕ) (inside : List ℕ) → inside ≡ bound_meters t c → rank ≡ bound_rank t c → outside ≡ bound_outside t c → bound_text t c inside rank outside ≡ bound_claim t c

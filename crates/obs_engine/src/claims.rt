@@ -19,6 +19,7 @@ fn print_lone_tree<W: Sink>(output: &mut W, session: &Session, c: u32) -> Result
     ensures appends { Appends W.written W.faults W.has_room output.old output.new result
         (tree_claim session.now.tables c) }
 {
+    let _nodes = session.present().nodes();
     print_tree(
         output,
         session.present(),
