@@ -1,5 +1,5 @@
 -- Texts that are written one behind the other.
-use Rattle.std.proofs.Common.{ℕ, ◌≡◌, ◌<◌, ◌∙◌, ◌+◌, zero, suc, refl, ap, sym, subst, arith, List, [], ◌∷◌, ◌++◌, length, take, drop, Option, Some, None, Result, Ok, Err, append_assoc, append-nil, Bool, true, false}
+use Rattle.std.proofs.Common.{ℕ, ◌≡◌, ◌<◌, ◌∙◌, ◌+◌, zero, suc, refl, ap, sym, subst, arith, List, [], ◌∷◌, ◌++◌, length, take, drop, Option, Some, None, Result, Ok, Err, append_assoc, append-nil, true, false}
 use Rattle.std.specs.Prelude.{slice_index, ⊤}
 use Rattle.std.proofs.lemmas.List.{length-append}
 use Rattle.obs_io.specs.Bytes.{Wrote, WrotePart, Writes}

@@ -1,4 +1,4 @@
-use Rattle.std.proofs.Common.{◌≡◌, ◌≤◌, ◌-◌, ◌+◌, ℕ, length, take, drop}
+use Rattle.std.proofs.Common.{◌≤◌, ◌-◌, ◌+◌, ℕ, length, take, drop}
 use Rattle.obs_io.specs.Bytes.{Wrote}
 use Rattle.obs.specs.Notices.{name_said}
 use Rattle.obs.proofs.notice.write_name.Given as goal
