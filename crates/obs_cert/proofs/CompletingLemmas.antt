@@ -21,8 +21,7 @@ use Rattle.obs_exchange.proofs.AtGraph.{In-live, live-from_live_items}
 use Rattle.obs_placement.specs.Laws.{live_candidates, live_meters}
 use Rattle.obs_placement.specs.Order.{price_of}
 use Rattle.obs_placement.proofs.Refuting.{layers_bound_completing}
-use Rattle.obs_network.specs.Network.{case_branches, case_needed, case_offered}
-use Rattle.obs_network.specs.Switched.{case_bus_count}
+use Rattle.obs_network.specs.Network.{case_branches, case_needed, case_offered, case_vertex_count}
 use Rattle.obs_network.proofs.Observed.{most_pairs}
 use Rattle.obs_network.proofs.OfCase.{case_branches-are}
 use Rattle.obs_cert.specs.declared.flaw.FlawCode.TheVariants.{Cycle, NotBelow, NotInside, NotTouched, Twice, UnknownName, WrongCost, WrongLayers, WrongLength, WrongOutside, WrongRank}
@@ -151,7 +150,7 @@ module _ (t : Tables) where
 
 module _ (t : Tables) (v : IsValid t) where
   abbrev g : Matroid
-  g = graph_matroid (case_bus_count t) (case_branches t)
+  g = graph_matroid (case_vertex_count t) (case_branches t)
 
   -- and the listed ones touch as much, where none is listed from elsewhere
   rank_same : (to : ℕ) (list : List ℕ) → not_inside (is_below t to) list ≡ false → g.rank (flat_map (touches_of t) (filter (has list) (parts t to))) ≡ rank_of_items t list
@@ -165,7 +164,7 @@ module _ (t : Tables) (v : IsValid t) where
       omega (arith, up, down)
 
   shown : (layer : Layer) (list : List ℕ) → not_inside (is_below t layer.to) list ≡ false → wrong_rank t list layer.rank ≡ false → wrong_outside t (is_below t layer.to) list layer.outside ≡ false
-      → IsShown (graph_matroid (case_bus_count t) (case_branches t)) (touch_at (case_branches t) (case_offered t)) (price t) (metered t) (candidates t) (bare layer)
+      → IsShown (graph_matroid (case_vertex_count t) (case_branches t)) (touch_at (case_branches t) (case_offered t)) (price t) (metered t) (candidates t) (bare layer)
   shown layer list inside ranked counted = record {
     marks = has list;
     rank_is = rank_same layer.to list inside ∙ eqb-true (rank_of_items t list) layer.rank (not-false (rank_of_items t list == layer.rank) ranked);
@@ -234,11 +233,11 @@ chosen_are_cheapest t c v h =
         offered = λ m i. (of_candidates m i).1;
         completes = completes;
         least = λ Y y.
-            let least = layers_bound_completing (case_bus_count t) (case_branches t) (case_offered t) (length t.meters) (case_needed t) (prices_of t.candidates) Y (map bare c.layers) (case_branches-are t v)
+            let least = layers_bound_completing (case_vertex_count t) (case_branches t) (case_offered t) (length t.meters) (case_needed t) (prices_of t.candidates) Y (map bare c.layers) (case_branches-are t v)
             (run_on 0 c.layers (not-false (runs_on 0 c.layers) runs.0))
             (λ l i.
             let r = with_list t [] c.layers l i in
-            subst (λ (x : BareLayer). IsShown (graph_matroid (case_bus_count t) (case_branches t)) (touch_at (case_branches t) (case_offered t)) (price t) (metered t) (candidates t) x) (sym r.2)
+            subst (λ (x : BareLayer). IsShown (graph_matroid (case_vertex_count t) (case_branches t)) (touch_at (case_branches t) (case_offered t)) (price t) (metered t) (candidates t) x) (sym r.2)
             (shown t v r.0.layer r.0.list
             (each_false (λ (x : Listed). not_inside (is_below t x.layer.to) x.list) listed lists.1 r.0 r.1)
             (each_false (λ (x : Listed). wrong_rank t x.list x.layer.rank) listed rank.0 r.0 r.1)
@@ -256,8 +255,8 @@ shortfalls_refute t c v h X completes =
     let inside = none_true (not_inside (is_live_item t) list) NotInside (first_true (list_clauses t (is_live_item t) list c.rank c.outside (case_needed t))) known.1 in
     let alive = filter (is_live (case_branches t) (case_offered t)) X in
     let N = live_meters (case_branches t) (case_offered t) (length t.meters) ++ alive in
-    let r = rho-to_matroid (case_bus_count t) (case_branches t) (case_offered t) N (case_needed t) completes.reached in
-    let a = IsAssignment-items (graph_matroid (case_bus_count t) (case_branches t)) (laws t v) (touch_at (case_branches t) (case_offered t)) N (scope_of t (is_live_item t)) r.longest r.assigns
+    let r = rho-to_matroid (case_vertex_count t) (case_branches t) (case_offered t) N (case_needed t) completes.reached in
+    let a = IsAssignment-items (graph_matroid (case_vertex_count t) (case_branches t)) (laws t v) (touch_at (case_branches t) (case_offered t)) N (scope_of t (is_live_item t)) r.longest r.assigns
     (λ p i. elim (In-append_cases p.0 (metered t) alive (r.assigns.of_items p i)) [
       | inl j ↦ (In-filter_from (λ m. nat_lt m (length t.meters)) p.0 (live t) j).0
       | inr j ↦ In-live (case_branches t) (case_offered t) p.0 (In-filter_from (is_live (case_branches t) (case_offered t)) p.0 X j).1

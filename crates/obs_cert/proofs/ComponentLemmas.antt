@@ -1,5 +1,5 @@
 -- The live meters of a component are the scope of its claims.
-use Rattle.std.proofs.Common.{◌≡◌, ℕ, ◌+◌, ◌<◌, ◌≤◌, ◌&&◌, Bool, true, false, cond, eqb, nat_lt, Some, None, length, get_or, refl, sym, ap, ◌∙◌, arith}
+use Rattle.std.proofs.Common.{◌≡◌, ℕ, ◌+◌, ◌*◌, ◌<◌, ◌≤◌, ◌&&◌, Bool, true, false, cond, eqb, nat_lt, Some, None, length, get_or, refl, sym, ap, ◌∙◌, arith}
 use Rattle.std.specs.List.{range_with_len}
 use Rattle.std.proofs.lemmas.Bool.{and_parts, lt-ltb, ltb-true}
 use Rattle.std.proofs.lemmas.List.{length-map}
@@ -12,7 +12,7 @@ use Rattle.obs_meter.specs.declared.Touch.TheVariants.{Nothing}
 use Rattle.obs_meter.specs.Spanned.{common_vertex}
 use Rattle.obs_meter.specs.Touches.{is_live, live_items, touched}
 use Rattle.obs_meter.proofs.Assigned.{live_items-distinct}
-use Rattle.obs_case.specs.Tables.{IsValid, Tables}
+use Rattle.obs_case.specs.Tables.{IsValid, Tables, most_rows}
 use Rattle.obs_network.specs.Located.{component_of_item, is_meter_in as is_in, live_meters_of, touch_component, vertex_component}
 use Rattle.obs_network.specs.Network.{case_branches, case_components, case_meters, case_offered, network_of}
 use Rattle.obs_network.proofs.Marked.{filtered_below}
@@ -74,7 +74,7 @@ scope_few t test =
     let w = length-within (scope_of t test) all (scope_distinct t test) (λ m i. (In-filter_from test m all i).0) in
     omega (arith, w, length-range_with_len 0 (length (case_offered t)), length-case_offered t)
 
-pub rows_few : (t : Tables) → IsValid t → length t.meters + length t.candidates ≤ 40000
+pub rows_few : (t : Tables) → IsValid t → length t.meters + length t.candidates ≤ 2 * most_rows
 rows_few t v =
     let a = v.meters.few in
     let b = v.candidates.few in

@@ -14,9 +14,8 @@ use Rattle.obs_meter.specs.Assignments.{IsAssignmentAt}
 use Rattle.obs_meter.specs.Spanned.{graph_matroid}
 use Rattle.obs_meter.specs.Touches.{is_live, touch_at, touched}
 use Rattle.obs_meter.proofs.Assigned.{to_matroid}
-use Rattle.obs_network.specs.Network.{case_branches, case_meters, case_offered}
+use Rattle.obs_network.specs.Network.{case_branches, case_meters, case_offered, case_vertex_count}
 use Rattle.obs_network.specs.Observable.{IsObservable, branch_component, case_live_meters, item_component}
-use Rattle.obs_network.specs.Switched.{case_bus_count}
 use Rattle.obs_network.proofs.InComponents.{touched_component}
 use Rattle.obs_network.proofs.Listed.{meter_is_item}
 use Rattle.obs_network.proofs.Marked.{filtered_below}
@@ -92,9 +91,9 @@ module _ (t : Tables) (v : IsValid t) (k : ℕ) (A : List NumberPair) (a : IsAss
       let home = eq-eqb (item_component t (case_meters t) p.0) k (sym (touched_component t v (case_meters t) p.0 p.1 (a.touched p u.0)) ∙ eqb-true (branch_component t p.1) k u.1) in
       (l, meter_at t k p.0 l (In-filter_from (is_live (case_branches t) (case_meters t)) p.0 (range_with_len 0 (length (case_meters t))) live).1 home)
 
-  in_scope : IsAssignment (graph_matroid (case_bus_count t) (case_branches t)) (touch_at (case_branches t) (case_offered t)) (scope_of t (is_meter_in t k)) (filter lies A)
+  in_scope : IsAssignment (graph_matroid (case_vertex_count t) (case_branches t)) (touch_at (case_branches t) (case_offered t)) (scope_of t (is_meter_in t k)) (filter lies A)
   in_scope =
-      let b = to_matroid (case_bus_count t) (case_branches t) (case_meters t) (case_live_meters t) A a in
+      let b = to_matroid (case_vertex_count t) (case_branches t) (case_meters t) (case_live_meters t) A a in
       let different = IsDistinct-filter_items lies A a.different in
       record {
         of_items = λ p i.
@@ -103,7 +102,7 @@ module _ (t : Tables) (v : IsValid t) (k : ℕ) (A : List NumberPair) (a : IsAss
             (range_in 0 (length (case_offered t)) p.0 (omega arith) (let l = u.0 in omega (arith, l, length-case_offered t))) u.1;
         touched = λ p i. subst (λ (xs : List ℕ). In p.1 xs) (sym (same_touch t p.0 (here p i).0)) (a.touched p (In-filter_from lies p A i).0);
         different = different;
-        independent = independent_within (graph_matroid (case_bus_count t) (case_branches t)) (laws t v) A (filter lies A) b.independent a.different different (λ p i. (In-filter_from lies p A i).0);
+        independent = independent_within (graph_matroid (case_vertex_count t) (case_branches t)) (laws t v) A (filter lies A) b.independent a.different different (λ p i. (In-filter_from lies p A i).0);
       }
 
 pub bounds_are_not_observable : BoundsAreNotObservable

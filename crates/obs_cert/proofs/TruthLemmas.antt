@@ -22,9 +22,9 @@ use Rattle.obs_meter.specs.Touches.{touch_at}
 use Rattle.obs_meter.proofs.Assigned.{forest_at-from_independent}
 use Rattle.obs_meter.proofs.Instance.{IsMatroid-graph}
 use Rattle.obs_network.specs.Components.{is_energised}
-use Rattle.obs_network.specs.Network.{case_branches, case_component_count, case_components, case_energised, case_first_buses, case_offered}
+use Rattle.obs_network.specs.Network.{case_branches, case_component_count, case_components, case_energised, case_first_buses, case_offered, case_vertex_count}
 use Rattle.obs_network.specs.Observable.{is_energised_component}
-use Rattle.obs_network.specs.Switched.{case_bus_count, case_buses, case_first_node}
+use Rattle.obs_network.specs.Switched.{case_buses, case_first_node}
 use Rattle.obs_network.proofs.OfCase.{case_branches-are}
 use Rattle.obs_cert.specs.declared.flaw.FlawCode.{FlawCode}
 use Rattle.obs_cert.specs.declared.flaw.FlawCode.TheVariants.{NotBelow, Twice, WrongOutside, WrongRank}
@@ -97,13 +97,13 @@ items-pairs t (p ∷ pairs) = ap (λ (xs : List ℕ). item_of t p.item ∷ xs) (
 
 module _ (t : Tables) (v : IsValid t) where
   abbrev g : Matroid
-  g = graph_matroid (case_bus_count t) (case_branches t)
+  g = graph_matroid (case_vertex_count t) (case_branches t)
 
   abbrev touch : ℕ → List ℕ
   touch = touch_at (case_branches t) (case_offered t)
 
-  pub laws : IsMatroid (graph_matroid (case_bus_count t) (case_branches t))
-  laws = IsMatroid-graph (case_bus_count t) (case_branches t) (case_branches-are t v)
+  pub laws : IsMatroid (graph_matroid (case_vertex_count t) (case_branches t))
+  laws = IsMatroid-graph (case_vertex_count t) (case_branches t) (case_branches-are t v)
 
   -- pairs whose clauses are true are an assignment of a list that has their items
   pub pairs_assign : (M : List ℕ) (pairs : List Pair) → not_touched t (pairs_of t pairs) ≡ false → paired_twice t pairs ≡ false → cycle t (pairs_of t pairs) ≡ false
@@ -116,7 +116,7 @@ module _ (t : Tables) (v : IsValid t) where
         of_items = λ p i. within p.0 (subst (λ (xs : List ℕ). In p.0 xs) (items-pairs t pairs) (In-items A p i));
         touched = λ p i. has_from (touches_of t p.0) p.1 (each_passes (λ (q : NumberPair). has (touches_of t q.0) q.1) A touched p i);
         different = subst (λ (xs : List ℕ). IsDistinct xs) (sym (items-pairs t pairs)) different;
-        forest = forest_at-from_independent (case_bus_count t) (case_branches t) (branches A) (independent_from_rank g laws (branches A) (rank ∙ sym (length-branches A)));
+        forest = forest_at-from_independent (case_vertex_count t) (case_branches t) (branches A) (independent_from_rank g laws (branches A) (rank ∙ sym (length-branches A)));
       }
 
   -- what is touched by the listed ones of a list spans no more than what is touched by all that are listed
@@ -130,7 +130,7 @@ module _ (t : Tables) (v : IsValid t) where
 
   -- where the clauses on stated numbers are true, no assignment of the scope is as long as the need
   pub bound_below : (test : ℕ → Bool) (list : List ℕ) (rank outside need : ℕ) → first_true (list_clauses t test list rank outside need) ≡ None → (B : List NumberPair)
-      → IsAssignment (graph_matroid (case_bus_count t) (case_branches t)) (touch_at (case_branches t) (case_offered t)) (scope_of t test) B → length B < need
+      → IsAssignment (graph_matroid (case_vertex_count t) (case_branches t)) (touch_at (case_branches t) (case_offered t)) (scope_of t test) B → length B < need
   bound_below test list rank outside need h B b =
       let once = none_true (twice list) Twice (first_true (bound_clauses t test list rank outside need)) h in
       let ranked = none_true (wrong_rank t list rank) WrongRank _ once.1 in

@@ -4,8 +4,7 @@ use Rattle.std.specs.List.{list_any, sum_by}
 use Rattle.obs_case.specs.Tables.{Tables, has_name, node_names}
 use Rattle.obs_matroid.specs.Assignments.{Pair as NumberPair, branches}
 use Rattle.obs_meter.specs.Spanned.{rank_at}
-use Rattle.obs_network.specs.Network.{case_branches, case_needed}
-use Rattle.obs_network.specs.Switched.{case_bus_count}
+use Rattle.obs_network.specs.Network.{case_branches, case_needed, case_vertex_count}
 use Rattle.obs_cert.specs.declared.flaw.FlawCode.{FlawCode}
 use Rattle.obs_cert.specs.declared.flaw.FlawCode.TheVariants.{UnknownName, NotComponent, NotInside, NotTouched, Twice, Cycle, WrongLength, WrongRank, WrongOutside, NotBelow, WrongLayers, WrongCost}
 use Rattle.obs_cert.specs.declared.flaw.Flaw.{Flaw}
@@ -43,7 +42,7 @@ paired_twice t pairs = twice (items_of t (paired_items pairs)) || twice (branche
 
 -- the rank of some branches, and of those that some items touch
 abbrev pub rank_of_branches : Tables → List ℕ → ℕ
-rank_of_branches t positions = rank_at (case_bus_count t) (case_branches t) positions
+rank_of_branches t positions = rank_at (case_vertex_count t) (case_branches t) positions
 
 abbrev pub rank_of_items : Tables → List ℕ → ℕ
 rank_of_items t list = rank_of_branches t (flat_map (touches_of t) list)

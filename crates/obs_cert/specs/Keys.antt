@@ -1,7 +1,7 @@
 -- By what items are sorted, so that those that are below a price come first.
-use Rattle.std.specs.Prelude.{ℕ, ◌+◌, ◌-◌, ◌^◌, ◌≤◌, if◌then◌else◌, List, length, map}
+use Rattle.std.specs.Prelude.{ℕ, ◌+◌, ◌-◌, ◌*◌, ◌^◌, ◌≤◌, if◌then◌else◌, List, length, map}
 use Rattle.std.specs.List.Sorted.{IsNonDecreasing, IsPermutation}
-use Rattle.obs_case.specs.Tables.{Tables}
+use Rattle.obs_case.specs.Tables.{Tables, most_rows}
 use Rattle.obs_meter.specs.Touches.{every_item}
 use Rattle.obs_network.specs.Network.{case_offered}
 use Rattle.obs_cert.specs.Scopes.{is_live_item, is_meter, price_at}
@@ -17,4 +17,4 @@ keys_of t = map (key_of t) (every_item (case_offered t))
 pub record AreKeys (t : Tables) (keys : List ℕ) : Type 0 where
   pub all : IsPermutation (keys_of t) keys
   pub rising : IsNonDecreasing keys
-  pub few : length keys ≤ 40000
+  pub few : length keys ≤ 2 * most_rows

@@ -3,9 +3,8 @@ use Rattle.std.specs.Prelude.{◌≡◌, ℕ, ◌<◌, ◌-◌, ◌==◌, ◌||�
 use Rattle.std.specs.List.{list_any}
 use Rattle.obs_case.specs.Tables.{Tables, node_names, place_of, prices_of}
 use Rattle.obs_meter.specs.Touches.{every_item, is_live, touch_at}
-use Rattle.obs_network.specs.Components.{need_of}
 use Rattle.obs_network.specs.Located.{component_of_item}
-use Rattle.obs_network.specs.Network.{case_branches, case_components, case_first_buses, case_offered, case_sizes, network_of}
+use Rattle.obs_network.specs.Network.{case_branches, case_components, case_first_buses, case_need, case_offered, network_of}
 use Rattle.obs_network.specs.Observable.{is_energised_component}
 use Rattle.obs_network.specs.Switched.{case_buses, case_first_node}
 
@@ -72,4 +71,4 @@ abbrev pub named_component : Tables → List ℕ → ℕ
 named_component t name = node_component t (place_of (node_names t) name)
 
 abbrev pub named_need : Tables → List ℕ → ℕ
-named_need t name = need_of (case_sizes t) (named_component t name)
+named_need t name = case_need t (named_component t name)

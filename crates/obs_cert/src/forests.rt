@@ -1,6 +1,6 @@
 // The clauses on pairs that tree and cost claims have in common.
 ghost use Rattle.std.specs.Prelude.{◌≡◌, ◌<◌, ◌+◌, [], ℕ, Bool, List, Some, IfNone, IfSome, suc, length};
-ghost use Rattle.obs_network.specs.Network.{network_of, rows_of};
+ghost use Rattle.obs_network.specs.Network.{case_position_count, network_of, rows_of};
 ghost use Rattle.obs_cert.specs.Flaws.{forest_clauses, first_true, paired_twice, twice, unknown_pair};
 ghost use Rattle.obs_cert.specs.Joins.{AreJoined};
 ghost use Rattle.obs_cert.specs.Marks.{AreBelow};
@@ -33,7 +33,7 @@ pub(crate) fn has_pair_twice(
     stamp: u32,
 ) -> bool
     requires items { length case.now.meters + length case.now.candidates < length paired.old }
-    requires branches { length case.now.branches < length taken.old }
+    requires branches { case_position_count case.now < length taken.old }
     requires fresh_items { AreBelow stamp paired.old }
     requires fresh_branches { AreBelow stamp taken.old }
     ensures twice { result ≡ paired_twice case.now (parts_in rest.now).pairs }

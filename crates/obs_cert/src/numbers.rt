@@ -2,6 +2,7 @@
 ghost use Rattle.std.specs.Prelude.{◌≡◌, ◌≤◌, ◌+◌, length};
 ghost use Rattle.obs_cert.specs.Said.{item_said};
 ghost use Rattle.obs_cert.specs.Numbered.{branch_of, is_known, is_known_branch, item_of};
+ghost use Rattle.obs_network.specs.Network.{case_position_count};
 
 use crate::line::Item;
 use obs_case::Case;
@@ -34,10 +35,10 @@ pub(crate) fn is_known(case: &Case, item: Item<'_>) -> bool
     }
 }
 
-/// The position of a branch; of one that isn't in its table the number of rows.
+/// The position of a branch; of one that isn't in its table the number of all positions.
 pub(crate) fn branch_of(case: &Case, name: &[u8]) -> u32
     ensures position { result ≡ branch_of case.now name.now }
-    ensures below { result ≤ length case.now.branches }
+    ensures below { result ≤ case_position_count case.now }
 {
     match case.find_branch(name) {
         Some(at) => at,

@@ -8,10 +8,8 @@ use Rattle.obs_matroid.proofs.Lists.{In-filter_from, IsDistinct-filter, length-s
 use Rattle.obs_meter.specs.Spanned.{rank_at}
 use Rattle.obs_meter.specs.Touches.{is_live, touch_at, touched}
 use Rattle.obs_meter.proofs.Assigned.{live_items-distinct}
-use Rattle.obs_network.specs.Components.{need_of}
-use Rattle.obs_network.specs.Network.{case_branches, case_component_count, case_meters, case_sizes}
+use Rattle.obs_network.specs.Network.{case_branches, case_component_count, case_meters, case_need, case_vertex_count}
 use Rattle.obs_network.specs.Observable.{IsObservable, case_live_meters}
-use Rattle.obs_network.specs.Switched.{case_bus_count}
 use Rattle.obs_network.proofs.Listed.{meter_is_item}
 use Rattle.obs_network.proofs.Marked.{filtered_below}
 use Rattle.obs_network.proofs.OfCase.{length-case_meters}
@@ -76,7 +74,7 @@ module _ (t : Tables) (c : ℕ) where
   -- the rank of what these touch
   pub bound_rank_right : rank_of_items t (bound_meters t c) ≡ bound_rank t c
   unfolding bound_rank
-  bound_rank_right = ap (rank_at (case_bus_count t) (case_branches t))
+  bound_rank_right = ap (rank_at (case_vertex_count t) (case_branches t))
       (same_lists (touches_of t) (touch_at (case_branches t) (case_meters t)) (bound_meters t c) (λ m i. meter_touches_same t m (bound_meter m i).0))
 
   -- the critical ones are those outside
@@ -90,8 +88,8 @@ module _ (t : Tables) (c : ℕ) where
       omega (arith, e, l, split, component_meters_all)
 
   -- where the component isn't observable, the numbers add up to less than it needs
-  pub bound_less : IsValid t → c < case_component_count t → (IsObservable t c → ⊥) → bound_rank t c + bound_outside t c < need_of (case_sizes t) c
-  bound_less v l unseen = elim (cases_lt (component_rank t c) (need_of (case_sizes t) c)) [
+  pub bound_less : IsValid t → c < case_component_count t → (IsObservable t c → ⊥) → bound_rank t c + bound_outside t c < case_need t c
+  bound_less v l unseen = elim (cases_lt (component_rank t c) (case_need t c)) [
     | inl less ↦ omega (arith, bound_is t v c, less)
     | inr most ↦ absurd (unseen (observable-from t v c (let few = rank_few t v c l in omega (arith, few, most))))
   ]
@@ -102,7 +100,7 @@ unfolding component_bound
 bounds_hold t c v l fed unseen =
     let scope = is_meter_in t c in
     let list = bound_meters t c in
-    let need = need_of (case_sizes t) c in
+    let need = case_need t c in
     let low : (m : ℕ) → In m list → m < item_count t = λ m i. (let k = (bound_meter t c m i).0 in omega (arith, k)) in
     let same : items_of t (component_bound t c).inside ≡ list = items_named t v list low in
     let right : first_true (list_clauses t scope list (bound_rank t c) (bound_outside t c) need) ≡ None =

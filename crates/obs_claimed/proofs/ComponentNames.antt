@@ -12,8 +12,8 @@ use Rattle.obs_switch.specs.Buses.{first_node, members_of}
 use Rattle.obs_switch.proofs.FirstNodes.{bus_at, bus_of-first_node, buses_of-at, first_member, first_node-first_node, first_node-le}
 use Rattle.obs_case.specs.Tables.{IsValid, Tables, are_different, has_name, node_names, place_of}
 use Rattle.obs_case.proofs.NameLemmas.{bytes_eq-itself, different-parts}
-use Rattle.obs_network.specs.Components.{component_of, components_of, first_bus, first_buses_of, is_first_bus, need_of}
-use Rattle.obs_network.specs.Network.{case_component_count, case_components, case_first_buses, case_live, case_sizes}
+use Rattle.obs_network.specs.Components.{component_of, components_of, first_bus, first_buses_of, is_first_bus}
+use Rattle.obs_network.specs.Network.{case_component_count, case_components, case_first_buses, case_live, case_need}
 use Rattle.obs_network.specs.Observable.{is_energised_component}
 use Rattle.obs_network.specs.Switched.{case_bus_count, case_buses, case_first_node, closed_links}
 use Rattle.obs_network.proofs.Marked.{first_bus_at}
@@ -111,5 +111,5 @@ module _ (t : Tables) (v : IsValid t) (c : ℕ) (l : c < case_component_count t)
       ∙ and_from (case_first_node t u == u) _ own (and_from (slice_index (case_first_buses t) (node_component t u) == slice_index (case_buses t) u) (is_energised_component t (node_component t u)) bus on)
 
   -- and it needs what the component needs
-  pub component_need : named_need t (component_name t c) ≡ need_of (case_sizes t) c
-  component_need = ap (need_of (case_sizes t)) component_named
+  pub component_need : named_need t (component_name t c) ≡ case_need t c
+  component_need = ap (case_need t) component_named

@@ -10,8 +10,7 @@ use Rattle.obs_exchange.specs.Laws.{noncritical_in}
 use Rattle.obs_exchange.proofs.AtGraph.{live-from_live_items, live_low}
 use Rattle.obs_placement.specs.Placed.{ShortfallValue, shortfall_of, redundant_items}
 use Rattle.obs_placement.specs.Placed.Placed.{shortfall as short_of}
-use Rattle.obs_network.specs.Network.{case_branches, case_needed, case_offered}
-use Rattle.obs_network.specs.Switched.{case_bus_count}
+use Rattle.obs_network.specs.Network.{case_branches, case_needed, case_offered, case_vertex_count}
 use Rattle.obs_edit.specs.Planned.{case_placement}
 use Rattle.obs_edit.proofs.CheapestPlans.{shortfalls_refute}
 use Rattle.obs_edit.proofs.PlanOrShortfall.{lack_is}
@@ -24,13 +23,13 @@ use Rattle.obs_claimed.proofs.ClauseTests.{all_inside_scope, has-filter, once}
 
 module _ (t : Tables) where
   abbrev loose : List ℕ
-  loose = redundant_items (case_bus_count t) (case_branches t) (case_offered t)
+  loose = redundant_items (case_vertex_count t) (case_branches t) (case_offered t)
 
   abbrev live : List ℕ
   live = live_items (case_branches t) (case_offered t)
 
   abbrev passes : ℕ → Bool
-  passes = noncritical_in (case_bus_count t) (case_branches t) (case_offered t) live
+  passes = noncritical_in (case_vertex_count t) (case_branches t) (case_offered t) live
 
   loose_live : (m : ℕ) → In m loose → is_live_item t m ≡ true
   loose_live m i = live-from_live_items (case_branches t) (case_offered t) m (In-filter_from passes m live i).0
@@ -57,7 +56,7 @@ pub lack_holds : (t : Tables) (l : ShortfallValue) → IsValid t → case_placem
     → Holds t (shortfall (lack_claim t l))
 lack_holds t l v e names =
     let is = lack_is t l e in
-    let whole = shortfall_of (case_bus_count t) (case_branches t) (case_offered t) (case_needed t) in
+    let whole = shortfall_of (case_vertex_count t) (case_branches t) (case_offered t) (case_needed t) in
     let named = names (loose t) (loose_low t) in
     let low = (shortfalls_refute t l v e).0 in
     subst (λ (x : ShortfallValue). Holds t (shortfall (lack_claim t x))) is

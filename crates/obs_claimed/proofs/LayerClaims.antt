@@ -19,8 +19,7 @@ use Rattle.obs_placement.specs.Order.{price_of}
 use Rattle.obs_placement.specs.Shown.{bare_layer}
 use Rattle.obs_placement.specs.Taking.{scope_of as placed_scope}
 use Rattle.obs_placement.proofs.Growing.{AreRising, own_grows, own_in, scope_distinct as placed_distinct}
-use Rattle.obs_network.specs.Network.{case_branches, case_offered}
-use Rattle.obs_network.specs.Switched.{case_bus_count}
+use Rattle.obs_network.specs.Network.{case_branches, case_offered, case_vertex_count}
 use Rattle.obs_network.proofs.OfCase.{case_branches-are, length-case_offered}
 use Rattle.obs_cert.specs.Claims.{Item, Layer}
 use Rattle.obs_cert.specs.Flaws.{Listed, all_inside, listed_from, listed_layers, not_below, not_inside, outside_of, rank_of_items, runs_on, wrong_outside, wrong_rank}
@@ -37,14 +36,14 @@ use Rattle.obs_claimed.proofs.NamedLemmas.{items_named}
 
 module _ (t : Tables) (v : IsValid t) where
   abbrev g : Matroid
-  g = graph_matroid (case_bus_count t) (case_branches t)
+  g = graph_matroid (case_vertex_count t) (case_branches t)
 
   -- a list has just the own items of a price
   abbrev pub HasOwn : ℕ → List ℕ → Type 0
   HasOwn to list = (m : ℕ) → In m list ↔ (own t to m ≡ true)
 
   grows : (f to : ℕ) → f < to → (m : ℕ) → own t f m ≡ true → own t to m ≡ true
-  grows f to l m y = own_grows (case_bus_count t) (case_branches t) (case_offered t) (case_branches-are t v) (price t) f to (omega (arith, l)) m y
+  grows f to l m y = own_grows (case_vertex_count t) (case_branches t) (case_offered t) (case_branches-are t v) (price t) f to (omega (arith, l)) m y
 
   -- with the items that are added it has those of the next
   has_more : (f to : ℕ) (list : List ℕ) → f < to → HasOwn f list → HasOwn to (list ++ added t f to)
@@ -77,7 +76,7 @@ module _ (t : Tables) (v : IsValid t) where
   own_inside to list h = all_inside_scope (is_below t to) list (λ m i. own_below t to m ((h m).0 i))
 
   abbrev owned : ℕ → List ℕ
-  owned to = layer_items (case_bus_count t) (case_branches t) (case_offered t) (price_of (length t.meters) (prices_of t.candidates)) to
+  owned to = layer_items (case_vertex_count t) (case_branches t) (case_offered t) (price_of (length t.meters) (prices_of t.candidates)) to
 
   touched_within : (xs ys : List ℕ) → ((m : ℕ) → In m xs → In m ys) → g.rank (flat_map (touches_of t) xs) ≤ g.rank (flat_map (touches_of t) ys)
   touched_within xs ys h = rank-within g (laws t v) (flat_map (touches_of t) xs) (flat_map (touches_of t) ys) (λ e i.
@@ -87,14 +86,14 @@ module _ (t : Tables) (v : IsValid t) where
   -- its rank is that of the own items
   own_ranked : (to : ℕ) (list : List ℕ) → HasOwn to list → rank_of_items t list ≡ rank_of_items t (owned to)
   own_ranked to list h =
-      let there = own_in (case_bus_count t) (case_branches t) (case_offered t) (case_branches-are t v) (price t) to in
+      let there = own_in (case_vertex_count t) (case_branches t) (case_offered t) (case_branches-are t v) (price t) to in
       let up = touched_within list (owned to) (λ m i. (there m).1 ((h m).0 i)) in
       let down = touched_within (owned to) list (λ m i. (h m).1 ((there m).0 i)) in
       omega (arith, up, down)
 
   -- and as many of the items below its end are outside
   own_counted : (to : ℕ) (list : List ℕ) → 0 < to → HasOwn to list
-      → outside_of t (is_below t to) list ≡ layer_outside (case_bus_count t) (case_branches t) (case_offered t) (price_of (length t.meters) (prices_of t.candidates)) to
+      → outside_of t (is_below t to) list ≡ layer_outside (case_vertex_count t) (case_branches t) (case_offered t) (price_of (length t.meters) (prices_of t.candidates)) to
   own_counted to list l h =
       let S = scope_of t (is_below t to) in
       let B = placed_scope (case_branches t) (case_offered t) (price t) to in
@@ -106,7 +105,7 @@ module _ (t : Tables) (v : IsValid t) where
       let both = and_parts (is_live_item t m) (is_meter t m || nat_lt (price_at t m) to) (In-filter_from (is_below t to) m (every_item (case_offered t)) u.0).1 in
       In-filter q m B (In-filter (λ x. nat_lt (price t x) to) m (live_items (case_branches t) (case_offered t)) (In-live (case_branches t) (case_offered t) m both.0) (below_same t to m l ∙ both.1))
       (ap not (sym (same m)) ∙ u.1)) in
-      let down = length-within (filter q B) (filter p S) (IsDistinct-filter q B (placed_distinct (case_bus_count t) (case_branches t) (case_offered t) (case_branches-are t v) (price t) to)) (λ m i.
+      let down = length-within (filter q B) (filter p S) (IsDistinct-filter q B (placed_distinct (case_vertex_count t) (case_branches t) (case_offered t) (case_branches-are t v) (price t) to)) (λ m i.
       let u = In-filter_from q m B i in
       let w = In-filter_from (λ x. nat_lt (price t x) to) m (live_items (case_branches t) (case_offered t)) u.0 in
       let live = live-from_live_items (case_branches t) (case_offered t) m w.0 in

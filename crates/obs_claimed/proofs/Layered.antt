@@ -11,8 +11,7 @@ use Rattle.obs_placement.specs.declared.plans.Layer.{Layer as PlacedLayer}
 use Rattle.obs_placement.specs.Layers.{added_items, inside_of, layers_of, layer_outside, layer_rank}
 use Rattle.obs_placement.specs.Order.{price_of}
 use Rattle.obs_placement.specs.Taking.{is_listed_at}
-use Rattle.obs_network.specs.Network.{case_branches, case_offered}
-use Rattle.obs_network.specs.Switched.{case_bus_count}
+use Rattle.obs_network.specs.Network.{case_branches, case_offered, case_vertex_count}
 use Rattle.obs_cert.specs.Claims.{Layer}
 use Rattle.obs_cert.specs.Scopes.{is_below, is_live_item, is_meter, price_at}
 use Rattle.obs_claimed.specs.Claimed.{named_items, named_layers}
@@ -24,31 +23,31 @@ module _ (t : Tables) where
 
   -- whether an item is below a price and isn't critical there
   abbrev pub own : ℕ → ℕ → Bool
-  own to m = is_listed_at (case_bus_count t) (case_branches t) (case_offered t) (price_of (length t.meters) (prices_of t.candidates)) to m
+  own to m = is_listed_at (case_vertex_count t) (case_branches t) (case_offered t) (price_of (length t.meters) (prices_of t.candidates)) to m
 
   -- the items that a layer adds
   abbrev pub added : ℕ → ℕ → List ℕ
-  added f to = added_items (case_bus_count t) (case_branches t) (case_offered t) (price_of (length t.meters) (prices_of t.candidates)) f to
+  added f to = added_items (case_vertex_count t) (case_branches t) (case_offered t) (price_of (length t.meters) (prices_of t.candidates)) f to
 
   abbrev pub inside_from : ℕ → List ℕ → List ℕ
-  inside_from f ts = inside_of (case_bus_count t) (case_branches t) (case_offered t) (price_of (length t.meters) (prices_of t.candidates)) f ts
+  inside_from f ts = inside_of (case_vertex_count t) (case_branches t) (case_offered t) (price_of (length t.meters) (prices_of t.candidates)) f ts
 
   abbrev pub layers_from : ℕ → ℕ → List ℕ → List PlacedLayer
-  layers_from f u ts = layers_of (case_bus_count t) (case_branches t) (case_offered t) (price_of (length t.meters) (prices_of t.candidates)) f u ts
+  layers_from f u ts = layers_of (case_vertex_count t) (case_branches t) (case_offered t) (price_of (length t.meters) (prices_of t.candidates)) f u ts
 
   -- the layer from one price to another, as it is claimed
   abbrev pub layer_claim : ℕ → ℕ → List ℕ → Layer
   layer_claim f to list = record {
     from = f;
     to = to;
-    rank = layer_rank (case_bus_count t) (case_branches t) (case_offered t) (price_of (length t.meters) (prices_of t.candidates)) to;
-    outside = layer_outside (case_bus_count t) (case_branches t) (case_offered t) (price_of (length t.meters) (prices_of t.candidates)) to;
+    rank = layer_rank (case_vertex_count t) (case_branches t) (case_offered t) (price_of (length t.meters) (prices_of t.candidates)) to;
+    outside = layer_outside (case_vertex_count t) (case_branches t) (case_offered t) (price_of (length t.meters) (prices_of t.candidates)) to;
     inside = named_items t list;
   }
 
   abbrev pub layer_claims : ℕ → List ℕ → List Layer
   layer_claims f [] = []
-  layer_claims f (to ∷ ts) = layer_claim f to (added_items (case_bus_count t) (case_branches t) (case_offered t) (price_of (length t.meters) (prices_of t.candidates)) f to) ∷ layer_claims to ts
+  layer_claims f (to ∷ ts) = layer_claim f to (added_items (case_vertex_count t) (case_branches t) (case_offered t) (price_of (length t.meters) (prices_of t.candidates)) f to) ∷ layer_claims to ts
 
   -- each layer has the items that it adds
   pub are_claimed : (f u : ℕ) (ts pre : List ℕ) → length pre ≡ u → named_layers t (pre ++ inside_from f ts) u (layers_from f u ts) ≡ layer_claims f ts

@@ -20,8 +20,7 @@ use Rattle.obs_placement.specs.Placed.{Placed, PlanValue, plan_of}
 use Rattle.obs_placement.specs.Placed.Placed.{cheapest, shortfall as short_of}
 use Rattle.obs_placement.specs.Shown.{bare_layer}
 use Rattle.obs_placement.proofs.Growing.{AreRising, prices_rising}
-use Rattle.obs_network.specs.Network.{case_branches, case_needed, case_offered}
-use Rattle.obs_network.specs.Switched.{case_bus_count}
+use Rattle.obs_network.specs.Network.{case_branches, case_needed, case_offered, case_vertex_count}
 use Rattle.obs_network.proofs.OfCase.{length-case_offered}
 use Rattle.obs_edit.specs.Placements.{CompletesCase, price_together}
 use Rattle.obs_edit.specs.Planned.{case_placed_pairs, case_placement, planned_items}
@@ -66,7 +65,7 @@ module _ (t : Tables) (v : IsValid t) where
       (items_named t v list within, none_unknown t v list within)
 
   abbrev chosen : List ℕ
-  chosen = chosen_of (case_bus_count t) (case_branches t) (case_offered t) (length t.meters) (prices_of t.candidates)
+  chosen = chosen_of (case_vertex_count t) (case_branches t) (case_offered t) (length t.meters) (prices_of t.candidates)
 
   abbrev ts : List ℕ
   ts = prices_above (prices_of t.candidates) chosen 0
@@ -77,7 +76,7 @@ module _ (t : Tables) (v : IsValid t) where
   chosen_low : (k : ℕ) → In k chosen → k < length t.candidates
   chosen_low k i =
       let prices = prices_of t.candidates in
-      let test : ℕ → Bool = λ j. is_chosen (case_bus_count t) (case_branches t) (case_offered t) (price_of (length t.meters) prices) (length t.meters + j) in
+      let test : ℕ → Bool = λ j. is_chosen (case_vertex_count t) (case_branches t) (case_offered t) (price_of (length t.meters) prices) (length t.meters + j) in
       let f = In-filter_from test k (range_with_len 0 (length prices)) i in
       let r = range_from 0 (length prices) k f.0 in
       omega (arith, r.1, length-map t.candidates (λ (row : Candidate). row.price))
@@ -85,10 +84,10 @@ module _ (t : Tables) (v : IsValid t) where
   chosen_distinct : IsDistinct chosen
   chosen_distinct =
       let prices = prices_of t.candidates in
-      IsDistinct-filter (λ j. is_chosen (case_bus_count t) (case_branches t) (case_offered t) (price_of (length t.meters) prices) (length t.meters + j)) (range_with_len 0 (length prices)) (range_distinct 0 (length prices))
+      IsDistinct-filter (λ j. is_chosen (case_vertex_count t) (case_branches t) (case_offered t) (price_of (length t.meters) prices) (length t.meters + j)) (range_with_len 0 (length prices)) (range_distinct 0 (length prices))
 
   abbrev whole : PlanValue
-  whole = plan_of (case_bus_count t) (case_branches t) (case_offered t) (length t.meters) (prices_of t.candidates)
+  whole = plan_of (case_vertex_count t) (case_branches t) (case_offered t) (length t.meters) (prices_of t.candidates)
 
   -- the layers of the plan as they are claimed
   layers_are : named_layers t whole.inside 0 whole.layers ≡ layer_claims t 0 ts

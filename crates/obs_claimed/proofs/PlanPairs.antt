@@ -19,8 +19,7 @@ use Rattle.obs_meter.proofs.Touched.{live-from_In, touched-present}
 use Rattle.obs_exchange.proofs.AtGraph.{In-live}
 use Rattle.obs_first.specs.First.{IsFirstAt}
 use Rattle.obs_placement.specs.Laws.{live_meters}
-use Rattle.obs_network.specs.Network.{case_branches, case_needed, case_offered}
-use Rattle.obs_network.specs.Switched.{case_bus_count}
+use Rattle.obs_network.specs.Network.{case_branches, case_needed, case_offered, case_vertex_count}
 use Rattle.obs_network.proofs.OfCase.{case_branches-are, length-case_branches}
 use Rattle.obs_edit.specs.Placements.{CompletesCase}
 use Rattle.obs_edit.specs.Planned.{planned_items}
@@ -56,13 +55,13 @@ module _ (t : Tables) (M : List ℕ) (A : List Pair) (a : IsAssignmentAt (case_b
   module _ (v : IsValid t) where
     pub branches_once : twice (branches A) ≡ false
     branches_once =
-        let n = case_bus_count t in
+        let n = case_vertex_count t in
         let ends = case_branches t in
         once (branches A) (IsDistinct-independent (graph_matroid n ends) (IsMatroid-graph n ends (case_branches-are t v)) (branches A) (independent-from_forest_at n ends (branches A) a.forest))
 
     pub no_cycle : cycle t A ≡ false
     no_cycle =
-        let n = case_bus_count t in
+        let n = case_vertex_count t in
         let ends = case_branches t in
         let rank = rank-independent (graph_matroid n ends) (IsMatroid-graph n ends (case_branches-are t v)) (branches A) (independent-from_forest_at n ends (branches A) a.forest) in
         ap not (eq-eqb (rank_of_branches t (branches A)) (length A) (rank ∙ length-branches A))

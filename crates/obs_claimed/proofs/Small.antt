@@ -8,7 +8,7 @@ use Rattle.std.proofs.lemmas.List.Sums.{sum_by-le}
 use Rattle.obs_graph.specs.declared.Ends.{Ends}
 use Rattle.obs_graph.specs.Positions.{ends_of}
 use Rattle.obs_graph.proofs.Ranks.{rank-le-n}
-use Rattle.obs_case.specs.Tables.{IsValid, Tables, prices_of}
+use Rattle.obs_case.specs.Tables.{IsValid, Tables, prices_of, most_price, most_rows}
 use Rattle.obs_matroid.specs.Lists.{In}
 use Rattle.obs_matroid.proofs.Lists.{length-split}
 use Rattle.obs_meter.specs.declared.Touch.{Touch}
@@ -23,7 +23,7 @@ use Rattle.obs_placement.specs.Limits.{most_price}
 use Rattle.obs_placement.specs.Order.{price_of}
 use Rattle.obs_placement.specs.Placed.{shortfall_of, plan_of}
 use Rattle.obs_placement.specs.Taking.{is_below, is_listed_at}
-use Rattle.obs_network.specs.Network.{case_branches, case_meters, case_offered}
+use Rattle.obs_network.specs.Network.{case_branches, case_meters, case_offered, case_vertex_count}
 use Rattle.obs_network.specs.Observable.{case_live_meters}
 use Rattle.obs_network.specs.Switched.{case_bus_count}
 use Rattle.obs_network.proofs.Marked.{filtered_below}
@@ -43,10 +43,10 @@ rank_few n ends positions = rank-le-n n (ends_of ends positions)
 live_few : (ends : List (Option Ends)) (touches : List Touch) → length (live_items ends touches) ≤ length touches
 live_few ends touches = omega (arith, filter_few (is_live ends touches) (every_item touches), length-range_with_len 0 (length touches))
 
-few_buses : (t : Tables) → IsValid t → case_bus_count t ≤ 20000
+few_buses : (t : Tables) → IsValid t → case_bus_count t ≤ most_rows
 few_buses t v = omega (arith, case_bus_count-le t, few_nodes t v)
 
-few_offered : (t : Tables) → IsValid t → length (case_offered t) ≤ 40000
+few_offered : (t : Tables) → IsValid t → length (case_offered t) ≤ 2 * most_rows
 few_offered t v =
     let candidates = v.candidates.few in
     let names = length-map t.candidates (λ row. row.name) in
@@ -56,7 +56,7 @@ few_offered t v =
 pub bound_rank_small : (t : Tables) (c : ℕ) → IsValid t → IsSmall (bound_rank t c)
 unfolding bound_rank
 bound_rank_small t c v =
-    let few = rank_few (case_bus_count t) (case_branches t) (flat_map (touch_at (case_branches t) (case_meters t)) (bound_meters t c)) in
+    let few = rank_few (case_vertex_count t) (case_branches t) (flat_map (touch_at (case_branches t) (case_meters t)) (bound_meters t c)) in
     omega (arith, few, few_buses t v)
 
 pub bound_outside_small : (t : Tables) (c : ℕ) → IsValid t → IsSmall (bound_outside t c)
@@ -112,30 +112,30 @@ module _ (t : Tables) (v : IsValid t) where
   prices = prices_of t.candidates
 
   abbrev chosen : List ℕ
-  chosen = chosen_of (case_bus_count t) (case_branches t) (case_offered t) (length t.meters) prices
+  chosen = chosen_of (case_vertex_count t) (case_branches t) (case_offered t) (length t.meters) prices
 
-  cost_few : cost_of prices chosen ≤ 20000000000000
+  cost_few : cost_of prices chosen ≤ most_rows * most_price
   cost_few =
-      let many = chosen_few (case_bus_count t) (case_branches t) (case_offered t) (length t.meters) prices in
+      let many = chosen_few (case_vertex_count t) (case_branches t) (case_offered t) (length t.meters) prices in
       omega (arith, cost_most prices chosen (cheap_prices t prices v refl), many, few_prices t prices v refl)
 
   pub cost_small : IsSmall (cost_of prices chosen)
   cost_small = omega (arith, cost_few)
 
-  pub plan_layers_small : (l : Layer) → In l (plan_of (case_bus_count t) (case_branches t) (case_offered t) (length t.meters) prices).layers → IsSmallLayer l
+  pub plan_layers_small : (l : Layer) → In l (plan_of (case_vertex_count t) (case_branches t) (case_offered t) (length t.meters) prices).layers → IsSmallLayer l
   plan_layers_small =
-      layers_small (case_bus_count t) (case_branches t) (case_offered t) (price_of (length t.meters) prices) (omega (arith, few_buses t v)) (omega (arith, few_offered t v)) 0 0
+      layers_small (case_vertex_count t) (case_branches t) (case_offered t) (price_of (length t.meters) prices) (omega (arith, few_buses t v)) (omega (arith, few_offered t v)) 0 0
       (prices_above prices chosen 0) (omega arith)
       (λ x i. let low = filtered_below (is_price_of prices chosen) 1 (cost_of prices chosen - 0) x i in omega (arith, low, cost_few))
 
   -- and those of a shortfall
-  pub lack_rank_small : (needed : ℕ) → IsSmall (shortfall_of (case_bus_count t) (case_branches t) (case_offered t) needed).rank
+  pub lack_rank_small : (needed : ℕ) → IsSmall (shortfall_of (case_vertex_count t) (case_branches t) (case_offered t) needed).rank
   lack_rank_small needed =
-      let few = rank_few (case_bus_count t) (case_branches t) (flat_map (touch_at (case_branches t) (case_offered t)) (shortfall_of (case_bus_count t) (case_branches t) (case_offered t) needed).inside) in
+      let few = rank_few (case_vertex_count t) (case_branches t) (flat_map (touch_at (case_branches t) (case_offered t)) (shortfall_of (case_vertex_count t) (case_branches t) (case_offered t) needed).inside) in
       omega (arith, few, few_buses t v)
 
-  pub lack_outside_small : (needed : ℕ) → IsSmall (shortfall_of (case_bus_count t) (case_branches t) (case_offered t) needed).outside
+  pub lack_outside_small : (needed : ℕ) → IsSmall (shortfall_of (case_vertex_count t) (case_branches t) (case_offered t) needed).outside
   lack_outside_small needed =
       let live = live_items (case_branches t) (case_offered t) in
-      let few = filter_few (λ m. not (noncritical_in (case_bus_count t) (case_branches t) (case_offered t) live m)) live in
+      let few = filter_few (λ m. not (noncritical_in (case_vertex_count t) (case_branches t) (case_offered t) live m)) live in
       omega (arith, few, live_few (case_branches t) (case_offered t), few_offered t v)

@@ -11,8 +11,7 @@ use Rattle.obs_meter.specs.Touches.{live_items}
 use Rattle.obs_placement.specs.declared.plans.Layer.{Layer as PlacedLayer}
 use Rattle.obs_placement.specs.Placed.{ShortfallValue, PlanValue, shortfall_of, plan_of}
 use Rattle.obs_placement.specs.Placed.Placed.{cheapest, shortfall as short_of}
-use Rattle.obs_network.specs.Network.{case_branches, case_needed, case_offered}
-use Rattle.obs_network.specs.Switched.{case_bus_count}
+use Rattle.obs_network.specs.Network.{case_branches, case_needed, case_offered, case_vertex_count}
 use Rattle.obs_cert.specs.Certificate.{claim_lines, joined, layer_lines}
 use Rattle.obs_cert.specs.Words.{bound_line, chosen_line, cost_line, inside_line, layer_line, pair_line, shortfall_line, tree_line}
 use Rattle.obs_report.specs.Items.{candidate_name, item_count, inside_line as inside_text, pair_line as pair_text}
@@ -123,7 +122,7 @@ placed_by t pairs false lack plan of_lack of_plan = of_plan
 -- a printed placement
 pub placements_are_lines : PlacementsAreLines
 placements_are_lines t v =
-    let n = case_bus_count t in
+    let n = case_vertex_count t in
     let ends = case_branches t in
     let touches = case_offered t in
     let pairs = case_placed_pairs t in

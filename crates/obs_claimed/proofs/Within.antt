@@ -26,9 +26,8 @@ use Rattle.obs_placement.specs.Layers.{added_items, inside_of, prices_above}
 use Rattle.obs_placement.specs.Order.{price_of}
 use Rattle.obs_placement.specs.Placed.{Placed, shortfall_of, plan_of}
 use Rattle.obs_placement.specs.Placed.Placed.{cheapest, shortfall}
-use Rattle.obs_network.specs.Network.{case_branches, case_component_count, case_meters, case_offered}
+use Rattle.obs_network.specs.Network.{case_branches, case_component_count, case_meters, case_offered, case_vertex_count}
 use Rattle.obs_network.specs.Observable.{case_live_meters}
-use Rattle.obs_network.specs.Switched.{case_bus_count}
 use Rattle.obs_network.proofs.Marked.{filtered_below}
 use Rattle.obs_network.proofs.OfCase.{case_branches-are, length-case_branches, length-case_meters, length-case_offered}
 use Rattle.obs_report.specs.Items.{branch_name, candidate_name, item_count, item_name, meter_name}
@@ -81,7 +80,7 @@ first_pairs_low n ends touches ok p i =
 pub case_pairs_within : (t : Tables) → IsValid t → AreWithin t (case_first_pairs t)
 unfolding case_first_pairs
 case_pairs_within t v p i =
-    let low = first_pairs_low (case_bus_count t) (case_branches t) (case_meters t) (case_branches-are t v) p i in
+    let low = first_pairs_low (case_vertex_count t) (case_branches t) (case_meters t) (case_branches-are t v) p i in
     (omega (arith, low.0, length-case_meters t), omega (arith, low.1, length-case_branches t))
 
 -- the items that a bound lists
@@ -95,15 +94,15 @@ bound_meters_low t c m i =
 
 -- the pairs of a placement, over what each item of the case touches or nothing
 pairs_in_within : (t : Tables) → IsValid t → (touches : List Touch) → length touches ≡ item_count t → (placed : Placed)
-    → AreWithin t (pairs_in (case_bus_count t) (case_branches t) touches placed)
+    → AreWithin t (pairs_in (case_vertex_count t) (case_branches t) touches placed)
 pairs_in_within t v touches many (cheapest plan) p i =
-    let low = first_pairs_low (case_bus_count t) (case_branches t) touches (case_branches-are t v) p i in
+    let low = first_pairs_low (case_vertex_count t) (case_branches t) touches (case_branches-are t v) p i in
     (omega (arith, low.0, many), omega (arith, low.1, length-case_branches t))
 pairs_in_within t v touches many (shortfall lack) p i = absurd i
 
 pub placed_pairs_within : (t : Tables) → IsValid t → AreWithin t (case_placed_pairs t)
 placed_pairs_within t v =
-    let listed = planned_items (length t.meters) (chosen_of (case_bus_count t) (case_branches t) (case_offered t) (length t.meters) (prices_of t.candidates)) in
+    let listed = planned_items (length t.meters) (chosen_of (case_vertex_count t) (case_branches t) (case_offered t) (length t.meters) (prices_of t.candidates)) in
     pairs_in_within t v (touches_of (case_offered t) listed) (length-touches_of (case_offered t) listed ∙ length-case_offered t) (case_placement t)
 
 -- what is listed over some touches
@@ -117,22 +116,22 @@ module _ (n : ℕ) (ends : List (Option Ends)) (touches : List Touch) (price : �
 
 -- what a plan of a case chooses and lists, and what a shortfall lists
 module _ (t : Tables) where
-  pub plan_chosen_low : (k : ℕ) → In k (plan_of (case_bus_count t) (case_branches t) (case_offered t) (length t.meters) (prices_of t.candidates)).chosen → k < length t.candidates
+  pub plan_chosen_low : (k : ℕ) → In k (plan_of (case_vertex_count t) (case_branches t) (case_offered t) (length t.meters) (prices_of t.candidates)).chosen → k < length t.candidates
   plan_chosen_low k i =
       let prices = prices_of t.candidates in
-      let low = filtered_below (λ x. is_chosen (case_bus_count t) (case_branches t) (case_offered t) (price_of (length t.meters) prices) (length t.meters + x)) 0 (length prices) k i in
+      let low = filtered_below (λ x. is_chosen (case_vertex_count t) (case_branches t) (case_offered t) (price_of (length t.meters) prices) (length t.meters + x)) 0 (length prices) k i in
       omega (arith, low, length-map t.candidates (λ (row : Candidate). row.price))
 
-  pub plan_inside_low : (m : ℕ) → In m (plan_of (case_bus_count t) (case_branches t) (case_offered t) (length t.meters) (prices_of t.candidates)).inside → m < item_count t
+  pub plan_inside_low : (m : ℕ) → In m (plan_of (case_vertex_count t) (case_branches t) (case_offered t) (length t.meters) (prices_of t.candidates)).inside → m < item_count t
   plan_inside_low m i =
       let prices = prices_of t.candidates in
-      let chosen = chosen_of (case_bus_count t) (case_branches t) (case_offered t) (length t.meters) prices in
-      let low = inside_low (case_bus_count t) (case_branches t) (case_offered t) (price_of (length t.meters) prices) 0 (prices_above prices chosen 0) m i in
+      let chosen = chosen_of (case_vertex_count t) (case_branches t) (case_offered t) (length t.meters) prices in
+      let low = inside_low (case_vertex_count t) (case_branches t) (case_offered t) (price_of (length t.meters) prices) 0 (prices_above prices chosen 0) m i in
       omega (arith, low, length-case_offered t)
 
-  pub lack_inside_low : (needed m : ℕ) → In m (shortfall_of (case_bus_count t) (case_branches t) (case_offered t) needed).inside → m < item_count t
+  pub lack_inside_low : (needed m : ℕ) → In m (shortfall_of (case_vertex_count t) (case_branches t) (case_offered t) needed).inside → m < item_count t
   lack_inside_low needed m i =
       let live = live_items (case_branches t) (case_offered t) in
-      let own = (In-filter_from (noncritical_in (case_bus_count t) (case_branches t) (case_offered t) live) m live i).0 in
+      let own = (In-filter_from (noncritical_in (case_vertex_count t) (case_branches t) (case_offered t) live) m live i).0 in
       let low = filtered_below (is_live (case_branches t) (case_offered t)) 0 (length (case_offered t)) m own in
       omega (arith, low, length-case_offered t)

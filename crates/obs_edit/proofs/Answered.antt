@@ -28,9 +28,8 @@ use Rattle.obs_first.specs.First.{first_pairs}
 use Rattle.obs_first.proofs.Lawful.{first_pairs-is}
 use Rattle.obs_islands.specs.Firsts.{islands_of}
 use Rattle.obs_network.specs.Located.{live_meters_of}
-use Rattle.obs_network.specs.Network.{case_branches, case_meters, network_of}
+use Rattle.obs_network.specs.Network.{case_branches, case_meters, case_vertex_count, network_of}
 use Rattle.obs_network.specs.Observable.{case_live_meters}
-use Rattle.obs_network.specs.Switched.{case_bus_count}
 use Rattle.obs_network.proofs.Observed.{pairs_in}
 use Rattle.obs_network.proofs.OfCase.{case_branches-are, length-case_meters}
 use Rattle.obs_edit.specs.Answers.{bound_meters, bound_outside, bound_rank, case_critical_meters, case_first_pairs, case_islands, case_rank, component_meters, component_rank, is_critical_meter, is_meter_of}
@@ -45,7 +44,7 @@ is_some-from None t = clash t refl
 -- the meters of a component that have a pair are as many as its pairs
 module _ (t : Tables) (v : IsValid t) (a : Assignment) (h : AreLongest t a) where
   closed_for : (S : ℕ → Bool) × IsClosedFor t (pairs a) S
-  closed_for = let s = least t v a h in (s.0, record { assigns = IsAssignment-live (case_bus_count t) a (network_of t).graph (case_meters t) h.whole h.stands; least = s.1 })
+  closed_for = let s = least t v a h in (s.0, record { assigns = IsAssignment-live (case_vertex_count t) a (network_of t).graph (case_meters t) h.whole h.stands; least = s.1 })
 
   -- the number of pairs is the rank
   pub rank_of_longest : length (pairs a) ≡ case_rank t
@@ -117,8 +116,8 @@ pub marks_of_closed : (t : Tables) → IsValid t → (a : Assignment) → AreLon
 marks_of_closed t v a h flags k = record {
   one_each = k.flags;
   mark = mark_from t v (pairs a) (has_flag flags) (record {
-    assigns = IsAssignment-live (case_bus_count t) a (network_of t).graph (case_meters t) h.whole h.stands;
-    least = IsLeastClosed-thawed (case_bus_count t) a (network_of t).graph (case_meters t) h.stands h.thawed (has_flag flags) k.least;
+    assigns = IsAssignment-live (case_vertex_count t) a (network_of t).graph (case_meters t) h.whole h.stands;
+    least = IsLeastClosed-thawed (case_vertex_count t) a (network_of t).graph (case_meters t) h.stands h.thawed (has_flag flags) k.least;
   });
 }
 
@@ -126,23 +125,23 @@ marks_of_closed t v a h flags k = record {
 pub critical_of_network : (t : Tables) (g : Graph) (ms : Meters) → g ≡ (network_of t).graph → ms ≡ (network_of t).meters → critical_meters g.vertices g.ends ms.touches ≡ case_critical_meters t
 unfolding case_critical_meters
 critical_of_network t g ms gg mm =
-    ap (λ (x : Graph). critical_meters x.vertices x.ends ms.touches) gg ∙ ap (λ (i : Meters). critical_meters (case_bus_count t) (case_branches t) i.touches) mm
+    ap (λ (x : Graph). critical_meters x.vertices x.ends ms.touches) gg ∙ ap (λ (i : Meters). critical_meters (case_vertex_count t) (case_branches t) i.touches) mm
 
 pub first_of_network : (t : Tables) (g : Graph) (ms : Meters) → g ≡ (network_of t).graph → ms ≡ (network_of t).meters → first_pairs g.vertices g.ends ms.touches ≡ case_first_pairs t
 unfolding case_first_pairs
 first_of_network t g ms gg mm =
-    ap (λ (x : Graph). first_pairs x.vertices x.ends ms.touches) gg ∙ ap (λ (i : Meters). first_pairs (case_bus_count t) (case_branches t) i.touches) mm
+    ap (λ (x : Graph). first_pairs x.vertices x.ends ms.touches) gg ∙ ap (λ (i : Meters). first_pairs (case_vertex_count t) (case_branches t) i.touches) mm
 
 pub islands_of_network : (t : Tables) (g : Graph) (ms : Meters) → g ≡ (network_of t).graph → ms ≡ (network_of t).meters → islands_of g.vertices g.ends ms.touches ≡ case_islands t
 unfolding case_islands
 islands_of_network t g ms gg mm =
-    ap (λ (x : Graph). islands_of x.vertices x.ends ms.touches) gg ∙ ap (λ (i : Meters). islands_of (case_bus_count t) (case_branches t) i.touches) mm
+    ap (λ (x : Graph). islands_of x.vertices x.ends ms.touches) gg ∙ ap (λ (i : Meters). islands_of (case_vertex_count t) (case_branches t) i.touches) mm
 
 -- the first assignment is a longest one
 pub IsLongest-first : (t : Tables) → IsValid t → (a : Assignment) → StandsOver a (network_of t).graph (case_meters t) → IsWhole a → IsThawed a → pairs a ≡ case_first_pairs t → AreLongest t a
 unfolding case_first_pairs
 IsLongest-first t v a stands whole thawed same =
-    let n = case_bus_count t in
+    let n = case_vertex_count t in
     let ends = case_branches t in
     let touches = case_meters t in
     let f = first_pairs-is n ends touches (case_branches-are t v) in

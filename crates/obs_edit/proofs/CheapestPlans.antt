@@ -19,8 +19,7 @@ use Rattle.obs_placement.proofs.Costed.{layers_are_shown, layers_show_the_cost}
 use Rattle.obs_placement.proofs.Lawful.{chosen_enough}
 use Rattle.obs_placement.proofs.Positions.{cost_is, positions_are}
 use Rattle.obs_placement.proofs.Refuting.{bound_reached, bound_refutes, layers_bound_completing, none_for_less}
-use Rattle.obs_network.specs.Switched.{case_bus_count}
-use Rattle.obs_network.specs.Network.{case_branches, case_needed, case_offered}
+use Rattle.obs_network.specs.Network.{case_branches, case_needed, case_offered, case_vertex_count}
 use Rattle.obs_network.proofs.Observed.{most_pairs}
 use Rattle.obs_network.proofs.OfCase.{case_branches-are, length-case_offered}
 use Rattle.obs_edit.proofs.PlanFirst.{plan_pairs_first}
@@ -28,7 +27,7 @@ use Rattle.obs_edit.specs.Placements.{CompletesCase, IsBoundOf, LayersAddUp, Lay
 use Rattle.obs_edit.proofs.PlanOrShortfall.{lack, lacking, most, plan, planned}
 
 module _ (t : Tables) (v : IsValid t) where
-  ok : AreBranches (case_bus_count t) (case_branches t)
+  ok : AreBranches (case_vertex_count t) (case_branches t)
   ok = case_branches-are t v
 
   size : length (case_offered t) ≡ length t.meters + length (prices_of t.candidates)
@@ -39,10 +38,10 @@ module _ (t : Tables) (v : IsValid t) where
   unfolding most
   reaches enough =
       let live = live_items (case_branches t) (case_offered t) in
-      let all = rho_at-is (case_bus_count t) (case_branches t) (case_offered t) live ok (live_items-distinct (case_branches t) (case_offered t)) in
+      let all = rho_at-is (case_vertex_count t) (case_branches t) (case_offered t) live ok (live_items-distinct (case_branches t) (case_offered t)) in
       let few = most_pairs t v (case_offered t) live all.longest all.assigns in
       let long = all.long in
-      let e : rho_at (case_bus_count t) (case_branches t) (case_offered t) live ≡ case_needed t = omega (arith, few, long, not_below _ _ enough) in
+      let e : rho_at (case_vertex_count t) (case_branches t) (case_offered t) live ≡ case_needed t = omega (arith, few, long, not_below _ _ enough) in
       subst (λ (r : ℕ). IsRhoAt (case_branches t) (case_offered t) live r) e all
     where
       not_below : (a b : ℕ) → nat_lt a b ≡ false → b ≤ a
@@ -66,7 +65,7 @@ completes t X d = record {
 pub plans_complete : PlansComplete
 unfolding plan
 plans_complete t p v e =
-    let n = case_bus_count t in
+    let n = case_vertex_count t in
     let ends = case_branches t in
     let touches = case_offered t in
     let m = length t.meters in
@@ -83,34 +82,34 @@ unfolding plan
 plans_are_cheapest t p X v e c =
     let is = planned t p e in
     subst (λ (q : PlanValue). q.cost ≤ price_together t X) is.1
-    (none_for_less (case_bus_count t) (case_branches t) (case_offered t) (length t.meters) (case_needed t) (prices_of t.candidates) X (ok t v) (size t v) (reaches t v is.0) c)
+    (none_for_less (case_vertex_count t) (case_branches t) (case_offered t) (length t.meters) (case_needed t) (prices_of t.candidates) X (ok t v) (size t v) (reaches t v is.0) c)
 
 pub layers_add_up : LayersAddUp
 unfolding plan
 layers_add_up t p v e =
     let is = planned t p e in
     subst (λ (q : PlanValue). layers_sum (case_needed t) (map bare_layer q.layers) ≡ q.cost) is.1
-    (layers_show_the_cost (case_bus_count t) (case_branches t) (case_offered t) (length t.meters) (case_needed t) (prices_of t.candidates) (ok t v) (size t v) (reaches t v is.0))
+    (layers_show_the_cost (case_vertex_count t) (case_branches t) (case_offered t) (length t.meters) (case_needed t) (prices_of t.candidates) (ok t v) (size t v) (reaches t v is.0))
 
 pub layers_are_bounds : LayersAreBounds
 unfolding plan
 layers_are_bounds t p v e =
     let is = planned t p e in
     subst (λ (q : PlanValue). RunOn 0 (map bare_layer q.layers) × ((l : Layer) → In l (map bare_layer q.layers) → IsBoundOf t l × (l.rank + l.outside < case_needed t))) is.1
-    (layers_are_shown (case_bus_count t) (case_branches t) (case_offered t) (length t.meters) (case_needed t) (prices_of t.candidates) (ok t v) (size t v) (reaches t v is.0))
+    (layers_are_shown (case_vertex_count t) (case_branches t) (case_offered t) (length t.meters) (case_needed t) (prices_of t.candidates) (ok t v) (size t v) (reaches t v is.0))
 
 pub layers_bound_costs : LayersBoundCosts
 layers_bound_costs t layers X v run shown c =
-    layers_bound_completing (case_bus_count t) (case_branches t) (case_offered t) (length t.meters) (case_needed t) (prices_of t.candidates) X layers (ok t v) run shown c
+    layers_bound_completing (case_vertex_count t) (case_branches t) (case_offered t) (length t.meters) (case_needed t) (prices_of t.candidates) X layers (ok t v) run shown c
 
 pub plans_have_first_pairs : PlansHaveFirstPairs
 plans_have_first_pairs t p v e =
-    plan_pairs_first (case_bus_count t) (case_branches t) (case_offered t) (length t.meters) (case_needed t) (prices_of t.candidates) p (ok t v) (size t v) e
+    plan_pairs_first (case_vertex_count t) (case_branches t) (case_offered t) (length t.meters) (case_needed t) (prices_of t.candidates) p (ok t v) (size t v) e
 
 pub shortfalls_refute : ShortfallsRefute
 unfolding lack most
 shortfalls_refute t l v e =
-    let n = case_bus_count t in
+    let n = case_vertex_count t in
     let ends = case_branches t in
     let touches = case_offered t in
     let is = lacking t l e in

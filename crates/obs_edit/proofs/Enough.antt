@@ -16,9 +16,7 @@ use Rattle.obs_meter.proofs.Assigned.{from_matroid, live_items-distinct, to_matr
 use Rattle.obs_meter.proofs.Instance.{IsMatroid-graph}
 use Rattle.obs_assign.specs.Assignment.{Assignment, pairs}
 use Rattle.obs_exchange.proofs.AtGraph.{IsAssignment-live}
-use Rattle.obs_network.specs.Switched.{case_bus_count}
-use Rattle.obs_network.specs.Components.{need_of}
-use Rattle.obs_network.specs.Network.{case_branches, case_component_count, case_meters, case_sizes, network_of}
+use Rattle.obs_network.specs.Network.{case_branches, case_component_count, case_meters, case_need, case_vertex_count, network_of}
 use Rattle.obs_network.specs.Observable.{IsObservable, branch_component, case_live_meters, item_component}
 use Rattle.obs_network.proofs.InComponents.{kinds_sum, touched_component}
 use Rattle.obs_network.proofs.Observed.{few_in, pairs_in}
@@ -28,11 +26,11 @@ use Rattle.obs_edit.specs.Sessions.{AreLongest}
 module _ (t : Tables) (v : IsValid t) (a : Assignment) (h : AreLongest t a) where
   pub live_pairs : IsAssignmentAt (case_branches t) (case_meters t) (case_live_meters t) (pairs a)
   live_pairs =
-      from_matroid (case_bus_count t) (case_branches t) (case_meters t) (case_live_meters t) (pairs a) (IsAssignment-live (case_bus_count t) a (network_of t).graph (case_meters t) h.whole h.stands)
+      from_matroid (case_vertex_count t) (case_branches t) (case_meters t) (case_live_meters t) (pairs a) (IsAssignment-live (case_vertex_count t) a (network_of t).graph (case_meters t) h.whole h.stands)
 
-  pub least : (S : ℕ → Bool) × IsLeastClosed (graph_matroid (case_bus_count t) (case_branches t)) (touch_at (case_branches t) (case_meters t)) (case_live_meters t) none every (pairs a) S
+  pub least : (S : ℕ → Bool) × IsLeastClosed (graph_matroid (case_vertex_count t) (case_branches t)) (touch_at (case_branches t) (case_meters t)) (case_live_meters t) none every (pairs a) S
   least =
-      let n = case_bus_count t in
+      let n = case_vertex_count t in
       let ends = case_branches t in
       let M = case_live_meters t in
       elim (grows_or_closes (graph_matroid n ends) (IsMatroid-graph n ends (case_branches-are t v)) (touch_at ends (case_meters t)) M none every (pairs a) (live_items-distinct ends (case_meters t))
@@ -52,7 +50,7 @@ module _ (t : Tables) (v : IsValid t) (a : Assignment) (h : AreLongest t a) wher
   -- no assignment has more pairs in a component
   most_in : (c : ℕ) (B : List Pair) → IsAssignmentAt (case_branches t) (case_meters t) (case_live_meters t) B → length (pairs_in t c B) ≤ length (pairs_in t c (pairs a))
   most_in c B b =
-      let n = case_bus_count t in
+      let n = case_vertex_count t in
       let ends = case_branches t in
       let touches = case_meters t in
       let M = case_live_meters t in
@@ -64,7 +62,7 @@ module _ (t : Tables) (v : IsValid t) (a : Assignment) (h : AreLongest t a) wher
       let two = ap (λ (x : List Pair). length x) (in_component (pairs a) live_pairs c) in
       omega (arith, most, one, two)
 
-  pub enough_observable : (c k n : ℕ) → c < case_component_count t → k ≡ length (pairs_in t c (pairs a)) → n ≡ need_of (case_sizes t) c → IsTrue (eqb k n) ↔ IsObservable t c
+  pub enough_observable : (c k n : ℕ) → c < case_component_count t → k ≡ length (pairs_in t c (pairs a)) → n ≡ case_need t c → IsTrue (eqb k n) ↔ IsObservable t c
   enough_observable c k n low count need = (
     λ full. record { pairs = pairs a; assigns = live_pairs; enough = sym count ∙ (eqb-true k n full ∙ need) },
     λ o.

@@ -24,16 +24,15 @@ use Rattle.obs_first.specs.First.{IsFirstAt, first_pairs}
 use Rattle.obs_meter.specs.Touches.{every_item, is_live}
 use Rattle.obs_first.proofs.Listed.{IsRising-first_of, pairs_same}
 use Rattle.obs_first.proofs.Lawful.{first-from_matroid, first-live, first-to_matroid, first_pairs-is}
-use Rattle.obs_network.specs.Switched.{case_bus_count}
-use Rattle.obs_network.specs.Components.{component_of, need_of}
-use Rattle.obs_network.specs.Network.{case_branches, case_component_count, case_components, case_live, case_meters, case_sizes}
-use Rattle.obs_network.specs.Observable.{IsObservable, branch_component, case_live_meters, item_component}
+use Rattle.obs_network.specs.Components.{component_of}
+use Rattle.obs_network.specs.Network.{case_branches, case_component_count, case_components, case_live, case_meters, case_need, case_vertex_count}
+use Rattle.obs_network.specs.Observable.{IsObservable, branch_component, case_live_meters, item_component, is_vertex_of}
 use Rattle.obs_network.proofs.InComponents.{ends_component, kinds_sum, present_below, touched_component}
 use Rattle.obs_network.proofs.Observed.{buses_of_component, is_of, size_is}
 use Rattle.obs_network.proofs.OfCase.{case_branches-are}
 use Rattle.obs_network.proofs.OfLaws.{case_component-at}
 use Rattle.obs_edit.specs.Answers.{case_first_pairs, component_meters, component_rank, is_meter_of}
-use Rattle.obs_edit.specs.Laws.{TreesAreFirst, TreesAreWhole, TreesSpan, TreesStandAlone, is_bus_of, tree_pairs}
+use Rattle.obs_edit.specs.Laws.{TreesAreFirst, TreesAreWhole, TreesSpan, TreesStandAlone, tree_pairs}
 use Rattle.obs_edit.proofs.FirstParts.{first_in_component}
 use Rattle.obs_network.proofs.Listed.{rising_filter}
 use Rattle.obs_edit.proofs.Tight.{case_matroid, case_touch, observable-to}
@@ -50,8 +49,8 @@ IsRising-filter_items f (p ∷ A) r = elim (cases_Bool (f p)) [
 module _ (t : Tables) (v : IsValid t) (c : ℕ) where
   all_first : IsFirstAt (case_branches t) (case_meters t) (case_live_meters t) (case_first_pairs t)
   unfolding case_first_pairs
-  all_first = first-live (case_branches t) (case_meters t) (first_pairs (case_bus_count t) (case_branches t) (case_meters t))
-      (first_pairs-is (case_bus_count t) (case_branches t) (case_meters t) (case_branches-are t v))
+  all_first = first-live (case_branches t) (case_meters t) (first_pairs (case_vertex_count t) (case_branches t) (case_meters t))
+      (first_pairs-is (case_vertex_count t) (case_branches t) (case_meters t) (case_branches-are t v))
 
   tree_is : tree_pairs t c ≡ part (is_meter_of t c) (case_first_pairs t)
   tree_is = filter_same (λ (p : Pair). branch_component t p.1 == c) (λ (p : Pair). is_meter_of t c p.0) (case_first_pairs t)
@@ -60,7 +59,7 @@ module _ (t : Tables) (v : IsValid t) (c : ℕ) where
   pub tree_first : IsFirstAt (case_branches t) (case_meters t) (component_meters t c) (tree_pairs t c)
   unfolding component_meters
   tree_first =
-      let n = case_bus_count t in
+      let n = case_vertex_count t in
       let ends = case_branches t in
       let touches = case_meters t in
       let M = case_live_meters t in
@@ -83,12 +82,12 @@ module _ (t : Tables) (v : IsValid t) (c : ℕ) where
   tree_rises : IsRising (items (tree_pairs t c))
   unfolding case_first_pairs
   tree_rises =
-      IsRising-filter_items (λ (p : Pair). branch_component t p.1 == c) (first_pairs (case_bus_count t) (case_branches t) (case_meters t))
+      IsRising-filter_items (λ (p : Pair). branch_component t p.1 == c) (first_pairs (case_vertex_count t) (case_branches t) (case_meters t))
       (IsRising-first_of (case_matroid t) (case_touch t) (every_item (case_meters t)) (range_rising 0 (length (case_meters t))))
 
   pub tree_alone : tree_pairs t c ≡ first_of (case_matroid t) (case_touch t) (component_meters t c)
   tree_alone =
-      let n = case_bus_count t in
+      let n = case_vertex_count t in
       let ends = case_branches t in
       let touches = case_meters t in
       let M = component_meters t c in
@@ -101,15 +100,15 @@ module _ (t : Tables) (v : IsValid t) (c : ℕ) where
   unfolding component_rank
   tree_rank = rho_at-unique (case_branches t) (case_meters t) (component_meters t c) (length (tree_pairs t c)) (component_rank t c)
       (record { longest = tree_pairs t c; assigns = tree_first.assigns; long = refl; none_longer = tree_first.longest })
-      (rho_at-is (case_bus_count t) (case_branches t) (case_meters t) (component_meters t c) (case_branches-are t v) meters_differ)
+      (rho_at-is (case_vertex_count t) (case_branches t) (case_meters t) (component_meters t c) (case_branches-are t v) meters_differ)
 
-  pub tree_whole : c < case_component_count t → IsObservable t c → length (tree_pairs t c) ≡ need_of (case_sizes t) c
+  pub tree_whole : c < case_component_count t → IsObservable t c → length (tree_pairs t c) ≡ case_need t c
   tree_whole l o = tree_rank ∙ observable-to t v c l o
 
 module _ (t : Tables) (v : IsValid t) (c : ℕ) where
-  bus_in : (u : ℕ) → u < case_bus_count t → get_or (case_components t) u 0 ≡ c → In u (buses_of_component t c)
+  bus_in : (u : ℕ) → u < case_vertex_count t → get_or (case_components t) u 0 ≡ c → In u (buses_of_component t c)
   bus_in u l e =
-      In-filter (is_of t c) u (range_with_len 0 (case_bus_count t)) (range_in 0 (case_bus_count t) u (omega arith) (omega (arith, l)))
+      In-filter (is_of t c) u (range_with_len 0 (case_vertex_count t)) (range_in 0 (case_vertex_count t) u (omega arith) (omega (arith, l)))
       (eq-eqb (component_of (present (case_live t)) u) c (sym (case_component-at t u l) ∙ e))
 
   -- both ends of a branch of the tree are buses of the component
@@ -122,10 +121,10 @@ module _ (t : Tables) (v : IsValid t) (c : ℕ) where
       subst (λ (x : ℕ). In (ends_at (case_branches t) x).0 (buses_of_component t c) × In (ends_at (case_branches t) x).1 (buses_of_component t c)) (sym w.2)
       (bus_in (ends_at (case_branches t) w.0.1).0 low.0 lies, bus_in (ends_at (case_branches t) w.0.1).1 low.1 (sym (ends_component t v w.0.1) ∙ lies))
 
-  pub tree_spans : (u w : ℕ) → c < case_component_count t → IsObservable t c → u < case_bus_count t → w < case_bus_count t
-      → is_bus_of t c u ≡ true → is_bus_of t c w ≡ true → joined_at (case_branches t) (branches (tree_pairs t c)) u w ≡ true
+  pub tree_spans : (u w : ℕ) → c < case_component_count t → IsObservable t c → u < case_vertex_count t → w < case_vertex_count t
+      → is_vertex_of t c u ≡ true → is_vertex_of t c w ≡ true → joined_at (case_branches t) (branches (tree_pairs t c)) u w ≡ true
   tree_spans u w l o lu lw su sw =
-      let n = case_bus_count t in
+      let n = case_vertex_count t in
       let ends = case_branches t in
       let W = buses_of_component t c in
       let iu = bus_in u lu (eqb-true (get_or (case_components t) u 0) c su) in

@@ -18,8 +18,8 @@ use Rattle.obs_meter.specs.declared.Touch.{Touch}
 use Rattle.obs_meter.specs.declared.Touch.TheVariants.{Nothing}
 use Rattle.obs_meter.specs.Assignments.{IsAssignmentAt}
 use Rattle.obs_meter.specs.Touches.{every_item, touch_at, touched}
-use Rattle.obs_network.specs.Switched.{case_bus_count, case_buses}
-use Rattle.obs_network.specs.Network.{case_branches, case_components, case_component_count, case_energised, case_live, case_meters, network_of}
+use Rattle.obs_network.specs.Switched.{case_buses}
+use Rattle.obs_network.specs.Network.{case_branches, case_component_count, case_components, case_energised, case_live, case_meters, case_vertex_count, network_of}
 use Rattle.obs_network.specs.Touching.{meter_touch, touch_of}
 use Rattle.obs_network.proofs.Edited.{branches-with_meter}
 use Rattle.obs_network.proofs.OfCase.{case_branches-are, length-case_meters}
@@ -149,7 +149,7 @@ assigns_without t v at B b =
     let T = case_meters (with_meter_inservice t at true) in
     let over : IsAssignmentAt (case_branches t) T (every_item T) B = subst (λ bs. IsAssignmentAt bs T (every_item T) B) branches_same b in
     let A = part (other_than at) B in
-    let some = assigns-within (case_bus_count t) (case_branches t) T (case_branches-are t v) (every_item T) B over A (IsDistinct-part (other_than at) B b.different) (λ p i. (In-part_from (other_than at) B p i).0) in
+    let some = assigns-within (case_vertex_count t) (case_branches t) T (case_branches-are t v) (every_item T) B over A (IsDistinct-part (other_than at) B b.different) (λ p i. (In-part_from (other_than at) B p i).0) in
     record {
       of_items = λ p i. subst (λ xs. In p.0 xs) (same_items t at true) (some.of_items p i);
       touched = λ p i. subst (λ xs. In p.1 xs) (same_touch t at true p.0 (other_ne at p.0 (In-part_from (other_than at) B p i).1)) (some.touched p i);

@@ -6,20 +6,19 @@ use Rattle.obs_case.specs.Tables.{Tables}
 use Rattle.obs_islands.specs.Firsts.{island_first}
 use Rattle.obs_islands.specs.Islands.{IsFirstIn}
 use Rattle.obs_islands.proofs.Firsts.{first_in, first_same, partition}
-use Rattle.obs_network.specs.Switched.{case_bus_count}
-use Rattle.obs_network.specs.Network.{case_branches, case_meters}
+use Rattle.obs_network.specs.Network.{case_branches, case_meters, case_vertex_count}
 use Rattle.obs_network.proofs.OfCase.{case_branches-are}
 use Rattle.obs_edit.specs.Answers.{case_islands}
 use Rattle.obs_edit.specs.Laws.{IslandsAreNamed, IslandsTellApart}
 
 -- the name of a bus's island
-name_is : (t : Tables) (u : ℕ) → u < case_bus_count t → slice_index (case_islands t) u ≡ island_first (case_bus_count t) (case_branches t) (case_meters t) u
+name_is : (t : Tables) (u : ℕ) → u < case_vertex_count t → slice_index (case_islands t) u ≡ island_first (case_vertex_count t) (case_branches t) (case_meters t) u
 unfolding case_islands
-name_is t u l = get_or-map-range_with_len (island_first (case_bus_count t) (case_branches t) (case_meters t)) 0 (case_bus_count t) u u 0 l (omega arith)
+name_is t u l = get_or-map-range_with_len (island_first (case_vertex_count t) (case_branches t) (case_meters t)) 0 (case_vertex_count t) u u 0 l (omega arith)
 
 pub islands_are_named : IslandsAreNamed
 islands_are_named t u v l =
-    let n = case_bus_count t in
+    let n = case_vertex_count t in
     let ends = case_branches t in
     let touches = case_meters t in
     let ok = case_branches-are t v in
@@ -28,7 +27,7 @@ islands_are_named t u v l =
 
 pub islands_tell_apart : IslandsTellApart
 islands_tell_apart t u w v lu lw =
-    let same = first_same (case_bus_count t) (case_branches t) (case_meters t) (case_branches-are t v) u w lu lw in (
+    let same = first_same (case_vertex_count t) (case_branches t) (case_meters t) (case_branches-are t v) u w lu lw in (
       (λ e. same.0 (sym (name_is t u lu) ∙ (e ∙ name_is t w lw))),
       (λ s. name_is t u lu ∙ (same.1 s ∙ sym (name_is t w lw))),
     )

@@ -2,7 +2,7 @@
 use Rattle.std.proofs.Common.{◌≡◌, ℕ, ◌≤◌, length, sym, ap, ◌∙◌, subst, arith}
 use Rattle.std.proofs.lemmas.List.{length-map}
 use Rattle.obs_graph.specs.Graph.{Graph}
-use Rattle.obs_case.specs.Tables.{IsValid, Tables}
+use Rattle.obs_case.specs.Tables.{IsValid, Tables, most_rows}
 use Rattle.obs_meter.specs.Held.{Meters}
 use Rattle.obs_meter.specs.Sizes.{HasRoomFor, Sizes}
 use Rattle.obs_meter.specs.Touches.{every_item}
@@ -14,7 +14,7 @@ use Rattle.obs_network.proofs.Observed.{most_pairs}
 use Rattle.obs_edit.specs.Longest.{IsLongest, IsMost}
 use Rattle.obs_edit.specs.Sessions.{AreLongest, HasRoom, case_rows}
 
-pub few_meters : (t : Tables) → IsValid t → length (case_meters t) ≤ 20000
+pub few_meters : (t : Tables) → IsValid t → length (case_meters t) ≤ most_rows
 few_meters t v = let few = v.meters.few in omega (arith, few, length-map t.meters (λ row. row.name), length-case_meters t)
 
 pub fits_case : (t : Tables) (a : Assignment) (w : Work) → HasRoom t a w → Fits a (network_of t).graph (case_meters t)

@@ -8,8 +8,7 @@ use Rattle.obs_case.specs.declared.rows.Candidate.{Candidate}
 use Rattle.obs_meter.specs.declared.Touch.{Touch}
 use Rattle.obs_meter.specs.Held.{Meters}
 use Rattle.obs_meter.specs.Sizes.{HasRoomFor, Sizes}
-use Rattle.obs_network.specs.Switched.{case_bus_count}
-use Rattle.obs_network.specs.Network.{Network, case_branches, case_needed, case_offered, network_of}
+use Rattle.obs_network.specs.Network.{Network, case_branches, case_needed, case_offered, case_vertex_count, network_of}
 use Rattle.obs_network.proofs.OfCase.{case_bus_count-le, length-case_branches, length-case_offered}
 use Rattle.obs_edit.specs.Planned.{offered_rows}
 
@@ -36,10 +35,10 @@ module _ (t : Tables) (n : Network) (g : Graph) (i : Meters) (same : n ≡ netwo
   -- what is worked out of the network is so out of the case
   pub at_case : {X : Type 0} (f : ℕ → List (Option Ends) → List Touch → ℕ → List ℕ → ℕ → X) (meters needed : ℕ) (prices : List ℕ)
       → meters ≡ length t.meters → needed ≡ n.needed → prices ≡ prices_of t.candidates
-      → f g.vertices g.ends i.touches meters prices needed ≡ f (case_bus_count t) (case_branches t) (case_offered t) (length t.meters) (prices_of t.candidates) (case_needed t)
+      → f g.vertices g.ends i.touches meters prices needed ≡ f (case_vertex_count t) (case_branches t) (case_offered t) (length t.meters) (prices_of t.candidates) (case_needed t)
   at_case f meters needed prices count need priced =
       ap (λ (x : Graph). f x.vertices x.ends i.touches meters prices needed) graph_is
-      ∙ (ap (λ (x : List Touch). f (case_bus_count t) (case_branches t) x meters prices needed) touches_are
-      ∙ (ap (λ (x : ℕ). f (case_bus_count t) (case_branches t) (case_offered t) x prices needed) count
-      ∙ (ap (λ (x : List ℕ). f (case_bus_count t) (case_branches t) (case_offered t) (length t.meters) x needed) priced
-      ∙ ap (λ (x : ℕ). f (case_bus_count t) (case_branches t) (case_offered t) (length t.meters) (prices_of t.candidates) x) (need ∙ ap (λ (x : Network). x.needed) same))))
+      ∙ (ap (λ (x : List Touch). f (case_vertex_count t) (case_branches t) x meters prices needed) touches_are
+      ∙ (ap (λ (x : ℕ). f (case_vertex_count t) (case_branches t) (case_offered t) x prices needed) count
+      ∙ (ap (λ (x : List ℕ). f (case_vertex_count t) (case_branches t) (case_offered t) (length t.meters) x needed) priced
+      ∙ ap (λ (x : ℕ). f (case_vertex_count t) (case_branches t) (case_offered t) (length t.meters) (prices_of t.candidates) x) (need ∙ ap (λ (x : Network). x.needed) same))))

@@ -17,17 +17,15 @@ use Rattle.obs_meter.proofs.Instance.{IsJoining-graph, IsMatroid-graph}
 use Rattle.obs_islands.specs.Islands.{IsSpannedAt, every_vertex}
 use Rattle.obs_islands.proofs.Parts.{In-vertices, vertex_low, vertices-distinct}
 use Rattle.obs_islands.proofs.Spanning.{ends_low, some_in}
-use Rattle.obs_network.specs.Switched.{case_bus_count}
-use Rattle.obs_network.specs.Components.{need_of}
-use Rattle.obs_network.specs.Network.{case_branches, case_component_count, case_components, case_live, case_meters, case_sizes}
-use Rattle.obs_network.specs.Observable.{IsObservable, branch_component, case_live_meters, item_component}
+use Rattle.obs_network.specs.Network.{case_branches, case_component_count, case_components, case_live, case_meters, case_need, case_sizes, case_vertex_count}
+use Rattle.obs_network.specs.Observable.{IsObservable, branch_component, case_live_meters, item_component, is_vertex_of}
 use Rattle.obs_network.proofs.InComponents.{ends_component, touched_component}
 use Rattle.obs_network.proofs.Numbered.{component_at}
 use Rattle.obs_network.proofs.Observed.{is_of, size_is}
 use Rattle.obs_network.proofs.OfCase.{case_branches-are}
 use Rattle.obs_network.proofs.OfLaws.{case_component-at}
 use Rattle.obs_edit.specs.Answers.{case_first_pairs, component_meters, is_meter_of}
-use Rattle.obs_edit.specs.Laws.{IsIslandOf, IslandsLieInComponents, ObservableIsIsland, is_bus_of, tree_pairs}
+use Rattle.obs_edit.specs.Laws.{IsIslandOf, IslandsLieInComponents, ObservableIsIsland, tree_pairs}
 use Rattle.obs_edit.proofs.FirstTrees.{tree_first, tree_whole}
 use Rattle.obs_edit.proofs.Tight.{case_matroid, case_touch}
 
@@ -41,10 +39,10 @@ module _ (t : Tables) (v : IsValid t) where
       sym (eqb-true (get_or (case_components t) w 0) c r.1)
 
   -- the pairs of a set that is spanned from inside join its vertices
-  spanned_joins : (T : ℕ → Bool) (s : IsSpannedAt (case_bus_count t) (case_branches t) (case_meters t) T) (u w : ℕ) → u < case_bus_count t → w < case_bus_count t → T u ≡ true → T w ≡ true
+  spanned_joins : (T : ℕ → Bool) (s : IsSpannedAt (case_vertex_count t) (case_branches t) (case_meters t) T) (u w : ℕ) → u < case_vertex_count t → w < case_vertex_count t → T u ≡ true → T w ≡ true
       → joined_at (case_branches t) (branches s.pairs) u w ≡ true
   spanned_joins T s u w lu lw tu tw =
-      let n = case_bus_count t in
+      let n = case_vertex_count t in
       let ends = case_branches t in
       let vs = every_vertex n in
       forest_joins (ends_at ends) (joined_at ends) (rank_at n ends) (IsJoining-graph ends) (filter T vs) (IsDistinct-filter T vs (vertices-distinct n)) (branches s.pairs) s.assigns.independent
@@ -57,34 +55,34 @@ module _ (t : Tables) (v : IsValid t) where
       (let e = s.enough in let l = length-branches s.pairs in omega (arith, e, l))
       u w (In-filter T u vs (In-vertices n u lu) tu) (In-filter T w vs (In-vertices n w lw) tw)
 
-  spanned_component : (T : ℕ → Bool) → IsSpannedAt (case_bus_count t) (case_branches t) (case_meters t) T → (u w : ℕ) → u < case_bus_count t → w < case_bus_count t → T u ≡ true → T w ≡ true
+  spanned_component : (T : ℕ → Bool) → IsSpannedAt (case_vertex_count t) (case_branches t) (case_meters t) T → (u w : ℕ) → u < case_vertex_count t → w < case_vertex_count t → T u ≡ true → T w ≡ true
       → get_or (case_components t) u 0 ≡ get_or (case_components t) w 0
   spanned_component T s u w lu lw tu tw = same_component (branches s.pairs) u w (spanned_joins T s u w lu lw tu tw)
 
   module _ (c : ℕ) (low : c < case_component_count t) where
     -- the buses of a component are as many as its size, and there is one
-    component_size : length (filter (is_bus_of t c) (every_vertex (case_bus_count t))) ≡ slice_index (case_sizes t) c
+    component_size : length (filter (is_vertex_of t c) (every_vertex (case_vertex_count t))) ≡ slice_index (case_sizes t) c
     component_size =
-        ap (λ (xs : List ℕ). length xs) (filter_same (is_bus_of t c) (is_of t c) (every_vertex (case_bus_count t))
-        (λ u i. ap (λ (k : ℕ). k == c) (case_component-at t u (vertex_low (case_bus_count t) u i))))
+        ap (λ (xs : List ℕ). length xs) (filter_same (is_vertex_of t c) (is_of t c) (every_vertex (case_vertex_count t))
+        (λ u i. ap (λ (k : ℕ). k == c) (case_component-at t u (vertex_low (case_vertex_count t) u i))))
         ∙ sym (size_is t c low)
 
-    some_bus : (u : ℕ) × (u < case_bus_count t) × (is_bus_of t c u ≡ true)
+    some_bus : (u : ℕ) × (u < case_vertex_count t) × (is_vertex_of t c u ≡ true)
     unfolding case_component_count
     some_bus =
-        let b = component_at (case_bus_count t) (present (case_live t)) c low in
+        let b = component_at (case_vertex_count t) (present (case_live t)) c low in
         (b.0, b.1, eq-eqb (get_or (case_components t) b.0 0) c (case_component-at t b.0 b.1 ∙ b.2))
 
-    needs_one_less : suc (need_of (case_sizes t) c) ≡ length (filter (is_bus_of t c) (every_vertex (case_bus_count t)))
+    needs_one_less : suc (case_need t c) ≡ length (filter (is_vertex_of t c) (every_vertex (case_vertex_count t)))
     needs_one_less =
         let b = some_bus in
-        let vs = every_vertex (case_bus_count t) in
-        let some = some_in b.0 (filter (is_bus_of t c) vs) (In-filter (is_bus_of t c) b.0 vs (In-vertices (case_bus_count t) b.0 b.1) b.2) in
+        let vs = every_vertex (case_vertex_count t) in
+        let some = some_in b.0 (filter (is_vertex_of t c) vs) (In-filter (is_vertex_of t c) b.0 vs (In-vertices (case_vertex_count t) b.0 b.1) b.2) in
         let size = component_size in
         omega (arith, some, size)
 
     -- a meter of the component touches branches between its buses
-    lies_inside : (m : ℕ) → item_component t (case_meters t) m ≡ c → LiesInside (ends_at (case_branches t)) (case_touch t) (is_bus_of t c) m
+    lies_inside : (m : ℕ) → item_component t (case_meters t) m ≡ c → LiesInside (ends_at (case_branches t)) (case_touch t) (is_vertex_of t c) m
     lies_inside m own e i =
         let first = touched_component t v (case_meters t) m e i ∙ own in
         (eq-eqb (get_or (case_components t) (ends_at (case_branches t) e).0 0) c first, eq-eqb (get_or (case_components t) (ends_at (case_branches t) e).1 0) c (sym (ends_component t v e) ∙ first))
@@ -92,18 +90,18 @@ module _ (t : Tables) (v : IsValid t) where
     tree_assigns : IsAssignment (case_matroid t) (case_touch t) (case_live_meters t) (tree_pairs t c)
     unfolding component_meters
     tree_assigns =
-        let n = case_bus_count t in
+        let n = case_vertex_count t in
         let ends = case_branches t in
         let a = to_matroid n ends (case_meters t) (component_meters t c) (tree_pairs t c) (tree_first t v c).assigns in
         IsAssignment-items (case_matroid t) (IsMatroid-graph n ends (case_branches-are t v)) (case_touch t) (component_meters t c) (case_live_meters t) (tree_pairs t c) a
         (λ p i. (In-filter_from (is_meter_of t c) p.0 (case_live_meters t) (a.of_items p i)).0)
 
-    spanned_by_tree : IsObservable t c → IsSpannedAt (case_bus_count t) (case_branches t) (case_meters t) (is_bus_of t c)
+    spanned_by_tree : IsObservable t c → IsSpannedAt (case_vertex_count t) (case_branches t) (case_meters t) (is_vertex_of t c)
     spanned_by_tree o =
         let b = some_bus in
         record {
           vertex = b.0;
-          vertex_in = In-vertices (case_bus_count t) b.0 b.1;
+          vertex_in = In-vertices (case_vertex_count t) b.0 b.1;
           holds_vertex = b.2;
           pairs = tree_pairs t c;
           assigns = tree_assigns;
@@ -114,25 +112,25 @@ module _ (t : Tables) (v : IsValid t) where
           enough = ap suc (tree_whole t v c low o) ∙ needs_one_less;
         }
 
-    island_from : IsObservable t c → IsIslandOf t (is_bus_of t c)
+    island_from : IsObservable t c → IsIslandOf t (is_vertex_of t c)
     island_from o =
         let b = some_bus in
         record {
           spanned = spanned_by_tree o;
           largest = λ T s more w i tw.
-              let lw = vertex_low (case_bus_count t) w i in
-              let same = spanned_component T s b.0 w b.1 lw (more b.0 (In-vertices (case_bus_count t) b.0 b.1) b.2) tw in
+              let lw = vertex_low (case_vertex_count t) w i in
+              let same = spanned_component T s b.0 w b.1 lw (more b.0 (In-vertices (case_vertex_count t) b.0 b.1) b.2) tw in
               eq-eqb (get_or (case_components t) w 0) c (sym same ∙ eqb-true (get_or (case_components t) b.0 0) c b.2);
         }
 
-    observable_from : IsIslandOf t (is_bus_of t c) → IsObservable t c
+    observable_from : IsIslandOf t (is_vertex_of t c) → IsObservable t c
     observable_from island =
         let s = island.spanned in
         let all : filter (λ (p : Pair). branch_component t p.1 == c) s.pairs ≡ s.pairs = filter_all (λ (p : Pair). branch_component t p.1 == c) s.pairs
         (λ p i. (s.lie_inside p.0 (In-items s.pairs p i) p.1 (s.assigns.touched p i)).0) in
         record {
           pairs = s.pairs;
-          assigns = from_matroid (case_bus_count t) (case_branches t) (case_meters t) (case_live_meters t) s.pairs s.assigns;
+          assigns = from_matroid (case_vertex_count t) (case_branches t) (case_meters t) (case_live_meters t) s.pairs s.assigns;
           enough = let long = s.enough in let need = needs_one_less in let same = ap (λ (A : List Pair). length A) all in omega (arith, long, need, same);
         }
 

@@ -6,20 +6,19 @@ use Rattle.obs_meter.specs.Assignments.{rho_at}
 use Rattle.obs_meter.specs.Touches.{live_items}
 use Rattle.obs_placement.specs.Placed.{ShortfallValue, PlanValue, shortfall_of, plan_of}
 use Rattle.obs_placement.specs.Placed.Placed.{cheapest, shortfall}
-use Rattle.obs_network.specs.Switched.{case_bus_count}
-use Rattle.obs_network.specs.Network.{case_branches, case_needed, case_offered}
+use Rattle.obs_network.specs.Network.{case_branches, case_needed, case_offered, case_vertex_count}
 use Rattle.obs_edit.specs.Planned.{case_placement}
 
 module _ (t : Tables) where
   -- the greatest length of all that is offered
   unfoldable pub most : ℕ
-  most = rho_at (case_bus_count t) (case_branches t) (case_offered t) (live_items (case_branches t) (case_offered t))
+  most = rho_at (case_vertex_count t) (case_branches t) (case_offered t) (live_items (case_branches t) (case_offered t))
 
   unfoldable pub plan : PlanValue
-  plan = plan_of (case_bus_count t) (case_branches t) (case_offered t) (length t.meters) (prices_of t.candidates)
+  plan = plan_of (case_vertex_count t) (case_branches t) (case_offered t) (length t.meters) (prices_of t.candidates)
 
   unfoldable pub lack : ShortfallValue
-  lack = shortfall_of (case_bus_count t) (case_branches t) (case_offered t) (case_needed t)
+  lack = shortfall_of (case_vertex_count t) (case_branches t) (case_offered t) (case_needed t)
 
   which : case_placement t ≡ cond (nat_lt most (case_needed t)) (shortfall lack) (cheapest plan)
   unfolding most plan lack
@@ -40,10 +39,10 @@ module _ (t : Tables) where
       by false e = absurd (cc e)
 
   -- the same, in words of the specs
-  pub plan_is : (p : PlanValue) → case_placement t ≡ cheapest p → plan_of (case_bus_count t) (case_branches t) (case_offered t) (length t.meters) (prices_of t.candidates) ≡ p
+  pub plan_is : (p : PlanValue) → case_placement t ≡ cheapest p → plan_of (case_vertex_count t) (case_branches t) (case_offered t) (length t.meters) (prices_of t.candidates) ≡ p
   unfolding plan
   plan_is p e = (planned p e).1
 
-  pub lack_is : (l : ShortfallValue) → case_placement t ≡ shortfall l → shortfall_of (case_bus_count t) (case_branches t) (case_offered t) (case_needed t) ≡ l
+  pub lack_is : (l : ShortfallValue) → case_placement t ≡ shortfall l → shortfall_of (case_vertex_count t) (case_branches t) (case_offered t) (case_needed t) ≡ l
   unfolding lack
   lack_is l e = (lacking l e).1

@@ -26,8 +26,7 @@ use Rattle.obs_assign.proofs.Keeping.{slot_without}
 use Rattle.obs_assign.proofs.Standing.{IsAssignmentAt-standing, length-retained, still_at, still_from}
 use Rattle.obs_assign.proofs.Slotted.{none_some}
 use Rattle.obs_exchange.specs.Lengthened.{HasLengthened}
-use Rattle.obs_network.specs.Switched.{case_bus_count}
-use Rattle.obs_network.specs.Network.{Network, Rows, case_branches, case_meters, case_needed, network_of}
+use Rattle.obs_network.specs.Network.{Network, Rows, case_branches, case_meters, case_needed, case_vertex_count, network_of}
 use Rattle.obs_network.specs.Edited.{ArePresent}
 use Rattle.obs_network.proofs.Edited.{branches-with_meter}
 use Rattle.obs_network.proofs.KeptForests.{forest_closed, forest_opened, forest_rank, forest_with_branch, forest_with_meter}
@@ -47,7 +46,7 @@ not_below a b e = grind (arith, nat_tests)
 
 -- of a forest whose branches stay present all count after an edit, but perhaps one
 pub ranked-edited : (t : Tables) (e : Edit) → IsValid t → IsValid (edited t e) → (L : List ℕ) → IsForestAt (case_branches t) L → ArePresent (case_branches (edited t e)) L
-    → length L ≤ rank_at (case_bus_count (edited t e)) (case_branches (edited t e)) L + 1
+    → length L ≤ rank_at (case_vertex_count (edited t e)) (case_branches (edited t e)) L + 1
 ranked-edited t (edit.Switch at true) v after L f here = forest_closed t v at L f here
 ranked-edited t (edit.Switch at false) v after L f here =
     let r = forest_rank (with_closed t at false) after L (forest_opened t v at L f here) in
@@ -122,11 +121,11 @@ module _ (n : Network) (t : Tables) (e : Edit) (a : Assignment) (v : IsValid t) 
       let standing_now : StandsOver c (network_of t).graph touches =
       subst (λ (s : Graph). StandsOver c s touches) graph_now (subst (λ (i : Meters). StandsOver c g i.touches) meters_now stands) in
       let forest_now = (IsAssignmentAt-standing c (network_of t).graph touches whole standing_now).forest in
-      let rank = length-retained (case_bus_count t) ends touches (pairs a) (pairs c) (case_branches-are t v) forest_now same in
+      let rank = length-retained (case_vertex_count t) ends touches (pairs a) (pairs c) (case_branches-are t v) forest_now same in
       let L = branches (still ends touches (pairs a)) in
-      let was = forest-still (case_bus_count b.before) (case_branches b.before) (case_meters b.before) (case_branches-are b.before b.valid) (every_item (case_meters b.before)) (pairs a) old_assignment ends touches in
+      let was = forest-still (case_vertex_count b.before) (case_branches b.before) (case_meters b.before) (case_branches-are b.before b.valid) (every_item (case_meters b.before)) (pairs a) old_assignment ends touches in
       let here = present-still ends touches (pairs a) in
-      let most = subst (λ (x : Tables). length L ≤ rank_at (case_bus_count x) (case_branches x) L + 1) (sym b.same)
+      let most = subst (λ (x : Tables). length L ≤ rank_at (case_vertex_count x) (case_branches x) L + 1) (sym b.same)
       (ranked-edited b.before e b.valid (subst IsValid b.same v) L was (subst (λ (x : Tables). ArePresent (case_branches x) L) b.same here)) in
       let count = length-map (still ends touches (pairs a)) (λ (p : Pair). p.1) in
       AreKept-by t e a c turns same.standing (omega (arith, most, rank, count)) own

@@ -22,9 +22,7 @@ use Rattle.obs_meter.specs.Spanned.{graph_matroid, rank_at}
 use Rattle.obs_meter.specs.Touches.{every_item, is_live, touch_at}
 use Rattle.obs_meter.proofs.Assigned.{from_matroid, live_items-distinct, to_matroid}
 use Rattle.obs_meter.proofs.Instance.{IsMatroid-graph}
-use Rattle.obs_network.specs.Switched.{case_bus_count}
-use Rattle.obs_network.specs.Components.{need_of}
-use Rattle.obs_network.specs.Network.{case_branches, case_component_count, case_meters, case_sizes}
+use Rattle.obs_network.specs.Network.{case_branches, case_component_count, case_meters, case_need, case_vertex_count}
 use Rattle.obs_network.specs.Observable.{IsObservable, branch_component, case_live_meters, item_component}
 use Rattle.obs_network.proofs.InComponents.{kinds_sum, touched_component}
 use Rattle.obs_network.proofs.Observed.{few_in, pairs_in}
@@ -75,7 +73,7 @@ module _ (g : Matroid) (laws : IsMatroid g) (touch : ℕ → List ℕ) (kind of 
 
 -- the matroid of a case
 abbrev pub case_matroid : Tables → Matroid
-case_matroid t = graph_matroid (case_bus_count t) (case_branches t)
+case_matroid t = graph_matroid (case_vertex_count t) (case_branches t)
 
 -- what a meter of a case touches
 abbrev pub case_touch : Tables → ℕ → List ℕ
@@ -87,7 +85,7 @@ pub record IsClosedFor (t : Tables) (A : List Pair) (S : ℕ → Bool) : Type 0 
   pub least : IsLeastClosed (case_matroid t) (case_touch t) (case_live_meters t) none every A S
 
 case_laws : (t : Tables) → IsValid t → IsMatroid (case_matroid t)
-case_laws t v = IsMatroid-graph (case_bus_count t) (case_branches t) (case_branches-are t v)
+case_laws t v = IsMatroid-graph (case_vertex_count t) (case_branches t) (case_branches-are t v)
 
 live_distinct : (t : Tables) → IsDistinct (case_live_meters t)
 live_distinct t = live_items-distinct (case_branches t) (case_meters t)
@@ -126,8 +124,8 @@ module _ (t : Tables) (v : IsValid t) (A : List Pair) (S : ℕ → Bool) (h : Is
       let inside : filter S M ≡ filter (λ m. not (is_critical_meter t m)) M = filter_same S (λ m. not (is_critical_meter t m)) M mark in
       let outside : filter (λ m. not (S m)) M ≡ filter (is_critical_meter t) M =
       filter_same (λ m. not (S m)) (is_critical_meter t) M (λ m i. ap not (mark m i) ∙ not_not (is_critical_meter t m)) in
-      let one : rank_at (case_bus_count t) (case_branches t) (flat_map (case_touch t) (filter S M)) ≡ rank_at (case_bus_count t) (case_branches t) (flat_map (case_touch t) (filter (λ m. not (is_critical_meter t m)) M)) =
-      ap (λ (xs : List ℕ). rank_at (case_bus_count t) (case_branches t) (flat_map (case_touch t) xs)) inside in
+      let one : rank_at (case_vertex_count t) (case_branches t) (flat_map (case_touch t) (filter S M)) ≡ rank_at (case_vertex_count t) (case_branches t) (flat_map (case_touch t) (filter (λ m. not (is_critical_meter t m)) M)) =
+      ap (λ (xs : List ℕ). rank_at (case_vertex_count t) (case_branches t) (flat_map (case_touch t) xs)) inside in
       let two : length (filter (λ m. not (S m)) M) ≡ length (filter (is_critical_meter t) M) = ap (λ (xs : List ℕ). length xs) outside in
       let all = part_bound (case_matroid t) (case_laws t v) (case_touch t) (branch_component t) (item_component t (case_meters t)) (kinds_sum t v) (touched_component t v (case_meters t)) (case_live_meters t) (live_distinct t) A S h.assigns h.least c in
       let rank = component_rank_from c in
@@ -136,7 +134,7 @@ module _ (t : Tables) (v : IsValid t) (A : List Pair) (S : ℕ → Bool) (h : Is
   -- no assignment has more pairs in a component
   pub most_from : (c : ℕ) (B : List Pair) → IsAssignmentAt (case_branches t) (case_meters t) (case_live_meters t) B → length (pairs_in t c B) ≤ component_rank t c
   most_from c B b =
-      let n = case_bus_count t in
+      let n = case_vertex_count t in
       let same : pairs_in t c B ≡ part (is_meter_of t c) B = filter_same (λ (p : Pair). branch_component t p.1 == c) (λ (p : Pair). is_meter_of t c p.0) B
       (λ p i. ap (λ (k : ℕ). k == c) (touched_component t v (case_meters t) p.0 p.1 (b.touched p i))) in
       let most = part_most (case_matroid t) (case_laws t v) (case_touch t) (branch_component t) (item_component t (case_meters t)) (kinds_sum t v) (touched_component t v (case_meters t)) (case_live_meters t) (live_distinct t) A S h.assigns h.least c B
@@ -150,7 +148,7 @@ module _ (t : Tables) (v : IsValid t) (A : List Pair) (S : ℕ → Bool) (h : Is
       ap (λ (x : List Pair). length x) same ∙ component_rank_from c
 
   pub assigns_from : IsAssignmentAt (case_branches t) (case_meters t) (case_live_meters t) A
-  assigns_from = from_matroid (case_bus_count t) (case_branches t) (case_meters t) (case_live_meters t) A h.assigns
+  assigns_from = from_matroid (case_vertex_count t) (case_branches t) (case_meters t) (case_live_meters t) A h.assigns
 
 -- there is such an assignment
 pub some_closed : (t : Tables) → IsValid t → (A : List Pair) × (S : ℕ → Bool) × IsClosedFor t A S
@@ -164,7 +162,7 @@ some_closed t v =
 
 module _ (t : Tables) (v : IsValid t) (c : ℕ) where
   -- a component has no more pairs than it needs
-  pub rank_few : c < case_component_count t → component_rank t c ≤ need_of (case_sizes t) c
+  pub rank_few : c < case_component_count t → component_rank t c ≤ case_need t c
   rank_few l =
       let s = some_closed t v in
       let most = few_in t v (case_meters t) (case_live_meters t) s.0 (assigns_from t v s.0 s.1 s.2) c l in
@@ -179,8 +177,8 @@ module _ (t : Tables) (v : IsValid t) (c : ℕ) where
   most_is B b = let s = some_closed t v in most_from t v s.0 s.1 s.2 c B b
 
   -- a component is observable exactly where its rank is what it needs
-  pub observable-from : component_rank t c ≡ need_of (case_sizes t) c → IsObservable t c
+  pub observable-from : component_rank t c ≡ case_need t c → IsObservable t c
   observable-from e = let s = some_closed t v in record { pairs = s.0; assigns = assigns_from t v s.0 s.1 s.2; enough = pairs_in_from t v s.0 s.1 s.2 c ∙ e }
 
-  pub observable-to : c < case_component_count t → IsObservable t c → component_rank t c ≡ need_of (case_sizes t) c
+  pub observable-to : c < case_component_count t → IsObservable t c → component_rank t c ≡ case_need t c
   observable-to l o = let most = most_is o.pairs o.assigns in let few = rank_few l in let all = o.enough in omega (arith, most, few, all)

@@ -9,14 +9,12 @@ use Rattle.obs_matroid.specs.Assignments.{Pair}
 use Rattle.obs_exchange.specs.Critical.{critical_at, critical_meters}
 use Rattle.obs_first.specs.First.{first_pairs}
 use Rattle.obs_islands.specs.Firsts.{islands_of}
-use Rattle.obs_network.specs.Switched.{case_bus_count}
-use Rattle.obs_network.specs.Components.{need_of}
-use Rattle.obs_network.specs.Network.{case_branches, case_component_count, case_meters, case_sizes}
+use Rattle.obs_network.specs.Network.{case_branches, case_component_count, case_meters, case_need, case_vertex_count}
 use Rattle.obs_network.specs.Observable.{case_live_meters, is_energised_component, item_component}
 
 -- the greatest length of an assignment of some meters of a case
 abbrev pub rank_of_meters : Tables → List ℕ → ℕ
-rank_of_meters t meters = rho_at (case_bus_count t) (case_branches t) (case_meters t) meters
+rank_of_meters t meters = rho_at (case_vertex_count t) (case_branches t) (case_meters t) meters
 
 -- the rank of a case: that of its live meters
 unfoldable pub case_rank : Tables → ℕ
@@ -24,11 +22,11 @@ case_rank t = rank_of_meters t (case_live_meters t)
 
 -- whether a meter of a case is critical
 unfoldable pub is_critical_meter : Tables → ℕ → Bool
-is_critical_meter t m = critical_at (case_bus_count t) (case_branches t) (case_meters t) m
+is_critical_meter t m = critical_at (case_vertex_count t) (case_branches t) (case_meters t) m
 
 -- the critical meters of a case
 unfoldable pub case_critical_meters : Tables → List ℕ
-case_critical_meters t = critical_meters (case_bus_count t) (case_branches t) (case_meters t)
+case_critical_meters t = critical_meters (case_vertex_count t) (case_branches t) (case_meters t)
 
 -- whether all that a meter touches lies in a component
 abbrev pub is_meter_of : Tables → ℕ → ℕ → Bool
@@ -44,7 +42,7 @@ component_rank t c = rank_of_meters t (component_meters t c)
 
 -- whether a component is energised and can't have the pairs that it needs
 unfoldable pub is_short : Tables → ℕ → Bool
-is_short t c = is_energised_component t c && not (component_rank t c == need_of (case_sizes t) c)
+is_short t c = is_energised_component t c && not (component_rank t c == case_need t c)
 
 -- the energised components that can't, in their order
 unfoldable pub short_components : Tables → List ℕ
@@ -56,7 +54,7 @@ bound_meters t c = filter (λ m. not (is_critical_meter t m)) (component_meters 
 
 -- the rank of the branches that these touch
 unfoldable pub bound_rank : Tables → ℕ → ℕ
-bound_rank t c = rank_at (case_bus_count t) (case_branches t) (flat_map (touch_at (case_branches t) (case_meters t)) (bound_meters t c))
+bound_rank t c = rank_at (case_vertex_count t) (case_branches t) (flat_map (touch_at (case_branches t) (case_meters t)) (bound_meters t c))
 
 -- the number of the component's other live meters
 unfoldable pub bound_outside : Tables → ℕ → ℕ
@@ -64,8 +62,8 @@ bound_outside t c = length (filter (is_critical_meter t) (component_meters t c))
 
 -- the pairs of the first assignment of a case's meters, by meter
 unfoldable pub case_first_pairs : Tables → List Pair
-case_first_pairs t = first_pairs (case_bus_count t) (case_branches t) (case_meters t)
+case_first_pairs t = first_pairs (case_vertex_count t) (case_branches t) (case_meters t)
 
 -- of each bus of a case the first bus of its island
 unfoldable pub case_islands : Tables → List ℕ
-case_islands t = islands_of (case_bus_count t) (case_branches t) (case_meters t)
+case_islands t = islands_of (case_vertex_count t) (case_branches t) (case_meters t)

@@ -7,10 +7,8 @@ use Rattle.obs_meter.specs.Spanned.{graph_matroid, joined_at}
 use Rattle.obs_meter.specs.Touches.{touch_at}
 use Rattle.obs_first.specs.First.{IsFirstAt}
 use Rattle.obs_islands.specs.Islands.{IsFirstIn, IsIslandAt, IsOnlyIslandOf}
-use Rattle.obs_network.specs.Switched.{case_bus_count}
-use Rattle.obs_network.specs.Components.{need_of}
-use Rattle.obs_network.specs.Network.{case_branches, case_component_count, case_components, case_meters, case_sizes}
-use Rattle.obs_network.specs.Observable.{IsObservable, branch_component}
+use Rattle.obs_network.specs.Network.{case_branches, case_component_count, case_meters, case_need, case_vertex_component, case_vertex_count}
+use Rattle.obs_network.specs.Observable.{IsObservable, branch_component, is_vertex_of}
 use Rattle.obs_edit.specs.Answers.{case_first_pairs, case_islands, component_meters}
 
 -- the pairs of the first assignment of a case's meters whose branches lie in a component; where the component is
@@ -27,47 +25,43 @@ TreesAreFirst = (t : Tables) (c : ℕ) → IsValid t →
 -- and so computed from these meters alone: the meters of other components make no difference
 abbrev pub TreesStandAlone : Type 0
 TreesStandAlone = (t : Tables) (c : ℕ) → IsValid t →
-    tree_pairs t c ≡ first_of (graph_matroid (case_bus_count t) (case_branches t))
+    tree_pairs t c ≡ first_of (graph_matroid (case_vertex_count t) (case_branches t))
     (touch_at (case_branches t) (case_meters t)) (component_meters t c)
 
 -- an observable component has as many of them as it needs
 abbrev pub TreesAreWhole : Type 0
 TreesAreWhole = (t : Tables) (c : ℕ) → IsValid t → c < case_component_count t → IsObservable t c →
-    length (tree_pairs t c) ≡ need_of (case_sizes t) c
+    length (tree_pairs t c) ≡ case_need t c
 
--- whether a bus is one of a component
-abbrev pub is_bus_of : Tables → ℕ → ℕ → Bool
-is_bus_of t c u = slice_index (case_components t) u == c
-
--- and their branches, a forest, join all its buses
+-- and their branches, a forest, join all its vertices
 abbrev pub TreesSpan : Type 0
 TreesSpan = (t : Tables) (c u w : ℕ) → IsValid t → c < case_component_count t → IsObservable t c →
-    u < case_bus_count t → w < case_bus_count t → is_bus_of t c u ≡ true → is_bus_of t c w ≡ true →
+    u < case_vertex_count t → w < case_vertex_count t → is_vertex_of t c u ≡ true → is_vertex_of t c w ≡ true →
     joined_at (case_branches t) (branches (tree_pairs t c)) u w ≡ true
 
 -- S is an island of the network of a case
 abbrev pub IsIslandOf : Tables → (ℕ → Bool) → Type 0
-IsIslandOf t S = IsIslandAt (case_bus_count t) (case_branches t) (case_meters t) S
+IsIslandOf t S = IsIslandAt (case_vertex_count t) (case_branches t) (case_meters t) S
 
--- each bus lies in exactly one island, and is named by the first bus of that island
+-- each vertex lies in exactly one island, and is named by the first vertex of that island
 abbrev pub IslandsAreNamed : Type 0
-IslandsAreNamed = (t : Tables) (u : ℕ) → IsValid t → u < case_bus_count t →
-    (S : ℕ → Bool) × IsOnlyIslandOf (case_bus_count t) (case_branches t) (case_meters t) u S
-    × IsFirstIn (case_bus_count t) S (slice_index (case_islands t) u)
+IslandsAreNamed = (t : Tables) (u : ℕ) → IsValid t → u < case_vertex_count t →
+    (S : ℕ → Bool) × IsOnlyIslandOf (case_vertex_count t) (case_branches t) (case_meters t) u S
+    × IsFirstIn (case_vertex_count t) S (slice_index (case_islands t) u)
 
--- two buses are named alike exactly where some island has both
+-- two vertices are named alike exactly where some island has both
 abbrev pub IslandsTellApart : Type 0
-IslandsTellApart = (t : Tables) (u w : ℕ) → IsValid t → u < case_bus_count t → w < case_bus_count t →
+IslandsTellApart = (t : Tables) (u w : ℕ) → IsValid t → u < case_vertex_count t → w < case_vertex_count t →
     (slice_index (case_islands t) u ≡ slice_index (case_islands t) w)
     ↔ ((S : ℕ → Bool) × IsIslandOf t S × (S u ≡ true) × (S w ≡ true))
 
--- the buses of an island are of one component
+-- the vertices of an island are of one component
 abbrev pub IslandsLieInComponents : Type 0
 IslandsLieInComponents = (t : Tables) (S : ℕ → Bool) (u w : ℕ) → IsValid t → IsIslandOf t S →
-    u < case_bus_count t → w < case_bus_count t → S u ≡ true → S w ≡ true →
-    slice_index (case_components t) u ≡ slice_index (case_components t) w
+    u < case_vertex_count t → w < case_vertex_count t → S u ≡ true → S w ≡ true →
+    case_vertex_component t u ≡ case_vertex_component t w
 
--- a component is observable exactly where its buses are an island
+-- a component is observable exactly where its vertices are an island
 abbrev pub ObservableIsIsland : Type 0
 ObservableIsIsland = (t : Tables) (c : ℕ) → IsValid t → c < case_component_count t →
-    IsObservable t c ↔ IsIslandOf t (is_bus_of t c)
+    IsObservable t c ↔ IsIslandOf t (is_vertex_of t c)

@@ -12,8 +12,7 @@ use Rattle.obs_placement.specs.Order.{price_of}
 use Rattle.obs_placement.specs.Placed.{ShortfallValue, PlanValue}
 use Rattle.obs_placement.specs.Placed.Placed.{cheapest, shortfall}
 use Rattle.obs_placement.specs.Shown.{Completes, bare_layer}
-use Rattle.obs_network.specs.Switched.{case_bus_count}
-use Rattle.obs_network.specs.Network.{case_branches, case_needed, case_offered}
+use Rattle.obs_network.specs.Network.{case_branches, case_needed, case_offered, case_vertex_count}
 use Rattle.obs_edit.specs.Planned.{case_placed_pairs, case_placement, planned_items}
 
 -- candidates complete the meters of a case: with these, the live ones have an assignment that is as long as the case needs. An item
@@ -32,7 +31,7 @@ chosen_items t plan = map (λ k. length t.meters + k) plan.chosen
 -- the numbers of a layer are those of the bound of a list of items below its end
 abbrev pub IsBoundOf : Tables → Layer → Type 0
 IsBoundOf t l =
-    IsShown (graph_matroid (case_bus_count t) (case_branches t)) (touch_at (case_branches t) (case_offered t))
+    IsShown (graph_matroid (case_vertex_count t) (case_branches t)) (touch_at (case_branches t) (case_offered t))
     (price_of (length t.meters) (prices_of t.candidates)) (live_meters (case_branches t) (case_offered t) (length t.meters))
     (live_candidates (case_branches t) (case_offered t) (length t.meters)) l
 

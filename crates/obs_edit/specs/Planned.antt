@@ -16,8 +16,7 @@ use Rattle.obs_placement.specs.Answer.{chosen_of}
 use Rattle.obs_placement.specs.Choosing.{no_pairs, nothing_placed}
 use Rattle.obs_placement.specs.Placed.{Placed, PlanValue, placement_of}
 use Rattle.obs_placement.specs.Placed.Placed.{cheapest, shortfall}
-use Rattle.obs_network.specs.Switched.{case_bus_count}
-use Rattle.obs_network.specs.Network.{case_branches, case_needed, case_offered}
+use Rattle.obs_network.specs.Network.{case_branches, case_needed, case_offered, case_position_count, case_vertex_count, case_vertex_room}
 
 -- the items of a plan: the meters, and then the candidates at these positions
 abbrev pub planned_items : ℕ → List ℕ → List ℕ
@@ -48,15 +47,15 @@ PlanPairsAreFirst = (n : ℕ) (ends : List (Option Ends)) (touches : List Touch)
 -- the placement of a case, and its pairs
 abbrev pub case_placement : Tables → Placed
 case_placement t =
-    placement_of (case_bus_count t) (case_branches t) (case_offered t) (length t.meters) (prices_of t.candidates) (case_needed t)
+    placement_of (case_vertex_count t) (case_branches t) (case_offered t) (length t.meters) (prices_of t.candidates) (case_needed t)
 
 abbrev pub case_placed_pairs : Tables → List Pair
 case_placed_pairs t =
-    placed_pairs (case_bus_count t) (case_branches t) (case_offered t) (length t.meters) (prices_of t.candidates) (case_needed t)
+    placed_pairs (case_vertex_count t) (case_branches t) (case_offered t) (length t.meters) (prices_of t.candidates) (case_needed t)
 
--- the numbers of rows of a case as sizes of a work value, where candidates count as meters
+-- the sizes of a work value for a case where candidates count as meters
 abbrev pub offered_rows : Tables → Sizes
-offered_rows t = record { meters = length t.meters + length t.candidates; branches = length t.branches; vertices = length t.nodes }
+offered_rows t = record { meters = length t.meters + length t.candidates; branches = case_position_count t; vertices = case_vertex_room t }
 
 -- no rows
 abbrev pub no_rows : Sizes

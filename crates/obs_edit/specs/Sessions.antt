@@ -8,7 +8,7 @@ use Rattle.obs_critical.specs.Listed.{CriticalWork}
 use Rattle.obs_islands.specs.IslandWork.{IslandWork}
 use Rattle.obs_meter.specs.Assignments.{IsRhoAt}
 use Rattle.obs_meter.specs.Sizes.{Sizes}
-use Rattle.obs_network.specs.Network.{case_branches, case_meters, case_offered, network_of}
+use Rattle.obs_network.specs.Network.{case_branches, case_meters, case_offered, case_position_count, case_vertex_room, network_of}
 use Rattle.obs_network.specs.Observable.{case_live_meters}
 use Rattle.obs_edit.specs.Answers.{bound_meters, bound_outside, bound_rank, case_critical_meters, case_first_pairs, case_islands, is_critical_meter}
 use Rattle.obs_edit.specs.Longest.{IsLongest}
@@ -30,15 +30,15 @@ IsRankOf t r = IsRhoAt (case_branches t) (case_meters t) (case_live_meters t) r
 abbrev pub AreLongest : Tables → Assignment → Type 0
 AreLongest t a = IsLongest (network_of t).graph (case_meters t) a
 
--- the numbers of rows of a case as sizes of a work value. Opened switches make more buses, so the nodes count and not the buses
+-- the sizes of a work value for a case, whichever switches are closed
 abbrev pub case_rows : Tables → Sizes
-case_rows t = record { meters = length t.meters; branches = length t.branches; vertices = length t.nodes }
+case_rows t = record { meters = length t.meters; branches = case_position_count t; vertices = case_vertex_room t }
 
 -- there is room for every case with as many rows
 pub record HasRoom (t : Tables) (a : Assignment) (w : Work) : Type 0 where
   pub pair_meters : a.most_meters ≡ length t.meters
-  pub pair_branches : a.forest.most_branches ≡ length t.branches
-  pub pair_vertices : a.forest.most_vertices ≡ length t.nodes
+  pub pair_branches : a.forest.most_branches ≡ case_position_count t
+  pub pair_vertices : a.forest.most_vertices ≡ case_vertex_room t
   pub work : w.sizes ≡ case_rows t
 
 -- the flags mark, of the live meters, those that aren't critical

@@ -3,8 +3,7 @@ ghost use Rattle.std.specs.Prelude.{◌≡◌, ◌<◌, true, Some};
 ghost use Rattle.obs_assign.specs.Assignment.{StandsOver, pairs};
 ghost use Rattle.obs_exchange.specs.Laws.{IsThawed};
 ghost use Rattle.obs_placement.specs.Placed.{placed_of};
-ghost use Rattle.obs_network.specs.Components.{need_of};
-ghost use Rattle.obs_network.specs.Network.{case_component_count, case_meters, case_offered, case_sizes, network_of};
+ghost use Rattle.obs_network.specs.Network.{case_component_count, case_meters, case_need, case_offered, network_of};
 ghost use Rattle.obs_edit.specs.Answers.{bound_meters, bound_outside, bound_rank, case_critical_meters, case_first_pairs, case_islands};
 ghost use Rattle.obs_edit.specs.Planned.{case_placed_pairs, case_placement};
 
@@ -128,7 +127,7 @@ impl Session {
         ensures inside { result.inside.now ≡ bound_meters self.now.tables c }
         ensures rank { result.rank ≡ bound_rank self.now.tables c }
         ensures outside { result.outside ≡ bound_outside self.now.tables c }
-        ensures needed { result.needed ≡ need_of (case_sizes self.now.tables) c }
+        ensures needed { result.needed ≡ case_need self.now.tables c }
     {
         Bound {
             inside: &self.answers.inside[..self.answers.measured.listed],

@@ -2,7 +2,7 @@
 ghost use Rattle.std.specs.Prelude.{◌≡◌, ◌≢◌, ◌+◌, ◌≤◌, ℕ, false, None, MatchBool, length};
 ghost use Rattle.obs_assign.specs.Assignment.{HasRoomOf, IsWhole, StandsOver, branch_at, pairs as pairs_at};
 ghost use Rattle.obs_exchange.specs.Laws.{IsThawed};
-ghost use Rattle.obs_network.specs.Network.{case_meters, network_of};
+ghost use Rattle.obs_network.specs.Network.{case_meters, case_vertex_room, network_of};
 ghost use Rattle.obs_edit.specs.declared.edit.Edit.TheVariants.{Meter};
 ghost use Rattle.obs_edit.specs.Edits.{HasRow, IsRepaired, TakesOne, edited};
 ghost use Rattle.obs_edit.specs.Repairing.{AreKept, IsBefore, IsNetworkBefore, most_pairs};
@@ -82,7 +82,7 @@ fn most_pairs(edit: Edit, had: u32, needed: u32) -> u32
 fn keep_standing(case: &Case, network: &Network, edit: Edit, a: &mut Assignment)
     requires network { network.now ≡ network_of case.now }
     requires before { IsBefore case.now edit a.old }
-    requires vertices { length case.now.nodes ≤ a.old.forest.most_vertices }
+    requires vertices { case_vertex_room case.now ≤ a.old.forest.most_vertices }
     ensures kept { AreKept case.now edit a.old a.new }
     ensures stands { StandsOver a.new (network_of case.now).graph (case_meters case.now) }
     ensures whole { IsWhole a.new }

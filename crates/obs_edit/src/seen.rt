@@ -4,8 +4,7 @@ ghost use Rattle.std.specs.Prelude.{◌≡◌, ◌<◌, true};
 ghost use Rattle.obs_assign.specs.Assignment.{StandsOver, pairs};
 ghost use Rattle.obs_exchange.specs.Laws.{IsThawed};
 ghost use Rattle.obs_placement.specs.Placed.{placed_of};
-ghost use Rattle.obs_network.specs.Components.{need_of};
-ghost use Rattle.obs_network.specs.Network.{case_component_count, case_meters, case_offered, case_sizes, network_of};
+ghost use Rattle.obs_network.specs.Network.{case_component_count, case_meters, case_need, case_offered, network_of};
 ghost use Rattle.obs_network.specs.Observable.{IsObservable, is_energised_component};
 ghost use Rattle.obs_edit.specs.Answers.{bound_meters, bound_outside, bound_rank, case_critical_meters, case_first_pairs, case_islands};
 ghost use Rattle.obs_edit.specs.Planned.{case_placed_pairs, case_placement};
@@ -62,7 +61,7 @@ impl Session {
         ensures inside { result.found.inside.now ≡ bound_meters self.old.tables c }
         ensures rank { result.found.rank ≡ bound_rank self.old.tables c }
         ensures outside { result.found.outside ≡ bound_outside self.old.tables c }
-        ensures needed { result.found.needed ≡ need_of (case_sizes self.old.tables) c }
+        ensures needed { result.found.needed ≡ case_need self.old.tables c }
     {
         self.find_critical(steps);
         self.find_bound(c);

@@ -14,12 +14,10 @@ use Rattle.obs_meter.specs.Touches.{every_item}
 use Rattle.obs_assign.specs.Assignment.{Assignment, pairs}
 use Rattle.obs_first.specs.First.{first_pairs}
 use Rattle.obs_first.proofs.Lawful.{first_pairs-is}
-use Rattle.obs_network.specs.Components.{need_of}
 use Rattle.obs_islands.specs.Firsts.{island_first}
 use Rattle.obs_islands.specs.Islands.{every_vertex}
 use Rattle.obs_islands.proofs.Firsts.{first_in, partition}
-use Rattle.obs_network.specs.Network.{Network, case_branches, case_component_count, case_meters, case_sizes, network_of}
-use Rattle.obs_network.specs.Switched.{case_bus_count}
+use Rattle.obs_network.specs.Network.{Network, case_branches, case_component_count, case_meters, case_need, case_vertex_count, network_of}
 use Rattle.obs_network.proofs.OfCase.{case_branches-are}
 use Rattle.obs_network.specs.Located.{live_meters_of}
 use Rattle.obs_network.specs.Observable.{IsObservable, case_live_meters, is_energised_component}
@@ -58,9 +56,9 @@ pub lone_tree_is : (t : Tables) → IsValid t → (c : ℕ) → live_meters_of (
 unfolding tree_claim case_first_pairs
 lone_tree_is t v c lone a longest =
     let touches = case_meters t in
-    let first = first_pairs-is (case_bus_count t) (case_branches t) touches (case_branches-are t v) in
+    let first = first_pairs-is (case_vertex_count t) (case_branches t) touches (case_branches-are t v) in
     let kept_none = no_pairs_in t v c lone (case_live_meters t) (pairs a) (live_pairs t v a longest) in
-    let first_none = no_pairs_in t v c lone (every_item touches) (first_pairs (case_bus_count t) (case_branches t) touches) first.assigns in
+    let first_none = no_pairs_in t v c lone (every_item touches) (first_pairs (case_vertex_count t) (case_branches t) touches) first.assigns in
     ap (λ (l : List Pair). tree_line (component_name t c) ++ flat_map (pair_line t) l) (kept_none ∙ sym first_none)
 
 -- the text of the bound, from its parts
@@ -77,11 +75,11 @@ claim_dead trees bounds t c dead = rw dead refl
 module _ (trees bounds : Bool) (t : Tables) (v : IsValid t) (c : ℕ) (low : c < case_component_count t) (fed : is_energised_component t c ≡ true) where
   pub claim_observable : IsObservable t c → component_claim trees bounds t c ≡ text_if trees (tree_claim t c)
   unfolding component_claim
-  claim_observable o = let e = eq-eqb (component_rank t c) (need_of (case_sizes t) c) (observable-to t v c low o) in rw (fed, e) refl
+  claim_observable o = let e = eq-eqb (component_rank t c) (case_need t c) (observable-to t v c low o) in rw (fed, e) refl
 
   pub claim_short : (IsObservable t c → ⊥) → component_claim trees bounds t c ≡ text_if bounds (bound_claim t c)
   unfolding component_claim
-  claim_short short = let e = ne_eqb (component_rank t c) (need_of (case_sizes t) c) (λ same. short (observable-from t v c same)) in rw (fed, e) refl
+  claim_short short = let e = ne_eqb (component_rank t c) (case_need t c) (λ same. short (observable-from t v c same)) in rw (fed, e) refl
 
 -- the texts of the numbers below n, one after the other
 abbrev pub texts_below : (ℕ → List ℕ) → ℕ → List ℕ
@@ -153,13 +151,13 @@ pub islands_few : (t : Tables) (islands : List ℕ) (n : Network) → n ≡ netw
 unfolding case_islands
 islands_few t islands n same e =
     ap (λ (xs : List ℕ). length xs) e
-    ∙ (length-map (every_vertex (case_bus_count t)) (island_first (case_bus_count t) (case_branches t) (case_meters t))
-    ∙ (length-range_with_len 0 (case_bus_count t) ∙ ap (λ (x : Network). x.graph.vertices) (sym same)))
+    ∙ (length-map (every_vertex (case_vertex_count t)) (island_first (case_vertex_count t) (case_branches t) (case_meters t))
+    ∙ (length-range_with_len 0 (case_vertex_count t) ∙ ap (λ (x : Network). x.graph.vertices) (sym same)))
 
 pub islands_low : (t : Tables) → IsValid t → (islands : List ℕ) → islands ≡ case_islands t → (bus : ℕ) → bus < length islands → slice_index islands bus ≤ bus
 unfolding case_islands
 islands_low t v islands e bus low =
-    let n = case_bus_count t in
+    let n = case_vertex_count t in
     let ends = case_branches t in
     let touches = case_meters t in
     let many = ap (λ (xs : List ℕ). length xs) e ∙ (length-map (every_vertex n) (island_first n ends touches) ∙ length-range_with_len 0 n) in

@@ -8,8 +8,7 @@ use Rattle.obs_case.specs.Tables.{IsValid, Tables}
 use Rattle.obs_matroid.specs.Lists.{In}
 use Rattle.obs_matroid.proofs.Lists.{In-flat_map_from}
 use Rattle.obs_matroid.proofs.Ranges.{range_from}
-use Rattle.obs_network.specs.Components.{need_of}
-use Rattle.obs_network.specs.Network.{case_component_count, case_sizes}
+use Rattle.obs_network.specs.Network.{case_component_count, case_need}
 use Rattle.obs_network.specs.Observable.{is_energised_component}
 use Rattle.obs_cert.specs.declared.fault.CertFault.{CertFault}
 use Rattle.obs_cert.specs.declared.flaw.Flaw.{Flaw}
@@ -76,16 +75,16 @@ module _ (t : Tables) (v : IsValid t) (trees bounds : Bool) where
   on_lines : (c : ℕ) → c < case_component_count t → AreLines (component_claim trees bounds t c) (lines_of_claims (claims_on trees bounds t c))
   unfolding component_claim claims_on tree_claim bound_claim
   on_lines c l =
-      either_lines (is_energised_component t c) (component_rank t c == need_of (case_sizes t) c) trees bounds _ _ (tree (component_tree t c)) (bound (component_bound t c))
+      either_lines (is_energised_component t c) (component_rank t c == case_need t c) trees bounds _ _ (tree (component_tree t c)) (bound (component_bound t c))
       (trees_are_lines t c v l) (bounds_are_lines t c v l)
 
   on_held : (c : ℕ) → c < case_component_count t → (x : Claim) → In x (claims_on trees bounds t c) → Holds t x
   unfolding claims_on
   on_held c l x i =
-      let full = component_rank t c == need_of (case_sizes t) c in
+      let full = component_rank t c == case_need t c in
       either_held t (is_energised_component t c) full trees bounds (tree (component_tree t c)) (bound (component_bound t c)) x
-      (λ fed is. trees_hold t c v l fed (observable-from t v c (eqb-true (component_rank t c) (need_of (case_sizes t) c) is)))
-      (λ fed is. bounds_hold t c v l fed (λ o. absurd (cc (is, eq-eqb (component_rank t c) (need_of (case_sizes t) c) (observable-to t v c l o)))))
+      (λ fed is. trees_hold t c v l fed (observable-from t v c (eqb-true (component_rank t c) (case_need t c) is)))
+      (λ fed is. bounds_hold t c v l fed (λ o. absurd (cc (is, eq-eqb (component_rank t c) (case_need t c) (observable-to t v c l o)))))
       i
 
   -- those on several components

@@ -17,9 +17,8 @@ use Rattle.obs_matroid.proofs.Lists.{In-filter_from, clash, filter_out, other_ne
 use Rattle.obs_meter.specs.Spanned.{graph_matroid}
 use Rattle.obs_meter.specs.Touches.{is_live, live_items, touch_at}
 use Rattle.obs_exchange.specs.Critical.{critical_at}
-use Rattle.obs_network.specs.Network.{case_branches, case_meters}
+use Rattle.obs_network.specs.Network.{case_branches, case_meters, case_vertex_count}
 use Rattle.obs_network.specs.Observable.{case_live_meters}
-use Rattle.obs_network.specs.Switched.{case_bus_count}
 use Rattle.obs_edit.specs.Answers.{case_critical_meters, case_rank}
 use Rattle.obs_edit.proofs.Metered.{none_touched, same_count, same_graph, same_touch}
 use Rattle.obs_network.proofs.OfCase.{length-case_meters}
@@ -86,7 +85,7 @@ module _ (t : Tables) (at : ℕ) where
       ∙ filter_both (is_live (case_branches t) (case_meters t)) (other_than at) (is_live (case_branches t) (case_meters lost)) live_both (range_with_len 0 (length (case_meters t)))
 
   abbrev joins : Matroid
-  joins = graph_matroid (case_bus_count t) (case_branches t)
+  joins = graph_matroid (case_vertex_count t) (case_branches t)
 
   abbrev touch : ℕ → List ℕ
   touch = touch_at (case_branches t) (case_meters t)
@@ -112,7 +111,7 @@ module _ (t : Tables) (at : ℕ) where
   unfolding is_critical case_rank
   critical_lost = ap (λ (r : ℕ). nat_lt r (case_rank t)) rank_lost
 
-  dip_is : is_dip t at ≡ critical_at (case_bus_count t) (case_branches t) (case_meters t) at
+  dip_is : is_dip t at ≡ critical_at (case_vertex_count t) (case_branches t) (case_meters t) at
   dip_is =
       let critical = is_critical joins touch (case_live_meters t) at in
       elim (cases_Bool (is_live (case_branches t) (case_meters t) at)) [
@@ -123,7 +122,7 @@ module _ (t : Tables) (at : ℕ) where
 pub dips_are_critical : (t : Tables) → dip_meters t ≡ case_critical_meters t
 unfolding dip_meters case_critical_meters
 dips_are_critical t =
-    let critical = critical_at (case_bus_count t) (case_branches t) (case_meters t) in
+    let critical = critical_at (case_vertex_count t) (case_branches t) (case_meters t) in
     filter_agree (is_dip t) critical (dip_is t) (range_with_len 0 (length t.meters)) ∙ ap (λ (n : ℕ). filter critical (range_with_len 0 n)) (sym (length-case_meters t))
 
 pub dips_count_critical : (t : Tables) → dips_of t ≡ length (case_critical_meters t)

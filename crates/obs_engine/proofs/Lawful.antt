@@ -13,9 +13,7 @@ use Rattle.obs_meter.specs.Touches.{every_item, is_live}
 use Rattle.obs_meter.proofs.Assigned.{live_items-distinct, rho_at-is}
 use Rattle.obs_exchange.specs.Critical.{IsCriticalAt, critical_at}
 use Rattle.obs_exchange.proofs.Lawful.{critical_at-exactly}
-use Rattle.obs_network.specs.Switched.{case_bus_count}
-use Rattle.obs_network.specs.Components.{need_of}
-use Rattle.obs_network.specs.Network.{case_branches, case_component_count, case_meters, case_needed, case_sizes}
+use Rattle.obs_network.specs.Network.{case_branches, case_component_count, case_meters, case_need, case_needed, case_vertex_count}
 use Rattle.obs_network.specs.Observable.{IsObservable, IsObservableCase, branch_component, case_live_meters, is_energised_component, item_component}
 use Rattle.obs_network.proofs.Marked.{filtered_below}
 use Rattle.obs_network.proofs.Observed.{observed_by_rho}
@@ -30,7 +28,7 @@ use Rattle.obs_edit.proofs.Tight.{bound_is, most_is, observable-from, observable
 
 pub rank_greatest : (t : Tables) → IsValid t → IsRhoAt (case_branches t) (case_meters t) (case_live_meters t) (case_rank t)
 unfolding case_rank
-rank_greatest t v = rho_at-is (case_bus_count t) (case_branches t) (case_meters t) (case_live_meters t) (case_branches-are t v) (live_items-distinct (case_branches t) (case_meters t))
+rank_greatest t v = rho_at-is (case_vertex_count t) (case_branches t) (case_meters t) (case_live_meters t) (case_branches-are t v) (live_items-distinct (case_branches t) (case_meters t))
 
 rank_observed : (t : Tables) → IsValid t → IsObservableCase t ↔ (case_rank t ≡ case_needed t)
 unfolding case_rank
@@ -85,16 +83,16 @@ short_unobserved t v = (
   ]),
 )
 
-short_parts : (t : Tables) (c : ℕ) → is_short t c ≡ true → (is_energised_component t c ≡ true) × (component_rank t c ≢ need_of (case_sizes t) c)
+short_parts : (t : Tables) (c : ℕ) → is_short t c ≡ true → (is_energised_component t c ≡ true) × (component_rank t c ≢ case_need t c)
 unfolding is_short
 short_parts t c s =
-    let u = and_parts (is_energised_component t c) (not (component_rank t c == need_of (case_sizes t) c)) s in
-    (u.0, λ e. clash u.1 (ap not (eq-eqb (component_rank t c) (need_of (case_sizes t) c) e)))
+    let u = and_parts (is_energised_component t c) (not (component_rank t c == case_need t c)) s in
+    (u.0, λ e. clash u.1 (ap not (eq-eqb (component_rank t c) (case_need t c) e)))
 
-short_from : (t : Tables) (c : ℕ) → is_energised_component t c ≡ true → component_rank t c ≢ need_of (case_sizes t) c → is_short t c ≡ true
+short_from : (t : Tables) (c : ℕ) → is_energised_component t c ≡ true → component_rank t c ≢ case_need t c → is_short t c ≡ true
 unfolding is_short
 short_from t c fed n =
-    and_from (is_energised_component t c) (not (component_rank t c == need_of (case_sizes t) c)) fed (ap not (ne_eqb (component_rank t c) (need_of (case_sizes t) c) n))
+    and_from (is_energised_component t c) (not (component_rank t c == case_need t c)) fed (ap not (ne_eqb (component_rank t c) (case_need t c) n))
 
 short_at : (t : Tables) (c : ℕ) → In c (short_components t) → (c < case_component_count t) × (is_short t c ≡ true)
 unfolding short_components
@@ -115,7 +113,7 @@ module _ (t : Tables) (v : IsValid t) (c : ℕ) where
     (λ h. short_in t c h.0 (short_from t c h.1 (λ e. h.2 (observable-from t v c e)))),
   )
 
-  pub bound_below_need : In c (short_components t) → bound_rank t c + bound_outside t c < need_of (case_sizes t) c
+  pub bound_below_need : In c (short_components t) → bound_rank t c + bound_outside t c < case_need t c
   bound_below_need i =
       let u = short_at t c i in
       let w = (short_parts t c u.1).1 in
@@ -127,13 +125,13 @@ module _ (t : Tables) (v : IsValid t) (c : ℕ) where
   pub bound_reached : IsRhoAt (case_branches t) (case_meters t) (component_meters t c) (bound_rank t c + bound_outside t c)
   unfolding component_rank
   bound_reached = subst (λ (r : ℕ). IsRhoAt (case_branches t) (case_meters t) (component_meters t c) r) (sym (bound_is t v c))
-      (rho_at-is (case_bus_count t) (case_branches t) (case_meters t) (component_meters t c) (case_branches-are t v) (components_distinct t c))
+      (rho_at-is (case_vertex_count t) (case_branches t) (case_meters t) (component_meters t c) (case_branches-are t v) (components_distinct t c))
 
 pub critical_lines : (t : Tables) → IsValid t → (m : ℕ) → In m (case_critical_meters t) ↔ IsCriticalAt (case_branches t) (case_meters t) (case_live_meters t) m
 unfolding case_critical_meters
 critical_lines t v m =
-    let exactly = critical_at-exactly (case_bus_count t) (case_branches t) (case_meters t) (case_branches-are t v) m in
-    let p = critical_at (case_bus_count t) (case_branches t) (case_meters t) in (
+    let exactly = critical_at-exactly (case_vertex_count t) (case_branches t) (case_meters t) (case_branches-are t v) m in
+    let p = critical_at (case_vertex_count t) (case_branches t) (case_meters t) in (
       (λ i. (exactly.0 (In-filter_from p m (every_item (case_meters t)) i).1).1),
       (λ k.
           let u = In-filter_from (is_live (case_branches t) (case_meters t)) m (every_item (case_meters t)) k.item in
@@ -144,8 +142,8 @@ critical_lines t v m =
 pub lists_noncritical : ListsNonCritical
 unfolding bound_meters component_meters is_critical_meter
 lists_noncritical t v c m =
-    let exactly = critical_at-exactly (case_bus_count t) (case_branches t) (case_meters t) (case_branches-are t v) m in
-    let p = critical_at (case_bus_count t) (case_branches t) (case_meters t) in
+    let exactly = critical_at-exactly (case_vertex_count t) (case_branches t) (case_meters t) (case_branches-are t v) m in
+    let p = critical_at (case_vertex_count t) (case_branches t) (case_meters t) in
     let live = is_live (case_branches t) (case_meters t) in (
       (λ i.
           let u = In-filter_from (λ x. not (p x)) m (filter (is_meter_of t c) (case_live_meters t)) i in

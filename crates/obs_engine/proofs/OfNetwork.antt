@@ -8,8 +8,7 @@ use Rattle.obs_matroid.proofs.Contained.{All-from_In}
 use Rattle.obs_matroid.proofs.Lists.{In-filter_from}
 use Rattle.obs_meter.specs.Touches.{is_live}
 use Rattle.obs_exchange.specs.Critical.{critical_at}
-use Rattle.obs_network.specs.Switched.{case_bus_count}
-use Rattle.obs_network.specs.Network.{Network, case_branches, case_meters, case_needed, network_of}
+use Rattle.obs_network.specs.Network.{Network, case_branches, case_meters, case_needed, case_vertex_count, network_of}
 use Rattle.obs_network.specs.Observable.{case_live_meters, is_energised_component}
 use Rattle.obs_network.proofs.Marked.{filtered_below}
 use Rattle.obs_engine.specs.declared.status.Status.TheVariants.{Done, Short}
@@ -37,7 +36,7 @@ live_below t m i =
 pub critical_below : (t : Tables) → All (λ m. m < length t.meters) (case_critical_meters t)
 unfolding case_critical_meters
 critical_below t = All-from_In (λ m. m < length t.meters) _ (λ m i.
-    let low = filtered_below (critical_at (case_bus_count t) (case_branches t) (case_meters t)) 0 (length (case_meters t)) m i in
+    let low = filtered_below (critical_at (case_vertex_count t) (case_branches t) (case_meters t)) 0 (length (case_meters t)) m i in
     omega (arith, low, length-case_meters t))
 
 pub bound_below : (t : Tables) (c : ℕ) → All (λ m. m < length t.meters) (bound_meters t c)

@@ -18,8 +18,7 @@ use Rattle.obs_placement.specs.Layers.{added_items, inside_of, layers_of, prices
 use Rattle.obs_placement.specs.Order.{price_of}
 use Rattle.obs_placement.specs.Placed.{Placed, redundant_items, shortfall_of, plan_of}
 use Rattle.obs_placement.specs.Placed.Placed.{cheapest, shortfall}
-use Rattle.obs_network.specs.Switched.{case_bus_count}
-use Rattle.obs_network.specs.Network.{case_branches, case_needed, case_offered}
+use Rattle.obs_network.specs.Network.{case_branches, case_needed, case_offered, case_vertex_count}
 use Rattle.obs_network.proofs.Marked.{filtered_below}
 use Rattle.obs_network.proofs.OfCase.{length-case_offered}
 use Rattle.obs_report.specs.Items.{item_count}
@@ -64,7 +63,7 @@ lack_within t n ends needed =
 
 pub placement_within : (t : Tables) → IsWithin t (case_placement t)
 placement_within t =
-    let n = case_bus_count t in
+    let n = case_vertex_count t in
     let ends = case_branches t in
     let touches = case_offered t in
     elim (cases_Bool (nat_lt (rho_at n ends touches (live_items ends touches)) (case_needed t))) [

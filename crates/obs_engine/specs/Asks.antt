@@ -4,8 +4,7 @@ use Rattle.std.specs.List.{flat_map, range_with_len}
 use Rattle.obs_case.specs.Tables.{Tables}
 use Rattle.obs_placement.specs.Placed.{Placed}
 use Rattle.obs_placement.specs.Placed.Placed.{cheapest, shortfall}
-use Rattle.obs_network.specs.Components.{need_of}
-use Rattle.obs_network.specs.Network.{case_component_count, case_needed, case_sizes, network_of}
+use Rattle.obs_network.specs.Network.{case_component_count, case_need, case_needed, network_of}
 use Rattle.obs_network.specs.Observable.{is_energised_component}
 use Rattle.obs_report.specs.Counts.{counts_text}
 use Rattle.obs_report.specs.Islands.{islands_text}
@@ -40,7 +39,7 @@ text_if b text = if b then text else []
 unfoldable pub component_claim : Bool → Bool → Tables → ℕ → List ℕ
 component_claim trees bounds t c =
     if is_energised_component t c
-    then (if component_rank t c == need_of (case_sizes t) c then text_if trees (tree_claim t c) else text_if bounds (bound_claim t c))
+    then (if component_rank t c == case_need t c then text_if trees (tree_claim t c) else text_if bounds (bound_claim t c))
     else []
 
 -- the claims on all components, in their order

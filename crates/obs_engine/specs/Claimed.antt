@@ -2,8 +2,7 @@
 use Rattle.std.specs.Prelude.{◌≡◌, ◌⊎◌, ℕ, ◌==◌, Bool, true, false, List, [], ◌∷◌, length, Ok, if◌then◌else◌}
 use Rattle.std.specs.List.{flat_map, range_with_len}
 use Rattle.obs_case.specs.Tables.{IsValid, Tables}
-use Rattle.obs_network.specs.Components.{need_of}
-use Rattle.obs_network.specs.Network.{case_component_count, case_sizes}
+use Rattle.obs_network.specs.Network.{case_component_count, case_need}
 use Rattle.obs_network.specs.Observable.{is_energised_component}
 use Rattle.obs_cert.specs.Claims.{Claim, tree, bound}
 use Rattle.obs_cert.specs.Read.{claims_of}
@@ -24,7 +23,7 @@ claim_if b claim = if b then claim ∷ [] else []
 unfoldable pub claims_on : Bool → Bool → Tables → ℕ → List Claim
 claims_on trees bounds t c =
     if is_energised_component t c
-    then (if component_rank t c == need_of (case_sizes t) c then claim_if trees (tree (component_tree t c)) else claim_if bounds (bound (component_bound t c)))
+    then (if component_rank t c == case_need t c then claim_if trees (tree (component_tree t c)) else claim_if bounds (bound (component_bound t c)))
     else []
 
 -- the claims on all components, in their order

@@ -5,8 +5,7 @@ ghost use Rattle.obs_matroid.specs.Lists.{In};
 ghost use Rattle.obs_matroid.specs.Assignments.{Pair};
 ghost use Rattle.obs_meter.specs.Assignments.{IsAssignmentAt, IsRhoAt};
 ghost use Rattle.obs_exchange.specs.Critical.{IsCriticalAt};
-ghost use Rattle.obs_network.specs.Components.{need_of};
-ghost use Rattle.obs_network.specs.Network.{case_branches, case_component_count, case_meters, case_needed, case_sizes};
+ghost use Rattle.obs_network.specs.Network.{case_branches, case_component_count, case_meters, case_need, case_needed};
 ghost use Rattle.obs_network.specs.Observable.{IsObservable, IsObservableCase, branch_component, case_live_meters, is_energised_component};
 ghost use Rattle.obs_cert.specs.Claims.{Claim};
 ghost use Rattle.obs_cert.specs.Read.{claims_of};
@@ -86,7 +85,7 @@ pub fn short_components_are_unobservable()
 /// meters has. No assignment of the case has more pairs in the component.
 pub fn bounds_refute()
     ensures below { (t : Tables) → IsValid t → (c : ℕ) → In c (short_components t) →
-        bound_rank t c + bound_outside t c < need_of (case_sizes t) c }
+        bound_rank t c + bound_outside t c < case_need t c }
     ensures greatest { (t : Tables) → IsValid t → (c : ℕ) →
         IsRhoAt (case_branches t) (case_meters t) (component_meters t c) (bound_rank t c + bound_outside t c) }
     ensures most { (t : Tables) → IsValid t → (c : ℕ) (A : List Pair) →

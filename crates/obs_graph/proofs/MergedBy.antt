@@ -93,6 +93,14 @@ glue_by_pair : (n s t : ℕ) → s < n → t < n → (u v : ℕ) → u < n → v
 glue_by_pair n s t ls lt u v lu lv =
     is_joined-merged n s t (glue s t) [] (λ x y lx ly. (λ same. same, λ same. same)) ls lt (All-nil (λ e. (e.a < n) × (e.b < n))) u v lu lv
 
+-- where no pairs are listed, each vertex stays
+pub merged_by-nothing : (n : ℕ) → AreMergedBy n n [] (λ v. v)
+merged_by-nothing n = record {
+  in_range = All-nil (λ e. (e.a < n) × (e.b < n));
+  into = λ u l. l;
+  one = λ u v lu lv. (λ same. eq-eqb u v same, λ joined. eqb-true u v joined);
+}
+
 pub merged_by-one : (n m s t : ℕ) (h : ℕ → ℕ) → IsMerging n m s t h → AreMergedBy n m (record { a = s; b = t } ∷ []) h
 merged_by-one n m s t h one =
     record {

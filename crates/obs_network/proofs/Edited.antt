@@ -1,11 +1,12 @@
 -- What an edit of a flag does to the buses and to the ends of branches.
-use Rattle.std.proofs.Common.{◌⊎◌, inl, inr, ◌≡◌, ℕ, zero, suc, ◌<◌, ⊎_elim, Bool, true, false, Option, Some, None, List, [], ◌∷◌, ◌++◌, length, map, get_or, set, refl, sym, ap, ◌∙◌, arith}
+use Rattle.std.proofs.Common.{◌⊎◌, inl, inr, ◌≡◌, ℕ, zero, suc, ◌<◌, ⊎_elim, Bool, true, false, Option, Some, None, List, [], ◌∷◌, ◌++◌, length, map, get_or, set, refl, sym, ap, ◌∙◌, subst, arith}
 use Rattle.std.specs.Prelude.{All, slice_index, slice_index_or}
 use Rattle.std.proofs.lemmas.Bool.{cases_Bool, cases_eq, cond-true, cond-false}
 use Rattle.std.proofs.lemmas.List.{length-map, set-append_left}
 use Rattle.std.proofs.lemmas.List.Elements.{All-head, All-tail}
 use Rattle.obs_graph.specs.declared.Ends.{Ends}
-use Rattle.obs_graph.specs.Joined.{IsMerging, renamed_one}
+use Rattle.obs_graph.specs.Joined.{AreMergedBy, IsMerging, renamed_one}
+use Rattle.obs_graph.proofs.MergedBy.{merged_by-nothing, merged_by-one}
 use Rattle.obs_graph.proofs.Present.{some_one, none_some}
 use Rattle.obs_switch.specs.declared.link.Link.{Link}
 use Rattle.obs_switch.specs.Buses.{bus_of, bus_under, bus_count, buses_of, first_node}
@@ -23,8 +24,8 @@ use Rattle.obs_network.specs.Live.{is_live_branch, live_ends}
 use Rattle.obs_network.specs.Components.{if_energised}
 use Rattle.obs_meter.specs.declared.Touch.TheVariants.{Nothing}
 use Rattle.obs_network.specs.Touching.{candidate_touch, meter_touch, meter_touches}
-use Rattle.obs_network.specs.Network.{case_branches, case_component_count, case_components, case_energised, case_live, case_meters, case_offered}
-use Rattle.obs_network.specs.Edited.{AreKept, AreMerged, AreRenamed}
+use Rattle.obs_network.specs.Network.{case_branches, case_component_count, case_components, case_energised, case_live, case_meters, case_offered, case_position_count, case_vertex_count}
+use Rattle.obs_network.specs.Edited.{AreKept, AreMerged, AreRenamed, IsOneMerge}
 
 -- the two buses of a row
 ends_of_row : List ℕ → Branch → Ends
@@ -68,7 +69,7 @@ abbrev tos : Tables → List ℕ
 tos t = map (λ (row : Branch). row.to) t.branches
 
 present_row : (t : Tables) (e : ℕ) (x : Ends) → get_or (case_branches t) e None ≡ Some x
-    → (e < length t.branches) × (get_or (case_buses t) (get_or (froms t) e 0) 0 ≡ x.a) × (get_or (case_buses t) (get_or (tos t) e 0) 0 ≡ x.b)
+    → (e < case_position_count t) × (get_or (case_buses t) (get_or (froms t) e 0) 0 ≡ x.a) × (get_or (case_buses t) (get_or (tos t) e 0) 0 ≡ x.b)
 unfolding case_branches case_live
 present_row t e x is = row_is (case_components t) (case_energised t) (case_buses t) t.branches e x is
 
@@ -104,6 +105,15 @@ kept_by_buses t after v from to buses count = record {
   buses = buses;
   count = count;
   ends = ends_renamed t after (λ b. b) v from to (λ u l. ap (λ bs. get_or bs u 0) buses);
+}
+
+-- where the buses stay, no vertices become one
+pub merged_kept : (t after : Tables) → AreKept t after → AreMerged t after []
+merged_kept t after kept = record {
+  name = λ v. v;
+  merged = subst (λ m. AreMergedBy (case_vertex_count t) m [] (λ v. v)) (sym kept.count) (merged_by-nothing (case_vertex_count t));
+  nodes = λ u l. ap (λ buses. get_or buses u 0) kept.buses;
+  ends = kept.ends;
 }
 
 -- a branch put in service or taken out
@@ -219,7 +229,7 @@ module _ (n : ℕ) (o c xs : List Link) (l : Link) (ys : List Link) (from : l.fr
   same_count joined = rw (without, with_it) (bus_count-one_more n xs l ys from to (rw without at joined))
 
 -- a switch opened, and the same switch closed: the buses are the same, or two become one
-pub switched : (t : Tables) → IsValid t → (at : ℕ) → AreKept (with_closed t at false) (with_closed t at true) ⊎ AreMerged (with_closed t at false) (with_closed t at true)
+pub switched : (t : Tables) → IsValid t → (at : ℕ) → AreKept (with_closed t at false) (with_closed t at true) ⊎ IsOneMerge (with_closed t at false) (with_closed t at true)
 switched t v at =
     let n = length t.nodes in
     let o = links_of false at t.switches in
@@ -239,13 +249,17 @@ switched t v at =
     let name = bus_under n o c in
     let nodes : (u : ℕ) → u < n → get_or (buses_of n c) u 0 ≡ name (get_or (buses_of n o) u 0) =
     λ u low. buses_of-at n c u low ∙ named n o c one.before l one.behind one.from one.to one.without one.with_it u low ∙ ap name (sym (buses_of-at n o u low)) in
+    let merged = merging n o c one.before l one.behind one.from one.to one.without one.with_it apart in
     inr record {
-      name = name;
       one = bus_of o l.from;
       other = bus_of o l.to;
-      merging = merging n o c one.before l one.behind one.from one.to one.without one.with_it apart;
-      nodes = nodes;
-      ends = ends_renamed opened closed name valid refl refl nodes;
+      apart = merged.apart;
+      merged = record {
+        name = name;
+        merged = merged_by-one (bus_count n o) (bus_count n c) (bus_of o l.from) (bus_of o l.to) name merged;
+        nodes = nodes;
+        ends = ends_renamed opened closed name valid refl refl nodes;
+      };
     })
     (cases_eq (first_node o l.from) (first_node o l.to)))
     (one_more n t.switches at v.switch_ends)

@@ -18,9 +18,8 @@ use Rattle.obs_meter.specs.Spanned.{both_ends, ends_at, graph_matroid, joined_at
 use Rattle.obs_meter.specs.Touches.{touch_at}
 use Rattle.obs_meter.proofs.Instance.{IsJoining-graph}
 use Rattle.obs_meter.proofs.Touched.{touched-hub}
-use Rattle.obs_network.specs.Switched.{case_bus_count}
 use Rattle.obs_network.specs.Components.{if_energised, is_first_bus}
-use Rattle.obs_network.specs.Network.{case_branches, case_component_count, case_components, case_energised, case_live}
+use Rattle.obs_network.specs.Network.{case_branches, case_component_count, case_components, case_energised, case_live, case_vertex_count}
 use Rattle.obs_network.specs.Observable.{branch_component, is_energised_component, item_component}
 use Rattle.obs_network.proofs.Numbered.{component_of-below}
 use Rattle.obs_network.proofs.OfCase.{case_live-branches}
@@ -52,10 +51,10 @@ present_is t e x h = live_from (case_components t) (case_energised t) (get_or (c
 
 -- both ends of a live branch are buses of one component
 pub live_ends-same : (t : Tables) → IsValid t → (e : ℕ) (x : Ends) → get_or (case_live t) e None ≡ Some x
-    → (x.a < case_bus_count t) × (x.b < case_bus_count t) × (get_or (case_components t) x.a 0 ≡ get_or (case_components t) x.b 0)
+    → (x.a < case_vertex_count t) × (x.b < case_vertex_count t) × (get_or (case_components t) x.a 0 ≡ get_or (case_components t) x.b 0)
 live_ends-same t v e x h =
     let live = present (case_live t) in
-    let b = branch_at (case_bus_count t) (case_live t) e x (case_live-branches t v) (some_is_in (case_live t) e x h) h in
+    let b = branch_at (case_vertex_count t) (case_live t) e x (case_live-branches t v) (some_is_in (case_live t) e x h) h in
     let first = first_joined-contains live x (contains_present (case_live t) e x h) in
     (b.0, b.1, case_component-at t x.a b.0 ∙ (ap (count_below (is_first_bus live)) first ∙ sym (case_component-at t x.b b.1)))
 
@@ -68,9 +67,9 @@ pub ends_component : (t : Tables) → IsValid t → (e : ℕ) → get_or (case_c
 ends_component t v e = ends_component_of t v e (get_or (case_branches t) e None) refl
 
 -- what some branches join, those of one component join there
-pub kinds_sum : (t : Tables) → IsValid t → IsSumOfKinds (graph_matroid (case_bus_count t) (case_branches t)) (branch_component t)
+pub kinds_sum : (t : Tables) → IsValid t → IsSumOfKinds (graph_matroid (case_vertex_count t) (case_branches t)) (branch_component t)
 kinds_sum t v =
-    IsSumOfKinds-graphic (ends_at (case_branches t)) (joined_at (case_branches t)) (rank_at (case_bus_count t) (case_branches t)) (IsJoining-graph (case_branches t))
+    IsSumOfKinds-graphic (ends_at (case_branches t)) (joined_at (case_branches t)) (rank_at (case_vertex_count t) (case_branches t)) (IsJoining-graph (case_branches t))
     (λ u. get_or (case_components t) u 0) (ends_component t v)
 
 -- what an item touches lies in its component
@@ -87,15 +86,15 @@ energised_end t e (Some x) h s = (present_is t e x h).1
 pub present_energised : (t : Tables) (e : ℕ) → IsSome (slice_index_or (case_branches t) e None) → is_energised_component t (branch_component t e) ≡ true
 present_energised t e s = energised_end t e (get_or (case_branches t) e None) refl s
 
-below_of : (t : Tables) → IsValid t → (e : ℕ) (o : Option Ends) → get_or (case_branches t) e None ≡ o → IsSome o → ((both_ends o).0 < case_bus_count t) × ((both_ends o).1 < case_bus_count t)
+below_of : (t : Tables) → IsValid t → (e : ℕ) (o : Option Ends) → get_or (case_branches t) e None ≡ o → IsSome o → ((both_ends o).0 < case_vertex_count t) × ((both_ends o).1 < case_vertex_count t)
 below_of t v e None h s = absurd (cc s)
 below_of t v e (Some x) h s = let b = live_ends-same t v e x (present_is t e x h).0 in (b.0, b.1)
 
-pub present_below : (t : Tables) → IsValid t → (e : ℕ) → IsSome (slice_index_or (case_branches t) e None) → ((ends_at (case_branches t) e).0 < case_bus_count t) × ((ends_at (case_branches t) e).1 < case_bus_count t)
+pub present_below : (t : Tables) → IsValid t → (e : ℕ) → IsSome (slice_index_or (case_branches t) e None) → ((ends_at (case_branches t) e).0 < case_vertex_count t) × ((ends_at (case_branches t) e).1 < case_vertex_count t)
 present_below t v e s = below_of t v e (get_or (case_branches t) e None) refl s
 
 pub branch_component-below : (t : Tables) → IsValid t → (e : ℕ) → IsSome (slice_index_or (case_branches t) e None) → branch_component t e < case_component_count t
 unfolding case_component_count
 branch_component-below t v e s =
     let b = (present_below t v e s).0 in
-    omega (arith, case_component-at t (ends_at (case_branches t) e).0 b, component_of-below (case_bus_count t) (present (case_live t)) (ends_at (case_branches t) e).0 b)
+    omega (arith, case_component-at t (ends_at (case_branches t) e).0 b, component_of-below (case_vertex_count t) (present (case_live t)) (ends_at (case_branches t) e).0 b)

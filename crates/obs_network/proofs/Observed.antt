@@ -25,9 +25,8 @@ use Rattle.obs_meter.specs.Touches.{touch_at}
 use Rattle.obs_meter.proofs.Assigned.{from_matroid, to_matroid, live_items-distinct, rho_at-is, rho_at-unique}
 use Rattle.obs_meter.proofs.Instance.{IsJoining-graph, IsMatroid-graph}
 use Rattle.obs_meter.proofs.Touched.{touched-present}
-use Rattle.obs_network.specs.Switched.{case_bus_count}
-use Rattle.obs_network.specs.Components.{component_of, need_of}
-use Rattle.obs_network.specs.Network.{case_branches, case_component_count, case_components, case_live, case_meters, case_needed, case_sizes}
+use Rattle.obs_network.specs.Components.{component_of}
+use Rattle.obs_network.specs.Network.{case_branches, case_component_count, case_components, case_live, case_meters, case_need, case_needed, case_sizes, case_vertex_count}
 use Rattle.obs_network.specs.Observable.{IsObservable, IsObservableCase, branch_component, case_live_meters, is_energised_component, item_component}
 use Rattle.obs_network.proofs.Numbered.{component_at}
 use Rattle.obs_network.proofs.Grouping.{sizes_of-at}
@@ -41,7 +40,7 @@ abbrev pub is_of : Tables → ℕ → ℕ → Bool
 is_of t c u = component_of (present (case_live t)) u == c
 
 abbrev pub buses_of_component : Tables → ℕ → List ℕ
-buses_of_component t c = filter (is_of t c) (range_with_len 0 (case_bus_count t))
+buses_of_component t c = filter (is_of t c) (range_with_len 0 (case_vertex_count t))
 
 count_by-map : (f : ℕ → ℕ) (c : ℕ) (xs : List ℕ) → length (filter (λ x. x == c) (map f xs)) ≡ length (filter (λ u. f u == c) xs)
 count_by-map f c [] = refl
@@ -52,39 +51,39 @@ pub size_is : (t : Tables) (c : ℕ) → c < case_component_count t → slice_in
 unfolding case_sizes case_components
 size_is t c l =
     let f : ℕ → ℕ = component_of (present (case_live t)) in
-    let xs = range_with_len 0 (case_bus_count t) in
+    let xs = range_with_len 0 (case_vertex_count t) in
     sizes_of-at (case_component_count t) (map f xs) c 0 l ∙ (sym (length-filter (λ x. x == c) (map f xs)) ∙ count_by-map f c xs)
 
 -- the pairs whose branch lies in a component
 abbrev pub pairs_in : Tables → ℕ → List Pair → List Pair
 pairs_in t c A = filter (λ p. branch_component t p.1 == c) A
 
-bus_in : (t : Tables) (c u : ℕ) → u < case_bus_count t → get_or (case_components t) u 0 ≡ c → In u (buses_of_component t c)
+bus_in : (t : Tables) (c u : ℕ) → u < case_vertex_count t → get_or (case_components t) u 0 ≡ c → In u (buses_of_component t c)
 bus_in t c u l e =
-    In-filter (is_of t c) u (range_with_len 0 (case_bus_count t)) (range_in 0 (case_bus_count t) u (omega arith) (omega (arith, l)))
+    In-filter (is_of t c) u (range_with_len 0 (case_vertex_count t)) (range_in 0 (case_vertex_count t) u (omega arith) (omega (arith, l)))
     (eq-eqb (component_of (present (case_live t)) u) c (sym (case_component-at t u l) ∙ e))
 
 has_bus : (t : Tables) (c : ℕ) → c < case_component_count t → (u : ℕ) × In u (buses_of_component t c)
 unfolding case_component_count
 has_bus t c l =
-    let b = component_at (case_bus_count t) (present (case_live t)) c l in
-    (b.0, In-filter (is_of t c) b.0 (range_with_len 0 (case_bus_count t)) (range_in 0 (case_bus_count t) b.0 (omega arith) (let low = b.1 in omega (arith, low))) (eq-eqb (component_of (present (case_live t)) b.0) c b.2))
+    let b = component_at (case_vertex_count t) (present (case_live t)) c l in
+    (b.0, In-filter (is_of t c) b.0 (range_with_len 0 (case_vertex_count t)) (range_in 0 (case_vertex_count t) b.0 (omega arith) (let low = b.1 in omega (arith, low))) (eq-eqb (component_of (present (case_live t)) b.0) c b.2))
 
 some_long : (xs : List ℕ) (x : ℕ) → In x xs → 0 < length xs
 some_long [] x i = absurd i
 some_long (y ∷ ys) x i = omega arith
 
 module _ (t : Tables) (v : IsValid t) where
-  laws : IsMatroid (graph_matroid (case_bus_count t) (case_branches t))
-  laws = IsMatroid-graph (case_bus_count t) (case_branches t) (case_branches-are t v)
+  laws : IsMatroid (graph_matroid (case_vertex_count t) (case_branches t))
+  laws = IsMatroid-graph (case_vertex_count t) (case_branches t) (case_branches-are t v)
 
   pair_present : (touches : List Touch) (M : List ℕ) (A : List Pair) → IsAssignmentAt (case_branches t) touches M A → (p : Pair) → In p A → IsSome (slice_index_or (case_branches t) p.1 None)
   pair_present touches M A a p i = touched-present (case_branches t) (slice_index_or touches p.0 Nothing) p.1 (a.touched p i)
 
   -- an assignment has no more pairs in a component than it needs
-  pub few_in : (touches : List Touch) (M : List ℕ) (A : List Pair) → IsAssignmentAt (case_branches t) touches M A → (c : ℕ) → c < case_component_count t → length (pairs_in t c A) ≤ need_of (case_sizes t) c
+  pub few_in : (touches : List Touch) (M : List ℕ) (A : List Pair) → IsAssignmentAt (case_branches t) touches M A → (c : ℕ) → c < case_component_count t → length (pairs_in t c A) ≤ case_need t c
   few_in touches M A a c l =
-      let n = case_bus_count t in
+      let n = case_vertex_count t in
       let ends = case_branches t in
       let b = to_matroid n ends touches M A a in
       let q : Pair → Bool = λ p. branch_component t p.1 == c in
@@ -109,7 +108,7 @@ module _ (t : Tables) (v : IsValid t) where
 
   -- what a component adds to the needed number
   need_at : ℕ → ℕ
-  need_at c = cond (is_energised_component t c) (need_of (case_sizes t) c) 0
+  need_at c = cond (is_energised_component t c) (case_need t c) 0
 
   few_at : (touches : List Touch) (M : List ℕ) (A : List Pair) → IsAssignmentAt (case_branches t) touches M A → (c : ℕ) → c < case_component_count t → length (pairs_in t c A) ≤ need_at c
   unfolding need_at
@@ -143,7 +142,7 @@ module _ (t : Tables) (v : IsValid t) where
       let touches = case_meters t in
       let M = case_live_meters t in
       let same = sum_below-same (λ k. length (pairs_in t k A)) need_at (case_component_count t) (few_at touches M A a) (sym (split_pairs touches M A a) ∙ long) c l in
-      record { pairs = A; assigns = a; enough = same ∙ cond-true (is_energised_component t c) (need_of (case_sizes t) c) 0 fed }
+      record { pairs = A; assigns = a; enough = same ∙ cond-true (is_energised_component t c) (case_need t c) 0 fed }
 
   -- pairs of the components below k, as many as these need
   record Built (k : ℕ) : Type 0 where
@@ -155,7 +154,7 @@ module _ (t : Tables) (v : IsValid t) where
   join : (k : ℕ) → is_energised_component t k ≡ true → IsObservable t k → Built k → Built (suc k)
   unfolding need_at
   join k fed o b =
-      let n = case_bus_count t in
+      let n = case_vertex_count t in
       let ends = case_branches t in
       let touches = case_meters t in
       let M = case_live_meters t in
@@ -189,7 +188,7 @@ module _ (t : Tables) (v : IsValid t) where
           independent = subst (λ (xs : List ℕ). IsIndependent (graph_matroid n ends) xs) (sym (map-append (λ (p : Pair). p.1) P b.built)) all;
         });
         below = λ p i. elim (cases p i) [ inl h ↦ omega (arith, kind p h) | inr h ↦ let low = b.below p h in omega (arith, low) ];
-        long = length-append P b.built ∙ omega (arith, o.enough, b.long, cond-true (is_energised_component t k) (need_of (case_sizes t) k) 0 fed);
+        long = length-append P b.built ∙ omega (arith, o.enough, b.long, cond-true (is_energised_component t k) (case_need t k) 0 fed);
       }
 
   skip : (k : ℕ) → is_energised_component t k ≡ false → Built k → Built (suc k)
@@ -198,13 +197,13 @@ module _ (t : Tables) (v : IsValid t) where
     built = b.built;
     assigns = b.assigns;
     below = λ p i. let low = b.below p i in omega (arith, low);
-    long = omega (arith, b.long, cond-false (is_energised_component t k) (need_of (case_sizes t) k) 0 dead);
+    long = omega (arith, b.long, cond-false (is_energised_component t k) (case_need t k) 0 dead);
   }
 
   build : IsObservableCase t → (k : ℕ) → k ≤ case_component_count t → Built k
   build o zero l = record {
     built = [];
-    assigns = from_matroid (case_bus_count t) (case_branches t) (case_meters t) (case_live_meters t) [] (record {
+    assigns = from_matroid (case_vertex_count t) (case_branches t) (case_meters t) (case_live_meters t) [] (record {
       of_items = λ p i. absurd i;
       touched = λ p i. absurd i;
       different = tt;
@@ -226,12 +225,12 @@ module _ (t : Tables) (v : IsValid t) where
   pub observed_from_rho : IsRhoAt (case_branches t) (case_meters t) (case_live_meters t) (case_needed t) → IsObservableCase t
   observed_from_rho r = observed r.longest r.assigns r.long
 
-  pub observed_by_rho : IsObservableCase t ↔ (rho_at (case_bus_count t) (case_branches t) (case_meters t) (case_live_meters t) ≡ case_needed t)
+  pub observed_by_rho : IsObservableCase t ↔ (rho_at (case_vertex_count t) (case_branches t) (case_meters t) (case_live_meters t) ≡ case_needed t)
   observed_by_rho =
       let ends = case_branches t in
       let touches = case_meters t in
       let M = case_live_meters t in
-      let is = rho_at-is (case_bus_count t) ends touches M (case_branches-are t v) (live_items-distinct ends touches) in (
-        (λ o. rho_at-unique ends touches M (rho_at (case_bus_count t) ends touches M) (case_needed t) is (rho_from_observed o)),
+      let is = rho_at-is (case_vertex_count t) ends touches M (case_branches-are t v) (live_items-distinct ends touches) in (
+        (λ o. rho_at-unique ends touches M (rho_at (case_vertex_count t) ends touches M) (case_needed t) is (rho_from_observed o)),
         (λ e. observed_from_rho (subst (λ (r : ℕ). IsRhoAt ends touches M r) e is)),
       )

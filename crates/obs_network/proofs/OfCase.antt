@@ -23,7 +23,7 @@ use Rattle.obs_network.specs.Components.{component_of, if_energised, need_of}
 use Rattle.obs_network.specs.Touching.{candidate_touch, meter_touch, meter_touches, touch_of}
 use Rattle.obs_network.proofs.Marked.{length-first_buses_of}
 use Rattle.obs_network.proofs.Numbered.{component_count-le}
-use Rattle.obs_network.specs.Network.{case_branches, case_component_count, case_components, case_first_buses, case_energised, case_live, case_meters, case_offered, case_sizes, Network, network_of}
+use Rattle.obs_network.specs.Network.{Network, case_branches, case_component_count, case_components, case_energised, case_first_buses, case_live, case_meters, case_need, case_offered, case_vertex_count, network_of}
 
 -- closed switches join nodes of the case
 closed-below : (n : ℕ) (switches : List Switch) → All (λ row. (row.from < n) × (row.to < n)) switches → LinksBelow n (closed_links switches)
@@ -90,12 +90,12 @@ kept_branch n components energised None b = tt
 kept_branch n components energised (Some e) b =
     elim (cases_Bool (slice_index_or energised (slice_index components e.a) false)) [ inl t ↦ rw t b | inr t ↦ rw t tt ]
 
-pub case_branches-are : (t : Tables) → IsValid t → AreBranches (case_bus_count t) (case_branches t)
+pub case_branches-are : (t : Tables) → IsValid t → AreBranches (case_vertex_count t) (case_branches t)
 unfolding case_branches
 case_branches-are t v =
     let live = case_live-branches t v in
-    All-map (IsBranch (case_bus_count t)) (if_energised (case_components t) (case_energised t)) (case_live t)
-    (λ k d l. kept_branch (case_bus_count t) (case_components t) (case_energised t) (get_or (case_live t) k d) (live k d l))
+    All-map (IsBranch (case_vertex_count t)) (if_energised (case_components t) (case_energised t)) (case_live t)
+    (λ k d l. kept_branch (case_vertex_count t) (case_components t) (case_energised t) (get_or (case_live t) k d) (live k d l))
 
 pub length-case_branches : (t : Tables) → length (case_branches t) ≡ length t.branches
 unfolding case_branches
@@ -115,7 +115,7 @@ candidates-at_nodes t v = λ k d l. at_node t (get_or t.candidates k d).kind (ge
 
 -- the graph of a case, whatever it has room for
 IsOf : Tables → Graph → Type 0
-IsOf t g = (g.vertices ≡ case_bus_count t) × (g.ends ≡ case_branches t)
+IsOf t g = (g.vertices ≡ case_vertex_count t) × (g.ends ≡ case_branches t)
 
 touch_in_range : (t : Tables) (g : Graph) → IsOf t g → (kind : Kind) (at : ℕ) → at < places t kind → IsInRange g (touch_of (case_buses t) kind at)
 unfolding IsOf
@@ -126,12 +126,12 @@ touch_in_range t g is Zero at l = let b = case_bus-below t at l in rw is.0 b
 meter_in_range : (t : Tables) (g : Graph) → IsOf t g → (row : Meter) → row.at < places t row.kind → IsInRange g (meter_touch (case_buses t) row)
 meter_in_range t g is row l = elim (cases_Bool row.inservice) [ inl e ↦ rw e (touch_in_range t g is row.kind row.at l) | inr e ↦ rw e tt ]
 
-pub meters-in_range : (t : Tables) → IsValid t → (g : Graph) → g.vertices ≡ case_bus_count t → g.ends ≡ case_branches t → AreInRange g (case_meters t)
+pub meters-in_range : (t : Tables) → IsValid t → (g : Graph) → g.vertices ≡ case_vertex_count t → g.ends ≡ case_branches t → AreInRange g (case_meters t)
 unfolding case_meters IsOf
 meters-in_range t v g a b =
     All-map (IsInRange g) (meter_touch (case_buses t)) t.meters (λ k d l. meter_in_range t g (a, b) (get_or t.meters k d) (v.meter_places k d l))
 
-pub offered-in_range : (t : Tables) → IsValid t → (g : Graph) → g.vertices ≡ case_bus_count t → g.ends ≡ case_branches t → AreInRange g (case_offered t)
+pub offered-in_range : (t : Tables) → IsValid t → (g : Graph) → g.vertices ≡ case_vertex_count t → g.ends ≡ case_branches t → AreInRange g (case_offered t)
 unfolding case_offered IsOf case_meters
 offered-in_range t v g a b =
     All-append (IsInRange g) (meter_touches (case_buses t) t.meters) (map (candidate_touch (case_buses t)) t.candidates) (meters-in_range t v g a b)
@@ -169,5 +169,5 @@ few_meters t v = let few = v.meters.few in omega (arith, few, length-map t.meter
 pub count_of : (n : Network) (t : Tables) → n ≡ network_of t → length n.components.first_buses ≡ case_component_count t
 count_of n t same = ap (λ (x : Network). length x.components.first_buses) same ∙ length-case_first_buses t
 
-pub need_from : (n : Network) (t : Tables) (c : ℕ) → n ≡ network_of t → need_of n.components.sizes c ≡ need_of (case_sizes t) c
+pub need_from : (n : Network) (t : Tables) (c : ℕ) → n ≡ network_of t → need_of n.components.sizes c ≡ case_need t c
 need_from n t c same = ap (λ (x : Network). need_of x.components.sizes c) same

@@ -8,9 +8,9 @@ use Rattle.obs_case.specs.declared.rows.Kind.TheVariants.{Flow}
 use Rattle.obs_case.specs.Tables.{IsValid, Tables}
 use Rattle.obs_meter.specs.declared.Touch.{Touch}
 use Rattle.obs_meter.specs.declared.Touch.TheVariants.{Nothing}
-use Rattle.obs_network.specs.Switched.{case_bus_count, case_buses}
+use Rattle.obs_network.specs.Switched.{case_buses}
 use Rattle.obs_network.specs.Touching.{meter_touch}
-use Rattle.obs_network.specs.Network.{Components, Network, case_branches, case_component_count, case_components, case_energised, case_first_buses, case_live, case_meters, case_needed, case_offered, case_sizes, network_of}
+use Rattle.obs_network.specs.Network.{Components, Network, case_branches, case_component_count, case_components, case_energised, case_first_buses, case_live, case_meters, case_needed, case_offered, case_sizes, case_vertex_count, network_of}
 use Rattle.obs_graph.specs.Graph.{Graph}
 use Rattle.obs_meter.specs.Held.{Meters}
 use Rattle.obs_network.specs.Kept.{list_of, lists_of}
@@ -37,7 +37,7 @@ pub record AreAfter (n : Network) (after : Tables) (m : ℕ) : Type 0 where
   pub meters : set n.meters.touches m (get_or (case_meters after) m Nothing) ≡ case_meters after
   pub offered : set n.offered.touches m (get_or (case_meters after) m Nothing) ≡ case_offered after
   pub buses : n.buses.buses ≡ case_buses after
-  pub vertices : n.graph.vertices ≡ case_bus_count after
+  pub vertices : n.graph.vertices ≡ case_vertex_count after
   pub ends : n.graph.ends ≡ case_branches after
   pub whole : with_touch n m (get_or (case_meters after) m Nothing) ≡ network_of after
 

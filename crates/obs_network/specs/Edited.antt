@@ -1,11 +1,11 @@
 -- What an edit of a flag does to the network of a case: `t` are the tables before it, and `after` those after it.
-use Rattle.std.specs.Prelude.{ℕ, ◌≡◌, ◌<◌, All, IsSome, Bool, Option, Some, None, List, length, slice_index, slice_index_or}
+use Rattle.std.specs.Prelude.{ℕ, ◌≡◌, ◌≢◌, ◌<◌, All, IsSome, Bool, Option, Some, None, List, [], ◌∷◌, length, slice_index, slice_index_or}
 use Rattle.obs_graph.specs.declared.Ends.{Ends}
-use Rattle.obs_graph.specs.Joined.{IsMerging, renamed_one}
+use Rattle.obs_graph.specs.Joined.{AreMergedBy, renamed_one}
 use Rattle.obs_case.specs.Flags.{with_meter_inservice}
 use Rattle.obs_case.specs.Tables.{Tables}
 use Rattle.obs_network.specs.Switched.{case_bus_count, case_buses}
-use Rattle.obs_network.specs.Network.{Network, case_branches, network_of}
+use Rattle.obs_network.specs.Network.{Network, case_branches, case_vertex_count, network_of}
 
 -- all these positions have present branches
 abbrev pub ArePresent : List (Option Ends) → List ℕ → Type 0
@@ -22,14 +22,20 @@ pub record AreKept (t after : Tables) : Type 0 where
   pub count : case_bus_count after ≡ case_bus_count t
   pub ends : AreRenamed (λ b. b) (case_branches t) (case_branches after)
 
--- two buses become one: each node's bus has its new name after, and so have the ends of branches
-pub record AreMerged (t after : Tables) : Type 0 where
+-- the vertices that the pairs of a list join become one, and no others: each node's bus has its new name after, and so
+-- have the ends of branches
+pub record AreMerged (t after : Tables) (merges : List Ends) : Type 0 where
   pub name : ℕ → ℕ
-  pub one : ℕ
-  pub other : ℕ
-  pub merging : IsMerging (case_bus_count t) (case_bus_count after) one other name
+  pub merged : AreMergedBy (case_vertex_count t) (case_vertex_count after) merges name
   pub nodes : (u : ℕ) → u < length t.nodes → slice_index (case_buses after) u ≡ name (slice_index (case_buses t) u)
   pub ends : AreRenamed name (case_branches t) (case_branches after)
+
+-- two different vertices become one
+pub record IsOneMerge (t after : Tables) : Type 0 where
+  pub one : ℕ
+  pub other : ℕ
+  pub apart : one ≢ other
+  pub merged : AreMerged t after (record { a = one; b = other } ∷ [])
 
 -- a network is that of the tables before the flag of this meter was set
 pub record IsBeforeMeter (n : Network) (m : ℕ) (after : Tables) : Type 0 where

@@ -1,5 +1,5 @@
 -- The network that a case determines.
-use Rattle.std.specs.Prelude.{ℕ, ◌+◌, Bool, Option, List, length}
+use Rattle.std.specs.Prelude.{ℕ, ◌+◌, Bool, Option, List, length, slice_index}
 use Rattle.obs_graph.specs.declared.Ends.{Ends}
 use Rattle.obs_graph.specs.Positions.{present}
 use Rattle.obs_graph.specs.Graph.{Graph}
@@ -9,7 +9,7 @@ use Rattle.obs_meter.specs.declared.Touch.{Touch}
 use Rattle.obs_meter.specs.Held.{Meters}
 use Rattle.obs_network.specs.Switched.{case_bus_count, case_buses}
 use Rattle.obs_network.specs.Live.{live_branches}
-use Rattle.obs_network.specs.Components.{component_count, components_of, energised_branches, energised_of, first_buses_of, needed_of, sizes_of}
+use Rattle.obs_network.specs.Components.{component_count, components_of, energised_branches, energised_of, first_buses_of, need_of, needed_of, sizes_of}
 use Rattle.obs_network.specs.Touching.{meter_touches, offered_touches}
 
 -- the live branches of a case by position
@@ -52,6 +52,26 @@ case_meters t = meter_touches (case_buses t) t.meters
 unfoldable pub case_offered : Tables → List Touch
 case_offered t = offered_touches (case_buses t) t.meters t.candidates
 
+-- how many vertices the graph of a case has: one for each bus
+abbrev pub case_vertex_count : Tables → ℕ
+case_vertex_count t = case_bus_count t
+
+-- for how many vertices there is room, whichever switches are closed: one for each node
+abbrev pub case_vertex_room : Tables → ℕ
+case_vertex_room t = length t.nodes
+
+-- how many positions the branches of the graph have: one for each row of the branch table
+abbrev pub case_position_count : Tables → ℕ
+case_position_count t = length t.branches
+
+-- the component of a vertex
+abbrev pub case_vertex_component : Tables → ℕ → ℕ
+case_vertex_component t v = slice_index (case_components t) v
+
+-- the pairs that a component needs
+abbrev pub case_need : Tables → ℕ → ℕ
+case_need t c = need_of (case_sizes t) c
+
 -- how many rows each table has
 pub record Rows : Type 0 where
   pub nodes : ℕ
@@ -87,7 +107,7 @@ network_of t = record {
   rows = rows_of t;
   buses = record { buses = case_buses t; count = case_bus_count t; most_nodes = length t.nodes };
   components = record { of_buses = case_components t; first_buses = case_first_buses t; sizes = case_sizes t; energised = case_energised t; most_buses = length t.nodes };
-  graph = record { vertices = case_bus_count t; ends = case_branches t; most_vertices = length t.nodes; most_branches = length t.branches };
+  graph = record { vertices = case_vertex_count t; ends = case_branches t; most_vertices = case_vertex_room t; most_branches = case_position_count t };
   meters = record { touches = case_meters t; most = length t.meters };
   offered = record { touches = case_offered t; most = length t.meters + length t.candidates };
   needed = case_needed t;

@@ -20,8 +20,8 @@ ghost use Rattle.obs_meter.specs.Touches.{AreInRange, touch_at};
 ghost use Rattle.obs_network.specs.Switched.{case_bus_count};
 ghost use Rattle.obs_network.specs.Components.{AreOneComponent, component_count, component_of, components_of, first_bus, first_buses_of, is_energised, need_of, needed_of, sizes_of, source_nodes};
 ghost use Rattle.obs_network.specs.Located.{component_of_branch, component_of_item, live_meters_of};
-ghost use Rattle.obs_network.specs.Network.{Network, case_branches, case_component_count, case_components, case_live, case_meters, case_needed, case_offered, network_of, rows_of};
-ghost use Rattle.obs_network.specs.Edited.{AreKept, AreMerged, ArePresent};
+ghost use Rattle.obs_network.specs.Network.{Network, case_branches, case_component_count, case_components, case_live, case_meters, case_needed, case_offered, case_vertex_component, case_vertex_count, network_of, rows_of};
+ghost use Rattle.obs_network.specs.Edited.{AreKept, AreMerged, ArePresent, IsOneMerge};
 ghost use Rattle.obs_network.specs.Observable.{IsObservableCase, branch_component, case_live_meters, is_energised_component, item_component};
 
 /// Two nodes have one bus exactly where the closed switches, as branches between nodes, join them.
@@ -74,7 +74,7 @@ pub fn needed_is_a_sum()
 
 /// The branches of a network have two different buses as their ends, and what items touch is in its range.
 pub fn network_is_in_range()
-    ensures branches { (t : Tables) → IsValid t → AreBranches (case_bus_count t) (case_branches t) }
+    ensures branches { (t : Tables) → IsValid t → AreBranches (case_vertex_count t) (case_branches t) }
     ensures meters { (t : Tables) → IsValid t → AreInRange (network_of t).graph (case_meters t) }
     ensures offered { (t : Tables) → IsValid t → AreInRange (network_of t).graph (case_offered t) }
 {}
@@ -85,7 +85,7 @@ pub fn items_lie_in_one_component()
     ensures item { (t : Tables) → IsValid t → (touches : List Touch) (m e : ℕ) →
         In e (touch_at (case_branches t) touches m) → branch_component t e ≡ item_component t touches m }
     ensures sum { (t : Tables) → IsValid t →
-        IsSumOfKinds (graph_matroid (case_bus_count t) (case_branches t)) (branch_component t) }
+        IsSumOfKinds (graph_matroid (case_vertex_count t) (case_branches t)) (branch_component t) }
 {}
 
 /// No assignment has more pairs than the needed number, and a case is observable exactly where an assignment of
@@ -97,7 +97,7 @@ pub fn observable_by_rank()
         IsObservableCase t ↔ IsRhoAt (case_branches t) (case_meters t) (case_live_meters t) (case_needed t) }
     ensures computed { (t : Tables) → IsValid t →
         IsObservableCase t
-        ↔ (rho_at (case_bus_count t) (case_branches t) (case_meters t) (case_live_meters t) ≡ case_needed t) }
+        ↔ (rho_at (case_vertex_count t) (case_branches t) (case_meters t) (case_live_meters t) ≡ case_needed t) }
 {}
 
 /// A case without an energised component is observable.
@@ -116,20 +116,25 @@ pub fn flags_keep_rows()
 {}
 
 /// A branch put in service or taken out leaves the buses, the ends of the branches that stay present, and what items
-/// touch.
+/// touch, and merges no vertices.
 pub fn a_branch_keeps_buses()
     ensures kept { (t : Tables) → IsValid t → (at : ℕ) (inservice : Bool) →
         AreKept t (with_branch_inservice t at inservice) }
+    ensures merged { (t : Tables) → IsValid t → (at : ℕ) (inservice : Bool) →
+        AreMerged t (with_branch_inservice t at inservice) [] }
     ensures meters { (t : Tables) (at : ℕ) (inservice : Bool) →
         case_meters (with_branch_inservice t at inservice) ≡ case_meters t }
     ensures offered { (t : Tables) (at : ℕ) (inservice : Bool) →
         case_offered (with_branch_inservice t at inservice) ≡ case_offered t }
 {}
 
-/// A meter put in service or taken out leaves the buses and all branches, and changes what it touches itself alone.
+/// A meter put in service or taken out leaves the buses and all branches, merges no vertices, and changes what it
+/// touches itself alone.
 pub fn a_meter_changes_its_touch()
     ensures kept { (t : Tables) → IsValid t → (at : ℕ) (inservice : Bool) →
         AreKept t (with_meter_inservice t at inservice) }
+    ensures merged { (t : Tables) → IsValid t → (at : ℕ) (inservice : Bool) →
+        AreMerged t (with_meter_inservice t at inservice) [] }
     ensures branches { (t : Tables) (at : ℕ) (inservice : Bool) →
         case_branches (with_meter_inservice t at inservice) ≡ case_branches t }
     ensures meters { (t : Tables) (at : ℕ) (inservice : Bool) →
@@ -146,7 +151,7 @@ pub fn a_meter_changes_its_touch()
 pub fn a_switch_merges_two_buses()
     ensures closing { (t : Tables) → IsValid t → (at : ℕ) →
         AreKept (with_closed t at false) (with_closed t at true)
-        ⊎ AreMerged (with_closed t at false) (with_closed t at true) }
+        ⊎ IsOneMerge (with_closed t at false) (with_closed t at true) }
     ensures as_it_is { (t : Tables) (at : ℕ) → (t ≡ with_closed t at false) ⊎ (t ≡ with_closed t at true) }
 {}
 
@@ -164,17 +169,17 @@ pub fn forests_after_edits()
         IsForestAt (case_branches (with_closed t at false)) L }
     ensures closed { (t : Tables) → IsValid t → (at : ℕ) (L : List ℕ) →
         IsForestAt (case_branches t) L → ArePresent (case_branches (with_closed t at true)) L →
-        length L ≤ rank_at (case_bus_count (with_closed t at true)) (case_branches (with_closed t at true)) L + 1 }
+        length L ≤ rank_at (case_vertex_count (with_closed t at true)) (case_branches (with_closed t at true)) L + 1 }
     ensures rank { (t : Tables) → IsValid t → (L : List ℕ) → IsForestAt (case_branches t) L →
-        rank_at (case_bus_count t) (case_branches t) L ≡ length L }
+        rank_at (case_vertex_count t) (case_branches t) L ≡ length L }
 {}
 
 /// Both ends of a branch lie in its component, which is energised. An absent branch has none.
 pub fn components_of_branches()
     ensures ends { (t : Tables) → IsValid t → (e : ℕ) (ends : Ends) →
         slice_index_or (case_branches t) e None ≡ Some ends →
-        (component_of_branch (network_of t) e ≡ Some (slice_index (case_components t) ends.a))
-        × (component_of_branch (network_of t) e ≡ Some (slice_index (case_components t) ends.b)) }
+        (component_of_branch (network_of t) e ≡ Some (case_vertex_component t ends.a))
+        × (component_of_branch (network_of t) e ≡ Some (case_vertex_component t ends.b)) }
     ensures absent { (t : Tables) (e : ℕ) → slice_index_or (case_branches t) e None ≡ None →
         component_of_branch (network_of t) e ≡ None }
     ensures energised { (t : Tables) → IsValid t → (e c : ℕ) → component_of_branch (network_of t) e ≡ Some c →

@@ -2,7 +2,7 @@
 ghost use Rattle.std.specs.Prelude.{◌≡◌, ◌<◌, ◌≤◌, ◌+◌, IsTrue, length, slice_index_or, slice_set, take};
 ghost use Rattle.obs_graph.specs.Search.{room_of};
 ghost use Rattle.obs_network.specs.Switched.{case_bus_count, case_buses, closed_links};
-ghost use Rattle.obs_network.specs.Network.{case_branches, case_components, case_energised, case_first_buses, case_live, case_meters, case_offered, case_sizes};
+ghost use Rattle.obs_network.specs.Network.{case_branches, case_components, case_energised, case_first_buses, case_live, case_meters, case_offered, case_sizes, case_vertex_count};
 
 use crate::components::Components;
 use crate::live::write_live;
@@ -115,10 +115,10 @@ pub(crate) fn refill_graph(
     requires live { live.now ≡ case_live case.now }
     requires kept { length kept.old ≡ length live.now }
     requires at { graph.old.vertices ≡ case_bus_count case.now }
-    requires vertices { case_bus_count case.now ≤ graph.old.most_vertices }
+    requires vertices { case_vertex_count case.now ≤ graph.old.most_vertices }
     requires branches { length live.now ≤ graph.old.most_branches }
     ensures ends { graph.new.ends ≡ case_branches case.now }
-    ensures vertices { graph.new.vertices ≡ case_bus_count case.now }
+    ensures vertices { graph.new.vertices ≡ case_vertex_count case.now }
     ensures most_vertices { graph.new.most_vertices ≡ graph.old.most_vertices }
     ensures most_branches { graph.new.most_branches ≡ graph.old.most_branches }
 {
