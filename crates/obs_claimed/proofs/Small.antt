@@ -8,7 +8,7 @@ use Rattle.std.proofs.lemmas.List.Sums.{sum_by-le}
 use Rattle.obs_graph.specs.declared.Ends.{Ends}
 use Rattle.obs_graph.specs.Positions.{ends_of}
 use Rattle.obs_graph.proofs.Ranks.{rank-le-n}
-use Rattle.obs_case.specs.Tables.{IsValid, Tables, prices_of, most_price, most_rows}
+use Rattle.obs_case.specs.Tables.{IsValid, Tables, most_rows, prices_of}
 use Rattle.obs_matroid.specs.Lists.{In}
 use Rattle.obs_matroid.proofs.Lists.{length-split}
 use Rattle.obs_meter.specs.declared.Touch.{Touch}
