@@ -1,5 +1,5 @@
 -- Rows that are compared by their names, and lists of rows with one changed.
-use Rattle.std.proofs.Common.{inl, inr, ℕ, ◌≡◌, ◌∙◌, ◌+◌, ◌<◌, ap, refl, sym, subst, List, [], ◌∷◌, length, Bool, not, ◌||◌, cond, true, false, arith, suc, zero, get_or, position, map, All}
+use Rattle.std.proofs.Common.{inl, inr, ℕ, ◌≡◌, ◌∙◌, ◌+◌, ◌<◌, ap, refl, sym, subst, List, [], ◌∷◌, ◌++◌, length, Bool, not, ◌||◌, cond, true, false, arith, suc, zero, get_or, position, map, All}
 use Rattle.std.proofs.lemmas.Bool.{cases_Bool, false≢true}
 use Rattle.std.proofs.lemmas.List.{length-map}
 use Rattle.std.proofs.lemmas.List.Elements.{All-cons, All-head, All-tail}
@@ -61,6 +61,12 @@ module _ {R : Type 0} (change : R → R) where
   length-changed [] at = refl
   length-changed (x ∷ rows) zero = refl
   length-changed (x ∷ rows) (suc at) = ap suc (length-changed rows at)
+
+  -- changing the last of some rows is adding it changed
+  pub changed-last : (rows : List R) (row : R) → changed_at change (length rows) (rows ++ row ∷ []) ≡ rows ++ change row ∷ []
+  unfolding changed_at
+  changed-last [] row = refl
+  changed-last (x ∷ rows) row = ap (λ ys. x ∷ ys) (changed-last rows row)
 
   pub map-changed : {X : Type 0} (of : R → X) → ((x : R) → of (change x) ≡ of x) → (rows : List R) (at : ℕ) → map of (changed_at change at rows) ≡ map of rows
   unfolding changed_at

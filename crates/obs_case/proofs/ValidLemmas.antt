@@ -6,12 +6,12 @@ use Rattle.obs_text.specs.Names.{is_name}
 use Rattle.obs_case.specs.declared.rows.Branch.{Branch}
 use Rattle.obs_case.specs.declared.rows.Candidate.{Candidate}
 use Rattle.obs_case.specs.declared.rows.Kind.{Kind}
-use Rattle.obs_case.specs.declared.rows.Kind.TheVariants.{Flow, Injection, Zero}
+use Rattle.obs_case.specs.declared.rows.Kind.TheVariants.{Flow, Injection, Zero, Angle}
 use Rattle.obs_case.specs.declared.rows.Meter.{Meter}
 use Rattle.obs_case.specs.declared.rows.Node.{Node}
 use Rattle.obs_case.specs.declared.rows.Switch.{Switch}
 use Rattle.obs_case.specs.declared.table.AddFault.{AddFault}
-use Rattle.obs_case.specs.Flags.{with_branch_inservice, with_closed, with_meter_inservice}
+use Rattle.obs_case.specs.Flags.{with_absolute, with_branch_inservice, with_closed, with_meter_inservice}
 use Rattle.obs_case.specs.Tables.{IsNamed, IsValid, Tables, branch_names, candidate_names, has_name, meter_names, most_price, most_rows, no_rows, node_names, places, switch_names}
 use Rattle.obs_case.proofs.NameLemmas.{named-none, named-push}
 use Rattle.obs_case.proofs.RowLemmas.{All-changed, map-changed, length-changed}
@@ -57,6 +57,7 @@ more_places : (t u : Tables) (kind : Kind) → length t.nodes ≤ length u.nodes
 more_places t u Flow nodes branches = branches
 more_places t u Injection nodes branches = nodes
 more_places t u Zero nodes branches = nodes
+more_places t u Angle nodes branches = nodes
 
 more_ends : {R : Type 0} (from to : R → ℕ) (rows : List R) (m n : ℕ) → m ≤ n → All (λ r. (from r < m) × (to r < m)) rows → All (λ r. (from r < n) × (to r < n)) rows
 more_ends from to rows m n le h = All-weaker (λ r. (from r < m) × (to r < m)) (λ r. (from r < n) × (to r < n)) (λ r ends. (omega arith, omega arith)) rows h
@@ -154,6 +155,25 @@ module _ (t : Tables) (h : IsValid t) (result : Result ℕ AddFault) where
       }
 
 module _ (t : Tables) (h : IsValid t) (at : ℕ) (flag : Bool) where
+  pub valid-with_absolute : IsValid (with_absolute t at flag)
+  valid-with_absolute =
+      let change : Node → Node = λ r. record r { absolute = flag } in
+      let u = with_absolute t at flag in
+      let same_length : length t.nodes ≤ length u.nodes = omega (arith, length-changed change t.nodes at) in
+      let same_branches : length t.branches ≤ length t.branches = omega arith in
+      record {
+        nodes = subst IsNamed (sym (map-changed change (λ (r : Node). r.name) (λ r. refl) t.nodes at)) h.nodes;
+        switches = h.switches;
+        branches = h.branches;
+        meters = h.meters;
+        candidates = h.candidates;
+        switch_ends = more_ends (λ (r : Switch). r.from) (λ (r : Switch). r.to) t.switches (length t.nodes) (length u.nodes) same_length h.switch_ends;
+        branch_ends = more_ends (λ (r : Branch). r.from) (λ (r : Branch). r.to) t.branches (length t.nodes) (length u.nodes) same_length h.branch_ends;
+        meter_places = more_at (λ (r : Meter). r.at) (λ (r : Meter). r.kind) t.meters t u same_length same_branches h.meter_places;
+        candidate_places = more_at (λ (r : Candidate). r.at) (λ (r : Candidate). r.kind) t.candidates t u same_length same_branches h.candidate_places;
+        prices = h.prices;
+      }
+
   pub valid-with_closed : IsValid (with_closed t at flag)
   valid-with_closed =
       let change : Switch → Switch = λ r. record r { closed = flag } in

@@ -1,5 +1,5 @@
 -- One row more: when it is refused, and the tables that have it.
-use Rattle.std.specs.Prelude.{◌≡◌, ℕ, ◌==◌, ◌&&◌, Bool, List, [], ◌∷◌, ◌++◌, length, Option, None, Some, if◌then◌else◌}
+use Rattle.std.specs.Prelude.{◌≡◌, ℕ, ◌==◌, ◌&&◌, Bool, false, List, [], ◌∷◌, ◌++◌, length, Option, None, Some, if◌then◌else◌}
 use Rattle.obs_case.specs.declared.rows.Branch.{Branch}
 use Rattle.obs_case.specs.declared.rows.Candidate.{Candidate}
 use Rattle.obs_case.specs.declared.rows.Kind.{Kind}
@@ -76,9 +76,9 @@ with_meter t row = record t { meters = t.meters ++ row ∷ [] }
 abbrev pub with_candidate : Tables → Candidate → Tables
 with_candidate t row = record t { candidates = t.candidates ++ row ∷ [] }
 
--- the rows that names stand for
+-- the rows that names stand for; a node that is added isn't marked absolute
 abbrev pub node_of : List ℕ → Bool → Node
-node_of name source = record { name = name; source = source }
+node_of name source = record { name = name; source = source; absolute = false }
 
 abbrev pub switch_of : Tables → List ℕ → List ℕ → List ℕ → Bool → Switch
 switch_of t name from to closed =

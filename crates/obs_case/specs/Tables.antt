@@ -6,7 +6,7 @@ use Rattle.obs_text.specs.Names.{is_name}
 use Rattle.obs_case.specs.declared.rows.Branch.{Branch}
 use Rattle.obs_case.specs.declared.rows.Candidate.{Candidate}
 use Rattle.obs_case.specs.declared.rows.Kind.{Kind}
-use Rattle.obs_case.specs.declared.rows.Kind.TheVariants.{Flow, Injection, Zero}
+use Rattle.obs_case.specs.declared.rows.Kind.TheVariants.{Flow, Injection, Zero, Angle}
 use Rattle.obs_case.specs.declared.rows.Meter.{Meter}
 use Rattle.obs_case.specs.declared.rows.Node.{Node}
 use Rattle.obs_case.specs.declared.rows.Switch.{Switch}
@@ -60,12 +60,14 @@ abbrev pub place_names : Tables → Kind → List (List ℕ)
 place_names t Flow = branch_names t
 place_names t Injection = node_names t
 place_names t Zero = node_names t
+place_names t Angle = node_names t
 
 -- how many positions there are for a meter of this kind
 abbrev pub places : Tables → Kind → ℕ
 places t Flow = length t.branches
 places t Injection = length t.nodes
 places t Zero = length t.nodes
+places t Angle = length t.nodes
 
 -- no two of these names are equal
 unfoldable pub are_different : List (List ℕ) → Bool

@@ -2,7 +2,7 @@
 ghost use Rattle.std.specs.Prelude.{◌≡◌, ◌≢◌, ◌<◌, ◌≤◌, length, is_some, None, Err, IsTrue, IfOk, IfErr, IfSome, OnOk, OnErr};
 ghost use Rattle.obs_text.specs.Names.{is_name};
 ghost use Rattle.obs_case.specs.Adds.{Refuses, branch_fault, branch_of, candidate_fault, candidate_of, meter_fault, meter_of, node_fault, node_of, switch_fault, switch_of, with_branch, with_candidate, with_meter, with_node, with_switch};
-ghost use Rattle.obs_case.specs.Flags.{with_branch_inservice, with_closed, with_meter_inservice};
+ghost use Rattle.obs_case.specs.Flags.{with_absolute, with_branch_inservice, with_closed, with_meter_inservice};
 ghost use Rattle.obs_case.specs.Tables.{IsValid, branch_names, candidate_names, has_name, meter_names, most_price, no_rows, node_names, place_names, places, position_of, switch_names};
 
 use crate::limits::MOST_ROWS;
@@ -140,11 +140,11 @@ impl Case {
     {
         match kind {
             Kind::Flow => find(&self.branches, at),
-            Kind::Injection | Kind::Zero => find(&self.nodes, at),
+            Kind::Injection | Kind::Zero | Kind::Angle => find(&self.nodes, at),
         }
     }
 
-    /// Adds a node, and answers its position.
+    /// Adds a node that isn't marked absolute, and answers its position.
     pub fn add_node(&mut self, name: &[u8], source: bool) -> Result<u32, AddFault>
         requires name { IsTrue (is_name name.now) }
         ensures accepted { OnOk result (node_fault self.old name.now ≡ None) }
@@ -163,6 +163,7 @@ impl Case {
             Node {
                 name: Name::new(name),
                 source,
+                absolute: false,
             },
         )
     }
@@ -302,6 +303,20 @@ impl Case {
                 price,
             },
         )
+    }
+
+    /// Marks a node absolute, or takes the mark away. Takes no memory.
+    pub fn set_absolute(&mut self, at: u32, absolute: bool)
+        requires at { at < length self.old.nodes }
+        ensures set { self.new ≡ with_absolute self.old at absolute }
+    {
+        let row = &self.nodes.as_slice()[at as usize];
+        let changed = Node {
+            name: Name::new(row.name.bytes()),
+            source: row.source,
+            absolute,
+        };
+        put(&mut self.nodes, changed);
     }
 
     /// Opens or closes a switch.

@@ -4,22 +4,26 @@
 use crate::name::Name;
 use std::hash::Hash;
 
-/// What a meter measures: the flow on a branch, the injection at a node, or nothing, where a node
-/// is known to inject nothing.
+/// What a meter measures: the flow on a branch, the injection at a node, nothing, where a node is
+/// known to inject nothing, or the voltage angle of a node against a common time reference.
 #[derive(Clone, Copy, Debug, PartialEq, Eq)]
 pub enum Kind {
     Flow,
     Injection,
     Zero,
+    Angle,
 }
 
-/// A node; `source` says that it is fed from outside.
+/// A node; `source` says that it is fed from outside, and `absolute` that what it is connected to
+/// is to be estimated against the common time reference.
 #[derive(Drop)]
 #[derive_where(PartialEq, Eq, Hash)]
 pub struct Node {
     pub name: Name,
     #[derive_where(skip(EqHashOrd))]
     pub source: bool,
+    #[derive_where(skip(EqHashOrd))]
+    pub absolute: bool,
 }
 
 /// A switch between two nodes, given by their positions.

@@ -59,6 +59,7 @@ impl Row for Node {
         Node {
             name,
             source: false,
+            absolute: false,
         }
     }
 }

@@ -1,4 +1,4 @@
-use Rattle.std.proofs.Common.{◌∙◌, ap}
+use Rattle.std.proofs.Common.{◌∙◌, ap, false}
 use Rattle.obs_text.specs.Names.{is_name}
 use Rattle.obs_case.specs.Case.{tables_of}
 use Rattle.obs_case.proofs.ValidLemmas.{valid-nodes}
@@ -8,5 +8,5 @@ pub invariant_of-self : goal.invariant_of-self
 invariant_of-self c =
     let t = tables_of c.self.inside in
     let good = ap is_name c.new.ensures.bytes ∙ c.requires.name in
-    valid-nodes t c.self.invariant c.add.result (record { name = c.new.result; source = c.args.source }) c.add.new.rows.keys
+    valid-nodes t c.self.invariant c.add.result (record { name = c.new.result; source = c.args.source; absolute = false }) c.add.new.rows.keys
     good (λ full. c.if-len-eq-MOST_ROWS.false (c.len.ensures.len ∙ full)) c.add.ensures.new c.add.ensures.added c.add.ensures.unchanged
