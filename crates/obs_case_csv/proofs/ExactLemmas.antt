@@ -9,7 +9,7 @@ use Rattle.obs_text.specs.Numbers.{whole_of}
 use Rattle.obs_case.specs.declared.rows.Branch.{Branch}
 use Rattle.obs_case.specs.declared.rows.Candidate.{Candidate}
 use Rattle.obs_case.specs.declared.rows.Kind.{Kind}
-use Rattle.obs_case.specs.declared.rows.Kind.TheVariants.{Flow, Injection, Zero}
+use Rattle.obs_case.specs.declared.rows.Kind.TheVariants.{Flow, Injection, Zero, Angle}
 use Rattle.obs_case.specs.declared.rows.Meter.{Meter}
 use Rattle.obs_case.specs.declared.rows.Node.{Node}
 use Rattle.obs_case.specs.declared.rows.Switch.{Switch}
@@ -48,8 +48,8 @@ nodes_table =
       get_put = λ t xs. refl;
       put_put = λ t xs ys. refl;
       put_get = λ t. refl;
-      is_put = λ t xs header row x h. record { name = h.name; source = h.source };
-      put_is = λ t xs header row x h. record { name = h.name; source = h.source };
+      is_put = λ t xs header row x h. record { name = h.name; source = h.source; absolute = h.absolute };
+      put_is = λ t xs header row x h. record { name = h.name; source = h.source; absolute = h.absolute };
       reads = node-reads;
       fits = node-fits;
     }
@@ -138,6 +138,7 @@ pub within_places : (t : Tables) (kind : Kind) (o : Option (List ℕ)) (i : ℕ)
 within_places t Flow o i h = within_rows (λ (r : Branch). r.name) t.branches o i h
 within_places t Injection o i h = within_rows (λ (r : Node). r.name) t.nodes o i h
 within_places t Zero o i h = within_rows (λ (r : Node). r.name) t.nodes o i h
+within_places t Angle o i h = within_rows (λ (r : Node). r.name) t.nodes o i h
 
 -- a price is in range
 pub cheap : (o : Option (List ℕ)) (n : ℕ) → option_and_then price_of o ≡ Some n → n ≤ most_price
@@ -252,7 +253,7 @@ module _ (nodes switches branches meters : List ℕ) where
               candidate_places = prices.0;
               prices = prices.1;
             };
-        nodes_are = are-map (IsNode no_rows) (IsNode t) Nodes nodes ns (λ header row x i. record { name = i.name; source = i.source }) n;
+        nodes_are = are-map (IsNode no_rows) (IsNode t) Nodes nodes ns (λ header row x i. record { name = i.name; source = i.source; absolute = i.absolute }) n;
         switches_are = are-map (IsSwitch (with_one ns)) (IsSwitch t) Switches switches ss (λ header row x i. record { name = i.name; from = i.from; to = i.to; closed = i.closed }) s;
         branches_are = are-map (IsBranch (with_two ns ss)) (IsBranch t) Branches branches bs (λ header row x i. record { name = i.name; from = i.from; to = i.to; inservice = i.inservice }) b;
         meters_are = are-map (IsMeter (with_three ns ss bs)) (IsMeter t) Meters meters ms (λ header row x i. record { name = i.name; kind = i.kind; at = i.at; inservice = i.inservice }) m;
@@ -346,7 +347,7 @@ module _ (nodes switches branches meters : List ℕ) where
       let t4 = with_four t.nodes t.switches t.branches t.meters in
       let n =
       then-backward Nodes (λ (r : Node). r.name) (λ v. v.nodes) put_nodes IsNode node_made nodes_table no_rows nodes refl t.nodes
-      (are-map (IsNode t) (IsNode no_rows) Nodes nodes t.nodes (λ header row x i. record { name = i.name; source = i.source }) h.nodes_are) h.valid.nodes in
+      (are-map (IsNode t) (IsNode no_rows) Nodes nodes t.nodes (λ header row x i. record { name = i.name; source = i.source; absolute = i.absolute }) h.nodes_are) h.valid.nodes in
       let s =
       then-backward Switches (λ (r : Switch). r.name) (λ v. v.switches) put_switches IsSwitch switch_made switches_table t1 switches refl t.switches
       (are-map (IsSwitch t) (IsSwitch t1) Switches switches t.switches (λ header row x i. record { name = i.name; from = i.from; to = i.to; closed = i.closed }) h.switches_are) h.valid.switches in

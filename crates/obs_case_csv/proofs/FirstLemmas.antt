@@ -6,7 +6,7 @@ use Rattle.obs_case_csv.specs.declared.faults.RowFault.TheVariants.{NoHeader, Co
 use Rattle.obs_case_csv.specs.declared.faults.Table.{Table}
 use Rattle.obs_case_csv.specs.declared.faults.TableFault.{TableFault}
 use Rattle.obs_case_csv.specs.Faults.{fault_code}
-use Rattle.obs_case_csv.specs.Fields.{Record, columns_fault, needed_columns}
+use Rattle.obs_case_csv.specs.Fields.{Record, header_fault}
 use Rattle.obs_case_csv.specs.IsFault.{HasRowFault, HeaderHas, NotAfter}
 use Rattle.obs_case_csv.specs.Laws.{FirstFault}
 use Rattle.obs_case_csv.specs.OneTable.{HasRows}
@@ -141,7 +141,7 @@ module _ (table : Table) (t : Tables) (valid : IsValid t) (empty : names_in tabl
     number_of : fault.row ≡ length s.before + 1
     number_of = s.number_is ∙ next_is header s.before s.fine
 
-    first-has : columns_fault (needed_columns table) header ≡ None → HasRowFault table t (header ∷ rows) fault.row fault.code
+    first-has : header_fault table header ≡ None → HasRowFault table t (header ∷ rows) fault.row fault.code
     first-has columns =
         let tables = rows_before table header t s.before in
         let stay = valid-rows_before table header s.before t valid in
@@ -203,7 +203,7 @@ module _ (table : Table) (t : Tables) (valid : IsValid t) (empty : names_in tabl
   one_at_least UnknownPlace = omega arith
   one_at_least TooMany = omega arith
 
-  of-header : (header : Record) (rows : List Record) (code : RowFault) → columns_fault (needed_columns table) header ≡ Some code → IsFirstOf (header ∷ rows) (record { table = table; row = 0; code = code })
+  of-header : (header : Record) (rows : List Record) (code : RowFault) → header_fault table header ≡ Some code → IsFirstOf (header ∷ rows) (record { table = table; row = 0; code = code })
   of-header header rows code e = (
     refl,
     inl (refl, header-has table header rows code e),
@@ -213,10 +213,10 @@ module _ (table : Table) (t : Tables) (valid : IsValid t) (empty : names_in tabl
     ],
   )
 
-  no_header_fault : (header : Record) (rows : List Record) → columns_fault (needed_columns table) header ≡ None → (code : RowFault) → HeaderHas code table (header ∷ rows) → ⊥
+  no_header_fault : (header : Record) (rows : List Record) → header_fault table header ≡ None → (code : RowFault) → HeaderHas code table (header ∷ rows) → ⊥
   no_header_fault header rows e code h = subst (λ o. AtMost o code) e (header-least table header rows code h)
 
-  of-rows : (header : Record) (rows : List Record) → columns_fault (needed_columns table) header ≡ None → (o : Option TableFault) → first_fault table header t rows ≡ o
+  of-rows : (header : Record) (rows : List Record) → header_fault table header ≡ None → (o : Option TableFault) → first_fault table header t rows ≡ o
       → MatchOption o (HasNone (header ∷ rows)) (IsFirstOf (header ∷ rows))
   of-rows header rows columns None e = λ row code h. elim h [
     | inl head ↦ no_header_fault header rows columns code head.1
@@ -241,9 +241,9 @@ module _ (table : Table) (t : Tables) (valid : IsValid t) (empty : names_in tabl
       | inr later ↦ inl (behind_header [] row code later)
     ],
   )
-  of-records (header ∷ rows) = by (columns_fault (needed_columns table) header) refl
+  of-records (header ∷ rows) = by (header_fault table header) refl
     where
-      by : (o : Option RowFault) → columns_fault (needed_columns table) header ≡ o → MatchOption (fault_of_records table t (header ∷ rows)) (HasNone (header ∷ rows)) (IsFirstOf (header ∷ rows))
+      by : (o : Option RowFault) → header_fault table header ≡ o → MatchOption (fault_of_records table t (header ∷ rows)) (HasNone (header ∷ rows)) (IsFirstOf (header ∷ rows))
       by (Some code) e = subst (λ o. MatchOption o (HasNone (header ∷ rows)) (IsFirstOf (header ∷ rows))) (sym (faulty_header table t header rows code e).0) (of-header header rows code e)
       by None e =
           subst (λ o. MatchOption o (HasNone (header ∷ rows)) (IsFirstOf (header ∷ rows))) (sym (with_header table t header rows e).0)

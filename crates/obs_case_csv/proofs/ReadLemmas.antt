@@ -9,7 +9,7 @@ use Rattle.obs_case_csv.specs.declared.faults.Table.TheVariants.{Nodes, Switches
 use Rattle.obs_case_csv.specs.declared.faults.TableEnd.{TableEnd}
 use Rattle.obs_case_csv.specs.declared.faults.TableEnd.TheVariants.{Fault, NoMemory}
 use Rattle.obs_case_csv.specs.Columns.{ArePlaces}
-use Rattle.obs_case_csv.specs.Fields.{Record, columns_fault, needed_columns}
+use Rattle.obs_case_csv.specs.Fields.{Record, header_fault}
 use Rattle.obs_case_csv.specs.Read.{Ends, HoldsFirstRows, UnlessNoMemory, earlier, fault_at, fault_in, fault_of_records, first_fault, rows_before, rows_in, rows_of_records, table_records}
 use Rattle.obs_case_csv.specs.Rows.{names_in, next_row, row_fault, with_record}
 
@@ -74,7 +74,7 @@ module _ (table : Table) (header : Record) where
       rows_before-next table header t row (done ++ rest) fine ∙ rows_before-append done rest (with_record table header t row) later ∙ ap (λ u. rows_before table header u rest) (sym (rows_before-next table header t row done fine))
 
 -- a header with a fault
-pub faulty_header : (table : Table) (old : Tables) (header : Record) (rows : List Record) (code : RowFault) → columns_fault (needed_columns table) header ≡ Some code
+pub faulty_header : (table : Table) (old : Tables) (header : Record) (rows : List Record) (code : RowFault) → header_fault table header ≡ Some code
     → (fault_of_records table old (header ∷ rows) ≡ Some (record { table = table; row = 0; code = code })) × (rows_of_records table old (header ∷ rows) ≡ old)
 faulty_header table old header rows code e = (rw e refl, rw e refl)
 
@@ -92,7 +92,7 @@ module _ (table other : Table) (stays : (header : Record) (t : Tables) (row : Re
   names_in-rows_of_records : (t : Tables) (records : List Record) → names_in other (rows_of_records table t records) ≡ names_in other t
   names_in-rows_of_records t [] = refl
   names_in-rows_of_records t (header ∷ rows) =
-      elim (is_none (columns_fault (needed_columns table) header)) as (λ b. names_in other (if b then rows_before table header t rows else t) ≡ names_in other t) [
+      elim (is_none (header_fault table header)) as (λ b. names_in other (if b then rows_before table header t rows else t) ≡ names_in other t) [
         | true ↦ names_in-rows_before header t rows
         | false ↦ refl
       ]
@@ -106,28 +106,28 @@ pub record IsReading (table : Table) (bytes : List ℕ) (old now : Tables) (plac
   pub done : List Record
   pub records_are : table_records bytes ≡ header ∷ (done ++ unread)
   pub places_are : ArePlaces table header places
-  pub header_fine : columns_fault (needed_columns table) header ≡ None
+  pub header_fine : header_fault table header ≡ None
   pub done_fine : first_fault table header old done ≡ None
   pub now_is : now ≡ rows_before table header old done
   pub number_is : number ≡ next_row table now
 
 -- the records of a header that is fine
-pub with_header : (table : Table) (old : Tables) (header : Record) (rows : List Record) → columns_fault (needed_columns table) header ≡ None
+pub with_header : (table : Table) (old : Tables) (header : Record) (rows : List Record) → header_fault table header ≡ None
     → (fault_of_records table old (header ∷ rows) ≡ first_fault table header old rows) × (rows_of_records table old (header ∷ rows) ≡ rows_before table header old rows)
 with_header table old header rows e = (rw e refl, rw e refl)
 
 -- records without a fault have a header that is fine
 pub header-none : (table : Table) (old : Tables) (header : Record) (rows : List Record) → fault_of_records table old (header ∷ rows) ≡ None
-    → (columns_fault (needed_columns table) header ≡ None) × (first_fault table header old rows ≡ None)
-header-none table old header rows e = by (columns_fault (needed_columns table) header) refl e
+    → (header_fault table header ≡ None) × (first_fault table header old rows ≡ None)
+header-none table old header rows e = by (header_fault table header) refl e
   where
-    by : (o : Option RowFault) → columns_fault (needed_columns table) header ≡ o
-        → earlier (fault_at table 0 o) (first_fault table header old rows) ≡ None → (columns_fault (needed_columns table) header ≡ None) × (first_fault table header old rows ≡ None)
+    by : (o : Option RowFault) → header_fault table header ≡ o
+        → earlier (fault_at table 0 o) (first_fault table header old rows) ≡ None → (header_fault table header ≡ None) × (first_fault table header old rows ≡ None)
     by None is e = (is, e)
     by (Some code) is e = cc
 
 module _ (table : Table) (bytes : List ℕ) (old now : Tables) (places : Places) (number : ℕ) where
-  pub reading-starts : (header : Record) (unread : List Record) → table_records bytes ≡ header ∷ unread → ArePlaces table header places → columns_fault (needed_columns table) header ≡ None
+  pub reading-starts : (header : Record) (unread : List Record) → table_records bytes ≡ header ∷ unread → ArePlaces table header places → header_fault table header ≡ None
       → now ≡ old → number ≡ next_row table old → IsReading table bytes old now places number unread
   reading-starts header unread records at fine same first =
       record {

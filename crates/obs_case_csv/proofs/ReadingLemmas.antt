@@ -1,5 +1,5 @@
 -- A record that isn't refused is a row, and a record that is a row isn't refused: one table after the other.
-use Rattle.std.proofs.Common.{ℕ, ◌≡◌, ◌∙◌, ap, refl, sym, List, [], ◌∷◌, length, Bool, not, true, false, Option, Some, None, is_none, unwrap_or, codes, if◌then◌else◌, nat_eq}
+use Rattle.std.proofs.Common.{ℕ, ◌≡◌, ◌∙◌, ap, refl, sym, List, [], ◌∷◌, length, Bool, ◌||◌, not, true, false, Option, Some, None, is_none, unwrap_or, codes, if◌then◌else◌, nat_eq}
 use Rattle.std.proofs.lemmas.Bool.{and_parts, and_from, not-false, or_parts}
 use Rattle.std.specs.Option.{option_and_then}
 use Rattle.std.specs.Str.{bytes_eq}
@@ -11,16 +11,16 @@ use Rattle.obs_case.specs.declared.rows.Kind.TheVariants.{Zero}
 use Rattle.obs_case.specs.declared.rows.Meter.{Meter}
 use Rattle.obs_case.specs.declared.rows.Node.{Node}
 use Rattle.obs_case.specs.declared.rows.Switch.{Switch}
-use Rattle.obs_case.specs.Adds.{branch_of, candidate_of, meter_of, node_of, switch_of}
+use Rattle.obs_case.specs.Adds.{branch_of, candidate_of, meter_of, switch_of}
 use Rattle.obs_case.specs.Tables.{Tables, branch_names, candidate_names, has_name, meter_names, most_rows, node_names, place_names, place_of, position_of, switch_names}
 use Rattle.obs_case.proofs.NameLemmas.{position-some, position-there}
 use Rattle.obs_case_csv.specs.declared.faults.RowFault.{RowFault}
 use Rattle.obs_case_csv.specs.declared.faults.RowFault.TheVariants.{ShortRow, TooMany}
 use Rattle.obs_case_csv.specs.declared.faults.Table.{Table}
 use Rattle.obs_case_csv.specs.declared.faults.Table.TheVariants.{Nodes, Switches, Branches, Meters, Candidates}
-use Rattle.obs_case_csv.specs.Fields.{Record, field_of, field_under, flag_of, is_short, kind_of, needed_columns, price_of}
+use Rattle.obs_case_csv.specs.Fields.{Record, field_of, field_under, flag_of, is_short, kind_of, price_of, read_columns}
 use Rattle.obs_case_csv.specs.IsCase.{IsBranch, IsCandidate, IsMeter, IsNode, IsSwitch}
-use Rattle.obs_case_csv.specs.Rows.{fields_fault, flag, has_ends, has_place, kind, lowest, names_in, price, row_fault}
+use Rattle.obs_case_csv.specs.Rows.{fields_fault, flag, has_ends, has_place, kind, lowest, names_in, node_read, price, row_fault}
 
 -- a test that did not hold, and what was tried after it
 unless : (b : Bool) (fault : RowFault) (o : Option RowFault) → (if b then Some fault else o) ≡ None → (b ≡ false) × (o ≡ None)
@@ -58,22 +58,29 @@ read_value read (Some bytes) x h = h
 
 -- a row that isn't refused, before its fields are read
 pub row_fault-parts : (table : Table) (header : Record) (t : Tables) (row : Record) → row_fault table header t row ≡ None
-    → (nat_eq (length (names_in table t)) most_rows ≡ false) × (is_short (needed_columns table) header row ≡ false) × (fields_fault table t (field_of header row) ≡ None)
+    → (nat_eq (length (names_in table t)) most_rows ≡ false) × (is_short (read_columns table) header row ≡ false) × (fields_fault table t (field_of header row) ≡ None)
 row_fault-parts table header t row h =
     let full = unless (nat_eq (length (names_in table t)) most_rows) TooMany _ h in
-    let short = unless (is_short (needed_columns table) header row) ShortRow _ full.1 in
+    let short = unless (is_short (read_columns table) header row) ShortRow _ full.1 in
     (full.0, short.0, short.1)
 
-pub row_fault-from : (table : Table) (header : Record) (t : Tables) (row : Record) → nat_eq (length (names_in table t)) most_rows ≡ false → is_short (needed_columns table) header row ≡ false
+pub row_fault-from : (table : Table) (header : Record) (t : Tables) (row : Record) → nat_eq (length (names_in table t)) most_rows ≡ false → is_short (read_columns table) header row ≡ false
     → fields_fault table t (field_of header row) ≡ None → row_fault table header t row ≡ None
 row_fault-from table header t row full short fine = rw (full, short) fine
 
--- a field is there under each needed column
+-- a field is there under each column that is read
 two_there : (header row : Record) (a b : List ℕ) → is_short (a ∷ b ∷ []) header row ≡ false → (is_none (field_under header row a) ≡ false) × (is_none (field_under header row b) ≡ false)
 two_there header row a b h =
     let first = or_parts (is_none (field_under header row a)) _ h in
     let second = or_parts (is_none (field_under header row b)) _ first.1 in
     (first.0, second.0)
+
+three_there : (header row : Record) (a b c : List ℕ) → is_short (a ∷ b ∷ c ∷ []) header row ≡ false
+    → (is_none (field_under header row a) ≡ false) × (is_none (field_under header row b) ≡ false) × (is_none (field_under header row c) ≡ false)
+three_there header row a b c h =
+    let first = or_parts (is_none (field_under header row a)) _ h in
+    let rest = two_there header row b c first.1 in
+    (first.0, rest.0, rest.1)
 
 four_there : (header row : Record) (a b c d : List ℕ) → is_short (a ∷ b ∷ c ∷ d ∷ []) header row ≡ false
     → (is_none (field_under header row a) ≡ false) × (is_none (field_under header row b) ≡ false) × (is_none (field_under header row c) ≡ false) × (is_none (field_under header row d) ≡ false)
@@ -82,6 +89,10 @@ four_there header row a b c d h =
     let rest = or_parts (is_none (field_under header row b)) _ first.1 in
     let last = two_there header row c d rest.1 in
     (first.0, rest.0, last.0, last.1)
+
+three_from : (header row : Record) (a b c : List ℕ) → is_none (field_under header row a) ≡ false → is_none (field_under header row b) ≡ false → is_none (field_under header row c) ≡ false
+    → is_short (a ∷ b ∷ c ∷ []) header row ≡ false
+three_from header row a b c p q r = rw (p, q, r) refl
 
 four_from : (header row : Record) (a b c d : List ℕ) → is_none (field_under header row a) ≡ false → is_none (field_under header row b) ≡ false → is_none (field_under header row c) ≡ false
     → is_none (field_under header row d) ≡ false → is_short (a ∷ b ∷ c ∷ d ∷ []) header row ≡ false
@@ -103,7 +114,7 @@ field_there header row column name e = ap is_none e
 
 module _ (header : Record) (t : Tables) (row : Record) where
   abbrev pub node_made : Node
-  node_made = node_of (field_of header row (codes "node")) (flag (field_of header row (codes "source")))
+  node_made = node_read (field_of header row (codes "node")) (field_of header row (codes "source")) (field_of header row (codes "absolute"))
 
   abbrev pub switch_made : Switch
   switch_made = switch_of t (field_of header row (codes "switch")) (field_of header row (codes "from")) (field_of header row (codes "to")) (flag (field_of header row (codes "closed")))
@@ -120,11 +131,16 @@ module _ (header : Record) (t : Tables) (row : Record) where
   pub node-reads : row_fault Nodes header t row ≡ None → IsNode t header row node_made × (is_name node_made.name ≡ true) × (has_name (node_names t) node_made.name ≡ false)
   node-reads h =
       let parts = row_fault-parts Nodes header t row h in
-      let there = two_there header row (codes "node") (codes "source") parts.1 in
+      let there = three_there header row (codes "node") (codes "source") (codes "absolute") parts.1 in
       let name = unless _ _ _ parts.2 in
-      let source = unless _ _ _ name.1 in
-      let new = unless _ _ _ source.1 in (
-        record { name = value (field_under header row (codes "node")) [] there.0; source = reading flag_of (field_under header row (codes "source")) false there.1 source.0 },
+      let flags = unless _ _ _ name.1 in
+      let both = or_parts (is_none (flag_of (field_of header row (codes "source")))) (is_none (flag_of (field_of header row (codes "absolute")))) flags.0 in
+      let new = unless _ _ _ flags.1 in (
+        record {
+          name = value (field_under header row (codes "node")) [] there.0;
+          source = reading flag_of (field_under header row (codes "source")) false there.1 both.0;
+          absolute = reading flag_of (field_under header row (codes "absolute")) false there.2 both.1;
+        },
         not-false _ name.0,
         new.0,
       )
@@ -218,10 +234,13 @@ module _ (header : Record) (t : Tables) (row : Record) where
       → (row_fault Nodes header t row ≡ None) × (node_made header t row ≡ x)
   node-fits x room h good new =
       let name = own_field header row (codes "node") x.name h.name in
-      let source = read_value flag_of (field_under header row (codes "source")) x.source h.source in (
-        row_fault-from Nodes header t row room (rw (field_there header row (codes "node") x.name h.name, read_there flag_of (field_under header row (codes "source")) x.source h.source) refl)
-            (clear3 _ _ _ _ _ _ (ap (λ n. not (is_name n)) name ∙ ap not good) (ap is_none source) (ap (has_name (node_names t)) name ∙ new)),
-        λ j. record { name = name j; source = unwrap_or (source j) false },
+      let source = read_value flag_of (field_under header row (codes "source")) x.source h.source in
+      let absolute = read_value flag_of (field_under header row (codes "absolute")) x.absolute h.absolute in (
+        row_fault-from Nodes header t row room
+            (three_from header row (codes "node") (codes "source") (codes "absolute") (field_there header row (codes "node") x.name h.name)
+            (read_there flag_of (field_under header row (codes "source")) x.source h.source) (read_there flag_of (field_under header row (codes "absolute")) x.absolute h.absolute))
+            (clear3 _ _ _ _ _ _ (ap (λ n. not (is_name n)) name ∙ ap not good) (λ j. is_none (source j) || is_none (absolute j)) (ap (has_name (node_names t)) name ∙ new)),
+        λ j. record { name = name j; source = unwrap_or (source j) false; absolute = unwrap_or (absolute j) false },
       )
 
   -- the positions of both ends

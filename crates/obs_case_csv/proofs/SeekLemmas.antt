@@ -1,10 +1,21 @@
 -- A column is sought from the end of a header to its start.
-use Rattle.std.proofs.Common.{ℕ, ◌≡◌, ◌∙◌, ◌+◌, ◌<◌, ap, refl, sym, List, [], ◌∷◌, length, drop, Bool, true, false, arith, suc, zero, get_or, option_map, unwrap_or, drop-cons}
+use Rattle.std.proofs.Common.{inl, inr, ℕ, ◌≡◌, ◌∙◌, ◌+◌, ◌<◌, ap, refl, sym, List, [], ◌∷◌, length, drop, Bool, true, false, arith, suc, zero, get_or, option_map, unwrap_or, drop-cons}
+use Rattle.std.proofs.lemmas.Bool.{cases_Bool}
 use Rattle.std.proofs.lemmas.List.{drop_all}
+use Rattle.std.specs.Bool.{then_some}
 use Rattle.std.specs.Str.{bytes_eq}
 use Rattle.csv.specs.Records.{field_at}
-use Rattle.obs_case.specs.Tables.{has_name, place_of}
+use Rattle.obs_case.specs.Tables.{has_name, place_of, position_of}
+use Rattle.obs_case.proofs.NameLemmas.{position-absent, position-there}
 use Rattle.obs_case_csv.specs.Fields.{Record, comes_twice}
+
+-- the place of a column that is there, and else none
+pub position-found : (fields : Record) (column : List ℕ) → then_some (has_name fields column) (place_of fields column) ≡ position_of fields column
+position-found fields column =
+    elim (cases_Bool (has_name fields column)) [
+      | inl e ↦ rw e (sym (position-there (bytes_eq column) fields e))
+      | inr e ↦ rw e (sym (position-absent (bytes_eq column) fields e))
+    ]
 
 -- what is known of a column once the fields from a place on were seen
 pub record IsSought (fields : Record) (column : List ℕ) (i : ℕ) (found twice : Bool) (place : ℕ) : Type 0 where

@@ -125,7 +125,7 @@ module _ (nodes switches : List ℕ) where
       let valid = valid-then_read Switches switches before.0 t (valid-then_read Nodes nodes no_rows before.0 valid-no_rows before.1) before.2 in
       subst (IsSwitchingCase nodes switches) (sym s.1) (record {
         valid = subst IsValid s.1 valid;
-        nodes_are = are-map (IsNode no_rows) (IsNode two) Nodes nodes n.0 (λ header row x i. record { name = i.name; source = i.source }) n.2;
+        nodes_are = are-map (IsNode no_rows) (IsNode two) Nodes nodes n.0 (λ header row x i. record { name = i.name; source = i.source; absolute = i.absolute }) n.2;
         switches_are = are-map (IsSwitch one) (IsSwitch two) Switches switches s.0 (λ header row x i. record { name = i.name; from = i.from; to = i.to; closed = i.closed }) s.2;
         no_branches = refl;
         no_meters = refl;
@@ -137,7 +137,7 @@ module _ (nodes switches : List ℕ) where
       let one = put_nodes no_rows t.nodes in
       let n =
       then-backward Nodes (λ (r : Node). r.name) (λ v. v.nodes) put_nodes IsNode node_made nodes_table no_rows nodes refl t.nodes
-      (are-map (IsNode t) (IsNode no_rows) Nodes nodes t.nodes (λ header row x i. record { name = i.name; source = i.source }) h.nodes_are) h.valid.nodes in
+      (are-map (IsNode t) (IsNode no_rows) Nodes nodes t.nodes (λ header row x i. record { name = i.name; source = i.source; absolute = i.absolute }) h.nodes_are) h.valid.nodes in
       let s =
       then-backward Switches (λ (r : Switch). r.name) (λ v. v.switches) put_switches IsSwitch switch_made switches_table one switches refl t.switches
       (are-map (IsSwitch t) (IsSwitch one) Switches switches t.switches (λ header row x i. record { name = i.name; from = i.from; to = i.to; closed = i.closed }) h.switches_are) h.valid.switches in

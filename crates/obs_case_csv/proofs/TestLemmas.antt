@@ -10,7 +10,7 @@ use Rattle.obs_case_csv.specs.declared.faults.Table.{Table}
 use Rattle.obs_case_csv.specs.declared.faults.Table.TheVariants.{Nodes, Switches, Branches, Meters, Candidates}
 use Rattle.obs_case_csv.specs.Columns.{own_column}
 use Rattle.obs_case_csv.specs.Faults.{fault_code}
-use Rattle.obs_case_csv.specs.Fields.{Record, columns_fault, comes_twice, field_of, is_short, needed_columns}
+use Rattle.obs_case_csv.specs.Fields.{Record, comes_twice, field_of, header_fault, is_short, needed_columns, read_columns}
 use Rattle.obs_case_csv.specs.IsFault.{HeaderHas, RowHas, has_bad_flag, has_bad_kind, has_bad_price, has_unknown_node, has_unknown_place}
 use Rattle.obs_case_csv.specs.Rows.{lowest, names_in, row_fault}
 
@@ -76,9 +76,9 @@ told P (test ∷ tests) code tell met =
 module _ (table : Table) (header : Record) (rows : List Record) where
   abbrev header_tests : List (RowFault × Bool)
   header_tests =
-      (ColumnMissing, list_any (λ column. not (has_name header column)) (needed_columns table)) ∷ (ColumnTwice, list_any (comes_twice header) (needed_columns table)) ∷ []
+      (ColumnMissing, list_any (λ column. not (has_name header column)) (needed_columns table)) ∷ (ColumnTwice, list_any (comes_twice header) (read_columns table)) ∷ []
 
-  pub header-has : (code : RowFault) → columns_fault (needed_columns table) header ≡ Some code → HeaderHas code table (header ∷ rows)
+  pub header-has : (code : RowFault) → header_fault table header ≡ Some code → HeaderHas code table (header ∷ rows)
   header-has code e = told (λ c. HeaderHas c table (header ∷ rows)) header_tests code ((λ h. h), ((λ h. h), tt)) (lowest_met header_tests code e)
 
   header-met : (code : RowFault) → HeaderHas code table (header ∷ rows) → IsMet code header_tests
@@ -95,7 +95,7 @@ module _ (table : Table) (header : Record) (rows : List Record) where
   header-met UnknownPlace h = absurd h
   header-met TooMany h = absurd h
 
-  pub header-least : (code : RowFault) → HeaderHas code table (header ∷ rows) → AtMost (columns_fault (needed_columns table) header) code
+  pub header-least : (code : RowFault) → HeaderHas code table (header ∷ rows) → AtMost (header_fault table header) code
   header-least code h = lowest_least 2 header_tests code (omega arith, (omega arith, tt)) (header-met code h)
 
 -- ---- one row
@@ -103,7 +103,7 @@ module _ (table : Table) (header : Record) (rows : List Record) where
 module _ (table : Table) (t : Tables) (header row : Record) where
   abbrev row_tests : List (RowFault × Bool)
   row_tests =
-      (ShortRow, is_short (needed_columns table) header row)
+      (ShortRow, is_short (read_columns table) header row)
       ∷ (BadName, not (is_name (field_of header row (own_column table))))
       ∷ (BadFlag, has_bad_flag table (field_of header row))
       ∷ (BadKind, has_bad_kind table (field_of header row))

@@ -13,7 +13,7 @@ use Rattle.obs_case_csv.specs.declared.faults.RowFault.{RowFault}
 use Rattle.obs_case_csv.specs.declared.faults.Table.{Table}
 use Rattle.obs_case_csv.specs.declared.faults.Table.TheVariants.{Nodes, Switches, Branches, Meters, Candidates}
 use Rattle.obs_case_csv.specs.declared.faults.TableFault.{TableFault}
-use Rattle.obs_case_csv.specs.Fields.{Record, columns_fault, field_under, needed_columns}
+use Rattle.obs_case_csv.specs.Fields.{Record, field_under, header_fault}
 use Rattle.obs_case_csv.specs.Laws.{KeepsValid}
 use Rattle.obs_case_csv.specs.Read.{fault_in, rows_before, rows_in, rows_of_records, table_records, tables_or, then_read}
 use Rattle.obs_case_csv.specs.Rows.{row_fault, with_record}
@@ -68,7 +68,7 @@ valid-rows_before table header (row ∷ rows) t h =
 valid-rows_of_records : (table : Table) (t : Tables) (records : List Record) → IsValid t → IsValid (rows_of_records table t records)
 valid-rows_of_records table t [] h = h
 valid-rows_of_records table t (header ∷ rows) h =
-    elim (is_none (columns_fault (needed_columns table) header)) as (λ b. IsValid (if b then rows_before table header t rows else t)) [
+    elim (is_none (header_fault table header)) as (λ b. IsValid (if b then rows_before table header t rows else t)) [
       | true ↦ valid-rows_before table header rows t h
       | false ↦ h
     ]

@@ -1,12 +1,12 @@
 -- A table's columns, and the reading of fields.
-use Rattle.std.specs.Prelude.{ℕ, Bool, true, false, not, nat_le, List, [], ◌∷◌, codes, Option, None, Some, is_none, unwrap_or, if◌then◌else◌}
+use Rattle.std.specs.Prelude.{ℕ, Bool, true, false, not, nat_le, List, [], ◌∷◌, ◌++◌, codes, Option, None, Some, is_none, unwrap_or, if◌then◌else◌}
 use Rattle.std.specs.List.{list_any}
 use Rattle.std.specs.Str.{bytes_eq}
 use Rattle.csv.specs.Records.{field_at}
 use Rattle.obs_text.specs.Numbers.{whole_of}
 use Rattle.obs_case.specs.declared.rows.Kind.{Kind}
-use Rattle.obs_case.specs.declared.rows.Kind.TheVariants.{Flow, Injection, Zero}
-use Rattle.obs_case.specs.Tables.{has_name, most_price, place_of}
+use Rattle.obs_case.specs.declared.rows.Kind.TheVariants.{Flow, Injection, Zero, Angle}
+use Rattle.obs_case.specs.Tables.{has_name, most_price, place_of, position_of}
 use Rattle.obs_case_csv.specs.declared.faults.RowFault.{RowFault}
 use Rattle.obs_case_csv.specs.declared.faults.RowFault.TheVariants.{ColumnMissing, ColumnTwice}
 use Rattle.obs_case_csv.specs.declared.faults.Table.{Table}
@@ -24,26 +24,48 @@ needed_columns Branches = codes "branch" ∷ codes "from" ∷ codes "to" ∷ cod
 needed_columns Meters = codes "meter" ∷ codes "kind" ∷ codes "at" ∷ codes "inservice" ∷ []
 needed_columns Candidates = codes "candidate" ∷ codes "kind" ∷ codes "at" ∷ codes "price" ∷ []
 
+-- the columns that a table may have
+abbrev pub further_columns : Table → List (List ℕ)
+further_columns Nodes = codes "absolute" ∷ []
+further_columns Switches = []
+further_columns Branches = []
+further_columns Meters = []
+further_columns Candidates = []
+
+-- the columns that are read; all others are ignored
+abbrev pub read_columns : Table → List (List ℕ)
+read_columns table = needed_columns table ++ further_columns table
+
 -- a column that is in a header, and in it again after that
 abbrev pub comes_twice : Record → List ℕ → Bool
 comes_twice [] column = false
 comes_twice (field ∷ fields) column = if bytes_eq column field then has_name fields column else comes_twice fields column
 
--- a needed column isn't in the header, or is in it twice
-abbrev pub columns_fault : List (List ℕ) → Record → Option RowFault
-columns_fault columns header =
-    if list_any (λ column. not (has_name header column)) columns then Some ColumnMissing
-    else (if list_any (comes_twice header) columns then Some ColumnTwice else None)
+-- a needed column isn't in the header, or one that is read is in it twice
+abbrev pub columns_fault : List (List ℕ) → List (List ℕ) → Record → Option RowFault
+columns_fault needed read header =
+    if list_any (λ column. not (has_name header column)) needed then Some ColumnMissing
+    else (if list_any (comes_twice header) read then Some ColumnTwice else None)
 
--- the record's field under a column of the header, if it has one
+-- the same of the header of a table
+abbrev pub header_fault : Table → Record → Option RowFault
+header_fault table header = columns_fault (needed_columns table) (read_columns table) header
+
+-- the record's field at a place, if it has one; at no place it is read as `0`
+abbrev pub field_or_0 : Record → Option ℕ → Option (List ℕ)
+field_or_0 row None = Some (codes "0")
+field_or_0 row (Some place) = field_at row place
+
+-- the record's field under a column of the header, if it has one; where the header lacks `absolute`, each record has `0` under it
 abbrev pub field_under : Record → Record → List ℕ → Option (List ℕ)
-field_under header row column = field_at row (place_of header column)
+field_under header row column =
+    if bytes_eq column (codes "absolute") then field_or_0 row (position_of header column) else field_at row (place_of header column)
 
 -- the same field, empty where there is none
 abbrev pub field_of : Record → Record → List ℕ → List ℕ
 field_of header row column = unwrap_or (field_under header row column) []
 
--- the record has no field under a needed column
+-- the record has no field under one of these columns
 abbrev pub is_short : List (List ℕ) → Record → Record → Bool
 is_short columns header row = list_any (λ column. is_none (field_under header row column)) columns
 
@@ -55,7 +77,8 @@ flag_of bytes = if bytes_eq bytes (codes "0") then Some false else (if bytes_eq 
 abbrev pub kind_of : List ℕ → Option Kind
 kind_of bytes =
     if bytes_eq bytes (codes "flow") then Some Flow
-    else (if bytes_eq bytes (codes "injection") then Some Injection else (if bytes_eq bytes (codes "zero") then Some Zero else None))
+    else (if bytes_eq bytes (codes "injection") then Some Injection
+    else (if bytes_eq bytes (codes "zero") then Some Zero else (if bytes_eq bytes (codes "angle") then Some Angle else None)))
 
 -- a number that is a price
 abbrev pub price_within : Option ℕ → Option ℕ

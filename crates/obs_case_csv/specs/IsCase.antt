@@ -8,13 +8,14 @@ use Rattle.obs_case.specs.declared.rows.Switch.{Switch}
 use Rattle.obs_case.specs.Tables.{IsValid, Tables, node_names, place_names, position_of}
 use Rattle.obs_case_csv.specs.declared.faults.Table.{Table}
 use Rattle.obs_case_csv.specs.declared.faults.Table.TheVariants.{Nodes, Switches, Branches, Meters, Candidates}
-use Rattle.obs_case_csv.specs.Fields.{Record, columns_fault, field_under, flag_of, kind_of, needed_columns, price_of}
+use Rattle.obs_case_csv.specs.Fields.{Record, field_under, flag_of, header_fault, kind_of, price_of}
 use Rattle.obs_case_csv.specs.Read.{table_records, tables_in}
 
 -- each field of a row is the reading of the record's field under its column
 pub record IsNode (t : Tables) (header row : Record) (node : Node) : Type 0 where
   pub name : field_under header row (codes "node") ≡ Some node.name
   pub source : option_and_then flag_of (field_under header row (codes "source")) ≡ Some node.source
+  pub absolute : option_and_then flag_of (field_under header row (codes "absolute")) ≡ Some node.absolute
 
 pub record IsSwitch (t : Tables) (header row : Record) (switch : Switch) : Type 0 where
   pub name : field_under header row (codes "switch") ≡ Some switch.name
@@ -47,12 +48,12 @@ EachIs is [] (x ∷ xs) = ⊥
 EachIs is (row ∷ rows) [] = ⊥
 EachIs is (row ∷ rows) (x ∷ xs) = is row x × EachIs is rows xs
 
--- the records are a header, which has each needed column once, and then the rows
+-- the records are a header without a fault, and then the rows
 pub record AreRows {R : Type 0} (is : Record → Record → R → Type 0) (table : Table) (bytes : List ℕ) (rows : List R) : Type 0 where
   pub header : Record
   pub records : List Record
   pub records_are : table_records bytes ≡ header ∷ records
-  pub columns : columns_fault (needed_columns table) header ≡ None
+  pub columns : header_fault table header ≡ None
   pub each : EachIs (is header) records rows
 
 -- the same of a table that isn't given: it has no rows

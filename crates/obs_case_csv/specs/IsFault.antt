@@ -1,5 +1,5 @@
 -- Which rows of tables have which faults, given the rows before them; the header is row 0.
-use Rattle.std.specs.Prelude.{ℕ, ◌≡◌, ◌<◌, ◌≤◌, ◌+◌, ◌⊎◌, Bool, false, not, IsTrue, List, [], ◌∷◌, ◌++◌, length, codes, Option, None, Some, is_none}
+use Rattle.std.specs.Prelude.{ℕ, ◌≡◌, ◌<◌, ◌≤◌, ◌+◌, ◌⊎◌, ◌||◌, Bool, false, not, IsTrue, List, [], ◌∷◌, ◌++◌, length, codes, Option, None, Some, is_none}
 use Rattle.std.specs.List.{list_any}
 use Rattle.obs_text.specs.Names.{is_name}
 use Rattle.obs_case.specs.Tables.{IsValid, Tables, has_name, most_rows}
@@ -9,14 +9,14 @@ use Rattle.obs_case_csv.specs.declared.faults.Table.{Table}
 use Rattle.obs_case_csv.specs.declared.faults.Table.TheVariants.{Nodes, Switches, Branches, Meters, Candidates}
 use Rattle.obs_case_csv.specs.Columns.{own_column}
 use Rattle.obs_case_csv.specs.Faults.{fault_code}
-use Rattle.obs_case_csv.specs.Fields.{Record, columns_fault, comes_twice, field_of, flag_of, is_short, kind_of, needed_columns, price_of}
+use Rattle.obs_case_csv.specs.Fields.{Record, comes_twice, field_of, flag_of, header_fault, is_short, kind_of, needed_columns, price_of, read_columns}
 use Rattle.obs_case_csv.specs.OneTable.{HasRows, IsTableOf}
 use Rattle.obs_case_csv.specs.Read.{table_records}
 use Rattle.obs_case_csv.specs.Rows.{has_ends, has_place, names_in}
 
--- of a row's fields, by their columns: the flag, the kind or the price is none, an end names no node, or the place nothing of its kind
+-- of a row's fields, by their columns: a flag, the kind or the price is none, an end names no node, or the place nothing of its kind
 abbrev pub has_bad_flag : Table → (List ℕ → List ℕ) → Bool
-has_bad_flag Nodes field = is_none (flag_of (field (codes "source")))
+has_bad_flag Nodes field = is_none (flag_of (field (codes "source"))) || is_none (flag_of (field (codes "absolute")))
 has_bad_flag Switches field = is_none (flag_of (field (codes "closed")))
 has_bad_flag Branches field = is_none (flag_of (field (codes "inservice")))
 has_bad_flag Meters field = is_none (flag_of (field (codes "inservice")))
@@ -55,7 +55,7 @@ abbrev pub RowHas : RowFault → Table → Tables → Record → Record → Type
 RowHas NoHeader table t header row = ⊥
 RowHas ColumnMissing table t header row = ⊥
 RowHas ColumnTwice table t header row = ⊥
-RowHas ShortRow table t header row = IsTrue (is_short (needed_columns table) header row)
+RowHas ShortRow table t header row = IsTrue (is_short (read_columns table) header row)
 RowHas BadName table t header row = IsTrue (not (is_name (field_of header row (own_column table))))
 RowHas BadFlag table t header row = IsTrue (has_bad_flag table (field_of header row))
 RowHas BadKind table t header row = IsTrue (has_bad_kind table (field_of header row))
@@ -69,7 +69,7 @@ RowHas TooMany table t header row = ⊥
 abbrev pub HeaderHas : RowFault → Table → List Record → Type 0
 HeaderHas NoHeader table [] = Unit {0}
 HeaderHas ColumnMissing table (header ∷ rows) = IsTrue (list_any (λ column. not (has_name header column)) (needed_columns table))
-HeaderHas ColumnTwice table (header ∷ rows) = IsTrue (list_any (comes_twice header) (needed_columns table))
+HeaderHas ColumnTwice table (header ∷ rows) = IsTrue (list_any (comes_twice header) (read_columns table))
 HeaderHas code table records = ⊥
 
 -- this row of a table's records has the fault of this code, over tables t without rows of it: the records before it are a header without
@@ -81,7 +81,7 @@ pub record HasRowFault (table : Table) (t : Tables) (records : List Record) (num
   pub after : List Record
   pub records_are : records ≡ header ∷ (before ++ row ∷ after)
   pub number_is : number ≡ length before + 1
-  pub columns : columns_fault (needed_columns table) header ≡ None
+  pub columns : header_fault table header ≡ None
   pub tables : Tables
   pub valid : IsValid tables
   pub rows : HasRows table header before t tables

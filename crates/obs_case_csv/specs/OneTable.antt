@@ -3,7 +3,7 @@ use Rattle.std.specs.Prelude.{ℕ, ◌≡◌, List, [], ◌∷◌, None}
 use Rattle.obs_case.specs.Tables.{IsValid, Tables}
 use Rattle.obs_case_csv.specs.declared.faults.Table.{Table}
 use Rattle.obs_case_csv.specs.declared.faults.Table.TheVariants.{Nodes, Switches, Branches, Meters, Candidates}
-use Rattle.obs_case_csv.specs.Fields.{Record, columns_fault, needed_columns}
+use Rattle.obs_case_csv.specs.Fields.{Record, header_fault}
 use Rattle.obs_case_csv.specs.IsCase.{AreRows, EachIs, IsBranch, IsCandidate, IsMeter, IsNode, IsSwitch}
 use Rattle.obs_case_csv.specs.Read.{table_records}
 
@@ -15,13 +15,13 @@ HasRows Branches header records t u = (u ≡ record t { branches = u.branches })
 HasRows Meters header records t u = (u ≡ record t { meters = u.meters }) × EachIs (IsMeter u header) records u.meters
 HasRows Candidates header records t u = (u ≡ record t { candidates = u.candidates }) × EachIs (IsCandidate u header) records u.candidates
 
--- the bytes are a table of u: their records are a header, which has each needed column once, and then that table's rows; u is valid, and
+-- the bytes are a table of u: their records are a header without a fault, and then that table's rows; u is valid, and
 -- its other tables are those of t
 pub record IsTableOf (table : Table) (bytes : List ℕ) (t u : Tables) : Type 0 where
   pub header : Record
   pub records : List Record
   pub records_are : table_records bytes ≡ header ∷ records
-  pub columns : columns_fault (needed_columns table) header ≡ None
+  pub columns : header_fault table header ≡ None
   pub valid : IsValid u
   pub rows : HasRows table header records t u
 

@@ -10,7 +10,7 @@ use Rattle.obs_case_csv.specs.declared.faults.Table.TheVariants.{Nodes, Switches
 use Rattle.obs_case_csv.specs.declared.faults.TableEnd.{TableEnd}
 use Rattle.obs_case_csv.specs.declared.faults.TableEnd.TheVariants.{Fault, NoMemory}
 use Rattle.obs_case_csv.specs.declared.faults.TableFault.{TableFault}
-use Rattle.obs_case_csv.specs.Fields.{Record, columns_fault, needed_columns}
+use Rattle.obs_case_csv.specs.Fields.{Record, header_fault}
 use Rattle.obs_case_csv.specs.Rows.{next_row, row_fault, with_record}
 
 -- the records that are asked for: a header, and one row more than a table may have
@@ -46,12 +46,12 @@ rows_before table header t (row ∷ rows) =
 -- the first fault of a table's records, given the other tables
 abbrev pub fault_of_records : Table → Tables → List Record → Option TableFault
 fault_of_records table t [] = fault_at table 0 (Some NoHeader)
-fault_of_records table t (header ∷ rows) = earlier (fault_at table 0 (columns_fault (needed_columns table) header)) (first_fault table header t rows)
+fault_of_records table t (header ∷ rows) = earlier (fault_at table 0 (header_fault table header)) (first_fault table header t rows)
 
 -- the tables with the rows of a table's records before the first fault
 abbrev pub rows_of_records : Table → Tables → List Record → Tables
 rows_of_records table t [] = t
-rows_of_records table t (header ∷ rows) = if is_none (columns_fault (needed_columns table) header) then rows_before table header t rows else t
+rows_of_records table t (header ∷ rows) = if is_none (header_fault table header) then rows_before table header t rows else t
 
 -- the first fault of a table's bytes, and the tables with the rows before it
 abbrev pub fault_in : Table → Tables → List ℕ → Option TableFault

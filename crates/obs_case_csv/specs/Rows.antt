@@ -1,15 +1,16 @@
 -- One row of a table: why it is refused, and the tables that have it.
-use Rattle.std.specs.Prelude.{ℕ, ◌==◌, ◌+◌, ◌&&◌, Bool, false, not, List, [], ◌∷◌, length, codes, Option, None, Some, is_none, unwrap_or, if◌then◌else◌}
+use Rattle.std.specs.Prelude.{ℕ, ◌==◌, ◌+◌, ◌&&◌, ◌||◌, Bool, false, not, List, [], ◌∷◌, length, codes, Option, None, Some, is_none, unwrap_or, if◌then◌else◌}
 use Rattle.obs_text.specs.Names.{is_name}
 use Rattle.obs_case.specs.declared.rows.Kind.{Kind}
 use Rattle.obs_case.specs.declared.rows.Kind.TheVariants.{Zero}
-use Rattle.obs_case.specs.Adds.{branch_of, candidate_of, meter_of, node_of, switch_of, with_branch, with_candidate, with_meter, with_node, with_switch}
+use Rattle.obs_case.specs.declared.rows.Node.{Node}
+use Rattle.obs_case.specs.Adds.{branch_of, candidate_of, meter_of, switch_of, with_branch, with_candidate, with_meter, with_node, with_switch}
 use Rattle.obs_case.specs.Tables.{Tables, branch_names, candidate_names, has_name, meter_names, most_rows, node_names, place_names, switch_names}
 use Rattle.obs_case_csv.specs.declared.faults.RowFault.{RowFault}
 use Rattle.obs_case_csv.specs.declared.faults.RowFault.TheVariants.{ShortRow, BadName, BadFlag, BadKind, BadPrice, NameTwice, UnknownNode, UnknownPlace, TooMany}
 use Rattle.obs_case_csv.specs.declared.faults.Table.{Table}
 use Rattle.obs_case_csv.specs.declared.faults.Table.TheVariants.{Nodes, Switches, Branches, Meters, Candidates}
-use Rattle.obs_case_csv.specs.Fields.{Record, field_of, flag_of, is_short, kind_of, needed_columns, price_of}
+use Rattle.obs_case_csv.specs.Fields.{Record, field_of, flag_of, is_short, kind_of, price_of, read_columns}
 
 -- the names of the rows of one table
 abbrev pub names_in : Table → Tables → List (List ℕ)
@@ -34,11 +35,11 @@ has_place t None at = false
 has_place t (Some kind) at = has_name (place_names t kind) at
 
 -- why a row with these fields is refused, given the rows before it
-abbrev pub node_row_fault : Tables → List ℕ → List ℕ → Option RowFault
-node_row_fault t node source =
+abbrev pub node_row_fault : Tables → List ℕ → List ℕ → List ℕ → Option RowFault
+node_row_fault t node source absolute =
     lowest (
     (BadName, not (is_name node))
-    ∷ (BadFlag, is_none (flag_of source))
+    ∷ (BadFlag, is_none (flag_of source) || is_none (flag_of absolute))
     ∷ (NameTwice, has_name (node_names t) node)
     ∷ []
     )
@@ -87,7 +88,7 @@ candidate_row_fault t candidate kind at price =
 
 -- why a row is refused whose fields stand under these columns
 abbrev pub fields_fault : Table → Tables → (List ℕ → List ℕ) → Option RowFault
-fields_fault Nodes t field = node_row_fault t (field (codes "node")) (field (codes "source"))
+fields_fault Nodes t field = node_row_fault t (field (codes "node")) (field (codes "source")) (field (codes "absolute"))
 fields_fault Switches t field = switch_row_fault t (field (codes "switch")) (field (codes "from")) (field (codes "to")) (field (codes "closed"))
 fields_fault Branches t field = branch_row_fault t (field (codes "branch")) (field (codes "from")) (field (codes "to")) (field (codes "inservice"))
 fields_fault Meters t field = meter_row_fault t (field (codes "meter")) (field (codes "kind")) (field (codes "at")) (field (codes "inservice"))
@@ -101,7 +102,7 @@ next_row table t = length (names_in table t) + 1
 abbrev pub row_fault : Table → Record → Tables → Record → Option RowFault
 row_fault table header t row =
     if length (names_in table t) == most_rows then Some TooMany
-    else (if is_short (needed_columns table) header row then Some ShortRow else fields_fault table t (field_of header row))
+    else (if is_short (read_columns table) header row then Some ShortRow else fields_fault table t (field_of header row))
 
 -- the readings of a flag, a kind and a price that aren't refused
 abbrev pub flag : List ℕ → Bool
@@ -113,9 +114,13 @@ kind bytes = unwrap_or (kind_of bytes) Zero
 abbrev pub price : List ℕ → ℕ
 price bytes = unwrap_or (price_of bytes) 0
 
+-- the node of these fields
+abbrev pub node_read : List ℕ → List ℕ → List ℕ → Node
+node_read node source absolute = record { name = node; source = flag source; absolute = flag absolute }
+
 -- the tables with the row whose fields stand under these columns
 abbrev pub with_fields : Table → Tables → (List ℕ → List ℕ) → Tables
-with_fields Nodes t field = with_node t (node_of (field (codes "node")) (flag (field (codes "source"))))
+with_fields Nodes t field = with_node t (node_read (field (codes "node")) (field (codes "source")) (field (codes "absolute")))
 with_fields Switches t field = with_switch t (switch_of t (field (codes "switch")) (field (codes "from")) (field (codes "to")) (flag (field (codes "closed"))))
 with_fields Branches t field = with_branch t (branch_of t (field (codes "branch")) (field (codes "from")) (field (codes "to")) (flag (field (codes "inservice"))))
 with_fields Meters t field = with_meter t (meter_of t (field (codes "meter")) (kind (field (codes "kind"))) (field (codes "at")) (flag (field (codes "inservice"))))

@@ -1,30 +1,32 @@
-// The places of a table's needed columns in its header, and the fields there.
+// The places of a table's columns in its header, and the fields there.
 ghost use Rattle.std.specs.Prelude.{◌≡◌, ◌∷◌, [], Some, None, false, bytes_eq, IfOk, IfErr, IfSome, OnOk, option_map, is_none, unwrap_or};
 ghost use Rattle.csv.specs.Records.{field_at, fields_of};
-ghost use Rattle.obs_case.specs.Tables.{has_name, place_of};
+ghost use Rattle.obs_case.specs.Tables.{has_name, place_of, position_of};
 ghost use Rattle.obs_case_csv.specs.Columns.{ArePlaces, lacks_field};
-ghost use Rattle.obs_case_csv.specs.Fields.{columns_fault, comes_twice, needed_columns};
+ghost use Rattle.obs_case_csv.specs.Fields.{columns_fault, comes_twice, field_or_0, header_fault};
 
 use crate::faults::{RowFault, Table};
 use csv::ByteRecord;
 
-/// Where the needed columns stand, in their order. A table with two of them has its second in all
-/// the later places.
+/// Where the needed columns stand, in their order, and where the column that a table may have, if
+/// the header has it. A table with two needed ones has its second in all the later places.
 #[derive(Clone, Copy)]
 pub(crate) struct Places {
     pub own: usize,
     pub second: usize,
     pub third: usize,
     pub fourth: usize,
+    pub further: Option<usize>,
 }
 
-/// A record's fields at these places.
+/// A record's fields at these places; `0` at no place.
 #[derive(Clone, Copy)]
 pub(crate) struct Fields<'a> {
     pub own: &'a [u8],
     pub second: &'a [u8],
     pub third: &'a [u8],
     pub fourth: &'a [u8],
+    pub further: &'a [u8],
 }
 
 // A column in a header: whether it is there, whether it is there twice, and where it is first.
@@ -66,20 +68,29 @@ fn seek(header: &ByteRecord, column: &[u8]) -> Column
     }
 }
 
-fn places_of_two(header: &ByteRecord, own: &[u8], second: &[u8]) -> Result<Places, RowFault>
-    ensures accepted { OnOk result (columns_fault (own.now ∷ second.now ∷ []) (fields_of header.now) ≡ None) }
-    ensures refused { IfErr result
-        (λ fault. columns_fault (own.now ∷ second.now ∷ []) (fields_of header.now) ≡ Some fault) }
+// Two columns are needed, and a further one may be there.
+fn places_of_two(
+    header: &ByteRecord,
+    own: &[u8],
+    second: &[u8],
+    further: &[u8],
+) -> Result<Places, RowFault>
+    ensures accepted { OnOk result (columns_fault (own.now ∷ second.now ∷ [])
+        (own.now ∷ second.now ∷ further.now ∷ []) (fields_of header.now) ≡ None) }
+    ensures refused { IfErr result (λ fault. columns_fault (own.now ∷ second.now ∷ [])
+        (own.now ∷ second.now ∷ further.now ∷ []) (fields_of header.now) ≡ Some fault) }
     ensures own { IfOk result (λ p. p.own ≡ place_of (fields_of header.now) own.now) }
     ensures second { IfOk result (λ p. p.second ≡ place_of (fields_of header.now) second.now) }
     ensures third { IfOk result (λ p. p.third ≡ p.second) }
     ensures fourth { IfOk result (λ p. p.fourth ≡ p.second) }
+    ensures further { IfOk result (λ p. p.further ≡ position_of (fields_of header.now) further.now) }
 {
     let own = seek(header, own);
     let second = seek(header, second);
+    let further = seek(header, further);
     if !own.found || !second.found {
         Err(RowFault::ColumnMissing)
-    } else if own.twice || second.twice {
+    } else if own.twice || second.twice || further.twice {
         Err(RowFault::ColumnTwice)
     } else {
         Ok(Places {
@@ -87,6 +98,7 @@ fn places_of_two(header: &ByteRecord, own: &[u8], second: &[u8]) -> Result<Place
             second: second.place,
             third: second.place,
             fourth: second.place,
+            further: further.found.then_some(further.place),
         })
     }
 }
@@ -98,14 +110,15 @@ fn places_of_four(
     third: &[u8],
     fourth: &[u8],
 ) -> Result<Places, RowFault>
-    ensures accepted { OnOk result
-        (columns_fault (own.now ∷ second.now ∷ third.now ∷ fourth.now ∷ []) (fields_of header.now) ≡ None) }
-    ensures refused { IfErr result (λ fault. columns_fault (own.now ∷ second.now ∷ third.now ∷ fourth.now ∷ [])
-        (fields_of header.now) ≡ Some fault) }
+    ensures accepted { let columns = own.now ∷ second.now ∷ third.now ∷ fourth.now ∷ [] in
+        OnOk result (columns_fault columns columns (fields_of header.now) ≡ None) }
+    ensures refused { let columns = own.now ∷ second.now ∷ third.now ∷ fourth.now ∷ [] in
+        IfErr result (λ fault. columns_fault columns columns (fields_of header.now) ≡ Some fault) }
     ensures own { IfOk result (λ p. p.own ≡ place_of (fields_of header.now) own.now) }
     ensures second { IfOk result (λ p. p.second ≡ place_of (fields_of header.now) second.now) }
     ensures third { IfOk result (λ p. p.third ≡ place_of (fields_of header.now) third.now) }
     ensures fourth { IfOk result (λ p. p.fourth ≡ place_of (fields_of header.now) fourth.now) }
+    ensures further { IfOk result (λ p. p.further ≡ None) }
 {
     let own = seek(header, own);
     let second = seek(header, second);
@@ -121,18 +134,19 @@ fn places_of_four(
             second: second.place,
             third: third.place,
             fourth: fourth.place,
+            further: None,
         })
     }
 }
 
-// The places of a table's needed columns in its header.
+// The places of a table's columns in its header.
 pub(crate) fn places_in(table: Table, header: &ByteRecord) -> Result<Places, RowFault>
-    ensures accepted { OnOk result (columns_fault (needed_columns table) (fields_of header.now) ≡ None) }
-    ensures refused { IfErr result (λ fault. columns_fault (needed_columns table) (fields_of header.now) ≡ Some fault) }
+    ensures accepted { OnOk result (header_fault table (fields_of header.now) ≡ None) }
+    ensures refused { IfErr result (λ fault. header_fault table (fields_of header.now) ≡ Some fault) }
     ensures places { IfOk result (ArePlaces table (fields_of header.now)) }
 {
     match table {
-        Table::Nodes => places_of_two(header, b"node", b"source"),
+        Table::Nodes => places_of_two(header, b"node", b"source", b"absolute"),
         Table::Switches => places_of_four(header, b"switch", b"from", b"to", b"closed"),
         Table::Branches => places_of_four(header, b"branch", b"from", b"to", b"inservice"),
         Table::Meters => places_of_four(header, b"meter", b"kind", b"at", b"inservice"),
@@ -147,15 +161,21 @@ pub(crate) fn fields_at<'a>(row: &'a ByteRecord, places: &Places) -> Option<Fiel
     ensures second { IfSome result (λ f. field_at (fields_of row.now) places.now.second ≡ Some f.second.now) }
     ensures third { IfSome result (λ f. field_at (fields_of row.now) places.now.third ≡ Some f.third.now) }
     ensures fourth { IfSome result (λ f. field_at (fields_of row.now) places.now.fourth ≡ Some f.fourth.now) }
+    ensures further { IfSome result (λ f. field_or_0 (fields_of row.now) places.now.further ≡ Some f.further.now) }
 {
     let own = row.get(places.own)?;
     let second = row.get(places.second)?;
     let third = row.get(places.third)?;
     let fourth = row.get(places.fourth)?;
+    let further = match places.further {
+        Some(place) => row.get(place)?,
+        None => b"0".as_slice(),
+    };
     Some(Fields {
         own,
         second,
         third,
         fourth,
+        further,
     })
 }

@@ -13,7 +13,11 @@ const METERS: &[u8] = b"meter,kind,at,inservice\nf1,flow,L1,1\nib,injection,b,1\
 const CANDIDATES: &[u8] = b"candidate,kind,at,price\np1,flow,L2,0\np2,zero,c,1000000000\n";
 
 // The fault of a table among the others, which have none.
-fn fault_in(alloc: Global, table: Table, bytes: &[u8]) -> Option<(Table, u32, RowFault)> {
+pub(crate) fn fault_in(
+    alloc: Global,
+    table: Table,
+    bytes: &[u8],
+) -> Option<(Table, u32, RowFault)> {
     let nodes = if table == Table::Nodes { bytes } else { NODES };
     let switches = if table == Table::Switches {
         bytes

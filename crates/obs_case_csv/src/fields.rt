@@ -26,6 +26,8 @@ pub(crate) fn read_kind(bytes: &[u8]) -> Option<Kind>
         Some(Kind::Injection)
     } else if bytes == b"zero".as_slice() {
         Some(Kind::Zero)
+    } else if bytes == b"angle".as_slice() {
+        Some(Kind::Angle)
     } else {
         None
     }

@@ -1,6 +1,8 @@
 //! The five tables from their CSV files, and the first fault where the files are no case.
 #![tactic(auto)]
 
+#[cfg(test)]
+mod absolute_tests;
 mod columns;
 #[cfg(test)]
 mod fault_tests;

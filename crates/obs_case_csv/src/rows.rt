@@ -1,9 +1,9 @@
 // The rows of the tables, from their fields.
 ghost use Rattle.std.specs.Prelude.{◌≡◌, ◌<◌, length, None, IfErr, OnErr, OnOk};
-ghost use Rattle.obs_case.specs.Adds.{branch_of, candidate_of, meter_of, node_of, switch_of, with_branch, with_candidate, with_meter, with_node, with_switch};
+ghost use Rattle.obs_case.specs.Adds.{branch_of, candidate_of, meter_of, switch_of, with_branch, with_candidate, with_meter, with_node, with_switch};
 ghost use Rattle.obs_case.specs.Tables.{branch_names, candidate_names, meter_names, most_rows, node_names, switch_names};
 ghost use Rattle.obs_case_csv.specs.Columns.{Stops, ordered_fault, row_end, with_ordered};
-ghost use Rattle.obs_case_csv.specs.Rows.{branch_row_fault, candidate_row_fault, flag, kind as kind_in, meter_row_fault, names_in, node_row_fault, price as price_in, switch_row_fault};
+ghost use Rattle.obs_case_csv.specs.Rows.{branch_row_fault, candidate_row_fault, flag, kind as kind_in, meter_row_fault, names_in, node_read, node_row_fault, price as price_in, switch_row_fault};
 
 use crate::columns::Fields;
 use crate::faults::{RowFault, Table};
@@ -30,11 +30,11 @@ fn ended(fault: AddFault) -> RowEnd
     }
 }
 
-fn add_node(case: &mut Case, node: &[u8], source: &[u8]) -> Result<(), RowEnd>
+fn add_node(case: &mut Case, node: &[u8], source: &[u8], absolute: &[u8]) -> Result<(), RowEnd>
     requires room { length (node_names case.old) < most_rows }
-    ensures accepted { OnOk result (node_row_fault case.old node.now source.now ≡ None) }
-    ensures refused { IfErr result (Stops (node_row_fault case.old node.now source.now)) }
-    ensures added { OnOk result (case.new ≡ with_node case.old (node_of node.now (flag source.now))) }
+    ensures accepted { OnOk result (node_row_fault case.old node.now source.now absolute.now ≡ None) }
+    ensures refused { IfErr result (Stops (node_row_fault case.old node.now source.now absolute.now)) }
+    ensures added { OnOk result (case.new ≡ with_node case.old (node_read node.now source.now absolute.now)) }
     ensures unchanged { OnErr result (case.new ≡ case.old) }
 {
     let Some(node) = name_of(node) else {
@@ -43,8 +43,16 @@ fn add_node(case: &mut Case, node: &[u8], source: &[u8]) -> Result<(), RowEnd>
     let Some(source) = read_flag(source) else {
         return Err(RowEnd::Fault(RowFault::BadFlag));
     };
+    let Some(absolute) = read_flag(absolute) else {
+        return Err(RowEnd::Fault(RowFault::BadFlag));
+    };
     match case.add_node(node, source) {
-        Ok(_) => Ok(()),
+        Ok(at) => {
+            if absolute {
+                case.set_absolute(at, true);
+            }
+            Ok(())
+        }
         Err(fault) => Err(ended(fault)),
     }
 }
@@ -163,15 +171,18 @@ fn add_candidate(
 pub(crate) fn add_row(case: &mut Case, table: Table, fields: &Fields) -> Result<(), RowEnd>
     requires room { length (names_in table case.old) < most_rows }
     ensures accepted { let f = fields.now in
-        OnOk result (ordered_fault table case.old f.own.now f.second.now f.third.now f.fourth.now ≡ None) }
+        OnOk result (ordered_fault table case.old
+        f.own.now f.second.now f.third.now f.fourth.now f.further.now ≡ None) }
     ensures refused { let f = fields.now in
-        IfErr result (Stops (ordered_fault table case.old f.own.now f.second.now f.third.now f.fourth.now)) }
+        IfErr result (Stops (ordered_fault table case.old
+        f.own.now f.second.now f.third.now f.fourth.now f.further.now)) }
     ensures added { let f = fields.now in
-        OnOk result (case.new ≡ with_ordered table case.old f.own.now f.second.now f.third.now f.fourth.now) }
+        OnOk result (case.new ≡ with_ordered table case.old
+        f.own.now f.second.now f.third.now f.fourth.now f.further.now) }
     ensures unchanged { OnErr result (case.new ≡ case.old) }
 {
     match table {
-        Table::Nodes => add_node(case, fields.own, fields.second),
+        Table::Nodes => add_node(case, fields.own, fields.second, fields.further),
         Table::Switches => add_switch(case, fields.own, fields.second, fields.third, fields.fourth),
         Table::Branches => add_branch(case, fields.own, fields.second, fields.third, fields.fourth),
         Table::Meters => add_meter(case, fields.own, fields.second, fields.third, fields.fourth),
