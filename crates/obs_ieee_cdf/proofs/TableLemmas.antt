@@ -2,7 +2,7 @@
 use Rattle.std.proofs.Common.{◌≡◌, ℕ, Bool, true, false, cond, List, [], ◌∷◌, is_none, refl}
 use Rattle.obs_case.specs.Tables.{Tables}
 use Rattle.obs_case_csv.specs.declared.faults.Table.TheVariants.{Meters}
-use Rattle.obs_case_csv.specs.Fields.{Record, columns_fault, needed_columns}
+use Rattle.obs_case_csv.specs.Fields.{Record, header_fault}
 use Rattle.obs_case_csv.specs.Read.{rows_before, rows_in, rows_of_records, table_records}
 use Rattle.obs_case_csv.specs.Rows.{row_fault, with_record}
 
@@ -19,7 +19,7 @@ rows_before-keeps header t (row ∷ rows) =
 rows_of_records-keeps : (t : Tables) (records : List Record) → (rows_of_records Meters t records).candidates ≡ t.candidates
 rows_of_records-keeps t [] = refl
 rows_of_records-keeps t (header ∷ rows) =
-    kept (is_none (columns_fault (needed_columns Meters) header)) (rows_before Meters header t rows) t (rows_before-keeps header t rows)
+    kept (is_none (header_fault Meters header)) (rows_before Meters header t rows) t (rows_before-keeps header t rows)
 
 pub rows_in-keeps : (t : Tables) (bytes : List ℕ) → (rows_in Meters t bytes).candidates ≡ t.candidates
 rows_in-keeps t bytes = rows_of_records-keeps t (table_records bytes)

@@ -1,5 +1,5 @@
 -- The buses and branches that a file's lines are, or its first fault.
-use Rattle.std.specs.Prelude.{ℕ, ◌+◌, ◌==◌, ◌&&◌, Bool, true, nat_le, List, [], ◌∷◌, ◌++◌, length, map, decimal, Option, None, Some, Result, Ok, Err, if◌then◌else◌}
+use Rattle.std.specs.Prelude.{ℕ, ◌+◌, ◌==◌, ◌&&◌, Bool, true, false, nat_le, List, [], ◌∷◌, ◌++◌, length, map, decimal, Option, None, Some, Result, Ok, Err, if◌then◌else◌}
 use Rattle.std.specs.List.{list_any, position_or_len}
 use Rattle.obs_text.specs.Lines.{content, ended_lines}
 use Rattle.obs_case.specs.Tables.{Tables, most_rows}
@@ -68,9 +68,9 @@ read_branch buses earlier at line =
     if nat_le most_rows (length earlier) then Err (TooMany at)
     else branch_of buses (length earlier + 1) at (number_of (tap_field line)) (number_of (z_field line))
 
--- the node that a bus is: its name is its number without leading zeros
+-- the node that a bus is: its name is its number without leading zeros, and it isn't marked absolute
 abbrev pub node_of_bus : Bus → Node
-node_of_bus bus = record { name = decimal bus.number; source = bus.source }
+node_of_bus bus = record { name = decimal bus.number; source = bus.source; absolute = false }
 
 -- the tables of these buses and branches
 abbrev pub tables_of_rows : List Bus → List Branch → Tables

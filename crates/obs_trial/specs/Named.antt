@@ -3,7 +3,7 @@ use Rattle.std.specs.Prelude.{◌≡◌, ℕ, List, ◌∷◌, map, decimal, len
 use Rattle.std.specs.List.{range_with_len}
 use Rattle.obs_case.specs.Tables.{Tables, node_names, place_names}
 use Rattle.obs_case.specs.declared.rows.Kind.{Kind}
-use Rattle.obs_case.specs.declared.rows.Kind.TheVariants.{Flow, Injection, Zero}
+use Rattle.obs_case.specs.declared.rows.Kind.TheVariants.{Flow, Injection, Zero, Angle}
 use Rattle.obs_trial.specs.Draws.{state_after}
 use Rattle.obs_trial.specs.Trial.{node_name, trial_with}
 
@@ -16,6 +16,7 @@ abbrev pub place_letter : Kind → ℕ
 place_letter Flow = 0x62
 place_letter Injection = 0x6E
 place_letter Zero = 0x6E
+place_letter Angle = 0x6E
 
 -- so many places for a meter of this kind, named by their numbers
 abbrev pub HasPlaces : Tables → Kind → ℕ → Type 0

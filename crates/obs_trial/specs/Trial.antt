@@ -1,5 +1,5 @@
 -- The case that a number of rows and a seed generate.
-use Rattle.std.specs.Prelude.{ℕ, ◌+◌, ◌*◌, ◌/◌, ◌%◌, ◌==◌, true, nat_lt, List, [], ◌∷◌, ◌++◌, map, decimal, if◌then◌else◌}
+use Rattle.std.specs.Prelude.{ℕ, ◌+◌, ◌*◌, ◌/◌, ◌%◌, ◌==◌, true, false, nat_lt, List, [], ◌∷◌, ◌++◌, map, decimal, if◌then◌else◌}
 use Rattle.std.specs.List.{enumerate_from, flat_map, range_with_len}
 use Rattle.obs_case.specs.Tables.{Tables}
 use Rattle.obs_case.specs.declared.rows.Branch.{Branch}
@@ -19,9 +19,9 @@ branch_name k = 0x62 ∷ decimal k
 abbrev pub meter_name : ℕ → List ℕ
 meter_name k = 0x6D ∷ decimal k
 
--- a node; the first one alone is a source
+-- a node; the first one alone is a source, and none is marked absolute
 abbrev pub node_at : ℕ → Node
-node_at i = record { name = node_name i; source = i == 0 }
+node_at i = record { name = node_name i; source = i == 0; absolute = false }
 
 -- the nodes, in order
 abbrev pub nodes_of : ℕ → List Node

@@ -48,7 +48,7 @@ fn place_letter(kind: Kind) -> u8
 {
     match kind {
         Kind::Flow => BRANCH,
-        Kind::Injection | Kind::Zero => NODE,
+        Kind::Injection | Kind::Zero | Kind::Angle => NODE,
     }
 }
 
