@@ -12,7 +12,7 @@ use Rattle.obs_switch.specs.Buses.{LinksBelow, bus_of}
 use Rattle.obs_switch.proofs.FirstNodes.{buses_of-at, bus_of-below, bus_count-le}
 use Rattle.obs_case.specs.declared.rows.Branch.{Branch}
 use Rattle.obs_case.specs.declared.rows.Kind.{Kind}
-use Rattle.obs_case.specs.declared.rows.Kind.TheVariants.{Flow, Injection, Zero}
+use Rattle.obs_case.specs.declared.rows.Kind.TheVariants.{Flow, Injection, Zero, Angle}
 use Rattle.obs_case.specs.declared.rows.Meter.{Meter}
 use Rattle.obs_case.specs.declared.rows.Switch.{Switch}
 use Rattle.obs_case.specs.Tables.{Tables, IsValid, places, most_rows}
@@ -106,6 +106,7 @@ at_node : (t : Tables) (kind : Kind) (at : ℕ) → at < places t kind → kind 
 at_node t Flow at l other = absurd (other refl)
 at_node t Injection at l other = l
 at_node t Zero at l other = l
+at_node t Angle at l other = l
 
 pub meters-at_nodes : (t : Tables) → IsValid t → All (λ row. row.kind ≢ Flow → row.at < length t.nodes) t.meters
 meters-at_nodes t v = λ k d l. at_node t (get_or t.meters k d).kind (get_or t.meters k d).at (v.meter_places k d l)
@@ -122,6 +123,7 @@ unfolding IsOf
 touch_in_range t g is Flow at l = omega (arith, l, ap (λ (x : List (Option Ends)). length x) is.1, length-case_branches t)
 touch_in_range t g is Injection at l = let b = case_bus-below t at l in rw is.0 b
 touch_in_range t g is Zero at l = let b = case_bus-below t at l in rw is.0 b
+touch_in_range t g is Angle at l = tt
 
 meter_in_range : (t : Tables) (g : Graph) → IsOf t g → (row : Meter) → row.at < places t row.kind → IsInRange g (meter_touch (case_buses t) row)
 meter_in_range t g is row l = elim (cases_Bool row.inservice) [ inl e ↦ rw e (touch_in_range t g is row.kind row.at l) | inr e ↦ rw e tt ]

@@ -2,16 +2,17 @@
 use Rattle.std.specs.Prelude.{ℕ, if◌then◌else◌, List, ◌++◌, map, slice_index}
 use Rattle.obs_case.specs.declared.rows.Candidate.{Candidate}
 use Rattle.obs_case.specs.declared.rows.Kind.{Kind}
-use Rattle.obs_case.specs.declared.rows.Kind.TheVariants.{Flow, Injection, Zero}
+use Rattle.obs_case.specs.declared.rows.Kind.TheVariants.{Flow, Injection, Zero, Angle}
 use Rattle.obs_case.specs.declared.rows.Meter.{Meter}
 use Rattle.obs_meter.specs.declared.Touch.{Touch}
 use Rattle.obs_meter.specs.declared.Touch.TheVariants.{Nothing, Edge, Star}
 
--- a flow touches its branch, and an injection or a zero all branches at the bus of its node
+-- a flow touches its branch, an injection or a zero all branches at the bus of its node, and an angle nothing
 abbrev pub touch_of : List ℕ → Kind → ℕ → Touch
 touch_of buses Flow at = Edge at
 touch_of buses Injection at = Star (slice_index buses at)
 touch_of buses Zero at = Star (slice_index buses at)
+touch_of buses Angle at = Nothing
 
 -- a meter out of service touches nothing
 abbrev pub meter_touch : List ℕ → Meter → Touch

@@ -14,6 +14,7 @@ fn touch_of(kind: Kind, at: u32, buses: &Buses) -> Touch
     match kind {
         Kind::Flow => Touch::Edge(at),
         Kind::Injection | Kind::Zero => Touch::Star(buses.bus(at)),
+        Kind::Angle => Touch::Nothing,
     }
 }
 
