@@ -1,6 +1,8 @@
 //! All that the program does, over any files, input and output.
 #![tactic(auto)]
 
+#[cfg(test)]
+mod angle_tests;
 mod answers;
 mod asks;
 mod blocks;
