@@ -266,6 +266,8 @@ class Answer:
             raise Failure(OWN_FAILURE, "the files were read otherwise than obs read them\n")
 
     def is_touching(self, row):
+        if row[1] == "angle":
+            return False
         return self.place(row) in self.ends and self.is_live(row[2]) if row[1] == "flow" else bool(self.at_bus[self.place(row)])
 
     def is_live(self, e):

@@ -52,6 +52,8 @@ def uncounted(answer, words):
 
 
 def idle_cause(answer, row):
+    if row[1] == "angle":
+        return "the kind `angle` has no effect yet"
     if row[1] != "flow":
         u = answer.place(row)
         return "in a part without a source" if answer.island[u] is None else "no branch in service is at this bus"

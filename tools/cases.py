@@ -12,8 +12,8 @@ from model_text import ASKS, EDITS, line
 NAMES = ["a", "b", "Bus 1", "x y", "9", "Z", "node,7", 'q"', "é", "k" * 64, "mm", "#h"]
 PRICES = [0, 1, 2, 2, 3, 5, 10**9]
 FILES = ["nodes", "switches", "branches", "meters", "candidates"]
-SPOILT_FIELDS = [b"", b"0", b"1", b"2", b"00", b" 1", b"flow", b"zero", b"Zero", b"angle", b"1000000000", b"1000000001", b"9" * 20,
-                 b"0" * 18 + b"1", b"-1", b"x" * 64, b"x" * 65, b"a\tb", b"a\x7fb", b"\xff", b"node", b"from", b"kind", b"price"]
+SPOILT_FIELDS = [b"", b"0", b"1", b"2", b"00", b" 1", b"flow", b"zero", b"Zero", b"angle", b"Angle", b"1000000000", b"1000000001", b"9" * 20,
+                 b"0" * 18 + b"1", b"-1", b"x" * 64, b"x" * 65, b"a\tb", b"a\x7fb", b"\xff", b"node", b"from", b"kind", b"price", b"absolute"]
 SPOILT_LINES = [b"", b"# note", b"trip", b"status ", b"report x", b"lose  m0", b"\xff", b"#" * 400, b"close s0\r"]
 SPOILT_WORDS = ["nope", "", "0", "1", "18446744073709551615", "9999999999999999999", "00", "tree", "end"]
 
@@ -24,13 +24,14 @@ def bytes_of(text):
 
 def random_case(r):
     count = r.randint(1, 7)
-    nodes = [(name, r.random() < 0.4) for name in r.sample(NAMES, count)]
+    marked = r.choice([0, 0, 0.4, 1])
+    nodes = [(name, r.random() < 0.4, r.random() < marked) for name in r.sample(NAMES, count)]
     end = lambda: r.randrange(count)
     switches = [[f"s{i}", end(), end(), r.random() < 0.4] for i in range(r.choice([0, 0, 1, 2, 3, 4]))]
     branches = [[f"L{i}", end(), end(), r.random() < 0.85] for i in range(r.randint(0, 8))]
 
     def item(name, last):
-        kind = r.choice(["flow", "flow", "injection", "zero"] if branches else ["injection", "zero"])
+        kind = r.choice(["flow", "flow", "injection", "zero", "angle"] if branches else ["injection", "zero", "angle"])
         return [name, kind, r.randrange(len(branches)) if kind == "flow" else end(), last]
 
     meters = [item(f"m{i}", r.random() < 0.85) for i in range(r.randint(0, 7))]
@@ -49,6 +50,14 @@ def records_of(case):
         [[bytes_of(row[0]), row[1].encode(), at(row), str(row[3]).encode()] for row in case.candidates],
     ]
     return [[[word.encode() for word in model_reads.COLUMNS[part]], *some] for part, some in zip(FILES, rows)]
+
+
+def with_marks(r, case, records):
+    """The table of nodes with the column `absolute` at any place, where a node is marked or else by chance."""
+    if not any(row[2] for row in case.nodes) and r.random() < 0.8:
+        return records
+    at, column = r.randrange(3), [b"absolute", *(b"1" if row[2] else b"0" for row in case.nodes)]
+    return [record[:at] + [field] + record[at:] for record, field in zip(records, column)]
 
 
 def csv_of(r, records):
@@ -131,7 +140,7 @@ def items_of(r, nodes, branches):
     """Tables of meters and candidates on these."""
 
     def item(name, last):
-        kind = r.choice(["flow", "injection", "zero"] if branches else ["injection", "zero"])
+        kind = r.choice(["flow", "injection", "zero", "angle"] if branches else ["injection", "zero", "angle"])
         return [name, kind, r.randrange(len(branches if kind == "flow" else nodes)), last]
 
     meters = [item(f"m{k}", r.random() < 0.8) for k in range(5) if nodes]

@@ -17,7 +17,7 @@ import re
 import model_claims
 import model_reads
 from cases import FILES, all_bounds, bytes_of, cdf_of, csv_of, items_of, matpower_of, random_case, records_of, session_lines
-from cases import spoil_lines, spoil_records, spoilt_claims
+from cases import spoil_lines, spoil_records, spoilt_claims, with_marks
 from model_text import Text, line, session, trial
 from model_words import have_form, usage
 from runs import run_cases
@@ -34,6 +34,7 @@ def header(part):
 def given_tables(r, runs, case):
     """Writes tables, of which some are spoilt. Gives the words of the form, and a call that reads the case or raises its fault."""
     tables = records_of(case)
+    tables[0] = with_marks(r, case, tables[0])
     if r.random() < 0.4:
         tables = [spoil_records(r, some) if r.random() < 0.3 else some for some in tables]
     for name, records in zip(FILES, tables):
@@ -55,7 +56,7 @@ def given_file(r, runs, kind, case):
     try:
         nodes, branches = reader(content)
     except model_reads.Fault:
-        nodes, branches = [("1", True)], []
+        nodes, branches = [("1", True, False)], []
     tables = [spoil_records(r, some) if r.random() < 0.1 else some for some in items_of(r, nodes, branches)]
     runs.write("case", content)
     for name, records in zip(FILES[3:], tables):

@@ -125,7 +125,7 @@ def see_picture(number, folder, words, found):
 
 def see_case(r, number, folder, case):
     names = r.sample(HARD_NAMES, len(case.nodes))
-    case.nodes = [(names[k] if r.random() < 0.5 else row[0], row[1]) for k, row in enumerate(case.nodes)]
+    case.nodes = [(names[k] if r.random() < 0.5 else row[0], *row[1:]) for k, row in enumerate(case.nodes)]
     for row in case.branches:
         row[0] += r.choice(["", *HARD_NAMES])
     for name, records in zip(FILES, records_of_bytes(case)):
@@ -144,7 +144,7 @@ def see_case(r, number, folder, case):
 
 def records_of_bytes(case):
     """The records of a case whose names need not be UTF-8."""
-    plain = Case([(str(k), row[1]) for k, row in enumerate(case.nodes)], *([[f"{k}", *row[1:]] for k, row in enumerate(rows)] for rows in (
+    plain = Case([(str(k), *row[1:]) for k, row in enumerate(case.nodes)], *([[f"{k}", *row[1:]] for k, row in enumerate(rows)] for rows in (
         case.switches, case.branches, case.meters, case.candidates)))
     bytes_of = lambda rows: [row[0].encode("utf-8", "surrogateescape") for row in rows]
     nodes, branches = bytes_of(case.nodes), bytes_of(case.branches)

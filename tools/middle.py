@@ -53,7 +53,7 @@ def random_middle(r):
         r.shuffle(mark)
     second = [v for v in range(buses) if r.random() < doubled]
     count = max(12, buses + len(second))
-    nodes = [(f"n{v}", r.random() < 0.05 or v == 0) for v in range(count)]
+    nodes = [(f"n{v}", r.random() < 0.05 or v == 0, False) for v in range(count)]
     second_of = {v: buses + k for k, v in enumerate(second)}
     end = lambda v: second_of[mark[v]] if mark[v] in second_of and r.random() < 0.5 else mark[v]
     switches = [[f"s{k}", v, second_of[v], r.random() < 0.9] for k, v in enumerate(second)]

@@ -10,7 +10,7 @@ import itertools
 class Case:
     """Rows of five tables; ends and places are positions.
 
-    nodes: (name, is a source); switches and branches: [name, from, to, closed or in service];
+    nodes: (name, is a source, is marked absolute); switches and branches: [name, from, to, closed or in service];
     meters: [name, kind, at, in service]; candidates: [name, kind, at, price].
     """
 
@@ -62,7 +62,7 @@ class Network:
         self.kept = {}
 
     def touch(self, kind, at, inservice):
-        if not inservice:
+        if not inservice or kind == "angle":
             return []
         if kind == "flow":
             return [e for e in self.live_branches if e == at]

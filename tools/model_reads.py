@@ -10,7 +10,8 @@ COLUMNS = {
     "meters": ["meter", "kind", "at", "inservice"],
     "candidates": ["candidate", "kind", "at", "price"],
 }
-KINDS = [b"flow", b"injection", b"zero"]
+FURTHER = {"nodes": ["absolute"]}
+KINDS = [b"flow", b"injection", b"zero", b"angle"]
 OF_TABLES = """NoHeader ColumnMissing ColumnTwice ShortRow BadName BadFlag BadKind BadPrice NameTwice UnknownNode UnknownPlace
 TooMany""".split()
 OF_CDF = """NoBusSection BusSectionOpen NoBranchSection BranchSectionOpen BadBusNumber BadType BusTwice UnknownBus TooMany""".split()
@@ -36,12 +37,13 @@ def text_of(name):
 
 
 def fault_of_row(part, fields, seen, names):
-    """The fault of a row with the fields of the needed columns, in the order of COLUMNS, or None."""
+    """The fault of a row with the fields of the needed columns, in the order of COLUMNS, and then of a further one, or None."""
     places = names["branches"] if fields[1] == b"flow" else names["nodes"]
+    flags = fields[1:] if part == "nodes" else [] if part == "candidates" else fields[-1:]
     of_items = part in ("meters", "candidates")
     tests = [
         ("BadName", not is_name(fields[0])),
-        ("BadFlag", part != "candidates" and fields[-1] not in (b"0", b"1")),
+        ("BadFlag", any(flag not in (b"0", b"1") for flag in flags)),
         ("BadKind", of_items and fields[1] not in KINDS),
         ("BadPrice", part == "candidates" and not (whole(fields[3]) or 0) <= 10**9),
         ("BadPrice", part == "candidates" and whole(fields[3]) is None),
@@ -59,6 +61,7 @@ def read_table(part, records, names):
     columns = [word.encode() for word in COLUMNS[part]]
     if not all(column in records[0] for column in columns):
         raise Fault(part, 0, "ColumnMissing", OF_TABLES)
+    columns += [column for column in map(str.encode, FURTHER.get(part, [])) if column in records[0]]
     if any(records[0].count(column) > 1 for column in columns):
         raise Fault(part, 0, "ColumnTwice", OF_TABLES)
     places, seen, rows = [records[0].index(column) for column in columns], {}, []
@@ -74,7 +77,7 @@ def read_table(part, records, names):
         seen[fields[0]] = len(rows)
         name, last = text_of(fields[0]), fields[-1] == b"1"
         if part == "nodes":
-            rows.append((name, last))
+            rows.append((name, fields[1] == b"1", fields[2:] == [b"1"]))
         elif part in ("switches", "branches"):
             rows.append([name, names["nodes"][fields[1]], names["nodes"][fields[2]], last])
         else:
@@ -127,7 +130,7 @@ def read_cdf(content):
         if int(bus) in buses:
             raise Fault("cdf", number, "BusTwice", OF_CDF)
         buses[int(bus)] = len(nodes)
-        nodes.append((str(int(bus)), kind in (b"2", b"3")))
+        nodes.append((str(int(bus)), kind in (b"2", b"3"), False))
     for number, text in section(lines, behind, b"BRANCH DATA", "NoBranchSection", "BranchSectionOpen"):
         if number is None:
             break
@@ -190,7 +193,7 @@ def read_matpower(content):
             raise Fault("matpower", number, fault, OF_MATPOWER)
         buses[words[0]] = len(nodes)
         isolated |= {len(nodes)} if words[1] == 4 else set()
-        nodes.append((str(words[0]), words[1] in (2, 3)))
+        nodes.append((str(words[0]), words[1] in (2, 3), False))
     if not is_ended:
         raise Fault("matpower", 0, "BusTableOpen", OF_MATPOWER)
     rows, is_ended = matpower_rows(lines, b"mpc.branch", "NoBranchTable")

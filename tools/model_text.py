@@ -150,7 +150,7 @@ def session(case, offered, content, network_of=Network):
 
 def trial_case(size, seed):
     x, branches, meters = seed % 2**31, [], []
-    nodes = [(f"n{i}", i == 0) for i in range(size * size)]
+    nodes = [(f"n{i}", i == 0, False) for i in range(size * size)]
     for i in range(size * size):
         ends = ([i + 1] if i % size + 1 < size else []) + ([i + size] if i + size < size * size else [])
         branches += [[f"b{len(branches) + k}", i, end, True] for k, end in enumerate(ends)]

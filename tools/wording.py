@@ -1,6 +1,6 @@
 """How names, rows and numbers are written for people. Names are text as model_reads makes it."""
 
-KINDS = {"flow": "flow on", "injection": "injection at", "zero": "zero at"}
+KINDS = {"flow": "flow on", "injection": "injection at", "zero": "zero at", "angle": "angle at"}
 MARKS_OF_LISTS = ",;"
 
 
