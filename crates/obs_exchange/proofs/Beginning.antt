@@ -1,13 +1,17 @@
--- The sources are marked, one after the other.
-use Rattle.std.proofs.Common.{◌≡◌, ℕ, false, Option, None, List, get_or, sym, ◌∙◌, inl, inr}
+-- A search that begins, and its sources.
+use Rattle.std.proofs.Common.{◌≡◌, ℕ, zero, suc, ◌≤◌, Bool, true, false, Option, None, List, length, replicate, get_or, sym, ◌∙◌, inl, inr, arith}
 use Rattle.std.proofs.lemmas.Bool.{cases_Bool}
+use Rattle.std.proofs.lemmas.List.{length-replicate}
 use Rattle.obs_graph.specs.declared.Ends.{Ends}
 use Rattle.obs_meter.specs.declared.Touch.{Touch}
-use Rattle.obs_assign.specs.Assignment.{Assignment, IsWhole, is_frozen}
+use Rattle.obs_assign.specs.Assignment.{Assignment, IsWhole, has_flag, is_frozen}
 use Rattle.obs_assign.proofs.Slotted.{item_slot, none_some}
 use Rattle.obs_exchange.specs.declared.Sources.{Sources}
 use Rattle.obs_exchange.specs.declared.Sources.TheVariants.{All, One}
 use Rattle.obs_exchange.specs.Closed.{IsSource}
+use Rattle.obs_exchange.specs.Searching.{AreStarred, IsSearching}
+use Rattle.obs_exchange.specs.Setting.{IsSound, Setting}
+use Rattle.obs_exchange.specs.Trail.{AreFull, Trail, cleared}
 
 -- a source has no pair
 pub source_bare : (ends : List (Option Ends)) (touches : List Touch) (from : Sources) (a : Assignment) (m : ℕ) → IsSource ends touches from a m → get_or a.slots m None ≡ None
@@ -20,3 +24,41 @@ source_thawed ends touches from a m whole s = elim (cases_Bool (is_frozen a m)) 
   | inr f ↦ f
   | inl t ↦ let b = item_slot a.slots m (whole.paired.frozen_have m t) in absurd (none_some b.0 (sym (source_bare ends touches from a m s) ∙ b.1))
 ]
+
+no_flag : (n x : ℕ) → has_flag (replicate n false) x ≡ true → ⊥
+no_flag zero x t = absurd (cc t)
+no_flag (suc n) zero t = absurd (cc t)
+no_flag (suc n) (suc x) t = no_flag n x t
+
+-- before anything is reached
+pub IsSearching-start : (over : Setting) → IsSound over → (trail : Trail) → length over.touches ≤ length trail.marks → length over.graph.ends ≤ length trail.walked
+    → AreFull (cleared trail) → IsSearching over (cleared trail)
+IsSearching-start over sound trail meters branches full =
+    let marks = length-replicate (length trail.marks) false in
+    let walked = length-replicate (length trail.walked) false in
+    let p = full.parents_len in
+    let q = full.queue_len in
+    record {
+      sound = sound;
+      marks_len = omega arith;
+      parents_len = omega arith;
+      queue_len = omega arith;
+      walked_len = omega arith;
+      low = λ x t. absurd (no_flag (length trail.marks) x t);
+      thawed = λ x t. absurd (no_flag (length trail.marks) x t);
+      few = omega arith;
+      head_le = omega arith;
+      placed = λ x t. absurd (no_flag (length trail.marks) x t);
+      entries = λ k l. absurd (omega (arith, l));
+      origins = λ x t. absurd (no_flag (length trail.marks) x t);
+      in_order = λ x y p q t. absurd (no_flag (length trail.marks) x t);
+      finished = λ y q t. absurd (no_flag (length trail.marks) y t);
+      walks = λ e t. absurd (no_flag (length trail.walked) e t);
+      looked = λ k e l. absurd (omega (arith, l));
+    }
+
+pub AreStarred-start : (over : Setting) (n : ℕ) (walked : List Bool) → over.graph.vertices ≤ n → AreStarred over (replicate n false) walked
+AreStarred-start over n walked l = record {
+  room = let e = length-replicate n false in omega (arith, e, l);
+  starred = λ v t. absurd (no_flag n v t);
+}

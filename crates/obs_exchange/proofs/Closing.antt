@@ -1,6 +1,5 @@
 -- The queue of a search, as the theory has it, and the closed set that a search without an end leaves.
 use Rattle.std.proofs.Common.{◌≡◌, ℕ, ◌<◌, ◌≤◌, Bool, true, false, ◌==◌, ◌&&◌, Option, Some, None, List, length, get_or, take, refl, sym, ap, ◌∙◌, subst, inl, inr, arith, eq-eqb}
-use Rattle.std.specs.Prelude.{MatchOption}
 use Rattle.std.proofs.lemmas.Bool.{cases_lt, cases_Bool, eqb-true, and_parts, and_from}
 use Rattle.std.proofs.lemmas.List.{get_or_default, get_or_past, get_or-take, length-take-le}
 use Rattle.obs_graph.specs.declared.Ends.{Ends}
@@ -28,7 +27,9 @@ use Rattle.obs_exchange.specs.declared.Sources.{Sources}
 use Rattle.obs_exchange.specs.declared.Sources.TheVariants.{All, One}
 use Rattle.obs_exchange.specs.Closed.{HoldsSourcesAt, IsClosedAt, IsLeastClosedAt, IsSource}
 use Rattle.obs_exchange.specs.Found.{AddsSource, AreListed, HasClosed}
-use Rattle.obs_exchange.specs.Searching.{AreMarked, IsParent, IsSearching, end_of, first_of, parent_at, place_in}
+use Rattle.obs_exchange.specs.Searching.{AreMarked, HasOrigin, IsDone, IsParent, IsSearching, parent_of, place_of}
+use Rattle.obs_exchange.specs.Setting.{IsSourceIn, Setting, end_of, first_of, touched_in}
+use Rattle.obs_exchange.specs.Trail.{Trail}
 use Rattle.obs_exchange.proofs.Beginning.{source_bare}
 use Rattle.obs_exchange.proofs.Queued.{has_pair}
 use Rattle.obs_exchange.proofs.AtGraph.{bare-from_out, live_low, out-from_bare}
@@ -52,7 +53,8 @@ source_live ends touches (One k) a m s = s.1
 
 -- the sources that were looked at are all
 pub all_marked : (ends : List (Option Ends)) (touches : List Touch) (from : Sources) (a : Assignment) (marks : List Bool)
-    → AreMarked ends touches from a marks (first_of from) (end_of from (length touches)) → HoldsSourcesAt ends touches from a (has_flag marks)
+    → ((m : ℕ) → first_of from ≤ m → m < end_of from (length touches) → IsSource ends touches from a m → has_flag marks m ≡ true)
+    → HoldsSourcesAt ends touches from a (has_flag marks)
 all_marked ends touches All a marks h m s = h m (omega arith) (live_low ends touches m s.0) s
 all_marked ends touches (One k) a marks h m s = let e = s.0 in h m (omega (arith, e)) (omega (arith, e)) s
 
@@ -65,23 +67,23 @@ pair_or None = (0, 0)
 pair_or (Some p) = (p.meter, p.branch)
 
 -- whether a meter was reached by no other, and else by which move
-unfoldable pub root_at : List (Option Move) → ℕ → Bool
-root_at parents x = root_of (parent_at parents x)
+unfoldable pub root_at : Trail → ℕ → Bool
+root_at trail x = root_of (parent_of trail x)
 
-unfoldable pub pair_at : List (Option Move) → ℕ → Pair
-pair_at parents x = pair_or (parent_at parents x)
+unfoldable pub pair_at : Trail → ℕ → Pair
+pair_at trail x = pair_or (parent_of trail x)
 
-pub root_none : (parents : List (Option Move)) (x : ℕ) → parent_at parents x ≡ None → root_at parents x ≡ true
+pub root_none : (trail : Trail) (x : ℕ) → parent_of trail x ≡ None → root_at trail x ≡ true
 unfolding root_at
-root_none parents x e = ap root_of e
+root_none trail x e = ap root_of e
 
-pub root_some : (parents : List (Option Move)) (x : ℕ) (p : Move) → parent_at parents x ≡ Some p → root_at parents x ≡ false
+pub root_some : (trail : Trail) (x : ℕ) (p : Move) → parent_of trail x ≡ Some p → root_at trail x ≡ false
 unfolding root_at
-root_some parents x p e = ap root_of e
+root_some trail x p e = ap root_of e
 
-pub pair_some : (parents : List (Option Move)) (x : ℕ) (p : Move) → parent_at parents x ≡ Some p → pair_at parents x ≡ (p.meter, p.branch)
+pub pair_some : (trail : Trail) (x : ℕ) (p : Move) → parent_of trail x ≡ Some p → pair_at trail x ≡ (p.meter, p.branch)
 unfolding pair_at
-pair_some parents x p e = ap pair_or e
+pair_some trail x p e = ap pair_or e
 
 is_root : (o : Option Move) → root_of o ≡ true → o ≡ None
 is_root None t = refl
@@ -91,108 +93,106 @@ is_led : (o : Option Move) → root_of o ≡ false → (p : Move) × (o ≡ Some
 is_led None t = absurd (cc t)
 is_led (Some p) t = (p, refl)
 
-pub from_root : (parents : List (Option Move)) (x : ℕ) → root_at parents x ≡ true → parent_at parents x ≡ None
+pub from_root : (trail : Trail) (x : ℕ) → root_at trail x ≡ true → parent_of trail x ≡ None
 unfolding root_at
-from_root parents x t = is_root (parent_at parents x) t
+from_root trail x t = is_root (parent_of trail x) t
 
-pub from_led : (parents : List (Option Move)) (x : ℕ) → root_at parents x ≡ false → (p : Move) × (parent_at parents x ≡ Some p)
+pub from_led : (trail : Trail) (x : ℕ) → root_at trail x ≡ false → (p : Move) × (parent_of trail x ≡ Some p)
 unfolding root_at
-from_led parents x t = is_led (parent_at parents x) t
+from_led trail x t = is_led (parent_of trail x) t
 
-module _ (g : Graph) (touches : List Touch) (from : Sources) (a : Assignment)
-    (marks : List Bool) (parents : List (Option Move)) (queue : List ℕ) (tail head : ℕ) (walked : List Bool)
-    (s : IsSearching g.ends touches from a marks parents queue tail head walked) where
+module _ (over : Setting) (trail : Trail) (s : IsSearching over trail) where
   -- the entries of the queue are meters
-  pub tail_low : tail ≤ length touches
-  tail_low = let f = s.few in let m = count_below-le-n (has_flag marks) (length touches) in omega (arith, f, m)
+  pub tail_low : trail.tail ≤ length over.touches
+  tail_low = let f = s.few in let m = count_below-le-n (has_flag trail.marks) (length over.touches) in omega (arith, f, m)
 
-  pub origin_source : (x : ℕ) → has_flag marks x ≡ true → parent_at parents x ≡ None → IsSource g.ends touches from a x
-  origin_source x t e = subst (λ r. MatchOption r (IsSource g.ends touches from a x) (λ p. IsParent g.ends touches a marks (place_in queue tail) head x p)) e (s.origins x t)
+  pub origin_source : (x : ℕ) → has_flag trail.marks x ≡ true → parent_of trail x ≡ None → IsSourceIn over x
+  origin_source x t e = subst (HasOrigin over trail x) e (s.origins x t)
 
-  pub origin_parent : (x : ℕ) (p : Move) → has_flag marks x ≡ true → parent_at parents x ≡ Some p → IsParent g.ends touches a marks (place_in queue tail) head x p
-  origin_parent x p t e = subst (λ r. MatchOption r (IsSource g.ends touches from a x) (λ p. IsParent g.ends touches a marks (place_in queue tail) head x p)) e (s.origins x t)
+  pub origin_parent : (x : ℕ) (p : Move) → has_flag trail.marks x ≡ true → parent_of trail x ≡ Some p → IsParent over trail x p
+  origin_parent x p t e = subst (HasOrigin over trail x) e (s.origins x t)
 
-  pub IsQueue-search : IsQueue (graph_matroid g.vertices g.ends) (touch_at g.ends touches) (every_item touches) (is_frozen a) (source_test g.ends touches from) (pairs a)
-      (has_flag marks) (root_at parents) (pair_at parents) (place_in queue tail)
+  pub IsQueue-search : IsQueue (graph_matroid over.graph.vertices over.graph.ends) (touched_in over) (every_item over.touches) (is_frozen over.assignment)
+      (source_test over.graph.ends over.touches over.sources) (pairs over.assignment) (has_flag trail.marks) (root_at trail) (pair_at trail) (place_of trail)
   IsQueue-search = record {
-    inside = λ x t. (In-every touches x (s.low x t), s.thawed x t);
+    inside = λ x t. (In-every over.touches x (s.low x t), s.thawed x t);
     roots = λ x t r.
-        let o = origin_source x t (from_root parents x r) in
-        record { of_items = In-every touches x (s.low x t); is_source = source_passes g.ends touches from a x o; bare = out-from_bare a x (source_bare g.ends touches from a x o) };
+        let o = origin_source x t (from_root trail x r) in
+        record { of_items = In-every over.touches x (s.low x t); is_source = source_passes over.graph.ends over.touches over.sources over.assignment x o; bare = out-from_bare over.assignment x (source_bare over.graph.ends over.touches over.sources over.assignment x o) };
     led = λ x t r.
-        let p = from_led parents x r in
-        let e : pair_at parents x ≡ (p.0.meter, p.0.branch) = pair_some parents x p.0 p.1 in
+        let p = from_led trail x r in
+        let e : pair_at trail x ≡ (p.0.meter, p.0.branch) = pair_some trail x p.0 p.1 in
         let k = origin_parent x p.0 t p.1 in
         record { earlier = rw e k.marked; before = rw e k.before; touched = rw e k.touched; spanned = rw e k.needed.joined; on_circuit = rw e k.needed.apart };
     in_order = λ x y tx rx ty ry n.
-        let p = from_led parents x rx in
-        let q = from_led parents y ry in
-        let d : pair_at parents x ≡ (p.0.meter, p.0.branch) = pair_some parents x p.0 p.1 in
-        let e : pair_at parents y ≡ (q.0.meter, q.0.branch) = pair_some parents y q.0 q.1 in
-        let k : joins g.ends (others (pairs a) x) q.0.branch ≡ false = rw e at n in
+        let p = from_led trail x rx in
+        let q = from_led trail y ry in
+        let d : pair_at trail x ≡ (p.0.meter, p.0.branch) = pair_some trail x p.0 p.1 in
+        let e : pair_at trail y ≡ (q.0.meter, q.0.branch) = pair_some trail y q.0 q.1 in
+        let k : joins over.graph.ends (others (pairs over.assignment) x) q.0.branch ≡ false = rw e at n in
         rw (d, e) (s.in_order x y p.0 q.0 tx p.1 ty q.1 k);
   }
 
-  flag_taken : (m : ℕ) → has_flag marks m ≡ has_flag (take (length touches) marks) m
-  flag_taken m = elim (cases_lt m (length touches)) [
-    | inl l ↦ sym (get_or-take (length touches) marks m false l)
-    | inr l ↦ elim (cases_Bool (has_flag marks m)) [
+  flag_taken : (m : ℕ) → has_flag trail.marks m ≡ has_flag (take (length over.touches) trail.marks) m
+  flag_taken m = elim (cases_lt m (length over.touches)) [
+    | inl l ↦ sym (get_or-take (length over.touches) trail.marks m false l)
+    | inr l ↦ elim (cases_Bool (has_flag trail.marks m)) [
       | inl t ↦ let k = s.low m t in absurd (omega (arith, k, l))
-      | inr f ↦ f ∙ sym (get_or_past (take (length touches) marks) m false (let e = length-take-le (length touches) marks s.marks_len in omega (arith, e, l)))
+      | inr f ↦ f ∙ sym (get_or_past (take (length over.touches) trail.marks) m false (let e = length-take-le (length over.touches) trail.marks s.marks_len in omega (arith, e, l)))
     ]
   ]
 
   -- the entries of the queue
-  queue_len : length (take tail queue) ≡ tail
-  queue_len = let l = tail_low in let q = s.queue_len in length-take-le tail queue (omega (arith, l, q))
+  queue_len : length (take trail.tail trail.queue) ≡ trail.tail
+  queue_len = let l = tail_low in let q = s.queue_len in length-take-le trail.tail trail.queue (omega (arith, l, q))
 
-  entry_at : (k d : ℕ) → k < length (take tail queue) → get_or (take tail queue) k d ≡ get_or queue k 0
+  entry_at : (k d : ℕ) → k < length (take trail.tail trail.queue) → get_or (take trail.tail trail.queue) k d ≡ get_or trail.queue k 0
   entry_at k d l =
       let e = queue_len in
       let low = tail_low in
       let q = s.queue_len in
-      get_or-take tail queue k d (omega (arith, e, l)) ∙ get_or_default queue k d 0 (omega (arith, e, l, low, q))
+      get_or-take trail.tail trail.queue k d (omega (arith, e, l)) ∙ get_or_default trail.queue k d 0 (omega (arith, e, l, low, q))
 
-  place_of : (k : ℕ) → k < length (take tail queue) → place_in queue tail (get_or queue k 0) ≡ k
-  place_of k l = let e = queue_len in (s.entries k (omega (arith, e, l))).1
+  place_at : (k : ℕ) → k < length (take trail.tail trail.queue) → place_of trail (get_or trail.queue k 0) ≡ k
+  place_at k l = let e = queue_len in (s.entries k (omega (arith, e, l))).1
 
   -- the first entries of the queue are just the marked meters, each once
-  pub AreListed-queue : AreListed (take (length touches) marks) (take tail queue)
+  pub AreListed-queue : AreListed (take (length over.touches) trail.marks) (take trail.tail trail.queue)
   AreListed-queue = record {
-    once = IsDistinct-from_pairs (take tail queue) (λ i j d l m e.
-        let p = place_of i (omega (arith, l, m)) in
-        let q = place_of j m in
-        let same : get_or queue i 0 ≡ get_or queue j 0 = sym (entry_at i d (omega (arith, l, m))) ∙ (e ∙ entry_at j d m) in
-        let is : i ≡ j = sym p ∙ (ap (place_in queue tail) same ∙ q) in
+    once = IsDistinct-from_pairs (take trail.tail trail.queue) (λ i j d l m e.
+        let p = place_at i (omega (arith, l, m)) in
+        let q = place_at j m in
+        let same : get_or trail.queue i 0 ≡ get_or trail.queue j 0 = sym (entry_at i d (omega (arith, l, m))) ∙ (e ∙ entry_at j d m) in
+        let is : i ≡ j = sym p ∙ (ap (place_of trail) same ∙ q) in
         omega (arith, is, l));
     exactly = λ m. (in_queue m, from_queue m);
   }
     where
-      in_queue : (m : ℕ) → In m (take tail queue) → has_flag (take (length touches) marks) m ≡ true
+      in_queue : (m : ℕ) → In m (take trail.tail trail.queue) → has_flag (take (length over.touches) trail.marks) m ≡ true
       in_queue m i =
-          let c = Contains-from_In m (take tail queue) i in
+          let c = Contains-from_In m (take trail.tail trail.queue) i in
           let e = queue_len in
           let l = c.1 in
-          let is : get_or queue c.0 0 ≡ m = sym (entry_at c.0 m l) ∙ c.2 in
-          sym (flag_taken m) ∙ (ap (has_flag marks) (sym is) ∙ (s.entries c.0 (omega (arith, e, l))).0)
+          let is : get_or trail.queue c.0 0 ≡ m = sym (entry_at c.0 m l) ∙ c.2 in
+          sym (flag_taken m) ∙ (ap (has_flag trail.marks) (sym is) ∙ (s.entries c.0 (omega (arith, e, l))).0)
 
-      from_queue : (m : ℕ) → has_flag (take (length touches) marks) m ≡ true → In m (take tail queue)
+      from_queue : (m : ℕ) → has_flag (take (length over.touches) trail.marks) m ≡ true → In m (take trail.tail trail.queue)
       from_queue m t =
           let p = s.placed m (flag_taken m ∙ t) in
           let e = queue_len in
           let b = p.0 in
-          let l : place_in queue tail m < length (take tail queue) = omega (arith, e, b) in
-          subst (λ x. In x (take tail queue)) (entry_at (place_in queue tail m) 0 l ∙ p.1) (In-get_or (take tail queue) (place_in queue tail m) 0 l)
+          let l : place_of trail m < length (take trail.tail trail.queue) = omega (arith, e, b) in
+          subst (λ x. In x (take trail.tail trail.queue)) (entry_at (place_of trail m) 0 l ∙ p.1) (In-get_or (take trail.tail trail.queue) (place_of trail m) 0 l)
 
   -- a marked meter is live
-  pub marked_live : StandsOver a g touches → (x : ℕ) → has_flag marks x ≡ true → is_live g.ends touches x ≡ true
-  marked_live stands x t = elim (cases_Bool (root_at parents x)) [
-    | inl r ↦ source_live g.ends touches from a x (origin_source x t (from_root parents x r))
+  pub marked_live : (x : ℕ) → has_flag trail.marks x ≡ true → is_live over.graph.ends over.touches x ≡ true
+  marked_live x t = elim (cases_Bool (root_at trail x)) [
+    | inl r ↦ source_live over.graph.ends over.touches over.sources over.assignment x (origin_source x t (from_root trail x r))
     | inr n ↦
-        let p = from_led parents x n in
+        let p = from_led trail x n in
         let k = (origin_parent x p.0 t p.1).needed in
-        let b = item_slot a.slots x (has_pair g.ends (pairs a) x p.0.branch k.joined k.apart) in
-        live-from_In g.ends touches x b.0 (stands.touched x b.0 b.1)
+        let b = item_slot over.assignment.slots x (has_pair over.graph.ends (pairs over.assignment) x p.0.branch k.joined k.apart) in
+        live-from_In over.graph.ends over.touches x b.0 (s.sound.stands.touched x b.0 b.1)
   ]
 
 module _ (g : Graph) (touches : List Touch) (from : Sources) (a : Assignment) (ok : AreBranches g.vertices g.ends) (whole : IsWhole a) (stands : StandsOver a g touches) where
@@ -209,33 +209,51 @@ module _ (g : Graph) (touches : List Touch) (from : Sources) (a : Assignment) (o
       (to_matroid g.vertices g.ends touches (every_item touches) B b.assigns) whole.paired.frozen_have b.extends (to_closed S c.closed) b.keeps b.source (c.holds b.source b.is_source)
       (out-from_bare a b.source (source_bare g.ends touches from a b.source b.is_source)) b.adds
 
-  module _ (marks : List Bool) (parents : List (Option Move)) (queue : List ℕ) (tail : ℕ) (walked : List Bool)
-      (s : IsSearching g.ends touches from a marks parents queue tail tail walked) (holds : HoldsSourcesAt g.ends touches from a (has_flag marks)) where
-    walked_all : (m e : ℕ) → has_flag marks m ≡ true → In e (touch_at g.ends touches m) → has_flag walked e ≡ true
-    walked_all m e t i = let p = s.placed m t in s.looked (place_in queue tail m) e p.0 (rw p.1 i)
+-- after a search that came to its end
+module _ (over : Setting) (trail : Trail) (s : IsSearching over trail) (done : IsDone trail)
+    (marked : AreMarked over trail.marks (first_of over.sources) (end_of over.sources (length over.touches))) where
+  holds : HoldsSourcesAt over.graph.ends over.touches over.sources over.assignment (has_flag trail.marks)
+  holds = all_marked over.graph.ends over.touches over.sources over.assignment trail.marks marked
 
-    least : IsLeastClosed (graph_matroid g.vertices g.ends) (touch_at g.ends touches) (every_item touches) (is_frozen a) (source_test g.ends touches from) (pairs a) (has_flag marks)
-    least = queue_closed (graph_matroid g.vertices g.ends) (touch_at g.ends touches) (every_item touches) (is_frozen a) (source_test g.ends touches from) (pairs a)
-        (has_flag marks) (root_at parents) (pair_at parents) (place_in queue tail) (IsQueue-search g touches from a marks parents queue tail tail walked s)
-        (IsMatroid-graph g.vertices g.ends ok) (to_matroid g.vertices g.ends touches (every_item touches) (pairs a) (IsAssignmentAt-standing a g touches whole stands)) whole.paired.frozen_have
-        (to_holds (has_flag marks) holds)
-        (λ m t e i. (s.walks e (walked_all m e t i)).joined)
-        (λ m t e i x j n f. (s.walks e (walked_all m e t i)).marked x j n f)
+  walked_all : (m e : ℕ) → has_flag trail.marks m ≡ true → In e (touched_in over m) → has_flag trail.walked e ≡ true
+  walked_all m e t i =
+      let p = s.placed m t in
+      let b = p.0 in
+      s.looked (place_of trail m) e (omega (arith, b, done)) (rw p.1 i)
 
-    least_marked : IsLeastClosedAt g.ends touches from a (has_flag marks)
-    least_marked = let l = least in record {
-      closed = record {
-        live = λ m t. marked_live g touches from a marks parents queue tail tail walked s stands m t;
-        joined = λ m e t i. l.closed.spanned m e (In-every touches m (s.low m t)) t i;
-      };
-      holds = holds;
-      least = λ T c h m t. l.least T (to_closed T c) (to_holds T h) m t;
-    }
+  least : IsLeastClosed (graph_matroid over.graph.vertices over.graph.ends) (touched_in over) (every_item over.touches) (is_frozen over.assignment)
+      (source_test over.graph.ends over.touches over.sources) (pairs over.assignment) (has_flag trail.marks)
+  least =
+      let a = over.assignment in
+      let sound = s.sound in
+      queue_closed (graph_matroid over.graph.vertices over.graph.ends) (touched_in over) (every_item over.touches) (is_frozen a) (source_test over.graph.ends over.touches over.sources) (pairs a)
+      (has_flag trail.marks) (root_at trail) (pair_at trail) (place_of trail) (IsQueue-search over trail s)
+      (IsMatroid-graph over.graph.vertices over.graph.ends sound.branches)
+      (to_matroid over.graph.vertices over.graph.ends over.touches (every_item over.touches) (pairs a) (IsAssignmentAt-standing a over.graph over.touches sound.whole sound.stands))
+      sound.whole.paired.frozen_have
+      (to_holds over.graph over.touches over.sources a sound.branches sound.whole sound.stands (has_flag trail.marks) holds)
+      (λ m t e i. (s.walks e (walked_all m e t i)).joined)
+      (λ m t e i x j n f. (s.walks e (walked_all m e t i)).marked x j n f)
 
-    -- the flags of the meters are the least closed set
-    pub IsLeastClosedAt-search : IsLeastClosedAt g.ends touches from a (has_flag (take (length touches) marks))
-    IsLeastClosedAt-search = let same : has_flag marks ≡ has_flag (take (length touches) marks) = λ i m. flag_taken g touches from a marks parents queue tail tail walked s m i in
-        subst (λ S. IsLeastClosedAt g.ends touches from a S) same least_marked
+  least_marked : IsLeastClosedAt over.graph.ends over.touches over.sources over.assignment (has_flag trail.marks)
+  least_marked =
+      let l = least in
+      let sound = s.sound in
+      record {
+        closed = record {
+          live = λ m t. marked_live over trail s m t;
+          joined = λ m e t i. l.closed.spanned m e (In-every over.touches m (s.low m t)) t i;
+        };
+        holds = holds;
+        least = λ T c h m t. l.least T (to_closed over.graph over.touches over.sources over.assignment sound.branches sound.whole sound.stands T c)
+            (to_holds over.graph over.touches over.sources over.assignment sound.branches sound.whole sound.stands T h) m t;
+      }
+
+  -- the flags of the meters are the least closed set
+  pub IsLeastClosedAt-search : IsLeastClosedAt over.graph.ends over.touches over.sources over.assignment (has_flag (take (length over.touches) trail.marks))
+  IsLeastClosedAt-search =
+      let same : has_flag trail.marks ≡ has_flag (take (length over.touches) trail.marks) = λ i m. flag_taken over trail s m i in
+      subst (λ S. IsLeastClosedAt over.graph.ends over.touches over.sources over.assignment S) same least_marked
 
 -- the flags of a closed search
 pub HasClosed-flags : (g : Graph) (touches : List Touch) (from : Sources) (a : Assignment) → AreBranches g.vertices g.ends → IsWhole a → StandsOver a g touches

@@ -2,8 +2,6 @@
 use Rattle.std.proofs.Common.{◌≡◌, ℕ, ◌+◌, ◌<◌, false, Option, Some, None, List, [], ◌∷◌, length, get_or, set, refl, sym, ap, ◌∙◌, inl, inr, arith}
 use Rattle.std.proofs.lemmas.List.{get_or-set_other, get_or-set_same}
 use Rattle.obs_graph.specs.declared.Ends.{Ends}
-use Rattle.obs_graph.specs.Positions.{AreBranches}
-use Rattle.obs_graph.specs.Graph.{Graph}
 use Rattle.obs_matroid.specs.Lists.{In, other_than}
 use Rattle.obs_matroid.specs.Assignments.{branches, others, part}
 use Rattle.obs_matroid.proofs.Contained.{In-from_All}
@@ -12,16 +10,16 @@ use Rattle.obs_matroid.proofs.Pairs.{In-part_from, branches_within}
 use Rattle.obs_meter.specs.declared.Touch.{Touch}
 use Rattle.obs_meter.specs.Spanned.{ends_at}
 use Rattle.obs_assign.specs.declared.Move.{Move}
-use Rattle.obs_assign.specs.Assignment.{Assignment, IsWhole, StandsOver, branch_at, is_frozen, pairs}
+use Rattle.obs_assign.specs.Assignment.{Assignment, IsWhole, branch_at, is_frozen, pairs}
 use Rattle.obs_assign.specs.Moves.{ArePath, moved, turned}
 use Rattle.obs_assign.proofs.Free.{ArePath-one, IsAssignmentAt-free}
 use Rattle.obs_assign.proofs.Moving.{moved-some, has_some}
 use Rattle.obs_assign.proofs.Paths.{joined-less}
 use Rattle.obs_assign.proofs.Slotted.{item_slot, none_some}
 use Rattle.obs_exchange.specs.declared.Sources.{Sources}
-use Rattle.obs_exchange.specs.Closed.{IsSource}
 use Rattle.obs_exchange.specs.Found.{HasGrown}
-use Rattle.obs_exchange.specs.Searching.{BeginsAtSource, IsFreeFor, IsReady}
+use Rattle.obs_exchange.specs.Searching.{BeginsAtSource, IsFreeFor, IsReadyIn}
+use Rattle.obs_exchange.specs.Setting.{IsSound, IsSourceIn, Setting}
 use Rattle.obs_exchange.proofs.Beginning.{source_bare}
 
 -- a meter that is in no move keeps what it has
@@ -55,14 +53,17 @@ module _ (ends : List (Option Ends)) (touches : List Touch) (from : Sources) (a 
       low y i = In-from_All (λ (z : Move). z.meter < length a.slots) (x ∷ path) p.low y i
 
 -- a source takes a free branch
-pub IsReady-one : (a : Assignment) (g : Graph) (touches : List Touch) (from : Sources) (x : Move) → AreBranches g.vertices g.ends → IsWhole a → StandsOver a g touches → x.meter < length touches
-    → IsSource g.ends touches from a x.meter → IsFreeFor g.ends touches a x.meter x.branch → IsReady g.ends touches from a (x ∷ [])
-IsReady-one a g touches from x ok whole stands low source free =
-    let l : x.meter < length a.slots = let s = stands.meters in omega (arith, s, low) in
+pub IsReady-one : (over : Setting) (x : Move) → IsSound over → x.meter < length over.touches → IsSourceIn over x.meter → IsFreeFor over x.meter x.branch → IsReadyIn over (x ∷ [])
+IsReady-one over x sound low source free =
+    let a = over.assignment in
+    let g = over.graph in
+    let l : x.meter < length a.slots = let s = sound.stands.meters in omega (arith, s, low) in
     record {
-      are_path = ArePath-one a x l (source_bare g.ends touches from a x.meter source);
+      can = record {
+        are_path = ArePath-one a x l (source_bare g.ends over.touches over.sources a x.meter source);
+        assigns = IsAssignmentAt-free a g over.touches x.meter x.branch sound.branches sound.whole sound.stands l free.touched
+            (joined-less g.ends (others (pairs a) x.meter) (branches (pairs a)) (ends_at g.ends x.branch).0 (ends_at g.ends x.branch).1
+            (λ p i. branches_within (part (other_than x.meter) (pairs a)) (pairs a) (λ q j. (In-part_from (other_than x.meter) (pairs a) q j).0) p i) free.apart);
+      };
       begins = source;
-      assigns = IsAssignmentAt-free a g touches x.meter x.branch ok whole stands l free.touched
-          (joined-less g.ends (others (pairs a) x.meter) (branches (pairs a)) (ends_at g.ends x.branch).0 (ends_at g.ends x.branch).1
-          (λ p i. branches_within (part (other_than x.meter) (pairs a)) (pairs a) (λ q j. (In-part_from (other_than x.meter) (pairs a) q j).0) p i) free.apart);
     }

@@ -1,4 +1,6 @@
 pub mod Queued
+pub mod Clearing
+pub mod Trails
 pub mod Walking
 pub mod Classes
 pub mod Upward

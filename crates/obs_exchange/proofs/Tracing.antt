@@ -1,9 +1,7 @@
 -- The moves that lead back from a free branch to a source, by the parents.
-use Rattle.std.proofs.Common.{◌≡◌, ◌≢◌, ℕ, zero, suc, ◌+◌, ◌<◌, ◌≤◌, Bool, true, false, Option, Some, None, List, [], ◌∷◌, length, get_or, set, drop, map, refl, sym, ap, ◌∙◌, subst, inl, inr, ◌⊎◌, arith, add-one, length-set}
+use Rattle.std.proofs.Common.{◌≡◌, ◌≢◌, ℕ, zero, suc, ◌+◌, ◌<◌, ◌≤◌, true, false, Some, None, List, [], ◌∷◌, length, get_or, set, drop, map, refl, sym, ap, ◌∙◌, subst, inl, inr, ◌⊎◌, arith, add-one, length-set}
 use Rattle.std.specs.Prelude.{AllPairs}
 use Rattle.std.proofs.lemmas.List.{drop-set, drop_all}
-use Rattle.obs_graph.specs.Positions.{AreBranches}
-use Rattle.obs_graph.specs.Graph.{Graph}
 use Rattle.obs_matroid.specs.Lists.{In, IsDistinct, other_than}
 use Rattle.obs_matroid.specs.Assignments.{Pair, items}
 use Rattle.obs_matroid.specs.Exchange.{put, put_all}
@@ -15,21 +13,20 @@ use Rattle.obs_matroid.proofs.Order.{IsAssignment-within}
 use Rattle.obs_matroid.proofs.Pairs.{In-items, In-part_from}
 use Rattle.obs_matroid.proofs.Queue.{queue_grows, walk}
 use Rattle.obs_matroid.proofs.Slots.{IsDistinct-slots}
-use Rattle.obs_meter.specs.declared.Touch.{Touch}
 use Rattle.obs_meter.specs.Assignments.{IsAssignmentAt}
 use Rattle.obs_meter.specs.Spanned.{graph_matroid}
-use Rattle.obs_meter.specs.Touches.{every_item, touch_at}
+use Rattle.obs_meter.specs.Touches.{every_item}
 use Rattle.obs_meter.proofs.Assigned.{from_matroid, to_matroid}
 use Rattle.obs_meter.proofs.Instance.{IsMatroid-graph}
 use Rattle.obs_assign.specs.declared.Move.{Move}
-use Rattle.obs_assign.specs.Assignment.{Assignment, IsWhole, StandsOver, branch_at, has_flag, is_frozen, pairs}
+use Rattle.obs_assign.specs.Assignment.{branch_at, has_flag, is_frozen, pairs}
 use Rattle.obs_assign.specs.Moves.{IsPath, moved}
 use Rattle.obs_assign.proofs.Moving.{moved_pairs, pair_of}
 use Rattle.obs_assign.proofs.Slotted.{item_slot, none_some}
 use Rattle.obs_assign.proofs.Standing.{IsAssignmentAt-standing}
-use Rattle.obs_exchange.specs.declared.Sources.{Sources}
-use Rattle.obs_exchange.specs.Closed.{IsSource}
-use Rattle.obs_exchange.specs.Searching.{IsEnd, IsParent, IsReady, parent_at, place_in}
+use Rattle.obs_exchange.specs.Searching.{IsEnd, IsParent, IsReadyIn, parent_of, place_of}
+use Rattle.obs_exchange.specs.Setting.{IsSourceIn, Setting, touched_in}
+use Rattle.obs_exchange.specs.Trail.{Trail}
 use Rattle.obs_exchange.proofs.Beginning.{source_bare}
 use Rattle.obs_exchange.proofs.Closing.{IsQueue-search, origin_parent, origin_source, pair_at, pair_some, root_at, root_none, root_some, source_test, tail_low}
 use Rattle.obs_exchange.proofs.Queued.{has_pair}
@@ -119,38 +116,37 @@ rising_apart place (x ∷ path) r = pairs_at x path (λ y i e. let l = r.0 y i i
 pub drop_last : (path : List Move) (k : ℕ) (x : Move) → suc k ≡ length path → drop k (set path k x) ≡ x ∷ []
 drop_last path k x l = drop-set path k x (omega (arith, l)) ∙ ap (λ xs. x ∷ xs) (drop_all (k + 1) path (omega (arith, l)))
 
-module _ (g : Graph) (touches : List Touch) (from : Sources) (a : Assignment)
-    (marks : List Bool) (parents : List (Option Move)) (queue : List ℕ) (tail : ℕ) (walked : List Bool) (last : Move) where
+module _ (over : Setting) (trail : Trail) (last : Move) where
   -- the moves back from x, by the parents
   pub way : ℕ → ℕ → List Pair
-  way n x = walk (graph_matroid g.vertices g.ends) (touch_at g.ends touches) (every_item touches) (is_frozen a) (source_test g.ends touches from) (pairs a)
-      (has_flag marks) (root_at parents) (pair_at parents) (place_in queue tail) n x
+  way n x = walk (graph_matroid over.graph.vertices over.graph.ends) (touched_in over) (every_item over.touches) (is_frozen over.assignment)
+      (source_test over.graph.ends over.touches over.sources) (pairs over.assignment) (has_flag trail.marks) (root_at trail) (pair_at trail) (place_of trail) n x
 
-  way_root : (n x : ℕ) → parent_at parents x ≡ None → way (suc n) x ≡ []
+  way_root : (n x : ℕ) → parent_of trail x ≡ None → way (suc n) x ≡ []
   unfolding way walk
-  way_root n x e = rw (root_none parents x e) refl
+  way_root n x e = rw (root_none trail x e) refl
 
-  way_led : (n x : ℕ) (p : Move) → parent_at parents x ≡ Some p → way (suc n) x ≡ pair_of p ∷ way n p.meter
+  way_led : (n x : ℕ) (p : Move) → parent_of trail x ≡ Some p → way (suc n) x ≡ pair_of p ∷ way n p.meter
   unfolding way walk
-  way_led n x p e = rw (root_some parents x p e, pair_some parents x p e) refl
+  way_led n x p e = rw (root_some trail x p e, pair_some trail x p e) refl
 
   -- the path from its start on: the moves from x's to the last one
   pub record IsTracing (path : List Move) (start x : ℕ) : Type 0 where
     pub below : start < length path
-    pub marked : has_flag marks x ≡ true
+    pub marked : has_flag trail.marks x ≡ true
     pub first : Move
     pub rest : List Move
     pub is : drop start path ≡ first ∷ rest
     pub at : first.meter ≡ x
-    pub room : length path + place_in queue tail x ≤ start + place_in queue tail last.meter + 1
-    pub rises : Rises (place_in queue tail) (first ∷ rest)
-    pub marked_all : (y : Move) → In y (first ∷ rest) → has_flag marks y.meter ≡ true
-    pub led : (y : Move) → In y rest → (p : Move) × (parent_at parents y.meter ≡ Some p)
+    pub room : length path + place_of trail x ≤ start + place_of trail last.meter + 1
+    pub rises : Rises (place_of trail) (first ∷ rest)
+    pub marked_all : (y : Move) → In y (first ∷ rest) → has_flag trail.marks y.meter ≡ true
+    pub led : (y : Move) → In y rest → (p : Move) × (parent_of trail y.meter ≡ Some p)
     pub fuel : ℕ
-    pub enough : place_in queue tail x < suc fuel
-    pub back : onto (first ∷ rest) (way (suc fuel) x) ≡ pair_of last ∷ way (suc (place_in queue tail last.meter)) last.meter
+    pub enough : place_of trail x < suc fuel
+    pub back : onto (first ∷ rest) (way (suc fuel) x) ≡ pair_of last ∷ way (suc (place_of trail last.meter)) last.meter
 
-  module _ (e : IsEnd g.ends touches from a marks parents queue tail walked last) where
+  module _ (e : IsEnd over trail last) where
     pub Tracing-begin : (path : List Move) (k : ℕ) → suc k ≡ length path → IsTracing (set path k last) k last.meter
     unfolding onto Rises
     Tracing-begin path k len = let n = length-set path k last in record {
@@ -164,32 +160,33 @@ module _ (g : Graph) (touches : List Touch) (from : Sources) (a : Assignment)
       rises = ((λ y i. absurd i), tt);
       marked_all = λ y i. elim i [ inl s ↦ rw s e.marked | inr j ↦ absurd j ];
       led = λ y i. absurd i;
-      fuel = place_in queue tail last.meter;
+      fuel = place_of trail last.meter;
       enough = omega arith;
       back = refl;
     }
 
     module _ (path : List Move) (start x : ℕ) (t : IsTracing path start x) where
-      parent : (p : Move) → parent_at parents x ≡ Some p → IsParent g.ends touches a marks (place_in queue tail) e.head x p
-      parent p s = origin_parent g touches from a marks parents queue tail e.head walked e.searching x p t.marked s
+      parent : (p : Move) → parent_of trail x ≡ Some p → IsParent over trail x p
+      parent p s = origin_parent over trail e.searching x p t.marked s
 
-      longer : (p : Move) → parent_at parents x ≡ Some p → (f : ℕ) → place_in queue tail x < suc f
-          → onto (t.first ∷ t.rest) (way (suc f) x) ≡ pair_of last ∷ way (suc (place_in queue tail last.meter)) last.meter
-          → (n : ℕ) × (place_in queue tail p.meter < suc n) × (onto (p ∷ t.first ∷ t.rest) (way (suc n) p.meter) ≡ pair_of last ∷ way (suc (place_in queue tail last.meter)) last.meter)
+      longer : (p : Move) → parent_of trail x ≡ Some p → (f : ℕ) → place_of trail x < suc f
+          → onto (t.first ∷ t.rest) (way (suc f) x) ≡ pair_of last ∷ way (suc (place_of trail last.meter)) last.meter
+          → (n : ℕ) × (place_of trail p.meter < suc n) × (onto (p ∷ t.first ∷ t.rest) (way (suc n) p.meter) ≡ pair_of last ∷ way (suc (place_of trail last.meter)) last.meter)
       unfolding onto
       longer p s zero l h = let b = (parent p s).before in absurd (omega (arith, b, l))
       longer p s (suc n) l h = let b = (parent p s).before in (n, omega (arith, b, l), sym (ap (onto (t.first ∷ t.rest)) (way_led (suc n) x p s)) ∙ h)
 
       -- there is room for another move
-      pub Tracing-room : length touches ≤ length path → (p : Move) → parent_at parents x ≡ Some p → 0 < start
+      pub Tracing-room : length trail.marks ≤ length path → (p : Move) → parent_of trail x ≡ Some p → 0 < start
       Tracing-room l p s =
           let b = (parent p s).before in
-          let low = tail_low g touches from a marks parents queue tail e.head walked e.searching in
+          let low = tail_low over trail e.searching in
           let pl = (e.searching.placed last.meter e.marked).0 in
           let r = t.room in
-          omega (arith, b, low, pl, r, l)
+          let k = e.searching.marks_len in
+          omega (arith, b, low, pl, r, l, k)
 
-      pub Tracing-more : (p : Move) → parent_at parents x ≡ Some p → (k : ℕ) → suc k ≡ start → IsTracing (set path k p) k p.meter
+      pub Tracing-more : (p : Move) → parent_of trail x ≡ Some p → (k : ℕ) → suc k ≡ start → IsTracing (set path k p) k p.meter
       unfolding onto Rises
       Tracing-more p s k is =
           let b = (parent p s).before in
@@ -209,58 +206,60 @@ module _ (g : Graph) (touches : List Touch) (from : Sources) (a : Assignment)
             room = omega (arith, b, r, n, is);
             rises = (
               (λ y i. elim i [
-                | inl q ↦ let f : place_in queue tail y.meter ≡ place_in queue tail x = ap (place_in queue tail) (ap (λ (z : Move). z.meter) q ∙ t.at) in omega (arith, f, b)
-                | inr j ↦ let f : place_in queue tail t.first.meter ≡ place_in queue tail x = ap (place_in queue tail) t.at in let l = t.rises.0 y j in omega (arith, f, b, l)
+                | inl q ↦ let f : place_of trail y.meter ≡ place_of trail x = ap (place_of trail) (ap (λ (z : Move). z.meter) q ∙ t.at) in omega (arith, f, b)
+                | inr j ↦ let f : place_of trail t.first.meter ≡ place_of trail x = ap (place_of trail) t.at in let l = t.rises.0 y j in omega (arith, f, b, l)
               ]),
               t.rises,
             );
             marked_all = λ y i. elim i [ inl q ↦ rw q (parent p s).marked | inr j ↦ t.marked_all y j ];
-            led = λ y i. elim i [ inl q ↦ (p, ap (parent_at parents) (ap (λ (z : Move). z.meter) q ∙ t.at) ∙ s) | inr j ↦ t.led y j ];
+            led = λ y i. elim i [ inl q ↦ (p, ap (parent_of trail) (ap (λ (z : Move). z.meter) q ∙ t.at) ∙ s) | inr j ↦ t.led y j ];
             fuel = f.0;
             enough = f.1;
             back = f.2;
           }
 
-      module _ (ok : AreBranches g.vertices g.ends) (whole : IsWhole a) (stands : StandsOver a g touches) (root : parent_at parents x ≡ None) where
-        all_back : onto (t.first ∷ t.rest) [] ≡ pair_of last ∷ way (suc (place_in queue tail last.meter)) last.meter
+      module _ (root : parent_of trail x ≡ None) where
+        all_back : onto (t.first ∷ t.rest) [] ≡ pair_of last ∷ way (suc (place_of trail last.meter)) last.meter
         all_back = sym (ap (onto (t.first ∷ t.rest)) (way_root t.fuel x root)) ∙ t.back
 
-        source : IsSource g.ends touches from a t.first.meter
-        source = rw t.at (origin_source g touches from a marks parents queue tail e.head walked e.searching x t.marked root)
+        source : IsSourceIn over t.first.meter
+        source = rw t.at (origin_source over trail e.searching x t.marked root)
 
-        low_all : (y : Move) → In y (t.first ∷ t.rest) → y.meter < length a.slots
-        low_all y i = let l = e.searching.low y.meter (t.marked_all y i) in let s = stands.meters in omega (arith, l, s)
+        low_all : (y : Move) → In y (t.first ∷ t.rest) → y.meter < length over.assignment.slots
+        low_all y i = let l = e.searching.low y.meter (t.marked_all y i) in let s = e.searching.sound.stands.meters in omega (arith, l, s)
 
-        paired : (y : Move) → In y t.rest → branch_at a y.meter ≡ None → ⊥
+        paired : (y : Move) → In y t.rest → branch_at over.assignment y.meter ≡ None → ⊥
         paired y i b =
             let p = t.led y i in
-            let k = (origin_parent g touches from a marks parents queue tail e.head walked e.searching y.meter p.0 (t.marked_all y (inr i)) p.1).needed in
-            let h = item_slot a.slots y.meter (has_pair g.ends (pairs a) y.meter p.0.branch k.joined k.apart) in
+            let k = (origin_parent over trail e.searching y.meter p.0 (t.marked_all y (inr i)) p.1).needed in
+            let h = item_slot over.assignment.slots y.meter (has_pair over.graph.ends (pairs over.assignment) y.meter p.0.branch k.joined k.apart) in
             none_some h.0 (sym b ∙ h.1)
 
-        is_path : IsPath a t.first t.rest
+        is_path : IsPath over.assignment t.first t.rest
         is_path = record {
-          low = All-from_In (λ (y : Move). y.meter < length a.slots) (t.first ∷ t.rest) low_all;
-          bare = source_bare g.ends touches from a t.first.meter source;
-          paired = All-from_In (λ (y : Move). branch_at a y.meter ≢ None) t.rest paired;
-          thawed = All-from_In (λ (y : Move). is_frozen a y.meter ≡ false) t.rest (λ y i. e.searching.thawed y.meter (t.marked_all y (inr i)));
-          different = rising_apart (place_in queue tail) (t.first ∷ t.rest) t.rises;
+          low = All-from_In (λ (y : Move). y.meter < length over.assignment.slots) (t.first ∷ t.rest) low_all;
+          bare = source_bare over.graph.ends over.touches over.sources over.assignment t.first.meter source;
+          paired = All-from_In (λ (y : Move). branch_at over.assignment y.meter ≢ None) t.rest paired;
+          thawed = All-from_In (λ (y : Move). is_frozen over.assignment y.meter ≡ false) t.rest (λ y i. e.searching.thawed y.meter (t.marked_all y (inr i)));
+          different = rising_apart (place_of trail) (t.first ∷ t.rest) t.rises;
         }
 
-        assigns : IsAssignmentAt g.ends touches (every_item touches) (pairs_of (moved (t.first ∷ t.rest) a.slots))
+        assigns : IsAssignmentAt over.graph.ends over.touches (every_item over.touches) (pairs_of (moved (t.first ∷ t.rest) over.assignment.slots))
         unfolding way
         assigns =
-            let mat = graph_matroid g.vertices g.ends in
-            let laws = IsMatroid-graph g.vertices g.ends ok in
-            let M = every_item touches in
-            let A = to_matroid g.vertices g.ends touches M (pairs a) (IsAssignmentAt-standing a g touches whole stands) in
-            let grown = queue_grows mat (touch_at g.ends touches) M (is_frozen a) (source_test g.ends touches from) (pairs a) (has_flag marks) (root_at parents) (pair_at parents) (place_in queue tail)
-            (IsQueue-search g touches from a marks parents queue tail e.head walked e.searching) laws A whole.paired.frozen_have last.meter last.branch e.marked e.free.touched e.free.apart in
-            from_matroid g.vertices g.ends touches M (pairs_of (moved (t.first ∷ t.rest) a.slots))
-            (IsAssignment-within mat laws (touch_at g.ends touches) M (put_all (pair_of last ∷ way (suc (place_in queue tail last.meter)) last.meter) (pairs a)) (pairs_of (moved (t.first ∷ t.rest) a.slots))
+            let mat = graph_matroid over.graph.vertices over.graph.ends in
+            let sound = e.searching.sound in
+            let a = over.assignment in
+            let laws = IsMatroid-graph over.graph.vertices over.graph.ends sound.branches in
+            let M = every_item over.touches in
+            let A = to_matroid over.graph.vertices over.graph.ends over.touches M (pairs a) (IsAssignmentAt-standing a over.graph over.touches sound.whole sound.stands) in
+            let grown = queue_grows mat (touched_in over) M (is_frozen a) (source_test over.graph.ends over.touches over.sources) (pairs a) (has_flag trail.marks) (root_at trail) (pair_at trail) (place_of trail)
+            (IsQueue-search over trail e.searching) laws A sound.whole.paired.frozen_have last.meter last.branch e.marked e.free.touched e.free.apart in
+            from_matroid over.graph.vertices over.graph.ends over.touches M (pairs_of (moved (t.first ∷ t.rest) a.slots))
+            (IsAssignment-within mat laws (touched_in over) M (put_all (pair_of last ∷ way (suc (place_of trail last.meter)) last.meter) (pairs a)) (pairs_of (moved (t.first ∷ t.rest) a.slots))
             grown.assigns (IsDistinct-slots (moved (t.first ∷ t.rest) a.slots))
             (λ q i. subst (λ P. In q (put_all P (pairs a))) all_back
-            (reversed (t.first ∷ t.rest) (pairs a) q (rising_distinct (place_in queue tail) (t.first ∷ t.rest) t.rises) ((moved_pairs (t.first ∷ t.rest) a.slots low_all q).0 i))))
+            (reversed (t.first ∷ t.rest) (pairs a) q (rising_distinct (place_of trail) (t.first ∷ t.rest) t.rises) ((moved_pairs (t.first ∷ t.rest) a.slots low_all q).0 i))))
 
-        pub Tracing-end : IsReady g.ends touches from a (drop start path)
-        Tracing-end = subst (IsReady g.ends touches from a) (sym t.is) (record { are_path = is_path; begins = source; assigns = assigns })
+        pub Tracing-end : IsReadyIn over (drop start path)
+        Tracing-end = subst (IsReadyIn over) (sym t.is) (record { can = record { are_path = is_path; assigns = assigns }; begins = source })

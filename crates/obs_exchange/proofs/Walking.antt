@@ -13,7 +13,7 @@ use Rattle.obs_graph.proofs.Forests.{same_first-among}
 use Rattle.obs_graph.proofs.IsJoined.{same-from_true, apart-from_false, false-from_apart}
 use Rattle.obs_graph.proofs.Present.{present_contains, present_low}
 use Rattle.obs_matroid.specs.Lists.{In, other_than}
-use Rattle.obs_matroid.specs.Assignments.{branches, others, part}
+use Rattle.obs_matroid.specs.Assignments.{branches, items, others, part}
 use Rattle.obs_matroid.proofs.Lists.{clash, other_true, other_ne}
 use Rattle.obs_matroid.proofs.Pairs.{In-branches, In-branches_from, In-part, In-part_from}
 use Rattle.obs_matroid.proofs.Contained.{Contains-from_In, In-from_Contains}
@@ -30,7 +30,6 @@ use Rattle.obs_assign.specs.Assignment.{Assignment, IsWhole, StandsOver, branch_
 use Rattle.obs_assign.specs.Pins.{joins}
 use Rattle.obs_assign.proofs.Paths.{apart-pairs, apart_ends, ends_are, held_at, joined-pairs, joins-from}
 use Rattle.obs_assign.proofs.Slotted.{branch_slot, item_slot, slot_branch, slots_apart, some_same}
-use Rattle.obs_exchange.specs.Searching.{IsNeededOf, IsWalked}
 use Rattle.obs_exchange.proofs.Queued.{eqb_false}
 
 module _ (a : Assignment) (g : Graph) (touches : List Touch) (whole : IsWhole a) (stands : StandsOver a g touches) where
@@ -69,12 +68,9 @@ module _ (a : Assignment) (g : Graph) (touches : List Touch) (whole : IsWhole a)
 
     -- a meter is needed for e where the held branches without its own don't join the ends of e
     pub apart_needed : (x p : ℕ) → branch_at a x ≡ Some p → (first_joined (present (without a.forest.held p)) u.a ≡ first_joined (present (without a.forest.held p)) u.b → ⊥)
-        → IsNeededOf g.ends a x e
-    apart_needed x p h apart = record {
-      joined = joined;
-      apart = apart_ends g.ends (others (pairs a) x) e u is (false-from_apart (ends_of g.ends (others (pairs a) x)) u.a u.b (λ same.
-          apart (same_first-among (ends_of g.ends (others (pairs a) x)) (present (without a.forest.held p)) (other_held x p h) u.a u.b same)));
-    }
+        → joins g.ends (others (pairs a) x) e ≡ false
+    apart_needed x p h apart = apart_ends g.ends (others (pairs a) x) e u is (false-from_apart (ends_of g.ends (others (pairs a) x)) u.a u.b (λ same.
+        apart (same_first-among (ends_of g.ends (others (pairs a) x)) (present (without a.forest.held p)) (other_held x p h) u.a u.b same)))
 
     apart_at : (L : List ℕ) → joins g.ends L e ≡ false → is_joined (ends_of g.ends L) u.a u.b ≡ false
     apart_at L n = let m : joined_at g.ends L (ends_at g.ends e).0 (ends_at g.ends e).1 ≡ false = n in rw (ends_are g.ends e u is) at m
@@ -83,17 +79,14 @@ module _ (a : Assignment) (g : Graph) (touches : List Touch) (whole : IsWhole a)
     pub all_walked : (marks : List Bool)
         → ((x p : ℕ) → branch_at a x ≡ Some p → is_frozen a x ≡ false
         → (has_flag marks x ≡ true) ⊎ (first_joined (present (without a.forest.held p)) u.a ≡ first_joined (present (without a.forest.held p)) u.b))
-        → IsWalked g.ends a marks e
-    all_walked marks all = record {
-      joined = joined;
-      marked = λ x i n f.
-          let b = item_slot a.slots x i in
-          elim (all x b.0 b.1 f) [
-            | inl t ↦ t
-            | inr same ↦ absurd (apart-from_false (ends_of g.ends (others (pairs a) x)) u.a u.b (apart_at (others (pairs a) x) n)
-                (same_first-among (present (without a.forest.held b.0)) (ends_of g.ends (others (pairs a) x)) (held_other x b.0 b.1) u.a u.b same))
-          ];
-    }
+        → (x : ℕ) → In x (items (pairs a)) → joins g.ends (others (pairs a) x) e ≡ false → is_frozen a x ≡ false → has_flag marks x ≡ true
+    all_walked marks all x i n f =
+        let b = item_slot a.slots x i in
+        elim (all x b.0 b.1 f) [
+          | inl t ↦ t
+          | inr same ↦ absurd (apart-from_false (ends_of g.ends (others (pairs a) x)) u.a u.b (apart_at (others (pairs a) x) n)
+              (same_first-among (present (without a.forest.held b.0)) (ends_of g.ends (others (pairs a) x)) (held_other x b.0 b.1) u.a u.b same))
+        ]
 
 -- whether a branch is free, by the pieces of its ends
 pub free_is : (a : Assignment) (ends : List (Option Ends)) (e : ℕ) (u : Ends) (p q : ℕ) → IsWhole a → IsPart a.forest.held ends → get_or ends e None ≡ Some u

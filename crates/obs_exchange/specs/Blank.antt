@@ -1,12 +1,11 @@
 -- What the arrays of a search are set to before it begins.
 use Rattle.std.specs.Prelude.{◌≡◌, ℕ, ◌≤◌, ◌<◌, Bool, false, List, length, replicate, slice_index}
 
--- no flag, for as many meters, branches or vertices; and for each vertex its number, and a count
-pub record AreBlank (meters branches vertices : ℕ) (flags : List Bool) (numbers counts : List ℕ) : Type 0 where
-  pub meters_le : meters ≤ length flags
-  pub branches_le : branches ≤ length flags
-  pub vertices_le : vertices ≤ length flags
+-- no flag, for so many and more
+pub record AreClear (n : ℕ) (flags : List Bool) : Type 0 where
+  pub enough : n ≤ length flags
   pub clear : flags ≡ replicate (length flags) false
-  pub numbers_len : length numbers ≡ vertices
-  pub own : (v : ℕ) → v < length numbers → slice_index numbers v ≡ v
-  pub counts_len : length counts ≡ vertices
+
+-- the vertices, by number
+abbrev pub AreNumbers : List ℕ → Type 0
+AreNumbers numbers = (v : ℕ) → v < length numbers → slice_index numbers v ≡ v

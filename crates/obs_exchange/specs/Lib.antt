@@ -2,6 +2,8 @@ pub mod Closed
 pub mod Found
 pub mod Lengthened
 pub mod Noting
+pub mod Setting
+pub mod Trail
 pub mod Searching
 pub mod Classes
 pub mod Critical

@@ -4,8 +4,8 @@ use Rattle.obs_graph.specs.declared.Ends.{Ends}
 use Rattle.obs_meter.specs.declared.Touch.{Touch}
 use Rattle.obs_assign.specs.Assignment.{Assignment, has_flag}
 use Rattle.obs_exchange.specs.declared.Sources.{Sources}
-use Rattle.obs_exchange.specs.declared.Sources.TheVariants.{All}
 use Rattle.obs_exchange.specs.Closed.{IsSource}
+use Rattle.obs_exchange.specs.Setting.{IsSourceIn, Setting}
 
 -- all meters are noted, or those whose flag is set
 pub record Noted : Type 0 where
@@ -19,9 +19,14 @@ is_noted n m = n.all || has_flag n.flags m
 abbrev pub AreNoted : List (Option Ends) → List Touch → Sources → Assignment → Noted → Type 0
 AreNoted ends touches from a n = (m : ℕ) → IsSource ends touches from a m → is_noted n m ≡ true
 
--- the live meters without a pair below a limit have their flags
-abbrev pub HasFlags : List (Option Ends) → List Touch → Assignment → List Bool → ℕ → Type 0
-HasFlags ends touches a flags limit = (m : ℕ) → m < limit → IsSource ends touches All a m → has_flag flags m ≡ true
+-- each source of a search is noted, and there is room for its meters
+pub record AreNotedIn (over : Setting) (n : Noted) : Type 0 where
+  pub room : length over.touches ≤ length n.flags
+  pub noted : AreNoted over.graph.ends over.touches over.sources over.assignment n
+
+-- the sources below a limit have their flags
+abbrev pub HasFlags : Setting → List Bool → ℕ → Type 0
+HasFlags over flags limit = (m : ℕ) → m < limit → IsSourceIn over m → has_flag flags m ≡ true
 
 -- the meters stand in blocks of 64, and a block with a flag has its own flag
 pub record AreBlocks (flags blocks : List Bool) : Type 0 where

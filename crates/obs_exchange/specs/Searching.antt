@@ -1,122 +1,147 @@
--- What the arrays of a search say while it runs. It marks meters and puts them into a queue; the meter at its head looks at
--- the branches that it touches. A parent is the move by which a meter was reached: another meter, with a branch that it may
+-- What a search knows while it runs. It marks meters and puts them into a queue; the meter at its head looks at the
+-- branches that it touches. A parent is the move by which a meter was reached: another meter, with a branch that it may
 -- take once the reached meter has moved away from its own.
 use Rattle.std.specs.Prelude.{◌≡◌, ◌⊎◌, ℕ, zero, suc, ◌<◌, ◌≤◌, ◌==◌, Bool, true, false, if◌then◌else◌, Option, Some, None, MatchOption, List, [], ◌∷◌, length, slice_index, slice_index_or}
 use Rattle.obs_graph.specs.declared.Ends.{Ends}
 use Rattle.obs_graph.specs.Joined.{count_below}
 use Rattle.obs_graph.specs.Positions.{branches_at}
 use Rattle.obs_matroid.specs.Lists.{In}
-use Rattle.obs_matroid.specs.Assignments.{branches, items, others}
+use Rattle.obs_matroid.specs.Assignments.{items, others}
 use Rattle.obs_matroid.specs.Slots.{pairs_of}
 use Rattle.obs_meter.specs.declared.Touch.{Touch}
 use Rattle.obs_meter.specs.Assignments.{IsAssignmentAt}
-use Rattle.obs_meter.specs.Touches.{every_item, touch_at}
+use Rattle.obs_meter.specs.Touches.{every_item}
 use Rattle.obs_assign.specs.declared.Move.{Move}
 use Rattle.obs_assign.specs.Assignment.{Assignment, has_flag, is_frozen, pairs}
 use Rattle.obs_assign.specs.Moves.{ArePath, moved}
 use Rattle.obs_assign.specs.Pins.{joins}
 use Rattle.obs_exchange.specs.declared.Sources.{Sources}
-use Rattle.obs_exchange.specs.declared.Sources.TheVariants.{All, One}
 use Rattle.obs_exchange.specs.Closed.{IsSource}
-
--- the first meter that may be a source, and the one after the last; there are n meters
-abbrev pub first_of : Sources → ℕ
-first_of All = 0
-first_of (One m) = m
-
-abbrev pub end_of : Sources → ℕ → ℕ
-end_of All n = n
-end_of (One m) n = suc m
+use Rattle.obs_exchange.specs.Classes.{AreClasses}
+use Rattle.obs_exchange.specs.Setting.{IsSound, IsSourceIn, Setting, is_joined_in, touched_in}
+use Rattle.obs_exchange.specs.Trail.{Trail}
 
 -- the place of x among the first entries of the queue, the last one that has it; 0 where none has
 abbrev pub place_in : List ℕ → ℕ → ℕ → ℕ
 place_in queue zero x = 0
 place_in queue (suc t) x = if slice_index queue t == x then t else place_in queue t x
 
+-- the place of the meter in the queue
+abbrev pub place_of : Trail → ℕ → ℕ
+place_of trail x = place_in trail.queue trail.tail x
+
 -- the move by which a meter was reached, or none
-abbrev pub parent_at : List (Option Move) → ℕ → Option Move
-parent_at parents x = slice_index_or parents x None
+abbrev pub parent_of : Trail → ℕ → Option Move
+parent_of trail x = slice_index_or trail.parents x None
 
 -- the branches of all pairs join the ends of e, and those of the pairs without x's do not
-pub record IsNeededOf (ends : List (Option Ends)) (a : Assignment) (x e : ℕ) : Type 0 where
-  pub joined : joins ends (branches (pairs a)) e ≡ true
-  pub apart : joins ends (others (pairs a) x) e ≡ false
-
--- each flag that is set in the one list is set in the other
-abbrev pub Keeps : List Bool → List Bool → Type 0
-Keeps before after = (k : ℕ) → has_flag before k ≡ true → has_flag after k ≡ true
+pub record IsNeededOf (over : Setting) (x e : ℕ) : Type 0 where
+  pub joined : is_joined_in over e ≡ true
+  pub apart : joins over.graph.ends (others (pairs over.assignment) x) e ≡ false
 
 -- the parent p of x: a marked meter before x in the queue and not behind the head, with a branch that it touches and
 -- that needs x's pair
-pub record IsParent (ends : List (Option Ends)) (touches : List Touch) (a : Assignment) (marks : List Bool) (place : ℕ → ℕ) (head x : ℕ) (p : Move) : Type 0 where
-  pub marked : has_flag marks p.meter ≡ true
-  pub before : place p.meter < place x
-  pub near : place p.meter ≤ head
-  pub touched : In p.branch (touch_at ends touches p.meter)
-  pub needed : IsNeededOf ends a x p.branch
+pub record IsParent (over : Setting) (trail : Trail) (x : ℕ) (p : Move) : Type 0 where
+  pub marked : has_flag trail.marks p.meter ≡ true
+  pub before : place_of trail p.meter < place_of trail x
+  pub near : place_of trail p.meter ≤ trail.head
+  pub touched : In p.branch (touched_in over p.meter)
+  pub needed : IsNeededOf over x p.branch
+
+-- a marked meter is a source, or was reached by its parent
+abbrev pub HasOrigin : Setting → Trail → ℕ → Option Move → Type 0
+HasOrigin over trail x o = MatchOption o (IsSourceIn over x) (IsParent over trail x)
 
 -- the branch was walked: the branches of the pairs join its ends, and each meter whose pair it needs is marked or frozen
-pub record IsWalked (ends : List (Option Ends)) (a : Assignment) (marks : List Bool) (e : ℕ) : Type 0 where
-  pub joined : joins ends (branches (pairs a)) e ≡ true
-  pub marked : (x : ℕ) → In x (items (pairs a)) → joins ends (others (pairs a) x) e ≡ false → is_frozen a x ≡ false → has_flag marks x ≡ true
+pub record IsWalked (over : Setting) (marks : List Bool) (e : ℕ) : Type 0 where
+  pub joined : is_joined_in over e ≡ true
+  pub marked : (x : ℕ) → In x (items (pairs over.assignment))
+      → joins over.graph.ends (others (pairs over.assignment) x) e ≡ false
+      → is_frozen over.assignment x ≡ false → has_flag marks x ≡ true
 
 -- while a search runs: the queue has the marked meters, each once, and its entries before the head have walked all branches
 -- that they touch
-pub record IsSearching (ends : List (Option Ends)) (touches : List Touch) (from : Sources) (a : Assignment)
-    (marks : List Bool) (parents : List (Option Move)) (queue : List ℕ) (tail head : ℕ) (walked : List Bool) : Type 0 where
-  pub marks_len : length touches ≤ length marks
-  pub parents_len : length touches ≤ length parents
-  pub queue_len : length touches ≤ length queue
-  pub low : (x : ℕ) → has_flag marks x ≡ true → x < length touches
-  pub thawed : (x : ℕ) → has_flag marks x ≡ true → is_frozen a x ≡ false
-  pub few : tail ≤ count_below (has_flag marks) (length touches)
-  pub head_le : head ≤ tail
-  pub placed : (x : ℕ) → has_flag marks x ≡ true → (place_in queue tail x < tail) × (slice_index queue (place_in queue tail x) ≡ x)
-  pub entries : (k : ℕ) → k < tail → (has_flag marks (slice_index queue k) ≡ true) × (place_in queue tail (slice_index queue k) ≡ k)
-  pub origins : (x : ℕ) → has_flag marks x ≡ true
-      → MatchOption (parent_at parents x) (IsSource ends touches from a x) (λ p. IsParent ends touches a marks (place_in queue tail) head x p)
-  pub in_order : (x y : ℕ) (p q : Move) → has_flag marks x ≡ true → parent_at parents x ≡ Some p → has_flag marks y ≡ true → parent_at parents y ≡ Some q
-      → joins ends (others (pairs a) x) q.branch ≡ false → place_in queue tail p.meter ≤ place_in queue tail q.meter
-  pub finished : (y : ℕ) (q : Move) → has_flag marks y ≡ true → parent_at parents y ≡ Some q
-      → (has_flag walked q.branch ≡ true) ⊎ (place_in queue tail q.meter ≡ head)
-  pub walks : (e : ℕ) → has_flag walked e ≡ true → IsWalked ends a marks e
-  pub looked : (k e : ℕ) → k < head → In e (touch_at ends touches (slice_index queue k)) → has_flag walked e ≡ true
+pub record IsSearching (over : Setting) (trail : Trail) : Type 0 where
+  pub sound : IsSound over
+  pub marks_len : length over.touches ≤ length trail.marks
+  pub parents_len : length over.touches ≤ length trail.parents
+  pub queue_len : length over.touches ≤ length trail.queue
+  pub walked_len : length over.graph.ends ≤ length trail.walked
+  pub low : (x : ℕ) → has_flag trail.marks x ≡ true → x < length over.touches
+  pub thawed : (x : ℕ) → has_flag trail.marks x ≡ true → is_frozen over.assignment x ≡ false
+  pub few : trail.tail ≤ count_below (has_flag trail.marks) (length over.touches)
+  pub head_le : trail.head ≤ trail.tail
+  pub placed : (x : ℕ) → has_flag trail.marks x ≡ true
+      → (place_of trail x < trail.tail) × (slice_index trail.queue (place_of trail x) ≡ x)
+  pub entries : (k : ℕ) → k < trail.tail
+      → (has_flag trail.marks (slice_index trail.queue k) ≡ true) × (place_of trail (slice_index trail.queue k) ≡ k)
+  pub origins : (x : ℕ) → has_flag trail.marks x ≡ true → HasOrigin over trail x (parent_of trail x)
+  pub in_order : (x y : ℕ) (p q : Move) → has_flag trail.marks x ≡ true → parent_of trail x ≡ Some p
+      → has_flag trail.marks y ≡ true → parent_of trail y ≡ Some q
+      → joins over.graph.ends (others (pairs over.assignment) x) q.branch ≡ false
+      → place_of trail p.meter ≤ place_of trail q.meter
+  pub finished : (y : ℕ) (q : Move) → has_flag trail.marks y ≡ true → parent_of trail y ≡ Some q
+      → (has_flag trail.walked q.branch ≡ true) ⊎ (place_of trail q.meter ≡ trail.head)
+  pub walks : (e : ℕ) → has_flag trail.walked e ≡ true → IsWalked over trail.marks e
+  pub looked : (k e : ℕ) → k < trail.head → In e (touched_in over (slice_index trail.queue k))
+      → has_flag trail.walked e ≡ true
 
 -- while the meter m at the head looks at its branches
-pub record IsVisiting (ends : List (Option Ends)) (touches : List Touch) (from : Sources) (a : Assignment)
-    (marks : List Bool) (parents : List (Option Move)) (queue : List ℕ) (tail head : ℕ) (walked : List Bool) (m : ℕ) : Type 0 where
-  pub searching : IsSearching ends touches from a marks parents queue tail head walked
-  pub below : head < tail
-  pub at_head : slice_index queue head ≡ m
+pub record IsVisiting (over : Setting) (trail : Trail) (m : ℕ) : Type 0 where
+  pub searching : IsSearching over trail
+  pub below : trail.head < trail.tail
+  pub at_head : slice_index trail.queue trail.head ≡ m
+
+-- nothing waits in the queue
+abbrev pub IsDone : Trail → Type 0
+IsDone trail = trail.head ≡ trail.tail
+
+-- all branches that the meter touches were walked
+abbrev pub AreWalkedOf : Setting → List Bool → ℕ → Type 0
+AreWalkedOf over walked m = (e : ℕ) → In e (touched_in over m) → has_flag walked e ≡ true
 
 -- the branches at a vertex whose flag is set were walked
-abbrev pub AreStarred : List (Option Ends) → List Bool → List Bool → Type 0
-AreStarred ends stars walked = (v : ℕ) → has_flag stars v ≡ true → (e : ℕ) → In e (branches_at ends v) → has_flag walked e ≡ true
+pub record AreStarred (over : Setting) (stars walked : List Bool) : Type 0 where
+  pub room : over.graph.vertices ≤ length stars
+  pub starred : (v : ℕ) → has_flag stars v ≡ true → (e : ℕ) → In e (branches_at over.graph.ends v)
+      → has_flag walked e ≡ true
+
+-- while a search runs, with what it knows of the vertices
+pub record IsRunning (over : Setting) (trail : Trail) (stars : List Bool) (tops : List ℕ) : Type 0 where
+  pub searching : IsSearching over trail
+  pub starred : AreStarred over stars trail.walked
+  pub classes : AreClasses over trail.marks tops
 
 -- the sources from one meter on, below a limit, are marked
-abbrev pub AreMarked : List (Option Ends) → List Touch → Sources → Assignment → List Bool → ℕ → ℕ → Type 0
-AreMarked ends touches from a marks first limit = (m : ℕ) → first ≤ m → m < limit → IsSource ends touches from a m → has_flag marks m ≡ true
+abbrev pub AreMarked : Setting → List Bool → ℕ → ℕ → Type 0
+AreMarked over marks first limit = (m : ℕ) → first ≤ m → m < limit → IsSourceIn over m → has_flag marks m ≡ true
 
 -- the meter may take the branch, which it touches: the branches of the pairs do not join its ends
-pub record IsFreeFor (ends : List (Option Ends)) (touches : List Touch) (a : Assignment) (m e : ℕ) : Type 0 where
-  pub touched : In e (touch_at ends touches m)
-  pub apart : joins ends (branches (pairs a)) e ≡ false
+pub record IsFreeFor (over : Setting) (m e : ℕ) : Type 0 where
+  pub touched : In e (touched_in over m)
+  pub apart : is_joined_in over e ≡ false
 
 -- the search came upon a free branch of a marked meter
-pub record IsEnd (ends : List (Option Ends)) (touches : List Touch) (from : Sources) (a : Assignment)
-    (marks : List Bool) (parents : List (Option Move)) (queue : List ℕ) (tail : ℕ) (walked : List Bool) (x : Move) : Type 0 where
-  pub head : ℕ
-  pub searching : IsSearching ends touches from a marks parents queue tail head walked
-  pub marked : has_flag marks x.meter ≡ true
-  pub free : IsFreeFor ends touches a x.meter x.branch
+pub record IsEnd (over : Setting) (trail : Trail) (x : Move) : Type 0 where
+  pub searching : IsSearching over trail
+  pub marked : has_flag trail.marks x.meter ≡ true
+  pub free : IsFreeFor over x.meter x.branch
 
 -- the meter of the first move of a path is a source
 abbrev pub BeginsAtSource : List (Option Ends) → List Touch → Sources → Assignment → List Move → Type 0
 BeginsAtSource ends touches from a [] = ⊥
 BeginsAtSource ends touches from a (x ∷ path) = IsSource ends touches from a x.meter
 
--- the moves may be put in, and give a source a pair
-pub record IsReady (ends : List (Option Ends)) (touches : List Touch) (from : Sources) (a : Assignment) (path : List Move) : Type 0 where
+-- the moves may be put in
+pub record CanMove (ends : List (Option Ends)) (touches : List Touch) (a : Assignment) (path : List Move) : Type 0 where
   pub are_path : ArePath a path
-  pub begins : BeginsAtSource ends touches from a path
   pub assigns : IsAssignmentAt ends touches (every_item touches) (pairs_of (moved path a.slots))
+
+-- the moves may be put in, and give a source a pair
+pub record IsReady (ends : List (Option Ends)) (touches : List Touch) (from : Sources) (a : Assignment)
+    (path : List Move) : Type 0 where
+  pub can : CanMove ends touches a path
+  pub begins : BeginsAtSource ends touches from a path
+
+abbrev pub IsReadyIn : Setting → List Move → Type 0
+IsReadyIn over path = IsReady over.graph.ends over.touches over.sources over.assignment path

@@ -1,121 +1,73 @@
 // The sources, one after the other.
 ghost use Rattle.std.specs.Prelude.{◌≡◌, ◌<◌, ◌≤◌, true, MatchOption, length};
-ghost use Rattle.obs_meter.specs.Touches.{AreInRange};
-ghost use Rattle.obs_assign.specs.Assignment.{IsWhole, StandsOver, has_flag};
-ghost use Rattle.obs_exchange.specs.Closed.{IsSource};
-ghost use Rattle.obs_exchange.specs.Classes.{AreClasses};
-ghost use Rattle.obs_exchange.specs.Noting.{AreNoted};
-ghost use Rattle.obs_exchange.specs.Searching.{AreMarked, AreStarred, IsEnd, IsSearching, Keeps, end_of, first_of};
+ghost use Rattle.obs_assign.specs.Assignment.{has_flag};
+ghost use Rattle.obs_exchange.specs.Noting.{AreNotedIn};
+ghost use Rattle.obs_exchange.specs.Searching.{AreMarked, IsDone, IsEnd, IsRunning};
+ghost use Rattle.obs_exchange.specs.Setting.{IsSourceIn, end_of, first_of};
+ghost use Rattle.obs_exchange.specs.Trail.{Follows};
 
-use crate::Sources;
 use crate::noted::Noted;
-use crate::queue::{first_source, is_source, push, sources_end};
+use crate::setting::Setting;
+use crate::stars::Stars;
+use crate::trail::Trail;
 use crate::visit::spread;
-use obs_assign::{Assignment, Move};
-use obs_forest::Ways;
-use obs_graph::Graph;
-use obs_meter::Meters;
+use obs_assign::Move;
 
 /// Marks the meter, where it is a live source that isn't marked, and visits what is reached from it, up to the first
 /// free branch. Nothing waits in the queue before, nor afterwards where no branch is free.
 fn spread_source(
-    g: &Graph,
-    ms: &Meters,
-    a: &Assignment,
-    from: Sources,
+    over: &Setting<'_>,
     m: u32,
-    marks: &mut [bool],
-    parents: &mut [Option<Move>],
-    queue: &mut [u32],
-    tail: &mut usize,
-    walked: &mut [bool],
-    stars: &mut [bool],
-    tried: &mut [u32],
-    ways: &Ways<'_>,
+    trail: &mut Trail,
+    stars: &mut Stars,
     tops: &mut [u32],
 ) -> Option<Move>
-    requires stands { StandsOver a.now g.now ms.now.touches }
-    requires whole { IsWhole a.now }
-    requires in_range { AreInRange g.now ms.now.touches }
-    requires stars { g.now.vertices ≤ length stars.old }
-    requires tried { g.now.vertices ≤ length tried.old }
-    requires flags { length g.now.ends ≤ length walked.old }
-    requires m { m < length ms.now.touches }
-    requires first { first_of from ≤ m }
-    requires end { m < end_of from (length ms.now.touches) }
-    requires searching { IsSearching g.now.ends ms.now.touches from a.now
-        marks.old parents.old queue.old tail.old tail.old walked.old }
-    requires classes { AreClasses g.now.vertices ways.now.ups.now ways.now.depths.now a.now marks.old tops.old }
-    requires starred { AreStarred g.now.ends stars.old walked.old }
-    ensures found { MatchOption result
-        (IsSearching g.now.ends ms.now.touches from a.now marks.new parents.new queue.new tail.new tail.new walked.new)
-        (λ x. IsEnd g.now.ends ms.now.touches from a.now marks.new parents.new queue.new tail.new walked.new x) }
-    ensures starred { AreStarred g.now.ends stars.new walked.new }
-    ensures classes { AreClasses g.now.vertices ways.now.ups.now ways.now.depths.now a.now marks.new tops.new }
-    ensures marked { IsSource g.now.ends ms.now.touches from a.now m → has_flag marks.new m ≡ true }
-    ensures keeps { Keeps marks.old marks.new }
+    requires first { first_of over.now.sources ≤ m }
+    requires end { m < end_of over.now.sources (length over.now.touches) }
+    requires running { IsRunning over.now trail.old stars.old tops.old }
+    requires done { IsDone trail.old }
+    ensures running { IsRunning over.now trail.new stars.new tops.new }
+    ensures found { MatchOption result (IsDone trail.new) (λ x. IsEnd over.now trail.new x) }
+    ensures marked { IsSourceIn over.now m → has_flag trail.new.marks m ≡ true }
+    ensures follows { Follows trail.old trail.new }
+    ensures same_room { length stars.new ≡ length stars.old }
 {
-    if marks[m as usize] {
+    if trail.is_marked(m) {
         return None;
     }
-    if !is_source(g, ms, a, from, m) {
+    if !over.is_source(m) {
         return None;
     }
-    let place = *tail;
-    push(m, None, marks, parents, queue, tail);
-    spread(
-        g, ms, a, from, place, marks, parents, queue, tail, walked, stars, tried, ways, tops,
-    )
+    trail.push(m, None);
+    spread(over, trail, stars, tops)
 }
 
 /// Marks the live sources from one meter on, below a limit, and visits what is reached from each before the next, up to
 /// the first free branch.
 fn spread_range(
-    g: &Graph,
-    ms: &Meters,
-    a: &Assignment,
-    from: Sources,
+    over: &Setting<'_>,
     noted: &Noted,
     first: u32,
     limit: u32,
-    marks: &mut [bool],
-    parents: &mut [Option<Move>],
-    queue: &mut [u32],
-    tail: &mut usize,
-    walked: &mut [bool],
-    stars: &mut [bool],
-    tried: &mut [u32],
-    ways: &Ways<'_>,
+    trail: &mut Trail,
+    stars: &mut Stars,
     tops: &mut [u32],
 ) -> Option<Move>
-    requires stands { StandsOver a.now g.now ms.now.touches }
-    requires whole { IsWhole a.now }
-    requires in_range { AreInRange g.now ms.now.touches }
-    requires stars { g.now.vertices ≤ length stars.old }
-    requires tried { g.now.vertices ≤ length tried.old }
-    requires flags { length g.now.ends ≤ length walked.old }
-    requires low { end_of from (length ms.now.touches) ≤ length ms.now.touches }
-    requires noted { AreNoted g.now.ends ms.now.touches from a.now noted.now }
-    requires noted_room { length ms.now.touches ≤ length noted.now.flags }
-    requires first { first_of from ≤ first }
-    requires limit { limit ≤ end_of from (length ms.now.touches) }
-    requires searching { IsSearching g.now.ends ms.now.touches from a.now
-        marks.old parents.old queue.old tail.old tail.old walked.old }
-    requires classes { AreClasses g.now.vertices ways.now.ups.now ways.now.depths.now a.now marks.old tops.old }
-    requires starred { AreStarred g.now.ends stars.old walked.old }
+    requires noted { AreNotedIn over.now noted.now }
+    requires first { first_of over.now.sources ≤ first }
+    requires limit { limit ≤ end_of over.now.sources (length over.now.touches) }
+    requires running { IsRunning over.now trail.old stars.old tops.old }
+    requires done { IsDone trail.old }
+    ensures running { IsRunning over.now trail.new stars.new tops.new }
     ensures found { MatchOption result
-        (IsSearching g.now.ends ms.now.touches from a.now marks.new parents.new queue.new tail.new tail.new walked.new
-        × AreMarked g.now.ends ms.now.touches from a.now marks.new first limit)
-        (λ x. IsEnd g.now.ends ms.now.touches from a.now marks.new parents.new queue.new tail.new walked.new x) }
-    ensures starred { AreStarred g.now.ends stars.new walked.new }
-    ensures classes { AreClasses g.now.vertices ways.now.ups.now ways.now.depths.now a.now marks.new tops.new }
-    ensures keeps { Keeps marks.old marks.new }
+        (IsDone trail.new × AreMarked over.now trail.new.marks first limit)
+        (λ x. IsEnd over.now trail.new x) }
+    ensures follows { Follows trail.old trail.new }
+    ensures same_room { length stars.new ≡ length stars.old }
 {
     let mut m = noted.next(first, limit);
     while m < limit {
-        if let Some(x) = spread_source(
-            g, ms, a, from, m, marks, parents, queue, tail, walked, stars, tried, ways, tops,
-        ) {
+        if let Some(x) = spread_source(over, m, trail, stars, tops) {
             return Some(x);
         }
         m = noted.next(m + 1, limit);
@@ -126,65 +78,28 @@ fn spread_range(
 /// Marks the live sources, those from the given meter on before the others, and visits what is reached from each before
 /// the next, up to the first free branch. The second range is the whole one; its marked meters are passed over.
 pub fn spread_all(
-    g: &Graph,
-    ms: &Meters,
-    a: &Assignment,
-    from: Sources,
+    over: &Setting<'_>,
     noted: &Noted,
     middle: u32,
-    marks: &mut [bool],
-    parents: &mut [Option<Move>],
-    queue: &mut [u32],
-    tail: &mut usize,
-    walked: &mut [bool],
-    stars: &mut [bool],
-    tried: &mut [u32],
-    ways: &Ways<'_>,
+    trail: &mut Trail,
+    stars: &mut Stars,
     tops: &mut [u32],
 ) -> Option<Move>
-    requires stands { StandsOver a.now g.now ms.now.touches }
-    requires whole { IsWhole a.now }
-    requires in_range { AreInRange g.now ms.now.touches }
-    requires stars { g.now.vertices ≤ length stars.old }
-    requires tried { g.now.vertices ≤ length tried.old }
-    requires flags { length g.now.ends ≤ length walked.old }
-    requires low { end_of from (length ms.now.touches) ≤ length ms.now.touches }
-    requires noted { AreNoted g.now.ends ms.now.touches from a.now noted.now }
-    requires noted_room { length ms.now.touches ≤ length noted.now.flags }
-    requires middle { first_of from ≤ middle }
-    requires searching { IsSearching g.now.ends ms.now.touches from a.now
-        marks.old parents.old queue.old tail.old tail.old walked.old }
-    requires classes { AreClasses g.now.vertices ways.now.ups.now ways.now.depths.now a.now marks.old tops.old }
-    requires starred { AreStarred g.now.ends stars.old walked.old }
+    requires noted { AreNotedIn over.now noted.now }
+    requires middle { first_of over.now.sources ≤ middle }
+    requires running { IsRunning over.now trail.old stars.old tops.old }
+    requires done { IsDone trail.old }
+    ensures running { IsRunning over.now trail.new stars.new tops.new }
     ensures found { MatchOption result
-        (IsSearching g.now.ends ms.now.touches from a.now marks.new parents.new queue.new tail.new tail.new walked.new
-        × AreMarked g.now.ends ms.now.touches from a.now marks.new (first_of from)
-        (end_of from (length ms.now.touches)))
-        (λ x. IsEnd g.now.ends ms.now.touches from a.now marks.new parents.new queue.new tail.new walked.new x) }
+        (IsDone trail.new × AreMarked over.now trail.new.marks (first_of over.now.sources)
+        (end_of over.now.sources (length over.now.touches)))
+        (λ x. IsEnd over.now trail.new x) }
+    ensures follows { Follows trail.old trail.new }
+    ensures same_room { length stars.new ≡ length stars.old }
 {
-    let end = sources_end(from, ms.count());
-    if let Some(x) = spread_range(
-        g, ms, a, from, noted, middle, end, marks, parents, queue, tail, walked, stars, tried,
-        ways, tops,
-    ) {
+    let end = over.end();
+    if let Some(x) = spread_range(over, noted, middle, end, trail, stars, tops) {
         return Some(x);
     }
-    spread_range(
-        g,
-        ms,
-        a,
-        from,
-        noted,
-        first_source(from),
-        end,
-        marks,
-        parents,
-        queue,
-        tail,
-        walked,
-        stars,
-        tried,
-        ways,
-        tops,
-    )
+    spread_range(over, noted, over.first(), end, trail, stars, tops)
 }

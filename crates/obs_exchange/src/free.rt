@@ -1,33 +1,20 @@
 // The free branches that a meter touches.
-ghost use Rattle.std.specs.Prelude.{◌≡◌, ◌<◌, ◌≤◌, IfSome, length, slice_index};
-ghost use Rattle.obs_meter.specs.Touches.{AreInRange, touch_at};
-ghost use Rattle.obs_assign.specs.Assignment.{IsWhole, StandsOver};
+ghost use Rattle.std.specs.Prelude.{◌≡◌, ◌<◌, ◌≤◌, ℕ, false, IfSome, IsSome, None, length, slice_index, slice_index_or};
+ghost use Rattle.obs_matroid.specs.Lists.{In};
 ghost use Rattle.obs_exchange.specs.Searching.{IsFreeFor};
+ghost use Rattle.obs_exchange.specs.Setting.{is_joined_in};
 
-use crate::walk::is_free;
-use obs_assign::Assignment;
-use obs_graph::Graph;
-use obs_meter::{Meters, Touch};
+use crate::setting::Setting;
+use crate::stars::Stars;
 
-/// The place of the first free branch among those that the meter touches, from a place on.
-fn free_place(
-    g: &Graph,
-    ms: &Meters,
-    a: &Assignment,
-    m: u32,
-    touched: &[u32],
-    first: usize,
-) -> Option<usize>
-    requires stands { StandsOver a.now g.now ms.now.touches }
-    requires whole { IsWhole a.now }
-    requires touched { touched.now ≡ touch_at g.now.ends ms.now.touches m }
-    ensures place { IfSome result (λ k. k < length touched.now) }
-    ensures free { IfSome result (λ k. IsFreeFor g.now.ends ms.now.touches a.now m (slice_index touched.now k)) }
+/// The place of the first free branch in a list, from a place on.
+fn free_place(over: &Setting<'_>, list: &[u32], first: usize) -> Option<usize>
+    requires present { (e : ℕ) → In e list.now → IsSome (slice_index_or over.now.graph.ends e None) }
+    ensures place { IfSome result (λ k. k < length list.now) }
+    ensures free { IfSome result (λ k. is_joined_in over.now (slice_index list.now k) ≡ false) }
 {
-    let _ = ms;
-    let _ = m;
-    for k in first..touched.len() {
-        if is_free(g, a, touched[k]) {
+    for k in first..list.len() {
+        if over.is_free(list[k]) {
             return Some(k);
         }
     }
@@ -41,34 +28,26 @@ fn count(branches: usize) -> u32 {
 
 /// The first free branch that the meter touches. At a vertex so many of the first branches as are counted there are
 /// passed over, and those that were tried in vain are counted.
-pub fn untried_branch(
-    g: &Graph,
-    ms: &Meters,
-    a: &Assignment,
-    m: u32,
-    tried: &mut [u32],
-) -> Option<u32>
-    requires stands { StandsOver a.now g.now ms.now.touches }
-    requires whole { IsWhole a.now }
-    requires in_range { AreInRange g.now ms.now.touches }
-    requires m { m < length ms.now.touches }
-    requires tried { g.now.vertices ≤ length tried.old }
-    ensures free { IfSome result (λ e. IsFreeFor g.now.ends ms.now.touches a.now m e) }
+pub fn untried_branch(over: &Setting<'_>, m: u32, stars: &mut Stars) -> Option<u32>
+    requires m { m < length over.now.touches }
+    requires room { over.now.graph.vertices ≤ length stars.old }
+    ensures free { IfSome result (λ e. IsFreeFor over.now m e) }
+    ensures same { stars.new ≡ stars.old }
 {
-    let touched = ms.touch(g, m);
-    let Touch::Star(v) = ms.kind(m) else {
-        return match free_place(g, ms, a, m, touched, 0) {
+    let touched = over.touched(m);
+    let Some(v) = over.star(m) else {
+        return match free_place(over, touched, 0) {
             Some(k) => Some(touched[k]),
             None => None,
         };
     };
-    match free_place(g, ms, a, m, touched, tried[v as usize] as usize) {
+    match free_place(over, touched, stars.tried(v) as usize) {
         Some(k) => {
-            tried[v as usize] = count(k);
+            stars.set_tried(v, count(k));
             Some(touched[k])
         }
         None => {
-            tried[v as usize] = count(touched.len());
+            stars.set_tried(v, count(touched.len()));
             None
         }
     }

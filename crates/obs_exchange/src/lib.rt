@@ -23,7 +23,6 @@ pub struct Lengthened {
 }
 
 mod begin;
-mod blanks;
 mod exchange;
 mod find;
 mod free;
@@ -33,7 +32,10 @@ mod noted;
 mod pass;
 mod queue;
 mod repeated;
+mod setting;
+mod stars;
 mod tops;
+mod trail;
 mod visit;
 mod walk;
 mod work;

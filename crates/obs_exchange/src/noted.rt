@@ -4,10 +4,11 @@ ghost use Rattle.obs_meter.specs.Touches.{AreInRange};
 ghost use Rattle.obs_assign.specs.Assignment.{StandsOver, has_flag};
 ghost use Rattle.obs_exchange.specs.declared.Sources.TheVariants.{All};
 ghost use Rattle.obs_exchange.specs.Noting.{AreBlocks, AreNoted, HasFlags, Noted, is_noted};
+ghost use Rattle.obs_exchange.specs.Setting.{IsSourceIn, end_of, first_of};
 
 use crate::Sources;
 use crate::memory::NoMemory;
-use crate::queue::is_source;
+use crate::setting::Setting;
 use obs_assign::Assignment;
 use obs_graph::Graph;
 use obs_meter::Meters;
@@ -94,24 +95,23 @@ fn next_flag(flags: &[bool], blocks: &[bool], first: u32, limit: u32) -> u32
     first.max(limit)
 }
 
-/// Sets the flags of the live meters without a pair, and takes those of the other meters back.
-fn put_sources(g: &Graph, ms: &Meters, a: &Assignment, flags: &mut [bool], blocks: &mut [bool])
-    requires stands { StandsOver a.now g.now ms.now.touches }
-    requires in_range { AreInRange g.now ms.now.touches }
-    requires room { length ms.now.touches ≤ length flags.old }
+/// Sets the flags of the sources, and takes those of the other meters back.
+fn put_sources(over: &Setting<'_>, flags: &mut [bool], blocks: &mut [bool])
+    requires first { first_of over.now.sources ≡ 0 }
+    requires end { end_of over.now.sources (length over.now.touches) ≡ length over.now.touches }
+    requires room { length over.now.touches ≤ length flags.old }
     requires blocks { AreBlocks flags.old blocks.old }
-    ensures sources { HasFlags g.now.ends ms.now.touches a.now flags.new (length ms.now.touches) }
-    ensures length { length flags.new ≡ length flags.old }
+    ensures sources { HasFlags over.now flags.new (length over.now.touches) }
     ensures blocks { AreBlocks flags.new blocks.new }
 {
-    for m in 0..ms.count() {
-        let source = is_source(g, ms, a, Sources::All, m);
+    for m in 0..over.meters() {
+        let source = over.is_source(m);
         put(flags, blocks, m, source);
     }
 }
 
 impl Noted {
-    /// All meters are noted, of so many.
+    /// All of so many meters.
     pub(crate) fn make(alloc: Global, most_meters: u32) -> Result<Noted, NoMemory>
         ensures made { IfOk result (λ n. n ≡ record { all = true; flags = replicate most_meters false }) }
     {
@@ -147,7 +147,8 @@ impl Noted {
         ensures length { length self.new.flags ≡ length self.old.flags }
     {
         self.all = false;
-        put_sources(g, ms, a, &mut self.flags, &mut self.blocks);
+        let over = Setting::new(g, ms, a, Sources::All);
+        put_sources(&over, &mut self.flags, &mut self.blocks);
     }
 
     /// The first noted meter from one on, or one at or above the limit.

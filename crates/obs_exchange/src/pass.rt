@@ -1,6 +1,6 @@
 // Where the next search begins to try sources, for a free branch and for a path.
 ghost use Rattle.std.specs.Prelude.{◌≤◌};
-ghost use Rattle.obs_exchange.specs.Searching.{first_of};
+ghost use Rattle.obs_exchange.specs.Setting.{first_of};
 
 use crate::Sources;
 use obs_assign::{Assignment, Move};
@@ -15,6 +15,15 @@ pub(crate) struct Pass {
     searched: u32,
     turns: u64,
     pairs: u32,
+}
+
+/// Where a search begins: the first meter that it tries for a free branch, the first that it searches from, and whether
+/// the branches at the vertices are counted anew.
+#[derive(Clone, Copy, Debug, PartialEq, Eq)]
+pub(crate) struct Start {
+    pub tried: u32,
+    pub searched: u32,
+    pub anew: bool,
 }
 
 impl Pass {
@@ -49,34 +58,25 @@ impl Pass {
             Pass::new()
         }
     }
-}
 
-/// Whether a search counts the branches at the vertices anew: a pass over all sources does where it begins, and a search
-/// from one meter where the pairs are fewer than at the search before. Nothing rests on the counts.
-pub(crate) fn counts_anew(pass: Pass, from: Sources, pairs: u32, before: u32) -> bool {
-    match from {
-        Sources::All => pass.next == 0,
-        Sources::One(_) => pairs == 0 || pairs < before,
-    }
-}
-
-/// The first meter that a search tries for a free branch.
-pub(crate) fn first_tried(pass: Pass, from: Sources) -> u32
-    ensures first { first_of from ≤ result }
-{
-    match from {
-        Sources::All => pass.next,
-        Sources::One(m) => m,
-    }
-}
-
-/// The first meter that a search searches from.
-pub(crate) fn first_searched(pass: Pass, from: Sources) -> u32
-    ensures first { first_of from ≤ result }
-{
-    match from {
-        Sources::All => pass.searched,
-        Sources::One(m) => m,
+    /// Where a search begins. A pass over all sources counts anew where it begins, and a search from one meter where the
+    /// pairs are fewer than at the search before. Nothing rests on the counts.
+    pub(crate) fn start(self, from: Sources, pairs: u32, before: u32) -> Start
+        ensures tried { first_of from ≤ result.tried }
+        ensures searched { first_of from ≤ result.searched }
+    {
+        match from {
+            Sources::All => Start {
+                tried: self.next,
+                searched: self.searched,
+                anew: self.next == 0,
+            },
+            Sources::One(m) => Start {
+                tried: m,
+                searched: m,
+                anew: pairs == 0 || pairs < before,
+            },
+        }
     }
 }
 

@@ -1,31 +1,44 @@
 // Classes of vertices that met branches join. What was met is never walked again: each class has one top, and the tops
 // lead there by ever fewer steps.
-ghost use Rattle.std.specs.Prelude.{◌≡◌, ◌<◌, ◌≤◌, ℕ, length, slice_index};
-ghost use Rattle.obs_exchange.specs.Classes.{AreTops, Rises, SameMet};
+ghost use Rattle.std.specs.Prelude.{◌≡◌, ◌<◌, ◌≤◌, ◌^◌, ℕ, length, slice_index};
+ghost use Rattle.obs_exchange.specs.Blank.{AreNumbers};
+ghost use Rattle.obs_exchange.specs.Classes.{AreTopsIn, RisesIn, SameMet};
 
-use obs_forest::Ways;
+use crate::setting::Setting;
 
-/// No branch is met: each vertex is its own top. The numbers of the vertices are given.
+/// Writes its number at each place.
+pub fn number(numbers: &mut [u32])
+    requires fits { length numbers.old < 2 ^ 32 }
+    ensures length { length numbers.new ≡ length numbers.old }
+    ensures own { AreNumbers numbers.new }
+{
+    for v in 0..numbers.len() {
+        numbers[v] = v as u32;
+    }
+}
+
+/// No branch is met: each vertex is its own top. The numbers of the vertices are given: to copy them costs less than to
+/// count.
 pub fn separate(tops: &mut [u32], numbers: &[u32])
     requires room { length tops.old ≤ length numbers.now }
-    requires numbers { (v : ℕ) → v < length numbers.now → slice_index numbers.now v ≡ v }
+    requires numbers { AreNumbers numbers.now }
     ensures length { length tops.new ≡ length tops.old }
-    ensures own { (v : ℕ) → v < length tops.old → slice_index tops.new v ≡ v }
+    ensures own { AreNumbers tops.new }
 {
     tops.copy_from_slice(&numbers[..tops.len()]);
 }
 
 /// The top of the class of v. Each vertex on the way there is led to one that is higher.
-pub fn top_of(ways: &Ways<'_>, tops: &mut [u32], v: u32) -> u32
-    requires v { v < length ways.now.ups.now }
-    requires tops { AreTops (length ways.now.ups.now) ways.now.ups.now ways.now.depths.now tops.old }
-    ensures tops { AreTops (length ways.now.ups.now) ways.now.ups.now ways.now.depths.now tops.new }
-    ensures same { SameMet (length ways.now.ups.now) tops.old tops.new }
-    ensures low { result < length ways.now.ups.now }
+pub fn top_of(over: &Setting<'_>, tops: &mut [u32], v: u32) -> u32
+    requires v { v < over.now.graph.vertices }
+    requires tops { AreTopsIn over.now tops.old }
+    ensures tops { AreTopsIn over.now tops.new }
+    ensures same { SameMet over.now.graph.vertices tops.old tops.new }
+    ensures low { result < over.now.graph.vertices }
     ensures top { slice_index tops.new result ≡ result }
-    ensures rises { Rises (length ways.now.ups.now) ways.now.ups.now tops.new v result }
+    ensures rises { RisesIn over.now tops.new v result }
 {
-    let _ = ways;
+    let _ = over;
     let mut x = v;
     while tops[x as usize] != x {
         let up = tops[tops[x as usize] as usize];

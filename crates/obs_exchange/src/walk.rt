@@ -1,204 +1,89 @@
 // The branches that a meter of the queue looks at.
-ghost use Rattle.std.specs.Prelude.{◌≡◌, ◌<◌, ◌≤◌, ℕ, true, false, not, IsSome, MatchBool, None, Some, length, slice_index, slice_index_or};
+ghost use Rattle.std.specs.Prelude.{◌≡◌, ◌<◌, ℕ, true, false, IsSome, MatchBool, None, Some, slice_index, slice_index_or};
 ghost use Rattle.obs_graph.specs.declared.search.Up.{Up};
-ghost use Rattle.obs_matroid.specs.Assignments.{branches};
 ghost use Rattle.obs_matroid.specs.Lists.{In};
-ghost use Rattle.obs_meter.specs.Touches.{touch_at};
-ghost use Rattle.obs_forest.specs.Forest.{StandsOver as ForestStandsOver};
-ghost use Rattle.obs_assign.specs.Assignment.{IsWhole, StandsOver, branch_at, has_flag, is_frozen, pairs};
-ghost use Rattle.obs_assign.specs.Pins.{joins};
-ghost use Rattle.obs_exchange.specs.Classes.{AreClasses, OneMoreMet, Rises};
-ghost use Rattle.obs_exchange.specs.Searching.{IsNeededOf, IsVisiting, IsWalked, Keeps};
+ghost use Rattle.obs_assign.specs.Assignment.{branch_at, has_flag};
+ghost use Rattle.obs_exchange.specs.Classes.{AreClasses, OneMoreMet, RisesIn};
+ghost use Rattle.obs_exchange.specs.Searching.{IsNeededOf, IsVisiting, IsWalked};
+ghost use Rattle.obs_exchange.specs.Setting.{is_joined_in, touched_in};
+ghost use Rattle.obs_exchange.specs.Trail.{Stays};
 
-use crate::Sources;
-use crate::queue::reach;
+use crate::queue::reach_owner;
+use crate::setting::Setting;
 use crate::tops::top_of;
-use obs_assign::{Assignment, Move};
-use obs_forest::Ways;
-use obs_graph::Graph;
-use obs_meter::Meters;
-
-/// Whether the ends of a present branch lie in two pieces of the held ones.
-pub fn is_free(g: &Graph, a: &Assignment, e: u32) -> bool
-    requires stands { ForestStandsOver a.now.forest g.now }
-    requires whole { IsWhole a.now }
-    requires present { IsSome (slice_index_or g.now.ends e None) }
-    ensures free { joins g.now.ends (branches (pairs a.now)) e ≡ not result }
-{
-    let ends = g.ends(e).unwrap();
-    a.forest().piece(ends.a) != a.forest().piece(ends.b)
-}
-
-/// Reaches the meter that has a held branch, which the visited meter's branch needs.
-fn reach_owner(
-    g: &Graph,
-    ms: &Meters,
-    a: &Assignment,
-    from: Sources,
-    head: usize,
-    by: Move,
-    e: u32,
-    marks: &mut [bool],
-    parents: &mut [Option<Move>],
-    queue: &mut [u32],
-    tail: &mut usize,
-    walked: &[bool],
-)
-    requires stands { StandsOver a.now g.now ms.now.touches }
-    requires whole { IsWhole a.now }
-    requires touched { In by.branch (touch_at g.now.ends ms.now.touches by.meter) }
-    requires e { e < length a.now.forest.held }
-    requires needed { (x : ℕ) → branch_at a.now x ≡ Some e → IsNeededOf g.now.ends a.now x by.branch }
-    requires visiting { IsVisiting g.now.ends ms.now.touches from a.now
-        marks.old parents.old queue.old tail.old head walked.now by.meter }
-    ensures visiting { IsVisiting g.now.ends ms.now.touches from a.now
-        marks.new parents.new queue.new tail.new head walked.now by.meter }
-    ensures reached { (x : ℕ) → branch_at a.now x ≡ Some e → is_frozen a.now x ≡ false → has_flag marks.new x ≡ true }
-    ensures keeps { Keeps marks.old marks.new }
-{
-    if let Some(x) = a.meter_of(e) {
-        reach(
-            g, ms, a, from, head, by, x, marks, parents, queue, tail, walked,
-        );
-    }
-}
+use crate::trail::Trail;
+use obs_assign::Move;
 
 /// Meets the branch above a top: reaches the meter that has it, and makes the class of the top one with that of the
 /// vertex above. Gives the top of that class.
-fn meet(
-    g: &Graph,
-    ms: &Meters,
-    a: &Assignment,
-    from: Sources,
-    head: usize,
-    by: Move,
-    top: u32,
-    marks: &mut [bool],
-    parents: &mut [Option<Move>],
-    queue: &mut [u32],
-    tail: &mut usize,
-    walked: &[bool],
-    ways: &Ways<'_>,
-    tops: &mut [u32],
-) -> u32
-    requires stands { StandsOver a.now g.now ms.now.touches }
-    requires whole { IsWhole a.now }
-    requires touched { In by.branch (touch_at g.now.ends ms.now.touches by.meter) }
-    requires top { top < g.now.vertices }
+fn meet(over: &Setting<'_>, by: Move, top: u32, trail: &mut Trail, tops: &mut [u32]) -> u32
+    requires touched { In by.branch (touched_in over.now by.meter) }
+    requires top { top < over.now.graph.vertices }
     requires own { slice_index tops.old top ≡ top }
-    requires up { IsSome (slice_index_or ways.now.ups.now top None) }
-    requires needed { (up : Up) (x : ℕ) → slice_index_or ways.now.ups.now top None ≡ Some up
-        → branch_at a.now x ≡ Some up.branch
-        → IsNeededOf g.now.ends a.now x by.branch }
-    requires visiting { IsVisiting g.now.ends ms.now.touches from a.now
-        marks.old parents.old queue.old tail.old head walked.now by.meter }
-    requires classes { AreClasses g.now.vertices ways.now.ups.now ways.now.depths.now a.now marks.old tops.old }
-    ensures visiting { IsVisiting g.now.ends ms.now.touches from a.now
-        marks.new parents.new queue.new tail.new head walked.now by.meter }
-    ensures classes { AreClasses g.now.vertices ways.now.ups.now ways.now.depths.now a.now marks.new tops.new }
-    ensures met { OneMoreMet g.now.vertices tops.old tops.new top }
-    ensures low { result < g.now.vertices }
+    requires up { IsSome (slice_index_or over.now.ups top None) }
+    requires needed { (up : Up) (x : ℕ) → slice_index_or over.now.ups top None ≡ Some up
+        → branch_at over.now.assignment x ≡ Some up.branch
+        → IsNeededOf over.now x by.branch }
+    requires visiting { IsVisiting over.now trail.old by.meter }
+    requires classes { AreClasses over.now trail.old.marks tops.old }
+    ensures visiting { IsVisiting over.now trail.new by.meter }
+    ensures classes { AreClasses over.now trail.new.marks tops.new }
+    ensures met { OneMoreMet over.now.graph.vertices tops.old tops.new top }
+    ensures low { result < over.now.graph.vertices }
     ensures top { slice_index tops.new result ≡ result }
-    ensures rises { Rises g.now.vertices ways.now.ups.now tops.new top result }
-    ensures lower { slice_index ways.now.depths.now result < slice_index ways.now.depths.now top }
-    ensures keeps { Keeps marks.old marks.new }
+    ensures rises { RisesIn over.now tops.new top result }
+    ensures lower { slice_index over.now.depths result < slice_index over.now.depths top }
+    ensures stays { Stays trail.old trail.new }
 {
-    let up = ways.ups[top as usize].unwrap();
-    reach_owner(
-        g, ms, a, from, head, by, up.branch, marks, parents, queue, tail, walked,
-    );
+    let up = over.up(top);
+    reach_owner(over, by, up.branch, trail);
     tops[top as usize] = up.vertex;
-    top_of(ways, tops, up.vertex)
+    top_of(over, tops, up.vertex)
 }
 
 /// Marks the meters whose pairs a branch needs that isn't free: goes up from both its ends, always from the deeper top,
 /// until these are of one class.
-fn reach_needed(
-    g: &Graph,
-    ms: &Meters,
-    a: &Assignment,
-    from: Sources,
-    head: usize,
-    by: Move,
-    marks: &mut [bool],
-    parents: &mut [Option<Move>],
-    queue: &mut [u32],
-    tail: &mut usize,
-    walked: &[bool],
-    ways: &Ways<'_>,
-    tops: &mut [u32],
-)
-    requires stands { StandsOver a.now g.now ms.now.touches }
-    requires whole { IsWhole a.now }
-    requires touched { In by.branch (touch_at g.now.ends ms.now.touches by.meter) }
-    requires joined { joins g.now.ends (branches (pairs a.now)) by.branch ≡ true }
-    requires visiting { IsVisiting g.now.ends ms.now.touches from a.now
-        marks.old parents.old queue.old tail.old head walked.now by.meter }
-    requires classes { AreClasses g.now.vertices ways.now.ups.now ways.now.depths.now a.now marks.old tops.old }
-    ensures visiting { IsVisiting g.now.ends ms.now.touches from a.now
-        marks.new parents.new queue.new tail.new head walked.now by.meter }
-    ensures classes { AreClasses g.now.vertices ways.now.ups.now ways.now.depths.now a.now marks.new tops.new }
-    ensures reached { IsWalked g.now.ends a.now marks.new by.branch }
-    ensures keeps { Keeps marks.old marks.new }
+fn reach_needed(over: &Setting<'_>, by: Move, trail: &mut Trail, tops: &mut [u32])
+    requires touched { In by.branch (touched_in over.now by.meter) }
+    requires joined { is_joined_in over.now by.branch ≡ true }
+    requires visiting { IsVisiting over.now trail.old by.meter }
+    requires classes { AreClasses over.now trail.old.marks tops.old }
+    ensures visiting { IsVisiting over.now trail.new by.meter }
+    ensures classes { AreClasses over.now trail.new.marks tops.new }
+    ensures reached { IsWalked over.now trail.new.marks by.branch }
+    ensures stays { Stays trail.old trail.new }
 {
-    let _ = g.vertices();
-    let ends = g.ends(by.branch).unwrap();
-    let mut u = top_of(ways, tops, ends.a);
-    let mut v = top_of(ways, tops, ends.b);
+    let ends = over.ends(by.branch);
+    let mut u = top_of(over, tops, ends.a);
+    let mut v = top_of(over, tops, ends.b);
     while u != v {
-        if ways.depths[u as usize] < ways.depths[v as usize] {
-            v = meet(
-                g, ms, a, from, head, by, v, marks, parents, queue, tail, walked, ways, tops,
-            );
+        if over.depth(u) < over.depth(v) {
+            v = meet(over, by, v, trail, tops);
         } else {
-            u = meet(
-                g, ms, a, from, head, by, u, marks, parents, queue, tail, walked, ways, tops,
-            );
+            u = meet(over, by, u, trail, tops);
         }
     }
 }
 
 /// Walks one branch of the visited meter, where it wasn't walked yet, and says whether it is free.
-pub fn walk(
-    g: &Graph,
-    ms: &Meters,
-    a: &Assignment,
-    from: Sources,
-    head: usize,
-    by: Move,
-    marks: &mut [bool],
-    parents: &mut [Option<Move>],
-    queue: &mut [u32],
-    tail: &mut usize,
-    walked: &mut [bool],
-    ways: &Ways<'_>,
-    tops: &mut [u32],
-) -> bool
-    requires stands { StandsOver a.now g.now ms.now.touches }
-    requires whole { IsWhole a.now }
-    requires flags { length g.now.ends ≤ length walked.old }
-    requires touched { In by.branch (touch_at g.now.ends ms.now.touches by.meter) }
-    requires visiting { IsVisiting g.now.ends ms.now.touches from a.now
-        marks.old parents.old queue.old tail.old head walked.old by.meter }
-    requires classes { AreClasses g.now.vertices ways.now.ups.now ways.now.depths.now a.now marks.old tops.old }
-    ensures visiting { IsVisiting g.now.ends ms.now.touches from a.now
-        marks.new parents.new queue.new tail.new head walked.new by.meter }
-    ensures classes { AreClasses g.now.vertices ways.now.ups.now ways.now.depths.now a.now marks.new tops.new }
+pub fn walk(over: &Setting<'_>, by: Move, trail: &mut Trail, tops: &mut [u32]) -> bool
+    requires touched { In by.branch (touched_in over.now by.meter) }
+    requires visiting { IsVisiting over.now trail.old by.meter }
+    requires classes { AreClasses over.now trail.old.marks tops.old }
+    ensures visiting { IsVisiting over.now trail.new by.meter }
+    ensures classes { AreClasses over.now trail.new.marks tops.new }
     ensures free { MatchBool result
-        (joins g.now.ends (branches (pairs a.now)) by.branch ≡ false)
-        (has_flag walked.new by.branch ≡ true) }
-    ensures keeps { Keeps marks.old marks.new }
-    ensures keeps_walked { Keeps walked.old walked.new }
+        (is_joined_in over.now by.branch ≡ false)
+        (has_flag trail.new.walked by.branch ≡ true) }
+    ensures stays { Stays trail.old trail.new }
 {
-    if walked[by.branch as usize] {
+    if trail.is_walked(by.branch) {
         return false;
     }
-    if is_free(g, a, by.branch) {
+    if over.is_free(by.branch) {
         return true;
     }
-    reach_needed(
-        g, ms, a, from, head, by, marks, parents, queue, tail, walked, ways, tops,
-    );
-    walked[by.branch as usize] = true;
+    reach_needed(over, by, trail, tops);
+    trail.walk(by.branch);
     false
 }

@@ -8,11 +8,14 @@ ghost use Rattle.obs_exchange.specs.declared.Sources.TheVariants.{All};
 ghost use Rattle.obs_exchange.specs.Found.{AreListed, CanBegin, IsFound};
 ghost use Rattle.obs_exchange.specs.Noting.{AreNoted};
 
-use crate::blanks::{Blanks, number};
 use crate::find::{find, grow};
 use crate::memory::NoMemory;
 use crate::noted::Noted;
-use crate::pass::{Pass, counts_anew, first_searched, first_tried, next_tried};
+use crate::pass::{Pass, next_tried};
+use crate::setting::Setting;
+use crate::stars::Stars;
+use crate::tops::number;
+use crate::trail::Trail;
 use crate::{Found, Sources};
 use obs_assign::{Assignment, Move, Steps};
 use obs_graph::Graph;
@@ -27,26 +30,16 @@ pub struct Work {
     meters: usize,
     // how many the last closed search reached
     count: usize,
-    // whether it reached the meter
-    reached: Vec<bool>,
-    // the move by which the meter was reached
-    parents: Vec<Option<Move>>,
-    // the reached meters, in their order
-    queue: Vec<u32>,
-    // whether the branch was walked
-    walked: Vec<bool>,
-    // whether all branches at the vertex were walked
-    stars: Vec<bool>,
-    // how many of the first branches at the vertex were tried in vain
-    tried: Vec<u32>,
-    // the moves to a free branch, at the end
-    path: Vec<Move>,
+    // what it reached and walked
+    trail: Trail,
+    // what it knows of the branches at each vertex
+    stars: Stars,
     // where the vertex leads to, towards the top of its class
     tops: Vec<u32>,
-    // what the arrays are set to before a search
-    no_flags: Vec<bool>,
+    // the numbers of the vertices
     numbers: Vec<u32>,
-    no_counts: Vec<u32>,
+    // the moves to a free branch, at the end
+    path: Vec<Move>,
     // how many pairs there were at the last search
     pairs: u32,
     // the meters among which it looks for sources
@@ -57,30 +50,28 @@ pub struct Work {
 
 impl Model for Work {
     ghost use Rattle.std.specs.Prelude.{◌≡◌, ◌≤◌, length, take};
-    ghost use Rattle.obs_exchange.specs.Blank.{AreBlank};
+    ghost use Rattle.obs_exchange.specs.Blank.{AreNumbers};
     ghost use Rattle.obs_exchange.specs.Found.{Work};
 
     ghost Value = { Work };
 
     ghost view = { λ w.
         record {
-          reached = take w.meters w.reached.items;
-          listed = take w.count w.queue.items;
+          reached = take w.meters w.trail.marks;
+          listed = take w.count w.trail.queue;
           noted = w.noted;
           sizes = record {
-            meters = length w.reached.items;
-            branches = length w.walked.items;
-            vertices = length w.stars.items;
+            meters = length w.trail.marks;
+            branches = length w.trail.walked;
+            vertices = length w.stars;
           };
         } };
 
     ghost invariant = { λ w.
-        (w.meters ≤ length w.reached.items) × (w.count ≤ length w.queue.items)
-        × (length w.noted.flags ≡ length w.reached.items) × (length w.parents.items ≡ length w.reached.items)
-        × (length w.queue.items ≡ length w.reached.items) × (length w.path.items ≡ length w.reached.items)
-        × (length w.tops.items ≡ length w.stars.items) × (length w.tried.items ≡ length w.stars.items)
-        × AreBlank (length w.reached.items) (length w.walked.items) (length w.stars.items)
-        w.no_flags.items w.numbers.items w.no_counts.items };
+        (w.meters ≤ length w.trail.marks) × (w.count ≤ length w.trail.marks)
+        × (length w.noted.flags ≡ length w.trail.marks) × (length w.path.items ≡ length w.trail.marks)
+        × (length w.tops.items ≡ length w.stars) × (length w.numbers.items ≡ length w.stars)
+        × AreNumbers w.numbers.items };
 }
 
 // Written out: so a caller's proof sees one call, and not the drop of each field.
@@ -89,17 +80,11 @@ impl Drop for Work {
         let Work {
             meters: _,
             count: _,
-            reached: _,
-            parents: _,
-            queue: _,
-            walked: _,
+            trail: _,
             stars: _,
-            tried: _,
-            path: _,
             tops: _,
-            no_flags: _,
             numbers: _,
-            no_counts: _,
+            path: _,
             pairs: _,
             noted: _,
             pass: _,
@@ -126,23 +111,16 @@ impl Work {
             meter: 0,
             branch: 0,
         };
-        let most = most_meters.max(most_branches).max(most_vertices);
         let mut numbers = vec![in alloc; 0; most_vertices as usize]?;
         number(&mut numbers);
         Ok(Work {
             meters: 0,
             count: 0,
-            reached: vec![in alloc; false; most_meters as usize]?,
-            parents: vec![in alloc; None; most_meters as usize]?,
-            queue: vec![in alloc; 0; most_meters as usize]?,
-            walked: vec![in alloc; false; most_branches as usize]?,
-            stars: vec![in alloc; false; most_vertices as usize]?,
-            tried: vec![in alloc; 0; most_vertices as usize]?,
-            path: vec![in alloc; no_move; most_meters as usize]?,
+            trail: Trail::make(alloc, most_meters, most_branches)?,
+            stars: Stars::make(alloc, most_vertices)?,
             tops: vec![in alloc; 0; most_vertices as usize]?,
-            no_flags: vec![in alloc; false; most as usize]?,
             numbers,
-            no_counts: vec![in alloc; 0; most_vertices as usize]?,
+            path: vec![in alloc; no_move; most_meters as usize]?,
             pairs: 0,
             noted: Noted::make(alloc, most_meters)?,
             pass: Pass::new(),
@@ -153,17 +131,17 @@ impl Work {
     pub fn reached(&self) -> &[bool]
         ensures reached { result.now ≡ self.now.reached }
     {
-        &self.reached[..self.meters]
+        self.trail.marks(self.meters)
     }
 
     /// The meters that the last search reached, in the order in which it did, where that search ended with `Closed`.
     pub fn listed(&self) -> &[u32]
         ensures listed { result.now ≡ self.now.listed }
     {
-        &self.queue[..self.count]
+        self.trail.queued(self.count)
     }
 
-    /// Notes the live meters without a pair, and no others, for `lengthen_from`.
+    /// Notes the live meters without a pair, for `lengthen_from`.
     pub fn note_sources(&mut self, g: &Graph, ms: &Meters, a: &Assignment)
         requires stands { StandsOver a.now g.now ms.now.touches }
         requires in_range { AreInRange g.now ms.now.touches }
@@ -174,7 +152,7 @@ impl Work {
         self.noted.put_sources(g, ms, a);
     }
 
-    /// Notes a meter too, or notes it no more, for `lengthen_from`.
+    /// Notes a meter, or notes it no more, for `lengthen_from`.
     pub fn note(&mut self, m: u32, noted: bool)
         requires m { m < self.old.sizes.meters }
         ensures noted { self.new ≡ record self.old {
@@ -215,41 +193,23 @@ impl Work {
         ensures same_room { HasRoomOf a.old a.new }
         ensures same_sizes { self.new.sizes ≡ self.old.sizes }
     {
-        let _ = g.vertices();
-        let _ = a.length();
         self.meters = ms.count() as usize;
-        let pass = self.pass.resumed(a);
-        let first = first_tried(pass, from);
-        let middle = first_searched(pass, from);
-        let anew = counts_anew(pass, from, a.length(), self.pairs);
+        let start = self.pass.resumed(a).start(from, a.length(), self.pairs);
         self.pairs = a.length();
-        let start = find(
-            g,
-            ms,
-            a,
-            from,
+        let found = find(
+            &Setting::new(g, ms, a, from),
             &self.noted,
-            first,
-            middle,
-            &mut self.reached,
-            &mut self.parents,
-            &mut self.queue,
-            &mut self.walked,
+            start,
+            &mut self.trail,
             &mut self.stars,
-            &mut self.tried,
-            &mut self.path,
             &mut self.tops,
-            &Blanks {
-                flags: &self.no_flags,
-                numbers: &self.numbers,
-                counts: &self.no_counts,
-                anew,
-            },
+            &self.numbers,
+            &mut self.path,
         );
-        match start {
+        match found {
             Ok(k) => {
                 let next = next_tried(&self.path[k..], ms.count());
-                let m = grow(g, ms, a, from, &self.path[k..], steps);
+                let m = grow(g, ms, a, &self.path[k..], steps);
                 self.pass = Pass::after(a, from, next, m);
                 Found::Grown(m)
             }

@@ -1,18 +1,18 @@
-use Rattle.std.proofs.Common.{◌≡◌, ℕ, ◌-◌, ◌<◌, ◌≤◌, true}
+use Rattle.std.proofs.Common.{◌≡◌, ℕ, ◌-◌, ◌<◌, ◌≤◌, true, length}
 use Rattle.obs_assign.specs.Assignment.{has_flag}
-use Rattle.obs_exchange.specs.Classes.{AreClasses}
-use Rattle.obs_exchange.specs.Closed.{IsSource}
-use Rattle.obs_exchange.specs.Searching.{AreStarred, IsSearching, Keeps}
+use Rattle.obs_exchange.specs.Searching.{IsDone, IsRunning}
+use Rattle.obs_exchange.specs.Setting.{IsSourceIn}
+use Rattle.obs_exchange.specs.Trail.{Follows}
 use Rattle.obs_exchange.proofs.begin.spread_range.Given as goal
 
 abbrev pub invariant-loop-m : goal.invariant-loop-m
 invariant-loop-m l = record {
-  searching : IsSearching l.g.ends l.ms.touches l.from l.a l.marks l.parents l.queue l.tail l.tail l.walked;
-  starred : AreStarred l.g.ends l.stars l.walked;
+  running : IsRunning l.over l.trail l.stars l.tops;
+  done : IsDone l.trail;
   first : l.first ≤ l.m;
-  marked : (k : ℕ) → l.first ≤ k → k < l.m → k < l.limit → IsSource l.g.ends l.ms.touches l.from l.a k → has_flag l.marks k ≡ true;
-  classes : AreClasses l.g.vertices l.ways.ups.now l.ways.depths.now l.a l.marks l.tops;
-  keeps : Keeps l.fn.marks l.marks;
+  marked : (k : ℕ) → l.first ≤ k → k < l.m → k < l.limit → IsSourceIn l.over k → has_flag l.trail.marks k ≡ true;
+  follows : Follows l.fn.trail l.trail;
+  same_room : length l.stars ≡ length l.fn.stars;
 }
 
 abbrev pub decreases-loop-m : goal.decreases-loop-m

@@ -1,8 +1,8 @@
 use Rattle.std.proofs.Common.{◌≡◌, ◌-◌, length, take, sym, ◌∙◌, subst, arith}
 use Rattle.std.proofs.lemmas.List.{length-take-le}
-use Rattle.obs_forest.specs.Cycle.{AreWays}
-use Rattle.obs_exchange.specs.Searching.{IsReady}
-use Rattle.obs_exchange.proofs.Closing.{AreListed-queue, IsLeastClosedAt-search, all_marked, tail_low}
+use Rattle.obs_exchange.specs.Searching.{IsReadyIn}
+use Rattle.obs_exchange.proofs.Beginning.{AreStarred-start, IsSearching-start}
+use Rattle.obs_exchange.proofs.Closing.{AreListed-queue, IsLeastClosedAt-search, tail_low}
 use Rattle.obs_exchange.proofs.Growing.{IsReady-one}
 use Rattle.obs_exchange.proofs.Tracing.{drop_last}
 use Rattle.obs_exchange.proofs.Upward.{AreClasses-own}
@@ -10,33 +10,32 @@ use Rattle.obs_exchange.proofs.find.find.Goals as goal
 
 pub returns-in-Some-clause-found : goal.returns-in-Some-clause-found
 returns-in-Some-clause-found c = let r = c.requires in let f = c.in-Some.ensures.free in let low = f.0 in
-    subst (IsReady c.args.g.now.ends c.args.ms.now.touches c.args.from c.args.a.now)
-    (sym (drop_last c.args.path.now (length c.args.path.now - 1) c.in-Some.x (omega (arith, low, r.path))))
-    (IsReady-one c.args.a.now c.args.g.now c.args.ms.now.touches c.args.from c.in-Some.x c.vertices.ensures.branches c.length.ensures.whole r.stands f.0 f.1 f.2)
+    subst (IsReadyIn c.args.over.now)
+    (sym (drop_last c.args.path.now (length c.args.path.now - 1) c.in-Some.x (omega (arith, low, r.path, r.meters))))
+    (IsReady-one c.args.over.now c.in-Some.x r.sound f.0 f.1 f.2)
 
 pub returns-in-None-clause-found : goal.returns-in-None-clause-found
-returns-in-None-clause-found c = let f = c.in-None.ensures.found in
-    IsLeastClosedAt-search c.args.g.now c.args.ms.now.touches c.args.from c.args.a.now c.vertices.ensures.branches c.length.ensures.whole c.requires.stands
-    c.spread_all.new.marks c.spread_all.new.parents c.spread_all.new.queue c.spread_all.new.tail c.spread_all.new.walked f.0
-    (all_marked c.args.g.now.ends c.args.ms.now.touches c.args.from c.args.a.now c.spread_all.new.marks f.1)
+returns-in-None-clause-found c = let f = c.in-None.ensures.found in let n = c.spread_all.new in
+    IsLeastClosedAt-search c.args.over.now n.trail c.spread_all.ensures.running.searching f.0 f.1
 
 pub returns-in-None-clause-few : goal.returns-in-None-clause-few
-returns-in-None-clause-few c = let n = c.spread_all.new in let s = c.in-None.ensures.found.0 in
-    let t = tail_low c.args.g.now c.args.ms.now.touches c.args.from c.args.a.now n.marks n.parents n.queue n.tail n.tail n.walked s in
-    omega (arith, t, s.queue_len)
+returns-in-None-clause-few c = let n = c.spread_all.new.trail in let s = c.spread_all.ensures.running.searching in
+    let t = tail_low c.args.over.now n s in
+    omega (arith, t, c.tail.ensures.tail, s.marks_len)
 
 pub returns-in-None-clause-listed : goal.returns-in-None-clause-listed
-returns-in-None-clause-listed c = let n = c.spread_all.new in
-    AreListed-queue c.args.g.now c.args.ms.now.touches c.args.from c.args.a.now n.marks n.parents n.queue n.tail n.tail n.walked c.in-None.ensures.found.0
+returns-in-None-clause-listed c = rw c.tail.ensures.tail (AreListed-queue c.args.over.now c.spread_all.new.trail c.spread_all.ensures.running.searching)
 
-pub spread_all-requires-clause-classes : goal.spread_all-requires-clause-classes
-spread_all-requires-clause-classes c =
-    let n = c.args.g.now.vertices in
-    let v : c.args.a.now.forest.vertices ≡ n = sym c.requires.stands.forest.vertices in
-    let w = c.ways.ensures in
-    let len : length (take c.vertices-2.result c.args.tops.now) ≡ n =
-    length-take-le c.vertices-2.result c.args.tops.now (rw c.vertices-2.ensures.value c.requires.tops) ∙ c.vertices-2.ensures.value in
-    AreClasses-own n c.ways.result.ups.now c.ways.result.depths.now c.args.a.now c.clear.new.flags c.separate.new.tops
-    (rw c.forest.ensures.forest at w.ups ∙ v) (rw c.forest.ensures.forest at w.depths ∙ v) (rw c.forest.ensures.forest at w.forest)
-    (subst (λ k. AreWays k c.args.a.now.forest.held c.ways.result.ups.now c.ways.result.depths.now) v (rw c.forest.ensures.forest at w.ways))
-    (c.separate.ensures.length ∙ len) (λ k l. c.separate.ensures.own k (rw len l))
+pub spread_all-requires-clause-running : goal.spread_all-requires-clause-running
+spread_all-requires-clause-running c =
+    let r = c.requires in
+    let over = c.args.over.now in
+    let len : length (take c.vertices.result c.args.tops.now) ≡ over.graph.vertices =
+    length-take-le c.vertices.result c.args.tops.now (rw c.vertices.ensures.vertices r.tops) ∙ c.vertices.ensures.vertices in
+    rw (c.clear.ensures.cleared, c.clear-2.ensures.cleared)
+    (record {
+      searching = IsSearching-start over r.sound c.args.trail.now r.meters r.branches (rw c.clear.ensures.cleared at c.clear.ensures.full);
+      starred = AreStarred-start over _ _ (rw (c.free_move.ensures.same, c.renew.ensures.same) r.stars);
+      classes = AreClasses-own over _ c.separate.new.tops (c.separate.ensures.length ∙ len)
+          (λ k l. c.separate.ensures.own k (rw (c.separate.ensures.length, len) l));
+    })

@@ -1,8 +1,10 @@
+use Rattle.obs_exchange.specs.Searching.{IsEnd}
+use Rattle.obs_exchange.specs.Setting.{Setting}
 use Rattle.obs_exchange.proofs.Tracing.{IsTracing}
 use Rattle.obs_exchange.proofs.find.trace.Given as goal
 
-abbrev pub invariant-loop-x : goal.invariant-loop-x
-invariant-loop-x l = IsTracing l.g l.ms.touches l.fn.from l.a l.marks l.parents l.queue l.tail l.walked l.fn.last l.path l.start l.x
+abbrev pub invariant-loop-p : goal.invariant-loop-p
+invariant-loop-p l = (over : Setting) → IsEnd over l.trail l.fn.last → IsTracing over l.trail l.fn.last l.path l.start l.x
 
-abbrev pub decreases-loop-x : goal.decreases-loop-x
-decreases-loop-x l = l.start
+abbrev pub decreases-loop-p : goal.decreases-loop-p
+decreases-loop-p l = l.start

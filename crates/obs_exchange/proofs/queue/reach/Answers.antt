@@ -1,14 +1,21 @@
-use Rattle.std.proofs.Common.{arith, sym, ◌∙◌}
-use Rattle.obs_exchange.proofs.Queued.{IsVisiting-push, visiting_room}
+use Rattle.std.proofs.Common.{Some, ◌<◌, length, arith, sym, ◌∙◌}
+use Rattle.obs_exchange.proofs.Queued.{IsVisiting-push, flag-set, visiting_room}
+use Rattle.obs_exchange.proofs.Trails.{Stays-push}
 use Rattle.obs_exchange.proofs.queue.reach.Goals as goal
 
-pub push-requires-clause-queue : goal.push-requires-clause-queue
-push-requires-clause-queue c =
-    visiting_room c.args.g.now.ends c.args.ms.now.touches c.args.from c.args.a.now c.args.marks.now c.args.parents.now c.args.queue.now c.args.tail.now c.args.head c.args.walked.now
-    c.args.x c.args.by c.requires.visiting (omega (arith, c.requires.x, c.requires.meters)) c.if-marks-x.false
+pub push-requires : goal.push-requires
+push-requires c = let r = c.requires in record {
+  x = omega (arith, r.x, r.visiting.searching.marks_len);
+  tail = visiting_room c.args.over.now c.args.trail.now c.args.x c.args.by r.visiting r.x (sym c.is_marked.ensures.marked ∙ c.if-is_marked.false);
+}
 
-pub returns-clause-visiting : goal.returns-clause-visiting
-returns-clause-visiting c =
-    rw (c.push.ensures.marks, c.push.ensures.parents, c.push.ensures.queue, c.push.ensures.tail)
-    (IsVisiting-push c.args.g.now.ends c.args.ms.now.touches c.args.from c.args.a.now c.args.marks.now c.args.parents.now c.args.queue.now c.args.tail.now c.args.head c.args.walked.now
-    c.args.x c.args.by c.requires.visiting (omega (arith, c.requires.x, c.requires.meters)) c.if-marks-x.false (sym c.frozen.ensures.frozen ∙ c.if-frozen.false) c.requires.touched c.requires.needed)
+pub returns : goal.returns
+returns c = let r = c.requires in let t = c.args.trail.now in
+    let low : c.args.x < length t.marks = omega (arith, r.x, r.visiting.searching.marks_len) in
+    rw c.push.ensures.pushed
+    (record {
+      visiting = IsVisiting-push c.args.over.now t c.args.x c.args.by r.visiting r.x (sym c.is_marked.ensures.marked ∙ c.if-is_marked.false)
+          (sym c.is_frozen.ensures.frozen ∙ c.if-is_frozen.false) r.touched r.needed;
+      reached = λ f. flag-set t.marks c.args.x low;
+      stays = Stays-push t c.args.x (Some c.args.by) low;
+    })

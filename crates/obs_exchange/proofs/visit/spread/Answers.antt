@@ -2,22 +2,18 @@ use Rattle.std.proofs.Common.{arith}
 use Rattle.obs_exchange.proofs.Closing.{tail_low}
 use Rattle.obs_exchange.proofs.visit.spread.Goals as goal
 
-pub offset_bounds-queue-head : goal.offset_bounds-queue-head
-offset_bounds-queue-head c = let l = c.loop-head in
-    let t = tail_low c.args.g.now c.args.ms.now.touches c.args.from c.args.a.now l.marks l.parents l.queue l.tail l.head l.walked l.invariant.searching in
-    omega (arith, t, c.loop-head-test.true, c.count.ensures.count, c.count.type_inv)
+pub next-m-requires : goal.next-m-requires
+next-m-requires c = let l = c.loop-trail in let s = l.invariant.running.searching in
+    let t = tail_low c.args.over.now l.trail s in
+    let w = c.waits.ensures.waits.0 c.loop-trail-test.true in
+    record { head = omega (arith, t, w, s.marks_len) }
 
-pub bounds-queue-head : goal.bounds-queue-head
-bounds-queue-head c = let l = c.loop-head in
-    let t = tail_low c.args.g.now c.args.ms.now.touches c.args.from c.args.a.now l.marks l.parents l.queue l.tail l.head l.walked l.invariant.searching in
-    omega (arith, t, c.loop-head-test.true, l.invariant.searching.queue_len)
+pub advance-requires : goal.advance-requires
+advance-requires c = let v = c.visit.ensures.visiting in
+    let t = tail_low c.args.over.now c.visit.new.trail v.searching in
+    record { head = omega (arith, t, v.below, v.searching.marks_len) }
 
-pub overflow_add-head : goal.overflow_add-head
-overflow_add-head c = let l = c.loop-head in
-    let t = tail_low c.args.g.now c.args.ms.now.touches c.args.from c.args.a.now l.marks l.parents l.queue l.tail l.head l.walked l.invariant.searching in
-    omega (arith, t, c.loop-head-test.true, c.count.ensures.count, c.count.type_inv)
-
-pub loop-head-smaller : goal.loop-head-smaller
-loop-head-smaller c = let l = c.loop-head in
-    let t = tail_low c.args.g.now c.args.ms.now.touches c.args.from c.args.a.now l.marks l.parents l.queue l.tail l.head l.walked l.invariant.searching in
-    omega (arith, t, c.loop-head-test.true)
+pub loop-trail-smaller : goal.loop-trail-smaller
+loop-trail-smaller c = let l = c.loop-trail in let v = c.visit.ensures in
+    let t = tail_low c.args.over.now c.visit.new.trail v.visiting.searching in
+    rw c.advance.ensures.advanced (omega (arith, t, v.visiting.below, v.stays.head))

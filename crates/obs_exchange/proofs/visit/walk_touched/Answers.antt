@@ -15,5 +15,4 @@ returns-then-walk-clause-walked c = record {
 
 pub returns-clause-walked : goal.returns-clause-walked
 returns-clause-walked c = let l = c.loop-e in
-    Touching-end c.args.g.now.ends c.args.ms.now.touches c.args.from c.args.a.now c.args.marks.now c.args.walked.now l.marks l.parents l.queue l.tail c.args.head l.walked c.args.m c.args.touched.now l.e-index l.invariant.touching
-    c.requires.touched c.loop-e-test.false
+    Touching-end c.args.over.now c.args.trail.now l.trail c.args.m l.tops c.args.touched.now l.e-index l.invariant c.requires.touched c.loop-e-test.false

@@ -1,17 +1,36 @@
 use Rattle.std.proofs.Common.{arith}
 use Rattle.obs_exchange.proofs.Queued.{flag-set}
+use Rattle.obs_exchange.proofs.Trails.{Stays-then, Stays-walk}
+use Rattle.obs_exchange.proofs.Visiting.{IsVisiting-walk}
 use Rattle.obs_exchange.proofs.Walking.{touched_low, touched_there}
 use Rattle.obs_exchange.proofs.walk.walk.Goals as goal
 
-pub bounds-walked-by : goal.bounds-walked-by
-bounds-walked-by c = let l = touched_low c.args.g.now.ends c.args.ms.now.touches c.args.by.meter c.args.by.branch c.requires.touched in omega (arith, l, c.requires.flags)
+pub is_walked-requires : goal.is_walked-requires
+is_walked-requires c =
+    let l = touched_low c.args.over.now.graph.ends c.args.over.now.touches c.args.by.meter c.args.by.branch c.requires.touched in
+    record { e = omega (arith, l, c.requires.visiting.searching.walked_len) }
 
-pub is_free-requires-clause-present : goal.is_free-requires-clause-present
-is_free-requires-clause-present c = touched_there c.args.g.now.ends c.args.ms.now.touches c.args.by.meter c.args.by.branch c.requires.touched
+pub is_free-requires : goal.is_free-requires
+is_free-requires c = record { present = touched_there c.args.over.now.graph.ends c.args.over.now.touches c.args.by.meter c.args.by.branch c.requires.touched }
 
-pub bounds-walked-by-2 : goal.bounds-walked-by-2
-bounds-walked-by-2 c = let l = touched_low c.args.g.now.ends c.args.ms.now.touches c.args.by.meter c.args.by.branch c.requires.touched in omega (arith, l, c.requires.flags)
+pub walk-requires : goal.walk-requires
+walk-requires c =
+    let l = touched_low c.args.over.now.graph.ends c.args.over.now.touches c.args.by.meter c.args.by.branch c.requires.touched in
+    record { e = omega (arith, l, c.reach_needed.ensures.visiting.searching.walked_len) }
+
+pub returns-clause-visiting : goal.returns-clause-visiting
+returns-clause-visiting c = let n = c.reach_needed in
+    let l = touched_low c.args.over.now.graph.ends c.args.over.now.touches c.args.by.meter c.args.by.branch c.requires.touched in
+    rw c.walk.ensures.walked
+    (IsVisiting-walk c.args.over.now n.new.trail c.args.by.meter n.ensures.visiting c.args.by.branch (omega (arith, l, n.ensures.visiting.searching.walked_len)) n.ensures.reached)
 
 pub returns-clause-free : goal.returns-clause-free
-returns-clause-free c = let l = touched_low c.args.g.now.ends c.args.ms.now.touches c.args.by.meter c.args.by.branch c.requires.touched in
-    flag-set c.args.walked.now c.args.by.branch (omega (arith, l, c.requires.flags))
+returns-clause-free c = let n = c.reach_needed in
+    let l = touched_low c.args.over.now.graph.ends c.args.over.now.touches c.args.by.meter c.args.by.branch c.requires.touched in
+    rw c.walk.ensures.walked (flag-set n.new.trail.walked c.args.by.branch (omega (arith, l, n.ensures.visiting.searching.walked_len)))
+
+pub returns-clause-stays : goal.returns-clause-stays
+returns-clause-stays c = let n = c.reach_needed in
+    let l = touched_low c.args.over.now.graph.ends c.args.over.now.touches c.args.by.meter c.args.by.branch c.requires.touched in
+    rw c.walk.ensures.walked
+    (Stays-then c.args.trail.now n.new.trail _ n.ensures.stays (Stays-walk n.new.trail c.args.by.branch (omega (arith, l, n.ensures.visiting.searching.walked_len))))

@@ -1,17 +1,48 @@
-use Rattle.std.proofs.Common.{◌≡◌, ◌++◌, ◌≤◌, Bool, List, length, take, drop, ap, ◌∙◌, arith}
+use Rattle.std.proofs.Common.{◌≡◌, ◌-◌, ◌≤◌, length, take, drop, ap, ◌∙◌, arith}
+use Rattle.std.proofs.lemmas.List.{length-drop, take_all}
 use Rattle.obs_exchange.specs.Found.{Work}
 use Rattle.obs_exchange.proofs.Closing.{HasClosed-flags}
 use Rattle.obs_exchange.proofs.work.Work.run.Goals as goal
 use Rattle.obs_graph.proofs.Stored.{written_back}
 
+pub invariant_of-self : goal.invariant_of-self
+invariant_of-self g c =
+    let ins = c.self.inside in
+    let i = c.self.invariant in
+    let f = c.find-found in
+    let path : length f.new.path ≡ length ins.path.items = f.auto.path ∙ ap length c.deref_mut-2.ensures.value in
+    let path_back = written_back ins.path.len f.new.path ins.path.items path ins.path.ok.0 in
+    let tops : length f.new.tops ≡ length ins.tops.items = f.auto.tops ∙ ap length c.deref_mut.ensures.value in
+    let tops_back = written_back ins.tops.len f.new.tops ins.tops.items tops ins.tops.ok.0 in
+    let most = ap (λ (w : Work). w.sizes.meters) c.self.view_is in
+    rw (path_back, tops_back) (
+      omega (arith, c.count.ensures.count, f.ensures.same_meters, most, c.requires.room.meters),
+      omega (arith, i.1, f.ensures.same_meters),
+      omega (arith, i.2, f.ensures.same_meters),
+      omega (arith, path, i.3, f.ensures.same_meters),
+      omega (arith, tops, i.4, f.ensures.same_vertices),
+      omega (arith, i.5, f.ensures.same_vertices),
+      i.6,
+    )
+
+pub returns-in-Ok-clause-found : goal.returns-in-Ok-clause-found
+returns-in-Ok-clause-found g c =
+    let n = c.new.ensures in
+    let ins = c.self.inside in
+    let f = c.find-found in
+    let k = c.in-Ok.k in
+    let path : length f.new.path ≡ length ins.path.items = f.auto.path ∙ ap length c.deref_mut-2.ensures.value in
+    let all : take (length f.new.path - k) (drop k f.new.path) ≡ drop k f.new.path =
+    take_all (length f.new.path - k) (drop k f.new.path) (omega (arith, length-drop k f.new.path)) in
+    c.grow-m.ensures.grown c.args.from
+    (rw (c.deref-in-Ok-2.ensures.value, written_back ins.path.len f.new.path ins.path.items path ins.path.ok.0, all)
+    (rw (n.graph, n.touches, n.assignment, n.sources) at c.in-Ok.ensures.found.begins))
+
 pub returns-in-Err-clause-found : goal.returns-in-Err-clause-found
 returns-in-Err-clause-found g c =
-    let ins = c.self.inside in
-    let marks = c.find-start.new.marks in
-    let len : length marks ≡ length ins.reached.items = c.find-start.auto.marks ∙ ap (λ (s : List Bool). length s) c.deref_mut.ensures.value in
-    let back : take ins.reached.len (marks ++ drop (length marks) ins.reached.items) ≡ marks = written_back ins.reached.len marks ins.reached.items len ins.reached.ok.0 in
+    let marks = c.find-found.new.trail.marks in
     let most = ap (λ (w : Work). w.sizes.meters) c.self.view_is in
-    let room = c.requires.room.meters in
-    let low : length c.args.ms.now.touches ≤ length marks = omega (arith, len, most, room) in
-    rw back
-    (HasClosed-flags c.args.g.now c.args.ms.now.touches c.args.from c.args.a.now c.vertices.ensures.branches c.length.ensures.whole c.requires.stands marks c.count.result c.count.ensures.count low c.in-Err.ensures.found)
+    let low : length c.args.ms.now.touches ≤ length marks = omega (arith, c.find-found.ensures.same_meters, most, c.requires.room.meters) in
+    let n = c.new.ensures in
+    HasClosed-flags c.args.g.now c.args.ms.now.touches c.args.from c.args.a.now (rw n.graph at n.sound.branches) c.length.ensures.whole c.requires.stands marks c.count.result c.count.ensures.count low
+    (rw (n.graph, n.touches, n.assignment, n.sources) at c.in-Err.ensures.found)

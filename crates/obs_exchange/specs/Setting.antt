@@ -1,0 +1,58 @@
+-- What a search is over. It stays as it is while the search runs.
+use Rattle.std.specs.Prelude.{◌≡◌, ℕ, suc, ◌≤◌, Bool, Option, List, length}
+use Rattle.obs_graph.specs.declared.search.Up.{Up}
+use Rattle.obs_graph.specs.Graph.{Graph}
+use Rattle.obs_graph.specs.Joined.{IsForest}
+use Rattle.obs_graph.specs.Positions.{AreBranches, present}
+use Rattle.obs_matroid.specs.Assignments.{branches}
+use Rattle.obs_meter.specs.declared.Touch.{Touch}
+use Rattle.obs_meter.specs.Touches.{AreInRange, touch_at}
+use Rattle.obs_forest.specs.Cycle.{AreWays}
+use Rattle.obs_assign.specs.Assignment.{Assignment, IsWhole, StandsOver, pairs}
+use Rattle.obs_assign.specs.Pins.{joins}
+use Rattle.obs_exchange.specs.declared.Sources.{Sources}
+use Rattle.obs_exchange.specs.declared.Sources.TheVariants.{All, One}
+use Rattle.obs_exchange.specs.Closed.{IsSource}
+
+-- the first meter that may be a source, and the one after the last; there are n meters
+abbrev pub first_of : Sources → ℕ
+first_of All = 0
+first_of (One m) = m
+
+abbrev pub end_of : Sources → ℕ → ℕ
+end_of All n = n
+end_of (One m) n = suc m
+
+-- a graph, what meters touch in it, an assignment, and from which meters the search begins; and by vertex its way up in
+-- the forest of the assignment, and how many branches lead up from it
+pub record Setting : Type 0 where
+  pub graph : Graph
+  pub touches : List Touch
+  pub assignment : Assignment
+  pub sources : Sources
+  pub ups : List (Option Up)
+  pub depths : List ℕ
+
+-- what is true of every setting
+pub record IsSound (over : Setting) : Type 0 where
+  pub branches : AreBranches over.graph.vertices over.graph.ends
+  pub in_range : AreInRange over.graph over.touches
+  pub whole : IsWhole over.assignment
+  pub stands : StandsOver over.assignment over.graph over.touches
+  pub sources_low : end_of over.sources (length over.touches) ≤ length over.touches
+  pub ups_len : length over.ups ≡ over.graph.vertices
+  pub depths_len : length over.depths ≡ over.graph.vertices
+  pub forest : IsForest (present over.assignment.forest.held)
+  pub ways : AreWays over.graph.vertices over.assignment.forest.held over.ups over.depths
+
+-- the meter is a source of the search
+abbrev pub IsSourceIn : Setting → ℕ → Type 0
+IsSourceIn over m = IsSource over.graph.ends over.touches over.sources over.assignment m
+
+-- the branches that the meter touches
+abbrev pub touched_in : Setting → ℕ → List ℕ
+touched_in over m = touch_at over.graph.ends over.touches m
+
+-- whether the branches of the pairs join the ends of e
+abbrev pub is_joined_in : Setting → ℕ → Bool
+is_joined_in over e = joins over.graph.ends (branches (pairs over.assignment)) e

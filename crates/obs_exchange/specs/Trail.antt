@@ -1,0 +1,67 @@
+-- What a search has reached and walked.
+use Rattle.std.specs.Prelude.{◌≡◌, ℕ, ◌+◌, Bool, true, false, Option, None, List, length, replicate, slice_set}
+use Rattle.obs_assign.specs.declared.Move.{Move}
+use Rattle.obs_assign.specs.Assignment.{has_flag}
+
+-- by meter whether it is marked, and the move by which it was reached, or none; the queue of the marked meters, of which
+-- those before the head were visited, and those from there to the tail wait; and by branch whether it was walked
+pub record Trail : Type 0 where
+  pub marks : List Bool
+  pub parents : List (Option Move)
+  pub queue : List ℕ
+  pub head : ℕ
+  pub tail : ℕ
+  pub walked : List Bool
+
+-- a trail as it is made, with room for so many meters and branches
+abbrev pub new_trail : ℕ → ℕ → Trail
+new_trail meters branches =
+    record {
+      marks = replicate meters false;
+      parents = replicate meters None;
+      queue = replicate meters 0;
+      head = 0;
+      tail = 0;
+      walked = replicate branches false;
+    }
+
+-- nothing is marked, waits or was walked
+abbrev pub cleared : Trail → Trail
+cleared t =
+    record t {
+      marks = replicate (length t.marks) false;
+      head = 0;
+      tail = 0;
+      walked = replicate (length t.walked) false;
+    }
+
+-- after a meter was marked and put into the queue
+abbrev pub pushed : Trail → ℕ → Option Move → Trail
+pushed t x by =
+    record t {
+      marks = slice_set t.marks x true;
+      parents = slice_set t.parents x by;
+      queue = slice_set t.queue t.tail x;
+      tail = t.tail + 1;
+    }
+
+-- each list of meters has as many entries as the first
+pub record AreFull (t : Trail) : Type 0 where
+  pub parents_len : length t.parents ≡ length t.marks
+  pub queue_len : length t.queue ≡ length t.marks
+
+-- each flag that is set in the one list is set in the other
+abbrev pub Keeps : List Bool → List Bool → Type 0
+Keeps before after = (k : ℕ) → has_flag before k ≡ true → has_flag after k ≡ true
+
+-- no mark is taken back, and no walk, and the room is the same
+pub record Follows (before after : Trail) : Type 0 where
+  pub marks : Keeps before.marks after.marks
+  pub walked : Keeps before.walked after.walked
+  pub meters : length after.marks ≡ length before.marks
+  pub branches : length after.walked ≡ length before.walked
+
+-- the same, and the head stays where it is
+pub record Stays (before after : Trail) : Type 0 where
+  pub follows : Follows before after
+  pub head : after.head ≡ before.head
