@@ -40,6 +40,17 @@ count_gone n (None ∷ slots) (suc x) = count_gone (suc n) slots x
 count_gone n (Some e ∷ slots) zero = omega arith
 count_gone n (Some e ∷ slots) (suc x) = let h = count_gone (suc n) slots x in omega arith
 
+-- and at most one fewer
+count_left : (n : ℕ) (slots : List (Option ℕ)) (x : ℕ) → length (pairs_from n slots) ≤ length (pairs_from n (set slots x None)) + 1
+count_left n [] x = omega arith
+count_left n (None ∷ slots) zero = omega arith
+count_left n (None ∷ slots) (suc x) = count_left (suc n) slots x
+count_left n (Some e ∷ slots) zero = omega arith
+count_left n (Some e ∷ slots) (suc x) = let h = count_left (suc n) slots x in omega (arith, h)
+
+pub length-left : (slots : List (Option ℕ)) (x : ℕ) → length (pairs_of slots) ≤ length (pairs_of (set slots x None)) + 1
+length-left slots x = count_left 0 slots x
+
 put_bound : (slots : List (Option ℕ)) (m e : ℕ) (o : Option ℕ) → m < length slots → get_or slots m None ≡ o → length (pairs_of (set slots m (Some e))) ≤ length (pairs_of slots) + 1
 put_bound slots m e None l h = omega (arith, length-put_bare slots m e l h)
 put_bound slots m e (Some f) l h = omega (arith, length-put_paired slots m e f h)
@@ -48,6 +59,12 @@ pub length-pinned : (slots : List (Option ℕ)) (m e x : ℕ) → m < length slo
 length-pinned slots m e x l =
     let a = put_bound (set slots x None) m e (get_or (set slots x None) m None) (omega (arith, l, length-set slots x None)) refl in
     omega (arith, a, count_gone 0 slots x)
+
+-- no fewer, where the pinned meter has no pair once x has given up its own
+pub length-pinned_bare : (slots : List (Option ℕ)) (m e x : ℕ) → m < length slots → get_or (set slots x None) m None ≡ None → length (pairs_of slots) ≤ length (pairs_of (pinned_slots slots m e x))
+length-pinned_bare slots m e x l none =
+    let a = length-put_bare (set slots x None) m e (omega (arith, l, length-set slots x None)) none in
+    omega (arith, a, length-left slots x)
 
 module _ (n : ℕ) (g : Graph) (touches : List Touch) (a : Assignment) (ok : AreBranches n g.ends) (whole : IsWhole a) (stands : StandsOver a g touches) (m e x : ℕ)
     (low : m < length a.slots) (touched : In e (touch_at g.ends touches m)) (thawed : is_frozen a m ≡ false) (spare : IsSpare g.ends a.slots a.frozen m e x) where

@@ -13,3 +13,4 @@ pub mod AtGraph
 pub mod Lawful
 pub mod Lengthening
 pub mod Noting
+pub mod Changing

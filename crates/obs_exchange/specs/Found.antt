@@ -1,5 +1,5 @@
 -- What a search finds: one pair more, or a closed set that shows that there is none.
-use Rattle.std.specs.Prelude.{◌≡◌, ◌≢◌, ◌↔◌, ℕ, ◌+◌, ◌<◌, Bool, true, Option, None, List, length}
+use Rattle.std.specs.Prelude.{◌≡◌, ◌≢◌, ◌↔◌, ℕ, ◌+◌, ◌<◌, Bool, true, false, Option, None, List, length}
 use Rattle.obs_graph.specs.declared.Ends.{Ends}
 use Rattle.obs_matroid.specs.Lists.{In, IsDistinct}
 use Rattle.obs_matroid.specs.Assignments.{Pair, items}
@@ -59,9 +59,15 @@ pub record AreListed (flags : List Bool) (listed : List ℕ) : Type 0 where
   pub exactly : (m : ℕ) → In m listed ↔ (has_flag flags m ≡ true)
 
 -- what a work value is seen as: a flag for each meter that the last closed search reached, these meters in the order in which it
--- reached them, the meters that are noted, and the sizes that it was made for
+-- reached them, the meters that are noted, what each meter touches as it was copied, and the sizes that it was made for
 pub record Work : Type 0 where
   pub reached : List Bool
   pub listed : List ℕ
   pub noted : Noted
+  pub touches : List Touch
   pub sizes : Sizes
+
+-- what the meters of a search touch: what was copied, or what is given
+abbrev pub searched : Bool → List Touch → List Touch → List Touch
+searched true copy given = copy
+searched false copy given = given

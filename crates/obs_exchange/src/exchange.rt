@@ -35,5 +35,5 @@ pub fn search<L: Ledger>(
     ensures same_sizes { work.new.sizes ≡ work.old.sizes }
 {
     work.note_all();
-    work.run(g, ms, a, from, steps)
+    work.run(g, ms, a, from, false, steps)
 }

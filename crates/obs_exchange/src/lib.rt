@@ -23,6 +23,7 @@ pub struct Lengthened {
 }
 
 mod begin;
+mod changed;
 mod exchange;
 mod find;
 mod free;
@@ -40,6 +41,7 @@ mod visit;
 mod walk;
 mod work;
 
+pub use changed::search_by;
 pub use exchange::search;
 pub use memory::NoMemory;
 pub use repeated::{lengthen, lengthen_from};

@@ -36,7 +36,7 @@ fn search_noted<L: Ledger>(
     ensures same_sizes { work.new.sizes ≡ work.old.sizes }
 {
     let _ = ms.count();
-    match work.run(g, ms, a, Sources::All, steps) {
+    match work.run(g, ms, a, Sources::All, false, steps) {
         Found::Grown(m) => {
             work.note(m, false);
             Found::Grown(m)

@@ -5,7 +5,7 @@ ghost use Rattle.obs_meter.specs.Touches.{AreInRange};
 ghost use Rattle.obs_assign.specs.Assignment.{HasRoomOf, IsWhole, StandsOver};
 ghost use Rattle.obs_exchange.specs.declared.Found.{Found};
 ghost use Rattle.obs_exchange.specs.declared.Sources.TheVariants.{All};
-ghost use Rattle.obs_exchange.specs.Found.{AreListed, CanBegin, IsFound};
+ghost use Rattle.obs_exchange.specs.Found.{AreListed, CanBegin, IsFound, searched};
 ghost use Rattle.obs_exchange.specs.Noting.{AreNoted};
 
 use crate::find::{find, grow};
@@ -19,7 +19,7 @@ use crate::trail::Trail;
 use crate::{Found, Sources};
 use obs_assign::{Assignment, Move, Steps};
 use obs_graph::Graph;
-use obs_meter::Meters;
+use obs_meter::{Meters, Touch};
 use std::alloc::Global;
 use std::marker::Model;
 use std::sync::ledger::Ledger;
@@ -44,6 +44,8 @@ pub struct Work {
     pairs: u32,
     // the meters among which it looks for sources
     noted: Noted,
+    // the meters, copied, for searches where one of them touches something else
+    copy: Meters,
     // where the next search begins to try sources
     pass: Pass,
 }
@@ -60,6 +62,7 @@ impl Model for Work {
           reached = take w.meters w.trail.marks;
           listed = take w.count w.trail.queue;
           noted = w.noted;
+          touches = w.copy.touches;
           sizes = record {
             meters = length w.trail.marks;
             branches = length w.trail.walked;
@@ -69,7 +72,8 @@ impl Model for Work {
 
     ghost invariant = { λ w.
         (w.meters ≤ length w.trail.marks) × (w.count ≤ length w.trail.marks)
-        × (length w.noted.flags ≡ length w.trail.marks) × (length w.path.items ≡ length w.trail.marks)
+        × (length w.noted.flags ≡ length w.trail.marks) × (w.copy.most ≡ length w.trail.marks)
+        × (length w.path.items ≡ length w.trail.marks)
         × (length w.tops.items ≡ length w.stars) × (length w.numbers.items ≡ length w.stars)
         × AreNumbers w.numbers.items };
 }
@@ -87,9 +91,17 @@ impl Drop for Work {
             path: _,
             pairs: _,
             noted: _,
+            copy: _,
             pass: _,
         } = self;
     }
+}
+
+/// The copied meters, or those that are given.
+fn picked<'a>(given: &'a Meters, copy: &'a Meters, copied: bool) -> &'a Meters
+    ensures touches { result.now.touches ≡ searched copied copy.now.touches given.now.touches }
+{
+    if copied { copy } else { given }
 }
 
 impl Work {
@@ -104,6 +116,7 @@ impl Work {
           reached = [];
           listed = [];
           noted = record { all = true; flags = replicate most_meters false };
+          touches = [];
           sizes = record { meters = most_meters; branches = most_branches; vertices = most_vertices };
         }) }
     {
@@ -123,6 +136,7 @@ impl Work {
             path: vec![in alloc; no_move; most_meters as usize]?,
             pairs: 0,
             noted: Noted::make(alloc, most_meters)?,
+            copy: Meters::make(alloc, most_meters)?,
             pass: Pass::new(),
         })
     }
@@ -141,18 +155,20 @@ impl Work {
         self.trail.queued(self.count)
     }
 
-    /// Notes the live meters without a pair, for `lengthen_from`.
+    /// Notes the live meters without a pair, for `lengthen_from` and `search_by`, and copies the meters for the latter.
     pub fn note_sources(&mut self, g: &Graph, ms: &Meters, a: &Assignment)
         requires stands { StandsOver a.now g.now ms.now.touches }
         requires in_range { AreInRange g.now ms.now.touches }
         requires room { HasRoomFor self.old.sizes g.now ms.now.touches }
         ensures noted { AreNoted g.now.ends ms.now.touches All a.now self.new.noted }
+        ensures copied { self.new.touches ≡ ms.now.touches }
         ensures same_sizes { self.new.sizes ≡ self.old.sizes }
     {
         self.noted.put_sources(g, ms, a);
+        self.copy.refill(ms.touches());
     }
 
-    /// Notes a meter, or notes it no more, for `lengthen_from`.
+    /// Notes a meter, or notes it no more, for `lengthen_from` and `search_by`.
     pub fn note(&mut self, m: u32, noted: bool)
         requires m { m < self.old.sizes.meters }
         ensures noted { self.new ≡ record self.old {
@@ -170,29 +186,42 @@ impl Work {
         self.noted.put_all();
     }
 
-    /// The body of `search`, over the noted meters.
+    /// Makes one of the copied meters touch this.
+    pub(crate) fn change(&mut self, m: u32, touch: Touch)
+        requires m { m < length self.old.touches }
+        ensures changed { self.new ≡ record self.old { touches = slice_set self.old.touches m touch } }
+    {
+        self.copy.set(m, touch);
+    }
+
+    /// The body of `search`, over the noted meters; over the copied ones, where these are asked for.
     pub(crate) fn run<L: Ledger>(
         &mut self,
         g: &Graph,
         ms: &Meters,
         a: &mut Assignment,
         from: Sources,
+        copied: bool,
         steps: &mut Steps<L>,
     ) -> Found
-        requires stands { StandsOver a.old g.now ms.now.touches }
-        requires in_range { AreInRange g.now ms.now.touches }
-        requires room { HasRoomFor self.old.sizes g.now ms.now.touches }
+        requires stands { StandsOver a.old g.now (searched copied self.old.touches ms.now.touches) }
+        requires in_range { AreInRange g.now (searched copied self.old.touches ms.now.touches) }
+        requires room { HasRoomFor self.old.sizes g.now (searched copied self.old.touches ms.now.touches) }
         requires begins { CanBegin from a.old }
-        requires noted { AreNoted g.now.ends ms.now.touches from a.old self.old.noted }
-        ensures found { IsFound g.now.ends ms.now.touches from a.old a.new self.new.reached result }
+        requires noted { AreNoted g.now.ends (searched copied self.old.touches ms.now.touches)
+            from a.old self.old.noted }
+        ensures found { IsFound g.now.ends (searched copied self.old.touches ms.now.touches)
+            from a.old a.new self.new.reached result }
         ensures listed { result ≡ Found.Closed → AreListed self.new.reached self.new.listed }
         ensures noted { self.new.noted ≡ self.old.noted }
+        ensures same_touches { self.new.touches ≡ self.old.touches }
         ensures tick { steps.new ≡ steps.old + 1 }
-        ensures stands { StandsOver a.new g.now ms.now.touches }
+        ensures stands { StandsOver a.new g.now (searched copied self.old.touches ms.now.touches) }
         ensures whole { IsWhole a.new }
         ensures same_room { HasRoomOf a.old a.new }
         ensures same_sizes { self.new.sizes ≡ self.old.sizes }
     {
+        let ms = picked(ms, &self.copy, copied);
         self.meters = ms.count() as usize;
         let start = self.pass.resumed(a).start(from, a.length(), self.pairs);
         self.pairs = a.length();

@@ -72,6 +72,13 @@ impl Meters {
         self.count as u32
     }
 
+    /// What each item touches, by number.
+    pub fn touches(&self) -> &[Touch]
+        ensures touches { result.now ≡ self.now.touches }
+    {
+        &self.touches[..self.count]
+    }
+
     /// What the item touches.
     pub fn kind(&self, m: u32) -> Touch
         requires item { m < length self.now.touches }

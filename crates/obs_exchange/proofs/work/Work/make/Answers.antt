@@ -1,5 +1,6 @@
 use Rattle.std.proofs.Common.{◌≡◌, ◌++◌, Bool, List, false, length, take, drop, ap, ◌∙◌, arith}
 use Rattle.std.proofs.lemmas.List.{length-replicate}
+use Rattle.obs_meter.specs.Held.{Meters}
 use Rattle.obs_exchange.specs.Noting.{Noted}
 use Rattle.obs_exchange.specs.Trail.{Trail}
 use Rattle.obs_exchange.proofs.work.Work.make.Goals as goal
@@ -10,6 +11,7 @@ invariant_of-result c =
     let marks = ap (λ (t : Trail). length t.marks) c.in_ok-make.ensures.made ∙ length-replicate c.args.most_meters false in
     let stars = ap (λ (s : List Bool). length s) c.in_ok-make-2.ensures.made ∙ length-replicate c.args.most_vertices false in
     let noted = ap (λ (n : Noted). length n.flags) c.in_ok-make-3.ensures.made ∙ length-replicate c.args.most_meters false in
+    let copied : c.in_ok-make-4.field-0.most ≡ c.args.most_meters = ap (λ (m : Meters). m.most) c.in_ok-make-4.ensures.empty in
     let tops = c.in_ok-vec.ensures.len in
     let path = c.in_ok-vec-2.ensures.len in
     let v = c.in_ok-numbers.numbers in
@@ -18,6 +20,7 @@ invariant_of-result c =
       omega arith,
       omega arith,
       omega (arith, noted, marks),
+      omega (arith, copied, marks),
       omega (arith, path, marks),
       omega (arith, tops, stars),
       rw back (omega (arith, same, c.in_ok-numbers.ensures.len, stars)),
