@@ -1,6 +1,5 @@
 -- A meter is decided: what is known of the meters before it, of the branches that it was refused, and of the one that it took.
-use Rattle.std.proofs.Common.{◌≡◌, ℕ, ◌+◌, ◌<◌, ◌≤◌, Bool, true, false, Some, None, List, [], ◌∷◌, ◌++◌, length, take, get_or, set, refl, sym, ap, ◌∙◌, subst, inl, inr, ◌↔◌, arith, get_or-set_same, get_or-set_other}
-use Rattle.std.specs.Prelude.{MatchBool}
+use Rattle.std.proofs.Common.{◌≡◌, ℕ, ◌+◌, ◌<◌, ◌≤◌, Bool, true, false, Some, None, List, [], ◌∷◌, ◌++◌, length, take, get_or, set, sym, ap, ◌∙◌, subst, inl, inr, ◌↔◌, arith, get_or-set_same, get_or-set_other}
 use Rattle.std.specs.List.{range_with_len}
 use Rattle.std.proofs.lemmas.Bool.{cases_eq}
 use Rattle.obs_graph.specs.Graph.{Graph}
@@ -23,7 +22,7 @@ use Rattle.obs_meter.proofs.Touched.{touch-rising}
 use Rattle.obs_assign.specs.Assignment.{Assignment, IsWhole, StandsOver, has_flag, is_frozen, pairs}
 use Rattle.obs_assign.proofs.Slotted.{item_slot, slot_item}
 use Rattle.obs_assign.proofs.Standing.{IsAssignmentAt-standing}
-use Rattle.obs_first.specs.Deciding.{HasFrozenOf, HasRefused, IsDecided, KeepsFrozen, NoneSoLong}
+use Rattle.obs_first.specs.Deciding.{HasFrozenOf, HasRefused, IsDecided, KeepsFrozen}
 use Rattle.obs_first.proofs.Frozen.{Extends-kept, HasFrozenOf-kept, HasFrozenOf-pairs, KeepsFrozen-on, frozen_same}
 use Rattle.obs_first.proofs.Fronts.{In-take_lower, In-take_more}
 
@@ -66,14 +65,6 @@ Trying-passed g touches a b m long xs k d h low r = record {
     | inr same ↦ r B x (subst (λ y. In (m, y) B) same j)
   ];
 }
-
--- the pairs of a have the frozen ones that b has kept, so b grows to their number
-pub regrown_long : (g : Graph) (touches : List Touch) (a b : Assignment) (long : ℕ) → IsWhole a → StandsOver a g touches → length (pairs a) ≡ long → b.frozen ≡ a.frozen → KeepsFrozen a b
-    → (grown : Bool) (after : ℕ) → MatchBool grown (long ≤ after) (NoneSoLong g.ends touches b long) → long ≤ after
-regrown_long g touches a b long w s l e k true after more = more
-regrown_long g touches a b long w s l e k false after none =
-    let n = none (pairs a) (HasFrozenOf-kept g.ends touches a b (pairs a) e k (HasFrozenOf-pairs a a g touches w s (λ x f. refl))) in
-    absurd (omega (arith, n, l))
 
 module _ (g : Graph) (touches : List Touch) (a : Assignment) (m long : ℕ) (d : IsDecided g.ends touches a m long)
     (whole : IsWhole a) (stands : StandsOver a g touches) where

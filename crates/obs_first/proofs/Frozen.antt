@@ -1,8 +1,6 @@
 -- Frozen pairs that are kept while the others change.
-use Rattle.std.proofs.Common.{◌≡◌, ℕ, ◌<◌, ◌≤◌, Bool, true, false, not, Option, List, length, refl, sym, ap, ◌∙◌, arith}
-use Rattle.std.specs.Prelude.{MatchBool}
+use Rattle.std.proofs.Common.{◌≡◌, ℕ, Bool, true, Option, List, sym, ap, ◌∙◌}
 use Rattle.obs_graph.specs.declared.Ends.{Ends}
-use Rattle.obs_graph.specs.Positions.{AreBranches}
 use Rattle.obs_graph.specs.Graph.{Graph}
 use Rattle.obs_matroid.specs.Assignments.{Pair}
 use Rattle.obs_matroid.specs.Closed.{Extends}
@@ -10,12 +8,7 @@ use Rattle.obs_matroid.proofs.Slots.{slot_at, slot_from}
 use Rattle.obs_meter.specs.declared.Touch.{Touch}
 use Rattle.obs_assign.specs.Assignment.{Assignment, IsWhole, StandsOver, has_flag, is_frozen, pairs}
 use Rattle.obs_assign.proofs.Standing.{IsAssignmentAt-standing}
-use Rattle.obs_exchange.specs.declared.Sources.TheVariants.{All}
-use Rattle.obs_exchange.specs.Found.{HasClosed}
-use Rattle.obs_exchange.specs.Lengthened.{HasLengthened}
-use Rattle.obs_exchange.proofs.Lawful.{frozen_longest}
-use Rattle.obs_exchange.proofs.Lengthening.{closed_set}
-use Rattle.obs_first.specs.Deciding.{HasFrozenOf, KeepsFrozen, NoneSoLong}
+use Rattle.obs_first.specs.Deciding.{HasFrozenOf, KeepsFrozen}
 
 -- what is frozen in b is frozen in a
 pub frozen_same : (a b : Assignment) → b.frozen ≡ a.frozen → (x : ℕ) → is_frozen b x ≡ is_frozen a x
@@ -39,15 +32,3 @@ HasFrozenOf-kept ends touches a b B e k h = record {
 
 pub HasFrozenOf-pairs : (a b : Assignment) (g : Graph) (touches : List Touch) → IsWhole b → StandsOver b g touches → KeepsFrozen a b → HasFrozenOf g.ends touches a (pairs b)
 HasFrozenOf-pairs a b g touches w s k = record { assigns = IsAssignmentAt-standing b g touches w s; extends = Extends-kept a b k }
-
--- the searches ended with as many pairs as were asked for, or none is so long that has the frozen pairs
-pub Regrown-ended : (g : Graph) (touches : List Touch) (a b : Assignment) (searches : ℕ) (flags : List Bool) (long : ℕ) → AreBranches g.vertices g.ends → IsWhole b → StandsOver b g touches
-    → HasLengthened a b searches → (closed : Bool) → MatchBool closed (HasClosed g.ends touches All b b flags) (long ≤ length (pairs b)) → (closed ≡ true → length (pairs b) < long)
-    → MatchBool (not closed) (long ≤ length (pairs b)) (NoneSoLong g.ends touches a long)
-Regrown-ended g touches a b searches flags long ok whole stands h false enough short = enough
-Regrown-ended g touches a b searches flags long ok whole stands h true closed short =
-    λ B x.
-    let y = HasFrozenOf-kept g.ends touches a b B h.frozen h.frozen_pairs x in
-    let n = frozen_longest b g touches (has_flag flags) (closed_set g touches b flags ok whole stands closed) B y.assigns y.extends in
-    let l = short refl in
-    omega (arith, n, l)

@@ -2,6 +2,7 @@ pub mod Fronts
 pub mod Frozen
 pub mod Taking
 pub mod Deciding
+pub mod Aside
 pub mod Counting
 pub mod Swapping
 pub mod Listed

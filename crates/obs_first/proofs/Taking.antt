@@ -1,30 +1,28 @@
 -- A meter takes a branch, or is refused it.
-use Rattle.std.proofs.Common.{◌≡◌, ℕ, ◌<◌, Bool, true, false, Option, None, Some, List, length, get_or, set, refl, sym, ap, ◌∙◌, inl, inr, get_or-set_other, length-set, set-set}
+use Rattle.std.proofs.Common.{◌≡◌, ℕ, ◌<◌, true, false, Option, None, Some, List, length, get_or, set, refl, sym, ap, ◌∙◌, inl, inr, get_or-set_other, length-set}
 use Rattle.std.proofs.lemmas.Bool.{cases_Bool}
-use Rattle.std.proofs.lemmas.List.{get_or-set_same, set-get_or}
+use Rattle.std.proofs.lemmas.List.{get_or-set_same}
 use Rattle.obs_graph.specs.declared.Ends.{Ends}
 use Rattle.obs_graph.specs.Positions.{AreBranches}
 use Rattle.obs_graph.specs.Graph.{Graph}
-use Rattle.obs_matroid.specs.Lists.{In}
-use Rattle.obs_matroid.specs.Assignments.{Pair, part}
-use Rattle.obs_matroid.proofs.Lists.{clash, In_same}
+use Rattle.obs_matroid.specs.Assignments.{part}
+use Rattle.obs_matroid.proofs.Lists.{clash}
 use Rattle.obs_matroid.proofs.Pairs.{In-branches, In-part}
 use Rattle.obs_matroid.proofs.Pin.{pin_impossible}
-use Rattle.obs_matroid.proofs.Slots.{pair_from_parts, slot_at, slot_from}
+use Rattle.obs_matroid.proofs.Slots.{slot_at}
 use Rattle.obs_meter.specs.declared.Touch.{Touch}
 use Rattle.obs_meter.specs.Spanned.{graph_matroid}
 use Rattle.obs_meter.specs.Touches.{every_item, touch_at}
 use Rattle.obs_meter.proofs.Assigned.{to_matroid}
 use Rattle.obs_meter.proofs.Instance.{IsMatroid-graph}
-use Rattle.obs_assign.specs.Assignment.{Assignment, branch_at, frozen_branches, has_flag, is_frozen, pairs}
+use Rattle.obs_assign.specs.Assignment.{Assignment, branch_at, frozen_branches, is_frozen, pairs}
 use Rattle.obs_assign.specs.Pins.{IsPinnedAt, MayPin, joins, pinned_slots}
 use Rattle.obs_assign.proofs.Paths.{joins-own}
-use Rattle.obs_assign.proofs.Pinning.{pinned-from}
 use Rattle.obs_assign.proofs.Slotted.{none_some}
 use Rattle.obs_exchange.specs.declared.Sources.TheVariants.{All}
 use Rattle.obs_exchange.specs.Noting.{AreNoted, Noted}
 use Rattle.obs_exchange.proofs.Noting.{AreNoted-less, AreNoted-more}
-use Rattle.obs_first.specs.Deciding.{HasFrozenOf, HasRefused, NoneSoLong}
+use Rattle.obs_first.specs.Deciding.{HasRefused}
 
 module _ (g : Graph) (touches : List Touch) (ok : AreBranches g.vertices g.ends) (a : Assignment) (m e : ℕ) (thawed : is_frozen a m ≡ false) where
   -- where the branch may not be pinned, the frozen branches join its ends
@@ -46,30 +44,6 @@ module _ (g : Graph) (touches : List Touch) (ok : AreBranches g.vertices g.ends)
         (to_matroid g.vertices g.ends touches (every_item touches) B b.assigns) b.extends thawed (frozen_join out) i);
   }
 
-  module _ (b : Assignment) (low : m < length a.slots) (x : ℕ) (p : IsPinnedAt a g.ends m e b.slots x) (frozen : b.frozen ≡ set a.frozen m true) where
-    at_other : (y : ℕ) → (y ≡ m → ⊥) → is_frozen b y ≡ is_frozen a y
-    at_other y n = ap (λ (f : List Bool). has_flag f y) frozen ∙ get_or-set_other a.frozen m y true false n
-
-    -- an assignment that has the frozen pairs and the new one
-    pub HasFrozenOf-pinned : (B : List Pair) → HasFrozenOf g.ends touches a B → In (m, e) B → HasFrozenOf g.ends touches b B
-    HasFrozenOf-pinned B h i = record {
-      assigns = h.assigns;
-      extends = λ q j t.
-          elim (pinned-from a.slots m e x low q.0 q.1 (ap (λ (s : List (Option ℕ)). get_or s q.0 None) (sym p.pairs_are) ∙ slot_from b.slots q j)) [
-            | inl s ↦ In_same q (m, e) B (pair_from_parts q m e s.0 s.1) i
-            | inr s ↦ h.extends q (slot_at a.slots q.0 q.1 s.2) (sym (at_other q.0 s.0) ∙ t)
-          ];
-    }
-
-    -- where that is too short, the pair is dropped again
-    pub HasRefused-dropped : (c d : Assignment) → c.frozen ≡ b.frozen → d.frozen ≡ set c.frozen m false → (long : ℕ) → NoneSoLong g.ends touches b long → HasRefused g.ends touches a d m e long
-    HasRefused-dropped c d same thaws long none = record {
-      frozen =
-          thaws ∙ (ap (λ (f : List Bool). set f m false) (same ∙ frozen)
-          ∙ (set-set a.frozen m true false ∙ (ap (set a.frozen m) (sym thawed) ∙ set-get_or a.frozen m false)));
-      none = λ B h i. none B (HasFrozenOf-pinned B h i);
-    }
-
 -- after a pin the meter that gave up its pair is noted too, and the pinned one no more
 pub AreNoted-pinned : (ends : List (Option Ends)) (touches : List Touch) (a b : Assignment) (m e x : ℕ) (n : Noted) → m < length a.slots → IsPinnedAt a ends m e b.slots x → x < length n.flags
     → AreNoted ends touches All a n → AreNoted ends touches All b (record n { flags = set (set n.flags x true) m false })
@@ -80,9 +54,3 @@ AreNoted-pinned ends touches a b m e x n l p lx h =
     (AreNoted-more ends touches a b x n lx (λ k none ne.
     let other : k ≡ m → ⊥ = λ is. none_some e (sym none ∙ (ap (branch_at b) is ∙ own)) in
     sym (at k ∙ (get_or-set_other (set a.slots x None) m k (Some e) None other ∙ get_or-set_other a.slots x k None None ne)) ∙ none) h)
-
--- and after a pair was dropped its meter is
-pub AreNoted-dropped : (ends : List (Option Ends)) (touches : List Touch) (a b : Assignment) (m : ℕ) (n : Noted) → b.slots ≡ set a.slots m None → m < length n.flags
-    → AreNoted ends touches All a n → AreNoted ends touches All b (record n { flags = set n.flags m true })
-AreNoted-dropped ends touches a b m n is l h = AreNoted-more ends touches a b m n l
-    (λ k none ne. sym (ap (λ (s : List (Option ℕ)). get_or s k None) is ∙ get_or-set_other a.slots m k None None ne) ∙ none) h

@@ -1,5 +1,5 @@
 -- How the first assignment is found, meter by meter: the decided pairs are frozen.
-use Rattle.std.specs.Prelude.{◌≡◌, ◌↔◌, ℕ, ◌<◌, ◌≤◌, true, Option, Some, List, length, slice_index_or, slice_set}
+use Rattle.std.specs.Prelude.{◌≡◌, ◌⊎◌, ◌↔◌, ℕ, ◌+◌, ◌<◌, ◌≤◌, Bool, true, Option, None, Some, List, length, slice_index_or, slice_set}
 use Rattle.std.specs.List.{range_with_len}
 use Rattle.obs_graph.specs.declared.Ends.{Ends}
 use Rattle.obs_matroid.specs.Assignments.{Pair, items, part}
@@ -7,10 +7,12 @@ use Rattle.obs_matroid.specs.Closed.{Extends}
 use Rattle.obs_matroid.specs.First.{IsBefore, IsNotAfter}
 use Rattle.obs_matroid.specs.Lists.{In}
 use Rattle.obs_meter.specs.declared.Touch.{Touch}
-use Rattle.obs_meter.specs.declared.Touch.TheVariants.{Nothing}
+use Rattle.obs_meter.specs.declared.Touch.TheVariants.{Edge, Nothing}
 use Rattle.obs_meter.specs.Assignments.{IsAssignmentAt}
 use Rattle.obs_meter.specs.Touches.{every_item}
 use Rattle.obs_assign.specs.Assignment.{Assignment, branch_at, is_frozen, pairs}
+use Rattle.obs_exchange.specs.declared.Sources.TheVariants.{All, One}
+use Rattle.obs_exchange.specs.Closed.{IsLeastClosedAt}
 
 -- B is an assignment of the meters that has the frozen pairs of a
 pub record HasFrozenOf (ends : List (Option Ends)) (touches : List Touch) (a : Assignment) (B : List Pair) : Type 0 where
@@ -25,10 +27,6 @@ frozen_pairs a = part (is_frozen a) (pairs a)
 abbrev pub KeepsFrozen : Assignment → Assignment → Type 0
 KeepsFrozen a b = (x : ℕ) → is_frozen a x ≡ true → branch_at b x ≡ branch_at a x
 
--- no assignment that has the frozen pairs of a is so long
-abbrev pub NoneSoLong : List (Option Ends) → List Touch → Assignment → ℕ → Type 0
-NoneSoLong ends touches a long = (B : List Pair) → HasFrozenOf ends touches a B → length B < long
-
 -- the meter m took e in b, where it is frozen as those of a are, and the pairs are as many as they are to be
 pub record HasTaken (a b : Assignment) (m e long : ℕ) : Type 0 where
   pub has : branch_at b m ≡ Some e
@@ -39,6 +37,28 @@ pub record HasTaken (a b : Assignment) (m e long : ℕ) : Type 0 where
 pub record HasRefused (ends : List (Option Ends)) (touches : List Touch) (a b : Assignment) (m e long : ℕ) : Type 0 where
   pub frozen : b.frozen ≡ a.frozen
   pub none : (B : List Pair) → HasFrozenOf ends touches a B → In (m, e) B → length B < long
+
+-- the pairs are as many as they are to be, and m has e or no branch
+pub record AreEnoughFor (a : Assignment) (m e long : ℕ) : Type 0 where
+  pub enough : long ≤ length (pairs a)
+  pub has : (branch_at a m ≡ None) ⊎ (branch_at a m ≡ Some e)
+
+-- m has no pair, and with one for m the pairs would be as many as they are to be; of the other meters a closed set shows that
+-- they can have no more pairs beside the frozen ones
+pub record IsAside (ends : List (Option Ends)) (touches : List Touch) (a : Assignment) (m long : ℕ) : Type 0 where
+  pub bare : branch_at a m ≡ None
+  pub short : length (pairs a) < long
+  pub near : long ≤ length (pairs a) + 1
+  pub closed : ℕ → Bool
+  pub least : IsLeastClosedAt ends (slice_set touches m Nothing) All a closed
+
+-- while m is decided the pairs are as many as they are to be, or m was set aside
+abbrev pub IsUnderWay : List (Option Ends) → List Touch → Assignment → ℕ → ℕ → Type 0
+IsUnderWay ends touches a m long = (long ≤ length (pairs a)) ⊎ IsAside ends touches a m long
+
+-- as if m touched e alone, the pairs can't be more: a closed set from m shows it
+abbrev pub IsOutOfReach : List (Option Ends) → List Touch → Assignment → ℕ → ℕ → Type 0
+IsOutOfReach ends touches a m e = (S : ℕ → Bool) × IsLeastClosedAt ends (slice_set touches m (Edge e)) (One m) a S
 
 -- a meter before m touches the same, and has a higher branch than y, or none
 pub record IsPassed (touches : List Touch) (a : Assignment) (m y : ℕ) : Type 0 where

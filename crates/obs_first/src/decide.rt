@@ -1,92 +1,22 @@
 // How one meter is decided: it takes the lowest branch with which the pairs can be as many as before.
-ghost use Rattle.std.specs.Prelude.{◌≡◌, ◌+◌, ◌<◌, ◌≤◌, false, ℕ, Some, length, slice_index_or, MatchBool};
-ghost use Rattle.obs_matroid.specs.Lists.{In};
+ghost use Rattle.std.specs.Prelude.{◌≡◌, ◌+◌, ◌<◌, ℕ, Some, length, slice_index_or};
 ghost use Rattle.obs_meter.specs.declared.Touch.TheVariants.{Nothing};
 ghost use Rattle.obs_meter.specs.Sizes.{HasRoomFor};
-ghost use Rattle.obs_meter.specs.Touches.{AreInRange, touch_at};
-ghost use Rattle.obs_assign.specs.Assignment.{HasRoomOf, IsWhole, StandsOver, is_frozen, pairs};
+ghost use Rattle.obs_meter.specs.Touches.{AreInRange};
+ghost use Rattle.obs_assign.specs.Assignment.{HasRoomOf, IsWhole, StandsOver};
 ghost use Rattle.obs_exchange.specs.declared.Sources.TheVariants.{All};
 ghost use Rattle.obs_exchange.specs.Noting.{AreNoted};
-ghost use Rattle.obs_first.specs.Deciding.{HasRefused, HasTaken, IsDecided, IsPassed, KeepsFrozen, NoneSoLong, frozen_pairs};
+ghost use Rattle.obs_first.specs.Deciding.{IsDecided, IsPassed, frozen_pairs};
 
+use crate::trying::take_branch;
 use obs_assign::{Assignment, Steps};
-use obs_exchange::{Work, lengthen_from};
+use obs_exchange::Work;
 use obs_graph::Graph;
 use obs_meter::Meters;
 use std::sync::ledger::Ledger;
 
 /// How many meters before a meter are looked at for one that touches the same.
 const LOOKS_BACK: u32 = 1000;
-
-/// Searches until there are so many pairs beside the frozen ones, and says whether that came about.
-fn regrow<L: Ledger>(
-    g: &Graph,
-    ms: &Meters,
-    a: &mut Assignment,
-    rank: u32,
-    work: &mut Work,
-    steps: &mut Steps<L>,
-) -> bool
-    requires stands { StandsOver a.old g.now ms.now.touches }
-    requires in_range { AreInRange g.now ms.now.touches }
-    requires room { HasRoomFor work.old.sizes g.now ms.now.touches }
-    requires noted { AreNoted g.now.ends ms.now.touches All a.old work.old.noted }
-    ensures grown { MatchBool result (rank ≤ length (pairs a.new)) (NoneSoLong g.now.ends ms.now.touches a.old rank) }
-    ensures frozen { a.new.frozen ≡ a.old.frozen }
-    ensures keeps { KeepsFrozen a.old a.new }
-    ensures stands { StandsOver a.new g.now ms.now.touches }
-    ensures whole { IsWhole a.new }
-    ensures same_room { HasRoomOf a.old a.new }
-    ensures same_sizes { work.new.sizes ≡ work.old.sizes }
-    ensures noted { AreNoted g.now.ends ms.now.touches All a.new work.new.noted }
-{
-    let _ = g.vertices();
-    !lengthen_from(g, ms, a, rank, work, steps).closed
-}
-
-/// Gives the meter the branch and freezes the pair, where the pairs can be so many then. Says whether that is so.
-fn take_branch<L: Ledger>(
-    g: &Graph,
-    ms: &Meters,
-    a: &mut Assignment,
-    m: u32,
-    e: u32,
-    rank: u32,
-    work: &mut Work,
-    steps: &mut Steps<L>,
-) -> bool
-    requires stands { StandsOver a.old g.now ms.now.touches }
-    requires in_range { AreInRange g.now ms.now.touches }
-    requires room { HasRoomFor work.old.sizes g.now ms.now.touches }
-    requires noted { AreNoted g.now.ends ms.now.touches All a.old work.old.noted }
-    requires m { m < length a.old.slots }
-    requires thawed { is_frozen a.old m ≡ false }
-    requires touched { In e (touch_at g.now.ends ms.now.touches m) }
-    ensures taken { MatchBool result
-        (HasTaken a.old a.new m e rank)
-        (HasRefused g.now.ends ms.now.touches a.old a.new m e rank) }
-    ensures keeps { KeepsFrozen a.old a.new }
-    ensures stands { StandsOver a.new g.now ms.now.touches }
-    ensures whole { IsWhole a.new }
-    ensures same_room { HasRoomOf a.old a.new }
-    ensures same_sizes { work.new.sizes ≡ work.old.sizes }
-    ensures noted { AreNoted g.now.ends ms.now.touches All a.new work.new.noted }
-{
-    let _ = g.vertices();
-    let _ = a.length();
-    let Some(x) = a.spare(g, m, e) else {
-        return false;
-    };
-    a.pin_for(g, ms, m, e, x, steps);
-    work.note(x, true);
-    work.note(m, false);
-    if regrow(g, ms, a, rank, work, steps) {
-        return true;
-    }
-    a.drop_pair(g, m);
-    work.note(m, true);
-    false
-}
 
 /// The nearest meter before m that touches the same, of the last thousand.
 fn same_before(ms: &Meters, m: u32) -> Option<u32>
@@ -138,6 +68,7 @@ pub fn decide<L: Ledger>(
     requires room { HasRoomFor work.old.sizes g.now ms.now.touches }
     requires noted { AreNoted g.now.ends ms.now.touches All a.old work.old.noted }
     requires m { m < length ms.now.touches }
+    requires copied { work.old.touches ≡ ms.now.touches }
     requires decided { IsDecided g.now.ends ms.now.touches a.old m rank }
     requires taken { taken ≡ length (frozen_pairs a.old) }
     ensures decided { IsDecided g.now.ends ms.now.touches a.new (m + 1) rank }
@@ -147,6 +78,7 @@ pub fn decide<L: Ledger>(
     ensures same_room { HasRoomOf a.old a.new }
     ensures same_sizes { work.new.sizes ≡ work.old.sizes }
     ensures noted { AreNoted g.now.ends ms.now.touches All a.new work.new.noted }
+    ensures copied { work.new.touches ≡ ms.now.touches }
 {
     let _ = g.vertices();
     let _ = a.length();
@@ -162,6 +94,5 @@ pub fn decide<L: Ledger>(
             return taken + 1;
         }
     }
-    let _ = regrow(g, ms, a, rank, work, steps);
     taken
 }

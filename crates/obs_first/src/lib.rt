@@ -4,5 +4,6 @@
 mod decide;
 pub mod laws;
 mod least;
+mod trying;
 
 pub use least::first;

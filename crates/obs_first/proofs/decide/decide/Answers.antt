@@ -3,10 +3,10 @@ use Rattle.std.proofs.lemmas.List.{take_all}
 use Rattle.obs_matroid.specs.Lists.{In}
 use Rattle.obs_matroid.proofs.Contained.{In-get_or}
 use Rattle.obs_meter.specs.Touches.{touch_at}
-use Rattle.obs_assign.specs.Assignment.{pairs}
 use Rattle.obs_first.specs.Deciding.{HasRefused}
+use Rattle.obs_first.proofs.Aside.{enough_at_last}
 use Rattle.obs_first.proofs.Counting.{Decided-full, count_same, count_taken, next_thawed}
-use Rattle.obs_first.proofs.Deciding.{AreRefused, Decided-none, Decided-taken, Trying-more, Trying-passed, regrown_long}
+use Rattle.obs_first.proofs.Deciding.{AreRefused, Decided-none, Decided-taken, Trying-more, Trying-passed}
 use Rattle.obs_first.proofs.Frozen.{KeepsFrozen-on}
 use Rattle.obs_first.proofs.Swapping.{refused_passed}
 use Rattle.obs_first.proofs.decide.decide.Goals as goal
@@ -41,12 +41,14 @@ loop-e-preserved g c =
     let same = ap length is in
     record {
       trying = Trying-more c.args.g.now c.args.ms.now.touches c.args.a.now l.a b c.args.m c.args.rank (touch_at c.args.g.now.ends c.args.ms.now.touches c.args.m) l.e-index 0 l.invariant.trying (omega arith)
-          (subst (λ e. HasRefused c.args.g.now.ends c.args.ms.now.touches l.a b c.args.m e c.args.rank) (ap (λ ys. get_or ys l.e-index 0) is) c.if-take_branch.ensures.taken)
+          (subst (λ e. HasRefused c.args.g.now.ends c.args.ms.now.touches l.a b c.args.m e c.args.rank) (ap (λ ys. get_or ys l.e-index 0) is) c.if-take_branch.ensures.taken.0)
           c.take_branch.ensures.keeps c.take_branch.ensures.stands c.take_branch.ensures.whole;
       room = search rules;
       same_room = search rules;
       same_sizes = search rules;
       noted = c.take_branch.ensures.noted;
+      copied = c.take_branch.ensures.copied;
+      under_way = c.if-take_branch.ensures.taken.1;
     }
 
 pub loop-e-preserved-then-e-low : goal.loop-e-preserved-then-e-low
@@ -65,6 +67,8 @@ loop-e-preserved-then-e-low g c =
       same_room = l.invariant.same_room;
       same_sizes = l.invariant.same_sizes;
       noted = l.invariant.noted;
+      copied = l.invariant.copied;
+      under_way = l.invariant.under_way;
     }
 
 pub returns-clause-decided : goal.returns-clause-decided
@@ -73,14 +77,15 @@ returns-clause-decided g c =
     let a = c.args.a.now in
     let l = c.loop-e in
     let t = l.invariant.trying in
-    let b = c.regrow.new.a in
-    let e = c.regrow.ensures in
+    let w = c.length.ensures.whole in
+    let s = c.requires.stands in
+    let d = c.requires.decided in
     let xs = touch_at c.args.g.now.ends touches c.args.m in
     let same = ap length c.touch-e-items.ensures.touched in
     let all : take l.e-index xs ≡ xs = take_all l.e-index xs (omega arith) in
-    Decided-none c.args.g.now touches a c.args.m c.args.rank c.requires.decided c.length.ensures.whole c.requires.stands b e.whole e.stands (KeepsFrozen-on a l.a b t.frozen t.keeps e.keeps)
-    (regrown_long c.args.g.now touches a l.a c.args.rank c.length.ensures.whole c.requires.stands c.requires.decided.length_is t.frozen t.keeps c.regrow.result (length (pairs b)) e.grown)
-    (subst (λ ys. AreRefused c.args.g.now touches a c.args.m c.args.rank ys) all t.refused) (e.frozen ∙ t.frozen)
+    let refused = subst (λ ys. AreRefused c.args.g.now touches a c.args.m c.args.rank ys) all t.refused in
+    Decided-none c.args.g.now touches a c.args.m c.args.rank d w s l.a t.whole t.stands t.keeps
+    (enough_at_last c.args.g.now touches l.a c.args.m c.args.rank c.requires.m c.vertices.ensures.branches t.whole t.stands a w s d.length_is t.frozen t.keeps refused l.invariant.under_way) refused t.frozen
 
 pub returns-then-taken-rank-clause-decided : goal.returns-then-taken-rank-clause-decided
 returns-then-taken-rank-clause-decided g c =
@@ -104,8 +109,5 @@ returns-then-take_branch-clause-taken g c =
 
 pub returns-clause-taken : goal.returns-clause-taken
 returns-clause-taken g c =
-    let a = c.args.a.now in
-    let l = c.loop-e in
-    let t = l.invariant.trying in
-    let e = c.regrow.ensures in
-    c.requires.taken ∙ sym (count_same a c.regrow.new.a (e.frozen ∙ t.frozen) (KeepsFrozen-on a l.a c.regrow.new.a t.frozen t.keeps e.keeps))
+    let t = c.loop-e.invariant.trying in
+    c.requires.taken ∙ sym (count_same c.args.a.now c.loop-e.a t.frozen t.keeps)

@@ -4,6 +4,7 @@ use Rattle.obs_meter.specs.Sizes.{HasRoomFor}
 use Rattle.obs_meter.specs.Touches.{touch_at}
 use Rattle.obs_exchange.specs.declared.Sources.TheVariants.{All}
 use Rattle.obs_exchange.specs.Noting.{AreNoted}
+use Rattle.obs_first.specs.Deciding.{IsUnderWay}
 use Rattle.obs_first.proofs.Deciding.{IsTrying}
 use Rattle.obs_first.proofs.decide.decide.Given as goal
 
@@ -14,4 +15,6 @@ invariant-loop-e g l = record {
   same_room : HasRoomOf l.fn.a l.a;
   same_sizes : l.work.sizes ≡ l.fn.work.sizes;
   noted : AreNoted l.g.ends l.ms.touches All l.a l.work.noted;
+  copied : l.work.touches ≡ l.ms.touches;
+  under_way : IsUnderWay l.g.ends l.ms.touches l.a l.m l.rank;
 }

@@ -24,6 +24,7 @@ loop-m-init g c =
       same_room = search rules;
       same_sizes = search rules;
       noted = c.note_sources.ensures.noted;
+      copied = c.note_sources.ensures.copied;
     }
 
 pub returns-clause-first : goal.returns-clause-first

@@ -16,4 +16,5 @@ invariant-loop-m g l = record {
   same_room : HasRoomOf l.fn.a l.a;
   same_sizes : l.work.sizes ≡ l.fn.work.sizes;
   noted : AreNoted l.g.ends l.ms.touches All l.a l.work.noted;
+  copied : l.work.touches ≡ l.ms.touches;
 }
