@@ -1,13 +1,13 @@
 -- The items that a layer adds are listed after those of the layers before it.
-use Rattle.std.proofs.Common.{◌≡◌, ℕ, ◌+◌, ◌-◌, ◌<◌, ◌≤◌, ◌&&◌, Bool, true, false, not, List, [], ◌∷◌, ◌++◌, length, set, take, refl, sym, ap, ◌∙◌, arith, inl, inr, ltb}
+use Rattle.std.proofs.Common.{◌≡◌, ℕ, ◌+◌, ◌-◌, ◌<◌, ◌≤◌, ◌&&◌, Bool, true, false, not, List, [], ◌∷◌, ◌++◌, length, refl, sym, ap, ◌∙◌, append_assoc, arith, inl, inr, ltb}
 use Rattle.std.specs.Prelude.{filter}
 use Rattle.std.specs.List.{range_with_len}
 use Rattle.std.proofs.lemmas.List.FromFn.{length-range_with_len}
 use Rattle.std.proofs.lemmas.Bool.{cases_Bool, cases_lt, le-ltb, lt-ltb}
-use Rattle.std.proofs.lemmas.List.{length-set}
+use Rattle.std.proofs.lemmas.List.{append-nil, length-append}
 use Rattle.obs_graph.specs.Graph.{Graph}
 use Rattle.obs_matroid.proofs.Lists.{filter_same, length-split}
-use Rattle.obs_matroid.proofs.Ranges.{later, later_listed, later_over, listed_more}
+use Rattle.obs_matroid.proofs.Ranges.{later, later_listed, later_over}
 use Rattle.obs_meter.specs.declared.Touch.{Touch}
 use Rattle.obs_placement.specs.Layers.{added_items, count_known, is_added}
 use Rattle.obs_placement.specs.Taking.{AreKnown, is_listed_at, never, since_at}
@@ -39,44 +39,49 @@ module _ (since : List ℕ) where
   pub known_split : (f t : ℕ) → f ≤ t → count_known since t ≡ count_known since f + length (filter (is_added since f t) (range_with_len 0 n))
   known_split f t l = sym (split_known f t l (range_with_len 0 n))
 
-  module _ (f t : ℕ) (before : List ℕ) (upto : ℕ) where
+  -- where as many are listed as are known below f, as many are then as are known below t
+  pub known_listed : (f t : ℕ) → f ≤ t → (before inside : List ℕ) → length before ≡ count_known since f
+      → inside ≡ before ++ filter (is_added since f t) (range_with_len 0 n) → length inside ≡ count_known since t
+  known_listed f t l before inside upto e =
+      let s = known_split f t l in
+      let k = ap length e in
+      let a = length-append before (filter (is_added since f t) (range_with_len 0 n)) in
+      omega (arith, s, k, a, upto)
+
+  module _ (f t : ℕ) (before : List ℕ) where
     -- of the items below i those that are added are listed
-    pub record IsAdding (inside : List ℕ) (count i : ℕ) : Type 0 where
-      pub size : length inside ≡ length before
-      pub lists : take count inside ++ filter (is_added since f t) (later n i) ≡ take upto before ++ filter (is_added since f t) (range_with_len 0 n)
-      pub counts : count + length (filter (is_added since f t) (later n i)) ≡ count_known since t
+    pub record IsAdding (inside : List ℕ) (i : ℕ) : Type 0 where
+      pub lists : inside ++ filter (is_added since f t) (later n i) ≡ before ++ filter (is_added since f t) (range_with_len 0 n)
 
-    pub IsAdding-begun : f ≤ t → upto ≡ count_known since f → IsAdding before upto 0
-    IsAdding-begun l e = record {
-      size = refl;
-      lists = let e : n - 0 ≡ n = omega arith in ap (λ k. take upto before ++ filter (is_added since f t) (range_with_len 0 k)) e;
-      counts =
-          let s = split_known f t l (range_with_len 0 n) in
-          let z : n - 0 ≡ n = omega arith in
-          let k = ap (λ k. length (filter (is_added since f t) (range_with_len 0 k))) z in
-          omega (arith, s, e, k);
-    }
+    pub IsAdding-begun : IsAdding before 0
+    IsAdding-begun = record { lists = let e : n - 0 ≡ n = omega arith in ap (λ k. before ++ filter (is_added since f t) (range_with_len 0 k)) e }
 
-    module _ (inside : List ℕ) (count i : ℕ) (h : IsAdding inside count i) (low : i < n) where
-      pub IsAdding-over : is_added since f t i ≡ false → IsAdding inside count (i + 1)
-      IsAdding-over e =
-          let rest = later_over (is_added since f t) n i low e in
-          record { size = h.size; lists = rw (← rest) h.lists; counts = rw (← rest) h.counts }
+    module _ (inside : List ℕ) (i : ℕ) (h : IsAdding inside i) where
+      pub IsAdding-ended : n ≤ i → inside ≡ before ++ filter (is_added since f t) (range_with_len 0 n)
+      IsAdding-ended end =
+          let z : n - i ≡ 0 = omega (arith, end) in
+          sym (append-nil inside) ∙ (ap (λ k. inside ++ filter (is_added since f t) (range_with_len i k)) (sym z) ∙ h.lists)
 
-      pub IsAdding-room : n ≤ length before → is_added since f t i ≡ true → count < length inside
-      IsAdding-room room e = let r = ap length (later_listed (is_added since f t) n i low e) in let c = h.counts in let k = known_most t in let s = h.size in omega (arith, r, c, k, s, room)
+      module _ (low : i < n) where
+        pub IsAdding-over : is_added since f t i ≡ false → IsAdding inside (i + 1)
+        IsAdding-over e = record { lists = rw (← later_over (is_added since f t) n i low e) h.lists }
 
-      pub IsAdding-more : n ≤ length before → is_added since f t i ≡ true → IsAdding (set inside count i) (count + 1) (i + 1)
-      IsAdding-more room e =
-          let more = later_listed (is_added since f t) n i low e in
-          let r = ap length more in
-          let c = h.counts in record {
-            size = length-set inside count i ∙ h.size;
-            lists =
-                listed_more inside count i (filter (is_added since f t) (later n (i + 1))) (take upto before ++ filter (is_added since f t) (range_with_len 0 n)) (IsAdding-room room e)
-                (ap (λ xs. take count inside ++ xs) (sym more) ∙ h.lists);
-            counts = omega (arith, r, c);
-          }
+        pub IsAdding-more : is_added since f t i ≡ true → IsAdding (inside ++ i ∷ []) (i + 1)
+        IsAdding-more e = record {
+          lists =
+              append_assoc inside (i ∷ []) (filter (is_added since f t) (later n (i + 1)))
+              ∙ (ap (λ xs. inside ++ xs) (sym (later_listed (is_added since f t) n i low e)) ∙ h.lists);
+        }
+
+        pub IsAdding-room : f ≤ t → length before ≡ count_known since f → is_added since f t i ≡ true → length inside < n
+        IsAdding-room l upto e =
+            let r = ap length (later_listed (is_added since f t) n i low e) in
+            let all = ap length h.lists in
+            let a = length-append inside (filter (is_added since f t) (later n i)) in
+            let b = length-append before (filter (is_added since f t) (range_with_len 0 n)) in
+            let s = known_split f t l in
+            let k = known_most t in
+            omega (arith, r, all, a, b, s, k, upto)
 
 and_swap : (a b : Bool) → (a && b) ≡ (b && a)
 and_swap a b = elim (cases_Bool a) [
@@ -94,6 +99,3 @@ module _ (g : Graph) (touches : List Touch) (price : ℕ → ℕ) (since : List 
       ap (λ b. not b && ltb (since_at since m) t) (known f m low)
       ∙ (ap (λ b. not (is_listed_at g.vertices g.ends touches price f m) && b) (known t m high)
       ∙ and_swap (not (is_listed_at g.vertices g.ends touches price f m)) (is_listed_at g.vertices g.ends touches price t m)))
-
-  pub added_count : f ≤ t → (upto : ℕ) → upto ≡ count_known since f → count_known since t ≡ upto + length (added_items g.vertices g.ends touches price f t)
-  added_count l upto e = let s = known_split since f t l in let k = ap length added_same in omega (arith, s, k, e)

@@ -31,7 +31,7 @@ use Rattle.obs_placement.specs.Shown.{bare_layer, bare_layers}
 use Rattle.obs_placement.specs.Taking.{is_below, is_listed_at, scope_of}
 use Rattle.obs_placement.proofs.Growing.{AreRising, prices_rising, scope_distinct, scope_from}
 use Rattle.obs_placement.proofs.Lawful.{es, xs, answer, apart, base, in_order, order_price, same_length, sorted_from, sorted_in, sorted_sum}
-use Rattle.obs_placement.proofs.Laying.{chosen_price, price_found, price_most, priced_candidate}
+use Rattle.obs_placement.proofs.LaidOut.{chosen_price, price_found, price_most, priced_candidate}
 use Rattle.obs_placement.proofs.Positions.{cost_is}
 
 rising_above : (t : ℕ) (ts : List ℕ) → AreRising t ts → (x : ℕ) → In x ts → t < x

@@ -1,5 +1,5 @@
 -- Known items stay known, with the flags of what they touch and with their frozen pairs.
-use Rattle.std.proofs.Common.{◌≡◌, ◌⊎◌, ℕ, ◌+◌, ◌<◌, Bool, true, false, Option, None, Some, List, [], ◌∷◌, length, get_or, set, take, replicate, refl, sym, ap, ◌∙◌, inl, inr, arith, subst, get_or-set_same, get_or-set_other}
+use Rattle.std.proofs.Common.{◌≡◌, ◌⊎◌, ℕ, ◌+◌, ◌≤◌, ◌<◌, Bool, true, false, Option, None, Some, List, [], ◌∷◌, length, get_or, set, take, replicate, refl, sym, ap, ◌∙◌, inl, inr, arith, subst, get_or-set_same, get_or-set_other}
 use Rattle.std.specs.Prelude.{nat_lt}
 use Rattle.std.proofs.lemmas.Bool.{cases_Bool, cases_eq, cases_lt, lt-ltb, ne_eqb}
 use Rattle.std.proofs.lemmas.List.{get_or_default, get_or_past, length-replicate, length-set, same_lists, take_all, take_more}
@@ -62,6 +62,13 @@ pub still_known : (p : ℕ) (before after : List ℕ) → p < never → AreAdded
 still_known p before after low added m k = elim (added m) [
   | inl e ↦ subst (λ (s : ℕ). nat_lt s never ≡ true) (sym e) k
   | inr e ↦ lt-ltb (since_at after m) never (let u = e.1 in omega (arith, u, low))
+]
+
+-- and no price is above that of an item that isn't known
+pub bounded_after : (p : ℕ) (before after : List ℕ) → p < never → AreAdded p before after → ((m : ℕ) → since_at before m ≤ never) → (m : ℕ) → since_at after m ≤ never
+bounded_after p before after low added bounded m = elim (added m) [
+  | inl e ↦ let b = bounded m in omega (arith, e, b)
+  | inr e ↦ let u = e.1 in omega (arith, u, low)
 ]
 
 -- an item that had no price has one now

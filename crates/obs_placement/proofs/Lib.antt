@@ -2,13 +2,14 @@ pub mod Taken
 pub mod Ordered
 pub mod Stepped
 pub mod Flagged
+pub mod Takes
 pub mod Going
 pub mod Listing
 pub mod Lawful
 pub mod Positions
 pub mod Measures
 pub mod Adding
-pub mod Laying
+pub mod LaidOut
 pub mod Lacking
 pub mod Growing
 pub mod Refuting

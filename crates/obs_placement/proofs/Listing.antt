@@ -3,6 +3,7 @@ use Rattle.std.proofs.Common.{◌≡◌, ℕ, ◌+◌, ◌-◌, ◌*◌, ◌<◌
 use Rattle.std.specs.Prelude.{filter}
 use Rattle.std.specs.List.{range_with_len}
 use Rattle.std.proofs.lemmas.Bool.{and_parts, cases_lt, le-ltb, lt-ltb}
+use Rattle.std.proofs.Math.Seq.{take-append_seam}
 use Rattle.std.proofs.lemmas.List.Sums.{sum_by-cons}
 use Rattle.std.proofs.lemmas.List.{get_or-replicate, get_or_past, length-replicate}
 use Rattle.obs_graph.specs.Graph.{Graph}
@@ -13,7 +14,7 @@ use Rattle.obs_matroid.specs.Placement.{is_raising}
 use Rattle.obs_matroid.specs.Values.{rho_of}
 use Rattle.obs_matroid.proofs.Computed.{rho_of_is}
 use Rattle.obs_matroid.proofs.Critical.{rho_same}
-use Rattle.obs_matroid.proofs.Lists.{In-filter, filter_same}
+use Rattle.obs_matroid.proofs.Lists.{In-filter, clash, filter_same}
 use Rattle.obs_matroid.proofs.Ranges.{below_from, later, later_listed, later_over, listed_more, range_in}
 use Rattle.obs_meter.specs.declared.Touch.{Touch}
 use Rattle.obs_meter.specs.Assignments.{rho_at}
@@ -21,10 +22,11 @@ use Rattle.obs_meter.specs.Spanned.{graph_matroid}
 use Rattle.obs_meter.specs.Touches.{is_live, live_items, touch_at}
 use Rattle.obs_meter.proofs.Assigned.{live_items-distinct}
 use Rattle.obs_meter.proofs.Instance.{IsMatroid-graph}
-use Rattle.obs_assign.specs.Assignment.{Assignment, IsWhole, StandsOver, has_flag, is_frozen, pairs}
+use Rattle.obs_assign.specs.Assignment.{Assignment, IsWhole, StandsOver, has_flag, pairs}
 use Rattle.obs_assign.proofs.Keeping.{flags_clear}
 use Rattle.obs_placement.specs.Answer.{chosen_of, cost_of, earlier_items, is_chosen}
 use Rattle.obs_placement.specs.Choosing.{HavePairsOnly}
+use Rattle.obs_placement.specs.Holding.{thawed}
 use Rattle.obs_placement.specs.Limits.{most_price}
 use Rattle.obs_placement.specs.Order.{price_of}
 use Rattle.obs_placement.specs.Taking.{AreTaken, IsStanding, StandsWithKnown, is_known, is_raised, never, since_at}
@@ -82,13 +84,25 @@ cleared_standing g touches a since s w e = record {
   frozen = λ m y. absurd (subst (λ (A : List Pair). In m (items A)) e (w.paired.frozen_have m y));
 }
 
+-- the front of a list that was made of two
+pub front : {X : Type 0} (n : ℕ) (xs ys : List X) → length xs ≡ n → take n (xs ++ ys) ≡ xs
+front n xs ys e = subst (λ (k : ℕ). take k (xs ++ ys) ≡ xs) e (take-append_seam xs ys)
+
 -- the pairs stand on where all are thawed
-pub thawed_standing : (g : Graph) (touches : List Touch) (a b : Assignment) (n : ℕ) → StandsOver a g touches → IsWhole b → b ≡ record a { frozen = replicate n false } → IsStanding g touches b
-thawed_standing g touches a b n s w e = record {
-  stands = subst (λ (x : Assignment). StandsOver x g touches) (sym e) (record { forest = s.forest; meters = s.meters; touched = s.touched });
-  whole = w;
-  thawed = λ m. ap (λ (x : Assignment). is_frozen x m) e ∙ flags_clear n m;
-}
+pub thawed_standing : (g : Graph) (touches : List Touch) (a : Assignment) (since : List ℕ) → StandsWithKnown g touches a since → IsStanding g touches (thawed a)
+thawed_standing g touches a since s =
+    let n = length a.frozen in
+    let w = s.whole in
+    record {
+      stands = record { forest = s.stands.forest; meters = s.stands.meters; touched = s.stands.touched };
+      whole = record {
+        paired = record { flags = length-replicate n false ∙ w.paired.flags; holds = w.paired.holds; frozen_have = λ m y. clash y (flags_clear n m) };
+        meters = w.meters;
+        vertices = w.vertices;
+        positions = w.positions;
+      };
+      thawed = λ m. flags_clear n m;
+    }
 
 pub replicated : (n m : ℕ) → since_at (replicate n never) m ≡ never
 replicated n m = elim (cases_lt m n) [
@@ -120,9 +134,6 @@ module _ (g : Graph) (touches : List Touch) (meters : ℕ) (prices : List ℕ) (
       let M = live_items g.ends touches in
       rho_same mat (touch_at g.ends touches) M (length (pairs a)) (rho_of mat (touch_at g.ends touches) M)
       (IsTaken-rho mat laws (touch_at g.ends touches) M (pairs a) (is_known since) t.taken) (rho_of_is mat laws (touch_at g.ends touches) M (live_items-distinct g.ends touches))
-
-pub replicated_at : (n : ℕ) (xs : List ℕ) → xs ≡ replicate n never → (m : ℕ) → since_at xs m ≡ never
-replicated_at n xs e m = rw e (replicated n m)
 
 pub unset_at : (n : ℕ) (xs : List Bool) → xs ≡ replicate n false → (m : ℕ) → has_flag xs m ≡ false
 unset_at n xs e m = rw e (flags_clear n m)

@@ -2,6 +2,7 @@ pub mod Limits
 pub mod Order
 pub mod Answer
 pub mod Taking
+pub mod Offer
 pub mod Counting
 pub mod Holding
 pub mod Layers

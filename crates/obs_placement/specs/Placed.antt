@@ -1,5 +1,5 @@
 -- What a placement is: the plan where all that is offered reaches the needed number, and else the shortfall.
-use Rattle.std.specs.Prelude.{ℕ, not, if◌then◌else◌, nat_lt, Option, List, take, length, filter, flat_map}
+use Rattle.std.specs.Prelude.{ℕ, not, if◌then◌else◌, nat_lt, Option, List, length, filter, flat_map}
 use Rattle.obs_graph.specs.declared.Ends.{Ends}
 use Rattle.obs_meter.specs.declared.Touch.{Touch}
 use Rattle.obs_meter.specs.Assignments.{rho_at}
@@ -9,7 +9,6 @@ use Rattle.obs_exchange.specs.Laws.{noncritical_in}
 use Rattle.obs_placement.specs.declared.plans.Layer.{Layer}
 use Rattle.obs_placement.specs.declared.plans.Placement.{Placement}
 use Rattle.obs_placement.specs.declared.plans.Placement.TheVariants.{Cheapest, Shortfall}
-use Rattle.obs_placement.specs.declared.placing.Laid.{Laid}
 use Rattle.obs_placement.specs.Answer.{chosen_of, cost_of}
 use Rattle.obs_placement.specs.Layers.{inside_of, layers_of, prices_above}
 use Rattle.obs_placement.specs.Order.{price_of}
@@ -65,10 +64,3 @@ abbrev pub placement_of : ℕ → List (Option Ends) → List Touch → ℕ → 
 placement_of n ends touches meters prices needed =
     if nat_lt (rho_at n ends touches (live_items ends touches)) needed then shortfall (shortfall_of n ends touches needed)
     else cheapest (plan_of n ends touches meters prices)
-
--- what was laid out in these arrays: the chosen positions, the list of the bound that was measured last, the layers, and what they list
-abbrev pub laid_in : Laid → List ℕ → List ℕ → List Layer → List ℕ → Placed
-laid_in l list bound layers inside =
-    if l.short
-    then shortfall (record { inside = bound; rank = l.rank; outside = l.outside; needed = l.needed })
-    else cheapest (record { chosen = take l.count list; cost = l.cost; layers = take l.layers layers; inside = take l.inside inside })

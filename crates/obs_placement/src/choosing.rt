@@ -1,23 +1,20 @@
 // The answer: which candidates are chosen, and what they cost.
-ghost use Rattle.std.specs.Prelude.{◌≡◌, ◌+◌, ◌<◌, ◌≤◌, ◌^◌, ℕ, All, false, filter, length, replicate, take};
+ghost use Rattle.std.specs.Prelude.{◌≡◌, ◌<◌, ◌≤◌, IfOk, filter, length, slice_index_or, take};
 ghost use Rattle.std.specs.List.{range_with_len};
-ghost use Rattle.obs_meter.specs.Assignments.{rho_at};
-ghost use Rattle.obs_meter.specs.Sizes.{HasRoomFor};
-ghost use Rattle.obs_meter.specs.Touches.{AreInRange, live_items};
-ghost use Rattle.obs_assign.specs.Assignment.{Fits, HasRoomOf, StandsOver, has_flag};
-ghost use Rattle.obs_assign.specs.Assignment.{pairs as pairs_at};
-ghost use Rattle.obs_placement.specs.Limits.{most_candidates, most_price};
-ghost use Rattle.obs_placement.specs.Answer.{chosen_of, cost_of, is_chosen};
-ghost use Rattle.obs_placement.specs.Choosing.{HavePairsOnly};
-ghost use Rattle.obs_placement.specs.Order.{IsOrder, price_of};
-ghost use Rattle.obs_placement.specs.Taking.{AreKnown, IsStanding, is_raised, never};
+ghost use Rattle.obs_assign.specs.Assignment.{has_flag};
+ghost use Rattle.obs_placement.specs.Answer.{cost_of};
+ghost use Rattle.obs_placement.specs.Choosing.{IsChosen, new_choosing};
+ghost use Rattle.obs_placement.specs.Offer.{HasRoomForOffer, IsOffer};
+ghost use Rattle.obs_placement.specs.Taking.{is_raised};
 
+use crate::known::clear;
+use crate::memory::NoMemory;
+use crate::offer::Offer;
 use crate::order::put_in_order;
-use crate::taking::{NEVER, take_all};
+use crate::taking::{Taking, take_all};
 use obs_assign::{Assignment, Steps};
-use obs_exchange::Work;
-use obs_graph::Graph;
-use obs_meter::Meters;
+use std::alloc::Global;
+use std::marker::Model;
 use std::sync::ledger::Ledger;
 
 /// How many candidates are listed, and what they cost.
@@ -28,110 +25,200 @@ pub struct Listed {
 }
 
 /// Lists the positions of the candidates with a flag, rising.
-fn list_raised(meters: u32, prices: &[u64], raised: &[bool], list: &mut [u32]) -> Listed
-    requires raised { length raised.now ≡ meters + length prices.now }
-    requires small { meters + length prices.now < 2 ^ 32 }
-    requires few { length prices.now ≤ most_candidates }
-    requires cheap { All (λ p. p ≤ most_price) prices.now }
-    requires room { length prices.now ≤ length list.old }
-    ensures bound { result.count ≤ length prices.now }
-    ensures listed { take result.count list.new ≡ filter (is_raised raised.now meters)
-        (range_with_len 0 (length prices.now)) }
-    ensures cost { result.cost ≡ cost_of prices.now
-        (filter (is_raised raised.now meters) (range_with_len 0 (length prices.now))) }
+fn list_raised(offer: &Offer<'_>, raised: &[bool], list: &mut [u32]) -> Listed
+    requires offer { IsOffer offer.now }
+    requires raised { length raised.now ≡ length offer.now.items.now.touches }
+    requires room { length offer.now.prices.now ≤ length list.old }
+    ensures bound { result.count ≤ length offer.now.prices.now }
+    ensures listed { take result.count list.new ≡ filter (is_raised raised.now offer.now.meters)
+        (range_with_len 0 (length offer.now.prices.now)) }
+    ensures cost { result.cost ≡ cost_of offer.now.prices.now
+        (filter (is_raised raised.now offer.now.meters) (range_with_len 0 (length offer.now.prices.now))) }
 {
     let mut count = 0;
     let mut cost = 0;
-    for k in 0..prices.len() {
-        if raised[meters as usize + k] {
+    for k in 0..offer.prices.len() {
+        if raised[offer.meters as usize + k] {
             list[count] = k as u32;
             count += 1;
-            cost += prices[k];
+            cost += offer.prices[k];
         }
     }
     Listed { count, cost }
 }
 
-/// Takes all flags back, and forgets from which price on an item isn't critical.
-fn begin(since: &mut [u64], raised: &mut [bool], touched: &mut [bool], stars: &mut [bool])
-    ensures since { since.new ≡ replicate (length since.old) never }
-    ensures raised { raised.new ≡ replicate (length raised.old) false }
-    ensures touched { touched.new ≡ replicate (length touched.old) false }
-    ensures stars { stars.new ≡ replicate (length stars.old) false }
-{
-    since.fill(NEVER);
-    raised.fill(false);
-    touched.fill(false);
-    stars.fill(false);
-}
-
-/// Thaws all items, and keeps the pairs.
-#[tactic(auto, using(crate::proofs::Listing::thawed_standing))]
-fn thaw(g: &Graph, offered: &Meters, pairs: &mut Assignment)
-    requires stands { StandsOver pairs.old g.now offered.now.touches }
-    ensures slots { pairs.new.slots ≡ pairs.old.slots }
-    ensures standing { IsStanding g.now offered.now.touches pairs.new }
-    ensures same_room { HasRoomOf pairs.old pairs.new }
-{
-    let _ = g;
-    let _ = offered;
-    pairs.unpin_all();
-    let _ = pairs.length();
-}
-
-/// Takes all items in their order, and lists the chosen candidates.
-pub fn choose_in<L: Ledger>(
-    g: &Graph,
-    offered: &Meters,
-    meters: u32,
-    prices: &[u64],
+/// Takes all items in their order, and lists the chosen candidates. The arrays may have more places than there are
+/// items.
+fn choose_in<L: Ledger>(
+    offer: &Offer<'_>,
     keys: &mut [(u64, u32)],
-    pairs: &mut Assignment,
-    search: &mut Work,
-    since: &mut [u64],
-    touched: &mut [bool],
-    stars: &mut [bool],
     raised: &mut [bool],
     list: &mut [u32],
+    taking: &mut Taking,
     steps: &mut Steps<L>,
 ) -> Listed
-    requires in_range { AreInRange g.now offered.now.touches }
-    requires items { length offered.now.touches ≡ meters + length prices.now }
-    requires few { length prices.now ≤ most_candidates }
-    requires cheap { All (λ p. p ≤ most_price) prices.now }
-    requires fits { Fits pairs.old g.now offered.now.touches }
-    requires room { HasRoomFor search.old.sizes g.now offered.now.touches }
-    requires keys { length keys.old ≡ length offered.now.touches }
-    requires since { length since.old ≡ length offered.now.touches }
-    requires raised { length raised.old ≡ length offered.now.touches }
-    requires list { length prices.now ≤ length list.old }
-    requires touched { length touched.old ≡ length g.now.ends }
-    requires stars { length stars.old ≡ g.now.vertices }
-    ensures bound { result.count ≤ length prices.now }
-    ensures chosen { take result.count list.new
-        ≡ chosen_of g.now.vertices g.now.ends offered.now.touches meters prices.now }
-    ensures cost { result.cost ≡ cost_of prices.now
-        (chosen_of g.now.vertices g.now.ends offered.now.touches meters prices.now) }
-    ensures rank { length (pairs_at pairs.new) ≡ rho_at g.now.vertices g.now.ends offered.now.touches
-        (live_items g.now.ends offered.now.touches) }
-    ensures standing { IsStanding g.now offered.now.touches pairs.new }
-    ensures only_chosen { HavePairsOnly meters
-        (chosen_of g.now.vertices g.now.ends offered.now.touches meters prices.now) pairs.new }
-    ensures known { AreKnown g.now offered.now.touches (price_of meters prices.now) since.new }
-    ensures order { IsOrder (price_of meters prices.now) (length offered.now.touches) keys.new }
-    ensures raised { (m : ℕ) → m < length offered.now.touches → has_flag raised.new m
-        ≡ is_chosen g.now.vertices g.now.ends offered.now.touches (price_of meters prices.now) m }
-    ensures same_room { HasRoomOf pairs.old pairs.new }
-    ensures same_sizes { search.new.sizes ≡ search.old.sizes }
+    requires offer { IsOffer offer.now }
+    requires room { HasRoomForOffer taking.old.sizes offer.now }
+    requires keys { length keys.old ≡ taking.old.sizes.meters }
+    requires raised { length raised.old ≡ taking.old.sizes.meters }
+    requires list { length list.old ≡ taking.old.sizes.meters }
+    ensures bound { result.count ≤ length list.new }
+    ensures chosen { IsChosen offer.now (record {
+      keys = take (length offer.now.items.now.touches) keys.new;
+      raised = take (length offer.now.items.now.touches) raised.new;
+      chosen = take result.count list.new;
+      cost = result.cost;
+      since = taking.new.known.since;
+      pairs = taking.new.pairs;
+      sizes = taking.new.sizes;
+    }) }
+    ensures same_sizes { taking.new.sizes ≡ taking.old.sizes }
 {
-    let _ = offered.count();
-    let _ = g.vertices();
-    pairs.clear(g, offered);
-    put_in_order(meters, prices, keys);
-    begin(since, raised, touched, stars);
-    take_all(
-        g, offered, meters, prices, keys, pairs, search, since, touched, stars, raised, steps,
-    );
-    thaw(g, offered, pairs);
-    list_raised(meters, prices, raised, list)
+    let n = offer.items.count() as usize;
+    let keys = &mut keys[..n];
+    let raised = &mut raised[..n];
+    put_in_order(offer, keys);
+    clear(raised);
+    taking.begin(offer);
+    take_all(offer, keys, taking, raised, steps);
+    taking.thaw();
+    list_raised(offer, raised, list)
+}
+
+/// Room for choosing candidates, and those that were chosen last.
+pub struct Choosing {
+    // how many items there were, how many candidates were chosen, and what these cost
+    items: usize,
+    listed: Listed,
+    // the price of each item with its number: the order in which they are taken
+    keys: Vec<(u64, u32)>,
+    // whether the item raised the greatest length
+    raised: Vec<bool>,
+    // the positions of the chosen candidates, at the front
+    list: Vec<u32>,
+    // what the items are taken in
+    taking: Taking,
+}
+
+impl Model for Choosing {
+    ghost use Rattle.std.specs.Prelude.{◌≡◌, ◌≤◌, length, take};
+    ghost use Rattle.obs_placement.specs.Choosing.{Choosing};
+
+    ghost Value = { Choosing };
+
+    ghost view = { λ c. record {
+      keys = take c.items c.keys.items;
+      raised = take c.items c.raised.items;
+      chosen = take c.listed.count c.list.items;
+      cost = c.listed.cost;
+      since = c.taking.known.since;
+      pairs = c.taking.pairs;
+      sizes = c.taking.sizes;
+    } };
+
+    ghost invariant = { λ c. record {
+      items : c.items ≤ length c.keys.items;
+      count : c.listed.count ≤ length c.list.items;
+      keys : length c.keys.items ≡ c.taking.sizes.meters;
+      raised : length c.raised.items ≡ c.taking.sizes.meters;
+      list : length c.list.items ≡ c.taking.sizes.meters;
+    } };
+}
+
+// Written out: so a caller's proof sees one call, and not the drop of each field.
+impl Drop for Choosing {
+    fn drop(self) {
+        let Choosing {
+            items: _,
+            listed: _,
+            keys: _,
+            raised: _,
+            list: _,
+            taking: _,
+        } = self;
+    }
+}
+
+impl Choosing {
+    /// Room for so many items, branches and vertices.
+    pub fn make(
+        alloc: Global,
+        most_items: u32,
+        most_branches: u32,
+        most_vertices: u32,
+    ) -> Result<Choosing, NoMemory>
+        ensures empty { IfOk result (λ c. c ≡
+            new_choosing (record { meters = most_items; branches = most_branches; vertices = most_vertices })) }
+    {
+        Ok(Choosing {
+            items: 0,
+            listed: Listed { count: 0, cost: 0 },
+            keys: vec![in alloc; (0, 0); most_items as usize]?,
+            raised: vec![in alloc; false; most_items as usize]?,
+            list: vec![in alloc; 0; most_items as usize]?,
+            taking: Taking::make(alloc, most_items, most_branches, most_vertices)?,
+        })
+    }
+
+    /// The k-th of the prices and items, in the order in which the items were taken.
+    pub fn key(&self, k: usize) -> (u64, u32)
+        requires k { k < length self.now.keys }
+        ensures key { result ≡ slice_index_or self.now.keys k (0, 0) }
+    {
+        self.keys[k]
+    }
+
+    /// Whether the item raised the greatest length.
+    pub fn raised(&self, m: u32) -> bool
+        requires m { m < length self.now.raised }
+        ensures raised { result ≡ has_flag self.now.raised m }
+    {
+        self.raised[m as usize]
+    }
+
+    /// The positions of the chosen candidates, rising.
+    pub fn chosen(&self) -> &[u32]
+        ensures chosen { result.now ≡ self.now.chosen }
+    {
+        &self.list[..self.listed.count]
+    }
+
+    /// What the chosen candidates cost.
+    pub fn cost(&self) -> u64
+        ensures cost { result ≡ self.now.cost }
+    {
+        self.listed.cost
+    }
+
+    /// By item the price from which on it isn't critical.
+    pub fn since(&self) -> &[u64]
+        ensures since { result.now ≡ self.now.since }
+    {
+        self.taking.since()
+    }
+
+    /// The pairs of the items that were taken.
+    pub fn pairs(&self) -> &Assignment
+        ensures pairs { result.now ≡ self.now.pairs }
+    {
+        self.taking.pairs()
+    }
+
+    /// Takes all items in their order, and keeps which candidates are chosen.
+    pub fn choose<L: Ledger>(&mut self, offer: &Offer<'_>, steps: &mut Steps<L>)
+        requires offer { IsOffer offer.now }
+        requires room { HasRoomForOffer self.old.sizes offer.now }
+        ensures chosen { IsChosen offer.now self.new }
+        ensures same_sizes { self.new.sizes ≡ self.old.sizes }
+    {
+        self.items = offer.items.count() as usize;
+        self.listed = choose_in(
+            offer,
+            &mut self.keys,
+            &mut self.raised,
+            &mut self.list,
+            &mut self.taking,
+            steps,
+        );
+    }
 }

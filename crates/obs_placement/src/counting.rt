@@ -1,14 +1,13 @@
 // How many live items are below a price, and how many of these raise the greatest length, counted in the order of the
 // items.
-ghost use Rattle.std.specs.Prelude.{◌≡◌, ◌+◌, ◌<◌, ◌≤◌, ◌^◌, ℕ, if◌then◌else◌, length};
-ghost use Rattle.obs_meter.specs.Touches.{AreInRange};
-ghost use Rattle.obs_assign.specs.Assignment.{has_flag};
-ghost use Rattle.obs_placement.specs.Answer.{is_chosen};
+ghost use Rattle.std.specs.Prelude.{◌≡◌, ◌+◌, ◌<◌, ◌≤◌, if◌then◌else◌, length};
+ghost use Rattle.obs_placement.specs.Choosing.{IsChosen};
 ghost use Rattle.obs_placement.specs.Counting.{AreCounted};
-ghost use Rattle.obs_placement.specs.Order.{IsOrder, item_at, price_of};
+ghost use Rattle.obs_placement.specs.Offer.{IsOffer, price_in};
+ghost use Rattle.obs_placement.specs.Order.{item_at};
 
-use obs_graph::Graph;
-use obs_meter::Meters;
+use crate::choosing::Choosing;
+use crate::offer::Offer;
 
 /// How many live items are counted and how many of them raise the greatest length, and the same of those below a price.
 #[derive(Clone, Copy)]
@@ -65,34 +64,20 @@ fn one_where(flag: bool) -> u32
 }
 
 /// Counts the item at the next place.
-pub fn count_item(
-    g: &Graph,
-    offered: &Meters,
-    meters: u32,
-    prices: &[u64],
-    keys: &[(u64, u32)],
-    raised: &[bool],
-    k: usize,
-    tally: Tally,
-) -> Tally
-    requires in_range { AreInRange g.now offered.now.touches }
-    requires few { length offered.now.touches < 2 ^ 32 }
-    requires order { IsOrder (price_of meters prices.now) (length offered.now.touches) keys.now }
-    requires flags { length raised.now ≡ length offered.now.touches }
-    requires raised { (m : ℕ) → m < length offered.now.touches → has_flag raised.now m
-        ≡ is_chosen g.now.vertices g.now.ends offered.now.touches (price_of meters prices.now) m }
-    requires k { k < length offered.now.touches }
-    requires counted { AreCounted g.now offered.now.touches (price_of meters prices.now) keys.now k tally }
-    ensures counted { AreCounted g.now offered.now.touches (price_of meters prices.now) keys.now (k + 1) result }
-    ensures price { result.price ≡ price_of meters prices.now (item_at keys.now k) }
+pub fn count_item(offer: &Offer<'_>, choosing: &Choosing, k: usize, tally: Tally) -> Tally
+    requires offer { IsOffer offer.now }
+    requires chosen { IsChosen offer.now choosing.now }
+    requires k { k < length offer.now.items.now.touches }
+    requires counted { AreCounted offer.now.graph.now offer.now.items.now.touches (price_in offer.now)
+        choosing.now.keys k tally }
+    ensures counted { AreCounted offer.now.graph.now offer.now.items.now.touches (price_in offer.now)
+        choosing.now.keys (k + 1) result }
+    ensures price { result.price ≡ price_in offer.now (item_at choosing.now.keys k) }
 {
-    let _ = g.vertices();
-    let _ = meters;
-    let _ = prices;
-    let (price, c) = keys[k];
+    let (price, c) = choosing.key(k);
     let before = at_price(tally, price);
-    let live = one_where(offered.live(g, c));
-    let more = one_where(raised[c as usize]);
+    let live = one_where(offer.items.live(offer.graph, c));
+    let more = one_where(choosing.raised(c));
     Tally {
         price: before.price,
         live_below: before.live_below,

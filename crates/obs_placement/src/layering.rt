@@ -1,18 +1,17 @@
 // The layers of a plan, read off the prices from which on items aren't critical.
-ghost use Rattle.std.specs.Prelude.{◌≡◌, ◌+◌, ◌<◌, ◌≤◌, ◌++◌, ◌^◌, ℕ, filter, length, set, take};
+ghost use Rattle.std.specs.Prelude.{◌≡◌, ◌+◌, ◌<◌, ◌≤◌, ◌++◌, ◌∷◌, ◌^◌, [], filter, length};
 ghost use Rattle.std.specs.List.{range_with_len};
-ghost use Rattle.obs_meter.specs.Touches.{AreInRange};
-ghost use Rattle.obs_assign.specs.Assignment.{has_flag};
-ghost use Rattle.obs_placement.specs.Answer.{chosen_of, is_chosen};
+ghost use Rattle.obs_placement.specs.Choosing.{IsChosen};
 ghost use Rattle.obs_placement.specs.Counting.{live_below, raised_below};
-ghost use Rattle.obs_placement.specs.Layers.{added_items, count_known, inside_of, is_added, layer_of, layers_of, prices_above};
-ghost use Rattle.obs_placement.specs.Order.{IsOrder, price_of};
-ghost use Rattle.obs_placement.specs.Taking.{AreKnown};
+ghost use Rattle.obs_placement.specs.Layers.{added_items, count_known, is_added, layer_of};
+ghost use Rattle.obs_placement.specs.Offer.{AreAllKnown, IsOffer, price_in};
+ghost use Rattle.obs_placement.specs.Placed.{plan_of};
 
+use crate::choosing::Choosing;
 use crate::counting::{Tally, count_item, nothing_counted};
+use crate::laying::Laying;
+use crate::offer::Offer;
 use crate::plans::Layer;
-use obs_graph::Graph;
-use obs_meter::Meters;
 
 /// Whether the item isn't critical from a price on that is at least `from` and below `to`.
 fn is_new(since: &[u64], from: u64, to: u64, m: usize) -> bool
@@ -22,138 +21,85 @@ fn is_new(since: &[u64], from: u64, to: u64, m: usize) -> bool
     from <= since[m] && since[m] < to
 }
 
-/// Lists the items that aren't critical from a price on that is at least `from` and below `to`, rising, after the
-/// `upto` items that are listed already. Says how many are listed then.
-fn list_added(since: &[u64], from: u64, to: u64, inside: &mut [u32], upto: usize) -> usize
+/// Lists the items that aren't critical from a price on that is at least `from` and below `to`, rising, after those
+/// that are listed already.
+fn list_added(since: &[u64], from: u64, to: u64, laying: &mut Laying)
     requires few { length since.now < 2 ^ 32 }
-    requires room { length since.now ≤ length inside.old }
+    requires room { length since.now ≤ laying.old.room }
     requires rising { from ≤ to }
-    requires upto { upto ≡ count_known since.now from }
-    ensures upto { result ≡ count_known since.now to }
-    ensures listed { take result inside.new ≡ take upto inside.old ++ filter (is_added since.now from to)
-        (range_with_len 0 (length since.now)) }
-    ensures count { length inside.new ≡ length inside.old }
+    requires upto { length laying.old.inside ≡ count_known since.now from }
+    ensures listed { laying.new ≡ record laying.old {
+      inside = laying.old.inside ++ filter (is_added since.now from to) (range_with_len 0 (length since.now));
+    } }
+    ensures upto { length laying.new.inside ≡ count_known since.now to }
 {
-    let mut count = upto;
     for m in 0..since.len() {
         if is_new(since, from, to, m) {
-            inside[count] = m as u32;
-            count += 1;
+            laying.list(m as u32);
         }
     }
-    count
 }
 
-/// Lays out the layer from one price to another, where so many layers and so many items are listed before it. Says how
-/// many items are listed then.
+/// Lays out the layer from one price to another, after those that are laid out already.
 fn add_layer(
-    g: &Graph,
-    offered: &Meters,
-    meters: u32,
-    prices: &[u64],
+    offer: &Offer<'_>,
     since: &[u64],
     from: u64,
     to: u64,
     tally: Tally,
-    layers: &mut [Layer],
-    count: usize,
-    inside: &mut [u32],
-    upto: usize,
-) -> usize
-    requires in_range { AreInRange g.now offered.now.touches }
-    requires since { length since.now ≡ length offered.now.touches }
-    requires live { tally.live_below ≡ live_below g.now.ends offered.now.touches (price_of meters prices.now) to }
-    requires raised { tally.raised_below
-        ≡ raised_below g.now.vertices g.now.ends offered.now.touches (price_of meters prices.now) to }
-    requires known { AreKnown g.now offered.now.touches (price_of meters prices.now) since.now }
+    laying: &mut Laying,
+)
+    requires offer { IsOffer offer.now }
+    requires known { AreAllKnown offer.now since.now }
     requires rising { from ≤ to }
-    requires count { count < length layers.old }
-    requires inside { length offered.now.touches ≤ length inside.old }
-    requires upto { upto ≡ count_known since.now from }
-    ensures upto { result ≡ count_known since.now to }
-    ensures added { result ≡ upto + length
-        (added_items g.now.vertices g.now.ends offered.now.touches (price_of meters prices.now) from to) }
-    ensures layer { layers.new ≡ set layers.old count
-        (layer_of g.now.vertices g.now.ends offered.now.touches (price_of meters prices.now) from to upto) }
-    ensures listed { take result inside.new ≡ take upto inside.old
-        ++ added_items g.now.vertices g.now.ends offered.now.touches (price_of meters prices.now) from to }
-    ensures inside { length inside.new ≡ length inside.old }
+    requires live { tally.live_below
+        ≡ live_below offer.now.graph.now.ends offer.now.items.now.touches (price_in offer.now) to }
+    requires raised { tally.raised_below ≡ raised_below offer.now.graph.now.vertices offer.now.graph.now.ends
+        offer.now.items.now.touches (price_in offer.now) to }
+    requires layers { length laying.old.layers < laying.old.room }
+    requires inside { length offer.now.items.now.touches ≤ laying.old.room }
+    requires upto { length laying.old.inside ≡ count_known since.now from }
+    ensures layer { laying.new.layers ≡ laying.old.layers
+        ++ layer_of offer.now.graph.now.vertices offer.now.graph.now.ends offer.now.items.now.touches
+        (price_in offer.now) from to (length laying.old.inside) ∷ [] }
+    ensures listed { laying.new.inside ≡ laying.old.inside
+        ++ added_items offer.now.graph.now.vertices offer.now.graph.now.ends offer.now.items.now.touches
+        (price_in offer.now) from to }
+    ensures upto { length laying.new.inside ≡ count_known since.now to }
+    ensures room { laying.new.room ≡ laying.old.room }
 {
-    let _ = g.vertices();
-    let _ = offered.count();
-    let _ = meters;
-    let _ = prices;
-    let listed = list_added(since, from, to, inside, upto);
-    let outside = tally.live_below - listed as u32;
-    layers[count] = Layer {
+    list_added(since, from, to, laying);
+    let listed = laying.inside().len() as u32;
+    let outside = tally.live_below - listed;
+    laying.add(Layer {
         from,
         to,
         rank: tally.raised_below - outside,
         outside,
-        upto: listed as u32,
-    };
-    listed
-}
-
-/// How many layers there are, and how many items they list.
-#[derive(Clone, Copy)]
-pub struct Counts {
-    pub layers: usize,
-    pub inside: usize,
+        upto: listed,
+    });
 }
 
 /// Lays out all layers: one for each different price above 0 of the chosen candidates, in the order of the items.
-pub fn add_layers(
-    g: &Graph,
-    offered: &Meters,
-    meters: u32,
-    prices: &[u64],
-    keys: &[(u64, u32)],
-    raised: &[bool],
-    since: &[u64],
-    layers: &mut [Layer],
-    inside: &mut [u32],
-) -> Counts
-    requires in_range { AreInRange g.now offered.now.touches }
-    requires items { length offered.now.touches ≡ meters + length prices.now }
-    requires order { IsOrder (price_of meters prices.now) (length offered.now.touches) keys.now }
-    requires flags { length raised.now ≡ length offered.now.touches }
-    requires raised { (m : ℕ) → m < length offered.now.touches → has_flag raised.now m
-        ≡ is_chosen g.now.vertices g.now.ends offered.now.touches (price_of meters prices.now) m }
-    requires since { length since.now ≡ length offered.now.touches }
-    requires known { AreKnown g.now offered.now.touches (price_of meters prices.now) since.now }
-    requires layers { length offered.now.touches ≤ length layers.old }
-    requires inside { length offered.now.touches ≤ length inside.old }
-    ensures layers { take result.layers layers.new
-        ≡ layers_of g.now.vertices g.now.ends offered.now.touches (price_of meters prices.now) 0 0
-        (prices_above prices.now (chosen_of g.now.vertices g.now.ends offered.now.touches meters prices.now) 0) }
-    ensures inside { take result.inside inside.new
-        ≡ inside_of g.now.vertices g.now.ends offered.now.touches (price_of meters prices.now) 0
-        (prices_above prices.now (chosen_of g.now.vertices g.now.ends offered.now.touches meters prices.now) 0) }
-    ensures layers_room { result.layers ≤ length layers.new }
-    ensures inside_room { result.inside ≤ length inside.new }
-    ensures layers_count { length layers.new ≡ length layers.old }
-    ensures inside_count { length inside.new ≡ length inside.old }
+pub fn add_layers(offer: &Offer<'_>, choosing: &Choosing, laying: &mut Laying)
+    requires offer { IsOffer offer.now }
+    requires chosen { IsChosen offer.now choosing.now }
+    requires room { length offer.now.items.now.touches ≤ laying.old.room }
+    ensures layers { laying.new.layers ≡ (plan_of offer.now.graph.now.vertices offer.now.graph.now.ends
+        offer.now.items.now.touches offer.now.meters offer.now.prices.now).layers }
+    ensures inside { laying.new.inside ≡ (plan_of offer.now.graph.now.vertices offer.now.graph.now.ends
+        offer.now.items.now.touches offer.now.meters offer.now.prices.now).inside }
+    ensures room { laying.new.room ≡ laying.old.room }
 {
-    let _ = g.vertices();
-    let _ = offered.count();
+    laying.clear();
     let mut last = 0;
-    let mut count = 0;
-    let mut upto = 0;
     let mut tally = nothing_counted();
-    for k in 0..keys.len() {
-        let (price, c) = keys[k];
-        tally = count_item(g, offered, meters, prices, keys, raised, k, tally);
-        if last < price && raised[c as usize] {
-            upto = add_layer(
-                g, offered, meters, prices, since, last, price, tally, layers, count, inside, upto,
-            );
-            count += 1;
+    for k in 0..offer.items.count() as usize {
+        let (price, c) = choosing.key(k);
+        tally = count_item(offer, choosing, k, tally);
+        if last < price && choosing.raised(c) {
+            add_layer(offer, choosing.since(), last, price, tally, laying);
             last = price;
         }
-    }
-    Counts {
-        layers: count,
-        inside: upto,
     }
 }

@@ -5,10 +5,13 @@
 mod choosing;
 mod counting;
 mod holding;
+mod known;
 pub mod laws;
 mod layering;
+mod laying;
 mod measuring;
 mod memory;
+mod offer;
 mod order;
 mod placing;
 mod plans;

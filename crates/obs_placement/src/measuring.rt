@@ -1,16 +1,16 @@
 // The items of a price: those below it that aren't critical among them, and their bound.
-ghost use Rattle.std.specs.Prelude.{◌≡◌, ◌+◌, ◌<◌, ◌^◌, ℕ, length, nat_lt};
-ghost use Rattle.obs_meter.specs.Sizes.{HasRoomFor};
-ghost use Rattle.obs_meter.specs.Touches.{AreInRange};
+ghost use Rattle.std.specs.Prelude.{◌≡◌, ◌<◌, ℕ, [], length, nat_lt, IfOk};
 ghost use Rattle.obs_rankcut.specs.Flags.{marked};
-ghost use Rattle.obs_placement.specs.Layers.{layer_items, layer_outside, layer_rank};
-ghost use Rattle.obs_placement.specs.Order.{price_of};
-ghost use Rattle.obs_placement.specs.Taking.{AreKnown, is_below, since_at};
+ghost use Rattle.obs_placement.specs.Offer.{AreAllKnown, HasRoomForOffer, IsOffer, price_in};
+ghost use Rattle.obs_placement.specs.Choosing.{HasMeasured};
+ghost use Rattle.obs_placement.specs.Taking.{is_below, since_at};
 
+use crate::memory::NoMemory;
+use crate::offer::Offer;
 use crate::order::price_at;
-use obs_graph::Graph;
-use obs_meter::Meters;
 use obs_rankcut::{CutWork, Measured, measure};
+use std::alloc::Global;
+use std::marker::Model;
 
 /// Marks the items that aren't critical from a price below this one on.
 fn mark_known(since: &[u64], to: u64, marks: &mut [bool])
@@ -24,49 +24,119 @@ fn mark_known(since: &[u64], to: u64, marks: &mut [bool])
 }
 
 /// Marks the items whose price is below this one.
-fn mark_below(meters: u32, prices: &[u64], to: u64, scope: &mut [bool])
-    requires count { length scope.old ≡ meters + length prices.now }
-    requires few { meters + length prices.now < 2 ^ 32 }
+fn mark_below(offer: &Offer<'_>, to: u64, scope: &mut [bool])
+    requires offer { IsOffer offer.now }
+    requires count { length scope.old ≡ length offer.now.items.now.touches }
     ensures count { length scope.new ≡ length scope.old }
-    ensures marks { (m : ℕ) → m < meters + length prices.now
-        → marked scope.new m ≡ is_below (price_of meters prices.now) to m }
+    ensures marks { (m : ℕ) → m < length offer.now.items.now.touches
+        → marked scope.new m ≡ is_below (price_in offer.now) to m }
 {
-    for m in 0..meters + prices.len() as u32 {
-        scope[m as usize] = price_at(meters, prices, m) < to;
+    for m in 0..offer.items.count() {
+        scope[m as usize] = price_at(offer, m) < to;
     }
 }
 
 /// Measures the items below a price that aren't critical among them. The work value then has their list.
-pub fn measure_own(
-    g: &Graph,
-    offered: &Meters,
-    meters: u32,
-    prices: &[u64],
+fn measure_own(
+    offer: &Offer<'_>,
     since: &[u64],
     to: u64,
     marks: &mut [bool],
     scope: &mut [bool],
     cut: &mut CutWork,
 ) -> Measured
-    requires in_range { AreInRange g.now offered.now.touches }
-    requires items { length offered.now.touches ≡ meters + length prices.now }
-    requires since { length since.now ≡ length offered.now.touches }
-    requires marks { length marks.old ≡ length offered.now.touches }
-    requires scope { length scope.old ≡ length offered.now.touches }
-    requires room { HasRoomFor cut.old.sizes g.now offered.now.touches }
-    requires known { AreKnown g.now offered.now.touches (price_of meters prices.now) since.now }
-    ensures inside { cut.new.inside ≡ layer_items g.now.vertices g.now.ends offered.now.touches
-        (price_of meters prices.now) to }
-    ensures rank { result.rank ≡ layer_rank g.now.vertices g.now.ends offered.now.touches
-        (price_of meters prices.now) to }
-    ensures outside { result.outside ≡ layer_outside g.now.vertices g.now.ends offered.now.touches
-        (price_of meters prices.now) to }
-    ensures marks { length marks.new ≡ length marks.old }
-    ensures scope { length scope.new ≡ length scope.old }
+    requires offer { IsOffer offer.now }
+    requires known { AreAllKnown offer.now since.now }
+    requires room { HasRoomForOffer cut.old.sizes offer.now }
+    requires marks { length marks.old ≡ cut.old.sizes.meters }
+    requires scope { length scope.old ≡ cut.old.sizes.meters }
+    ensures measured { HasMeasured offer.now to cut.new.inside result.rank result.outside }
     ensures same_sizes { cut.new.sizes ≡ cut.old.sizes }
 {
-    let _ = offered.count();
+    let n = offer.items.count() as usize;
+    let marks = &mut marks[..n];
+    let scope = &mut scope[..n];
     mark_known(since, to, marks);
-    mark_below(meters, prices, to, scope);
-    measure(g, offered, marks, scope, cut)
+    mark_below(offer, to, scope);
+    measure(offer.graph, offer.items, marks, scope, cut)
+}
+
+/// Room for measuring the items of a price, and the list that was measured last.
+pub struct Measuring {
+    // which items are measured, and within which scope
+    marks: Vec<bool>,
+    scope: Vec<bool>,
+    // what bounds are measured in
+    cut: CutWork,
+}
+
+impl Model for Measuring {
+    ghost use Rattle.std.specs.Prelude.{◌≡◌, length};
+    ghost use Rattle.obs_rankcut.specs.Bounds.{CutWork};
+
+    ghost Value = { CutWork };
+
+    ghost view = { λ m. m.cut };
+
+    ghost invariant = { λ m. record {
+      marks : length m.marks.items ≡ m.cut.sizes.meters;
+      scope : length m.scope.items ≡ m.cut.sizes.meters;
+    } };
+}
+
+// Written out: so a caller's proof sees one call, and not the drop of each field.
+impl Drop for Measuring {
+    fn drop(self) {
+        let Measuring {
+            marks: _,
+            scope: _,
+            cut: _,
+        } = self;
+    }
+}
+
+impl Measuring {
+    /// Room for so many items, branches and vertices.
+    pub fn make(
+        alloc: Global,
+        most_items: u32,
+        most_branches: u32,
+        most_vertices: u32,
+    ) -> Result<Measuring, NoMemory>
+        ensures empty { IfOk result (λ m. m ≡ record {
+          inside = [];
+          sizes = record { meters = most_items; branches = most_branches; vertices = most_vertices };
+        }) }
+    {
+        Ok(Measuring {
+            marks: vec![in alloc; false; most_items as usize]?,
+            scope: vec![in alloc; false; most_items as usize]?,
+            cut: CutWork::make(alloc, most_items, most_branches, most_vertices)?,
+        })
+    }
+
+    /// The list that was measured last.
+    pub fn inside(&self) -> &[u32]
+        ensures inside { result.now ≡ self.now.inside }
+    {
+        self.cut.inside()
+    }
+
+    /// Measures the items below a price that aren't critical among them, and keeps their list.
+    pub fn measure(&mut self, offer: &Offer<'_>, since: &[u64], to: u64) -> Measured
+        requires offer { IsOffer offer.now }
+        requires known { AreAllKnown offer.now since.now }
+        requires room { HasRoomForOffer self.old.sizes offer.now }
+        ensures measured { HasMeasured offer.now to self.new.inside result.rank result.outside }
+        ensures same_sizes { self.new.sizes ≡ self.old.sizes }
+    {
+        measure_own(
+            offer,
+            since,
+            to,
+            &mut self.marks,
+            &mut self.scope,
+            &mut self.cut,
+        )
+    }
 }

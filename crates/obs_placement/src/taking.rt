@@ -1,172 +1,189 @@
 // Items are taken one after the other: each that raises the greatest length gets a pair, and of each other one it is
 // kept which items aren't critical from its price on.
-ghost use Rattle.std.specs.Prelude.{◌≡◌, ◌<◌, ◌≤◌, ◌∷◌, ℕ, true, length};
-ghost use Rattle.obs_meter.specs.Sizes.{HasRoomFor};
-ghost use Rattle.obs_meter.specs.Touches.{AreInRange, is_live};
-ghost use Rattle.obs_assign.specs.Assignment.{HasRoomOf};
-ghost use Rattle.obs_placement.specs.Answer.{earlier_items, is_chosen};
-ghost use Rattle.obs_placement.specs.Holding.{AreStarsOfKnown, AreTouchedByKnown};
-ghost use Rattle.obs_placement.specs.Order.{IsOrder, price_of};
-ghost use Rattle.obs_placement.specs.Taking.{AreAdded, AreHeld, AreTaken, IsTakenAt, IsUnderWay, StandsWithKnown, never, since_at};
+ghost use Rattle.std.specs.Prelude.{◌≡◌, [], IfOk, length};
+ghost use Rattle.obs_assign.specs.Assignment.{pairs as pairs_at};
+ghost use Rattle.obs_placement.specs.Choosing.{nothing_taken};
+ghost use Rattle.obs_placement.specs.Holding.{GoesOn, HasEnded, IsTakenNow, IsToTake, StandsBeside, nothing_known, thawed};
+ghost use Rattle.obs_placement.specs.Offer.{HasRoomForOffer, IsOffer, price_in};
+ghost use Rattle.obs_placement.specs.Order.{IsOrder};
 
 use crate::holding::{keep, touches_known};
+use crate::known::Known;
+use crate::memory::NoMemory;
+use crate::offer::Offer;
 use obs_assign::{Assignment, Steps};
 use obs_exchange::{Found, Sources, Work, search};
-use obs_graph::Graph;
-use obs_meter::Meters;
+use std::alloc::Global;
+use std::marker::Model;
 use std::sync::ledger::Ledger;
 
-/// The price of an item that wasn't found not to be critical: above all prices.
-pub const NEVER: u64 = 18446744073709551615;
+/// What items are taken in.
+pub struct Taking {
+    // from which price on each item isn't critical, and the flags of what such items touch
+    known: Known,
+    // the pairs of the items that were taken, and what finds them
+    pairs: Assignment,
+    work: Work,
+}
 
-/// Takes a live item by a search from it, and says whether it raises the greatest length.
-fn search_item<L: Ledger>(
-    g: &Graph,
-    offered: &Meters,
-    meters: u32,
-    prices: &[u64],
-    a: &mut Assignment,
-    work: &mut Work,
-    since: &mut [u64],
-    touched: &mut [bool],
-    stars: &mut [bool],
-    price: u64,
-    c: u32,
-    steps: &mut Steps<L>,
-) -> bool
-    requires c { c < length offered.now.touches }
-    requires in_range { AreInRange g.now offered.now.touches }
-    requires room { HasRoomFor work.old.sizes g.now offered.now.touches }
-    requires standing { StandsWithKnown g.now offered.now.touches a.old since.old }
-    requires live { is_live g.now.ends offered.now.touches c ≡ true }
-    requires count { length since.old ≡ length offered.now.touches }
-    requires price { price < never }
-    requires bounded { (m : ℕ) → since_at since.old m ≤ never }
-    requires taken { IsTakenAt g.now offered.now.touches
-        (earlier_items g.now.ends offered.now.touches (price_of meters prices.now) c) a.old since.old }
-    requires held { AreHeld g.now offered.now.touches (price_of meters prices.now) a.old }
-    requires touched { AreTouchedByKnown g.now offered.now.touches since.old touched.old }
-    requires stars { AreStarsOfKnown g.now offered.now.touches since.old stars.old }
-    ensures taken { IsTakenAt g.now offered.now.touches
-        (c ∷ earlier_items g.now.ends offered.now.touches (price_of meters prices.now) c) a.new since.new }
-    ensures chosen { result ≡ is_chosen g.now.vertices g.now.ends offered.now.touches (price_of meters prices.now) c }
-    ensures held { AreHeld g.now offered.now.touches (price_of meters prices.now) a.new }
-    ensures added { AreAdded price since.old since.new }
-    ensures count { length since.new ≡ length since.old }
-    ensures standing { StandsWithKnown g.now offered.now.touches a.new since.new }
-    ensures same_room { HasRoomOf a.old a.new }
-    ensures same_sizes { work.new.sizes ≡ work.old.sizes }
-    ensures touched { AreTouchedByKnown g.now offered.now.touches since.new touched.new }
-    ensures stars { AreStarsOfKnown g.now offered.now.touches since.new stars.new }
-{
-    let _ = g.vertices();
-    let _ = meters;
-    let _ = prices;
-    match search(g, offered, a, Sources::One(c), work, steps) {
-        Found::Grown(_) => true,
-        Found::Closed => {
-            keep(
-                g,
-                offered,
-                a,
-                work.listed(),
-                price,
-                since,
-                touched,
-                stars,
-                steps,
-            );
-            false
-        }
+impl Model for Taking {
+    ghost use Rattle.std.specs.Prelude.{◌≡◌};
+    ghost use Rattle.obs_placement.specs.Holding.{Taking};
+
+    ghost Value = { Taking };
+
+    ghost view = { λ t. record { known = t.known; pairs = t.pairs; sizes = t.work.sizes } };
+
+    ghost invariant = { λ t. record {
+      known : t.known.sizes ≡ t.work.sizes;
+      pairs : t.pairs.most_meters ≡ t.work.sizes.meters;
+      branches : t.pairs.forest.most_branches ≡ t.work.sizes.branches;
+      vertices : t.pairs.forest.most_vertices ≡ t.work.sizes.vertices;
+    } };
+}
+
+// Written out: so a caller's proof sees one call, and not the drop of each field.
+impl Drop for Taking {
+    fn drop(self) {
+        let Taking {
+            known: _,
+            pairs: _,
+            work: _,
+        } = self;
     }
 }
 
-/// Takes a live item, and says whether it raises the greatest length. Where known items touch all that it touches, it
-/// raises nothing, and no other item becomes known: so no search is made.
-fn take_item<L: Ledger>(
-    g: &Graph,
-    offered: &Meters,
-    meters: u32,
-    prices: &[u64],
-    a: &mut Assignment,
-    work: &mut Work,
-    since: &mut [u64],
-    touched: &mut [bool],
-    stars: &mut [bool],
-    price: u64,
-    c: u32,
-    steps: &mut Steps<L>,
-) -> bool
-    requires c { c < length offered.now.touches }
-    requires in_range { AreInRange g.now offered.now.touches }
-    requires room { HasRoomFor work.old.sizes g.now offered.now.touches }
-    requires standing { StandsWithKnown g.now offered.now.touches a.old since.old }
-    requires live { is_live g.now.ends offered.now.touches c ≡ true }
-    requires count { length since.old ≡ length offered.now.touches }
-    requires price { price < never }
-    requires bounded { (m : ℕ) → since_at since.old m ≤ never }
-    requires taken { IsTakenAt g.now offered.now.touches
-        (earlier_items g.now.ends offered.now.touches (price_of meters prices.now) c) a.old since.old }
-    requires held { AreHeld g.now offered.now.touches (price_of meters prices.now) a.old }
-    requires touched { AreTouchedByKnown g.now offered.now.touches since.old touched.old }
-    requires stars { AreStarsOfKnown g.now offered.now.touches since.old stars.old }
-    ensures taken { IsTakenAt g.now offered.now.touches
-        (c ∷ earlier_items g.now.ends offered.now.touches (price_of meters prices.now) c) a.new since.new }
-    ensures chosen { result ≡ is_chosen g.now.vertices g.now.ends offered.now.touches (price_of meters prices.now) c }
-    ensures held { AreHeld g.now offered.now.touches (price_of meters prices.now) a.new }
-    ensures added { AreAdded price since.old since.new }
-    ensures count { length since.new ≡ length since.old }
-    ensures standing { StandsWithKnown g.now offered.now.touches a.new since.new }
-    ensures same_room { HasRoomOf a.old a.new }
-    ensures same_sizes { work.new.sizes ≡ work.old.sizes }
-    ensures touched { AreTouchedByKnown g.now offered.now.touches since.new touched.new }
-    ensures stars { AreStarsOfKnown g.now offered.now.touches since.new stars.new }
-{
-    let _ = g.vertices();
-    if touches_known(g, offered, c, since, touched, stars) {
-        since[c as usize] = price;
-        return false;
+impl Taking {
+    /// Room for so many items, branches and vertices.
+    pub fn make(
+        alloc: Global,
+        most_items: u32,
+        most_branches: u32,
+        most_vertices: u32,
+    ) -> Result<Taking, NoMemory>
+        ensures empty { IfOk result (λ t. t ≡
+            nothing_taken (record { meters = most_items; branches = most_branches; vertices = most_vertices })) }
+    {
+        Ok(Taking {
+            known: Known::make(alloc, most_items, most_branches, most_vertices)?,
+            pairs: Assignment::make(alloc, most_items, most_branches, most_vertices)?,
+            work: Work::make(alloc, most_items, most_branches, most_vertices)?,
+        })
     }
-    search_item(
-        g, offered, meters, prices, a, work, since, touched, stars, price, c, steps,
-    )
+
+    /// By item the price from which on it isn't critical.
+    pub fn since(&self) -> &[u64]
+        ensures since { result.now ≡ self.now.known.since }
+    {
+        self.known.since()
+    }
+
+    /// The pairs of the items that were taken.
+    pub fn pairs(&self) -> &Assignment
+        ensures pairs { result.now ≡ self.now.pairs }
+    {
+        &self.pairs
+    }
+
+    /// Takes no item.
+    pub fn begin(&mut self, offer: &Offer<'_>)
+        requires offer { IsOffer offer.now }
+        requires room { HasRoomForOffer self.old.sizes offer.now }
+        ensures beside { StandsBeside offer.now self.new.pairs self.new.known }
+        ensures no_pair { pairs_at self.new.pairs ≡ [] }
+        ensures nothing_known { self.new.known ≡ nothing_known self.old.known offer.now }
+        ensures same_sizes { self.new.sizes ≡ self.old.sizes }
+    {
+        self.pairs.clear(offer.graph, offer.items);
+        self.known.begin(offer);
+    }
+
+    /// Takes a live item by a search from it, and says whether it raises the greatest length.
+    fn search_item<L: Ledger>(
+        &mut self,
+        offer: &Offer<'_>,
+        price: u64,
+        c: u32,
+        steps: &mut Steps<L>,
+    ) -> bool
+        requires offer { IsOffer offer.now }
+        requires room { HasRoomForOffer self.old.sizes offer.now }
+        requires item { IsToTake offer.now c price self.old }
+        ensures taken { IsTakenNow offer.now c price self.old self.new result }
+        ensures same_sizes { self.new.sizes ≡ self.old.sizes }
+    {
+        match search(
+            offer.graph,
+            offer.items,
+            &mut self.pairs,
+            Sources::One(c),
+            &mut self.work,
+            steps,
+        ) {
+            Found::Grown(_) => true,
+            Found::Closed => {
+                keep(
+                    offer,
+                    &mut self.pairs,
+                    &mut self.known,
+                    self.work.listed(),
+                    price,
+                    steps,
+                );
+                false
+            }
+        }
+    }
+
+    /// Takes a live item, and says whether it raises the greatest length. Where known items touch all that it touches,
+    /// it raises nothing, and no other item becomes known: so no search is made.
+    fn take<L: Ledger>(
+        &mut self,
+        offer: &Offer<'_>,
+        price: u64,
+        c: u32,
+        steps: &mut Steps<L>,
+    ) -> bool
+        requires offer { IsOffer offer.now }
+        requires room { HasRoomForOffer self.old.sizes offer.now }
+        requires item { IsToTake offer.now c price self.old }
+        ensures taken { IsTakenNow offer.now c price self.old self.new result }
+        ensures same_sizes { self.new.sizes ≡ self.old.sizes }
+    {
+        if touches_known(offer, &self.known, c) {
+            self.known.set(c, price);
+            return false;
+        }
+        self.search_item(offer, price, c, steps)
+    }
+
+    /// Thaws all items, and keeps the pairs.
+    pub fn thaw(&mut self)
+        ensures thawed { self.new ≡ record self.old { pairs = thawed self.old.pairs } }
+    {
+        self.pairs.unpin_all();
+    }
 }
 
 /// Takes all items, in their order, and says which of them raise the greatest length of those before them.
 pub fn take_all<L: Ledger>(
-    g: &Graph,
-    offered: &Meters,
-    meters: u32,
-    prices: &[u64],
+    offer: &Offer<'_>,
     keys: &[(u64, u32)],
-    a: &mut Assignment,
-    work: &mut Work,
-    since: &mut [u64],
-    touched: &mut [bool],
-    stars: &mut [bool],
+    taking: &mut Taking,
     raised: &mut [bool],
     steps: &mut Steps<L>,
 )
-    requires in_range { AreInRange g.now offered.now.touches }
-    requires room { HasRoomFor work.old.sizes g.now offered.now.touches }
-    requires cheap { (m : ℕ) → price_of meters prices.now m < never }
-    requires order { IsOrder (price_of meters prices.now) (length offered.now.touches) keys.now }
-    requires begun { IsUnderWay g.now offered.now.touches
-        (price_of meters prices.now) keys.now 0 a.old since.old raised.old }
-    requires touched { AreTouchedByKnown g.now offered.now.touches since.old touched.old }
-    requires stars { AreStarsOfKnown g.now offered.now.touches since.old stars.old }
-    ensures taken { AreTaken g.now offered.now.touches (price_of meters prices.now) a.new since.new raised.new }
-    ensures standing { StandsWithKnown g.now offered.now.touches a.new since.new }
-    ensures same_room { HasRoomOf a.old a.new }
-    ensures same_sizes { work.new.sizes ≡ work.old.sizes }
+    requires offer { IsOffer offer.now }
+    requires room { HasRoomForOffer taking.old.sizes offer.now }
+    requires order { IsOrder (price_in offer.now) (length offer.now.items.now.touches) keys.now }
+    requires begun { GoesOn offer.now keys.now 0 taking.old raised.old }
+    ensures taken { HasEnded offer.now taking.new raised.new }
+    ensures same_sizes { taking.new.sizes ≡ taking.old.sizes }
 {
-    let _ = g.vertices();
     for k in 0..keys.len() {
         let (price, c) = keys[k];
-        if offered.live(g, c) {
-            raised[c as usize] = take_item(
-                g, offered, meters, prices, a, work, since, touched, stars, price, c, steps,
-            );
+        if offer.items.live(offer.graph, c) {
+            raised[c as usize] = taking.take(offer, price, c, steps);
         }
     }
 }

@@ -11,102 +11,57 @@ ghost use Rattle.obs_placement.specs.Order.{price_of};
 ghost use Rattle.obs_placement.specs.Placed.{placed_of, placement_of};
 ghost use Rattle.obs_placement.specs.Taking.{AreKnown, IsStanding};
 
+use crate::choosing::Choosing;
+use crate::laying::Laying;
+use crate::measuring::Measuring;
 use crate::memory::NoMemory;
-use crate::placing::{Laid, place_first};
-use crate::plans::{Layer, Placement, Plan};
+use crate::offer::Offer;
+use crate::placing::{Lack, place_in};
+use crate::plans::{Placement, Plan};
 use obs_assign::{Assignment, Steps};
-use obs_exchange::Work;
 use obs_graph::Graph;
 use obs_meter::Meters;
-use obs_rankcut::{Bound, CutWork};
+use obs_rankcut::Bound;
 use std::alloc::Global;
 use std::marker::Model;
 use std::sync::ledger::Ledger;
 
-const NO_LAYER: Layer = Layer {
-    from: 0,
-    to: 0,
-    rank: 0,
-    outside: 0,
-    upto: 0,
-};
-
-const NOTHING: Laid = Laid {
+const NO_LACK: Lack = Lack {
     short: false,
-    count: 0,
-    cost: 0,
     rank: 0,
     outside: 0,
     needed: 0,
-    layers: 0,
-    inside: 0,
 };
 
 /// Room for a placement, and what was found last.
 pub struct PlaceWork {
-    // how many meters and candidates were offered last together
-    offered: usize,
-    // the numbers of what was found
-    laid: Laid,
-    // the price of each item with its position: the order in which they are taken
-    keys: Vec<(u64, u32)>,
-    // the price from which on the item is not critical, or `NEVER`
-    since: Vec<u64>,
-    // whether an item that is known not to be critical touches the branch, and whether one is a star at the vertex
-    touched: Vec<bool>,
-    stars: Vec<bool>,
-    // whether the item raised the greatest length
-    raised: Vec<bool>,
-    // the positions of the chosen candidates, at the front
-    list: Vec<u32>,
-    // which items a layer or a bound is measured of, and within which scope
-    marks: Vec<bool>,
-    scope: Vec<bool>,
-    // the layers of a plan, at the front
-    layers: Vec<Layer>,
-    // the items that the layers list, one layer after another
-    inside: Vec<u32>,
-    // the pairs of the items that were taken, and what finds them
-    pairs: Assignment,
-    search: Work,
-    // what bounds are measured in
-    cut: CutWork,
+    // whether all that was offered fell short, with the numbers of the bound
+    lack: Lack,
+    // what candidates are chosen in, and those that were chosen
+    choosing: Choosing,
+    // what the bound of a shortfall is measured in, and its list
+    measuring: Measuring,
+    // the layers of a plan
+    laying: Laying,
 }
 
 impl Model for PlaceWork {
-    ghost use Rattle.std.specs.Prelude.{◌≡◌, ◌≤◌, length, take};
-    ghost use Rattle.obs_placement.specs.Choosing.{PlaceWork};
-    ghost use Rattle.obs_placement.specs.Placed.{laid_in};
+    ghost use Rattle.std.specs.Prelude.{◌≡◌};
+    ghost use Rattle.obs_placement.specs.Choosing.{PlaceWork, placed_in};
 
     ghost Value = { PlaceWork };
 
     ghost view = { λ w. record {
-      placed = laid_in w.laid w.list.items w.cut.inside w.layers.items w.inside.items;
-      chosen = take w.laid.count w.list.items;
-      since = take w.offered w.since.items;
-      pairs = w.pairs;
-      sizes = w.search.sizes;
+      placed = placed_in w.lack w.choosing w.measuring.inside w.laying;
+      chosen = w.choosing.chosen;
+      since = w.choosing.since;
+      pairs = w.choosing.pairs;
+      sizes = w.choosing.sizes;
     } };
 
     ghost invariant = { λ w. record {
-      offered : w.offered ≤ length w.since.items;
-      count : w.laid.count ≤ length w.list.items;
-      layers_count : w.laid.layers ≤ length w.layers.items;
-      inside_count : w.laid.inside ≤ length w.inside.items;
-      keys : length w.keys.items ≡ length w.since.items;
-      raised : length w.raised.items ≡ length w.since.items;
-      list : length w.list.items ≡ length w.since.items;
-      marks : length w.marks.items ≡ length w.since.items;
-      scope : length w.scope.items ≡ length w.since.items;
-      layers : length w.layers.items ≡ length w.since.items;
-      inside : length w.inside.items ≡ length w.since.items;
-      pairs : w.pairs.most_meters ≡ length w.since.items;
-      branches : w.pairs.forest.most_branches ≡ w.search.sizes.branches;
-      vertices : w.pairs.forest.most_vertices ≡ w.search.sizes.vertices;
-      search : w.search.sizes.meters ≡ length w.since.items;
-      cut : w.cut.sizes ≡ w.search.sizes;
-      touched : length w.touched.items ≡ w.search.sizes.branches;
-      stars : length w.stars.items ≡ w.search.sizes.vertices;
+      measuring : w.measuring.sizes ≡ w.choosing.sizes;
+      laying : w.laying.room ≡ w.choosing.sizes.meters;
     } };
 }
 
@@ -114,21 +69,10 @@ impl Model for PlaceWork {
 impl Drop for PlaceWork {
     fn drop(self) {
         let PlaceWork {
-            offered: _,
-            laid: _,
-            keys: _,
-            since: _,
-            touched: _,
-            stars: _,
-            raised: _,
-            list: _,
-            marks: _,
-            scope: _,
-            layers: _,
-            inside: _,
-            pairs: _,
-            search: _,
-            cut: _,
+            lack: _,
+            choosing: _,
+            measuring: _,
+            laying: _,
         } = self;
     }
 }
@@ -145,21 +89,10 @@ impl PlaceWork {
             new_placing (record { meters = most_offered; branches = most_branches; vertices = most_vertices })) }
     {
         Ok(PlaceWork {
-            offered: 0,
-            laid: NOTHING,
-            keys: vec![in alloc; (0, 0); most_offered as usize]?,
-            since: vec![in alloc; 0; most_offered as usize]?,
-            touched: vec![in alloc; false; most_branches as usize]?,
-            stars: vec![in alloc; false; most_vertices as usize]?,
-            raised: vec![in alloc; false; most_offered as usize]?,
-            list: vec![in alloc; 0; most_offered as usize]?,
-            marks: vec![in alloc; false; most_offered as usize]?,
-            scope: vec![in alloc; false; most_offered as usize]?,
-            layers: vec![in alloc; NO_LAYER; most_offered as usize]?,
-            inside: vec![in alloc; 0; most_offered as usize]?,
-            pairs: Assignment::make(alloc, most_offered, most_branches, most_vertices)?,
-            search: Work::make(alloc, most_offered, most_branches, most_vertices)?,
-            cut: CutWork::make(alloc, most_offered, most_branches, most_vertices)?,
+            lack: NO_LACK,
+            choosing: Choosing::make(alloc, most_offered, most_branches, most_vertices)?,
+            measuring: Measuring::make(alloc, most_offered, most_branches, most_vertices)?,
+            laying: Laying::make(alloc, most_offered)?,
         })
     }
 
@@ -167,19 +100,19 @@ impl PlaceWork {
     pub fn found(&self) -> Placement<'_>
         ensures placed { placed_of result ≡ self.now.placed }
     {
-        if self.laid.short {
+        if self.lack.short {
             Placement::Shortfall(Bound {
-                inside: self.cut.inside(),
-                rank: self.laid.rank,
-                outside: self.laid.outside,
-                needed: self.laid.needed,
+                inside: self.measuring.inside(),
+                rank: self.lack.rank,
+                outside: self.lack.outside,
+                needed: self.lack.needed,
             })
         } else {
             Placement::Cheapest(Plan {
-                chosen: &self.list[..self.laid.count],
-                cost: self.laid.cost,
-                layers: &self.layers[..self.laid.layers],
-                inside: &self.inside[..self.laid.inside],
+                chosen: self.choosing.chosen(),
+                cost: self.choosing.cost(),
+                layers: self.laying.layers(),
+                inside: self.laying.inside(),
             })
         }
     }
@@ -189,7 +122,7 @@ impl PlaceWork {
     pub fn chosen(&self) -> &[u32]
         ensures chosen { result.now ≡ self.now.chosen }
     {
-        &self.list[..self.laid.count]
+        self.choosing.chosen()
     }
 
     /// The pairs after the last placement: of meters and chosen candidates alone, and as many as the greatest length of
@@ -197,7 +130,7 @@ impl PlaceWork {
     pub fn pairs(&self) -> &Assignment
         ensures pairs { result.now ≡ self.now.pairs }
     {
-        &self.pairs
+        self.choosing.pairs()
     }
 }
 
@@ -229,30 +162,21 @@ pub fn find_placement<L: Ledger>(
     ensures same_sizes { work.new.sizes ≡ work.old.sizes }
 {
     let _ = g.vertices();
-    let n = offered.count() as usize;
-    let laid = place_first(
-        g,
-        offered,
+    let _ = offered.count();
+    let offer = Offer {
+        graph: g,
+        items: offered,
         meters,
         prices,
+    };
+    work.lack = place_in(
+        &offer,
         needed,
-        &mut work.keys,
-        &mut work.pairs,
-        &mut work.search,
-        &mut work.since,
-        &mut work.touched,
-        &mut work.stars,
-        &mut work.raised,
-        &mut work.list,
-        &mut work.marks,
-        &mut work.scope,
-        &mut work.cut,
-        &mut work.layers,
-        &mut work.inside,
+        &mut work.choosing,
+        &mut work.measuring,
+        &mut work.laying,
         steps,
     );
-    work.offered = n;
-    work.laid = laid;
 }
 
 /// The cheapest candidates that, with the meters, reach the needed number, with the layers that prove it; or, where all

@@ -3,4 +3,4 @@ use Rattle.obs_placement.proofs.Listing.{AreListed}
 use Rattle.obs_placement.proofs.choosing.list_raised.Given as goal
 
 abbrev pub invariant-loop-k : goal.invariant-loop-k
-invariant-loop-k l = AreListed (is_raised l.raised l.meters) l.prices l.list l.count l.cost l.k
+invariant-loop-k l = AreListed (is_raised l.raised l.offer.meters) l.offer.prices.now l.list l.count l.cost l.k

@@ -1,6 +1,6 @@
-use Rattle.std.proofs.Common.{◌≡◌, ◌+◌, ◌<◌, ℕ, List, length, arith, get_or, take, subst, sym, ◌∙◌}
-use Rattle.std.proofs.lemmas.List.{get_or_default, length-set}
-use Rattle.obs_placement.specs.Taking.{AreKept, never}
+use Rattle.std.proofs.Common.{◌<◌, length, arith, get_or, sym, ◌∙◌}
+use Rattle.std.proofs.lemmas.List.{get_or_default}
+use Rattle.obs_placement.specs.Taking.{never}
 use Rattle.obs_placement.proofs.Flagged.{AreKept-more, AreKept-over}
 use Rattle.obs_placement.proofs.holding.keep.Goals as goal
 use Rattle.obs_placement.proofs.holding.keep.Goals.{then-since-m, else-since-m}
@@ -10,32 +10,29 @@ loop-m-preserved g c =
     let l = c.loop-m in
     let L = c.args.reached.now in
     let x = get_or L l.m-index 0 in
+    let before = c.args.known.now.since in
+    let since = l.known.since in
     let h = l.invariant in
-    let count = h.1 in
-    let slots = h.2 in
-    let room = h.4 in
-    let low : x < length l.since = let a = c.requires.low l.m-index 0 c.loop-m-test.true in let b = c.requires.items in omega (arith, a, b, count) in
+    let beside = h.2 in
+    let low : x < length since = let a = c.requires.low l.m-index 0 c.loop-m-test.true in let b = beside.count in omega (arith, a, b) in
     elim c.if-since-m.branch [
       | then-since-m w ↦
           let e = w.keep_item.ensures in
           let same = e.same_room in
-          rw (w.a-is, w.since-is, w.touched-is, w.stars-is) (
-            subst (λ (s : List ℕ). AreKept (take (l.m-index + 1) L) c.args.price c.args.since.now s) (sym e.since)
-                (AreKept-more L c.args.price c.requires.price c.args.since.now l.m-index c.loop-m-test.true l.since h.0 low (get_or_default l.since x never 0 low ∙ w.if-since-m.true)),
-            subst (λ (s : List ℕ). length s ≡ length c.args.since.now) (sym e.since) (length-set l.since x c.args.price ∙ count),
-            e.slots ∙ slots,
-            e.standing,
+          let room = h.3 in
+          rw (w.pairs-is, w.known-is) (
+            rw e.since
+                (AreKept-more L c.args.price c.requires.price before l.m-index c.loop-m-test.true since h.0 low (get_or_default since x never 0 low ∙ (rw c.since.ensures.since at w.if-since-m.true))),
+            e.slots ∙ h.1,
+            e.beside,
             record { meters = same.meters ∙ room.meters; vertices = same.vertices ∙ room.vertices; branches = same.branches ∙ room.branches },
-            e.touched,
-            e.stars,
+            e.same_sizes ∙ h.4,
           )
-      | else-since-m w ↦ rw (w.a-is, w.since-is, w.touched-is, w.stars-is) (
-        AreKept-over L c.args.price c.requires.price c.args.since.now l.m-index c.loop-m-test.true l.since h.0 (λ q. w.if-since-m.false (sym (get_or_default l.since x never 0 low) ∙ q)),
-        count,
-        slots,
+      | else-since-m w ↦ rw (w.pairs-is, w.known-is) (
+        AreKept-over L c.args.price c.requires.price before l.m-index c.loop-m-test.true since h.0 (λ q. (rw c.since.ensures.since at w.if-since-m.false) (sym (get_or_default since x never 0 low) ∙ q)),
+        h.1,
+        h.2,
         h.3,
-        room,
-        h.5,
-        h.6,
+        h.4,
       )
     ]

@@ -1,5 +1,6 @@
-use Rattle.obs_placement.specs.Holding.{AreTouchedByKnown}
+use Rattle.std.proofs.Common.{◌≡◌}
+use Rattle.obs_placement.specs.Holding.{AreFlagged}
 use Rattle.obs_placement.proofs.holding.mark_touched.Given as goal
 
 abbrev pub invariant-loop-e : goal.invariant-loop-e
-invariant-loop-e l = AreTouchedByKnown l.g l.offered.touches l.since l.touched
+invariant-loop-e l = AreFlagged l.offer l.known × (l.known ≡ record l.fn.known { touched = l.known.touched })

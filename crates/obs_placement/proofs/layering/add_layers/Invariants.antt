@@ -1,8 +1,10 @@
+use Rattle.std.proofs.Common.{◌≡◌}
 use Rattle.obs_placement.specs.Counting.{AreCounted}
-use Rattle.obs_placement.specs.Order.{price_of}
-use Rattle.obs_placement.proofs.Laying.{IsLaying}
+use Rattle.obs_placement.specs.Offer.{price_in}
+use Rattle.obs_placement.proofs.LaidOut.{IsLaying}
 use Rattle.obs_placement.proofs.layering.add_layers.Given as goal
 
 abbrev pub invariant-loop-k : goal.invariant-loop-k
-invariant-loop-k l = IsLaying l.g.vertices l.g.ends l.offered.touches l.meters l.prices l.keys l.since l.k l.last l.count l.upto l.layers l.inside
-    × AreCounted l.g l.offered.touches (price_of l.meters l.prices) l.keys l.k l.tally
+invariant-loop-k l =
+    IsLaying l.offer.graph.now.vertices l.offer.graph.now.ends l.offer.items.now.touches l.offer.meters l.offer.prices.now l.choosing.keys l.choosing.since l.k l.last l.laying.layers l.laying.inside
+    × AreCounted l.offer.graph.now l.offer.items.now.touches (price_in l.offer) l.choosing.keys l.k l.tally × (l.laying.room ≡ l.fn.laying.room)

@@ -1,57 +1,75 @@
 use Rattle.std.proofs.Common.{◌<◌, length, sym, ◌∙◌, arith, slice_index_or}
-use Rattle.obs_placement.specs.Order.{item_at, price_of}
+use Rattle.obs_meter.specs.Touches.{is_live}
+use Rattle.obs_placement.specs.Offer.{price_in}
+use Rattle.obs_placement.specs.Order.{item_at}
 use Rattle.obs_placement.proofs.Going.{AreTaken-ended, cheap_items, earlier_taken, idle_step, live_step}
+use Rattle.obs_placement.proofs.Listing.{cheap_price}
 use Rattle.obs_placement.proofs.taking.take_all.Goals as goal
 use Rattle.obs_placement.proofs.taking.take_all.Goals.{then-live, else-live}
 
-pub take_item-requires-clause-taken : goal.take_item-requires-clause-taken
-take_item-requires-clause-taken g c =
-    earlier_taken c.args.g.now c.args.offered.now.touches (price_of c.args.meters c.args.prices.now) c.args.keys.now c.vertices.ensures.branches c.requires.order
-    c.loop-k.k c.loop-k.a c.loop-k.since c.loop-k.raised (let l = c.loop-k-test.true in let n = c.requires.order.count in omega (arith, l, n)) c.loop-k.invariant.0
-
-pub take_item-requires-clause-held : goal.take_item-requires-clause-held
-take_item-requires-clause-held g c = c.loop-k.invariant.0.held
+pub take-requires-clause-item : goal.take-requires-clause-item
+take-requires-clause-item g c =
+    let o = c.args.offer.now in
+    let keys = c.args.keys.now in
+    let order = c.requires.order in
+    let l = c.loop-k in
+    let h = l.invariant.0 in
+    let low : l.k < length o.items.now.touches = let t = c.loop-k-test.true in let n = order.count in omega (arith, t, n) in
+    record {
+      low = order.low l.k low;
+      live = sym {b = is_live o.graph.now.ends o.items.now.touches (item_at keys l.k)} c.live.ensures.live ∙ c.if-live.true;
+      cheap = cheap_items (price_in o) (length o.items.now.touches) keys order (cheap_price o.meters o.prices.now c.requires.offer.cheap) l.k low;
+      before = record {
+        taken = earlier_taken o.graph.now o.items.now.touches (price_in o) keys c.requires.offer.branches order l.k l.taking.pairs l.taking.known.since l.raised low h.way;
+        held = h.way.held;
+        bounded = h.way.bounded;
+        beside = record { count = h.way.since_count; standing = h.way.standing; flags = h.flags };
+      };
+    }
 
 pub loop-k-preserved : goal.loop-k-preserved
 loop-k-preserved g c =
-    let G = c.args.g.now in
-    let T = c.args.offered.now.touches in
-    let price = price_of c.args.meters c.args.prices.now in
+    let o = c.args.offer.now in
+    let G = o.graph.now in
+    let T = o.items.now.touches in
+    let price = price_in o in
     let keys = c.args.keys.now in
-    let ok = c.vertices.ensures.branches in
+    let ok = c.requires.offer.branches in
     let order = c.requires.order in
     let l = c.loop-k in
-    let w = l.invariant.0 in
+    let h = l.invariant.0 in
+    let cheap = cheap_price o.meters o.prices.now c.requires.offer.cheap in
     let low : l.k < length T = let t = c.loop-k-test.true in let n = order.count in omega (arith, t, n) in
-    let cheap = c.requires.cheap in
-    let room = l.invariant.1 in
-    let sizes = l.invariant.2 in
-    let touched = l.invariant.3 in
-    let stars = l.invariant.4 in
     elim c.if-live.branch [
       | then-live b ↦
-          let e = b.take_item.ensures in
-          let same_room = e.same_room in
-          let same_sizes = e.same_sizes in
-          rw (b.a-is, b.work-is, b.since-is, b.touched-is, b.stars-is, b.raised-is) (
-            live_step G T price keys ok order l.k l.a l.since l.raised low w b.take_item.new.a b.take_item.new.since (slice_index_or keys l.k (0, 0)).0 b.take_item.result
-                (cheap_items price (length T) keys order cheap l.k low) (order.priced l.k low) e.count e.standing e.held e.taken e.added e.chosen (sym c.live.ensures.live ∙ b.if-live.true),
-            record { meters = same_room.meters ∙ room.meters; vertices = same_room.vertices ∙ room.vertices; branches = same_room.branches ∙ room.branches },
-            same_sizes ∙ sizes,
-            e.touched,
-            e.stars,
+          let e = b.take.ensures.taken in
+          let after = b.take.new.self in
+          rw (b.taking-is, b.raised-is) (
+            record {
+              way = live_step G T price keys ok order l.k l.taking.pairs l.taking.known.since l.raised low h.way after.pairs after.known.since (slice_index_or keys l.k (0, 0)).0 b.take.result
+                  (cheap_items price (length T) keys order cheap l.k low) (order.priced l.k low) (e.taken.beside.count ∙ sym h.way.since_count) e.taken.beside.standing e.taken.held e.taken.taken e.added e.chosen
+                  (sym {b = is_live G.ends T (item_at keys l.k)} c.live.ensures.live ∙ b.if-live.true);
+              flags = e.taken.beside.flags;
+            },
+            b.take.ensures.same_sizes ∙ l.invariant.1,
           )
-      | else-live b ↦
-          rw (b.a-is, b.work-is, b.since-is, b.touched-is, b.stars-is, b.raised-is) (
-            idle_step G T price keys ok order l.k l.a l.since l.raised low w (cheap (item_at keys l.k)) (sym c.live.ensures.live ∙ b.if-live.false),
-            room,
-            sizes,
-            touched,
-            stars,
-          )
+      | else-live b ↦ rw (b.taking-is, b.raised-is) (
+        record {
+          way = idle_step G T price keys ok order l.k l.taking.pairs l.taking.known.since l.raised low h.way (cheap (item_at keys l.k)) (sym {b = is_live G.ends T (item_at keys l.k)} c.live.ensures.live ∙ b.if-live.false);
+          flags = h.flags;
+        },
+        l.invariant.1,
+      )
     ]
 
 pub returns-clause-taken : goal.returns-clause-taken
 returns-clause-taken g c =
-    AreTaken-ended c.args.g.now c.args.offered.now.touches (price_of c.args.meters c.args.prices.now) c.args.keys.now c.vertices.ensures.branches c.requires.order
-    c.loop-k.k c.loop-k.a c.loop-k.since c.loop-k.raised (let l = c.loop-k-test.false in let n = c.requires.order.count in omega (arith, l, n)) c.loop-k.invariant.0
+    let o = c.args.offer.now in
+    let l = c.loop-k in
+    let way = l.invariant.0.way in
+    record {
+      count = way.since_count;
+      taken = AreTaken-ended o.graph.now o.items.now.touches (price_in o) c.args.keys.now c.requires.offer.branches c.requires.order
+          l.k l.taking.pairs l.taking.known.since l.raised (let t = c.loop-k-test.false in let n = c.requires.order.count in omega (arith, t, n)) way;
+      standing = way.standing;
+    }

@@ -1,9 +1,9 @@
 -- The layers are laid out one after the other, in the order of the items.
-use Rattle.std.proofs.Common.{◌≡◌, ℕ, zero, suc, ◌+◌, ◌-◌, ◌<◌, ◌≤◌, Bool, true, false, Option, List, [], ◌∷◌, ◌++◌, length, get_or, set, take, refl, sym, ap, ◌∙◌, arith, append_assoc, inl, inr, subst, ltb}
+use Rattle.std.proofs.Common.{◌≡◌, ℕ, zero, suc, ◌+◌, ◌-◌, ◌<◌, ◌≤◌, Bool, true, false, Option, List, [], ◌∷◌, ◌++◌, length, get_or, refl, sym, ap, ◌∙◌, arith, append_assoc, inl, inr, subst, ltb}
 use Rattle.std.specs.Prelude.{filter}
 use Rattle.std.specs.List.{range_with_len}
 use Rattle.std.proofs.lemmas.Bool.{cases_Bool, cases_eq, cases_lt, eq-eqb, le-ltb, lt-ltb, ne_eqb}
-use Rattle.std.proofs.lemmas.List.{append-nil, take_more_set}
+use Rattle.std.proofs.lemmas.List.{append-nil, length-append}
 use Rattle.std.proofs.lemmas.List.Sums.{sum_by-cons}
 use Rattle.obs_graph.specs.declared.Ends.{Ends}
 use Rattle.obs_matroid.specs.Lists.{In}
@@ -116,15 +116,15 @@ module _ (n : ℕ) (ends : List (Option Ends)) (touches : List Touch) (meters : 
   later f = prices_above prices ks f
 
   -- the chosen items at the first k places are laid out, up to the price `last`
-  pub record IsLaying (k last count upto : ℕ) (layers : List Layer) (inside : List ℕ) : Type 0 where
-    pub bound : count ≤ k
+  pub record IsLaying (k last : ℕ) (layers : List Layer) (inside : List ℕ) : Type 0 where
+    pub bound : length layers ≤ k
     pub done : (j : ℕ) → j < k → chosen (item_at keys j) ≡ true → price (item_at keys j) ≤ last
-    pub known : upto ≡ count_known since last
-    pub lays : take count layers ++ layers_of n ends touches price last upto (later last) ≡ layers_of n ends touches price 0 0 (later 0)
-    pub lists : take upto inside ++ inside_of n ends touches price last (later last) ≡ inside_of n ends touches price 0 (later 0)
+    pub known : length inside ≡ count_known since last
+    pub lays : layers ++ layers_of n ends touches price last (length inside) (later last) ≡ layers_of n ends touches price 0 0 (later 0)
+    pub lists : inside ++ inside_of n ends touches price last (later last) ≡ inside_of n ends touches price 0 (later 0)
 
-  pub IsLaying-begun : (layers : List Layer) (inside : List ℕ) → IsLaying 0 0 0 0 layers inside
-  IsLaying-begun layers inside = record {
+  pub IsLaying-begun : IsLaying 0 0 [] []
+  IsLaying-begun = record {
     bound = omega arith;
     done = λ j l. absurd (omega (arith, l));
     known = sym (none_below since (range_with_len 0 (length since)));
@@ -141,8 +141,8 @@ module _ (n : ℕ) (ends : List (Option Ends)) (touches : List Touch) (meters : 
         let w = order.found r.0 (omega (arith, l, size)) in
         (w.0, w.1, subst (λ (m : ℕ). chosen m ≡ true) (sym w.2) r.3, subst (λ (m : ℕ). price m ≡ x) (sym w.2) r.4)
 
-    module _ (k last count upto : ℕ) (layers : List Layer) (inside : List ℕ) (h : IsLaying k last count upto layers inside) where
-      pub IsLaying-over : (chosen (item_at keys k) ≡ true → price (item_at keys k) ≤ last) → IsLaying (k + 1) last count upto layers inside
+    module _ (k last : ℕ) (layers : List Layer) (inside : List ℕ) (h : IsLaying k last layers inside) where
+      pub IsLaying-over : (chosen (item_at keys k) ≡ true → price (item_at keys k) ≤ last) → IsLaying (k + 1) last layers inside
       IsLaying-over o = record {
         bound = let b = h.bound in omega (arith, b);
         done = λ j l t. elim (cases_eq j k) [
@@ -175,27 +175,27 @@ module _ (n : ℕ) (ends : List (Option Ends)) (touches : List Touch) (meters : 
         next : later last ≡ to ∷ later to
         next = prices_next prices ks last to more (subst (λ (x : ℕ). is_price_of prices ks x ≡ true) (sym cost) (chosen_price n ends touches meters prices size (item_at keys k) (order.low k low) t (omega (arith, more, cost)))) none_between
 
-        pub IsLaying-more : count < length layers → (layers_after : List Layer) (upto_after : ℕ) (inside_after : List ℕ) → layers_after ≡ set layers count (layer_of n ends touches price last to upto)
-            → upto_after ≡ count_known since to → upto_after ≡ upto + length (added_items n ends touches price last to)
-            → take upto_after inside_after ≡ take upto inside ++ added_items n ends touches price last to → IsLaying (k + 1) to (count + 1) upto_after layers_after inside_after
-        IsLaying-more room layers_after upto_after inside_after laid known added listed = record {
-          bound = let b = h.bound in omega (arith, b);
-          done = λ j l y. elim (cases_eq j k) [
-            | inl e ↦ let q = ap (λ (x : ℕ). price (item_at keys x)) e in omega (arith, q, cost)
-            | inr d ↦ let o = h.done j (omega (arith, l, d)) y in omega (arith, o, more)
-          ];
-          known = known;
-          lays =
-              ap (λ xs. take (count + 1) xs ++ layers_of n ends touches price to upto_after (later to)) laid
-              ∙ (ap (λ xs. xs ++ layers_of n ends touches price to upto_after (later to)) (take_more_set layers count (layer_of n ends touches price last to upto) room)
-              ∙ (append_assoc (take count layers) (layer_of n ends touches price last to upto ∷ []) (layers_of n ends touches price to upto_after (later to))
-              ∙ (ap (λ u. take count layers ++ layer_of n ends touches price last to upto ∷ layers_of n ends touches price to u (later to)) added
-              ∙ (ap (λ ts. take count layers ++ layers_of n ends touches price last upto ts) (sym next) ∙ h.lays))));
-          lists =
-              ap (λ xs. xs ++ inside_of n ends touches price to (later to)) listed
-              ∙ (append_assoc (take upto inside) (added_items n ends touches price last to) (inside_of n ends touches price to (later to))
-              ∙ (ap (λ ts. take upto inside ++ inside_of n ends touches price last ts) (sym next) ∙ h.lists));
-        }
+        pub IsLaying-more : (layers_after : List Layer) (inside_after : List ℕ) → layers_after ≡ layers ++ layer_of n ends touches price last to (length inside) ∷ []
+            → length inside_after ≡ count_known since to → inside_after ≡ inside ++ added_items n ends touches price last to → IsLaying (k + 1) to layers_after inside_after
+        IsLaying-more layers_after inside_after laid known listed =
+            let added = ap length listed ∙ length-append inside (added_items n ends touches price last to) in
+            record {
+              bound = let b = h.bound in let e = ap length laid ∙ length-append layers (layer_of n ends touches price last to (length inside) ∷ []) in omega (arith, b, e);
+              done = λ j l y. elim (cases_eq j k) [
+                | inl e ↦ let q = ap (λ (x : ℕ). price (item_at keys x)) e in omega (arith, q, cost)
+                | inr d ↦ let o = h.done j (omega (arith, l, d)) y in omega (arith, o, more)
+              ];
+              known = known;
+              lays =
+                  ap (λ xs. xs ++ layers_of n ends touches price to (length inside_after) (later to)) laid
+                  ∙ (append_assoc layers (layer_of n ends touches price last to (length inside) ∷ []) (layers_of n ends touches price to (length inside_after) (later to))
+                  ∙ (ap (λ u. layers ++ layer_of n ends touches price last to (length inside) ∷ layers_of n ends touches price to u (later to)) added
+                  ∙ (ap (λ ts. layers ++ layers_of n ends touches price last (length inside) ts) (sym next) ∙ h.lays)));
+              lists =
+                  ap (λ xs. xs ++ inside_of n ends touches price to (later to)) listed
+                  ∙ (append_assoc inside (added_items n ends touches price last to) (inside_of n ends touches price to (later to))
+                  ∙ (ap (λ ts. inside ++ inside_of n ends touches price last ts) (sym next) ∙ h.lists));
+            }
 
       module _ (end : length touches ≤ k) where
         none_left : later last ≡ []
@@ -209,8 +209,8 @@ module _ (n : ℕ) (ends : List (Option Ends)) (touches : List Touch) (meters : 
               absurd (omega (arith, d, e, a))
         ])
 
-        pub IsLaying-layers : take count layers ≡ layers_of n ends touches price 0 0 (later 0)
-        IsLaying-layers = sym (append-nil (take count layers)) ∙ (ap (λ ts. take count layers ++ layers_of n ends touches price last upto ts) (sym none_left) ∙ h.lays)
+        pub IsLaying-layers : layers ≡ layers_of n ends touches price 0 0 (later 0)
+        IsLaying-layers = sym (append-nil layers) ∙ (ap (λ ts. layers ++ layers_of n ends touches price last (length inside) ts) (sym none_left) ∙ h.lays)
 
-        pub IsLaying-inside : take upto inside ≡ inside_of n ends touches price 0 (later 0)
-        IsLaying-inside = sym (append-nil (take upto inside)) ∙ (ap (λ ts. take upto inside ++ inside_of n ends touches price last ts) (sym none_left) ∙ h.lists)
+        pub IsLaying-inside : inside ≡ inside_of n ends touches price 0 (later 0)
+        IsLaying-inside = sym (append-nil inside) ∙ (ap (λ ts. inside ++ inside_of n ends touches price last ts) (sym none_left) ∙ h.lists)

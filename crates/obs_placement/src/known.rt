@@ -1,0 +1,173 @@
+// What is known of items while they are taken.
+ghost use Rattle.std.specs.Prelude.{◌≡◌, ◌<◌, ◌≤◌, [], false, true, length, replicate, slice_set, take, IfOk};
+ghost use Rattle.obs_placement.specs.Holding.{nothing_known};
+ghost use Rattle.obs_placement.specs.Offer.{HasRoomForOffer};
+ghost use Rattle.obs_placement.specs.Taking.{never};
+
+use crate::memory::NoMemory;
+use crate::offer::Offer;
+use std::alloc::Global;
+use std::marker::Model;
+
+/// The price of an item that wasn't found not to be critical: above all prices.
+pub const NEVER: u64 = 18446744073709551615;
+
+/// The price from which on each item isn't critical, with flags of what such items touch.
+pub struct Known {
+    // how many items, branches and vertices there are
+    items: usize,
+    branches: usize,
+    vertices: usize,
+    // the price from which on the item isn't critical, or `NEVER`
+    since: Vec<u64>,
+    // whether an item that is known not to be critical touches the branch, and whether one is a star at the vertex
+    touched: Vec<bool>,
+    stars: Vec<bool>,
+}
+
+impl Model for Known {
+    ghost use Rattle.std.specs.Prelude.{◌≤◌, length, take};
+    ghost use Rattle.obs_placement.specs.Holding.{Known};
+
+    ghost Value = { Known };
+
+    ghost view = { λ k. record {
+      since = take k.items k.since.items;
+      touched = take k.branches k.touched.items;
+      stars = take k.vertices k.stars.items;
+      sizes = record {
+        meters = length k.since.items;
+        branches = length k.touched.items;
+        vertices = length k.stars.items;
+      };
+    } };
+
+    ghost invariant = { λ k. record {
+      items : k.items ≤ length k.since.items;
+      branches : k.branches ≤ length k.touched.items;
+      vertices : k.vertices ≤ length k.stars.items;
+    } };
+}
+
+// Written out: so a caller's proof sees one call, and not the drop of each field.
+impl Drop for Known {
+    fn drop(self) {
+        let Known {
+            items: _,
+            branches: _,
+            vertices: _,
+            since: _,
+            touched: _,
+            stars: _,
+        } = self;
+    }
+}
+
+/// Forgets from which price on the first n items aren't critical.
+fn forget(since: &mut [u64], n: usize)
+    requires n { n ≤ length since.old }
+    ensures count { length since.new ≡ length since.old }
+    ensures forgotten { take n since.new ≡ replicate n never }
+{
+    since[..n].fill(NEVER);
+}
+
+/// Takes all flags back.
+pub fn clear(flags: &mut [bool])
+    ensures clear { flags.new ≡ replicate (length flags.old) false }
+{
+    flags.fill(false);
+}
+
+/// Takes the first n flags back.
+fn unset(flags: &mut [bool], n: usize)
+    requires n { n ≤ length flags.old }
+    ensures count { length flags.new ≡ length flags.old }
+    ensures unset { take n flags.new ≡ replicate n false }
+{
+    clear(&mut flags[..n]);
+}
+
+impl Known {
+    /// Room for so many items, branches and vertices.
+    pub fn make(
+        alloc: Global,
+        most_items: u32,
+        most_branches: u32,
+        most_vertices: u32,
+    ) -> Result<Known, NoMemory>
+        ensures empty { IfOk result (λ k. k ≡ record {
+          since = [];
+          touched = [];
+          stars = [];
+          sizes = record { meters = most_items; branches = most_branches; vertices = most_vertices };
+        }) }
+    {
+        Ok(Known {
+            items: 0,
+            branches: 0,
+            vertices: 0,
+            since: vec![in alloc; 0; most_items as usize]?,
+            touched: vec![in alloc; false; most_branches as usize]?,
+            stars: vec![in alloc; false; most_vertices as usize]?,
+        })
+    }
+
+    /// By item the price from which on it isn't critical, or `NEVER`.
+    pub fn since(&self) -> &[u64]
+        ensures since { result.now ≡ self.now.since }
+    {
+        &self.since[..self.items]
+    }
+
+    /// By branch whether an item that is known not to be critical touches it.
+    pub fn touched(&self) -> &[bool]
+        ensures touched { result.now ≡ self.now.touched }
+    {
+        &self.touched[..self.branches]
+    }
+
+    /// By vertex whether such an item is a star there.
+    pub fn stars(&self) -> &[bool]
+        ensures stars { result.now ≡ self.now.stars }
+    {
+        &self.stars[..self.vertices]
+    }
+
+    /// Knows nothing of what is offered.
+    pub fn begin(&mut self, offer: &Offer<'_>)
+        requires room { HasRoomForOffer self.old.sizes offer.now }
+        ensures begun { self.new ≡ nothing_known self.old offer.now }
+    {
+        self.items = offer.items.count() as usize;
+        self.branches = offer.graph.positions() as usize;
+        self.vertices = offer.graph.vertices() as usize;
+        forget(&mut self.since, self.items);
+        unset(&mut self.touched, self.branches);
+        unset(&mut self.stars, self.vertices);
+    }
+
+    /// The item isn't critical from this price on.
+    pub fn set(&mut self, m: u32, price: u64)
+        requires m { m < length self.old.since }
+        ensures set { self.new ≡ record self.old { since = slice_set self.old.since m price } }
+    {
+        self.since[m as usize] = price;
+    }
+
+    /// A known item touches the branch.
+    pub fn touch(&mut self, e: u32)
+        requires e { e < length self.old.touched }
+        ensures touched { self.new ≡ record self.old { touched = slice_set self.old.touched e true } }
+    {
+        self.touched[e as usize] = true;
+    }
+
+    /// A known item is a star at the vertex.
+    pub fn put_star(&mut self, v: u32)
+        requires v { v < length self.old.stars }
+        ensures star { self.new ≡ record self.old { stars = slice_set self.old.stars v true } }
+    {
+        self.stars[v as usize] = true;
+    }
+}
