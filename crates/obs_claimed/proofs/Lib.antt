@@ -1,12 +1,16 @@
 pub mod Bounds
 pub mod ClauseTests
 pub mod ComponentNames
+pub mod Fitting
 pub mod Lacks
 pub mod LayerClaims
 pub mod Layered
+pub mod LineLengths
 pub mod Lines
 pub mod NamedLemmas
+pub mod Parted
 pub mod PlanClaims
+pub mod PlanLengths
 pub mod PlanPairs
 pub mod Small
 pub mod Texts

@@ -40,13 +40,13 @@ filter_few p xs = omega (arith, length-split p xs)
 rank_few : (n : ℕ) (ends : List (Option Ends)) (positions : List ℕ) → rank_at n ends positions ≤ n
 rank_few n ends positions = rank-le-n n (ends_of ends positions)
 
-live_few : (ends : List (Option Ends)) (touches : List Touch) → length (live_items ends touches) ≤ length touches
+pub live_few : (ends : List (Option Ends)) (touches : List Touch) → length (live_items ends touches) ≤ length touches
 live_few ends touches = omega (arith, filter_few (is_live ends touches) (every_item touches), length-range_with_len 0 (length touches))
 
 few_buses : (t : Tables) → IsValid t → case_bus_count t ≤ most_rows
 few_buses t v = omega (arith, case_bus_count-le t, few_nodes t v)
 
-few_offered : (t : Tables) → IsValid t → length (case_offered t) ≤ 2 * most_rows
+pub few_offered : (t : Tables) → IsValid t → length (case_offered t) ≤ 2 * most_rows
 few_offered t v =
     let candidates = v.candidates.few in
     let names = length-map t.candidates (λ row. row.name) in
@@ -76,7 +76,7 @@ cost_most prices ks cheap = sum_by-le (λ k. get_or prices k 0) most_price ks (�
       | inr past ↦ omega (arith, get_or_past prices k 0 past)
     ]
 
-chosen_few : (n : ℕ) (ends : List (Option Ends)) (touches : List Touch) (meters : ℕ) (prices : List ℕ) → length (chosen_of n ends touches meters prices) ≤ length prices
+pub chosen_few : (n : ℕ) (ends : List (Option Ends)) (touches : List Touch) (meters : ℕ) (prices : List ℕ) → length (chosen_of n ends touches meters prices) ≤ length prices
 chosen_few n ends touches meters prices =
     omega (arith, filter_few (λ k. is_chosen n ends touches (price_of meters prices) (meters + k)) (range_with_len 0 (length prices)), length-range_with_len 0 (length prices))
 

@@ -1,5 +1,5 @@
-//! What is printed of a case is a certificate that holds.
-ghost use Rattle.obs_claimed.specs.Laws.{BoundsAreLines, BoundsHold, LastIsLine, PlacementsAreLines, PlacementsHold, TreesAreLines, TreesHold};
+//! What is printed of a case is a certificate that holds, and fits a file.
+ghost use Rattle.obs_claimed.specs.Laws.{BoundsAreLines, BoundsHold, LastIsLine, PlacementsAreLines, PlacementsFit, PlacementsHold, TreesAndBoundsFit, TreesAreLines, TreesHold};
 
 /// A printed text is the lines of the claim that it means, and the last line ends a certificate.
 pub fn texts_are_lines()
@@ -22,4 +22,11 @@ pub fn bounds_hold()
 /// The placement of a case holds: its plan with its pairs and layers, or its shortfall.
 pub fn placements_hold()
     ensures hold { PlacementsHold }
+{}
+
+/// What is printed of a valid case is no longer than a file may be: the trees and the bounds of all components together,
+/// and the placement, each with the last line.
+pub fn texts_fit()
+    ensures claims { TreesAndBoundsFit }
+    ensures placements { PlacementsFit }
 {}
