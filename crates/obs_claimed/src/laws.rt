@@ -24,7 +24,7 @@ pub fn placements_hold()
     ensures hold { PlacementsHold }
 {}
 
-/// What is printed of a valid case is no longer than a file may be: the trees and the bounds of all components together,
+/// What is printed of a valid case is no longer than a file may be: the trees and bounds of all components together,
 /// and the placement, each with the last line.
 pub fn texts_fit()
     ensures claims { TreesAndBoundsFit }

@@ -22,4 +22,5 @@ pub mod Turned
 pub mod Dips
 pub mod Generated
 pub mod Claimed
+pub mod Kept
 pub mod StillValid

@@ -1,5 +1,5 @@
 -- The replies of forms: which statuses they have, and what follows for the form of the words.
-use Rattle.std.proofs.Common.{ℕ, None, ◌≡◌, ◌∙◌, ◌+◌, ◌-◌, ◌⊎◌, inl, inr, refl, ap, arith, subst, sym, List, length, Some, [], Option, Result, Ok, Err, Bool, true, false}
+use Rattle.std.proofs.Common.{ℕ, None, ◌≡◌, ◌∙◌, ◌-◌, ◌⊎◌, inl, inr, refl, ap, arith, subst, sym, List, length, Some, [], Option, Result, Ok, Err, Bool, true, false}
 use Rattle.std.proofs.lemmas.Bool.{cases_Bool}
 use Rattle.std.specs.Prelude.{if◌then◌else◌, ◌==◌, nat_lt}
 use Rattle.obs_network.specs.Network.{case_needed}

@@ -1,6 +1,7 @@
 -- The claims that the answers to asks are.
-use Rattle.std.specs.Prelude.{◌≡◌, ◌⊎◌, ℕ, ◌==◌, Bool, true, false, List, [], ◌∷◌, length, Ok, if◌then◌else◌}
+use Rattle.std.specs.Prelude.{◌≡◌, ◌≤◌, ◌⊎◌, ℕ, ◌==◌, Bool, true, false, List, [], ◌∷◌, length, Ok, if◌then◌else◌}
 use Rattle.std.specs.List.{flat_map, range_with_len}
+use Rattle.obs_text.specs.Limits.{most_file_bytes}
 use Rattle.obs_case.specs.Tables.{IsValid, Tables}
 use Rattle.obs_network.specs.Network.{case_component_count, case_need}
 use Rattle.obs_network.specs.Observable.{is_energised_component}
@@ -11,8 +12,15 @@ use Rattle.obs_script.specs.declared.command.Ask.TheVariants.{Tree, Bound, Place
 use Rattle.obs_edit.specs.Answers.{component_rank}
 use Rattle.obs_edit.specs.Planned.{case_placed_pairs, case_placement}
 use Rattle.obs_claimed.specs.Claimed.{component_bound, component_tree, placement_claim}
+use Rattle.obs_engine.specs.declared.words.CaseForm.{CaseForm}
+use Rattle.obs_engine.specs.declared.words.CaseCommand.TheVariants.{Session, Verify}
+use Rattle.obs_engine.specs.declared.words.Form.TheVariants.{Case}
 use Rattle.obs_engine.specs.Asks.{ask_text}
+use Rattle.obs_engine.specs.Commands.{IsFilesReply}
+use Rattle.obs_engine.specs.Files.{case_in_files}
+use Rattle.obs_engine.specs.Replies.{Reply}
 use Rattle.obs_engine.specs.Verify.{AllHold, valid_reply, verify_reply}
+use Rattle.obs_engine.specs.Words.{certificate_at}
 
 -- a claim where a test is met, else none
 abbrev pub claim_if : Bool → Claim → List Claim
@@ -42,3 +50,16 @@ AreClaimed ask t claims =
 abbrev pub AnswersHold : Type 0
 AnswersHold = (ask : Ask) (t : Tables) (claims : List Claim) → IsValid t → AreClaimed ask t claims →
     (claims_of (ask_text ask t) ≡ Ok claims) × AllHold t claims × (verify_reply t (ask_text ask t) ≡ valid_reply (length claims))
+
+-- such an answer is no longer than a file may be
+abbrev pub AnswersFit : Type 0
+AnswersFit = (ask : Ask) (t : Tables) (claims : List Claim) → IsValid t → AreClaimed ask t claims → length (ask_text ask t) ≤ most_file_bytes
+
+-- so where the files of a session are a case, and the certificate of `verify` with the same files is such an answer to that case, the
+-- reply is how many claims it has
+abbrev pub AnswersAreVerified : Type 0
+AnswersAreVerified =
+    (ask : Ask) (from : CaseForm) (offered : Bool) (file : ℕ → List ℕ) (t : Tables) (claims : List Claim) (input : List ℕ) (reply : Reply)
+    → case_in_files (Case (Session offered) from) file ≡ Ok t → AreClaimed ask t claims
+    → file (certificate_at (Case (Verify offered) from)) ≡ ask_text ask t
+    → IsFilesReply (Case (Verify offered) from) input file reply → reply ≡ valid_reply (length claims)

@@ -20,7 +20,7 @@ ghost use Rattle.obs_engine.specs.Words.{form_of};
 ghost use Rattle.obs_report.specs.Counts.{verdict_word};
 ghost use Rattle.obs_engine.specs.Asks.{report_status};
 ghost use Rattle.obs_engine.specs.Trials.{dip_meters, dips_of};
-ghost use Rattle.obs_engine.specs.Claimed.{AnswersHold};
+ghost use Rattle.obs_engine.specs.Claimed.{AnswersAreVerified, AnswersFit, AnswersHold};
 ghost use Rattle.obs_engine.specs.Laws.{CasesAreValid, EditsAloneChange, EndedOrLast, IsAnswerTo, IsFormOf, IsInUsage, ListsNonCritical, OrderIsForgotten, ReportsAsTheCommand};
 ghost use Rattle.obs_edit.specs.Answers.{bound_outside, bound_rank, case_critical_meters, case_rank, component_meters, short_components};
 
@@ -64,6 +64,13 @@ pub fn status_is_validity()
 /// it makes, a tree or a bound for a component, or the placement, and the checker finds no flaw in them.
 pub fn answers_hold()
     ensures hold { AnswersHold }
+{}
+
+/// Each of these answers is no longer than a file may be. So it can be kept as the certificate of its case: where the
+/// files of a session are a case, `verify` of the same files and of an answer to that case says how many claims it has.
+pub fn answers_are_verified()
+    ensures fit { AnswersFit }
+    ensures verified { AnswersAreVerified }
 {}
 
 /// The printed verdict is the word `observable` exactly where the case is observable, and else the word `short`.

@@ -1,4 +1,4 @@
-use Rattle.std.proofs.Common.{◌≡◌, ◌∙◌, ap, arith, subst}
+use Rattle.std.proofs.Common.{◌∙◌, ap, arith, subst}
 use Rattle.obs_case.specs.Tables.{IsValid, Tables}
 use Rattle.obs_assign.specs.Assignment.{Assignment, pairs}
 use Rattle.obs_report.specs.Trees.{tree_text}
