@@ -1,5 +1,5 @@
 -- What a trial counts: the islands, and the dips of meters that are lost and regained.
-use Rattle.std.proofs.Common.{◌≡◌, ℕ, zero, suc, ◌+◌, ◌-◌, ◌*◌, ◌<◌, ◌≤◌, Bool, true, false, All, List, [], ◌∷◌, ◌++◌, length, filter, refl, sym, ap, ◌∙◌, arith, inl, inr}
+use Rattle.std.proofs.Common.{◌≡◌, ℕ, zero, suc, ◌+◌, ◌-◌, ◌*◌, ◌<◌, ◌≤◌, Bool, true, false, All, List, [], ◌∷◌, ◌++◌, length, filter, refl, sym, ap, ◌∙◌, subst, arith, inl, inr}
 use Rattle.std.specs.Prelude.{if◌then◌else◌}
 use Rattle.std.specs.List.{range_with_len}
 use Rattle.std.proofs.lemmas.Bool.{cases_Bool}
@@ -17,8 +17,9 @@ use Rattle.obs_report.specs.Counts.{counts_text}
 use Rattle.obs_report.specs.Totals.{totals_text, trial_line}
 use Rattle.obs_edit.specs.Answers.{case_rank}
 use Rattle.obs_edit.specs.Edits.{IsRepaired}
-use Rattle.obs_edit.specs.Sessions.{AreLongest, IsRankOf}
+use Rattle.obs_edit.specs.Sessions.{AreLongest, IsRankOf, Session}
 use Rattle.obs_engine.specs.Trials.{AreInService, dip_meters, dips_of, edits_of, is_dip, is_first_of_island, island_count, trial_text}
+use Rattle.obs_engine.specs.Turns.{AreSearches, AreTurns, IsTurn}
 use Rattle.obs_claimed.proofs.Small.{filter_few}
 
 module _ (p : ℕ → Bool) where
@@ -64,6 +65,24 @@ module _ (p : ℕ → Bool) (n : ℕ) where
       let f = h.few in
       let none = left_none p i n past in
       (omega (arith, c, none), h.least, omega (arith, m, f))
+
+-- one turn more
+pub turns_more : (before at after : Session) (i searches more : ℕ) → AreTurns i before at searches → IsTurn i at after more → AreTurns (i + 1) before after (searches + more)
+turns_more before at after i searches more h turn =
+    let one : suc i ≡ i + 1 = omega arith in
+    subst (λ (k : ℕ). AreTurns k before after (searches + more)) one (at, searches, more, h, turn, refl)
+
+pub turns_all : (before after : Session) (i n searches : ℕ) → AreTurns i before after searches → i ≤ n → n ≤ i → AreTurns n before after searches
+turns_all before after i n searches h few past = let same : i ≡ n = omega (arith, few, past) in subst (λ (k : ℕ). AreTurns k before after searches) same h
+
+-- which are the searches of a trial
+pub searches_are : (before after : Session) (dips searches : ℕ) → AreTurns (length before.tables.meters) before after searches → dips ≡ dips_of before.tables → dips ≤ searches
+    → searches ≤ edits_of before.tables → AreSearches before after searches
+searches_are before after dips searches turns is least most = record { turns = turns; least = subst (λ (k : ℕ). k ≤ searches) is least; most = most }
+
+-- a count that rose by so many
+pub rose_by : (before now more : ℕ) → now ≡ before + more → more ≡ now - before
+rose_by before now more e = omega (arith, e)
 
 -- the same of the islands, of which none is counted but by a bus
 pub record AreCounted (p : ℕ → Bool) (n i count : ℕ) : Type 0 where

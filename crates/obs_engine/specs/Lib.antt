@@ -15,5 +15,6 @@ pub mod Taken
 pub mod Tasks
 pub mod Topology
 pub mod Trials
+pub mod Turns
 pub mod Verify
 pub mod Words

@@ -7,7 +7,7 @@ ghost use Rattle.obs_engine.specs.Trials.{AreInService};
 use crate::answers::answer_session;
 use crate::input::answer_lines;
 use crate::status::Status;
-use crate::trial::answer_trial;
+use crate::trial::{answer_trial, find_island_count};
 use obs_assign::Steps;
 use obs_case::Case;
 use obs_edit::Session;
@@ -42,7 +42,10 @@ fn do_task<S: Source, W: Sink, L: Ledger>(
     match task {
         Task::Answer(ask) => answer_session(output, session, ask, steps),
         Task::Lines => answer_lines(session, input, output, steps),
-        Task::Trial { rows, seed } => answer_trial(output, session, rows, seed, steps),
+        Task::Trial { rows, seed } => {
+            let islands = find_island_count(session, steps);
+            answer_trial(output, session, rows, seed, islands, steps)
+        }
     }
 }
 

@@ -1,13 +1,14 @@
 // What a trial says of a case: its counts, its islands, and what losing and regaining each of its meters comes to.
-ghost use Rattle.std.specs.Prelude.{◌≡◌, ◌<◌, ◌≤◌, ◌+◌, ◌++◌, true, length, if◌then◌else◌};
+ghost use Rattle.std.specs.Prelude.{◌≡◌, ◌<◌, ◌≤◌, ◌+◌, ◌-◌, ◌++◌, true, length, if◌then◌else◌};
 ghost use Rattle.obs_network.specs.Network.{network_of};
 ghost use Rattle.obs_network.specs.Switched.{case_bus_count};
 ghost use Rattle.obs_report.specs.Counts.{counts_text};
 ghost use Rattle.obs_report.specs.Printed.{Appends};
 ghost use Rattle.obs_report.specs.Totals.{totals_text, trial_line};
 ghost use Rattle.obs_edit.specs.Answers.{case_rank};
-ghost use Rattle.obs_engine.specs.Replies.{IsReplied, Reply};
-ghost use Rattle.obs_engine.specs.Trials.{AreInService, IsTrialReply, dips_of, edits_of, is_dip, is_first_of_island, island_count};
+ghost use Rattle.obs_engine.specs.Replies.{IsReplied};
+ghost use Rattle.obs_engine.specs.Trials.{AreInService, dips_of, edits_of, is_dip, is_first_of_island, island_count, trial_reply};
+ghost use Rattle.obs_engine.specs.Turns.{AreSearches, AreTurns, IsTurn};
 
 use crate::answers::verdict;
 use crate::status::Status;
@@ -48,8 +49,8 @@ fn count_islands(session: &Session) -> u32
     islands
 }
 
-// Finds the islands, and says how many there are.
-fn find_island_count<L: Ledger>(session: &mut Session, steps: &mut Steps<L>) -> u32
+/// Finds the islands, and says how many there are.
+pub(crate) fn find_island_count<L: Ledger>(session: &mut Session, steps: &mut Steps<L>) -> u32
     ensures tables { session.new.tables ≡ session.old.tables }
     ensures islands { result ≡ island_count session.old.tables }
 {
@@ -64,6 +65,7 @@ fn turn_meter<L: Ledger>(session: &mut Session, at: u32, first: u32, steps: &mut
     requires inservice { AreInService session.old.tables }
     requires first { first ≡ case_rank session.old.tables }
     ensures tables { session.new.tables ≡ session.old.tables }
+    ensures turn { IsTurn at session.old session.new result.searches }
     ensures dips { result.dips ≡ (if is_dip session.old.tables at then 1 else 0) }
     ensures least { result.dips ≤ result.searches }
     ensures most { result.searches ≤ 2 }
@@ -94,6 +96,7 @@ fn turn_meter<L: Ledger>(session: &mut Session, at: u32, first: u32, steps: &mut
 fn turn_meters<L: Ledger>(session: &mut Session, steps: &mut Steps<L>) -> Turns
     requires inservice { AreInService session.old.tables }
     ensures tables { session.new.tables ≡ session.old.tables }
+    ensures turns { AreTurns (length session.old.tables.meters) session.old session.new result.searches }
     ensures dips { result.dips ≡ dips_of session.old.tables }
     ensures least { result.dips ≤ result.searches }
     ensures most { result.searches ≤ edits_of session.old.tables }
@@ -143,20 +146,24 @@ fn print_turns<W: Sink>(
     )
 }
 
-/// Answers a trial on the case of so many rows and this seed: loses and regains each meter, and prints what that comes
-/// to. All is done before the first byte is written.
+/// Answers a trial on the case of so many rows and this seed, whose islands were counted: loses and regains each meter,
+/// and prints what that comes to. All is done before the first byte is written. The printed number of searches is by
+/// how many the count of steps rose in this call.
 pub(crate) fn answer_trial<W: Sink, L: Ledger>(
     output: &mut W,
     session: &mut Session,
     rows: u32,
     seed: u64,
+    islands: u32,
     steps: &mut Steps<L>,
 ) -> Status
     requires inservice { AreInService session.old.tables }
-    ensures replied { (reply : Reply) × IsTrialReply rows seed session.old.tables reply
-        × IsReplied W.written W.faults W.has_room output.old output.new result reply }
+    requires islands { islands ≡ island_count session.old.tables }
+    ensures later { steps.old ≤ steps.new }
+    ensures searches { AreSearches session.old session.new (steps.new - steps.old) }
+    ensures replied { IsReplied W.written W.faults W.has_room output.old output.new result
+        (trial_reply rows seed session.old.tables (steps.new - steps.old)) }
 {
-    let islands = find_island_count(session, steps);
     let turns = turn_meters(session, steps);
     let status = verdict(session);
     match print_turns(output, session, rows, seed, islands, turns) {

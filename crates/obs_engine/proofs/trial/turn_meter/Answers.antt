@@ -1,4 +1,4 @@
-use Rattle.std.proofs.Common.{◌≡◌, ◌∙◌, ◌<◌, ap, length, true, sym, arith}
+use Rattle.std.proofs.Common.{◌≡◌, ◌∙◌, ◌<◌, ap, length, true, refl, sym, arith}
 use Rattle.obs_case.specs.Tables.{Tables}
 use Rattle.obs_edit.specs.Answers.{case_rank}
 use Rattle.obs_edit.specs.declared.edit.Edit.TheVariants.{Meter}
@@ -22,6 +22,16 @@ back g c =
 
 pub returns-clause-tables : goal.returns-clause-tables
 returns-clause-tables g c = back g c
+
+pub returns-clause-turn : goal.returns-clause-turn
+returns-clause-turn g c = record {
+  between = c.set-lost.new.self;
+  lost = c.set-lost.result;
+  regained = c.set-regained.result;
+  loses = c.set-lost.ensures.edited;
+  regains = c.set-regained.ensures.edited;
+  taken = refl;
+}
 
 pub returns-clause-least : goal.returns-clause-least
 returns-clause-least g c =

@@ -2,7 +2,7 @@ use Rattle.std.proofs.Common.{◌∙◌, ◌<◌, ◌≤◌, ap, arith, length}
 use Rattle.std.specs.Prelude.{if◌then◌else◌}
 use Rattle.obs_case.specs.Tables.{Tables}
 use Rattle.obs_engine.specs.Trials.{is_dip}
-use Rattle.obs_engine.proofs.Turned.{dips_are_counted, turned_all, turned_one}
+use Rattle.obs_engine.proofs.Turned.{dips_are_counted, turned_all, turned_one, turns_all, turns_more}
 use Rattle.obs_engine.proofs.trial.turn_meters.Goals as goal
 
 pub loop-at-preserved : goal.loop-at-preserved
@@ -12,6 +12,7 @@ loop-at-preserved g c =
     let low : c.loop-at.at < length t.meters = omega (arith, c.loop-at-test.true, ap (λ xs. length xs) c.meters.ensures.rows, ap (λ (x : Tables). length x.meters) c.present.ensures.case) in
     record {
       tables = c.turn_meter-turn.ensures.tables ∙ same;
+      turns = turns_more c.args.session.now c.loop-at.session c.turn_meter-turn.new.session c.loop-at.at c.loop-at.turns.searches c.turn_meter-turn.result.searches c.loop-at.invariant.turns c.turn_meter-turn.ensures.turn;
       turned =
           turned_one (is_dip t) (length t.meters) c.loop-at.at c.loop-at.turns.dips c.loop-at.turns.searches c.turn_meter-turn.result.dips c.turn_meter-turn.result.searches c.loop-at.invariant.turned low
           (c.turn_meter-turn.ensures.dips ∙ ap (λ (x : Tables). if is_dip x c.loop-at.at then 1 else 0) same) c.turn_meter-turn.ensures.least c.turn_meter-turn.ensures.most;
@@ -23,4 +24,4 @@ returns g c =
     let t = c.args.session.now.tables in
     let past : length t.meters ≤ c.loop-at.at = omega (arith, c.loop-at-test.false, ap (λ xs. length xs) c.meters.ensures.rows, ap (λ (x : Tables). length x.meters) c.present.ensures.case) in
     let all = turned_all (is_dip t) (length t.meters) c.loop-at.at c.loop-at.turns.dips c.loop-at.turns.searches c.loop-at.invariant.turned past in
-    record { tables = c.loop-at.invariant.tables; dips = all.0 ∙ dips_are_counted t; least = all.1; most = all.2; ticks = c.loop-at.invariant.ticks }
+    record { tables = c.loop-at.invariant.tables; turns = turns_all c.args.session.now c.loop-at.session c.loop-at.at (length t.meters) c.loop-at.turns.searches c.loop-at.invariant.turns c.loop-at.invariant.turned.few past; dips = all.0 ∙ dips_are_counted t; least = all.1; most = all.2; ticks = c.loop-at.invariant.ticks }
