@@ -6,6 +6,8 @@ mod angle_tests;
 mod answers;
 mod asks;
 mod blocks;
+#[cfg(test)]
+mod caller_tests;
 mod cases;
 #[cfg(test)]
 mod cdf_tests;

@@ -1,0 +1,197 @@
+// Calls that a caller from outside makes, and no code here: the asks of a session, each lent, the calls of the searches
+// below it, and the pieces of a line.
+ghost use Rattle.std.specs.Prelude.{◌≡◌, ◌<◌, ◌≤◌, length};
+ghost use Rattle.obs_assign.specs.Assignment.{Fits};
+ghost use Rattle.obs_meter.specs.Sizes.{HasRoomFor};
+ghost use Rattle.obs_meter.specs.Touches.{AreInRange};
+
+use crate::verdicts::{case_of, path, ring};
+use obs_assign::{Assignment, Steps};
+use obs_critical::{CriticalWork, critical};
+use obs_edit::Session;
+use obs_exchange::{Found, Sources, Work, lengthen, search};
+use obs_forest::Forest;
+use obs_graph::{Ends, Graph};
+use obs_io::MemSink;
+use obs_islands::{IslandWork, islands};
+use obs_meter::{Meters, Touch};
+use obs_placement::{Layer, PlaceWork, Placement, place};
+use obs_report::{print_end, print_number, print_word};
+use std::alloc::Global;
+use std::marker::Brand;
+use std::process::Abort;
+use std::sync::ledger::{Blank, Ledger};
+use std::test::Fail;
+
+// Four vertices in a row.
+const ROW: [Option<Ends>; 3] = [
+    Some(Ends { a: 0, b: 1 }),
+    Some(Ends { a: 1, b: 2 }),
+    Some(Ends { a: 2, b: 3 }),
+];
+
+// The layer of the plan that takes the candidate of price 3.
+fn layer(upto: u32) -> Layer {
+    Layer {
+        from: 0,
+        to: 3,
+        rank: 2,
+        outside: 0,
+        upto,
+    }
+}
+
+fn is_plan(found: Placement<'_>, layers: &[Layer], inside: &[u32]) -> bool {
+    match found {
+        Placement::Cheapest(plan) => {
+            plan.chosen == [1].as_slice()
+                && plan.cost == 3
+                && plan.layers == layers
+                && plan.inside == inside
+        }
+        Placement::Shortfall(_) => false,
+    }
+}
+
+// The asks of a path whose first branch has two meters and whose second bus an injection, and of which two buses stand
+// apart. Two candidates complete it.
+fn asks_of_a_path<L: Ledger>(rt: &impl Abort, session: &mut Session, steps: &mut Steps<L>) {
+    let seen = session.critical(steps);
+    assert!(rt; seen.found == [2].as_slice() && seen.case.meters().len() == 5);
+    let seen = session.islands(steps);
+    assert!(rt; seen.found == [0, 0, 0, 3, 4, 5].as_slice() && seen.network.components() == 2);
+    assert!(rt; session.network().components() == 2);
+    assert!(rt; session.network().energised(0));
+    assert!(rt; !session.observable(0));
+    let seen = session.bound(0, steps);
+    assert!(rt; seen.found.inside == [0, 1].as_slice() && seen.found.rank == 1);
+    assert!(rt; seen.found.outside == 1 && seen.found.needed == 3);
+    assert!(rt; session.offered());
+    let seen = session.place(steps);
+    assert!(rt; is_plan(seen.found.placement, &[layer(4)], &[0, 1, 2, 5]));
+    assert!(rt; seen.found.pairs.length() == 3);
+}
+
+// The first pairs of a ring, in which an injection leaves the lowest branch to a flow.
+fn pairs_of_a_ring<L: Ledger>(rt: &impl Abort, session: &mut Session, steps: &mut Steps<L>) {
+    let seen = session.first_pairs(steps);
+    assert!(rt; seen.network.meters().count() == 2);
+    assert!(rt; seen.found.branch_of(0) == Some(2) && seen.found.branch_of(1) == Some(0));
+}
+
+fn session_of<L: Ledger>(rt: &impl Abort, alloc: Global, blank: Blank) -> Result<(), Fail>
+    requires name { blank.name ≡ L.name }
+    requires parts { blank.parts ≡ L.parts }
+    requires some { 0 < L.parts }
+{
+    let mut steps = Steps::<L>::begin(blank);
+    let mut session = Session::begin(alloc, case_of(rt, alloc, &path(3)), true, &mut steps)?;
+    asks_of_a_path(rt, &mut session, &mut steps);
+    let mut session = Session::begin(alloc, case_of(rt, alloc, &ring(2)), false, &mut steps)?;
+    pairs_of_a_ring(rt, &mut session, &mut steps);
+    Ok(())
+}
+
+#[test]
+fn asks_are_lent(rt: HostRuntime) -> Result<(), Fail> {
+    session_of::<Brand>(&rt, rt.alloc(), Blank::new(1))
+}
+
+// The critical meter of a row: the injection, beside two flows on the first branch.
+fn finds_critical<L: Ledger>(
+    g: &Graph,
+    ms: &Meters,
+    a: &mut Assignment,
+    work: &mut Work,
+    list: &mut CriticalWork,
+    steps: &mut Steps<L>,
+) -> bool
+    requires in_range { AreInRange g.now ms.now.touches }
+    requires fits { Fits a.old g.now ms.now.touches }
+    requires room { HasRoomFor work.old.sizes g.now ms.now.touches }
+    requires list { length ms.now.touches ≤ list.old.most_meters }
+{
+    a.clear(g, ms);
+    let grown = lengthen(g, ms, a, 3, work, steps);
+    a.unpin_all();
+    match search(g, ms, a, Sources::All, work, steps) {
+        Found::Grown(_) => false,
+        Found::Closed => {
+            let found = critical(g, ms, a, work.reached(), list) == [2].as_slice();
+            found && grown.closed
+        }
+    }
+}
+
+// The critical meter and the islands of a row.
+fn meters_of_a_row<L: Ledger>(alloc: Global, blank: Blank) -> Result<bool, Fail>
+    requires name { blank.name ≡ L.name }
+    requires parts { blank.parts ≡ L.parts }
+    requires some { 0 < L.parts }
+{
+    let mut steps = Steps::<L>::begin(blank);
+    let mut g = Graph::make(alloc, 4, 3)?;
+    g.refill(4, &ROW);
+    let mut ms = Meters::make(alloc, 3)?;
+    ms.refill(&[Touch::Edge(0), Touch::Edge(0), Touch::Star(1)]);
+    let mut a = Assignment::make(alloc, 3, 3, 4)?;
+    let mut work = Work::make(alloc, 3, 3, 4)?;
+    let mut list = CriticalWork::make(alloc, 3)?;
+    let listed = finds_critical(&g, &ms, &mut a, &mut work, &mut list, &mut steps);
+    let mut named = IslandWork::make(alloc, 3, 3, 4)?;
+    let firsts = islands(&g, &ms, &mut named, &mut steps) == [0, 0, 0, 3].as_slice();
+    Ok(listed && firsts)
+}
+
+// The plan of the same row with three candidates.
+fn plan_of_a_row<L: Ledger>(alloc: Global, blank: Blank) -> Result<bool, Fail>
+    requires name { blank.name ≡ L.name }
+    requires parts { blank.parts ≡ L.parts }
+    requires some { 0 < L.parts }
+{
+    let mut steps = Steps::<L>::begin(blank);
+    let mut g = Graph::make(alloc, 4, 3)?;
+    g.refill(4, &ROW);
+    let mut offered = Meters::make(alloc, 6)?;
+    offered.refill(&[
+        Touch::Edge(0),
+        Touch::Edge(0),
+        Touch::Star(1),
+        Touch::Edge(1),
+        Touch::Star(2),
+        Touch::Edge(2),
+    ]);
+    let mut work = PlaceWork::make(alloc, 6, 3, 4)?;
+    let found = place(&g, &offered, 3, &[0, 3, 5], 3, &mut work, &mut steps);
+    Ok(is_plan(found, &[layer(4)], &[0, 1, 2, 3]))
+}
+
+#[test]
+fn searches_of_a_row(rt: HostRuntime) -> Result<(), Fail> {
+    assert!(rt; meters_of_a_row::<Brand>(rt.alloc(), Blank::new(1))?);
+    assert!(rt; plan_of_a_row::<Brand>(rt.alloc(), Blank::new(1))?);
+    Ok(())
+}
+
+#[test]
+fn words_numbers_and_ends(rt: HostRuntime) -> Result<(), Fail> {
+    let mut output = MemSink::with_room(rt.alloc(), 100, 3, Vec::new(rt.alloc()))
+        .ok()
+        .ok_or("no memory")?;
+    assert!(rt; print_word(&mut output, true, b"count").is_ok());
+    assert!(rt; print_word(&mut output, false, b"buses").is_ok());
+    assert!(rt; print_number(&mut output, 20).is_ok());
+    assert!(rt; print_end(&mut output).is_ok());
+    assert!(rt; output.written() == b"count\tbuses\t20\n".as_slice());
+    Ok(())
+}
+
+#[test]
+fn a_forest_holds_its_branches(rt: HostRuntime) -> Result<(), Fail> {
+    let mut graph = Graph::make(rt.alloc(), 4, 3)?;
+    graph.refill(4, &ROW);
+    let mut forest = Forest::make(rt.alloc(), 4, 3)?;
+    forest.refill(&graph, &[1]);
+    assert!(rt; !forest.holds(0) && forest.holds(1) && !forest.holds(2));
+    Ok(())
+}
