@@ -34,28 +34,11 @@ no_flag (suc n) (suc x) t = no_flag n x t
 pub IsSearching-start : (over : Setting) → IsSound over → (trail : Trail) → length over.touches ≤ length trail.marks → length over.graph.ends ≤ length trail.walked
     → AreFull (cleared trail) → IsSearching over (cleared trail)
 IsSearching-start over sound trail meters branches full =
+    let none = λ (x : ℕ). no_flag (length trail.marks) x in
+    let unwalked = λ (e : ℕ). no_flag (length trail.walked) e in
     let marks = length-replicate (length trail.marks) false in
     let walked = length-replicate (length trail.walked) false in
-    let p = full.parents_len in
-    let q = full.queue_len in
-    record {
-      sound = sound;
-      marks_len = omega arith;
-      parents_len = omega arith;
-      queue_len = omega arith;
-      walked_len = omega arith;
-      low = λ x t. absurd (no_flag (length trail.marks) x t);
-      thawed = λ x t. absurd (no_flag (length trail.marks) x t);
-      few = omega arith;
-      head_le = omega arith;
-      placed = λ x t. absurd (no_flag (length trail.marks) x t);
-      entries = λ k l. absurd (omega (arith, l));
-      origins = λ x t. absurd (no_flag (length trail.marks) x t);
-      in_order = λ x y p q t. absurd (no_flag (length trail.marks) x t);
-      finished = λ y q t. absurd (no_flag (length trail.marks) y t);
-      walks = λ e t. absurd (no_flag (length trail.walked) e t);
-      looked = λ k e l. absurd (omega (arith, l));
-    }
+    search (arith, none, unwalked, marks, walked)
 
 pub AreStarred-start : (over : Setting) (n : ℕ) (walked : List Bool) → over.graph.vertices ≤ n → AreStarred over (replicate n false) walked
 AreStarred-start over n walked l = record {

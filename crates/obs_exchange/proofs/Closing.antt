@@ -3,23 +3,23 @@ use Rattle.std.proofs.Common.{◌≡◌, ℕ, ◌<◌, ◌≤◌, Bool, true, fa
 use Rattle.std.proofs.lemmas.Bool.{cases_lt, cases_Bool, eqb-true, and_parts, and_from}
 use Rattle.std.proofs.lemmas.List.{get_or_default, get_or_past, get_or-take, length-take-le}
 use Rattle.obs_graph.specs.declared.Ends.{Ends}
-use Rattle.obs_graph.specs.Positions.{AreBranches}
-use Rattle.obs_graph.specs.Graph.{Graph}
 use Rattle.obs_graph.proofs.Counts.{count_below-le-n}
 use Rattle.obs_matroid.specs.Lists.{In}
-use Rattle.obs_matroid.specs.Assignments.{Pair, others}
+use Rattle.obs_matroid.specs.Assignments.{IsAssignment, Pair, others}
 use Rattle.obs_matroid.specs.Closed.{HoldsSources, IsClosed, IsLeastClosed}
+use Rattle.obs_matroid.specs.Matroid.{IsMatroid, Matroid}
 use Rattle.obs_matroid.proofs.Closed.{closed_adds_none}
 use Rattle.obs_matroid.proofs.Contained.{Contains-from_In, In-get_or, IsDistinct-from_pairs}
 use Rattle.obs_matroid.proofs.Queue.{IsQueue, queue_closed}
 use Rattle.obs_meter.specs.declared.Touch.{Touch}
+use Rattle.obs_meter.specs.Assignments.{IsAssignmentAt}
 use Rattle.obs_meter.specs.Spanned.{graph_matroid}
-use Rattle.obs_meter.specs.Touches.{every_item, is_live, touch_at}
+use Rattle.obs_meter.specs.Touches.{every_item, is_live}
 use Rattle.obs_meter.proofs.Assigned.{to_matroid}
 use Rattle.obs_meter.proofs.Instance.{IsMatroid-graph}
 use Rattle.obs_meter.proofs.Touched.{live-from_In}
 use Rattle.obs_assign.specs.declared.Move.{Move}
-use Rattle.obs_assign.specs.Assignment.{Assignment, IsWhole, StandsOver, branch_at, has_flag, is_frozen, pairs}
+use Rattle.obs_assign.specs.Assignment.{Assignment, branch_at, has_flag, is_frozen, pairs}
 use Rattle.obs_assign.specs.Pins.{joins}
 use Rattle.obs_assign.proofs.Slotted.{item_slot}
 use Rattle.obs_assign.proofs.Standing.{In-every, IsAssignmentAt-standing}
@@ -27,32 +27,42 @@ use Rattle.obs_exchange.specs.declared.Sources.{Sources}
 use Rattle.obs_exchange.specs.declared.Sources.TheVariants.{All, One}
 use Rattle.obs_exchange.specs.Closed.{HoldsSourcesAt, IsClosedAt, IsLeastClosedAt, IsSource}
 use Rattle.obs_exchange.specs.Found.{AddsSource, AreListed, HasClosed}
-use Rattle.obs_exchange.specs.Searching.{AreMarked, HasOrigin, IsDone, IsParent, IsSearching, parent_of, place_of}
-use Rattle.obs_exchange.specs.Setting.{IsSourceIn, Setting, end_of, first_of, touched_in}
+use Rattle.obs_exchange.specs.Searching.{AreMarked, HasOrigin, IsDone, IsParent, IsSearching, IsWalked, parent_of, place_of}
+use Rattle.obs_exchange.specs.Setting.{IsSound, IsSourceIn, Setting, end_of, first_of, touched_in}
 use Rattle.obs_exchange.specs.Trail.{Trail}
 use Rattle.obs_exchange.proofs.Beginning.{source_bare}
 use Rattle.obs_exchange.proofs.Queued.{has_pair}
 use Rattle.obs_exchange.proofs.AtGraph.{bare-from_out, live_low, out-from_bare}
 
--- whether a meter without a pair is a source
+-- the matroid of the graph, and whether a meter without a pair is a source
+abbrev pub matroid_in : Setting → Matroid
+matroid_in over = graph_matroid over.graph.vertices over.graph.ends
+
 abbrev pub source_test : List (Option Ends) → List Touch → Sources → ℕ → Bool
 source_test ends touches All m = is_live ends touches m
 source_test ends touches (One k) m = (m == k) && is_live ends touches m
 
-pub source_passes : (ends : List (Option Ends)) (touches : List Touch) (from : Sources) (a : Assignment) (m : ℕ) → IsSource ends touches from a m → source_test ends touches from m ≡ true
-source_passes ends touches All a m s = s.0
-source_passes ends touches (One k) a m s = and_from (m == k) (is_live ends touches m) (eq-eqb m k s.0) s.1
+abbrev pub passes_in : Setting → ℕ → Bool
+passes_in over m = source_test over.graph.ends over.touches over.sources m
 
-pub source_from : (ends : List (Option Ends)) (touches : List Touch) (from : Sources) (a : Assignment) (m : ℕ) → source_test ends touches from m ≡ true → branch_at a m ≡ None → IsSource ends touches from a m
+source_passes : (ends : List (Option Ends)) (touches : List Touch) (from : Sources) (a : Assignment) (m : ℕ) → IsSource ends touches from a m
+    → (source_test ends touches from m ≡ true) × (is_live ends touches m ≡ true)
+source_passes ends touches All a m s = (s.0, s.0)
+source_passes ends touches (One k) a m s = (and_from (m == k) (is_live ends touches m) (eq-eqb m k s.0) s.1, s.1)
+
+source_from : (ends : List (Option Ends)) (touches : List Touch) (from : Sources) (a : Assignment) (m : ℕ) → source_test ends touches from m ≡ true → branch_at a m ≡ None → IsSource ends touches from a m
 source_from ends touches All a m t b = (t, b)
 source_from ends touches (One k) a m t b = let p = and_parts (m == k) (is_live ends touches m) t in (eqb-true m k p.0, p.1, b)
 
-pub source_live : (ends : List (Option Ends)) (touches : List Touch) (from : Sources) (a : Assignment) (m : ℕ) → IsSource ends touches from a m → is_live ends touches m ≡ true
-source_live ends touches All a m s = s.0
-source_live ends touches (One k) a m s = s.1
+-- a source of a search is live, passes the test and has no pair
+pub source_in : (over : Setting) (m : ℕ) → IsSourceIn over m
+    → (passes_in over m ≡ true) × (is_live over.graph.ends over.touches m ≡ true) × (branch_at over.assignment m ≡ None)
+source_in over m s =
+    let p = source_passes over.graph.ends over.touches over.sources over.assignment m s in
+    (p.0, p.1, source_bare over.graph.ends over.touches over.sources over.assignment m s)
 
 -- the sources that were looked at are all
-pub all_marked : (ends : List (Option Ends)) (touches : List Touch) (from : Sources) (a : Assignment) (marks : List Bool)
+all_marked : (ends : List (Option Ends)) (touches : List Touch) (from : Sources) (a : Assignment) (marks : List Bool)
     → ((m : ℕ) → first_of from ≤ m → m < end_of from (length touches) → IsSource ends touches from a m → has_flag marks m ≡ true)
     → HoldsSourcesAt ends touches from a (has_flag marks)
 all_marked ends touches All a marks h m s = h m (omega arith) (live_low ends touches m s.0) s
@@ -112,13 +122,13 @@ module _ (over : Setting) (trail : Trail) (s : IsSearching over trail) where
   pub origin_parent : (x : ℕ) (p : Move) → has_flag trail.marks x ≡ true → parent_of trail x ≡ Some p → IsParent over trail x p
   origin_parent x p t e = subst (HasOrigin over trail x) e (s.origins x t)
 
-  pub IsQueue-search : IsQueue (graph_matroid over.graph.vertices over.graph.ends) (touched_in over) (every_item over.touches) (is_frozen over.assignment)
-      (source_test over.graph.ends over.touches over.sources) (pairs over.assignment) (has_flag trail.marks) (root_at trail) (pair_at trail) (place_of trail)
+  pub IsQueue-search : IsQueue (matroid_in over) (touched_in over) (every_item over.touches) (is_frozen over.assignment)
+      (passes_in over) (pairs over.assignment) (has_flag trail.marks) (root_at trail) (pair_at trail) (place_of trail)
   IsQueue-search = record {
     inside = λ x t. (In-every over.touches x (s.low x t), s.thawed x t);
     roots = λ x t r.
-        let o = origin_source x t (from_root trail x r) in
-        record { of_items = In-every over.touches x (s.low x t); is_source = source_passes over.graph.ends over.touches over.sources over.assignment x o; bare = out-from_bare over.assignment x (source_bare over.graph.ends over.touches over.sources over.assignment x o) };
+        let o = source_in over x (origin_source x t (from_root trail x r)) in
+        record { of_items = In-every over.touches x (s.low x t); is_source = o.0; bare = out-from_bare over.assignment x o.2 };
     led = λ x t r.
         let p = from_led trail x r in
         let e : pair_at trail x ≡ (p.0.meter, p.0.branch) = pair_some trail x p.0 p.1 in
@@ -187,7 +197,7 @@ module _ (over : Setting) (trail : Trail) (s : IsSearching over trail) where
   -- a marked meter is live
   pub marked_live : (x : ℕ) → has_flag trail.marks x ≡ true → is_live over.graph.ends over.touches x ≡ true
   marked_live x t = elim (cases_Bool (root_at trail x)) [
-    | inl r ↦ source_live over.graph.ends over.touches over.sources over.assignment x (origin_source x t (from_root trail x r))
+    | inl r ↦ (source_in over x (origin_source x t (from_root trail x r))).1
     | inr n ↦
         let p = from_led trail x n in
         let k = (origin_parent x p.0 t p.1).needed in
@@ -195,19 +205,41 @@ module _ (over : Setting) (trail : Trail) (s : IsSearching over trail) where
         live-from_In over.graph.ends over.touches x b.0 (s.sound.stands.touched x b.0 b.1)
   ]
 
-module _ (g : Graph) (touches : List Touch) (from : Sources) (a : Assignment) (ok : AreBranches g.vertices g.ends) (whole : IsWhole a) (stands : StandsOver a g touches) where
-  to_closed : (S : ℕ → Bool) → IsClosedAt g.ends touches a S → IsClosed (graph_matroid g.vertices g.ends) (touch_at g.ends touches) (every_item touches) (is_frozen a) (pairs a) S
+module _ (over : Setting) (sound : IsSound over) where
+  pub matroid_laws : IsMatroid (matroid_in over)
+  matroid_laws = IsMatroid-graph over.graph.vertices over.graph.ends sound.branches
+
+  in_matroid : (B : List Pair) → IsAssignmentAt over.graph.ends over.touches (every_item over.touches) B → IsAssignment (matroid_in over) (touched_in over) (every_item over.touches) B
+  in_matroid B b = to_matroid over.graph.vertices over.graph.ends over.touches (every_item over.touches) B b
+
+  pub own_pairs : IsAssignment (matroid_in over) (touched_in over) (every_item over.touches) (pairs over.assignment)
+  own_pairs = in_matroid (pairs over.assignment) (IsAssignmentAt-standing over.assignment over.graph over.touches sound.whole sound.stands)
+
+  to_closed : (S : ℕ → Bool) → IsClosedAt over.graph.ends over.touches over.assignment S
+      → IsClosed (matroid_in over) (touched_in over) (every_item over.touches) (is_frozen over.assignment) (pairs over.assignment) S
   to_closed S c = record { spanned = λ m e i t k. c.joined m e t k }
 
-  to_holds : (S : ℕ → Bool) → HoldsSourcesAt g.ends touches from a S → HoldsSources (every_item touches) (source_test g.ends touches from) (pairs a) S
-  to_holds S h m i t out = h m (source_from g.ends touches from a m t (bare-from_out a m out))
+  to_holds : (S : ℕ → Bool) → HoldsSourcesAt over.graph.ends over.touches over.sources over.assignment S → HoldsSources (every_item over.touches) (passes_in over) (pairs over.assignment) S
+  to_holds S h m i t out = h m (source_from over.graph.ends over.touches over.sources over.assignment m t (bare-from_out over.assignment m out))
 
   -- a least closed set shows that no assignment adds a source
-  pub adds_none : (S : ℕ → Bool) → IsLeastClosedAt g.ends touches from a S → (B : List Pair) → AddsSource g.ends touches from a B → ⊥
-  adds_none S c B b = closed_adds_none (graph_matroid g.vertices g.ends) (IsMatroid-graph g.vertices g.ends ok) (touch_at g.ends touches) (every_item touches) (is_frozen a) (pairs a) B S
-      (to_matroid g.vertices g.ends touches (every_item touches) (pairs a) (IsAssignmentAt-standing a g touches whole stands))
-      (to_matroid g.vertices g.ends touches (every_item touches) B b.assigns) whole.paired.frozen_have b.extends (to_closed S c.closed) b.keeps b.source (c.holds b.source b.is_source)
-      (out-from_bare a b.source (source_bare g.ends touches from a b.source b.is_source)) b.adds
+  adds_none : (S : ℕ → Bool) → IsLeastClosedAt over.graph.ends over.touches over.sources over.assignment S
+      → (B : List Pair) → AddsSource over.graph.ends over.touches over.sources over.assignment B → ⊥
+  adds_none S c B b = closed_adds_none (matroid_in over) matroid_laws (touched_in over) (every_item over.touches) (is_frozen over.assignment) (pairs over.assignment) B S
+      own_pairs (in_matroid B b.assigns) sound.whole.paired.frozen_have b.extends (to_closed S c.closed) b.keeps b.source (c.holds b.source b.is_source)
+      (out-from_bare over.assignment b.source (source_in over b.source b.is_source).2) b.adds
+
+  -- the flags of a closed search
+  pub HasClosed-flags : (marks : List Bool) (n : ℕ) → n ≡ length over.touches → length over.touches ≤ length marks
+      → IsLeastClosedAt over.graph.ends over.touches over.sources over.assignment (has_flag (take (length over.touches) marks))
+      → HasClosed over.graph.ends over.touches over.sources over.assignment over.assignment (take n marks)
+  HasClosed-flags marks n is l least =
+      subst (λ k. HasClosed over.graph.ends over.touches over.sources over.assignment over.assignment (take k marks)) (sym is) (record {
+        same = refl;
+        flags = length-take-le (length over.touches) marks l;
+        least = least;
+        none = adds_none (has_flag (take (length over.touches) marks)) least;
+      })
 
 -- after a search that came to its end
 module _ (over : Setting) (trail : Trail) (s : IsSearching over trail) (done : IsDone trail)
@@ -215,54 +247,28 @@ module _ (over : Setting) (trail : Trail) (s : IsSearching over trail) (done : I
   holds : HoldsSourcesAt over.graph.ends over.touches over.sources over.assignment (has_flag trail.marks)
   holds = all_marked over.graph.ends over.touches over.sources over.assignment trail.marks marked
 
-  walked_all : (m e : ℕ) → has_flag trail.marks m ≡ true → In e (touched_in over m) → has_flag trail.walked e ≡ true
+  walked_all : (m e : ℕ) → has_flag trail.marks m ≡ true → In e (touched_in over m) → IsWalked over trail.marks e
   walked_all m e t i =
       let p = s.placed m t in
       let b = p.0 in
-      s.looked (place_of trail m) e (omega (arith, b, done)) (rw p.1 i)
+      s.walks e (s.looked (place_of trail m) e (omega (arith, b, done)) (rw p.1 i))
 
-  least : IsLeastClosed (graph_matroid over.graph.vertices over.graph.ends) (touched_in over) (every_item over.touches) (is_frozen over.assignment)
-      (source_test over.graph.ends over.touches over.sources) (pairs over.assignment) (has_flag trail.marks)
+  least : IsLeastClosed (matroid_in over) (touched_in over) (every_item over.touches) (is_frozen over.assignment) (passes_in over) (pairs over.assignment) (has_flag trail.marks)
   least =
-      let a = over.assignment in
-      let sound = s.sound in
-      queue_closed (graph_matroid over.graph.vertices over.graph.ends) (touched_in over) (every_item over.touches) (is_frozen a) (source_test over.graph.ends over.touches over.sources) (pairs a)
-      (has_flag trail.marks) (root_at trail) (pair_at trail) (place_of trail) (IsQueue-search over trail s)
-      (IsMatroid-graph over.graph.vertices over.graph.ends sound.branches)
-      (to_matroid over.graph.vertices over.graph.ends over.touches (every_item over.touches) (pairs a) (IsAssignmentAt-standing a over.graph over.touches sound.whole sound.stands))
-      sound.whole.paired.frozen_have
-      (to_holds over.graph over.touches over.sources a sound.branches sound.whole sound.stands (has_flag trail.marks) holds)
-      (λ m t e i. (s.walks e (walked_all m e t i)).joined)
-      (λ m t e i x j n f. (s.walks e (walked_all m e t i)).marked x j n f)
+      queue_closed (matroid_in over) (touched_in over) (every_item over.touches) (is_frozen over.assignment) (passes_in over) (pairs over.assignment)
+      (has_flag trail.marks) (root_at trail) (pair_at trail) (place_of trail) (IsQueue-search over trail s) (matroid_laws over s.sound) (own_pairs over s.sound)
+      s.sound.whole.paired.frozen_have (to_holds over s.sound (has_flag trail.marks) holds)
+      (λ m t e i. (walked_all m e t i).joined) (λ m t e i x j n f. (walked_all m e t i).marked x j n f)
 
   least_marked : IsLeastClosedAt over.graph.ends over.touches over.sources over.assignment (has_flag trail.marks)
-  least_marked =
-      let l = least in
-      let sound = s.sound in
-      record {
-        closed = record {
-          live = λ m t. marked_live over trail s m t;
-          joined = λ m e t i. l.closed.spanned m e (In-every over.touches m (s.low m t)) t i;
-        };
-        holds = holds;
-        least = λ T c h m t. l.least T (to_closed over.graph over.touches over.sources over.assignment sound.branches sound.whole sound.stands T c)
-            (to_holds over.graph over.touches over.sources over.assignment sound.branches sound.whole sound.stands T h) m t;
-      }
+  least_marked = let l = least in record {
+    closed = record { live = λ m t. marked_live over trail s m t; joined = λ m e t i. l.closed.spanned m e (In-every over.touches m (s.low m t)) t i };
+    holds = holds;
+    least = λ T c h m t. l.least T (to_closed over s.sound T c) (to_holds over s.sound T h) m t;
+  }
 
   -- the flags of the meters are the least closed set
   pub IsLeastClosedAt-search : IsLeastClosedAt over.graph.ends over.touches over.sources over.assignment (has_flag (take (length over.touches) trail.marks))
   IsLeastClosedAt-search =
       let same : has_flag trail.marks ≡ has_flag (take (length over.touches) trail.marks) = λ i m. flag_taken over trail s m i in
       subst (λ S. IsLeastClosedAt over.graph.ends over.touches over.sources over.assignment S) same least_marked
-
--- the flags of a closed search
-pub HasClosed-flags : (g : Graph) (touches : List Touch) (from : Sources) (a : Assignment) → AreBranches g.vertices g.ends → IsWhole a → StandsOver a g touches
-    → (marks : List Bool) (n : ℕ) → n ≡ length touches → length touches ≤ length marks
-    → IsLeastClosedAt g.ends touches from a (has_flag (take (length touches) marks)) → HasClosed g.ends touches from a a (take n marks)
-HasClosed-flags g touches from a ok whole stands marks n is l least =
-    subst (λ k. HasClosed g.ends touches from a a (take k marks)) (sym is) (record {
-      same = refl;
-      flags = length-take-le (length touches) marks l;
-      least = least;
-      none = adds_none g touches from a ok whole stands (has_flag (take (length touches) marks)) least;
-    })

@@ -14,21 +14,17 @@ use Rattle.obs_matroid.proofs.Pairs.{In-items, In-part_from}
 use Rattle.obs_matroid.proofs.Queue.{queue_grows, walk}
 use Rattle.obs_matroid.proofs.Slots.{IsDistinct-slots}
 use Rattle.obs_meter.specs.Assignments.{IsAssignmentAt}
-use Rattle.obs_meter.specs.Spanned.{graph_matroid}
 use Rattle.obs_meter.specs.Touches.{every_item}
-use Rattle.obs_meter.proofs.Assigned.{from_matroid, to_matroid}
-use Rattle.obs_meter.proofs.Instance.{IsMatroid-graph}
+use Rattle.obs_meter.proofs.Assigned.{from_matroid}
 use Rattle.obs_assign.specs.declared.Move.{Move}
 use Rattle.obs_assign.specs.Assignment.{branch_at, has_flag, is_frozen, pairs}
 use Rattle.obs_assign.specs.Moves.{IsPath, moved}
 use Rattle.obs_assign.proofs.Moving.{moved_pairs, pair_of}
 use Rattle.obs_assign.proofs.Slotted.{item_slot, none_some}
-use Rattle.obs_assign.proofs.Standing.{IsAssignmentAt-standing}
 use Rattle.obs_exchange.specs.Searching.{IsEnd, IsParent, IsReadyIn, parent_of, place_of}
 use Rattle.obs_exchange.specs.Setting.{IsSourceIn, Setting, touched_in}
 use Rattle.obs_exchange.specs.Trail.{Trail}
-use Rattle.obs_exchange.proofs.Beginning.{source_bare}
-use Rattle.obs_exchange.proofs.Closing.{IsQueue-search, origin_parent, origin_source, pair_at, pair_some, root_at, root_none, root_some, source_test, tail_low}
+use Rattle.obs_exchange.proofs.Closing.{IsQueue-search, matroid_in, matroid_laws, origin_parent, origin_source, own_pairs, pair_at, pair_some, passes_in, root_at, root_none, root_some, source_in, tail_low}
 use Rattle.obs_exchange.proofs.Queued.{has_pair}
 
 -- the pairs of the moves in reverse, before what is given
@@ -119,8 +115,8 @@ drop_last path k x l = drop-set path k x (omega (arith, l)) ∙ ap (λ xs. x ∷
 module _ (over : Setting) (trail : Trail) (last : Move) where
   -- the moves back from x, by the parents
   pub way : ℕ → ℕ → List Pair
-  way n x = walk (graph_matroid over.graph.vertices over.graph.ends) (touched_in over) (every_item over.touches) (is_frozen over.assignment)
-      (source_test over.graph.ends over.touches over.sources) (pairs over.assignment) (has_flag trail.marks) (root_at trail) (pair_at trail) (place_of trail) n x
+  way n x = walk (matroid_in over) (touched_in over) (every_item over.touches) (is_frozen over.assignment)
+      (passes_in over) (pairs over.assignment) (has_flag trail.marks) (root_at trail) (pair_at trail) (place_of trail) n x
 
   way_root : (n x : ℕ) → parent_of trail x ≡ None → way (suc n) x ≡ []
   unfolding way walk
@@ -238,7 +234,7 @@ module _ (over : Setting) (trail : Trail) (last : Move) where
         is_path : IsPath over.assignment t.first t.rest
         is_path = record {
           low = All-from_In (λ (y : Move). y.meter < length over.assignment.slots) (t.first ∷ t.rest) low_all;
-          bare = source_bare over.graph.ends over.touches over.sources over.assignment t.first.meter source;
+          bare = (source_in over t.first.meter source).2;
           paired = All-from_In (λ (y : Move). branch_at over.assignment y.meter ≢ None) t.rest paired;
           thawed = All-from_In (λ (y : Move). is_frozen over.assignment y.meter ≡ false) t.rest (λ y i. e.searching.thawed y.meter (t.marked_all y (inr i)));
           different = rising_apart (place_of trail) (t.first ∷ t.rest) t.rises;
@@ -247,17 +243,14 @@ module _ (over : Setting) (trail : Trail) (last : Move) where
         assigns : IsAssignmentAt over.graph.ends over.touches (every_item over.touches) (pairs_of (moved (t.first ∷ t.rest) over.assignment.slots))
         unfolding way
         assigns =
-            let mat = graph_matroid over.graph.vertices over.graph.ends in
             let sound = e.searching.sound in
             let a = over.assignment in
-            let laws = IsMatroid-graph over.graph.vertices over.graph.ends sound.branches in
             let M = every_item over.touches in
-            let A = to_matroid over.graph.vertices over.graph.ends over.touches M (pairs a) (IsAssignmentAt-standing a over.graph over.touches sound.whole sound.stands) in
-            let grown = queue_grows mat (touched_in over) M (is_frozen a) (source_test over.graph.ends over.touches over.sources) (pairs a) (has_flag trail.marks) (root_at trail) (pair_at trail) (place_of trail)
-            (IsQueue-search over trail e.searching) laws A sound.whole.paired.frozen_have last.meter last.branch e.marked e.free.touched e.free.apart in
+            let grown = queue_grows (matroid_in over) (touched_in over) M (is_frozen a) (passes_in over) (pairs a) (has_flag trail.marks) (root_at trail) (pair_at trail) (place_of trail)
+            (IsQueue-search over trail e.searching) (matroid_laws over sound) (own_pairs over sound) sound.whole.paired.frozen_have last.meter last.branch e.marked e.free.touched e.free.apart in
             from_matroid over.graph.vertices over.graph.ends over.touches M (pairs_of (moved (t.first ∷ t.rest) a.slots))
-            (IsAssignment-within mat laws (touched_in over) M (put_all (pair_of last ∷ way (suc (place_of trail last.meter)) last.meter) (pairs a)) (pairs_of (moved (t.first ∷ t.rest) a.slots))
-            grown.assigns (IsDistinct-slots (moved (t.first ∷ t.rest) a.slots))
+            (IsAssignment-within (matroid_in over) (matroid_laws over sound) (touched_in over) M (put_all (pair_of last ∷ way (suc (place_of trail last.meter)) last.meter) (pairs a))
+            (pairs_of (moved (t.first ∷ t.rest) a.slots)) grown.assigns (IsDistinct-slots (moved (t.first ∷ t.rest) a.slots))
             (λ q i. subst (λ P. In q (put_all P (pairs a))) all_back
             (reversed (t.first ∷ t.rest) (pairs a) q (rising_distinct (place_of trail) (t.first ∷ t.rest) t.rises) ((moved_pairs (t.first ∷ t.rest) a.slots low_all q).0 i))))
 

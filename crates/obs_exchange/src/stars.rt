@@ -64,7 +64,7 @@ impl Stars {
     }
 
     /// Notes that all branches at the vertex were walked.
-    pub fn walk(&mut self, v: u32)
+    pub fn set_walked(&mut self, v: u32)
         requires v { v < length self.old }
         ensures walked { self.new ≡ slice_set self.old v true }
     {

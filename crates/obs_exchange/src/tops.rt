@@ -2,7 +2,7 @@
 // lead there by ever fewer steps.
 ghost use Rattle.std.specs.Prelude.{◌≡◌, ◌<◌, ◌≤◌, ◌^◌, ℕ, length, slice_index};
 ghost use Rattle.obs_exchange.specs.Blank.{AreNumbers};
-ghost use Rattle.obs_exchange.specs.Classes.{AreTopsIn, RisesIn, SameMet};
+ghost use Rattle.obs_exchange.specs.Classes.{AreTops, Rises, SameMet};
 
 use crate::setting::Setting;
 
@@ -31,12 +31,12 @@ pub fn separate(tops: &mut [u32], numbers: &[u32])
 /// The top of the class of v. Each vertex on the way there is led to one that is higher.
 pub fn top_of(over: &Setting<'_>, tops: &mut [u32], v: u32) -> u32
     requires v { v < over.now.graph.vertices }
-    requires tops { AreTopsIn over.now tops.old }
-    ensures tops { AreTopsIn over.now tops.new }
-    ensures same { SameMet over.now.graph.vertices tops.old tops.new }
+    requires tops { AreTops over.now tops.old }
+    ensures tops { AreTops over.now tops.new }
+    ensures same { SameMet over.now tops.old tops.new }
     ensures low { result < over.now.graph.vertices }
     ensures top { slice_index tops.new result ≡ result }
-    ensures rises { RisesIn over.now tops.new v result }
+    ensures rises { Rises over.now tops.new v result }
 {
     let _ = over;
     let mut x = v;

@@ -175,7 +175,7 @@ impl Trail {
     }
 
     /// Notes that the branch was walked.
-    pub fn walk(&mut self, e: u32)
+    pub fn set_walked(&mut self, e: u32)
         requires e { e < length self.old.walked }
         ensures walked { self.new ≡ record self.old { walked = slice_set self.old.walked e true } }
     {

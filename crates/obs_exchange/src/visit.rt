@@ -34,7 +34,7 @@ fn star(over: &Setting<'_>, m: u32, stars: &mut Stars)
     ensures same_room { length stars.new ≡ length stars.old }
 {
     if let Some(v) = over.star(m) {
-        stars.walk(v);
+        stars.set_walked(v);
     }
 }
 

@@ -3,7 +3,7 @@ ghost use Rattle.std.specs.Prelude.{◌≡◌, ◌<◌, ℕ, true, false, IsSome
 ghost use Rattle.obs_graph.specs.declared.search.Up.{Up};
 ghost use Rattle.obs_matroid.specs.Lists.{In};
 ghost use Rattle.obs_assign.specs.Assignment.{branch_at, has_flag};
-ghost use Rattle.obs_exchange.specs.Classes.{AreClasses, OneMoreMet, RisesIn};
+ghost use Rattle.obs_exchange.specs.Classes.{AreClasses, OneMoreMet, Rises};
 ghost use Rattle.obs_exchange.specs.Searching.{IsNeededOf, IsVisiting, IsWalked};
 ghost use Rattle.obs_exchange.specs.Setting.{is_joined_in, touched_in};
 ghost use Rattle.obs_exchange.specs.Trail.{Stays};
@@ -28,10 +28,10 @@ fn meet(over: &Setting<'_>, by: Move, top: u32, trail: &mut Trail, tops: &mut [u
     requires classes { AreClasses over.now trail.old.marks tops.old }
     ensures visiting { IsVisiting over.now trail.new by.meter }
     ensures classes { AreClasses over.now trail.new.marks tops.new }
-    ensures met { OneMoreMet over.now.graph.vertices tops.old tops.new top }
+    ensures met { OneMoreMet over.now tops.old tops.new top }
     ensures low { result < over.now.graph.vertices }
     ensures top { slice_index tops.new result ≡ result }
-    ensures rises { RisesIn over.now tops.new top result }
+    ensures rises { Rises over.now tops.new top result }
     ensures lower { slice_index over.now.depths result < slice_index over.now.depths top }
     ensures stays { Stays trail.old trail.new }
 {
@@ -84,6 +84,6 @@ pub fn walk(over: &Setting<'_>, by: Move, trail: &mut Trail, tops: &mut [u32]) -
         return true;
     }
     reach_needed(over, by, trail, tops);
-    trail.walk(by.branch);
+    trail.set_walked(by.branch);
     false
 }

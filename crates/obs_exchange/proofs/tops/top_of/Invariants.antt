@@ -3,7 +3,7 @@ use Rattle.obs_exchange.proofs.Classes.{IsRising}
 use Rattle.obs_exchange.proofs.tops.top_of.Given as goal
 
 abbrev pub invariant-loop-tops : goal.invariant-loop-tops
-invariant-loop-tops l = IsRising l.over.graph.vertices l.over.ups l.over.depths l.fn.tops l.tops l.v l.x
+invariant-loop-tops l = IsRising l.over l.fn.tops l.tops l.v l.x
 
 abbrev pub decreases-loop-tops : goal.decreases-loop-tops
 decreases-loop-tops l = get_or l.over.depths l.x 0

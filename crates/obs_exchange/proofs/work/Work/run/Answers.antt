@@ -1,7 +1,6 @@
-use Rattle.std.proofs.Common.{◌≡◌, ◌-◌, ◌≤◌, List, length, take, drop, ap, sym, subst, ◌∙◌, arith}
+use Rattle.std.proofs.Common.{◌≡◌, ◌-◌, List, length, take, drop, ap, subst, ◌∙◌, arith}
 use Rattle.std.proofs.lemmas.List.{length-drop, take_all}
 use Rattle.obs_meter.specs.declared.Touch.{Touch}
-use Rattle.obs_assign.specs.Assignment.{StandsOver}
 use Rattle.obs_exchange.specs.Found.{HasClosed, HasGrown, Work, searched}
 use Rattle.obs_exchange.proofs.Closing.{HasClosed-flags}
 use Rattle.obs_exchange.proofs.work.Work.run.Goals as goal
@@ -50,14 +49,13 @@ returns-in-Ok-clause-found g c =
 
 pub returns-in-Err-clause-found : goal.returns-in-Err-clause-found
 returns-in-Err-clause-found g c =
-    let marks = c.find-found.new.trail.marks in
+    let f = c.find-found in
+    let n = c.new.ensures in
     let most = ap (λ (w : Work). w.sizes.meters) c.self.view_is in
     let own = c.picked-ms.result.now.touches in
     let is : own ≡ searched c.args.copied c.args.self.now.touches c.args.ms.now.touches =
     c.picked-ms.ensures.touches ∙ ap (λ (w : Work). searched c.args.copied w.touches c.args.ms.now.touches) c.self.view_is in
-    let low : length own ≤ length marks = omega (arith, c.find-found.ensures.same_meters, most, ap length is, c.requires.room.meters) in
-    let n = c.new.ensures in
-    subst (λ (X : List Touch). HasClosed c.args.g.now.ends X c.args.from c.args.a.now c.args.a.now (take c.count.result marks)) is
-    (HasClosed-flags c.args.g.now own c.args.from c.args.a.now (rw n.graph at n.sound.branches) c.length.ensures.whole
-    (subst (λ (X : List Touch). StandsOver c.args.a.now c.args.g.now X) (sym is) c.requires.stands) marks c.count.result c.count.ensures.count low
-    (rw (n.graph, n.touches, n.assignment, n.sources) at c.in-Err.ensures.found))
+    subst (λ (X : List Touch). HasClosed c.args.g.now.ends X c.args.from c.args.a.now c.args.a.now (take c.count.result f.new.trail.marks)) is
+    (rw (n.graph, n.touches, n.assignment, n.sources) at
+    (HasClosed-flags c.new.result n.sound f.new.trail.marks c.count.result (rw n.touches c.count.ensures.count)
+    (rw n.touches (omega (arith, f.ensures.same_meters, most, ap length is, c.requires.room.meters))) c.in-Err.ensures.found))
