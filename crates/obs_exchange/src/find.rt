@@ -68,8 +68,8 @@ fn trace(last: Move, trail: &Trail, path: &mut [Move]) -> usize
 
 /// Looks for a path of moves that gives a source a pair, writes it at the end of the array and says where it begins.
 /// Where there is no such path, it says how many meters it reached: these are the first of the queue, and the marks are
-/// the least closed set. The sources from the first meter of the start on are tried for a free branch. Where none is
-/// found, it searches from the sources, those from the second meter of the start on before the others.
+/// the least closed set. Of the sources those from `tried` on are tried for a free branch. Where none is found, it
+/// searches from the sources, those from `searched` on before the others.
 pub fn find(
     over: &Setting<'_>,
     noted: &Noted,

@@ -111,7 +111,7 @@ fn put_sources(over: &Setting<'_>, flags: &mut [bool], blocks: &mut [bool])
 }
 
 impl Noted {
-    /// All of so many meters.
+    /// Notes all of so many meters.
     pub(crate) fn make(alloc: Global, most_meters: u32) -> Result<Noted, NoMemory>
         ensures made { IfOk result (λ n. n ≡ record { all = true; flags = replicate most_meters false }) }
     {
