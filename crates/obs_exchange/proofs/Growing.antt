@@ -18,7 +18,7 @@ use Rattle.obs_assign.proofs.Paths.{joined-less}
 use Rattle.obs_assign.proofs.Slotted.{item_slot, none_some}
 use Rattle.obs_exchange.specs.declared.Sources.{Sources}
 use Rattle.obs_exchange.specs.Found.{HasGrown}
-use Rattle.obs_exchange.specs.Searching.{BeginsAtSource, IsFreeFor, IsReadyIn}
+use Rattle.obs_exchange.specs.Searching.{BeginsAtSource, IsFreeFor, IsReady}
 use Rattle.obs_exchange.specs.Setting.{IsSound, IsSourceIn, Setting}
 use Rattle.obs_exchange.proofs.Beginning.{source_bare}
 
@@ -53,7 +53,7 @@ module _ (ends : List (Option Ends)) (touches : List Touch) (from : Sources) (a 
       low y i = In-from_All (λ (z : Move). z.meter < length a.slots) (x ∷ path) p.low y i
 
 -- a source takes a free branch
-pub IsReady-one : (over : Setting) (x : Move) → IsSound over → x.meter < length over.touches → IsSourceIn over x.meter → IsFreeFor over x.meter x.branch → IsReadyIn over (x ∷ [])
+pub IsReady-one : (over : Setting) (x : Move) → IsSound over → x.meter < length over.touches → IsSourceIn over x.meter → IsFreeFor over x.meter x.branch → IsReady over (x ∷ [])
 IsReady-one over x sound low source free =
     let a = over.assignment in
     let g = over.graph in

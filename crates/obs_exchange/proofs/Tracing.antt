@@ -21,7 +21,7 @@ use Rattle.obs_assign.specs.Assignment.{branch_at, has_flag, is_frozen, pairs}
 use Rattle.obs_assign.specs.Moves.{IsPath, moved}
 use Rattle.obs_assign.proofs.Moving.{moved_pairs, pair_of}
 use Rattle.obs_assign.proofs.Slotted.{item_slot, none_some}
-use Rattle.obs_exchange.specs.Searching.{IsEnd, IsParent, IsReadyIn, parent_of, place_of}
+use Rattle.obs_exchange.specs.Searching.{IsEnd, IsParent, IsReady, parent_of, place_of}
 use Rattle.obs_exchange.specs.Setting.{IsSourceIn, Setting, touched_in}
 use Rattle.obs_exchange.specs.Trail.{Trail}
 use Rattle.obs_exchange.proofs.Closing.{IsQueue-search, matroid_in, matroid_laws, origin_parent, origin_source, own_pairs, pair_at, pair_some, passes_in, root_at, root_none, root_some, source_in, tail_low}
@@ -254,5 +254,5 @@ module _ (over : Setting) (trail : Trail) (last : Move) where
             (λ q i. subst (λ P. In q (put_all P (pairs a))) all_back
             (reversed (t.first ∷ t.rest) (pairs a) q (rising_distinct (place_of trail) (t.first ∷ t.rest) t.rises) ((moved_pairs (t.first ∷ t.rest) a.slots low_all q).0 i))))
 
-        pub Tracing-end : IsReadyIn over (drop start path)
-        Tracing-end = subst (IsReadyIn over) (sym t.is) (record { can = record { are_path = is_path; assigns = assigns }; begins = source })
+        pub Tracing-end : IsReady over (drop start path)
+        Tracing-end = subst (IsReady over) (sym t.is) (record { can = record { are_path = is_path; assigns = assigns }; begins = source })

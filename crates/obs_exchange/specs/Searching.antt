@@ -138,10 +138,6 @@ pub record CanMove (ends : List (Option Ends)) (touches : List Touch) (a : Assig
   pub assigns : IsAssignmentAt ends touches (every_item touches) (pairs_of (moved path a.slots))
 
 -- the moves may be put in, and give a source a pair
-pub record IsReady (ends : List (Option Ends)) (touches : List Touch) (from : Sources) (a : Assignment)
-    (path : List Move) : Type 0 where
-  pub can : CanMove ends touches a path
-  pub begins : BeginsAtSource ends touches from a path
-
-abbrev pub IsReadyIn : Setting → List Move → Type 0
-IsReadyIn over path = IsReady over.graph.ends over.touches over.sources over.assignment path
+pub record IsReady (over : Setting) (path : List Move) : Type 0 where
+  pub can : CanMove over.graph.ends over.touches over.assignment path
+  pub begins : BeginsAtSource over.graph.ends over.touches over.sources over.assignment path

@@ -6,7 +6,7 @@ ghost use Rattle.obs_exchange.specs.Blank.{AreNumbers};
 ghost use Rattle.obs_exchange.specs.Closed.{IsLeastClosedAt};
 ghost use Rattle.obs_exchange.specs.Found.{AreListed, HasGrown};
 ghost use Rattle.obs_exchange.specs.Noting.{AreNotedIn};
-ghost use Rattle.obs_exchange.specs.Searching.{BeginsAtSource, CanMove, IsEnd, IsFreeFor, IsReadyIn};
+ghost use Rattle.obs_exchange.specs.Searching.{BeginsAtSource, CanMove, IsEnd, IsFreeFor, IsReady};
 ghost use Rattle.obs_exchange.specs.Setting.{IsSound, IsSourceIn, Setting, first_of};
 
 use crate::begin::spread_all;
@@ -53,7 +53,7 @@ fn trace(last: Move, trail: &Trail, path: &mut [Move]) -> usize
     requires end { (over : Setting) × IsEnd over trail.now last }
     requires room { length trail.now.marks ≤ length path.old }
     ensures bound { result ≤ length path.new }
-    ensures ready { (over : Setting) → IsEnd over trail.now last → IsReadyIn over (drop result path.new) }
+    ensures ready { (over : Setting) → IsEnd over trail.now last → IsReady over (drop result path.new) }
 {
     let mut start = path.len() - 1;
     path[start] = last;
@@ -94,7 +94,7 @@ pub fn find(
     ensures bound { IfOk result (λ k. k ≤ length path.new) }
     ensures few { IfErr result (λ count. count ≤ length trail.new.marks) }
     ensures found { MatchResult result
-        (λ k. IsReadyIn over.now (drop k path.new))
+        (λ k. IsReady over.now (drop k path.new))
         (λ _. IsLeastClosedAt over.now.graph.ends over.now.touches over.now.sources over.now.assignment
         (has_flag (take (length over.now.touches) trail.new.marks))) }
     ensures listed { IfErr result

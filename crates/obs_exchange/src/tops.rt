@@ -1,6 +1,6 @@
 // Classes of vertices that met branches join. What was met is never walked again: each class has one top, and the tops
 // lead there by ever fewer steps.
-ghost use Rattle.std.specs.Prelude.{◌≡◌, ◌<◌, ◌≤◌, ◌^◌, ℕ, length, slice_index};
+ghost use Rattle.std.specs.Prelude.{◌≡◌, ◌<◌, ◌≤◌, ◌^◌, length, slice_index};
 ghost use Rattle.obs_exchange.specs.Blank.{AreNumbers};
 ghost use Rattle.obs_exchange.specs.Classes.{AreTops, Rises, SameMet};
 

@@ -1,6 +1,6 @@
 use Rattle.std.proofs.Common.{◌≡◌, ◌-◌, length, take, sym, ◌∙◌, subst, arith}
 use Rattle.std.proofs.lemmas.List.{length-take-le}
-use Rattle.obs_exchange.specs.Searching.{IsReadyIn}
+use Rattle.obs_exchange.specs.Searching.{IsReady}
 use Rattle.obs_exchange.proofs.Beginning.{AreStarred-start, IsSearching-start}
 use Rattle.obs_exchange.proofs.Closing.{AreListed-queue, IsLeastClosedAt-search, tail_low}
 use Rattle.obs_exchange.proofs.Growing.{IsReady-one}
@@ -10,7 +10,7 @@ use Rattle.obs_exchange.proofs.find.find.Goals as goal
 
 pub returns-in-Some-clause-found : goal.returns-in-Some-clause-found
 returns-in-Some-clause-found c = let r = c.requires in let f = c.in-Some.ensures.free in let low = f.0 in
-    subst (IsReadyIn c.args.over.now)
+    subst (IsReady c.args.over.now)
     (sym (drop_last c.args.path.now (length c.args.path.now - 1) c.in-Some.x (omega (arith, low, r.path, r.meters))))
     (IsReady-one c.args.over.now c.in-Some.x r.sound f.0 f.1 f.2)
 
