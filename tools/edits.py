@@ -4,10 +4,10 @@
 Usage: tools/edits.py TABLES FOLDER
 
 Writes into FOLDER the tables of TABLES with a second node for each bus behind a closed switch, to which every other branch goes. There
-are to be at most 10,000 nodes. Beside them it writes the lines of sessions: mixed.txt has 20,000 edits of switches, branches and meters
-with an ask at each 200th, meters.txt 20,000 edits of meters, branches.txt 20,000 of branches, switches.txt 20,000 of switches, and
-comments.txt 16 MiB of comments. Few rows are out at once, as in a control room: an outage is followed by others, and is ended after
-some. The lines are the same at each run.
+are to be at most 10,000 nodes. Meters and candidates stay as they are. Beside the tables it writes the lines of sessions: mixed.txt has
+20,000 edits of switches, branches and meters with an ask at each 200th, meters.txt 20,000 edits of meters, branches.txt 20,000 of
+branches, switches.txt 20,000 of switches, and comments.txt 16 MiB of comments. Few rows are out at once, as in a control room: an outage
+is followed by others, and is ended after some. The lines are the same at each run.
 """
 import csv
 import os
@@ -55,6 +55,7 @@ def main():
     far = [f"{e},{a}{'q' if k % 2 else ''},{b}{'q' if k % 3 else ''},{i}" for k, (e, a, b, i) in enumerate(branches)]
     write(folder, "branches.csv", ["branch,from,to,inservice"] + far)
     write(folder, "meters.csv", ["meter,kind,at,inservice"] + [",".join(row) for row in meters])
+    write(folder, "candidates.csv", ["candidate,kind,at,price"] + [",".join(row) for row in rows(tables, "candidates.csv")])
     names = {"switch": [f"s{n}" for n, _ in nodes], "branch": [row[0] for row in branches], "meter": [row[0] for row in meters]}
     write(folder, "mixed.txt", session(names, ["switch", "branch", "meter"], 200))
     for kind, name in [("meter", "meters.txt"), ("branch", "branches.txt"), ("switch", "switches.txt")]:
