@@ -119,8 +119,9 @@ def end(tool, page, parse, work):
     try:
         parsed = parse(sys.argv[1:])
     except ValueError:
-        print("\n".join(line for line in page.split("\n") if "[with CAND]" in line), file=sys.stderr)
-        print(f"FORM is: tables N S B M, or cdf C M, or matpower C M. {tool} --help says more.", file=sys.stderr)
+        usage = "\n".join(line for line in page.split("\n") if "[with CAND]" in line)
+        form = "FORM is: tables N S B M, or cdf C M, or matpower C M. " if "FORM" in usage else ""
+        print(f"{usage}\n{form}{tool} --help says more.", file=sys.stderr)
         sys.exit(2)
     try:
         status = work(*parsed)

@@ -22,12 +22,32 @@ def unsourced(answer, words):
     if not answer.counts["energised"]:
         some = ["No part of the network has a source. Nothing is needed then, so the verdict says nothing."]
         return some + ([] if answer.names else ["The network has no buses."])
-    dead = answer.dead_parts.values()
+    dead = answer.dead_parts
     if not dead:
         return []
     parts = counted(len(dead), "part of the network has no source and is", "parts of the network have no source and are")
     whose = "Its" if len(dead) == 1 else "Their"
-    return [(f"{parts} left out of the verdict. {whose} nodes:", [words.list(map(words.nodes, buses)) for buses in dead])]
+    feeds = feeds_of(answer)
+    nodes = [words.list(map(words.nodes, buses)) + feeding(words, feeds.get(part, [])) for part, buses in dead.items()]
+    return [(f"{parts} left out of the verdict. {whose} nodes:", nodes)]
+
+
+def feeds_of(answer):
+    """For each part without a source the open switches and the branches out of service that lead to a part with one."""
+    found = {}
+    for word, rows in [("closing", answer.case.switches), ("restoring", answer.case.branches)]:
+        for name, start, end, is_in in rows:
+            ends = answer.bus[start], answer.bus[end]
+            dead = [u for u in ends if answer.island[u] is None]
+            if not is_in and len(dead) == 1:
+                found.setdefault(answer.part[dead[0]], []).append(f"{word} {quoted(name)}")
+    return found
+
+
+def feeding(words, ways):
+    if not ways:
+        return ""
+    return f"; {ways[0]} would feed it" if len(ways) == 1 else f"; each of these would feed it: {words.list(ways)}"
 
 
 def uncounted(answer, words):
@@ -36,19 +56,23 @@ def uncounted(answer, words):
     rows = [e for e, row in enumerate(case.branches) if row[3]]
     idle = [e for e in rows if e not in answer.ends or not answer.is_live(e)]
     if idle:
-        sentence = f"{counted(len(rows), 'branch is', 'branches are')} in service, and {len(rows) - len(idle):,} count. These don't:"
+        sentence = f"{counted(len(rows), 'branch is', 'branches are')} in service, and {counting(len(rows) - len(idle))}. These don't:"
         cause = lambda e: "both ends are at one bus" if e not in answer.ends else "in a part without a source"
         found.append((sentence, [f"{words.branch(e)} ({cause(e)})" for e in idle]))
     rows = [m for m, row in enumerate(case.meters) if row[3]]
     idle = sorted(set(rows) - set(answer.live_meters))
     if idle:
-        sentence = f"{counted(len(rows), 'meter is', 'meters are')} in service, and {len(rows) - len(idle):,} count. These don't:"
+        sentence = f"{counted(len(rows), 'meter is', 'meters are')} in service, and {counting(len(rows) - len(idle))}. These don't:"
         found.append((sentence, [f"{words.meter(m)} ({idle_cause(answer, case.meters[m])})" for m in idle]))
     idle = sorted(set(range(len(case.candidates))) - set(answer.live_candidates))
     if idle:
         causes = [f"{words.candidate(c)} ({idle_cause(answer, case.candidates[c])})" for c in idle]
         found.append((f"{counted(len(idle), 'candidate')} would measure nothing:", causes))
     return found
+
+
+def counting(number):
+    return counted(number, "counts", "count")
 
 
 def idle_cause(answer, row):

@@ -5,10 +5,11 @@ Usage: tools/compare_pictures.py PROGRAM [FIRST [COUNT]]
 
 Each number from FIRST (0) on makes one case, for COUNT (1000) cases, with names that are hard to quote. Of two thirds of them it is seen
 that the drawing has each bus and each live branch once, that its groups are the islands and the dead parts, that each branch between
-two islands is named, and that a flow meter at it, and an injection at a bus that is named as free, raises the rank by one. Of each
-tenth number the picture by Graphviz has each bus with its name and colour, and of each hundredth the page as Chromium has it, where
-these are there. The others are files in the IEEE format and of MATPOWER: the report of the tables that tools/tables writes is to be
-that of the file. It stops at the first case that differs.
+two islands is named, and that a flow meter at it, and an injection at a bus that is named as free, raises the rank by one; and that of a
+part without a source those switches and branches are named that would feed it, and no others. Of each tenth number the picture by
+Graphviz has each bus with its name and colour, and of each hundredth the page as Chromium has it, where these are there. The others are
+files in the IEEE format and of MATPOWER: the report of the tables that tools/tables writes is to be that of the file. It stops at the
+first case that differs.
 """
 import collections
 import html
@@ -22,11 +23,12 @@ import tempfile
 
 import answer
 import model_reads
+from beware import feeds_of
 from compare import FILES, cdf_of, csv_of, items_of, matpower_of, random_case, records_of
 from drawing import UNSOURCED, Drawing, colours_of
 from explaining import sections_of
 from model import Case, Network
-from wording import Words, shown
+from wording import Words, quoted, shown
 
 HARD_NAMES = ["\\", "\\N", "a\\", "&amp;", "&#65;", "<b>", "</script>", "\udcff\udcfe", "\u200b", " x ", "%s", "}", "a -- b", "C:\\new\\g"]
 PROGRAM = os.path.abspath(sys.argv[1]) if len(sys.argv) > 1 else ""
@@ -93,6 +95,22 @@ def see_ties(number, case, network, islands, found):
     return count
 
 
+def see_feeds(number, case, found):
+    """That of each part without a source those rows are named which would feed it."""
+    named = {(part, way) for part, ways in feeds_of(found).items() for way in ways}
+    wanted = set()
+    for word, rows in [("closing", case.switches), ("restoring", case.branches)]:
+        for row in (row for row in rows if not row[3]):
+            row[3] = True
+            network = Network(case)
+            row[3] = False
+            is_fed = lambda u: network.component[network.bus[found.firsts[u]]] in network.energised
+            wanted |= {(part, f"{word} {quoted(row[0])}") for part, buses in found.dead_parts.items() if all(map(is_fed, buses))}
+    if named != wanted:
+        fail(number, "other rows would feed a part", named, wanted)
+    return len(wanted)
+
+
 def see_nodes(number, found, text):
     """That each bus and live branch is in a picture once, each bus with its name and colour."""
     drawn = re.findall(r'id="(bus|branch)_(\d+)" class="(?:node|edge)"', text)
@@ -137,9 +155,10 @@ def see_case(r, number, folder, case):
     drawn, lines = groups_of(Drawing(found, Words(found, 20)).text())
     if drawn != groups or sorted(lines) != sorted((e, *ends) for e, ends in network.ends.items()):
         fail(number, "other groups or branches are drawn", drawn, groups, lines)
+    fed = see_feeds(number, case, found)
     if number % 10 == 0 and shutil.which("dot"):
         see_picture(number, folder, words, found)
-    return see_ties(number, case, network, islands, found)
+    return see_ties(number, case, network, islands, found), fed
 
 
 def records_of_bytes(case):
@@ -184,7 +203,7 @@ def see_tables(r, number, folder, case):
 
 def main():
     first, count = (int(word) for word in (sys.argv[2:] + ["0", "1000"][len(sys.argv) - 2 :]))
-    drawn = helped = tabled = 0
+    drawn = helped = fed = tabled = 0
     with tempfile.TemporaryDirectory() as folder:
         for number in range(first, first + count):
             r = random.Random(number)
@@ -193,9 +212,10 @@ def main():
                 see_tables(r, number, folder, case)
                 tabled += 1
             else:
-                helped += see_case(r, number, folder, case)
-                drawn += 1
-    print(f"{drawn} cases drawn and explained, {helped} meters between islands tried, {tabled} cases written as tables")
+                counts = see_case(r, number, folder, case)
+                helped, fed, drawn = helped + counts[0], fed + counts[1], drawn + 1
+    print(f"{drawn} cases drawn and explained, {helped} meters between islands and {fed} rows that feed a part tried")
+    print(f"{tabled} cases written as tables")
 
 
 if __name__ == "__main__":

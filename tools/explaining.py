@@ -141,9 +141,11 @@ def plan(answer, words):
     if not chosen:
         return ["Nothing: the meters suffice."]
     these = "this one" if len(chosen) == 1 else f"these {len(chosen):,}"
+    less = "With less to spend buy the cheapest of these first: each makes one pair more, and for that money no other candidates make more."
     return [
         (f"The meters suffice with {these}, for {answer.plan.cost:,}. No candidates that suffice cost less.",
          [words.candidate(c) for c in chosen]),
+        *([less] if len(chosen) > 1 else []),
         "No spare is among them. To use one write its row into the table of meters, with inservice 1 in place of the price.",
     ]
 

@@ -140,6 +140,10 @@ def names_of(found, words, drawing):
     for node, row in enumerate(found.case.nodes):
         u = found.bus[node]
         rows.append((shown(row[0]), f"node {quoted(row[0])}, of bus {words.bus(u)}, {island(u)}", bus_target(u)))
+    for name, start, end, is_closed in found.case.switches:
+        u, v = found.bus[start], found.bus[end]
+        at = f"within bus {words.bus(u)}" if u == v else f"between the buses {words.bus(u)} and {words.bus(v)}"
+        rows.append((shown(name), f"switch {quoted(name)}, {'closed' if is_closed else 'open'}, {at}", bus_target(u)))
     for e, row in enumerate(found.case.branches):
         rows.append((shown(row[0]), f"branch {words.branch(e)}" + ("" if row[3] else ", out of service"), branch_target(e)))
     for word, items in [("meter", found.case.meters), ("candidate", found.case.candidates)]:
@@ -180,7 +184,7 @@ def page_of(found, picture, drawing, program):
 <p class="verdict">{html.escape(verdict)}</p>
 <p class="origin">All answers here are those that the program obs ({html.escape(shown(program))}) printed on {now} of the files
 {html.escape(files)}. The tools that read what it printed, of {html.escape(origin())}, add no verdict of their own.</p>
-<p class="screen"><label>Search a bus, node, branch or meter by name: <input id="sought" type="search" autocomplete="off"></label></p>
+<p class="screen"><label>Search a bus, node, switch, branch or meter by name: <input id="sought" type="search" autocomplete="off"></label></p>
 <ul id="found" class="screen"></ul>
 {picture_part(picture, drawing)}
 {sentences(sections_of(found, words))}
