@@ -6,13 +6,14 @@ Usage: tools/compare_pictures.py PROGRAM [FIRST [COUNT]]
 Each number from FIRST (0) on makes one case, for COUNT (1000) cases, with names that are hard to quote. Of two thirds of them it is seen
 that the drawing has each bus and each live branch once, that its groups are the islands and the dead parts, that each branch between
 two islands is named, and that a flow meter at it, and an injection at a bus that is named as free, raises the rank by one; and that of a
-part without a source those switches and branches are named that would feed it, and no others. Of each tenth number the picture by
-Graphviz has each bus with its name and colour, and of each hundredth the page as Chromium has it, where these are there. The others are
-files in the IEEE format and of MATPOWER: the report of the tables that tools/tables writes is to be that of the file. It stops at the
-first case that differs.
+part without a source those switches and branches are named that would feed it, and no others; and that no purchase makes more pairs than
+the cheapest of the chosen candidates do for as much money. Of each tenth number the picture by Graphviz has each bus with its name and
+colour, and of each hundredth the page as Chromium has it, where these are there. The others are files in the IEEE format and of
+MATPOWER: the report of the tables that tools/tables writes is to be that of the file. It stops at the first case that differs.
 """
 import collections
 import html
+import itertools
 import os
 import random
 import re
@@ -111,6 +112,22 @@ def see_feeds(number, case, found):
     return len(wanted)
 
 
+def see_purchases(number, case, network, found):
+    """That the cheapest chosen candidates make a pair each, and as many as any candidates for no more than they cost."""
+    cost = lambda some: sum(case.candidates[c][3] for c in some)
+    rank = lambda some: network.rho(sorted([*network.meters, *(len(case.meters) + c for c in some)]))
+    chosen = sorted((found.candidate_at[name] for name in found.plan.chosen), key=lambda c: case.candidates[c][3])
+    fronts = [chosen[:k] for k in range(len(chosen) + 1)]
+    if [rank(front) - rank([]) for front in fronts] != list(range(len(fronts))):
+        fail(number, "the cheapest of the chosen don't make a pair each", chosen)
+    live = found.live_candidates
+    purchases = [some for count in range(len(live) + 1) for some in itertools.combinations(live, count)]
+    for some in purchases:
+        if rank(some) - rank([]) > max(len(front) for front in fronts if cost(front) <= cost(some)):
+            fail(number, "a purchase makes more pairs", some, chosen)
+    return len(purchases)
+
+
 def see_nodes(number, found, text):
     """That each bus and live branch is in a picture once, each bus with its name and colour."""
     drawn = re.findall(r'id="(bus|branch)_(\d+)" class="(?:node|edge)"', text)
@@ -155,10 +172,11 @@ def see_case(r, number, folder, case):
     drawn, lines = groups_of(Drawing(found, Words(found, 20)).text())
     if drawn != groups or sorted(lines) != sorted((e, *ends) for e, ends in network.ends.items()):
         fail(number, "other groups or branches are drawn", drawn, groups, lines)
-    fed = see_feeds(number, case, found)
+    counts = {"rows that feed a part": see_feeds(number, case, found)}
+    counts["purchases"] = see_purchases(number, case, network, found) if found.plan else 0
     if number % 10 == 0 and shutil.which("dot"):
         see_picture(number, folder, words, found)
-    return see_ties(number, case, network, islands, found), fed
+    return counts | {"meters between islands": see_ties(number, case, network, islands, found)}
 
 
 def records_of_bytes(case):
@@ -203,7 +221,7 @@ def see_tables(r, number, folder, case):
 
 def main():
     first, count = (int(word) for word in (sys.argv[2:] + ["0", "1000"][len(sys.argv) - 2 :]))
-    drawn = helped = fed = tabled = 0
+    tried, drawn, tabled = collections.Counter(), 0, 0
     with tempfile.TemporaryDirectory() as folder:
         for number in range(first, first + count):
             r = random.Random(number)
@@ -212,10 +230,10 @@ def main():
                 see_tables(r, number, folder, case)
                 tabled += 1
             else:
-                counts = see_case(r, number, folder, case)
-                helped, fed, drawn = helped + counts[0], fed + counts[1], drawn + 1
-    print(f"{drawn} cases drawn and explained, {helped} meters between islands and {fed} rows that feed a part tried")
-    print(f"{tabled} cases written as tables")
+                tried.update(see_case(r, number, folder, case))
+                drawn += 1
+    print(f"{drawn} cases drawn and explained, {tabled} written as tables")
+    print("tried: " + ", ".join(f"{count} {what}" for what, count in tried.items()))
 
 
 if __name__ == "__main__":
