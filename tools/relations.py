@@ -6,8 +6,8 @@ Usage: tools/relations.py PROGRAM FOLDER [SEED [EDITS]]
 FOLDER has nodes.csv, switches.csv, branches.csv, meters.csv and candidates.csv, as tools/shapes.py or tools/edits.py make them. Rows in
 another order change no count, verdict, critical meter or island. Edits and their undoing give the report of before. A session after EDITS
 (1000) edits prints what a fresh run over the edited tables prints. The chosen candidates of a plan, added as meters, make the case
-observable, and any of them left out doesn't. The answers to `tree`, `bound`, `cert` and `place` pass `verify`. It stops at the first
-that doesn't hold.
+observable, and any of them left out doesn't; where the table of meters has no room for them, meters without a pair are left out. The
+answers to `tree`, `bound`, `cert` and `place` pass `verify`. It stops at the first that doesn't hold.
 """
 import csv
 import io
@@ -16,7 +16,7 @@ import random
 import sys
 import tempfile
 
-from model_reads import COLUMNS
+from model_reads import COLUMNS, MOST_ROWS
 from runs import KEPT, Runs
 
 FIVE = list(COLUMNS)
@@ -131,6 +131,14 @@ def hold_session(number, runs, tables, r, count, asks=ASKS):
     runs.alike(number, "a session's report and a report", fresh_words, b"report\n", report, answered(runs, number, ["report", *fresh]))
 
 
+def with_room(meters, plan, count):
+    """The meters, without the last ones that have no pair in the plan where a table has no room for so many more."""
+    paired = {words[2] for words in words_of(plan) if words[:2] == ["pair", "meter"]}
+    free = [k for k, row in enumerate(meters) if row[0] not in paired]
+    left_out = set(free[len(free) - max(0, len(meters) + count - MOST_ROWS) :])
+    return [row for k, row in enumerate(meters) if k not in left_out]
+
+
 def hold_plan(number, runs, tables, r, most):
     """The chosen ones as meters are enough, all are critical, and each of `most` that are lost in a session lowers the rank by one."""
     form, offered = tables.write(runs)
@@ -141,7 +149,7 @@ def hold_plan(number, runs, tables, r, most):
         return
     bought = tables.copy()
     rows = [["+" + row[0], *row[1:3], "1"] for row in tables.rows["candidates"] if row[0] in chosen]
-    bought.rows["meters"] += rows
+    bought.rows["meters"] = with_room(bought.rows["meters"], plan, len(rows)) + rows
     form, _ = bought.write(runs, "bought-")
     report, status = answered(runs, number, ["report", *form])
     lines = words_of(report)
