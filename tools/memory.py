@@ -47,6 +47,7 @@ COMMANDS = [
 ]
 BETWEEN = r"""
 #define _GNU_SOURCE
+#include <dlfcn.h>
 #include <errno.h>
 #include <stdarg.h>
 #include <stddef.h>
@@ -59,7 +60,6 @@ BETWEEN = r"""
 #include <unistd.h>
 extern void *__libc_malloc(size_t), *__libc_calloc(size_t, size_t), *__libc_realloc(void *, size_t), *__libc_memalign(size_t, size_t);
 extern void *__sbrk(intptr_t);
-extern int __brk(void *);
 static long asked = 0, before = -1, refused = -2;
 static int is_refused(void) {
   if (refused == -2) { const char *s = getenv("REFUSED"); refused = s ? atol(s) : -1; }
@@ -82,7 +82,10 @@ void *mremap(void *old, size_t size, size_t now, int how, ...) {
   va_end(rest);
   return is_refused() ? MAP_FAILED : (void *)syscall(SYS_mremap, old, size, now, how, at);
 }
-int brk(void *end) { return is_refused() ? -1 : __brk(end); }
+int brk(void *end) {
+  int (*next)(void *) = (int (*)(void *))dlsym(RTLD_NEXT, "brk");
+  return is_refused() ? -1 : next(end);
+}
 void *sbrk(intptr_t more) { return is_refused() ? (void *)-1 : __sbrk(more); }
 ssize_t read(int file, void *into, size_t size) { if (file == 0) begin(); return syscall(SYS_read, file, into, size); }
 ssize_t readv(int file, const struct iovec *into, int count) { if (file == 0) begin(); return syscall(SYS_readv, file, into, count); }
@@ -105,7 +108,7 @@ class Watched:
         source = os.path.join(scratch, "between.c")
         with open(source, "w") as file:
             file.write(BETWEEN)
-        subprocess.run(["cc", "-shared", "-fPIC", "-O1", "-w", "-o", self.library, source], check=True)
+        subprocess.run(["cc", "-shared", "-fPIC", "-O1", "-w", "-o", self.library, source, "-ldl"], check=True)
         seven, eight = (self.run(scratch, ["word"] * count)[2] for count in (7, 8))
         self.word = eight - seven
 
