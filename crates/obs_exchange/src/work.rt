@@ -72,10 +72,9 @@ impl Model for Work {
 
     ghost invariant = { λ w.
         (w.meters ≤ length w.trail.marks) × (w.count ≤ length w.trail.marks)
-        × (length w.noted.flags ≡ length w.trail.marks) × (w.copy.most ≡ length w.trail.marks)
-        × (length w.path.items ≡ length w.trail.marks)
+        × (length w.noted.flags ≡ length w.trail.marks) × (length w.path.items ≡ length w.trail.marks)
         × (length w.tops.items ≡ length w.stars) × (length w.numbers.items ≡ length w.stars)
-        × AreNumbers w.numbers.items };
+        × AreNumbers w.numbers.items × (w.copy.most ≡ length w.trail.marks) };
 }
 
 // Written out: so a caller's proof sees one call, and not the drop of each field.

@@ -20,9 +20,9 @@ invariant_of-result c =
       omega arith,
       omega arith,
       omega (arith, noted, marks),
-      omega (arith, copied, marks),
       omega (arith, path, marks),
       omega (arith, tops, stars),
       rw back (omega (arith, same, c.in_ok-numbers.ensures.len, stars)),
       rw back c.number.ensures.own,
+      omega (arith, copied, marks),
     )
