@@ -1,8 +1,8 @@
 -- Which touches straddle, and what remains of them.
-use Rattle.std.proofs.Common.{◌≡◌, ℕ, zero, suc, ◌<◌, ◌≤◌, List, [], ◌∷◌, length, get_or, refl, ◌∙◌, inl, inr, ◌⊎◌, Bool, true, false, ◌&&◌, Option, Some, None, arith}
+use Rattle.std.proofs.Common.{◌≡◌, ℕ, zero, suc, ◌+◌, ◌<◌, ◌≤◌, List, [], ◌∷◌, length, get_or, set, take, refl, sym, ap, ◌∙◌, inl, inr, ◌⊎◌, Bool, true, false, ◌&&◌, ◌||◌, Option, Some, None, arith}
 use Rattle.std.specs.List.{list_any}
-use Rattle.std.proofs.lemmas.Bool.{and_from, and_parts, cases_Bool, or_left, or_right}
-use Rattle.std.proofs.lemmas.List.{get_or_default}
+use Rattle.std.proofs.lemmas.Bool.{and_from, and_parts, cases_Bool, cases_eq, or_left, or_right}
+use Rattle.std.proofs.lemmas.List.{ext_get_or, get_or-set_other, get_or-set_same, get_or_default, length-map, length-set, take_all}
 use Rattle.std.proofs.lemmas.List.Folds.{Any-from_list_any, list_any_at}
 use Rattle.obs_graph.specs.declared.Ends.{Ends}
 use Rattle.obs_graph.specs.Positions.{has_end}
@@ -95,3 +95,66 @@ pub remaining_in_range : (g : Graph) (crossed : ℕ → Bool) (touches : List To
 remaining_in_range g crossed touches h =
     All-from_In (IsInRange g) (remaining crossed touches) (λ t i. let p = In-map_from (kept crossed) t touches i in
     rw p.2 (kept_in_range g crossed p.0 (In-from_All (IsInRange g) touches h p.0 p.1)))
+
+any_suc : (p : Touch → Bool) (xs : List Touch) (i : ℕ) → i < length xs → list_any p (take (suc i) xs) ≡ (list_any p (take i xs) || p (get_or xs i Nothing))
+any_suc p [] i l = absurd (omega arith)
+any_suc p (x ∷ xs) zero l = or_none (p x)
+  where
+    or_none : (b : Bool) → (b || false) ≡ b
+    or_none true = refl
+    or_none false = refl
+any_suc p (x ∷ xs) (suc i) l = ap (λ b. p x || b) (any_suc p xs i (omega arith)) ∙ or_apart (p x) (list_any p (take i xs)) (p (get_or xs i Nothing))
+  where
+    or_apart : (a b c : Bool) → (a || (b || c)) ≡ ((a || b) || c)
+    or_apart true b c = refl
+    or_apart false b c = refl
+
+any_more : (p : Touch → Bool) (xs : List Touch) (i : ℕ) → i < length xs → list_any p (take (i + 1) xs) ≡ (list_any p (take i xs) || p (get_or xs i Nothing))
+any_more p xs i l = let e : i + 1 ≡ suc i = omega arith in rw e (any_suc p xs i l)
+
+-- the first i items are as they remain, and the others as they were; `some` says whether one of the first straddles
+pub record IsKeeping (crossed : ℕ → Bool) (before now : List Touch) (i : ℕ) (some : Bool) : Type 0 where
+  pub any : some ≡ list_any (straddles crossed) (take i before)
+  pub one_each : length now ≡ length before
+  pub done : (k : ℕ) → k < i → get_or now k Nothing ≡ kept crossed (get_or before k Nothing)
+  pub left : (k : ℕ) → i ≤ k → get_or now k Nothing ≡ get_or before k Nothing
+
+or_false : (a b : Bool) → b ≡ false → (a || b) ≡ a
+or_false true b f = refl
+or_false false b f = f
+
+module _ (crossed : ℕ → Bool) (before now : List Touch) (i : ℕ) (some : Bool) (h : IsKeeping crossed before now i some) where
+  -- what straddles is discarded
+  pub Keeping-less : i < length before → straddles crossed (get_or now i Nothing) ≡ true → IsKeeping crossed before (set now i Nothing) (i + 1) true
+  Keeping-less low t = record {
+    any = sym (any_more (straddles crossed) before i low ∙ or_right (list_any (straddles crossed) (take i before)) (straddles crossed (get_or before i Nothing)) (ap (straddles crossed) (sym (h.left i (omega arith))) ∙ t));
+    one_each = length-set now i Nothing ∙ h.one_each;
+    done = λ k l. elim (cases_eq k i) [
+      | inl y ↦
+          let was : straddles crossed (get_or before k Nothing) ≡ true = ap (λ j. straddles crossed (get_or before j Nothing)) y ∙ (ap (straddles crossed) (sym (h.left i (omega arith))) ∙ t) in
+          ap (λ j. get_or (set now i Nothing) j Nothing) y ∙ (get_or-set_same now i Nothing Nothing (let e = h.one_each in omega (arith, e, low)) ∙ sym (rw was refl))
+      | inr n ↦ get_or-set_other now i k Nothing Nothing n ∙ h.done k (omega (arith, l, n))
+    ];
+    left = λ k l. get_or-set_other now i k Nothing Nothing (λ y. omega (arith, l, y)) ∙ h.left k (omega (arith, l));
+  }
+
+  -- the others stay
+  pub Keeping-same : i < length before → straddles crossed (get_or now i Nothing) ≡ false → IsKeeping crossed before now (i + 1) some
+  Keeping-same low f = record {
+    any = h.any ∙ sym (any_more (straddles crossed) before i low ∙ or_false (list_any (straddles crossed) (take i before)) (straddles crossed (get_or before i Nothing)) (ap (straddles crossed) (sym (h.left i (omega arith))) ∙ f));
+    one_each = h.one_each;
+    done = λ k l. elim (cases_eq k i) [
+      | inl y ↦
+          let at = h.left i (omega arith) in
+          ap (λ j. get_or now j Nothing) y ∙ (at ∙ (sym (kept-other crossed (get_or before i Nothing) (ap (straddles crossed) (sym at) ∙ f)) ∙ ap (λ j. kept crossed (get_or before j Nothing)) (sym y)))
+      | inr n ↦ h.done k (omega (arith, l, n))
+    ];
+    left = λ k l. h.left k (omega (arith, l));
+  }
+
+  pub any_ended : length before ≤ i → some ≡ list_any (straddles crossed) before
+  any_ended l = h.any ∙ ap (list_any (straddles crossed)) (take_all i before l)
+
+  pub Keeping-ended : length before ≤ i → now ≡ remaining crossed before
+  Keeping-ended l = ext_get_or Nothing now (remaining crossed before) (h.one_each ∙ sym (length-map before (kept crossed)))
+      (λ k low. let e = h.one_each in h.done k (omega (arith, low, e, l)) ∙ sym (remaining_at crossed before k))

@@ -9,20 +9,19 @@ ghost use Rattle.obs_islands.specs.Firsts.{islands_of};
 ghost use Rattle.obs_islands.specs.GivenUp.{GivesUp};
 ghost use Rattle.obs_islands.specs.Rounds.{AreFirsts, is_crossed, remaining, straddles};
 
-use crate::discard::{copy_touches, discard};
+use crate::discard::discard;
 use crate::pieces::name_pieces;
 use obs_assign::{Assignment, Steps};
 use obs_exchange::{Work, lengthen};
 use obs_graph::Graph;
-use obs_meter::{Meters, Touch};
+use obs_meter::Meters;
 use std::sync::ledger::Ledger;
 
-/// Makes the assignment of the used items a longest one, names the pieces of its forest, and writes the items that stay
-/// used. Says whether one was discarded.
+/// Makes the assignment of the used items a longest one, names the pieces of its forest, and discards items. Says whether
+/// one was discarded.
 fn round<L: Ledger>(
     g: &Graph,
-    used: &Meters,
-    touches: &mut [Touch],
+    used: &mut Meters,
     pairs: &mut Assignment,
     search: &mut Work,
     firsts: &mut [u32],
@@ -30,28 +29,29 @@ fn round<L: Ledger>(
     queue: &mut [u32],
     steps: &mut Steps<L>,
 ) -> bool
-    requires stands { StandsOver pairs.old g.now used.now.touches }
-    requires in_range { AreInRange g.now used.now.touches }
-    requires room { HasRoomFor search.old.sizes g.now used.now.touches }
+    requires stands { StandsOver pairs.old g.now used.old.touches }
+    requires in_range { AreInRange g.now used.old.touches }
+    requires room { HasRoomFor search.old.sizes g.now used.old.touches }
     requires thawed { IsThawed pairs.old }
     requires firsts { length firsts.old ≡ g.now.vertices }
     requires crossed { length crossed.old ≡ g.now.vertices }
     requires queue { length queue.old ≡ g.now.vertices }
-    requires one_each { length touches.old ≡ length used.now.touches }
-    ensures closed { HasClosedSet pairs.new g.now used.now.touches (has_flag search.new.reached) }
+    ensures closed { HasClosedSet pairs.new g.now used.old.touches (has_flag search.new.reached) }
     ensures thawed { IsThawed pairs.new }
     ensures firsts { AreFirsts g.now.vertices pairs.new.forest.held firsts.new }
-    ensures gives_up { GivesUp g.now.ends used.now.touches pairs.new
+    ensures gives_up { GivesUp g.now.ends used.old.touches pairs.new
         (is_crossed g.now.ends firsts.new) (has_flag crossed.new) }
-    ensures remaining { touches.new ≡ remaining (has_flag crossed.new) used.now.touches }
-    ensures some { result ≡ list_any (straddles (has_flag crossed.new)) used.now.touches }
+    ensures remaining { used.new ≡ record used.old {
+      touches = remaining (has_flag crossed.new) used.old.touches;
+    } }
+    ensures some { result ≡ list_any (straddles (has_flag crossed.new)) used.old.touches }
     ensures same_room { HasRoomOf pairs.old pairs.new }
     ensures same_sizes { search.new.sizes ≡ search.old.sizes }
 {
     let _ = g.vertices();
     let _ = lengthen(g, used, pairs, u32::MAX, search, steps);
     name_pieces(pairs.forest(), firsts);
-    discard(g, used, pairs, firsts, crossed, queue, touches)
+    discard(g, used, pairs, firsts, crossed, queue)
 }
 
 /// Discards items, round by round, until none of those that are used touches a branch between two pieces. The pieces
@@ -59,7 +59,6 @@ fn round<L: Ledger>(
 fn settle<L: Ledger>(
     g: &Graph,
     used: &mut Meters,
-    touches: &mut [Touch],
     pairs: &mut Assignment,
     search: &mut Work,
     firsts: &mut [u32],
@@ -71,12 +70,10 @@ fn settle<L: Ledger>(
     requires in_range { AreInRange g.now used.old.touches }
     requires room { HasRoomFor search.old.sizes g.now used.old.touches }
     requires fits { g.now.vertices ≤ pairs.old.forest.most_vertices }
-    requires most { length used.old.touches ≤ used.old.most }
     requires thawed { IsThawed pairs.old }
     requires firsts { length firsts.old ≡ g.now.vertices }
     requires crossed { length crossed.old ≡ g.now.vertices }
     requires queue { length queue.old ≡ g.now.vertices }
-    requires one_each { length touches.old ≡ length used.old.touches }
     ensures firsts { firsts.new ≡ islands_of g.now.vertices g.now.ends used.old.touches }
     ensures meters { length pairs.new.slots ≡ length used.old.touches }
     ensures positions { length pairs.new.forest.held ≡ length g.now.ends }
@@ -84,17 +81,20 @@ fn settle<L: Ledger>(
     ensures same_room { HasRoomOf pairs.old pairs.new }
     ensures same_sizes { search.new.sizes ≡ search.old.sizes }
 {
-    while round(
-        g, used, touches, pairs, search, firsts, crossed, queue, steps,
-    ) {
-        used.refill(touches);
+    while round(g, used, pairs, search, firsts, crossed, queue, steps) {
         pairs.retain_touching(g, used);
     }
 }
 
 /// Carries the pairs over where there are as many meters and positions as before,
 /// and leaves no pair where there are not.
-fn carry_over(g: &Graph, ms: &Meters, pairs: &mut Assignment, meters: u32, positions: u32)
+pub(crate) fn carry_over(
+    g: &Graph,
+    ms: &Meters,
+    pairs: &mut Assignment,
+    meters: u32,
+    positions: u32,
+)
     requires meters { meters ≡ length pairs.old.slots }
     requires positions { positions ≡ length pairs.old.forest.held }
     requires fits { Fits pairs.old g.now ms.now.touches }
@@ -109,48 +109,36 @@ fn carry_over(g: &Graph, ms: &Meters, pairs: &mut Assignment, meters: u32, posit
     }
 }
 
-/// Writes for each vertex the first vertex of its island. The pairs that were kept before, over so many meters and
-/// positions, only save searches.
+/// Writes for each vertex the first vertex of its island. The pairs only save searches.
 pub(crate) fn find_firsts<L: Ledger>(
     g: &Graph,
-    ms: &Meters,
     used: &mut Meters,
-    touches: &mut [Touch],
     pairs: &mut Assignment,
-    meters: u32,
-    positions: u32,
     search: &mut Work,
     firsts: &mut [u32],
     crossed: &mut [bool],
     queue: &mut [u32],
     steps: &mut Steps<L>,
 )
-    requires in_range { AreInRange g.now ms.now.touches }
-    requires meters { meters ≡ length pairs.old.slots }
-    requires positions { positions ≡ length pairs.old.forest.held }
-    requires fits { Fits pairs.old g.now ms.now.touches }
-    requires room { HasRoomFor search.old.sizes g.now ms.now.touches }
-    requires most { length ms.now.touches ≤ used.old.most }
-    requires touches { length ms.now.touches ≤ length touches.old }
+    requires stands { StandsOver pairs.old g.now used.old.touches }
+    requires in_range { AreInRange g.now used.old.touches }
+    requires room { HasRoomFor search.old.sizes g.now used.old.touches }
+    requires fits { g.now.vertices ≤ pairs.old.forest.most_vertices }
+    requires thawed { IsThawed pairs.old }
     requires firsts { g.now.vertices ≤ length firsts.old }
     requires crossed { g.now.vertices ≤ length crossed.old }
     requires queue { g.now.vertices ≤ length queue.old }
-    ensures firsts { take g.now.vertices firsts.new ≡ islands_of g.now.vertices g.now.ends ms.now.touches }
-    ensures meters { length pairs.new.slots ≡ length ms.now.touches }
+    ensures firsts { take g.now.vertices firsts.new ≡ islands_of g.now.vertices g.now.ends used.old.touches }
+    ensures meters { length pairs.new.slots ≡ length used.old.touches }
     ensures positions { length pairs.new.forest.held ≡ length g.now.ends }
     ensures same_most { used.new.most ≡ used.old.most }
     ensures same_room { HasRoomOf pairs.old pairs.new }
     ensures same_sizes { search.new.sizes ≡ search.old.sizes }
 {
     let n = g.vertices() as usize;
-    let touches = &mut touches[..ms.count() as usize];
-    copy_touches(ms, touches);
-    used.refill(touches);
-    carry_over(g, used, pairs, meters, positions);
     settle(
         g,
         used,
-        touches,
         pairs,
         search,
         &mut firsts[..n],

@@ -5,11 +5,11 @@ ghost use Rattle.obs_meter.specs.Touches.{AreInRange};
 ghost use Rattle.obs_islands.specs.Firsts.{islands_of};
 
 use crate::memory::NoMemory;
-use crate::settle::find_firsts;
+use crate::settle::{carry_over, find_firsts};
 use obs_assign::{Assignment, Steps};
 use obs_exchange::Work;
 use obs_graph::Graph;
-use obs_meter::{Meters, Touch};
+use obs_meter::Meters;
 use std::alloc::Global;
 use std::marker::Model;
 use std::sync::ledger::Ledger;
@@ -25,8 +25,7 @@ pub struct IslandWork {
     // whether what touches all branches at the vertex is given up, and the vertices at which it is
     crossed: Vec<bool>,
     queue: Vec<u32>,
-    // what each meter touches, as long as it is used, and the same as items
-    touches: Vec<Touch>,
+    // the meters, as long as they are used: those that are discarded touch nothing
     used: Meters,
     // the pairs of these meters, and what finds them
     pairs: Assignment,
@@ -47,9 +46,8 @@ impl Model for IslandWork {
       positions : w.positions ≡ length w.pairs.forest.held;
       crossed : length w.crossed.items ≡ length w.firsts.items;
       queue : length w.queue.items ≡ length w.firsts.items;
-      touches : w.search.sizes.meters ≡ length w.touches.items;
-      used : w.used.most ≡ length w.touches.items;
-      pair_meters : w.pairs.most_meters ≡ length w.touches.items;
+      used : w.used.most ≡ w.search.sizes.meters;
+      pair_meters : w.pairs.most_meters ≡ w.search.sizes.meters;
       pair_branches : w.pairs.forest.most_branches ≡ w.search.sizes.branches;
       pair_vertices : w.pairs.forest.most_vertices ≡ length w.firsts.items;
       all_vertices : w.search.sizes.vertices ≡ length w.firsts.items;
@@ -66,7 +64,6 @@ impl Drop for IslandWork {
             firsts: _,
             crossed: _,
             queue: _,
-            touches: _,
             used: _,
             pairs: _,
             search: _,
@@ -94,7 +91,6 @@ impl IslandWork {
             firsts: vec![in alloc; 0; most_vertices as usize]?,
             crossed: vec![in alloc; false; most_vertices as usize]?,
             queue: vec![in alloc; 0; most_vertices as usize]?,
-            touches: vec![in alloc; Touch::Nothing; most_meters as usize]?,
             used: Meters::make(alloc, most_meters)?,
             pairs: Assignment::make(alloc, most_meters, most_branches, most_vertices)?,
             search: Work::make(alloc, most_meters, most_branches, most_vertices)?,
@@ -116,14 +112,12 @@ pub fn find_islands<L: Ledger>(g: &Graph, ms: &Meters, work: &mut IslandWork, st
     ensures islands { work.new.firsts ≡ islands_of g.now.vertices g.now.ends ms.now.touches }
     ensures same_sizes { work.new.sizes ≡ work.old.sizes }
 {
+    work.used.refill(ms.touches());
+    carry_over(g, ms, &mut work.pairs, work.meters, work.positions);
     find_firsts(
         g,
-        ms,
         &mut work.used,
-        &mut work.touches,
         &mut work.pairs,
-        work.meters,
-        work.positions,
         &mut work.search,
         &mut work.firsts,
         &mut work.crossed,
