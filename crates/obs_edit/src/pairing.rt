@@ -19,8 +19,7 @@ use std::sync::ledger::Ledger;
 
 /// Room for the pairs of a placement, and those that were found last.
 pub(crate) struct Pairing {
-    // what each item of the plan touches, and nothing for the others; the same as items
-    touches: Vec<Touch>,
+    // the items, where those that aren't in the plan touch nothing
     items: Meters,
     // the pairs of the items of the plan, and what finds them
     pairs: Assignment,
@@ -36,7 +35,6 @@ impl Model for Pairing {
     ghost view = { λ p. record { pairs = p.pairs; sizes = p.search.sizes } };
 
     ghost invariant = { λ p. record {
-      touches : length p.touches.items ≡ p.search.sizes.meters;
       items : p.items.most ≡ p.search.sizes.meters;
       pair_meters : p.pairs.most_meters ≡ p.search.sizes.meters;
       pair_branches : p.pairs.forest.most_branches ≡ p.search.sizes.branches;
@@ -48,7 +46,6 @@ impl Model for Pairing {
 impl Drop for Pairing {
     fn drop(self) {
         let Pairing {
-            touches: _,
             items: _,
             pairs: _,
             search: _,
@@ -56,42 +53,21 @@ impl Drop for Pairing {
     }
 }
 
-/// Writes what the items of a plan touch, and nothing for the others.
-fn write_plan(offered: &Meters, meters: u32, chosen: &[u32], touches: &mut [Touch])
-    requires one_each { length touches.old ≡ length offered.now.touches }
-    requires chosen { All (λ k. meters + k < length offered.now.touches) chosen.now }
-    ensures planned { touches.new ≡ touches_of offered.now.touches (planned_items meters chosen.now) }
-{
-    for m in 0..offered.count() {
-        touches[m as usize] = if m < meters {
-            offered.kind(m)
-        } else {
-            Touch::Nothing
-        };
-    }
-    for k in chosen {
-        let m = meters + *k;
-        touches[m as usize] = offered.kind(m);
-    }
-}
-
-/// Makes the items those of a plan, each with its number among all that is offered.
-fn list_plan(
-    offered: &Meters,
-    meters: u32,
-    chosen: &[u32],
-    touches: &mut [Touch],
-    items: &mut Meters,
-)
-    requires room { length offered.now.touches ≤ length touches.old }
+/// Makes the items those of a plan, each with its number among all that is offered. The others touch nothing.
+fn list_plan(offered: &Meters, meters: u32, chosen: &[u32], items: &mut Meters)
     requires most { length offered.now.touches ≤ items.old.most }
     requires chosen { All (λ k. meters + k < length offered.now.touches) chosen.now }
     ensures planned { items.new.touches ≡ touches_of offered.now.touches (planned_items meters chosen.now) }
     ensures same_most { items.new.most ≡ items.old.most }
 {
-    let touches = &mut touches[..offered.count() as usize];
-    write_plan(offered, meters, chosen, touches);
-    items.refill(touches);
+    items.refill(offered.touches());
+    for m in meters..offered.count() {
+        items.set(m, Touch::Nothing);
+    }
+    for k in chosen {
+        let m = meters + *k;
+        items.set(m, offered.kind(m));
+    }
 }
 
 /// Makes the pairs the first assignment of the items.
@@ -145,7 +121,6 @@ fn pair_plan<L: Ledger>(
     offered: &Meters,
     meters: u32,
     work: &PlaceWork,
-    touches: &mut [Touch],
     items: &mut Meters,
     pairs: &mut Assignment,
     search: &mut Work,
@@ -153,7 +128,6 @@ fn pair_plan<L: Ledger>(
 )
     requires in_range { AreInRange g.now offered.now.touches }
     requires chosen { All (λ k. meters + k < length offered.now.touches) work.now.chosen }
-    requires touches { length touches.old ≡ search.old.sizes.meters }
     requires items { items.old.most ≡ search.old.sizes.meters }
     requires room { HasRoomFor search.old.sizes g.now offered.now.touches }
     requires fits { Fits pairs.old g.now offered.now.touches }
@@ -164,7 +138,7 @@ fn pair_plan<L: Ledger>(
     ensures same_room { HasRoomOf pairs.old pairs.new }
     ensures same_sizes { search.new.sizes ≡ search.old.sizes }
 {
-    list_plan(offered, meters, work.chosen(), touches, items);
+    list_plan(offered, meters, work.chosen(), items);
     pair_placed(g, items, work, pairs, search, steps);
 }
 
@@ -180,7 +154,6 @@ impl Pairing {
             new_paired (record { meters = most_offered; branches = most_branches; vertices = most_vertices })) }
     {
         Ok(Pairing {
-            touches: vec![in alloc; Touch::Nothing; most_offered as usize]?,
             items: Meters::make(alloc, most_offered)?,
             pairs: Assignment::make(alloc, most_offered, most_branches, most_vertices)?,
             search: Work::make(alloc, most_offered, most_branches, most_vertices)?,
@@ -209,7 +182,6 @@ impl Pairing {
             offered,
             meters,
             work,
-            &mut self.touches,
             &mut self.items,
             &mut self.pairs,
             &mut self.search,

@@ -1,0 +1,19 @@
+use Rattle.std.proofs.Common.{◌≡◌, ◌<◌, ℕ, cond, get_or, length, take}
+use Rattle.std.specs.Prelude.{nat_lt}
+use Rattle.obs_meter.specs.declared.Touch.TheVariants.{Nothing}
+use Rattle.obs_edit.specs.Planned.{planned_items, touches_of}
+use Rattle.obs_edit.proofs.pairing.list_plan.Given as goal
+
+abbrev pub invariant-loop-m : goal.invariant-loop-m
+invariant-loop-m l = record {
+  listed : (k : ℕ) → k < l.m → get_or l.items.touches k Nothing ≡ cond (nat_lt k l.meters) (get_or l.offered.touches k Nothing) Nothing;
+  one_each : length l.items.touches ≡ length l.offered.touches;
+  most : l.items.most ≡ l.fn.items.most;
+}
+
+abbrev pub invariant-loop-k : goal.invariant-loop-k
+invariant-loop-k l = record {
+  planned : l.items.touches ≡ touches_of l.offered.touches (planned_items l.meters (take l.k-index l.chosen));
+  one_each : length l.items.touches ≡ length l.offered.touches;
+  most : l.items.most ≡ l.fn.items.most;
+}
