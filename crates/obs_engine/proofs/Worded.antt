@@ -16,7 +16,7 @@ use Rattle.obs_engine.specs.declared.words.Form.TheVariants.{Topology, Case, Tri
 use Rattle.obs_engine.specs.Forms.{HasRows}
 use Rattle.obs_engine.specs.Laws.{IsFormOf, IsInUsage}
 use Rattle.obs_engine.proofs.Filed.{parts_length}
-use Rattle.obs_engine.specs.Words.{behind_case, case_commands, case_form_of, case_parts, case_word, command_word, fits, form_of, form_with, has_with, is_offered, is_word, item_if, one_if, parts_behind, takes_certificate, trial_form, word_count}
+use Rattle.obs_engine.specs.Words.{behind_case, case_commands, case_form_of, case_parts, case_word, command_word, fits, form_of, form_with, has_with, is_word, item_if, one_if, parts_behind, trial_form, word_count}
 
 -- the first test that is met
 picked : (a : Bool) (x : Form) (o : Option Form) (form : Form) → (if a then Some x else o) ≡ Some form → ((a ≡ true) × (x ≡ form)) ⊎ (o ≡ Some form)
@@ -68,14 +68,13 @@ with_at true words at x t e y = word_at words at (codes "with") x t e
 with_at false words at x t e y = absurd cc
 
 -- words that name a case: the command, the word for its form, and the others
-module _ (words : List (List ℕ)) (from : CaseForm) (command : List ℕ) (n : ℕ) (many : length words ≡ 2 + n) (first : is_word words 0 command ≡ true)
-    (second : is_word words 1 (case_word from) ≡ true) where
-  words_of : (rest : List (List ℕ)) × (length rest ≡ n) × (words ≡ command ∷ case_word from ∷ rest)
-  words_of =
-      let t = two_before words n many in
-      let a : t.0 ≡ command = word_at words 0 command t.0 first (ap (λ (ws : List (List ℕ)). slice_index_or ws 0 []) t.4) in
-      let b : t.1 ≡ case_word from = word_at words 1 (case_word from) t.1 second (ap (λ (ws : List (List ℕ)). slice_index_or ws 1 []) t.4) in
-      (t.2, t.3, t.4 ∙ (ap (λ (x : List ℕ). x ∷ t.1 ∷ t.2) a ∙ ap (λ (x : List ℕ). command ∷ x ∷ t.2) b))
+words_of : (words : List (List ℕ)) (command name : List ℕ) (n : ℕ) → length words ≡ 2 + n → is_word words 0 command ≡ true → is_word words 1 name ≡ true
+    → (rest : List (List ℕ)) × (length rest ≡ n) × (words ≡ command ∷ name ∷ rest)
+words_of words command name n many first second =
+    let t = two_before words n many in
+    let a : t.0 ≡ command = word_at words 0 command t.0 first (ap (λ (ws : List (List ℕ)). slice_index_or ws 0 []) t.4) in
+    let b : t.1 ≡ name = word_at words 1 name t.1 second (ap (λ (ws : List (List ℕ)). slice_index_or ws 1 []) t.4) in
+    (t.2, t.3, t.4 ∙ (ap (λ (x : List ℕ). x ∷ t.1 ∷ t.2) a ∙ ap (λ (x : List ℕ). command ∷ x ∷ t.2) b))
 
 none : (words : List (List ℕ)) → length words ≡ 0 → words ≡ []
 none [] l = refl
@@ -122,22 +121,32 @@ rest_parted false rest n more l is =
     let sum = length-append (take n rest) (drop n rest) in
     (take n rest, drop n rest, front, omega (arith, l, front, total, sum), sym (take-append-drop n rest))
 
+-- words of which the first two are these, so many name files and so many stand behind, with the word `with` between where it is tested
+words_parted : (words : List (List ℕ)) (command name : List ℕ) (b : Bool) (n more : ℕ) → length words ≡ 2 + (n + (one_if b + more)) → is_word words 0 command ≡ true → is_word words 1 name ≡ true
+    → (if b then is_word words (2 + n) (codes "with") else true) ≡ true
+    → (files behind : List (List ℕ)) × (length files ≡ n) × (length behind ≡ more) × (words ≡ command ∷ name ∷ (files ++ (item_if b (codes "with") ++ behind)))
+words_parted words command name b n more many first second third =
+    let t = words_of words command name (n + (one_if b + more)) many first second in
+    let at : slice_index_or words (2 + n) [] ≡ slice_index_or t.0 n [] = ap (λ (ws : List (List ℕ)). slice_index_or ws (2 + n) []) t.2 ∙ behind_two command name t.0 n in
+    let s = rest_parted b t.0 n more t.1 (with_at b words (2 + n) (slice_index_or t.0 n []) third at) in
+    (s.0, s.1, s.2, s.3, t.2 ∙ ap (λ (ws : List (List ℕ)). command ∷ name ∷ ws) s.4)
+
+-- how many words a command over a case has
+case_count : (command : CaseCommand) (from : CaseForm) → word_count (Case command from)
+    ≡ 2 + (length (case_parts from) + (one_if (has_with (Case command from)) + length (parts_behind (Case command from))))
+case_count command from = let k = parts_length (Case command from) in omega (arith, k)
+
+-- three tests that are met
+fitted : {P : Type 0} (a b c : Bool) → ((a && b) && c) ≡ true → (a ≡ true → b ≡ true → c ≡ true → P) → P
+fitted a b c h p = let q = and_parts (a && b) c h in let r = and_parts a b q.0 in p r.0 r.1 q.1
+
 -- the words of a command over a case that they fit
 case_words : (words : List (List ℕ)) (from : CaseForm) (command : CaseCommand) → is_word words 1 (case_word from) ≡ true → fits words (Case command from) ≡ true
     → IsFormOf (Case command from) words
 case_words words from command second h =
-    let form = Case command from in
-    let n = length (case_parts from) in
-    let q = and_parts ((length words == word_count form) && is_word words 0 (command_word form)) (if has_with form then is_word words (behind_case form) (codes "with") else true) h in
-    let p = and_parts (length words == word_count form) (is_word words 0 (command_word form)) q.0 in
-    let l = eqb-true (length words) (word_count form) p.0 in
-    let o = one_if (is_offered form) in
-    let c = one_if (takes_certificate form) in
-    let t = words_of words from (command_word form) (n + (one_if (has_with form) + (o + c))) (omega (arith, l)) p.1 second in
-    let at : slice_index_or words (behind_case form) [] ≡ slice_index_or t.0 n [] =
-    ap (λ (ws : List (List ℕ)). slice_index_or ws (behind_case form) []) t.2 ∙ behind_two (command_word form) (case_word from) t.0 n in
-    let s = rest_parted (has_with form) t.0 n (o + c) t.1 (with_at (has_with form) words (behind_case form) (slice_index_or t.0 n []) q.1 at) in
-    (s.0, s.1, s.2, s.3 ∙ sym (parts_length form), t.2 ∙ ap (λ (ws : List (List ℕ)). command_word form ∷ case_word from ∷ ws) s.4)
+    fitted (length words == word_count (Case command from)) (is_word words 0 (command_word (Case command from))) (if has_with (Case command from) then is_word words (behind_case (Case command from)) (codes "with") else true) h
+    (λ many first third. words_parted words (command_word (Case command from)) (case_word from) (has_with (Case command from)) (length (case_parts from)) (length (parts_behind (Case command from)))
+    (eqb-true (length words) (word_count (Case command from)) many ∙ case_count command from) first second third)
 
 with_case : (words : List (List ℕ)) (from : CaseForm) (form : Form) → is_word words 1 (case_word from) ≡ true → form_with words (Some from) ≡ Some form → IsFormOf form words
 with_case words from form second e =
