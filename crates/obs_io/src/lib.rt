@@ -1,12 +1,16 @@
 //! The outside: files, a source of input and a sink of output as traits with a written meaning, how
-//! they are read and written whole, their forms in memory, and adapters over the real things.
+//! they are read and written whole, their forms in memory and over lent
+//! blocks, and adapters over the real things.
 #![tactic(auto)]
 
+mod blocks;
 mod memory;
 mod outside;
 mod real;
 mod whole;
 
+pub use blocks::files::BlockFiles;
+pub use blocks::source::BlockSource;
 pub use memory::entry::Entry;
 pub use memory::files::MemFiles;
 pub use memory::sink::{MemSink, NoMemory};
