@@ -1,5 +1,5 @@
 -- The content of a word's file in a block, by its first length.
-use Rattle.std.proofs.Common.{◌≡◌, ◌+◌, ◌-◌, ◌<◌, ℕ, zero, suc, Option, Some, None, List, [], ◌∷◌, length, take, drop, min, refl, sym, ap, ◌∙◌, arith}
+use Rattle.std.proofs.Common.{◌≡◌, ◌-◌, ℕ, zero, suc, Some, None, List, [], ◌∷◌, length, take, drop, min, refl, sym, ap, ◌∙◌, arith}
 use Rattle.std.specs.Prelude.{slice_get}
 use Rattle.std.proofs.lemmas.List.{drop_min, take_min, take_rest}
 use Rattle.std.proofs.lemmas.Option.{none-some}

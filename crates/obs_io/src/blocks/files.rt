@@ -7,6 +7,7 @@ use crate::{Failed, Files};
 
 /// Files side by side in a block, by their lengths in the order of their words. A word without a length has an empty
 /// file, and no call fails.
+#[derive(Drop)]
 pub struct BlockFiles<'a> {
     bytes: &'a [u8],
     lengths: &'a [usize],
@@ -45,8 +46,12 @@ impl Files for BlockFiles<'_> {
 
     ghost steady = { λ f w. ⊤ };
 
-    fn part(&mut self, word: usize, at: u64, into: &mut [u8]) -> Result<usize, Failed>
-    {
-        Ok(copy_piece(content_of(self.bytes, self.lengths, word), at, usize::MAX, into))
+    fn part(&mut self, word: usize, at: u64, into: &mut [u8]) -> Result<usize, Failed> {
+        Ok(copy_piece(
+            content_of(self.bytes, self.lengths, word),
+            at,
+            usize::MAX,
+            into,
+        ))
     }
 }

@@ -5,6 +5,7 @@ use crate::memory::piece::copy_piece;
 use crate::{Failed, Source};
 
 /// The bytes of a block, which come as many at once as are asked for. No call fails.
+#[derive(Drop)]
 pub struct BlockSource<'a> {
     rest: &'a [u8],
 }
@@ -27,8 +28,7 @@ impl Source for BlockSource<'_> {
 
     ghost steady = { λ s. ⊤ };
 
-    fn take(&mut self, into: &mut [u8]) -> Result<usize, Failed>
-    {
+    fn take(&mut self, into: &mut [u8]) -> Result<usize, Failed> {
         let count = copy_piece(self.rest, 0, usize::MAX, into);
         self.rest = &self.rest[count..];
         Ok(count)

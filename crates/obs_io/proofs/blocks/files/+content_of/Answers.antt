@@ -1,4 +1,4 @@
-use Rattle.std.proofs.Common.{◌≡◌, sym, ◌∙◌}
+use Rattle.std.proofs.Common.{sym, ◌∙◌}
 use Rattle.obs_io.proofs.Contents.{content_behind, content_here, content_none}
 use Rattle.obs_io.proofs.blocks.files.+content_of.Goals as goal
 

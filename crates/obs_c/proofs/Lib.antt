@@ -1,0 +1,4 @@
+pub mod Blocked
+pub mod Ended
+pub mod Ending
+pub mod Taken

@@ -1,0 +1,77 @@
+// The call.
+ghost use Rattle.std.specs.Prelude.{◌≡◌, ◌≤◌, ◌⊎◌, drop, length, take};
+ghost use Rattle.obs_engine.specs.Codes.{code_of};
+ghost use Rattle.obs_engine.specs.Replies.{Reply};
+ghost use Rattle.obs_engine.specs.Stated.{IsStated};
+ghost use Rattle.obs_engine.specs.Words.{form_of};
+ghost use Rattle.obs_c.specs.Blocks.{IsCall, malformed, words_in};
+ghost use Rattle.obs_c.specs.Calls.{IsAnswered, IsWhole, told_by};
+
+use crate::lengths::are_lengths;
+use crate::words::{WordsFault, words_of};
+use obs_engine::{Status, run};
+use obs_io::{BlockFiles, BlockSource, MemSink};
+use std::alloc::Global;
+
+// The number that is answered where the blocks aren't words and contents.
+const MALFORMED: u8 = 8;
+
+/// Runs obs: the words are those behind the program's own name, each ended by a zero byte, and `lengths` has for each
+/// word how many bytes of `contents` are its file's, one file behind another (0 for a word that names no file). The text
+/// is written into `text`, and `written` says how much of it. The answer is the program's exit status, 5 where `text` is
+/// too short, or 8 where the words aren't ended, aren't UTF-8, or the lengths aren't those of the words and the contents.
+#[unsafe(no_mangle)]
+pub extern "C" fn obs_run(
+    alloc: Global,
+    words: &[u8],
+    contents: &[u8],
+    lengths: &[usize],
+    input: &[u8],
+    text: &mut [u8],
+    written: &mut usize,
+) -> u8
+    // Blocks that are no words and contents are refused, and nothing is written.
+    ensures refused { (IsCall words.now contents.now lengths.now → ⊥)
+        → ((result ≡ malformed) ⊎ (result ≡ code_of Status.NoMemory)) × (written.new ≡ 0) × (text.new ≡ text.old) }
+
+    // What is written and answered is what is stated for the words, the contents and the input.
+    ensures stated { IsCall words.now contents.now lengths.now
+        → IsAnswered (words_in words.now) (told_by contents.now lengths.now input.now)
+        result (take written.new text.new) }
+
+    // Where the block has room for the text, all of it is answered, or there is no memory.
+    ensures complete { IsCall words.now contents.now lengths.now
+        → ((reply : Reply) → IsStated (form_of (words_in words.now)) (told_by contents.now lengths.now input.now) reply
+        → length reply.text ≤ length text.old)
+        → (result ≡ code_of Status.NoMemory)
+        ⊎ IsWhole (words_in words.now) (told_by contents.now lengths.now input.now)
+        result (take written.new text.new) }
+
+    // Behind what was written the block is as it was.
+    ensures within { written.new ≤ length text.old }
+    ensures rest { drop written.new text.new ≡ drop written.new text.old }
+{
+    *written = 0;
+    let list = match words_of(alloc, words) {
+        Ok(list) => list,
+        Err(WordsFault::Malformed) => return MALFORMED,
+        Err(WordsFault::NoMemory) => return Status::NoMemory.code(),
+    };
+    if !are_lengths(list.len(), contents, lengths) {
+        return MALFORMED;
+    }
+    let Ok(mut output) = MemSink::with_room(alloc, text.len(), usize::MAX, Vec::new(alloc)) else {
+        return Status::NoMemory.code();
+    };
+    let mut files = BlockFiles::new(contents, lengths);
+    let mut source = BlockSource::new(input);
+    let status = run(alloc, &list, &mut files, &mut source, &mut output);
+    let bytes = output.written();
+    let count = bytes.len().min(text.len());
+    text[..count].copy_from_slice(&bytes[..count]);
+    *written = count;
+    if count < bytes.len() {
+        return Status::WriteFault.code();
+    }
+    status.code()
+}
