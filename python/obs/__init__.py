@@ -1,0 +1,35 @@
+"""obs in Python: topological observability of power networks, through the library libobs.so.
+
+    import obs
+
+    case = obs.tables("nodes.csv", "switches.csv", "branches.csv", "meters.csv")
+    answer = obs.report(case)
+    print(answer.counts.rank, "of", answer.counts.needed)
+    for first, buses in answer.islands.items():
+        print(first, buses)
+
+A case is made by `tables`, `cdf` or `matpower`. `report`, `place`, `session`, `verify` and `topology` answer as the commands of these
+names, and `run` takes the words of any command. An answer is a small value, and `str` of it is the text that the command prints. What is
+no answer is an exception: a `Fault` of a file has its part, row, code and name.
+
+A table is a path, or the bytes of a file, or its rows: tuples in the order of the columns (`COLUMNS`), dictionaries by the names of the
+columns, or a frame of pandas. Names are bytes in obs. Text is encoded in UTF-8 and decoded from it with the handler `surrogateescape`, so
+any bytes go through and come back: `name.encode("utf-8", "surrogateescape")` gives them.
+
+The library is the file that the variable OBS_LIBRARY names; else libobs.so beside this package, in the folder that holds `python`, or
+where tools/library builds it. It is read at the first call. Any number of threads may call at once, and other threads of Python go on
+meanwhile. A process that was forked off one with threads mustn't call: of multiprocessing take the method "spawn".
+
+What is proved is said of the library's one call by crates/obs_c/README.md. This package is not proved: it hands blocks of bytes to that
+call, and reads what is printed.
+"""
+from .answers import Bound, Counts, Flaw, Item, Layer, Ok, Pair, Plan, Refused, Report, Session, Shortfall, Step, Topology, Tree, Valid
+from .calls import place, report, run, session, topology, verify
+from .cases import COLUMNS, Case, cdf, matpower, tables
+from .faults import Error, Fault, LibraryMissing, Malformed, NoMemory, NotUnderstood, SessionTooLong
+
+__all__ = [
+    "Bound", "COLUMNS", "Case", "Counts", "Error", "Fault", "Flaw", "Item", "Layer", "LibraryMissing", "Malformed", "NoMemory",
+    "NotUnderstood", "Ok", "Pair", "Plan", "Refused", "Report", "Session", "SessionTooLong", "Shortfall", "Step", "Topology", "Tree",
+    "Valid", "cdf", "matpower", "place", "report", "run", "session", "tables", "topology", "verify",
+]

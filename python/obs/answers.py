@@ -1,0 +1,385 @@
+"""The answers, and how they are read from the printed lines. `str` of an answer is the text that was printed.
+
+Names are text; of bytes that are no UTF-8, `surrogateescape` made text. Ranks, needs and numbers outside are numbers of pairs; costs and
+prices are in the unit of the table of candidates.
+"""
+import dataclasses
+import typing
+
+from .faults import NotUnderstood
+
+
+class Lines:
+    """An answer, or a part of one: `lines` gives its lines, each a list of words."""
+
+    def lines(self):
+        raise NotImplementedError
+
+    def __str__(self):
+        return "".join("\t".join(map(str, words)) + "\n" for words in self.lines())
+
+
+def _lines_of(parts):
+    return [words for part in parts for words in part.lines()]
+
+
+@dataclasses.dataclass(frozen=True)
+class Counts(Lines):
+    """What a report counts. The case is observable where the rank is what is needed."""
+
+    buses: int  # that the closed switches make of the nodes
+    energised: int  # of these, in a part of the network that has a source
+    branches: int  # in service between two buses of such a part
+    meters: int  # in service that touch such a branch
+    needed: int  # pairs that the energised parts need
+    rank: int  # the most pairs that the meters can have
+    verdict: str  # observable or short
+
+    @property
+    def missing(self):
+        """How many pairs are missing."""
+        return self.needed - self.rank
+
+    def lines(self):
+        names = [field.name for field in dataclasses.fields(self) if field.name != "verdict"]
+        return [["count", name, getattr(self, name)] for name in names] + [["verdict", self.verdict]]
+
+
+@dataclasses.dataclass(frozen=True)
+class Item(Lines):
+    """A meter or a candidate."""
+
+    sort: str  # meter or candidate
+    name: str
+
+    def lines(self):
+        return [["inside", self.sort, self.name]]
+
+
+@dataclasses.dataclass(frozen=True)
+class Pair(Lines):
+    """An item, and the branch that it is given."""
+
+    sort: str  # meter or candidate
+    name: str
+    branch: str
+
+    def lines(self):
+        return [["pair", self.sort, self.name, self.branch]]
+
+
+@dataclasses.dataclass(frozen=True)
+class Tree(Lines):
+    """The part of the network that its first bus names is observable: these pairs' branches join all its buses."""
+
+    component: str
+    pairs: typing.Tuple[Pair, ...]
+
+    def lines(self):
+        return [["tree", self.component]] + _lines_of(self.pairs)
+
+
+@dataclasses.dataclass(frozen=True)
+class Bound(Lines):
+    """The part of the network that its first bus names is short: it can have no more than rank + outside pairs."""
+
+    component: str
+    rank: int  # of the branches that the listed meters touch
+    outside: int  # how many other live meters the part has
+    inside: typing.Tuple[Item, ...]
+
+    def lines(self):
+        return [["bound", self.component, self.rank, self.outside]] + _lines_of(self.inside)
+
+
+@dataclasses.dataclass(frozen=True)
+class Report(Lines):
+    """What a report prints, or one ask of a session. What wasn't asked is None."""
+
+    counts: typing.Optional[Counts] = None
+    claims: typing.Optional[tuple] = None  # a Tree or a Bound for each energised part, or those of one sort
+    island_of: typing.Optional[dict] = None  # for each energised bus, in their order, the first bus of its island
+    critical: typing.Optional[typing.Tuple[str, ...]] = None  # the meters of which each loss lowers the rank
+
+    @property
+    def observable(self):
+        """Whether the verdict is observable. Look at counts.energised too: dead parts need nothing."""
+        return self.counts.verdict == "observable"
+
+    @property
+    def trees(self):
+        return tuple(claim for claim in self.claims or () if isinstance(claim, Tree))
+
+    @property
+    def bounds(self):
+        return tuple(claim for claim in self.claims or () if isinstance(claim, Bound))
+
+    @property
+    def islands(self):
+        """For the first bus of each island the list of its buses. Inside of an island all can be estimated."""
+        found = {}
+        for bus, first in self.island_of.items():
+            found.setdefault(first, []).append(bus)
+        return found
+
+    @property
+    def certificate(self):
+        """The trees and bounds as text that `verify` takes."""
+        return "".join(map(str, self.claims)) + "end\n"
+
+    def lines(self):
+        counts = self.counts.lines() if self.counts else []
+        islands = [["island", first, bus] for bus, first in (self.island_of or {}).items()]
+        critical = [["critical", name] for name in self.critical or ()]
+        return counts + _lines_of(self.claims or ()) + islands + critical + [["end"]]
+
+
+@dataclasses.dataclass(frozen=True)
+class Layer(Lines):
+    """Why a plan must pay so much: of all that costs less than `high`, no more than rank + outside pairs can be made."""
+
+    low: int  # the price from which the layer goes
+    high: int  # the price to which it goes
+    rank: int  # of the branches that all items touch which are listed up to this layer
+    outside: int  # how many other live items there are below the price `high`
+    inside: typing.Tuple[Item, ...]  # the items that this layer adds to the list
+
+    def lines(self):
+        return [["layer", self.low, self.high, self.rank, self.outside]] + _lines_of(self.inside)
+
+
+@dataclasses.dataclass(frozen=True)
+class Plan(Lines):
+    """The cheapest candidates that complete the meters, the pairs that are had then, and why nothing cheaper will do."""
+
+    cost: int
+    chosen: typing.Tuple[str, ...]
+    pairs: typing.Tuple[Pair, ...]
+    layers: typing.Tuple[Layer, ...]
+
+    @property
+    def certificate(self):
+        """The plan as text that `verify` takes, with the same candidates."""
+        return str(self)
+
+    def lines(self):
+        chosen = [["chosen", name] for name in self.chosen]
+        return [["cost", self.cost]] + chosen + _lines_of(self.pairs) + _lines_of(self.layers) + [["end"]]
+
+
+@dataclasses.dataclass(frozen=True)
+class Shortfall(Lines):
+    """All candidates together are too few: with them no more than rank + outside pairs can be made."""
+
+    rank: int  # of the branches that the listed items touch
+    outside: int  # how many other live items there are
+    inside: typing.Tuple[Item, ...]
+
+    @property
+    def certificate(self):
+        """The shortfall as text that `verify` takes, with the same candidates."""
+        return str(self)
+
+    def lines(self):
+        return [["shortfall", self.rank, self.outside]] + _lines_of(self.inside) + [["end"]]
+
+
+@dataclasses.dataclass(frozen=True)
+class Topology(Lines):
+    """The buses that the closed switches make."""
+
+    bus_of: dict  # for each node, in their order, the first node of its bus
+    buses: int  # how many there are
+
+    def lines(self):
+        return [["node", node, first] for node, first in self.bus_of.items()] + [["count", "buses", self.buses], ["end"]]
+
+
+@dataclasses.dataclass(frozen=True)
+class Valid(Lines):
+    """Every claim of the certificate holds."""
+
+    claims: int  # how many there are
+
+    def lines(self):
+        return [["valid", self.claims]]
+
+
+@dataclasses.dataclass(frozen=True)
+class Flaw(Lines):
+    """The first claim that fails; docs/FORMATS.md has the codes."""
+
+    claim: int  # its number, from 1 on
+    code: int
+    name: str  # of the flaw, as WrongOutside
+
+    def lines(self):
+        return [["flaw", self.claim, self.code, self.name]]
+
+
+@dataclasses.dataclass(frozen=True)
+class Ok(Lines):
+    """An edit was done. The numbers are of what is energised now: this is no verdict on what the edit cut off."""
+
+    rank: int
+    needed: int
+
+    def lines(self):
+        return [["ok", self.rank, self.needed]]
+
+
+@dataclasses.dataclass(frozen=True)
+class Refused(Lines):
+    """A line of a session that is refused; docs/FORMATS.md has the codes."""
+
+    code: int
+    name: str
+
+    def lines(self):
+        return [["refused", self.code, self.name]]
+
+
+@dataclasses.dataclass(frozen=True)
+class Step(Lines):
+    """A line of a session and its answer: Ok, Refused, Report (with what was asked), Plan or Shortfall."""
+
+    line: str
+    answer: Lines
+
+    def lines(self):
+        return self.answer.lines()
+
+
+@dataclasses.dataclass(frozen=True)
+class Session(Lines):
+    """The lines of a session that are answered, and their answers. Empty lines and those that begin with # are left out."""
+
+    steps: typing.Tuple[Step, ...]
+    observable: bool  # the present case, at the end
+
+    @property
+    def answers(self):
+        return tuple(step.answer for step in self.steps)
+
+    def lines(self):
+        return _lines_of(self.steps)
+
+
+# The parts of a report that each ask of a session has.
+ASKS = {
+    "status": ("counts",),
+    "tree": ("claims",),
+    "bound": ("claims",),
+    "cert": ("claims",),
+    "islands": ("island_of",),
+    "critical": ("critical",),
+    "report": ("counts", "claims", "island_of", "critical"),
+}
+
+
+class Reading:
+    """Printed lines, read from the top."""
+
+    def __init__(self, text):
+        self.lines = [line.split("\t") for line in text.decode("utf-8", "surrogateescape").split("\n")]
+        self.at = 0
+        if self.lines.pop() != [""]:
+            raise NotUnderstood("the text doesn't end with a line feed")
+
+    def word(self):
+        """The first word of the next line, or None behind the last."""
+        return self.lines[self.at][0] if self.at < len(self.lines) else None
+
+    def line(self, word, count):
+        """The words behind this first word of the next line, which are so many."""
+        if self.word() != word or len(self.lines[self.at]) != count + 1:
+            found = "\t".join(self.lines[self.at]) if self.at < len(self.lines) else "nothing more"
+            raise NotUnderstood(f"a line {word} was expected, and there is: {found}")
+        self.at += 1
+        return self.lines[self.at - 1][1:]
+
+    def all(self, word, count):
+        """The words of all next lines that begin with this word."""
+        found = []
+        while self.word() == word:
+            found.append(self.line(word, count))
+        return found
+
+    def numbers(self, word, count):
+        return list(map(int, self.line(word, count)))
+
+    def pairs(self):
+        return tuple(Pair(*words) for words in self.all("pair", 3))
+
+    def items(self):
+        return tuple(Item(*words) for words in self.all("inside", 2))
+
+    def counts(self):
+        found = [int(self.line("count", 2)[1]) for _ in dataclasses.fields(Counts)[:-1]]
+        return Counts(*found, *self.line("verdict", 1))
+
+    def claims(self):
+        found = []
+        while self.word() in ("tree", "bound"):
+            if self.word() == "tree":
+                found.append(Tree(*self.line("tree", 1), self.pairs()))
+            else:
+                component, rank, outside = self.line("bound", 3)
+                found.append(Bound(component, int(rank), int(outside), self.items()))
+        return tuple(found)
+
+    def island_of(self):
+        return {bus: first for first, bus in self.all("island", 2)}
+
+    def critical(self):
+        return tuple(name for name, in self.all("critical", 1))
+
+    def report(self, parts=ASKS["report"]):
+        found = Report(**{part: getattr(self, part)() for part in parts})
+        self.line("end", 0)
+        return found
+
+    def layers(self):
+        found = []
+        while self.word() == "layer":
+            found.append(Layer(*self.numbers("layer", 4), self.items()))
+        return tuple(found)
+
+    def placement(self):
+        if self.word() == "shortfall":
+            found = Shortfall(*self.numbers("shortfall", 2), self.items())
+        else:
+            cost, = self.numbers("cost", 1)
+            found = Plan(cost, tuple(name for name, in self.all("chosen", 1)), self.pairs(), self.layers())
+        self.line("end", 0)
+        return found
+
+    def topology(self):
+        bus_of = dict(self.all("node", 2))
+        found = Topology(bus_of, int(self.line("count", 2)[1]))
+        self.line("end", 0)
+        return found
+
+    def verified(self):
+        if self.word() == "valid":
+            return Valid(*self.numbers("valid", 1))
+        claim, code, name = self.line("flaw", 3)
+        return Flaw(int(claim), int(code), name)
+
+    def step(self, line):
+        """The answer to a line of a session."""
+        if self.word() == "refused":
+            code, name = self.line("refused", 2)
+            return Refused(int(code), name)
+        if line == "place":
+            return self.placement()
+        return self.report(ASKS[line]) if line in ASKS else Ok(*self.numbers("ok", 2))
+
+    def session(self, lines, observable):
+        return Session(tuple(Step(line, self.step(line)) for line in lines), observable)
+
+    def end(self, found):
+        """What was found, where nothing more stands."""
+        if self.at != len(self.lines):
+            self.line("nothing more", 0)
+        return found

@@ -1,0 +1,105 @@
+"""The commands."""
+import os
+
+from . import library
+from .answers import Reading
+from .cases import content, table
+from .faults import Fault, Malformed, NoMemory, NotUnderstood, SessionTooLong
+
+
+def report(case):
+    """A Report: the counts and the verdict, a tree or a bound for each energised part, the islands and the critical meters."""
+    return _ask(["report", *_form(case)], lambda reading, _: reading.report())
+
+
+def place(case, candidates):
+    """A Plan, which is the cheapest that completes the meters, or a Shortfall.
+
+    candidates   a table as in `tables`: (candidate, kind, at, price), where kind and at are those of a meter, and price is a whole number
+                 up to 1,000,000,000, in any unit that is the same for all.
+    """
+    return _ask(["place", *_form(case), table("candidates", candidates)], lambda reading, _: reading.placement())
+
+
+def session(case, lines, candidates=None):
+    """A Session: the answers to edits and asks, of which each sees what those before it did.
+
+    lines        text or bytes, one line behind another, or a list of lines of text or bytes: open, close, trip, restore, lose or regain
+                 with a blank and a name; status, tree, bound, cert, islands, critical, report; and place where there are candidates.
+    candidates   a table as in `place`, or None.
+    """
+    given = _input(lines)
+    answered = [line.decode("utf-8", "surrogateescape") for line in _answered(given)]
+    words = ["session", *_form(case), *_with(candidates)]
+    return _ask(words, lambda reading, status: reading.session(answered, status == library.DONE), given)
+
+
+def verify(case, certificate, candidates=None):
+    """Valid, or the Flaw of the first claim that fails.
+
+    certificate  a path, the bytes of a file, or an answer: a Report with its trees and bounds, a Plan or a Shortfall.
+    candidates   the table of a Plan or a Shortfall, as in `place`, or None.
+    """
+    given = getattr(certificate, "certificate", None)
+    claims = content(certificate) if given is None else given.encode("utf-8", "surrogateescape")
+    return _ask(["verify", *_form(case), *_with(candidates), claims], lambda reading, _: reading.verified())
+
+
+def topology(nodes, switches):
+    """A Topology: for each node the first node of its bus. The two are tables as in `tables`."""
+    return _ask(["topology", table("nodes", nodes), table("switches", switches)], lambda reading, _: reading.topology())
+
+
+def run(words, given=b""):
+    """Runs any words of the program. Gives the status, which is 0 to 3, and the bytes of the text.
+
+    words   a list: a text is a word, bytes are the contents of a file whose name stands there.
+    given   bytes: what a session reads.
+    """
+    pairs = [(b"file", word) if isinstance(word, bytes) else (os.fsencode(word), None) for word in words]
+    status, text = library.call(pairs, given)
+    if status == library.NO_MEMORY:
+        raise NoMemory("there was no memory for the answer")
+    if status == library.SESSION_TOO_LONG:
+        raise SessionTooLong(text.decode("utf-8", "surrogateescape"))
+    if status == library.MALFORMED:
+        raise Malformed("a word is no UTF-8, or has a zero byte in it")
+    if status > library.INPUT_FAULT:
+        raise NotUnderstood(f"the library answered {status}")
+    return status, text
+
+
+def _ask(words, read, given=b""):
+    """What is read of the text, with the status, where there is an answer."""
+    status, text = run(words, given)
+    if status == library.INPUT_FAULT:
+        raise Fault(text.decode())
+    if status == library.USAGE:
+        raise NotUnderstood("the library has no such command: it is of another version than this package")
+    reading = Reading(text)
+    return reading.end(read(reading, status))
+
+
+def _form(case):
+    return [case.form, *(one for _, one in case.files)]
+
+
+def _with(candidates):
+    return [] if candidates is None else ["with", table("candidates", candidates)]
+
+
+def _input(lines):
+    """The bytes that a session reads."""
+    one = lambda line: line.encode("utf-8", "surrogateescape") if isinstance(line, str) else bytes(line)
+    if isinstance(lines, (str, bytes, bytearray, memoryview)):
+        return one(lines)
+    found = [one(line) for line in lines]
+    if any(b"\n" in line for line in found):
+        raise ValueError("a line of a session has a line feed in it")
+    return b"".join(line + b"\n" for line in found)
+
+
+def _answered(given):
+    """The lines that get an answer."""
+    lines = [line[:-1] if line.endswith(b"\r") else line for line in given.split(b"\n")]
+    return [line for line in lines if line and not line.startswith(b"#")]

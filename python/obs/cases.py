@@ -1,0 +1,134 @@
+"""Cases: tables, files in the IEEE Common Data Format or of MATPOWER, and what they are made from."""
+import dataclasses
+import math
+import numbers
+import os
+
+# The columns of each table. The first is the row's own name.
+COLUMNS = {
+    "nodes": ("node", "source"),
+    "switches": ("switch", "from", "to", "closed"),
+    "branches": ("branch", "from", "to", "inservice"),
+    "meters": ("meter", "kind", "at", "inservice"),
+    "candidates": ("candidate", "kind", "at", "price"),
+}
+# One byte more than obs takes of a file: it answers then that the file is too long.
+_MOST_READ = 16777217
+_MARKS = (b",", b'"', b"\r", b"\n")
+
+
+@dataclasses.dataclass(frozen=True)
+class Case:
+    """A network with its switches and meters. `tables`, `cdf` and `matpower` make it.
+
+    form    tables, cdf or matpower.
+    files   pairs of a part (nodes, case, meters, ..) and the bytes of its file.
+    """
+
+    form: str
+    files: tuple
+
+    def __repr__(self):
+        return f"Case({self.form}: {', '.join(f'{part} {len(content)} bytes' for part, content in self.files)})"
+
+
+def tables(nodes, switches, branches, meters):
+    """The case of four tables.
+
+    Each is a path, or the bytes of a CSV file with a header line, or rows without one:
+
+    - nodes: (node, source)
+    - switches: (switch, from, to, closed), where from and to name nodes; None stands for no switches
+    - branches: (branch, from, to, inservice)
+    - meters: (meter, kind, at, inservice), where kind is "flow" and at names a branch, or "injection" or "zero" and at names a node
+
+    source, closed and inservice are True or False, 1 or 0. A name has 1 to 64 bytes. A table has at most 20,000 rows, a file at most
+    16,777,216 bytes. Files are read now: what becomes of them later doesn't change the case.
+    """
+    given = [("nodes", nodes), ("switches", switches), ("branches", branches), ("meters", meters)]
+    return Case("tables", tuple((part, table(part, one)) for part, one in given))
+
+
+def cdf(case, meters):
+    """The case of a file in the IEEE Common Data Format (a path or its bytes) and a table of meters, as in `tables`.
+
+    Nodes are named by their numbers, and the k-th branch line is Lk.
+    """
+    return Case("cdf", (("case", content(case)), ("meters", table("meters", meters))))
+
+
+def matpower(case, meters):
+    """The case of a MATPOWER file (a path or its bytes) and a table of meters, as in `tables`.
+
+    Nodes are named by their numbers, and the k-th row of the branch table is Lk.
+    """
+    return Case("matpower", (("case", content(case)), ("meters", table("meters", meters))))
+
+
+def is_path(given):
+    return isinstance(given, (str, os.PathLike))
+
+
+def content(given):
+    """The bytes of a file that is given by its path, or by its bytes."""
+    if is_path(given):
+        with open(given, "rb") as file:
+            return file.read(_MOST_READ)
+    if isinstance(given, (bytes, bytearray, memoryview)):
+        return bytes(given)
+    raise TypeError(f"a path or bytes are wanted, and not {type(given).__name__}")
+
+
+def table(part, given):
+    """The bytes of a table that is given by a path, by bytes or by rows."""
+    if is_path(given) or isinstance(given, (bytes, bytearray, memoryview)):
+        return content(given)
+    lines = [[name.encode() for name in COLUMNS[part]]]
+    lines += [_fields(part, number, row) for number, row in enumerate(_rows(given), 1)]
+    return b"".join(b",".join(map(_quoted, line)) + b"\n" for line in lines)
+
+
+def _rows(given):
+    """The rows of a list, of a frame of pandas, or of nothing at all."""
+    if given is None:
+        return []
+    if hasattr(given, "to_dict") and hasattr(given, "columns"):
+        return given.to_dict("records")
+    return given
+
+
+def _fields(part, number, row):
+    """The fields of a row in the order of the columns."""
+    columns = COLUMNS[part]
+    if hasattr(row, "keys"):
+        missing = [name for name in columns if name not in row.keys()]
+        if missing:
+            raise ValueError(f"{part}, row {number}: there is no column {missing[0]}")
+        values = [row[name] for name in columns]
+    elif isinstance(row, (str, bytes)) or not hasattr(row, "__iter__"):
+        raise TypeError(f"{part}, row {number}: a tuple or a dictionary is wanted, and not {type(row).__name__}")
+    else:
+        values = list(row)
+        if len(values) != len(columns):
+            raise ValueError(f"{part}, row {number}: there are {len(values)} fields, and {len(columns)} are wanted: {', '.join(columns)}")
+    return [_field(part, number, name, value) for name, value in zip(columns, values)]
+
+
+def _field(part, number, name, value):
+    """A field's bytes. What a frame has no value for is empty. Whether a field is right is for obs to say."""
+    if isinstance(value, bytes):
+        return value
+    if isinstance(value, str):
+        return value.encode("utf-8", "surrogateescape")
+    if value is None or type(value).__name__ == "NAType" or isinstance(value, float) and math.isnan(value):
+        return b""
+    if type(value).__name__ in ("bool", "bool_"):
+        return b"1" if value else b"0"
+    # A column of whole numbers becomes one of floating point where a frame lacks a value.
+    if isinstance(value, numbers.Integral) or isinstance(value, float) and value.is_integer():
+        return b"%d" % int(value)
+    raise TypeError(f"{part}, row {number}: {name} is to be text, bytes or a whole number, and not {value!r}")
+
+
+def _quoted(field):
+    return b'"' + field.replace(b'"', b'""') + b'"' if any(mark in field for mark in _MARKS) else field
