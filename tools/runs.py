@@ -1,4 +1,7 @@
-"""Runs the program over files in a folder, and holds what it answers against what is wanted."""
+"""Runs the program over files in a folder, and holds what it answers against what is wanted.
+
+Where the program's name ends with .so it is the library for C: then its one call answers in the place of the program.
+"""
 import collections
 import os
 import shlex
@@ -7,6 +10,8 @@ import subprocess
 import sys
 import tempfile
 import time
+
+from by_library import Library
 
 MOST_SECONDS = 600
 KEPT = os.path.normpath(os.path.join(os.path.dirname(os.path.abspath(__file__)), "..", "differs"))
@@ -19,6 +24,7 @@ class Runs:
         if not os.access(program, os.X_OK):
             sys.exit(f"there is no program {program}")
         self.program, self.folder, self.kept = os.path.abspath(program), folder, kept
+        self.library = Library(self.program, folder) if program.endswith(".so") else None
         self.count = collections.Counter()
 
     def write(self, name, content):
@@ -27,6 +33,8 @@ class Runs:
 
     def run(self, words, given=b""):
         """What is written, and the status, or a word where the run doesn't end."""
+        if self.library:
+            return self.library.run(words, given)
         try:
             done = subprocess.run([self.program, *words], cwd=self.folder, input=given, capture_output=True, timeout=MOST_SECONDS)
         except subprocess.TimeoutExpired:

@@ -1,0 +1,58 @@
+"""The library for C, called as the program is: over files in a folder, with the program's statuses."""
+import os
+import sys
+
+HOME = os.path.dirname(os.path.dirname(os.path.abspath(__file__)))
+MOST_BYTES = 16777216
+
+
+class Library:
+    """The library of this file, over files of the folder. The files are read here, as many bytes as the program asks for."""
+
+    def __init__(self, file, folder):
+        os.environ["OBS_LIBRARY"] = os.path.abspath(file)
+        sys.path.insert(0, os.path.join(HOME, "python"))
+        from obs import library
+
+        self.library, self.folder = library, folder
+
+    def run(self, words, given=b""):
+        """What is written, and the status: that of the program too where a word isn't UTF-8, or a file can't be read."""
+        words = [os.fsencode(word) for word in words]
+        if not all(map(is_text, words)):
+            words = []
+        pairs = [(word, None) for word in words]
+        names = file_words(words)
+        status, text = self.library.call(pairs, given)
+        if status == self.library.USAGE or not names:
+            return text, status
+        for k in names:
+            content = self.content(words[k])
+            if content is None:
+                return b"", 4
+            pairs[k] = (words[k], content)
+        status, text = self.library.call(pairs, given)
+        return text, status
+
+    def content(self, name):
+        try:
+            with open(os.path.join(os.fsencode(self.folder), name), "rb") as file:
+                return file.read(MOST_BYTES + 1)
+        except OSError:
+            return None
+
+
+def is_text(word):
+    try:
+        word.decode()
+    except UnicodeDecodeError:
+        return False
+    return True
+
+
+def file_words(words):
+    """The positions of the words that name files, in words that have a form."""
+    first = {b"topology": 1, b"trial": len(words)}.get(words[0], 2) if words else 0
+    behind = 6 if words[1:2] == [b"tables"] else 4
+    offers = words[:1] in ([b"session"], [b"verify"]) and words[behind : behind + 1] == [b"with"] and len(words) > behind + 1
+    return [k for k in range(first, len(words)) if not (offers and k == behind)]

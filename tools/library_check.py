@@ -1,0 +1,261 @@
+#!/usr/bin/env python3
+"""Tries the library for C and the Python module: tools/library_check.py LIBRARY PROGRAM.
+
+LIBRARY is libobs.so, PROGRAM the built program. It says what was tried, and ends with 1 at the first thing that is otherwise:
+
+- the examples (examples/*/*.run) whose commands are all plain ones of obs: what the module reads of an answer, written as text again, is
+  what the program prints, and its status is the program's; a fault has the words of the printed line
+- blocks for the text of 0 to 40 bytes, and of a byte less, none more and one more than the text: the status, the front that is written,
+  and that nothing behind it is touched
+- ten threads at once, each with cases of its own
+- less and less memory: every call ends with its answer, or with 6 and nothing written
+- blocks that are no words and contents: 8, and nothing written
+
+Random cases are compared by tools/compare.py LIBRARY.
+"""
+import ctypes
+import os
+import random
+import shlex
+import subprocess
+import sys
+import tempfile
+import threading
+
+HERE = os.path.dirname(os.path.abspath(__file__))
+EXAMPLES = os.path.join(HERE, "..", "examples")
+sys.path[:0] = [os.path.join(HERE, "..", "python"), HERE]
+
+import obs  # noqa: E402
+from obs import library  # noqa: E402
+
+FILL = 0xA5
+TABLES = ["nodes", "switches", "branches", "meters"]
+BEHIND = 64
+
+
+def fail(*words):
+    print(*words)
+    sys.exit(1)
+
+
+def agree(what, found, wanted):
+    if found != wanted:
+        fail(f"{what}\n found {found!r}"[:3000], f"\nwanted {wanted!r}"[:3000])
+
+
+def content(folder, name):
+    with open(os.path.join(folder, name), "rb") as file:
+        return file.read()
+
+
+def form_of(folder, words):
+    """The case of a form, and the words behind it."""
+    count = {"tables": 4, "cdf": 2, "matpower": 2}[words[0]]
+    make = {"tables": obs.tables, "cdf": obs.cdf, "matpower": obs.matpower}[words[0]]
+    return make(*(os.path.join(folder, name) for name in words[1 : count + 1])), words[count + 1 :]
+
+
+def answer_of(folder, words, given):
+    """The text and the status of a command, by the call of its name."""
+    path = lambda name: os.path.join(folder, name)
+    if words[0] == "topology":
+        return str(obs.topology(path(words[1]), path(words[2]))), 0
+    if words[0] == "trial" or words[1:2] == ["nodes.csv"]:
+        status, text = obs.run(words)
+        return text.decode(), status
+    case, rest = form_of(folder, words[1:])
+    offered = path(rest[1]) if rest[:1] == ["with"] else None
+    if words[0] == "report":
+        answer = obs.report(case)
+        return str(answer), 0 if answer.observable else 1
+    if words[0] == "place":
+        answer = obs.place(case, path(rest[0]))
+        return str(answer), 0 if isinstance(answer, obs.Plan) else 1
+    if words[0] == "session":
+        answer = obs.session(case, given, offered)
+        return str(answer), 0 if answer.observable else 1
+    answer = obs.verify(case, path(rest[-1]), offered)
+    return str(answer), 0 if isinstance(answer, obs.Valid) else 1
+
+
+def plain_command(line, folder):
+    """The words of a plain command of obs and the bytes of its input, or None where it is another."""
+    line = line[2:]
+    words = shlex.split(line)
+    if words[:1] != ["obs"] or any(mark in line for mark in "|;>$("):
+        return None
+    given = b""
+    if words[-1].startswith("<"):
+        given = content(folder, words.pop()[1:])
+    return (words[1:], given) if all(os.path.isfile(os.path.join(folder, word)) for word in words if "." in word) else None
+
+
+def examples():
+    """Folder, words, input, status and text of each example that is one plain command."""
+    for folder in sorted(os.listdir(EXAMPLES)):
+        folder = os.path.join(EXAMPLES, folder)
+        for name in sorted(os.listdir(folder)) if os.path.isdir(folder) else []:
+            if not name.endswith(".run"):
+                continue
+            head, _, printed = content(folder, name).decode().partition("prints\n")
+            lines = head.split("\n")
+            commands = [plain_command(line, folder) for line in lines if line.startswith("$ ")]
+            if len(commands) == 1 and commands[0]:
+                status = next(int(line[7:]) for line in lines if line.startswith("status "))
+                yield (folder, *commands[0], status, printed)
+
+
+def try_examples(program):
+    count = 0
+    for folder, words, given, status, printed in examples():
+        done = subprocess.run([program, *words], cwd=folder, input=given, stdout=subprocess.PIPE, stderr=subprocess.DEVNULL)
+        agree(words, (done.stdout.decode(), done.returncode), (printed, status))
+        try:
+            found = answer_of(folder, words, given)
+        except obs.Fault as fault:
+            found = fault.text, 3
+            agree(words, ["fault", fault.part, str(fault.row), str(fault.code), fault.name], fault.text.rstrip("\n").split("\t"))
+        agree(words, found, (printed, status))
+        count += 1
+    if count < 15:
+        fail("there are only", count, "plain examples")
+    print(count, "examples are answered as by the program")
+
+
+def blocks_of(folder, words):
+    """The blocks of a call whose words name files where they have a point."""
+    contents = [content(folder, word) if "." in word else b"" for word in words]
+    return b"".join(word.encode() + b"\0" for word in words), b"".join(contents), list(map(len, contents))
+
+
+def call_with(words, contents, lengths, given, room):
+    """A call with so much room: the status, how many bytes are written, and the block with some bytes behind it."""
+    text = (ctypes.c_char * (room + BEHIND)).from_buffer_copy(bytes([FILL]) * (room + BEHIND))
+    written = ctypes.c_size_t(12345)
+    sizes = (ctypes.c_size_t * max(len(lengths), 1))(*lengths)
+    status = library.load()(
+        words, len(words), contents, len(contents), sizes, len(lengths), given, len(given), text, room, ctypes.byref(written)
+    )
+    return status, written.value, text.raw
+
+
+def try_rooms():
+    own = os.path.join(EXAMPLES, "own")
+    form = ["tables", *(f"{name}.csv" for name in TABLES)]
+    runs = [["report", *form], ["place", *form, "candidates.csv"], ["topology", *form[1:3]], ["session", *form], ["trial", "2", "1"]]
+    count = 0
+    for words in runs + [["none"], []]:
+        given = b"status\ntree\nfoo\n" if words[:1] == ["session"] else b""
+        blocks = blocks_of(own, words)
+        status, length, block = call_with(*blocks, given, 100000)
+        whole = block[:length]
+        for room in [*range(41), length - 1, length, length + 1]:
+            front = whole[:room]
+            wanted = (status if room >= length else library.TEXT_TOO_LONG, len(front))
+            found = call_with(*blocks, given, room)
+            agree((words, room), found, (*wanted, front + bytes([FILL]) * (room + BEHIND - len(front))))
+            count += 1
+    print(count, "blocks for the text: each has the front of it, and nothing behind")
+
+
+def try_threads():
+    cases = []
+    for folder, words, given, status, printed in examples():
+        if status in (0, 1) and words[0] != "trial":
+            cases.append((folder, words, given, printed, status))
+    wrong = []
+
+    def work(seed):
+        for case in random.Random(seed).choices(cases, k=60):
+            if answer_of(*case[:3]) != case[3:]:
+                wrong.append(case[1])
+
+    threads = [threading.Thread(target=work, args=(seed,)) for seed in range(10)]
+    for thread in threads:
+        thread.start()
+    for thread in threads:
+        thread.join()
+    agree("threads", wrong, [])
+    print("10 threads: each of 600 answers is right")
+
+
+MEMORY = """
+import resource, sys
+sys.path.insert(0, sys.argv[1])
+import library_check as check
+blocks = check.blocks_of(sys.argv[2], ["report", "tables", "n.csv", "s.csv", "b.csv", "m.csv"])
+check.library.load()
+room = 4000000
+with open("/proc/self/statm") as file:
+    used = int(file.read().split()[0]) * 4096
+limit = used + room * 4 + int(sys.argv[3])
+resource.setrlimit(resource.RLIMIT_AS, (limit, limit))
+status, written, text = check.call_with(*blocks, b"", room)
+is_left = text[written : written + 100] == bytes([check.FILL]) * 100 and (status != 6 or written == 0)
+print(status, written, int(is_left))
+"""
+
+
+def try_memory():
+    """Calls in processes of their own, whose memory is limited to what they have and some more."""
+    rows = 20000
+    lines = {
+        "n.csv": ["node,source"] + [f"n{v},{int(v == 0)}" for v in range(rows)],
+        "s.csv": ["switch,from,to,closed"],
+        "b.csv": ["branch,from,to,inservice"] + [f"b{v},n{v},n{v + 1},1" for v in range(rows - 1)],
+        "m.csv": ["meter,kind,at,inservice"] + [f"m{v},flow,b{v},1" for v in range(rows - 1)],
+    }
+    found = []
+    with tempfile.TemporaryDirectory() as folder:
+        for name, some in lines.items():
+            with open(os.path.join(folder, name), "w") as file:
+                file.write("\n".join(some) + "\n")
+        for more in range(0, 32 << 20, 1 << 20):
+            done = subprocess.run([sys.executable, "-c", MEMORY, HERE, folder, str(more)], stdout=subprocess.PIPE)
+            found.append(tuple(map(int, done.stdout.split())))
+    ends = {one[0] for one in found if one}
+    if () in found or not all(one[2] for one in found) or ends != {library.NO_MEMORY, library.DONE}:
+        fail("with little memory the calls ended so (status, bytes written, nothing else touched):", found)
+    print(f"{len(found)} limits of memory: {sum(one[0] == library.NO_MEMORY for one in found)} calls end with 6, the others with the answer")
+
+
+def try_malformed():
+    own = os.path.join(EXAMPLES, "own")
+    words, contents, lengths = blocks_of(own, ["report", "tables", *(f"{name}.csv" for name in TABLES)])
+    top = (1 << 64) - 1
+    blocks = {
+        "no zero byte at the end": (words[:-1], contents, lengths),
+        "a word that is no UTF-8": (words.replace(b"nodes", b"nod\xff"), contents, lengths),
+        "half a letter": (words[:-1] + b"\xc3\0", contents, lengths),
+        "a letter of UTF-16": (words[:-1] + b"\xed\xa0\x80\0", contents, lengths),
+        "a length less": (words, contents, lengths[:-1]),
+        "a length more": (words, contents, lengths + [0]),
+        "no lengths": (words, contents, []),
+        "a byte less": (words, contents[:-1], lengths),
+        "a byte more": (words, contents + b"x", lengths),
+        "no contents": (words, b"", lengths),
+        "contents of no word": (b"", b"x", []),
+        "a length of no word": (b"", b"", [0]),
+        "too long a length": (words, contents, lengths[:-1] + [top]),
+        "a sum that wraps around": (words, contents, [top, 1, *lengths[2:]]),
+    }
+    for what, block in blocks.items():
+        for room in (0, 1, 40, 5000):
+            agree((what, room), call_with(*block, b"", room), (library.MALFORMED, 0, bytes([FILL]) * (room + BEHIND)))
+    print(len(blocks), "kinds of malformed blocks are refused, and nothing is written")
+
+
+def main(file, program):
+    os.environ["OBS_LIBRARY"] = os.path.abspath(file)
+    try_examples(os.path.abspath(program))
+    try_rooms()
+    try_malformed()
+    try_threads()
+    try_memory()
+
+
+if __name__ == "__main__":
+    if len(sys.argv) != 3:
+        sys.exit(__doc__.split("\n\n")[0])
+    main(*sys.argv[1:])
