@@ -1,6 +1,7 @@
 // What a search is over.
 ghost use Rattle.std.specs.Prelude.{◌≡◌, ◌↔◌, ◌≢◌, ◌<◌, ◌≤◌, ℕ, not, IfNone, IfSome, IsSome, IsTrue, None, Some, length, slice_index, slice_index_or};
 ghost use Rattle.obs_graph.specs.Positions.{branches_at};
+ghost use Rattle.obs_meter.specs.declared.Touch.{Touch};
 ghost use Rattle.obs_meter.specs.Touches.{AreInRange};
 ghost use Rattle.obs_assign.specs.Assignment.{StandsOver, branch_at, is_frozen};
 ghost use Rattle.obs_exchange.specs.Setting.{IsSound, IsSourceIn, end_of, first_of, is_joined_in, touched_in};
@@ -143,6 +144,7 @@ impl<'a> Setting<'a> {
         requires m { m < length self.now.touches }
         ensures low { IfSome result (λ v. v < self.now.graph.vertices) }
         ensures star { IfSome result (λ v. touched_in self.now m ≡ branches_at self.now.graph.ends v) }
+        ensures none { IfNone result ((v : ℕ) → slice_index_or self.now.touches m Touch.Nothing ≢ Touch.Star v) }
     {
         match self.meters.kind(m) {
             Touch::Star(v) => Some(v),
