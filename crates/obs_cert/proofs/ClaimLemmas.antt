@@ -64,6 +64,11 @@ pub tree_rest : (t : Tables) (c : TreeClaim) → has_name (node_names t) c.compo
     → tree_flaw t c ≡ first_true (forest_clauses t (pairs_of t c.pairs) (named_need t c.component) [])
 tree_rest t c k u n i d w = rw (k, u, n, i, d, w) refl
 
+pub tree_twice : (t : Tables) (c : TreeClaim) → has_name (node_names t) c.component ≡ true → unknown_pair t c.pairs ≡ false → names_component t c.component ≡ true
+    → not_inside (is_meter_in t (named_component t c.component)) (items_of t (paired_items c.pairs)) ≡ false → not_touched t (pairs_of t c.pairs) ≡ false → paired_twice t c.pairs ≡ true
+    → Some Twice ≡ tree_flaw t c
+tree_twice t c k u n i d w = rw (k, u, n, i, d, w) refl
+
 -- the clauses on stated numbers, one after the other
 pub bound_wrong : (t : Tables) (test : ℕ → Bool) (list : List ℕ) (rank outside need : ℕ) → rank_of_items t list ≡ rank → (outside_of t test list ≡ outside → ⊥)
     → Some WrongOutside ≡ first_true (bound_clauses t test list rank outside need)

@@ -10,6 +10,7 @@ use crate::flaw::Flaw;
 use crate::keys::sort_keys;
 use crate::layers::count_live;
 use crate::memory::NoMemory;
+use crate::present::Present;
 use crate::work::Work;
 use obs_case::Case;
 use obs_network::Network;
@@ -71,7 +72,8 @@ impl Checker {
         ensures fails { IfErr result (λ flaw. first_flaw case.now 1 cert.now ≡ Some flaw) }
         ensures unchanged { self.new ≡ self.old }
     {
-        match first_flaw(case, &self.network, cert, &mut self.work, &mut self.keys) {
+        let present = Present::of(case, &self.network);
+        match first_flaw(&present, cert, &mut self.work, &mut self.keys) {
             None => Ok(()),
             Some(flaw) => Err(flaw),
         }
@@ -80,27 +82,25 @@ impl Checker {
 
 // The flaw of the first claim that fails.
 fn first_flaw(
-    case: &Case,
-    network: &Network,
+    present: &Present<'_>,
     cert: &Cert,
     work: &mut Work,
     keys: &mut [u128],
 ) -> Option<Flaw>
-    requires of_case { network.now ≡ network_of case.now }
-    requires room { HasRoom (rows_of case.now) work.old }
-    requires keys { length keys.old ≡ length case.now.meters + length case.now.candidates }
-    ensures flaw { result ≡ first_flaw case.now 1 cert.now }
-    ensures room { HasRoom (rows_of case.now) work.new }
+    requires room { HasRoom (rows_of present.now) work.old }
+    requires keys { length keys.old ≡ length present.now.meters + length present.now.candidates }
+    ensures flaw { result ≡ first_flaw present.now 1 cert.now }
+    ensures room { HasRoom (rows_of present.now) work.new }
     ensures keys { length keys.new ≡ length keys.old }
 {
     let _claims = cert.claims();
     work.begin();
-    let live = count_live(case, network);
-    sort_keys(case, network, keys);
+    let live = count_live(present);
+    sort_keys(present, keys);
     let mut at = 0;
     for claim in cert.walk() {
         at += 1;
-        if let Some(code) = flaw_of(case, network, live, keys, claim, work, at) {
+        if let Some(code) = flaw_of(present, live, keys, claim, work, at) {
             return Some(Flaw { claim: at, code });
         }
     }

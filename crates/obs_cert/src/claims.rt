@@ -1,6 +1,6 @@
 // The flaw of a claim.
 ghost use Rattle.std.specs.Prelude.{◌≡◌, [], ℕ, Bool, false, suc, length};
-ghost use Rattle.obs_network.specs.Network.{network_of, rows_of};
+ghost use Rattle.obs_network.specs.Network.{rows_of};
 ghost use Rattle.obs_cert.specs.Flaws.{bound_clauses, bound_flaw, first_true, flaw_of, list_clauses, not_inside, shortfall_flaw, tree_flaw, twice};
 ghost use Rattle.obs_cert.specs.Joins.{AreJoined};
 ghost use Rattle.obs_cert.specs.Keys.{AreKeys};
@@ -15,28 +15,26 @@ use crate::forests::{forest, has_pair_twice, has_unknown_pair};
 use crate::lists::{count, has_outside, has_twice, has_unknown};
 use crate::pairs::has_untouched;
 use crate::plans::plan;
+use crate::present::Present;
 use crate::scopes::{Scope, component_named};
 use crate::stars::measure_listed;
 use crate::walk::{ClaimLines, Sort, walk_items, walk_pairs};
 use crate::work::Work;
-use obs_case::Case;
-use obs_network::Network;
 
 // The flaw of a tree claim.
 fn tree(
-    case: &Case,
-    network: &Network,
+    present: &Present<'_>,
     name: &[u8],
     rest: &[u8],
     work: &mut Work,
     stamp: u32,
 ) -> Option<FlawCode>
-    requires of_case { network.now ≡ network_of case.now }
-    requires ready { IsReady case.now stamp work.old }
-    ensures flaw { result ≡ tree_flaw case.now (record { component = name.now; pairs = (parts_in rest.now).pairs }) }
-    ensures ready { IsReady case.now (suc stamp) work.new }
+    requires ready { IsReady present.now stamp work.old }
+    ensures flaw { result ≡ tree_flaw present.now (record { component = name.now; pairs = (parts_in rest.now).pairs }) }
+    ensures ready { IsReady present.now (suc stamp) work.new }
 {
-    let Some(named) = component_named(case, network, name) else {
+    let case = present.case();
+    let Some(named) = component_named(present, name) else {
         return Some(FlawCode::UnknownName);
     };
     if has_unknown_pair(case, rest) {
@@ -46,16 +44,16 @@ fn tree(
         return Some(FlawCode::NotComponent);
     }
     let scope = Scope::Component(named.component);
-    if has_outside(case, network, scope, walk_items(Sort::Paired, rest)) {
+    if has_outside(present, scope, walk_items(Sort::Paired, rest)) {
         return Some(FlawCode::NotInside);
     }
-    if has_untouched(case, network, walk_pairs(rest)) {
+    if has_untouched(present, walk_pairs(rest)) {
         return Some(FlawCode::NotTouched);
     }
     if has_pair_twice(case, rest, &mut work.paired, &mut work.taken, stamp) {
         return Some(FlawCode::Twice);
     }
-    forest(case, network, rest, named.need, work)
+    forest(present, rest, named.need, work)
 }
 
 // The numbers that a bound states: a rank, and a number outside, both of them together below a need.
@@ -69,26 +67,24 @@ struct Stated {
 // The flaw of the numbers that are stated for a list without doubles, in a scope of so many items that has all that are
 // listed.
 fn numbers(
-    case: &Case,
-    network: &Network,
+    present: &Present<'_>,
     rest: &[u8],
     scope: u32,
     stated: Stated,
     work: &mut Work,
 ) -> Option<FlawCode>
-    requires of_case { network.now ≡ network_of case.now }
-    requires room { HasRoom (rows_of case.now) work.old }
+    requires room { HasRoom (rows_of present.now) work.old }
     requires clear { AreJoined [] work.old.ups.items [] }
-    requires kept { AreStarRanks case.now work.old.stars.items }
-    requires once { twice (items_of case.now (parts_in rest.now).inside) ≡ false }
-    ensures flaw { (test : ℕ → Bool) → scope ≡ length (scope_of case.now test) → OfItems case.now test
-        → not_inside test (items_of case.now (parts_in rest.now).inside) ≡ false
-        → result ≡ first_true (bound_clauses case.now test (items_of case.now (parts_in rest.now).inside)
+    requires kept { AreStarRanks present.now work.old.stars.items }
+    requires once { twice (items_of present.now (parts_in rest.now).inside) ≡ false }
+    ensures flaw { (test : ℕ → Bool) → scope ≡ length (scope_of present.now test) → OfItems present.now test
+        → not_inside test (items_of present.now (parts_in rest.now).inside) ≡ false
+        → result ≡ first_true (bound_clauses present.now test (items_of present.now (parts_in rest.now).inside)
         stated.rank stated.outside stated.need) }
-    ensures ready { (stamp : ℕ) → IsReady case.now stamp work.old → IsReady case.now stamp work.new }
+    ensures ready { (stamp : ℕ) → IsReady present.now stamp work.old → IsReady present.now stamp work.new }
 {
     let (stars, ups, moved) = (&mut work.stars, &mut work.ups, &mut work.moved);
-    let rank = measure_listed(case, network, rest, stars, ups, moved);
+    let rank = measure_listed(present, rest, stars, ups, moved);
     if u64::from(rank) != stated.rank {
         return Some(FlawCode::WrongRank);
     }
@@ -104,51 +100,49 @@ fn numbers(
 
 // The flaw of a list and these numbers.
 fn list(
-    case: &Case,
-    network: &Network,
+    present: &Present<'_>,
     rest: &[u8],
     scope: u32,
     stated: Stated,
     work: &mut Work,
     stamp: u32,
 ) -> Option<FlawCode>
-    requires of_case { network.now ≡ network_of case.now }
-    requires ready { IsReady case.now stamp work.old }
-    ensures flaw { (test : ℕ → Bool) → scope ≡ length (scope_of case.now test) → OfItems case.now test
-        → not_inside test (items_of case.now (parts_in rest.now).inside) ≡ false
-        → result ≡ first_true (list_clauses case.now test (items_of case.now (parts_in rest.now).inside)
+    requires ready { IsReady present.now stamp work.old }
+    ensures flaw { (test : ℕ → Bool) → scope ≡ length (scope_of present.now test) → OfItems present.now test
+        → not_inside test (items_of present.now (parts_in rest.now).inside) ≡ false
+        → result ≡ first_true (list_clauses present.now test (items_of present.now (parts_in rest.now).inside)
         stated.rank stated.outside stated.need) }
-    ensures ready { IsReady case.now (suc stamp) work.new }
+    ensures ready { IsReady present.now (suc stamp) work.new }
 {
+    let case = present.case();
     let items = walk_items(Sort::Inside, rest);
     if has_twice(case, items, &mut work.listed, stamp) {
         return Some(FlawCode::Twice);
     }
-    numbers(case, network, rest, scope, stated, work)
+    numbers(present, rest, scope, stated, work)
 }
 
 // The flaw of a bound claim.
 fn bound(
-    case: &Case,
-    network: &Network,
+    present: &Present<'_>,
     name: &[u8],
     numbers: (u64, u64),
     rest: &[u8],
     work: &mut Work,
     stamp: u32,
 ) -> Option<FlawCode>
-    requires of_case { network.now ≡ network_of case.now }
-    requires ready { IsReady case.now stamp work.old }
-    ensures flaw { result ≡ bound_flaw case.now (record {
+    requires ready { IsReady present.now stamp work.old }
+    ensures flaw { result ≡ bound_flaw present.now (record {
       component = name.now;
       rank = numbers.0;
       outside = numbers.1;
       inside = (parts_in rest.now).inside;
     }) }
-    ensures ready { IsReady case.now (suc stamp) work.new }
+    ensures ready { IsReady present.now (suc stamp) work.new }
 {
-    let _nodes = case.nodes();
-    let Some(named) = component_named(case, network, name) else {
+    let case = present.case();
+    let network = present.network();
+    let Some(named) = component_named(present, name) else {
         return Some(FlawCode::UnknownName);
     };
     if has_unknown(case, walk_items(Sort::Inside, rest)) {
@@ -158,7 +152,7 @@ fn bound(
         return Some(FlawCode::NotComponent);
     }
     let scope = Scope::Component(named.component);
-    if has_outside(case, network, scope, walk_items(Sort::Inside, rest)) {
+    if has_outside(present, scope, walk_items(Sort::Inside, rest)) {
         return Some(FlawCode::NotInside);
     }
     let stated = Stated {
@@ -167,33 +161,33 @@ fn bound(
         need: named.need,
     };
     let scope = network.live_meters(named.component).len() as u32;
-    list(case, network, rest, scope, stated, work, stamp)
+    list(present, rest, scope, stated, work, stamp)
 }
 
 // The flaw of a shortfall claim, where there are so many live items.
 fn shortfall(
-    case: &Case,
-    network: &Network,
+    present: &Present<'_>,
     live: u32,
     numbers: (u64, u64),
     rest: &[u8],
     work: &mut Work,
     stamp: u32,
 ) -> Option<FlawCode>
-    requires of_case { network.now ≡ network_of case.now }
-    requires live { live ≡ length (scope_of case.now (is_live_item case.now)) }
-    requires ready { IsReady case.now stamp work.old }
-    ensures flaw { result ≡ shortfall_flaw case.now (record {
+    requires live { live ≡ length (scope_of present.now (is_live_item present.now)) }
+    requires ready { IsReady present.now stamp work.old }
+    ensures flaw { result ≡ shortfall_flaw present.now (record {
       rank = numbers.0;
       outside = numbers.1;
       inside = (parts_in rest.now).inside;
     }) }
-    ensures ready { IsReady case.now (suc stamp) work.new }
+    ensures ready { IsReady present.now (suc stamp) work.new }
 {
+    let case = present.case();
+    let network = present.network();
     if has_unknown(case, walk_items(Sort::Inside, rest)) {
         return Some(FlawCode::UnknownName);
     }
-    if has_outside(case, network, Scope::Live, walk_items(Sort::Inside, rest)) {
+    if has_outside(present, Scope::Live, walk_items(Sort::Inside, rest)) {
         return Some(FlawCode::NotInside);
     }
     let stated = Stated {
@@ -201,34 +195,32 @@ fn shortfall(
         outside: numbers.1,
         need: network.needed(),
     };
-    list(case, network, rest, live, stated, work, stamp)
+    list(present, rest, live, stated, work, stamp)
 }
 
 /// The flaw of a claim on a case with so many live items and these keys.
 pub(crate) fn flaw_of(
-    case: &Case,
-    network: &Network,
+    present: &Present<'_>,
     live: u32,
     keys: &[u128],
     claim: ClaimLines<'_>,
     work: &mut Work,
     stamp: u32,
 ) -> Option<FlawCode>
-    requires of_case { network.now ≡ network_of case.now }
-    requires keys { AreKeys case.now keys.now }
-    requires live { live ≡ length (scope_of case.now (is_live_item case.now)) }
-    requires ready { IsReady case.now stamp work.old }
-    ensures flaw { result ≡ flaw_of case.now (claim_said claim.entry) }
-    ensures ready { IsReady case.now (suc stamp) work.new }
+    requires keys { AreKeys present.now keys.now }
+    requires live { live ≡ length (scope_of present.now (is_live_item present.now)) }
+    requires ready { IsReady present.now stamp work.old }
+    ensures flaw { result ≡ flaw_of present.now (claim_said claim.entry) }
+    ensures ready { IsReady present.now (suc stamp) work.new }
 {
     match claim {
-        ClaimLines::Tree(name, rest) => tree(case, network, name, rest, work, stamp),
+        ClaimLines::Tree(name, rest) => tree(present, name, rest, work, stamp),
         ClaimLines::Bound(name, rank, outside, rest) => {
-            bound(case, network, name, (rank, outside), rest, work, stamp)
+            bound(present, name, (rank, outside), rest, work, stamp)
         }
-        ClaimLines::Cost(number, rest) => plan(case, network, number, rest, keys, work, stamp),
+        ClaimLines::Cost(number, rest) => plan(present, number, rest, keys, work, stamp),
         ClaimLines::Shortfall(rank, outside, rest) => {
-            shortfall(case, network, live, (rank, outside), rest, work, stamp)
+            shortfall(present, live, (rank, outside), rest, work, stamp)
         }
     }
 }

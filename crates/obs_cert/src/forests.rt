@@ -1,6 +1,6 @@
 // The clauses on pairs that tree and cost claims have in common.
 ghost use Rattle.std.specs.Prelude.{◌≡◌, ◌<◌, ◌+◌, [], ℕ, Bool, List, Some, IfNone, IfSome, suc, length};
-ghost use Rattle.obs_network.specs.Network.{case_position_count, network_of, rows_of};
+ghost use Rattle.obs_network.specs.Network.{case_position_count, rows_of};
 ghost use Rattle.obs_cert.specs.Flaws.{forest_clauses, first_true, paired_twice, twice, unknown_pair};
 ghost use Rattle.obs_cert.specs.Joins.{AreJoined};
 ghost use Rattle.obs_cert.specs.Marks.{AreBelow};
@@ -12,10 +12,10 @@ ghost use Rattle.obs_cert.specs.Walked.{parts_in};
 use crate::flaw::FlawCode;
 use crate::lists::{has_twice, has_unknown};
 use crate::pairs::{has_branch_twice, has_unknown_branch, measure_pairs};
+use crate::present::Present;
 use crate::walk::{Sort, walk_items, walk_pairs};
 use crate::work::Work;
 use obs_case::Case;
-use obs_network::Network;
 
 /// Whether a name of the pairs isn't in its table.
 pub(crate) fn has_unknown_pair(case: &Case, rest: &[u8]) -> bool
@@ -47,31 +47,23 @@ pub(crate) fn has_pair_twice(
 
 /// The flaw of the pairs' branches and their number.
 pub(crate) fn forest(
-    case: &Case,
-    network: &Network,
+    present: &Present<'_>,
     rest: &[u8],
     need: u32,
     work: &mut Work,
 ) -> Option<FlawCode>
-    requires of_case { network.now ≡ network_of case.now }
-    requires room { HasRoom (rows_of case.now) work.old }
+    requires room { HasRoom (rows_of present.now) work.old }
     requires clear { AreJoined [] work.old.ups.items [] }
     ensures none { IfNone result ((clauses : List (Bool × FlawCode)) →
-        first_true (forest_clauses case.now (pairs_of case.now (parts_in rest.now).pairs) need clauses)
+        first_true (forest_clauses present.now (pairs_of present.now (parts_in rest.now).pairs) need clauses)
         ≡ first_true clauses) }
     ensures flaw { IfSome result (λ code. (clauses : List (Bool × FlawCode)) →
-        first_true (forest_clauses case.now (pairs_of case.now (parts_in rest.now).pairs) need clauses) ≡ Some code) }
-    ensures ready { (stamp : ℕ) → IsReady case.now stamp work.old → IsReady case.now stamp work.new }
-    ensures room { HasRoom (rows_of case.now) work.new }
+        first_true (forest_clauses present.now (pairs_of present.now (parts_in rest.now).pairs) need clauses) ≡ Some code) }
+    ensures ready { (stamp : ℕ) → IsReady present.now stamp work.old → IsReady present.now stamp work.new }
+    ensures room { HasRoom (rows_of present.now) work.new }
     ensures clear { AreJoined [] work.new.ups.items [] }
 {
-    let forest = measure_pairs(
-        case,
-        network,
-        walk_pairs(rest),
-        &mut work.ups,
-        &mut work.moved,
-    );
+    let forest = measure_pairs(present, walk_pairs(rest), &mut work.ups, &mut work.moved);
     if forest.cycle {
         return Some(FlawCode::Cycle);
     }

@@ -1,19 +1,18 @@
 // How many live items are below a price, by keys that are sorted once for all claims.
 ghost use Rattle.std.specs.Prelude.{◌≡◌, ◌+◌, length};
-ghost use Rattle.obs_network.specs.Network.{network_of};
 ghost use Rattle.obs_cert.specs.Keys.{AreKeys, key_of, keys_of};
 ghost use Rattle.obs_cert.specs.Scopes.{is_below, scope_of};
 
+use crate::present::Present;
 use crate::scopes::{is_live, is_meter, price_at};
 use obs_case::Case;
-use obs_network::Network;
 
 // The key of an item.
-fn key_of(case: &Case, network: &Network, m: u32) -> u128
-    requires of_case { network.now ≡ network_of case.now }
-    ensures key { result ≡ key_of case.now m }
+fn key_of(present: &Present<'_>, m: u32) -> u128
+    ensures key { result ≡ key_of present.now m }
 {
-    if !is_live(case, network, m) {
+    let case = present.case();
+    if !is_live(present, m) {
         return u128::MAX;
     }
     if is_meter(case, m) {
@@ -23,26 +22,24 @@ fn key_of(case: &Case, network: &Network, m: u32) -> u128
 }
 
 // Writes the key of each item.
-fn write_keys(case: &Case, network: &Network, keys: &mut [u128])
-    requires of_case { network.now ≡ network_of case.now }
-    requires room { length keys.old ≡ length case.now.meters + length case.now.candidates }
-    ensures keys { keys.new ≡ keys_of case.now }
+fn write_keys(present: &Present<'_>, keys: &mut [u128])
+    requires room { length keys.old ≡ length present.now.meters + length present.now.candidates }
+    ensures keys { keys.new ≡ keys_of present.now }
 {
-    let _meters = case.meters();
+    let _case = present.case();
     for m in 0..keys.len() {
-        keys[m] = key_of(case, network, m as u32);
+        keys[m] = key_of(present, m as u32);
     }
 }
 
 /// Writes the keys of all items, and sorts them.
-pub(crate) fn sort_keys(case: &Case, network: &Network, keys: &mut [u128])
-    requires of_case { network.now ≡ network_of case.now }
-    requires room { length keys.old ≡ length case.now.meters + length case.now.candidates }
-    ensures keys { AreKeys case.now keys.new }
+pub(crate) fn sort_keys(present: &Present<'_>, keys: &mut [u128])
+    requires room { length keys.old ≡ length present.now.meters + length present.now.candidates }
+    ensures keys { AreKeys present.now keys.new }
     ensures len { length keys.new ≡ length keys.old }
 {
-    let _meters = case.meters();
-    write_keys(case, network, keys);
+    let _case = present.case();
+    write_keys(present, keys);
     keys.sort_unstable();
 }
 

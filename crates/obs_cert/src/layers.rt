@@ -2,7 +2,6 @@
 ghost use Rattle.std.specs.Prelude.{◌≡◌, ◌≤◌, ◌^◌, ◌-◌, ◌*◌, ◌||◌, ◌++◌, ◌∷◌, [], false, ℕ, List, length, min, nat_lt, not, take};
 ghost use Rattle.std.specs.List.{list_any, sum_by};
 ghost use Rattle.obs_graph.specs.declared.Ends.{Ends};
-ghost use Rattle.obs_network.specs.Network.{network_of};
 ghost use Rattle.obs_cert.specs.Flaws.{all_inside, listed_layers, not_below, not_inside, runs_on, shows, twice, wrong_outside, wrong_rank};
 ghost use Rattle.obs_cert.specs.Joins.{AreJoined};
 ghost use Rattle.obs_cert.specs.Keys.{AreKeys};
@@ -14,10 +13,10 @@ use crate::joins::clear;
 use crate::keys::count_below;
 use crate::lists::{count, join_items};
 use crate::numbers::item_of;
+use crate::present::Present;
 use crate::scopes::{is_live, is_meter, price_at};
 use crate::walk::{Items, Layers, Sort, walk_items};
 use obs_case::Case;
-use obs_network::Network;
 
 /// What is known of the items that were listed so far:
 /// whether one is idle, and what the dearest of the candidates costs.
@@ -38,11 +37,11 @@ fn dearer(dearest: Option<u64>, price: u64) -> Option<u64>
 }
 
 // The same with one item more.
-fn see(case: &Case, network: &Network, m: u32, seen: Seen) -> Seen
-    requires of_case { network.now ≡ network_of case.now }
-    ensures tells { (list : List ℕ) → Tells case.now list seen → Tells case.now (list ++ m ∷ []) result }
+fn see(present: &Present<'_>, m: u32, seen: Seen) -> Seen
+    ensures tells { (list : List ℕ) → Tells present.now list seen → Tells present.now (list ++ m ∷ []) result }
 {
-    if !is_live(case, network, m) {
+    let case = present.case();
+    if !is_live(present, m) {
         return Seen {
             idle: true,
             dearest: seen.dearest,
@@ -58,14 +57,14 @@ fn see(case: &Case, network: &Network, m: u32, seen: Seen) -> Seen
 }
 
 // The same with these items more.
-fn see_items(case: &Case, network: &Network, items: Items<'_>, seen: Seen) -> Seen
-    requires of_case { network.now ≡ network_of case.now }
-    ensures tells { (list : List ℕ) → Tells case.now list seen
-        → Tells case.now (list ++ items_of case.now items.entry) result }
+fn see_items(present: &Present<'_>, items: Items<'_>, seen: Seen) -> Seen
+    ensures tells { (list : List ℕ) → Tells present.now list seen
+        → Tells present.now (list ++ items_of present.now items.entry) result }
 {
+    let case = present.case();
     let mut seen = seen;
     for item in items {
-        seen = see(case, network, item_of(case, item), seen);
+        seen = see(present, item_of(case, item), seen);
     }
     seen
 }
@@ -82,17 +81,16 @@ fn is_outside(seen: Seen, to: u64) -> bool
 }
 
 /// Whether an item of a layer's list isn't one that the layer may speak of.
-pub(crate) fn has_outside_layer(case: &Case, network: &Network, layers: Layers<'_>) -> bool
-    requires of_case { network.now ≡ network_of case.now }
-    ensures outside { result ≡ list_any (λ l. not_inside (is_below case.now l.layer.to) l.list)
-        (listed_layers case.now layers.entry) }
+pub(crate) fn has_outside_layer(present: &Present<'_>, layers: Layers<'_>) -> bool
+    ensures outside { result ≡ list_any (λ l. not_inside (is_below present.now l.layer.to) l.list)
+        (listed_layers present.now layers.entry) }
 {
     let mut seen = Seen {
         idle: false,
         dearest: None,
     };
     for layer in layers {
-        seen = see_items(case, network, walk_items(Sort::Inside, layer.rest), seen);
+        seen = see_items(present, walk_items(Sort::Inside, layer.rest), seen);
         if is_outside(seen, layer.to) {
             return true;
         }
@@ -102,27 +100,25 @@ pub(crate) fn has_outside_layer(case: &Case, network: &Network, layers: Layers<'
 
 // Whether a layer has a wrong rank. Joins what the lists touch.
 fn join_layers(
-    case: &Case,
-    network: &Network,
+    present: &Present<'_>,
     layers: Layers<'_>,
     ups: &mut [u32],
     moved: &mut [u32],
 ) -> (usize, bool)
-    requires of_case { network.now ≡ network_of case.now }
     requires clear { AreJoined [] ups.old [] }
-    requires vertices { length case.now.nodes ≤ length ups.old }
+    requires vertices { length present.now.nodes ≤ length ups.old }
     requires room { length ups.old ≤ length moved.old }
-    ensures rank { result.1 ≡ list_any (λ l. wrong_rank case.now l.list l.layer.rank)
-        (listed_layers case.now layers.entry) }
+    ensures rank { result.1 ≡ list_any (λ l. wrong_rank present.now l.list l.layer.rank)
+        (listed_layers present.now layers.entry) }
     ensures joined { (es : List Ends) × AreJoined es ups.new (take result.0 moved.new) }
     ensures count { result.0 ≤ length moved.new }
 {
-    let _nodes = case.nodes();
+    let _case = present.case();
     let mut count = 0;
     let mut wrong = false;
     for layer in layers {
         let items = walk_items(Sort::Inside, layer.rest);
-        count = join_items(case, network, items, ups, moved, count);
+        count = join_items(present, items, ups, moved, count);
         if count as u64 != layer.rank {
             wrong = true;
         }
@@ -132,33 +128,31 @@ fn join_layers(
 
 /// Whether a layer has a wrong rank.
 pub(crate) fn has_wrong_rank(
-    case: &Case,
-    network: &Network,
+    present: &Present<'_>,
     layers: Layers<'_>,
     ups: &mut [u32],
     moved: &mut [u32],
 ) -> bool
-    requires of_case { network.now ≡ network_of case.now }
     requires clear { AreJoined [] ups.old [] }
-    requires vertices { length case.now.nodes ≤ length ups.old }
+    requires vertices { length present.now.nodes ≤ length ups.old }
     requires room { length ups.old ≤ length moved.old }
-    ensures rank { result ≡ list_any (λ l. wrong_rank case.now l.list l.layer.rank)
-        (listed_layers case.now layers.entry) }
+    ensures rank { result ≡ list_any (λ l. wrong_rank present.now l.list l.layer.rank)
+        (listed_layers present.now layers.entry) }
     ensures clear { AreJoined [] ups.new [] }
 {
-    let (count, wrong) = join_layers(case, network, layers, ups, moved);
+    let (count, wrong) = join_layers(present, layers, ups, moved);
     clear(ups, &moved[..count]);
     wrong
 }
 
 /// How many live items there are.
-pub(crate) fn count_live(case: &Case, network: &Network) -> u32
-    requires of_case { network.now ≡ network_of case.now }
-    ensures count { result ≡ length (scope_of case.now (is_live_item case.now)) }
+pub(crate) fn count_live(present: &Present<'_>) -> u32
+    ensures count { result ≡ length (scope_of present.now (is_live_item present.now)) }
 {
+    let network = present.network();
     let mut count = 0;
     for m in 0..network.offered().count() {
-        if is_live(case, network, m) {
+        if is_live(present, m) {
             count += 1;
         }
     }

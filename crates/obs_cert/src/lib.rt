@@ -19,6 +19,7 @@ mod numbers;
 mod pairs;
 mod place;
 mod plans;
+mod present;
 mod scopes;
 mod stars;
 mod walk;

@@ -12,10 +12,10 @@ ghost use Rattle.obs_cert.specs.Scopes.{has, price_at, touches_of};
 use crate::joins::{clear, join_all};
 use crate::marks::mark;
 use crate::numbers::{is_known, item_of};
+use crate::present::Present;
 use crate::scopes::{Scope, in_scope, price_at};
 use crate::walk::Items;
 use obs_case::Case;
-use obs_network::Network;
 
 /// Whether an item isn't in its table.
 pub(crate) fn has_unknown(case: &Case, items: Items<'_>) -> bool
@@ -30,17 +30,12 @@ pub(crate) fn has_unknown(case: &Case, items: Items<'_>) -> bool
 }
 
 /// Whether an item isn't one that the claim may speak of.
-pub(crate) fn has_outside(
-    case: &Case,
-    network: &Network,
-    scope: Scope<'_>,
-    items: Items<'_>,
-) -> bool
-    requires of_case { network.now ≡ network_of case.now }
-    ensures outside { result ≡ not_inside (in_scope case.now scope.entry) (items_of case.now items.entry) }
+pub(crate) fn has_outside(present: &Present<'_>, scope: Scope<'_>, items: Items<'_>) -> bool
+    ensures outside { result ≡ not_inside (in_scope present.now scope.entry) (items_of present.now items.entry) }
 {
+    let case = present.case();
     for item in items {
-        if !in_scope(case, network, scope, item_of(case, item)) {
+        if !in_scope(present, scope, item_of(case, item)) {
             return true;
         }
     }
@@ -88,22 +83,21 @@ pub(crate) fn cost(case: &Case, items: Items<'_>) -> u128
 
 // Joins the ends of all branches that an item touches.
 fn join_touched(
-    case: &Case,
-    network: &Network,
+    present: &Present<'_>,
     m: u32,
     ups: &mut [u32],
     moved: &mut [u32],
     count: usize,
 ) -> usize
-    requires of_case { network.now ≡ network_of case.now }
     requires joined { (es : List Ends) × AreJoined es ups.old (take count moved.old) }
-    requires vertices { network.now.graph.vertices ≤ length ups.old }
+    requires vertices { (network_of present.now).graph.vertices ≤ length ups.old }
     requires room { length ups.old ≤ length moved.old }
     requires count { count ≤ length moved.old }
     ensures joined { (es : List Ends) → AreJoined es ups.old (take count moved.old) →
-        AreJoined (onto network.now.graph.ends (touches_of case.now m) es) ups.new (take result moved.new) }
+        AreJoined (onto (network_of present.now).graph.ends (touches_of present.now m) es) ups.new (take result moved.new) }
     ensures count { result ≤ length moved.new }
 {
+    let network = present.network();
     if m < network.offered().count() {
         let touched = network.offered().touch(network.graph(), m);
         join_all(network.graph(), touched, ups, moved, count)
@@ -114,48 +108,45 @@ fn join_touched(
 
 /// Joins the ends of all branches that the items touch.
 pub(crate) fn join_items(
-    case: &Case,
-    network: &Network,
+    present: &Present<'_>,
     items: Items<'_>,
     ups: &mut [u32],
     moved: &mut [u32],
     count: usize,
 ) -> usize
-    requires of_case { network.now ≡ network_of case.now }
     requires joined { (es : List Ends) × AreJoined es ups.old (take count moved.old) }
-    requires vertices { network.now.graph.vertices ≤ length ups.old }
+    requires vertices { (network_of present.now).graph.vertices ≤ length ups.old }
     requires room { length ups.old ≤ length moved.old }
     requires count { count ≤ length moved.old }
     ensures joined { (es : List Ends) → AreJoined es ups.old (take count moved.old) →
-        AreJoined (onto network.now.graph.ends (flat_map (touches_of case.now) (items_of case.now items.entry)) es)
+        AreJoined (onto (network_of present.now).graph.ends (flat_map (touches_of present.now) (items_of present.now items.entry)) es)
         ups.new (take result moved.new) }
     ensures count { result ≤ length moved.new }
 {
+    let case = present.case();
     let mut count = count;
     for item in items {
-        count = join_touched(case, network, item_of(case, item), ups, moved, count);
+        count = join_touched(present, item_of(case, item), ups, moved, count);
     }
     count
 }
 
 /// The rank of the branches that the items touch.
 pub(crate) fn measure_items(
-    case: &Case,
-    network: &Network,
+    present: &Present<'_>,
     items: Items<'_>,
     ups: &mut [u32],
     moved: &mut [u32],
 ) -> u32
-    requires of_case { network.now ≡ network_of case.now }
     requires clear { AreJoined [] ups.old [] }
-    requires vertices { length case.now.nodes ≤ length ups.old }
+    requires vertices { length present.now.nodes ≤ length ups.old }
     requires few { length ups.old < 2 ^ 32 }
     requires room { length ups.old ≤ length moved.old }
-    ensures rank { result ≡ rank_of_items case.now (items_of case.now items.entry) }
+    ensures rank { result ≡ rank_of_items present.now (items_of present.now items.entry) }
     ensures clear { AreJoined [] ups.new [] }
 {
-    let _nodes = case.nodes();
-    let count = join_items(case, network, items, ups, moved, 0);
+    let _case = present.case();
+    let count = join_items(present, items, ups, moved, 0);
     clear(ups, &moved[..count]);
     count as u32
 }

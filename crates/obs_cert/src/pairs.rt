@@ -3,7 +3,7 @@ ghost use Rattle.std.specs.Prelude.{◌≡◌, ◌≤◌, ◌<◌, ◌^◌, ◌=
 ghost use Rattle.std.specs.List.{cons_option};
 ghost use Rattle.obs_graph.specs.declared.Ends.{Ends};
 ghost use Rattle.obs_matroid.specs.Assignments.{branches};
-ghost use Rattle.obs_network.specs.Network.{case_position_count, network_of};
+ghost use Rattle.obs_network.specs.Network.{case_position_count};
 ghost use Rattle.obs_cert.specs.Flaws.{cycle, not_touched, rank_of_branches, twice, unknown_branch};
 ghost use Rattle.obs_cert.specs.Joins.{AreJoined, onto};
 ghost use Rattle.obs_cert.specs.Marks.{AreBelow};
@@ -12,11 +12,11 @@ ghost use Rattle.obs_cert.specs.Numbered.{pairs_of};
 use crate::joins::{clear, ends_of, join};
 use crate::marks::mark;
 use crate::numbers::{branch_of, is_known_branch, item_of};
+use crate::present::Present;
 use crate::scopes::touches;
 use crate::walk::Pairs;
 use obs_case::Case;
 use obs_graph::Graph;
-use obs_network::Network;
 
 /// Whether a branch isn't in its table.
 pub(crate) fn has_unknown_branch(case: &Case, pairs: Pairs<'_>) -> bool
@@ -31,14 +31,13 @@ pub(crate) fn has_unknown_branch(case: &Case, pairs: Pairs<'_>) -> bool
 }
 
 /// Whether a pair's branch isn't touched by its item.
-pub(crate) fn has_untouched(case: &Case, network: &Network, pairs: Pairs<'_>) -> bool
-    requires of_case { network.now ≡ network_of case.now }
-    ensures untouched { result ≡ not_touched case.now (pairs_of case.now pairs.entry) }
+pub(crate) fn has_untouched(present: &Present<'_>, pairs: Pairs<'_>) -> bool
+    ensures untouched { result ≡ not_touched present.now (pairs_of present.now pairs.entry) }
 {
+    let case = present.case();
     for pair in pairs {
         if !touches(
-            case,
-            network,
+            present,
             item_of(case, pair.item),
             branch_of(case, pair.branch),
         ) {
@@ -118,22 +117,21 @@ fn join_pairs(
 
 /// The rank of the pairs' branches, and whether they are no forest.
 pub(crate) fn measure_pairs(
-    case: &Case,
-    network: &Network,
+    present: &Present<'_>,
     pairs: Pairs<'_>,
     ups: &mut [u32],
     moved: &mut [u32],
 ) -> Forest
-    requires of_case { network.now ≡ network_of case.now }
     requires clear { AreJoined [] ups.old [] }
-    requires vertices { length case.now.nodes ≤ length ups.old }
+    requires vertices { length present.now.nodes ≤ length ups.old }
     requires few { length ups.old < 2 ^ 32 }
     requires room { length ups.old ≤ length moved.old }
-    ensures rank { result.rank ≡ rank_of_branches case.now (branches (pairs_of case.now pairs.entry)) }
-    ensures cycle { result.cycle ≡ cycle case.now (pairs_of case.now pairs.entry) }
+    ensures rank { result.rank ≡ rank_of_branches present.now (branches (pairs_of present.now pairs.entry)) }
+    ensures cycle { result.cycle ≡ cycle present.now (pairs_of present.now pairs.entry) }
     ensures clear { AreJoined [] ups.new [] }
 {
-    let _nodes = case.nodes();
+    let case = present.case();
+    let network = present.network();
     let (count, cycle) = join_pairs(case, network.graph(), pairs, ups, moved);
     clear(ups, &moved[..count]);
     Forest {

@@ -1,7 +1,7 @@
 // The flaw of a cost claim.
 ghost use Rattle.std.specs.Prelude.{◌≡◌, ◌||◌, [], ℕ, false, suc};
 ghost use Rattle.std.specs.List.{list_any};
-ghost use Rattle.obs_network.specs.Network.{case_needed, network_of, rows_of};
+ghost use Rattle.obs_network.specs.Network.{case_needed, rows_of};
 ghost use Rattle.obs_cert.specs.Flaws.{all_inside, costs_clauses, cost_flaw, first_true, layers_clauses, listed_layers, not_inside, outside_of_plan, twice, unknown_in_plan};
 ghost use Rattle.obs_cert.specs.Joins.{AreJoined};
 ghost use Rattle.obs_cert.specs.Keys.{AreKeys};
@@ -18,11 +18,11 @@ use crate::layers::{
 };
 use crate::lists::{cost, has_outside, has_twice, has_unknown};
 use crate::pairs::has_untouched;
+use crate::present::Present;
 use crate::scopes::Scope;
 use crate::walk::{Sort, walk_items, walk_layers, walk_pairs};
 use crate::work::Work;
 use obs_case::Case;
-use obs_network::Network;
 
 // The flaw of the cost, and of what the layers state beside their ranks and numbers outside.
 fn costs(case: &Case, number: u64, needed: u32, rest: &[u8]) -> Option<FlawCode>
@@ -45,31 +45,25 @@ fn costs(case: &Case, number: u64, needed: u32, rest: &[u8]) -> Option<FlawCode>
 
 // The flaw of the layers and the cost of a cost claim, where each item is inside and none stands twice.
 fn layers(
-    case: &Case,
-    network: &Network,
+    present: &Present<'_>,
     number: u64,
     rest: &[u8],
     keys: &[u128],
     work: &mut Work,
 ) -> Option<FlawCode>
-    requires of_case { network.now ≡ network_of case.now }
-    requires keys { AreKeys case.now keys.now }
-    requires room { HasRoom (rows_of case.now) work.old }
+    requires keys { AreKeys present.now keys.now }
+    requires room { HasRoom (rows_of present.now) work.old }
     requires clear { AreJoined [] work.old.ups.items [] }
-    requires inside { list_any (λ l. not_inside (is_below case.now l.layer.to) l.list)
-        (listed_layers case.now (parts_in rest.now).layers) ≡ false }
-    requires once { twice (items_of case.now (all_inside (parts_in rest.now).layers)) ≡ false }
-    ensures flaw { result ≡ first_true (layers_clauses case.now (cost_of number (parts_in rest.now))) }
-    ensures ready { (stamp : ℕ) → IsReady case.now stamp work.old → IsReady case.now stamp work.new }
+    requires inside { list_any (λ l. not_inside (is_below present.now l.layer.to) l.list)
+        (listed_layers present.now (parts_in rest.now).layers) ≡ false }
+    requires once { twice (items_of present.now (all_inside (parts_in rest.now).layers)) ≡ false }
+    ensures flaw { result ≡ first_true (layers_clauses present.now (cost_of number (parts_in rest.now))) }
+    ensures ready { (stamp : ℕ) → IsReady present.now stamp work.old → IsReady present.now stamp work.new }
 {
+    let case = present.case();
+    let network = present.network();
     let needed = network.needed();
-    if has_wrong_rank(
-        case,
-        network,
-        walk_layers(rest),
-        &mut work.ups,
-        &mut work.moved,
-    ) {
+    if has_wrong_rank(present, walk_layers(rest), &mut work.ups, &mut work.moved) {
         return Some(FlawCode::WrongRank);
     }
     if has_wrong_outside(case, keys, walk_layers(rest)) {
@@ -87,15 +81,14 @@ fn has_unknown_name(case: &Case, rest: &[u8]) -> bool
 }
 
 // Whether an item of a cost claim, whose chosen candidates are marked, isn't one that it may speak of.
-fn has_outside_item(case: &Case, network: &Network, rest: &[u8], chosen: &[u32], stamp: u32) -> bool
-    requires of_case { network.now ≡ network_of case.now }
+fn has_outside_item(present: &Present<'_>, rest: &[u8], chosen: &[u32], stamp: u32) -> bool
     requires marked { (x : ℕ) → is_marked chosen.now stamp x
-        ≡ has (items_of case.now (chosen_items (parts_in rest.now).chosen)) x }
-    ensures outside { (number : ℕ) → result ≡ outside_of_plan case.now (cost_of number (parts_in rest.now)) }
+        ≡ has (items_of present.now (chosen_items (parts_in rest.now).chosen)) x }
+    ensures outside { (number : ℕ) → result ≡ outside_of_plan present.now (cost_of number (parts_in rest.now)) }
 {
     let paired = walk_items(Sort::Paired, rest);
-    has_outside(case, network, Scope::Plan(chosen, stamp), paired)
-        || has_outside_layer(case, network, walk_layers(rest))
+    has_outside(present, Scope::Plan(chosen, stamp), paired)
+        || has_outside_layer(present, walk_layers(rest))
 }
 
 // Whether one of three holds.
@@ -107,29 +100,29 @@ fn either(a: bool, b: bool, c: bool) -> bool
 
 /// The flaw of a cost claim.
 pub(crate) fn plan(
-    case: &Case,
-    network: &Network,
+    present: &Present<'_>,
     number: u64,
     rest: &[u8],
     keys: &[u128],
     work: &mut Work,
     stamp: u32,
 ) -> Option<FlawCode>
-    requires of_case { network.now ≡ network_of case.now }
-    requires keys { AreKeys case.now keys.now }
-    requires ready { IsReady case.now stamp work.old }
-    ensures flaw { result ≡ cost_flaw case.now (cost_of number (parts_in rest.now)) }
-    ensures ready { IsReady case.now (suc stamp) work.new }
+    requires keys { AreKeys present.now keys.now }
+    requires ready { IsReady present.now stamp work.old }
+    ensures flaw { result ≡ cost_flaw present.now (cost_of number (parts_in rest.now)) }
+    ensures ready { IsReady present.now (suc stamp) work.new }
 {
+    let case = present.case();
+    let network = present.network();
     if has_unknown_name(case, rest) {
         return Some(FlawCode::UnknownName);
     }
     let chosen = walk_items(Sort::Chosen, rest);
     let chosen_twice = has_twice(case, chosen, &mut work.chosen, stamp);
-    if has_outside_item(case, network, rest, &work.chosen, stamp) {
+    if has_outside_item(present, rest, &work.chosen, stamp) {
         return Some(FlawCode::NotInside);
     }
-    if has_untouched(case, network, walk_pairs(rest)) {
+    if has_untouched(present, walk_pairs(rest)) {
         return Some(FlawCode::NotTouched);
     }
     let pair_twice = has_pair_twice(case, rest, &mut work.paired, &mut work.taken, stamp);
@@ -138,8 +131,8 @@ pub(crate) fn plan(
     if either(chosen_twice, pair_twice, listed_twice) {
         return Some(FlawCode::Twice);
     }
-    if let Some(code) = forest(case, network, rest, network.needed(), work) {
+    if let Some(code) = forest(present, rest, network.needed(), work) {
         return Some(code);
     }
-    layers(case, network, number, rest, keys, work)
+    layers(present, number, rest, keys, work)
 }

@@ -10,10 +10,10 @@ ghost use Rattle.obs_cert.specs.Scopes.{has, is_live_item, is_meter, is_this, na
 ghost use Rattle.obs_case.specs.Tables.{has_name, node_names};
 ghost use Rattle.obs_cert.specs.InScope.{in_scope};
 
+use crate::present::Present;
 use obs_case::Case;
 use obs_graph::Graph;
 use obs_meter::Touch;
-use obs_network::Network;
 
 /// Which items a claim may speak of.
 #[derive(Clone, Copy, Debug)]
@@ -27,10 +27,10 @@ pub(crate) enum Scope<'a> {
 }
 
 /// Whether an item is live.
-pub(crate) fn is_live(case: &Case, network: &Network, m: u32) -> bool
-    requires of_case { network.now ≡ network_of case.now }
-    ensures live { result ≡ is_live_item case.now m }
+pub(crate) fn is_live(present: &Present<'_>, m: u32) -> bool
+    ensures live { result ≡ is_live_item present.now m }
 {
+    let network = present.network();
     if m < network.offered().count() {
         network.offered().live(network.graph(), m)
     } else {
@@ -68,10 +68,10 @@ pub(crate) fn is_marked(marks: &[u32], stamp: u32, x: u32) -> bool
 }
 
 // Whether an item lies in a component.
-fn lies_in(case: &Case, network: &Network, m: u32, c: u32) -> bool
-    requires of_case { network.now ≡ network_of case.now }
-    ensures inside { result ≡ is_this (component_of_item network.now m) c }
+fn lies_in(present: &Present<'_>, m: u32, c: u32) -> bool
+    ensures inside { result ≡ is_this (component_of_item (network_of present.now) m) c }
 {
+    let network = present.network();
     if m < network.offered().count() {
         match network.component_of_item(m) {
             Some(d) => d == c,
@@ -109,10 +109,10 @@ fn is_touched(g: &Graph, touch: Touch, e: u32) -> bool
 }
 
 /// Whether an item touches a branch.
-pub(crate) fn touches(case: &Case, network: &Network, m: u32, e: u32) -> bool
-    requires of_case { network.now ≡ network_of case.now }
-    ensures touched { result ≡ has (touches_of case.now m) e }
+pub(crate) fn touches(present: &Present<'_>, m: u32, e: u32) -> bool
+    ensures touched { result ≡ has (touches_of present.now m) e }
 {
+    let network = present.network();
     if m < network.offered().count() {
         is_touched(network.graph(), network.offered().kind(m), e)
     } else {
@@ -121,38 +121,38 @@ pub(crate) fn touches(case: &Case, network: &Network, m: u32, e: u32) -> bool
 }
 
 /// Whether a claim may speak of an item.
-pub(crate) fn in_scope(case: &Case, network: &Network, scope: Scope<'_>, m: u32) -> bool
-    requires of_case { network.now ≡ network_of case.now }
-    ensures inside { result ≡ in_scope case.now scope.entry m }
+pub(crate) fn in_scope(present: &Present<'_>, scope: Scope<'_>, m: u32) -> bool
+    ensures inside { result ≡ in_scope present.now scope.entry m }
 {
+    let case = present.case();
     match scope {
-        Scope::Component(c) => is_meter(case, m) && lies_in(case, network, m, c),
+        Scope::Component(c) => is_meter(case, m) && lies_in(present, m, c),
         Scope::Plan(marks, stamp) => {
-            is_live(case, network, m) && (is_meter(case, m) || is_marked(marks, stamp, m))
+            is_live(present, m) && (is_meter(case, m) || is_marked(marks, stamp, m))
         }
-        Scope::Live => is_live(case, network, m),
+        Scope::Live => is_live(present, m),
     }
 }
 
 // Whether a node is the first one of its bus.
-fn is_first_node(case: &Case, network: &Network, node: u32) -> bool
-    requires of_case { network.now ≡ network_of case.now }
-    requires node { node < length case.now.nodes }
-    ensures first { result ≡ (case_first_node case.now node == node) }
+fn is_first_node(present: &Present<'_>, node: u32) -> bool
+    requires node { node < length present.now.nodes }
+    ensures first { result ≡ (case_first_node present.now node == node) }
 {
+    let network = present.network();
     let buses = network.buses();
     buses.members(buses.bus(node))[0] == node
 }
 
 // Whether a node is the first one of its bus, and this the first bus of an energised component.
-fn names(case: &Case, network: &Network, node: u32) -> bool
-    requires of_case { network.now ≡ network_of case.now }
-    requires node { node < length case.now.nodes }
-    ensures names { result ≡ names_at case.now node }
+fn names(present: &Present<'_>, node: u32) -> bool
+    requires node { node < length present.now.nodes }
+    ensures names { result ≡ names_at present.now node }
 {
+    let network = present.network();
     let bus = network.buses().bus(node);
     let c = network.component(bus);
-    let first_node = is_first_node(case, network, node);
+    let first_node = is_first_node(present, node);
     let first_bus = network.first_bus(c) == bus;
     let energised = network.energised(c);
     first_node && (first_bus && energised)
@@ -167,15 +167,15 @@ pub(crate) struct Named {
 }
 
 /// The component that a name stands for, and None where no node has the name.
-pub(crate) fn component_named(case: &Case, network: &Network, name: &[u8]) -> Option<Named>
-    requires of_case { network.now ≡ network_of case.now }
-    ensures known { is_some result ≡ has_name (node_names case.now) name.now }
-    ensures component { IfSome result (λ n. n.component ≡ named_component case.now name.now) }
-    ensures need { IfSome result (λ n. n.need ≡ named_need case.now name.now) }
-    ensures names { IfSome result (λ n. n.energised ≡ names_component case.now name.now) }
-    ensures below { IfSome result (λ n. n.component < length network.now.components.first_buses) }
+pub(crate) fn component_named(present: &Present<'_>, name: &[u8]) -> Option<Named>
+    ensures known { is_some result ≡ has_name (node_names present.now) name.now }
+    ensures component { IfSome result (λ n. n.component ≡ named_component present.now name.now) }
+    ensures need { IfSome result (λ n. n.need ≡ named_need present.now name.now) }
+    ensures names { IfSome result (λ n. n.energised ≡ names_component present.now name.now) }
+    ensures below { IfSome result (λ n. n.component < length (network_of present.now).components.first_buses) }
 {
-    let _nodes = case.nodes();
+    let case = present.case();
+    let network = present.network();
     let Some(node) = case.find_node(name) else {
         return None;
     };
@@ -183,6 +183,6 @@ pub(crate) fn component_named(case: &Case, network: &Network, name: &[u8]) -> Op
     Some(Named {
         component,
         need: network.need(component),
-        energised: names(case, network, node),
+        energised: names(present, node),
     })
 }

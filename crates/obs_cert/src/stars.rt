@@ -15,10 +15,9 @@ use crate::joins::{clear, join_all};
 use crate::line::Item;
 use crate::lists::measure_items;
 use crate::numbers::item_of;
+use crate::present::Present;
 use crate::walk::{Items, Sort, walk_items};
-use obs_case::Case;
 use obs_meter::Touch;
-use obs_network::Network;
 
 // The one item that is listed.
 fn only(items: Items<'_>) -> Option<Item<'_>>
@@ -33,11 +32,11 @@ fn only(items: Items<'_>) -> Option<Item<'_>>
 }
 
 // The vertex at which an item touches all branches.
-fn star_of(case: &Case, network: &Network, m: u32) -> Option<u32>
-    requires of_case { network.now ≡ network_of case.now }
-    ensures star { IfSome result (λ v. touches_of case.now m ≡ branches_at network.now.graph.ends v) }
-    ensures vertex { IfSome result (λ v. v < network.now.graph.vertices) }
+fn star_of(present: &Present<'_>, m: u32) -> Option<u32>
+    ensures star { IfSome result (λ v. touches_of present.now m ≡ branches_at (network_of present.now).graph.ends v) }
+    ensures vertex { IfSome result (λ v. v < (network_of present.now).graph.vertices) }
 {
+    let network = present.network();
     if m >= network.offered().count() {
         return None;
     }
@@ -60,26 +59,25 @@ fn keep(stars: &mut [u32], v: u32, rank: u32)
 
 // The rank of the branches at a vertex.
 fn measure_star(
-    case: &Case,
-    network: &Network,
+    present: &Present<'_>,
     v: u32,
     stars: &mut [u32],
     ups: &mut [u32],
     moved: &mut [u32],
 ) -> u32
-    requires of_case { network.now ≡ network_of case.now }
-    requires vertex { v < network.now.graph.vertices }
+    requires vertex { v < (network_of present.now).graph.vertices }
     requires clear { AreJoined [] ups.old [] }
-    requires vertices { length case.now.nodes ≤ length ups.old }
+    requires vertices { length present.now.nodes ≤ length ups.old }
     requires few { length ups.old < 2 ^ 32 }
     requires room { length ups.old ≤ length moved.old }
     requires stars { length ups.old ≤ length stars.old }
-    requires kept { AreStarRanks case.now stars.old }
-    ensures rank { result ≡ star_rank case.now v }
+    requires kept { AreStarRanks present.now stars.old }
+    ensures rank { result ≡ star_rank present.now v }
     ensures clear { AreJoined [] ups.new [] }
-    ensures kept { AreStarRanks case.now stars.new }
+    ensures kept { AreStarRanks present.now stars.new }
 {
-    let _nodes = case.nodes();
+    let _case = present.case();
+    let network = present.network();
     let known = stars[v as usize];
     if known > 0 {
         return known - 1;
@@ -93,28 +91,27 @@ fn measure_star(
 
 /// The rank of the branches that the listed items of a claim touch.
 pub(crate) fn measure_listed(
-    case: &Case,
-    network: &Network,
+    present: &Present<'_>,
     rest: &[u8],
     stars: &mut [u32],
     ups: &mut [u32],
     moved: &mut [u32],
 ) -> u32
-    requires of_case { network.now ≡ network_of case.now }
     requires clear { AreJoined [] ups.old [] }
-    requires vertices { length case.now.nodes ≤ length ups.old }
+    requires vertices { length present.now.nodes ≤ length ups.old }
     requires few { length ups.old < 2 ^ 32 }
     requires room { length ups.old ≤ length moved.old }
     requires stars { length ups.old ≤ length stars.old }
-    requires kept { AreStarRanks case.now stars.old }
-    ensures rank { result ≡ rank_of_items case.now (items_of case.now (parts_in rest.now).inside) }
+    requires kept { AreStarRanks present.now stars.old }
+    ensures rank { result ≡ rank_of_items present.now (items_of present.now (parts_in rest.now).inside) }
     ensures clear { AreJoined [] ups.new [] }
-    ensures kept { AreStarRanks case.now stars.new }
+    ensures kept { AreStarRanks present.now stars.new }
 {
+    let case = present.case();
     if let Some(item) = only(walk_items(Sort::Inside, rest)) {
-        if let Some(v) = star_of(case, network, item_of(case, item)) {
-            return measure_star(case, network, v, stars, ups, moved);
+        if let Some(v) = star_of(present, item_of(case, item)) {
+            return measure_star(present, v, stars, ups, moved);
         }
     }
-    measure_items(case, network, walk_items(Sort::Inside, rest), ups, moved)
+    measure_items(present, walk_items(Sort::Inside, rest), ups, moved)
 }

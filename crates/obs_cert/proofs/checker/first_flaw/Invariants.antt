@@ -5,5 +5,5 @@ use Rattle.obs_cert.proofs.checker.first_flaw.Given as goal
 
 abbrev pub invariant-loop-claim : goal.invariant-loop-claim
 invariant-loop-claim l =
-    (first_flaw l.case 1 l.cert ≡ first_flaw l.case (l.at + 1) l.claim-iterator)
-    × (l.at + length l.claim-iterator ≡ length l.cert) × IsReady l.case (suc l.at) l.work
+    (first_flaw l.present 1 l.cert ≡ first_flaw l.present (l.at + 1) l.claim-iterator)
+    × (l.at + length l.claim-iterator ≡ length l.cert) × IsReady l.present (suc l.at) l.work

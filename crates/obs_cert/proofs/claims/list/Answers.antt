@@ -6,4 +6,4 @@ pub returns-clause-ready : goal.returns-clause-ready
 returns-clause-ready c =
     let p = c.has_twice in
     c.numbers.ensures.ready (suc c.args.stamp)
-    (ready_listed c.args.case.now c.args.stamp c.args.work.now p.new.marks c.requires.ready (p.auto.marks ∙ ap length c.deref_mut.ensures.value) p.ensures.below)
+    (ready_listed c.args.present.now c.args.stamp c.args.work.now p.new.marks c.requires.ready (p.auto.marks ∙ ap length c.deref_mut.ensures.value) p.ensures.below)

@@ -7,19 +7,19 @@ use Rattle.obs_cert.proofs.ClaimLemmas.{bound_high, bound_right, bound_wrong, ou
 use Rattle.obs_cert.proofs.claims.numbers.Goals as goal
 use Rattle.obs_cert.proofs.claims.numbers.Goals.{After-from-2}
 
-rank_is : (c : After-from-2) → rank_of_items c.args.case.now (items_of c.args.case.now (parts_in c.args.rest.now).inside) ≡ c.args.stated.rank
+rank_is : (c : After-from-2) → rank_of_items c.args.present.now (items_of c.args.present.now (parts_in c.args.rest.now).inside) ≡ c.args.stated.rank
 rank_is c = sym c.measure_listed-rank.ensures.rank ∙ sym c.from.ensures ∙ c.if-from-stated.false
 
-outside_is : (c : After-from-2) (test : ℕ → Bool) → c.args.scope ≡ length (scope_of c.args.case.now test) → OfItems c.args.case.now test
-    → not_inside test (items_of c.args.case.now (parts_in c.args.rest.now).inside) ≡ false → outside_of c.args.case.now test (items_of c.args.case.now (parts_in c.args.rest.now).inside) ≡ c.from-2.result
+outside_is : (c : After-from-2) (test : ℕ → Bool) → c.args.scope ≡ length (scope_of c.args.present.now test) → OfItems c.args.present.now test
+    → not_inside test (items_of c.args.present.now (parts_in c.args.rest.now).inside) ≡ false → outside_of c.args.present.now test (items_of c.args.present.now (parts_in c.args.rest.now).inside) ≡ c.from-2.result
 outside_is c test is of inside =
-    outside_counted c.args.case.now test (parts_in c.args.rest.now).inside c.args.scope c.count.result (let f = c.ranges.scope in omega (arith, f)) is of inside c.requires.once
+    outside_counted c.args.present.now test (parts_in c.args.rest.now).inside c.args.scope c.count.result (let f = c.ranges.scope in omega (arith, f)) is of inside c.requires.once
     (rw (sym c.walk_items.ensures.items) c.count.ensures.count) ∙ sym c.saturating_sub-outside.ensures ∙ sym c.from-2.ensures
 
 pub returns-then-from-stated-2-clause-flaw : goal.returns-then-from-stated-2-clause-flaw
 returns-then-from-stated-2-clause-flaw c test is of inside =
     let at = (goal.at.returns-then-from-stated-2-clause-flaw c).After-from-2 in
-    bound_wrong c.args.case.now test (items_of c.args.case.now (parts_in c.args.rest.now).inside) c.args.stated.rank c.args.stated.outside c.args.stated.need (rank_is at)
+    bound_wrong c.args.present.now test (items_of c.args.present.now (parts_in c.args.rest.now).inside) c.args.stated.rank c.args.stated.outside c.args.stated.need (rank_is at)
     (λ e. c.if-from-stated-2.true (sym (outside_is at test is of inside) ∙ e))
 
 pub returns-then-saturating_add-from-clause-flaw : goal.returns-then-saturating_add-from-clause-flaw
@@ -28,7 +28,7 @@ returns-then-saturating_add-from-clause-flaw c test is of inside =
     let s = c.saturating_add.ensures in
     let f = c.from-3.ensures in
     let h = c.if-saturating_add-from.true in
-    bound_high c.args.case.now test (items_of c.args.case.now (parts_in c.args.rest.now).inside) c.args.stated.rank c.args.stated.outside c.args.stated.need (rank_is at)
+    bound_high c.args.present.now test (items_of c.args.present.now (parts_in c.args.rest.now).inside) c.args.stated.rank c.args.stated.outside c.args.stated.need (rank_is at)
     (outside_is at test is of inside ∙ c.if-from-stated-2.false) (grind (arith, s, f, h))
 
 pub returns-clause-flaw : goal.returns-clause-flaw
@@ -38,5 +38,5 @@ returns-clause-flaw c test is of inside =
     let f = c.from-3.ensures in
     let h = c.if-saturating_add-from.false in
     let few = c.from-3.type_inv in
-    bound_right c.args.case.now test (items_of c.args.case.now (parts_in c.args.rest.now).inside) c.args.stated.rank c.args.stated.outside c.args.stated.need (rank_is at)
+    bound_right c.args.present.now test (items_of c.args.present.now (parts_in c.args.rest.now).inside) c.args.stated.rank c.args.stated.outside c.args.stated.need (rank_is at)
     (outside_is at test is of inside ∙ c.if-from-stated-2.false) (grind (arith, s, f, h, few))

@@ -1,20 +1,21 @@
 use Rattle.std.proofs.Common.{[], length, suc, sym, ap, ◌∙◌}
 use Rattle.std.proofs.lemmas.Bool.{not-false}
-use Rattle.obs_cert.specs.Flaws.{first_true, forest_clauses, not_inside}
+use Rattle.obs_case.specs.Tables.{Tables}
+use Rattle.obs_cert.specs.Flaws.{first_true, forest_clauses, not_inside, paired_twice, unknown_pair}
 use Rattle.obs_cert.specs.Numbered.{items_of, paired_items, pairs_of}
 use Rattle.obs_cert.specs.Scopes.{is_meter_in}
 use Rattle.obs_cert.specs.Walked.{parts_in}
-use Rattle.obs_cert.proofs.ClaimLemmas.{forest_end, ready_pairs, tree_rest}
+use Rattle.obs_cert.proofs.ClaimLemmas.{forest_end, ready_pairs, tree_rest, tree_twice}
 use Rattle.obs_cert.proofs.claims.tree.Goals as goal
 
 pub returns-clause-flaw : goal.returns-clause-flaw
 returns-clause-flaw c =
-    let t = c.args.case.now in
+    let t = c.args.present.now in
     let n = c.in-Some.ensures in
     let pairs = (parts_in c.args.rest.now).pairs in
-    let e = tree_rest t (record { component = c.args.name.now; pairs = pairs }) (sym n.known) (sym c.if-has_unknown_pair.ensures.unknown) (sym n.names ∙ not-false c.in-Some.named.energised c.if-not-named.false)
+    let e = tree_rest t (record { component = c.args.name.now; pairs = pairs }) (sym n.known) (sym (c.if-has_unknown_pair.ensures.unknown ∙ ap (λ (x : Tables). unknown_pair x pairs) c.case-case.ensures.case)) (sym n.names ∙ not-false c.in-Some.named.energised c.if-not-named.false)
     (ap (λ k. not_inside (is_meter_in t k) (items_of t (paired_items pairs))) (sym n.component) ∙ rw (sym c.walk_items.ensures.items) (sym c.if-has_outside.ensures.outside))
-    (rw (sym c.walk_pairs.ensures.pairs) (sym c.if-has_untouched.ensures.untouched)) (sym c.if-has_pair_twice.ensures.twice) in
+    (rw (sym c.walk_pairs.ensures.pairs) (sym c.if-has_untouched.ensures.untouched)) (sym (c.if-has_pair_twice.ensures.twice ∙ ap (λ (x : Tables). paired_twice x pairs) c.case-case.ensures.case)) in
     forest_end t (pairs_of t pairs) c.in-Some.named.need c.forest.result c.forest.ensures.none c.forest.ensures.flaw
     ∙ ap (λ k. first_true (forest_clauses t (pairs_of t pairs) k [])) n.need ∙ sym e
 
@@ -22,5 +23,22 @@ pub returns-clause-ready : goal.returns-clause-ready
 returns-clause-ready c =
     let p = c.has_pair_twice in
     c.forest.ensures.ready (suc c.args.stamp)
-    (ready_pairs c.args.case.now c.args.stamp c.args.work.now p.new.paired p.new.taken c.requires.ready
+    (ready_pairs c.args.present.now c.args.stamp c.args.work.now p.new.paired p.new.taken c.requires.ready
     (p.auto.paired ∙ ap length c.deref_mut.ensures.value) (p.auto.taken ∙ ap length c.deref_mut-2.ensures.value) p.ensures.below_items p.ensures.below_branches)
+
+pub returns-then-has_pair_twice-clause-flaw : goal.returns-then-has_pair_twice-clause-flaw
+returns-then-has_pair_twice-clause-flaw c =
+    let t = c.args.present.now in
+    let n = c.in-Some.ensures in
+    let pairs = (parts_in c.args.rest.now).pairs in
+    tree_twice t (record { component = c.args.name.now; pairs = pairs }) (sym n.known)
+    (sym (c.if-has_unknown_pair.ensures.unknown ∙ ap (λ (x : Tables). unknown_pair x pairs) c.case-case.ensures.case)) (sym n.names ∙ not-false c.in-Some.named.energised c.if-not-named.false)
+    (ap (λ k. not_inside (is_meter_in t k) (items_of t (paired_items pairs))) (sym n.component) ∙ rw (sym c.walk_items.ensures.items) (sym c.if-has_outside.ensures.outside))
+    (rw (sym c.walk_pairs.ensures.pairs) (sym c.if-has_untouched.ensures.untouched))
+    (sym (c.if-has_pair_twice.ensures.twice ∙ ap (λ (x : Tables). paired_twice x pairs) c.case-case.ensures.case))
+
+pub returns-then-has_pair_twice-clause-ready : goal.returns-then-has_pair_twice-clause-ready
+returns-then-has_pair_twice-clause-ready c =
+    let p = c.has_pair_twice in
+    ready_pairs c.args.present.now c.args.stamp c.args.work.now p.new.paired p.new.taken c.requires.ready
+    (p.auto.paired ∙ ap length c.deref_mut.ensures.value) (p.auto.taken ∙ ap length c.deref_mut-2.ensures.value) p.ensures.below_items p.ensures.below_branches

@@ -1,6 +1,7 @@
 use Rattle.std.proofs.Common.{◌≡◌, ◌∷◌, ◌++◌, List, length, refl, sym, subst, take, arith}
 use Rattle.std.specs.List.{flat_map}
 use Rattle.obs_graph.specs.declared.Ends.{Ends}
+use Rattle.obs_network.specs.Network.{network_of}
 use Rattle.obs_cert.specs.Claims.{Layer}
 use Rattle.obs_cert.specs.Flaws.{rank_of_items}
 use Rattle.obs_cert.specs.Given.{layer_said}
@@ -14,34 +15,34 @@ use Rattle.obs_cert.proofs.layers.join_layers.Goals.{After-join_items-count}
 
 pub join_items-count-requires-clause-vertices : goal.join_items-count-requires-clause-vertices
 join_items-count-requires-clause-vertices c =
-    vertices_fit c.args.case.now c.args.network.now c.args.network.now.graph (length c.loop-layer.ups) c.requires.of_case refl (omega (arith, c.requires.vertices, c.loop-layer.auto.ups))
+    vertices_fit c.args.present.now (network_of c.args.present.now) (network_of c.args.present.now).graph (length c.loop-layer.ups) refl refl (omega (arith, c.requires.vertices, c.loop-layer.auto.ups))
 
-here : (c : After-join_items-count) → IsRanking c.args.case.now c.args.network.now.graph.ends (layer_said c.in-Some.layer ∷ c.next.new.self) c.args.layers c.loop-layer.ups c.loop-layer.moved c.loop-layer.count c.loop-layer.wrong
+here : (c : After-join_items-count) → IsRanking c.args.present.now (network_of c.args.present.now).graph.ends (layer_said c.in-Some.layer ∷ c.next.new.self) c.args.layers c.loop-layer.ups c.loop-layer.moved c.loop-layer.count c.loop-layer.wrong
 here c =
     let l = c.loop-layer in
-    subst (λ (ls : List Layer). IsRanking c.args.case.now c.args.network.now.graph.ends ls c.args.layers l.ups l.moved l.count l.wrong) c.in-Some.ensures.steps l.invariant
+    subst (λ (ls : List Layer). IsRanking c.args.present.now (network_of c.args.present.now).graph.ends ls c.args.layers l.ups l.moved l.count l.wrong) c.in-Some.ensures.steps l.invariant
 
 step : (c : After-join_items-count) → (es : List Ends) → AreJoined es c.loop-layer.ups (take c.loop-layer.count c.loop-layer.moved)
-    → AreJoined (onto c.args.network.now.graph.ends (flat_map (touches_of c.args.case.now) (items_of c.args.case.now (layer_said c.in-Some.layer).inside)) es)
+    → AreJoined (onto (network_of c.args.present.now).graph.ends (flat_map (touches_of c.args.present.now) (items_of c.args.present.now (layer_said c.in-Some.layer).inside)) es)
     c.join_items-count.new.ups (take c.join_items-count.result c.join_items-count.new.moved)
 step c = rw (sym c.walk_items-items.ensures.items) c.join_items-count.ensures.joined
 
-is_rank : (c : After-join_items-count) → c.join_items-count.result ≡ rank_of_items c.args.case.now ((here c).before ++ items_of c.args.case.now (layer_said c.in-Some.layer).inside)
+is_rank : (c : After-join_items-count) → c.join_items-count.result ≡ rank_of_items c.args.present.now ((here c).before ++ items_of c.args.present.now (layer_said c.in-Some.layer).inside)
 is_rank c =
     let l = c.loop-layer in
     let j = c.join_items-count in
-    let t = c.args.case.now in
+    let t = c.args.present.now in
     let h = here c in
-    case_rank t c.args.network.now c.args.network.now.graph (flat_map (touches_of t) (h.before ++ items_of t (layer_said c.in-Some.layer).inside)) j.new.ups j.new.moved j.result
-    c.nodes-nodes.ensures.valid c.requires.of_case refl (omega (arith, c.requires.vertices, l.auto.ups, j.auto.ups)) j.ensures.count
-    (joined_now t c.args.network.now.graph.ends (layer_said c.in-Some.layer) c.next.new.self c.args.layers l.ups l.moved l.count l.wrong j.new.ups j.new.moved j.result h j.ensures.count (step c))
+    case_rank t (network_of c.args.present.now) (network_of c.args.present.now).graph (flat_map (touches_of t) (h.before ++ items_of t (layer_said c.in-Some.layer).inside)) j.new.ups j.new.moved j.result
+    c.case-case.ensures.valid refl refl (omega (arith, c.requires.vertices, l.auto.ups, j.auto.ups)) j.ensures.count
+    (joined_now t (network_of c.args.present.now).graph.ends (layer_said c.in-Some.layer) c.next.new.self c.args.layers l.ups l.moved l.count l.wrong j.new.ups j.new.moved j.result h j.ensures.count (step c))
 
 pub loop-layer-preserved : goal.loop-layer-preserved
 loop-layer-preserved c =
     let at = (goal.at.loop-layer-preserved c).After-join_items-count in
     let l = c.loop-layer in
     let j = c.join_items-count in
-    ranking_on c.args.case.now c.args.network.now.graph.ends (layer_said c.in-Some.layer) c.next.new.self c.args.layers l.ups l.moved l.count l.wrong j.new.ups j.new.moved j.result
+    ranking_on c.args.present.now (network_of c.args.present.now).graph.ends (layer_said c.in-Some.layer) c.next.new.self c.args.layers l.ups l.moved l.count l.wrong j.new.ups j.new.moved j.result
     (here at) j.ensures.count (step at) (is_rank at) c.if-count-layer.false
 
 pub loop-layer-preserved-then-count-layer : goal.loop-layer-preserved-then-count-layer
@@ -49,5 +50,5 @@ loop-layer-preserved-then-count-layer c =
     let at = (goal.at.loop-layer-preserved-then-count-layer c).After-join_items-count in
     let l = c.loop-layer in
     let j = c.join_items-count in
-    ranking_wrong c.args.case.now c.args.network.now.graph.ends (layer_said c.in-Some.layer) c.next.new.self c.args.layers l.ups l.moved l.count l.wrong j.new.ups j.new.moved j.result
+    ranking_wrong c.args.present.now (network_of c.args.present.now).graph.ends (layer_said c.in-Some.layer) c.next.new.self c.args.layers l.ups l.moved l.count l.wrong j.new.ups j.new.moved j.result
     (here at) j.ensures.count (step at) (is_rank at) c.if-count-layer.true

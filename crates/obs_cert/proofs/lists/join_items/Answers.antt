@@ -1,5 +1,7 @@
-use Rattle.std.proofs.Common.{[], ◌++◌, List, arith, sym, subst}
+use Rattle.std.proofs.Common.{[], ◌++◌, ◌∙◌, List, ap, arith, sym, subst}
 use Rattle.std.specs.List.{flat_map}
+use Rattle.obs_case.specs.Tables.{Tables}
+use Rattle.obs_network.specs.Network.{network_of}
 use Rattle.obs_cert.specs.Claims.{Item}
 use Rattle.obs_cert.specs.Numbered.{item_of, items_of}
 use Rattle.obs_cert.specs.Said.{item_said}
@@ -10,14 +12,13 @@ use Rattle.obs_cert.proofs.lists.join_items.Goals as goal
 pub loop-item-init : goal.loop-item-init
 loop-item-init c =
     rw c.into_iter-item-iterator.ensures.into_iter_gives
-    (joining_none c.args.network.now.graph.ends (flat_map (touches_of c.args.case.now) (items_of c.args.case.now c.args.items)) c.args.ups.now c.args.moved.now c.args.count c.requires.count)
+    (joining_none (network_of c.args.present.now).graph.ends (flat_map (touches_of c.args.present.now) (items_of c.args.present.now c.args.items)) c.args.ups.now c.args.moved.now c.args.count c.requires.count)
 
 pub join_touched-count-requires : goal.join_touched-count-requires
 join_touched-count-requires c =
     let i = c.loop-item.invariant in
     let q = i.joined c.requires.joined.0 c.requires.joined.1 in
     record {
-      of_case = c.requires.of_case;
       joined = (q.0, q.1);
       vertices = omega (arith, i.ups_len, c.requires.vertices);
       room = omega (arith, i.ups_len, i.moved_len, c.requires.room);
@@ -27,8 +28,8 @@ join_touched-count-requires c =
 pub loop-item-preserved : goal.loop-item-preserved
 loop-item-preserved c =
     let l = c.loop-item in
-    let case = c.args.case.now in
-    let ends = c.args.network.now.graph.ends in
+    let case = c.args.present.now in
+    let ends = (network_of c.args.present.now).graph.ends in
     let m = item_of case (item_said c.in-Some.item) in
     let all = flat_map (touches_of case) (items_of case c.args.items) in
     let left = flat_map (touches_of case) (items_of case c.next.new.self) in
@@ -37,13 +38,13 @@ loop-item-preserved c =
     joining_some ends (touches_of case m) left all c.args.ups.now c.args.moved.now c.args.count l.ups l.moved l.count
     c.join_touched-count.new.ups c.join_touched-count.new.moved c.join_touched-count.result i
     c.join_touched-count.ensures.count c.join_touched-count.auto.ups c.join_touched-count.auto.moved
-    (rw (sym c.item_of.ensures.number) c.join_touched-count.ensures.joined)
+    (rw (sym (c.item_of.ensures.number ∙ ap (λ (t : Tables). item_of t (item_said c.in-Some.item)) c.case-case.ensures.case)) c.join_touched-count.ensures.joined)
 
 pub returns : goal.returns
 returns c =
     let l = c.loop-item in
-    let case = c.args.case.now in
-    let ends = c.args.network.now.graph.ends in
+    let case = c.args.present.now in
+    let ends = (network_of c.args.present.now).graph.ends in
     let all = flat_map (touches_of case) (items_of case c.args.items) in
     let i : IsJoining ends [] all c.args.ups.now c.args.moved.now c.args.count l.ups l.moved l.count =
     subst (λ (is : List Item). IsJoining ends (flat_map (touches_of case) (items_of case is)) all c.args.ups.now c.args.moved.now c.args.count l.ups l.moved l.count) c.in-None.ensures.steps l.invariant in

@@ -1,5 +1,6 @@
 use Rattle.std.proofs.Common.{length, [], arith, refl}
 use Rattle.std.specs.List.{flat_map}
+use Rattle.obs_network.specs.Network.{network_of}
 use Rattle.obs_cert.specs.Numbered.{items_of}
 use Rattle.obs_cert.specs.Scopes.{touches_of}
 use Rattle.obs_cert.proofs.CaseLemmas.{case_rank, noted_few, vertices_fit}
@@ -7,16 +8,16 @@ use Rattle.obs_cert.proofs.lists.measure_items.Goals as goal
 
 pub join_items-count-requires-clause-vertices : goal.join_items-count-requires-clause-vertices
 join_items-count-requires-clause-vertices c =
-    vertices_fit c.args.case.now c.args.network.now c.args.network.now.graph (length c.args.ups.now) c.requires.of_case refl c.requires.vertices
+    vertices_fit c.args.present.now (network_of c.args.present.now) (network_of c.args.present.now).graph (length c.args.ups.now) refl refl c.requires.vertices
 
 pub overflow_cast-result : goal.overflow_cast-result
 overflow_cast-result c =
     let j = c.join_items-count in
-    let few = noted_few c.args.network.now.graph (flat_map (touches_of c.args.case.now) (items_of c.args.case.now c.args.items)) j.new.ups j.new.moved j.result j.ensures.count (j.ensures.joined [] c.requires.clear) in
+    let few = noted_few (network_of c.args.present.now).graph (flat_map (touches_of c.args.present.now) (items_of c.args.present.now c.args.items)) j.new.ups j.new.moved j.result j.ensures.count (j.ensures.joined [] c.requires.clear) in
     omega (arith, few, c.requires.few, j.auto.ups)
 
 pub returns-clause-rank : goal.returns-clause-rank
 returns-clause-rank c =
     let j = c.join_items-count in
-    case_rank c.args.case.now c.args.network.now c.args.network.now.graph (flat_map (touches_of c.args.case.now) (items_of c.args.case.now c.args.items)) j.new.ups j.new.moved j.result
-    c.nodes-nodes.ensures.valid c.requires.of_case refl (omega (arith, c.requires.vertices, j.auto.ups)) j.ensures.count (j.ensures.joined [] c.requires.clear)
+    case_rank c.args.present.now (network_of c.args.present.now) (network_of c.args.present.now).graph (flat_map (touches_of c.args.present.now) (items_of c.args.present.now c.args.items)) j.new.ups j.new.moved j.result
+    c.case-case.ensures.valid refl refl (omega (arith, c.requires.vertices, j.auto.ups)) j.ensures.count (j.ensures.joined [] c.requires.clear)

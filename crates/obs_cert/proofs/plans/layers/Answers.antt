@@ -1,15 +1,20 @@
-use Rattle.std.proofs.Common.{sym, ◌∙◌}
+use Rattle.std.proofs.Common.{sym, ap, ◌∙◌}
+use Rattle.std.specs.List.{list_any}
+use Rattle.obs_case.specs.Tables.{Tables}
+use Rattle.obs_cert.specs.Flaws.{Listed, costs_clauses, first_true, listed_layers, wrong_outside}
+use Rattle.obs_cert.specs.Scopes.{is_below}
 use Rattle.obs_cert.specs.Walked.{cost_of, parts_in}
 use Rattle.obs_cert.proofs.ClaimLemmas.{layers_outside, layers_rest}
 use Rattle.obs_cert.proofs.plans.layers.Goals as goal
 
 pub returns-then-has_wrong_outside-clause-flaw : goal.returns-then-has_wrong_outside-clause-flaw
 returns-then-has_wrong_outside-clause-flaw c =
-    layers_outside c.args.case.now (cost_of c.args.number (parts_in c.args.rest.now))
-    (rw (sym c.walk_layers.ensures.layers) (sym c.if-has_wrong_rank.ensures.rank)) (rw (sym c.walk_layers-2.ensures.layers) (sym c.if-has_wrong_outside.ensures.outside))
+    layers_outside c.args.present.now (cost_of c.args.number (parts_in c.args.rest.now))
+    (rw (sym c.walk_layers.ensures.layers) (sym c.if-has_wrong_rank.ensures.rank)) (rw (sym c.walk_layers-2.ensures.layers) (sym (c.if-has_wrong_outside.ensures.outside ∙ ap (λ (x : Tables). list_any (λ (l : Listed). wrong_outside x (is_below x l.layer.to) l.list l.layer.outside) (listed_layers x c.walk_layers-2.result)) c.case-case.ensures.case)))
 
 pub returns-clause-flaw : goal.returns-clause-flaw
 returns-clause-flaw c =
     c.costs.ensures.flaw
-    ∙ layers_rest c.args.case.now (cost_of c.args.number (parts_in c.args.rest.now))
-    (rw (sym c.walk_layers.ensures.layers) (sym c.if-has_wrong_rank.ensures.rank)) (rw (sym c.walk_layers-2.ensures.layers) (sym c.if-has_wrong_outside.ensures.outside))
+    ∙ ap (λ (x : Tables). first_true (costs_clauses x (cost_of c.args.number (parts_in c.args.rest.now)))) c.case-case.ensures.case
+    ∙ layers_rest c.args.present.now (cost_of c.args.number (parts_in c.args.rest.now))
+    (rw (sym c.walk_layers.ensures.layers) (sym c.if-has_wrong_rank.ensures.rank)) (rw (sym c.walk_layers-2.ensures.layers) (sym (c.if-has_wrong_outside.ensures.outside ∙ ap (λ (x : Tables). list_any (λ (l : Listed). wrong_outside x (is_below x l.layer.to) l.list l.layer.outside) (listed_layers x c.walk_layers-2.result)) c.case-case.ensures.case)))

@@ -11,24 +11,26 @@ use Rattle.obs_cert.proofs.ClaimLemmas.{plan_layers, plan_outside, plan_rest, pl
 use Rattle.obs_cert.proofs.plans.plan.Goals as goal
 use Rattle.obs_cert.proofs.plans.plan.Goals.{After-has_unknown_name, After-has_outside_item, After-has_untouched, After-either}
 
-known : (c : After-has_unknown_name) → c.has_unknown_name.result ≡ unknown_in_plan c.args.case.now (cost_of c.args.number (parts_in c.args.rest.now))
-known c = c.has_unknown_name.ensures.unknown c.args.number
+known : (c : After-has_unknown_name) → c.has_unknown_name.result ≡ unknown_in_plan c.args.present.now (cost_of c.args.number (parts_in c.args.rest.now))
+known c = c.has_unknown_name.ensures.unknown c.args.number ∙ ap (λ (x : Tables). unknown_in_plan x (cost_of c.args.number (parts_in c.args.rest.now))) c.case-case.ensures.case
 
-outside : (c : After-has_outside_item) → c.has_outside_item.result ≡ outside_of_plan c.args.case.now (cost_of c.args.number (parts_in c.args.rest.now))
+outside : (c : After-has_outside_item) → c.has_outside_item.result ≡ outside_of_plan c.args.present.now (cost_of c.args.number (parts_in c.args.rest.now))
 outside c = c.has_outside_item.ensures.outside c.args.number
 
-touched : (c : After-has_untouched) → c.has_untouched.result ≡ not_touched c.args.case.now (pairs_of c.args.case.now (parts_in c.args.rest.now).pairs)
+touched : (c : After-has_untouched) → c.has_untouched.result ≡ not_touched c.args.present.now (pairs_of c.args.present.now (parts_in c.args.rest.now).pairs)
 touched c = rw (sym c.walk_pairs.ensures.pairs) c.has_untouched.ensures.untouched
 
-again : (c : After-either) → c.either.result ≡ twice_in_plan c.args.case.now (cost_of c.args.number (parts_in c.args.rest.now))
+again : (c : After-either) → c.either.result ≡ twice_in_plan c.args.present.now (cost_of c.args.number (parts_in c.args.rest.now))
 again c =
-    let t = c.args.case.now in
+    let t = c.args.present.now in
     let parts = parts_in c.args.rest.now in
     c.either.ensures.either
     ∙ three_same c.has_twice-chosen_twice.result (twice (items_of t (chosen_items parts.chosen))) c.has_pair_twice-pair_twice.result (paired_twice t parts.pairs) c.has_twice-listed_twice.result (twice (items_of t (all_inside parts.layers)))
-    (rw (sym c.walk_items-chosen.ensures.items) c.has_twice-chosen_twice.ensures.twice) c.has_pair_twice-pair_twice.ensures.twice (rw (sym c.walk_items-listed.ensures.items) c.has_twice-listed_twice.ensures.twice)
+    (rw (sym c.walk_items-chosen.ensures.items) (c.has_twice-chosen_twice.ensures.twice ∙ ap (λ (x : Tables). twice (items_of x c.walk_items-chosen.result)) c.case-case.ensures.case))
+    (c.has_pair_twice-pair_twice.ensures.twice ∙ ap (λ (x : Tables). paired_twice x parts.pairs) c.case-case.ensures.case)
+    (rw (sym c.walk_items-listed.ensures.items) (c.has_twice-listed_twice.ensures.twice ∙ ap (λ (x : Tables). twice (items_of x c.walk_items-listed.result)) c.case-case.ensures.case))
 
-ready : (c : After-either) → IsReady c.args.case.now (suc c.args.stamp) (record c.args.work.now {
+ready : (c : After-either) → IsReady c.args.present.now (suc c.args.stamp) (record c.args.work.now {
   chosen = with_items c.args.work.now.chosen c.has_twice-chosen_twice.new.marks;
   paired = with_items c.args.work.now.paired c.has_pair_twice-pair_twice.new.paired;
   listed = with_items c.args.work.now.listed c.has_twice-listed_twice.new.marks;
@@ -38,7 +40,7 @@ ready c =
     let a = c.has_twice-chosen_twice in
     let b = c.has_pair_twice-pair_twice in
     let d = c.has_twice-listed_twice in
-    ready_plan c.args.case.now c.args.stamp c.args.work.now a.new.marks b.new.paired d.new.marks b.new.taken c.requires.ready
+    ready_plan c.args.present.now c.args.stamp c.args.work.now a.new.marks b.new.paired d.new.marks b.new.taken c.requires.ready
     (a.auto.marks ∙ ap length c.deref_mut.ensures.value) (b.auto.paired ∙ ap length c.deref_mut-2.ensures.value) (d.auto.marks ∙ ap length c.deref_mut-4.ensures.value) (b.auto.taken ∙ ap length c.deref_mut-3.ensures.value)
     a.ensures.below b.ensures.below_items d.ensures.below b.ensures.below_branches
 
@@ -47,13 +49,13 @@ need_is t n k is same = sym (same ∙ ap (λ (m : Network). m.needed) is)
 
 pub returns-then-has_outside_item-clause-flaw : goal.returns-then-has_outside_item-clause-flaw
 returns-then-has_outside_item-clause-flaw c =
-    plan_outside c.args.case.now (cost_of c.args.number (parts_in c.args.rest.now))
+    plan_outside c.args.present.now (cost_of c.args.number (parts_in c.args.rest.now))
     (sym (known (goal.at.returns-then-has_outside_item-clause-flaw c).After-has_unknown_name) ∙ c.if-has_unknown_name.false)
     (sym (outside (goal.at.returns-then-has_outside_item-clause-flaw c).After-has_outside_item) ∙ c.if-has_outside_item.true)
 
 pub returns-then-has_untouched-clause-flaw : goal.returns-then-has_untouched-clause-flaw
 returns-then-has_untouched-clause-flaw c =
-    plan_touched c.args.case.now (cost_of c.args.number (parts_in c.args.rest.now))
+    plan_touched c.args.present.now (cost_of c.args.number (parts_in c.args.rest.now))
     (sym (known (goal.at.returns-then-has_untouched-clause-flaw c).After-has_unknown_name) ∙ c.if-has_unknown_name.false)
     (sym (outside (goal.at.returns-then-has_untouched-clause-flaw c).After-has_outside_item) ∙ c.if-has_outside_item.false)
     (sym (touched (goal.at.returns-then-has_untouched-clause-flaw c).After-has_untouched) ∙ c.if-has_untouched.true)
@@ -63,7 +65,7 @@ returns-then-has_unknown_name-clause-flaw c = rw (sym (known (goal.at.returns-th
 
 pub returns-then-either-clause-flaw : goal.returns-then-either-clause-flaw
 returns-then-either-clause-flaw c =
-    plan_twice c.args.case.now (cost_of c.args.number (parts_in c.args.rest.now))
+    plan_twice c.args.present.now (cost_of c.args.number (parts_in c.args.rest.now))
     (sym (known (goal.at.returns-then-either-clause-flaw c).After-has_unknown_name) ∙ c.if-has_unknown_name.false)
     (sym (outside (goal.at.returns-then-either-clause-flaw c).After-has_outside_item) ∙ c.if-has_outside_item.false)
     (sym (touched (goal.at.returns-then-either-clause-flaw c).After-has_untouched) ∙ c.if-has_untouched.false)
@@ -71,10 +73,10 @@ returns-then-either-clause-flaw c =
 
 pub returns-in-Some-clause-flaw : goal.returns-in-Some-clause-flaw
 returns-in-Some-clause-flaw c =
-    let t = c.args.case.now in
+    let t = c.args.present.now in
     let parts = parts_in c.args.rest.now in
     let plan = cost_of c.args.number parts in
-    let need = need_is t c.args.network.now c.needed.result c.requires.of_case c.needed.ensures.needed in
+    let need = need_is t c.network-network.result.now c.needed.result c.network-network.ensures.network c.needed.ensures.needed in
     sym (c.in-Some.ensures.flaw (layers_clauses t plan))
     ∙ ap (λ (k : ℕ). first_true (forest_clauses t (pairs_of t parts.pairs) k (layers_clauses t plan))) (sym need)
     ∙ plan_rest t plan
@@ -88,15 +90,15 @@ returns-in-Some-clause-ready c = c.forest.ensures.ready (suc c.args.stamp) (read
 
 pub layers-requires-clause-inside : goal.layers-requires-clause-inside
 layers-requires-clause-inside c =
-    plan_layers c.args.case.now (cost_of c.args.number (parts_in c.args.rest.now))
+    plan_layers c.args.present.now (cost_of c.args.number (parts_in c.args.rest.now))
     (sym (outside (goal.at.layers-requires-clause-inside c).After-has_outside_item) ∙ c.if-has_outside_item.false)
 
 pub returns-clause-flaw : goal.returns-clause-flaw
 returns-clause-flaw c =
-    let t = c.args.case.now in
+    let t = c.args.present.now in
     let parts = parts_in c.args.rest.now in
     let plan = cost_of c.args.number parts in
-    let need = need_is t c.args.network.now c.needed.result c.requires.of_case c.needed.ensures.needed in
+    let need = need_is t c.network-network.result.now c.needed.result c.network-network.ensures.network c.needed.ensures.needed in
     c.layers.ensures.flaw
     ∙ sym (c.in_default.ensures.none (layers_clauses t plan))
     ∙ ap (λ (k : ℕ). first_true (forest_clauses t (pairs_of t parts.pairs) k (layers_clauses t plan))) (sym need)

@@ -1,7 +1,7 @@
 use Rattle.std.proofs.Common.{◌≤◌, ◌≡◌, [], length, ap, ◌∙◌, arith, refl}
 use Rattle.obs_graph.specs.Graph.{Graph}
 use Rattle.obs_graph.specs.Positions.{branches_at}
-use Rattle.obs_network.specs.Network.{Network, case_branches}
+use Rattle.obs_network.specs.Network.{Network, case_branches, network_of}
 use Rattle.obs_cert.specs.Flaws.{rank_of_branches}
 use Rattle.obs_cert.specs.Stars.{star_rank}
 use Rattle.obs_cert.proofs.CaseLemmas.{case_rank, noted_few, vertices_fit}
@@ -10,12 +10,12 @@ use Rattle.obs_cert.proofs.stars.measure_star.Goals.{After-clear}
 
 pub bounds-stars-v : goal.bounds-stars-v
 bounds-stars-v c =
-    let fit = vertices_fit c.args.case.now c.args.network.now c.args.network.now.graph (length c.args.ups.now) c.requires.of_case refl c.requires.vertices in
+    let fit = vertices_fit c.args.present.now (network_of c.args.present.now) (network_of c.args.present.now).graph (length c.args.ups.now) refl refl c.requires.vertices in
     omega (arith, c.requires.vertex, fit, c.requires.stars)
 
 pub join_all-count-requires-clause-vertices : goal.join_all-count-requires-clause-vertices
 join_all-count-requires-clause-vertices c =
-    vertices_fit c.args.case.now c.args.network.now c.graph-graph.result.now (length c.args.ups.now) c.requires.of_case c.graph-graph.ensures.graph c.requires.vertices
+    vertices_fit c.args.present.now c.network-network.result.now c.graph-graph.result.now (length c.args.ups.now) c.network-network.ensures.network c.graph-graph.ensures.graph c.requires.vertices
 
 few : (c : After-clear) → c.join_all-count.result ≤ length c.join_all-count.new.ups
 few c =
@@ -28,23 +28,23 @@ overflow_cast-count c = let f = few (goal.at.overflow_cast-count c).After-clear 
 pub overflow_cast-result : goal.overflow_cast-result
 overflow_cast-result c = let f = few (goal.at.overflow_cast-result c).After-clear in omega (arith, f, c.requires.few, c.join_all-count.auto.ups)
 
-rank_is : (c : After-clear) → c.join_all-count.result ≡ star_rank c.args.case.now c.args.v
+rank_is : (c : After-clear) → c.join_all-count.result ≡ star_rank c.args.present.now c.args.v
 rank_is c =
-    let t = c.args.case.now in
+    let t = c.args.present.now in
     let g = c.graph-graph.result.now in
     let j = c.join_all-count in
-    let ends : g.ends ≡ case_branches t = ap (λ (x : Graph). x.ends) (c.graph-graph.ensures.graph ∙ ap (λ (n : Network). n.graph) c.requires.of_case) in
-    case_rank t c.args.network.now g c.branches_at.result.now j.new.ups j.new.moved j.result c.nodes-nodes.ensures.valid c.requires.of_case c.graph-graph.ensures.graph
+    let ends : g.ends ≡ case_branches t = ap (λ (x : Graph). x.ends) (c.graph-graph.ensures.graph ∙ ap (λ (n : Network). n.graph) c.network-network.ensures.network) in
+    case_rank t c.network-network.result.now g c.branches_at.result.now j.new.ups j.new.moved j.result c.case-case.ensures.valid c.network-network.ensures.network c.graph-graph.ensures.graph
     (omega (arith, c.requires.vertices, j.auto.ups)) j.ensures.count (j.ensures.joined [] c.requires.clear)
     ∙ ap (rank_of_branches t) (c.branches_at.ensures.branches ∙ ap (λ es. branches_at es c.args.v) ends)
 
 pub keep-requires : goal.keep-requires
 keep-requires c =
-    let fit = vertices_fit c.args.case.now c.args.network.now c.args.network.now.graph (length c.args.ups.now) c.requires.of_case refl c.requires.vertices in
+    let fit = vertices_fit c.args.present.now (network_of c.args.present.now) (network_of c.args.present.now).graph (length c.args.ups.now) refl refl c.requires.vertices in
     record { v = omega (arith, c.requires.vertex, fit, c.requires.stars) }
 
 pub returns-clause-rank : goal.returns-clause-rank
 returns-clause-rank c = rank_is (goal.at.returns-clause-rank c).After-clear
 
 pub returns-clause-kept : goal.returns-clause-kept
-returns-clause-kept c = c.keep.ensures.kept c.args.case.now (rank_is (goal.at.returns-clause-kept c).After-clear) c.requires.kept
+returns-clause-kept c = c.keep.ensures.kept c.args.present.now (rank_is (goal.at.returns-clause-kept c).After-clear) c.requires.kept
