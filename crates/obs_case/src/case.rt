@@ -3,6 +3,7 @@ ghost use Rattle.std.specs.Prelude.{◌≡◌, ◌≢◌, ◌<◌, ◌≤◌, le
 ghost use Rattle.obs_text.specs.Names.{is_name};
 ghost use Rattle.obs_case.specs.Adds.{Refuses, branch_fault, branch_of, candidate_fault, candidate_of, meter_fault, meter_of, node_fault, node_of, switch_fault, switch_of, with_branch, with_candidate, with_meter, with_node, with_switch};
 ghost use Rattle.obs_case.specs.Flags.{with_absolute, with_branch_inservice, with_closed, with_meter_inservice};
+ghost use Rattle.obs_case.specs.Items.{is_angle, is_angle_kind};
 ghost use Rattle.obs_case.specs.Tables.{IsValid, branch_names, candidate_names, has_name, meter_names, most_price, no_rows, node_names, place_names, places, position_of, switch_names};
 
 use crate::limits::MOST_ROWS;
@@ -46,6 +47,13 @@ impl Drop for Case {
             candidates: _,
         } = self;
     }
+}
+
+// Whether this is the kind of angle items.
+fn is_angle_kind(kind: Kind) -> bool
+    ensures angle { result ≡ is_angle_kind kind }
+{
+    matches!(kind, Kind::Angle)
 }
 
 impl Case {
@@ -130,6 +138,22 @@ impl Case {
         ensures position { result ≡ position_of (candidate_names self.now) name.now }
     {
         find(&self.candidates, name)
+    }
+
+    /// Whether an item is a meter or candidate of the kind angle. Items are the meters and then the candidates,
+    /// numbered in that order; a number behind them is that of none.
+    pub fn is_angle(&self, m: u32) -> bool
+        ensures angle { result ≡ is_angle self.now m }
+    {
+        let meters = self.meters();
+        let m = m as usize;
+        if m < meters.len() {
+            return is_angle_kind(meters[m].kind);
+        }
+        match self.candidates().get(m - meters.len()) {
+            Some(row) => is_angle_kind(row.kind),
+            None => false,
+        }
     }
 
     // The position of what a meter of this kind stands at.
