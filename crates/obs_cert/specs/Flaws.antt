@@ -12,14 +12,14 @@ use Rattle.obs_cert.specs.Claims.{Claim, BoundClaim, CostClaim, Item, Layer, Pai
 use Rattle.obs_cert.specs.Numbered.{chosen_items, is_known, is_known_branch, items_of, paired_items, pairs_of}
 use Rattle.obs_cert.specs.Scopes.{has, is_below, is_live_item, is_meter_in, is_of_plan, named_component, named_need, names_component, price_at, scope_of, touches_of}
 
--- an item, or one or its branch, isn't in its table
+-- an item isn't in its table, or a word stands for no branch in its pair
 abbrev pub unknown_item : Tables → List Item → Bool
 unknown_item t inside = list_any (λ item. not (is_known t item)) inside
 
 abbrev pub unknown_branch : Tables → List Pair → Bool
-unknown_branch t pairs = list_any (λ (p : Pair). not (is_known_branch t p.branch)) pairs
+unknown_branch t pairs = list_any (λ (p : Pair). not (is_known_branch t p.item p.branch)) pairs
 
--- a name of a pair isn't in its table
+-- a name or a word of a pair stands for nothing
 abbrev pub unknown_pair : Tables → List Pair → Bool
 unknown_pair t pairs = unknown_item t (paired_items pairs) || unknown_branch t pairs
 

@@ -12,7 +12,7 @@ pub record HasRoom (rows : Rows) (w : Work) : Type 0 where
   pub chosen : rows.meters + rows.candidates < length w.chosen.items
   pub paired : rows.meters + rows.candidates < length w.paired.items
   pub listed : rows.meters + rows.candidates < length w.listed.items
-  pub taken : rows.branches < length w.taken.items
+  pub taken : rows.branches + (rows.meters + rows.candidates) < length w.taken.items
   pub ups : rows.nodes ≤ length w.ups.items
   pub few : length w.ups.items < 2 ^ 32
   pub moved : length w.ups.items ≤ length w.moved.items

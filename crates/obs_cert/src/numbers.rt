@@ -1,8 +1,8 @@
-// Names as numbers: meters and candidates by one number, the meters first, and branches by position.
-ghost use Rattle.std.specs.Prelude.{◌≡◌, ◌≤◌, ◌+◌, length};
+// Names as numbers: meters and candidates by one number, the meters first, and branches by position: the rows of the
+// branch table, and behind them the angle branches of items.
+ghost use Rattle.std.specs.Prelude.{◌≡◌, ◌≤◌, ◌+◌, IfSome, length};
 ghost use Rattle.obs_cert.specs.Said.{item_said};
-ghost use Rattle.obs_cert.specs.Numbered.{branch_of, is_known, is_known_branch, item_of};
-ghost use Rattle.obs_network.specs.Network.{case_position_count};
+ghost use Rattle.obs_cert.specs.Numbered.{all_positions, branch_in, branch_of, is_angle_item, is_known, is_known_branch, item_of};
 
 use crate::line::Item;
 use obs_case::Case;
@@ -35,20 +35,41 @@ pub(crate) fn is_known(case: &Case, item: Item<'_>) -> bool
     }
 }
 
-/// The position of a branch; of one that isn't in its table the number of all positions.
-pub(crate) fn branch_of(case: &Case, name: &[u8]) -> u32
-    ensures position { result ≡ branch_of case.now name.now }
-    ensures below { result ≤ case_position_count case.now }
+// Whether an item is in its table and an angle item.
+fn is_angle_item(case: &Case, item: Item<'_>) -> bool
+    ensures angle { result ≡ is_angle_item case.now (item_said item.entry) }
 {
-    match case.find_branch(name) {
+    case.is_angle(item_of(case, item)) && is_known(case, item)
+}
+
+// The position of the branch that a word stands for in a pair of an item; None where it stands for none.
+fn branch_in(case: &Case, item: Item<'_>, word: &[u8]) -> Option<u32>
+    ensures position { result ≡ branch_in case.now (item_said item.entry) word.now }
+    ensures within { IfSome result (λ e. e ≤ all_positions case.now) }
+{
+    if !is_angle_item(case, item) {
+        return case.find_branch(word);
+    }
+    if word != b"angle".as_slice() {
+        return None;
+    }
+    Some(case.branches().len() as u32 + item_of(case, item))
+}
+
+/// The position of the branch of an item's pair; of a word that stands for none the number of all positions.
+pub(crate) fn branch_of(case: &Case, item: Item<'_>, word: &[u8]) -> u32
+    ensures position { result ≡ branch_of case.now (item_said item.entry) word.now }
+    ensures below { result ≤ all_positions case.now }
+{
+    match branch_in(case, item, word) {
         Some(at) => at,
-        None => case.branches().len() as u32,
+        None => (case.branches().len() + (case.meters().len() + case.candidates().len())) as u32,
     }
 }
 
-/// Whether a branch is in its table.
-pub(crate) fn is_known_branch(case: &Case, name: &[u8]) -> bool
-    ensures known { result ≡ is_known_branch case.now name.now }
+/// Whether a word stands for a branch in a pair of an item.
+pub(crate) fn is_known_branch(case: &Case, item: Item<'_>, word: &[u8]) -> bool
+    ensures known { result ≡ is_known_branch case.now (item_said item.entry) word.now }
 {
-    case.find_branch(name).is_some()
+    branch_in(case, item, word).is_some()
 }

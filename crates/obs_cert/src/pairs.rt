@@ -3,11 +3,10 @@ ghost use Rattle.std.specs.Prelude.{◌≡◌, ◌≤◌, ◌<◌, ◌^◌, ◌=
 ghost use Rattle.std.specs.List.{cons_option};
 ghost use Rattle.obs_graph.specs.declared.Ends.{Ends};
 ghost use Rattle.obs_matroid.specs.Assignments.{branches};
-ghost use Rattle.obs_network.specs.Network.{case_position_count};
 ghost use Rattle.obs_cert.specs.Flaws.{cycle, not_touched, rank_of_branches, twice, unknown_branch};
 ghost use Rattle.obs_cert.specs.Joins.{AreJoined, onto};
 ghost use Rattle.obs_cert.specs.Marks.{AreBelow};
-ghost use Rattle.obs_cert.specs.Numbered.{pairs_of};
+ghost use Rattle.obs_cert.specs.Numbered.{all_positions, pairs_of};
 
 use crate::joins::{clear, ends_of, join};
 use crate::marks::mark;
@@ -18,12 +17,12 @@ use crate::walk::Pairs;
 use obs_case::Case;
 use obs_graph::Graph;
 
-/// Whether a branch isn't in its table.
+/// Whether a word of a pair stands for no branch.
 pub(crate) fn has_unknown_branch(case: &Case, pairs: Pairs<'_>) -> bool
     ensures unknown { result ≡ unknown_branch case.now pairs.entry }
 {
     for pair in pairs {
-        if !is_known_branch(case, pair.branch) {
+        if !is_known_branch(case, pair.item, pair.branch) {
             return true;
         }
     }
@@ -39,7 +38,7 @@ pub(crate) fn has_untouched(present: &Present<'_>, pairs: Pairs<'_>) -> bool
         if !touches(
             present,
             item_of(case, pair.item),
-            branch_of(case, pair.branch),
+            branch_of(case, pair.item, pair.branch),
         ) {
             return true;
         }
@@ -49,14 +48,14 @@ pub(crate) fn has_untouched(present: &Present<'_>, pairs: Pairs<'_>) -> bool
 
 /// Whether a branch stands in two pairs. Marks them with the stamp.
 pub(crate) fn has_branch_twice(case: &Case, pairs: Pairs<'_>, marks: &mut [u32], stamp: u32) -> bool
-    requires room { case_position_count case.now < length marks.old }
+    requires room { all_positions case.now < length marks.old }
     requires fresh { AreBelow stamp marks.old }
     ensures twice { result ≡ twice (branches (pairs_of case.now pairs.entry)) }
     ensures below { AreBelow (suc stamp) marks.new }
 {
     let mut twice = false;
     for pair in pairs {
-        if mark(marks, stamp, branch_of(case, pair.branch)) {
+        if mark(marks, stamp, branch_of(case, pair.item, pair.branch)) {
             twice = true;
         }
     }
@@ -106,7 +105,13 @@ fn join_pairs(
     let mut count = 0;
     let mut cycle = false;
     for pair in pairs {
-        let joined = join_one(g, branch_of(case, pair.branch), ups, moved, count);
+        let joined = join_one(
+            g,
+            branch_of(case, pair.item, pair.branch),
+            ups,
+            moved,
+            count,
+        );
         if joined == count {
             cycle = true;
         }

@@ -46,7 +46,7 @@ impl Work {
     {
         let nodes = case.nodes().len();
         let items = case.meters().len() + case.candidates().len() + 1;
-        let branches = case.branches().len() + 1;
+        let branches = case.branches().len() + items;
         Ok(Work {
             chosen: vec![in alloc; 0; items]?,
             paired: vec![in alloc; 0; items]?,

@@ -1,5 +1,5 @@
 -- The name of a component stands for it: its first bus has a first node, and this has the name.
-use Rattle.std.proofs.Common.{◌≡◌, ℕ, zero, suc, ◌+◌, ◌<◌, Bool, true, false, cond, not, List, [], ◌∷◌, length, get_or, sym, ap, ◌∙◌, inl, inr, arith}
+use Rattle.std.proofs.Common.{◌≡◌, ℕ, zero, suc, ◌+◌, ◌<◌, Bool, true, false, cond, not, Some, List, [], ◌∷◌, length, get_or, sym, ap, ◌∙◌, inl, inr, arith}
 use Rattle.std.specs.Prelude.{slice_index, ◌==◌}
 use Rattle.std.specs.Str.{bytes_eq}
 use Rattle.std.proofs.lemmas.Bool.{and_from, cases_Bool, eq-eqb, or_left, or_right}
@@ -10,8 +10,8 @@ use Rattle.obs_graph.proofs.First.{first_joined-first_joined, first_joined-le}
 use Rattle.obs_matroid.proofs.Lists.{clash}
 use Rattle.obs_switch.specs.Buses.{first_node, members_of}
 use Rattle.obs_switch.proofs.FirstNodes.{bus_at, bus_of-first_node, buses_of-at, first_member, first_node-first_node, first_node-le}
-use Rattle.obs_case.specs.Tables.{IsValid, Tables, are_different, has_name, node_names, place_of}
-use Rattle.obs_case.proofs.NameLemmas.{bytes_eq-itself, different-parts}
+use Rattle.obs_case.specs.Tables.{IsValid, Tables, are_different, has_name, node_names, place_of, position_of}
+use Rattle.obs_case.proofs.NameLemmas.{bytes_eq-itself, different-parts, position-there}
 use Rattle.obs_network.specs.Components.{component_of, components_of, first_bus, first_buses_of, is_first_bus}
 use Rattle.obs_network.specs.Network.{case_component_count, case_components, case_first_buses, case_live, case_need}
 use Rattle.obs_network.specs.Observable.{is_energised_component}
@@ -44,6 +44,9 @@ place_own (x ∷ xs) (suc k) d l =
     let parts = different-parts x xs d in
     let rest = place_own xs k parts.1 (omega arith) in
     ap (λ (b : Bool). cond (not b) (1 + place_of xs (get_or xs k [])) 0) (later_differs x xs k parts.0 (omega arith)) ∙ omega (arith, rest)
+
+pub position_own : (names : List (List ℕ)) (k : ℕ) → are_different names ≡ true → k < length names → position_of names (get_or names k []) ≡ Some k
+position_own names k d l = position-there (bytes_eq (get_or names k [])) names (has_own names k l) ∙ ap Some (place_own names k d l)
 
 -- the first node of the first bus of a component
 pub record IsFirstOf (t : Tables) (c u : ℕ) : Type 0 where

@@ -8,10 +8,11 @@ use Rattle.std.proofs.lemmas.List.Concat.{length-flat_map}
 use Rattle.std.proofs.lemmas.List.Sums.{sum_by-le}
 use Rattle.obs_text.specs.Names.{is_name, is_name_byte}
 use Rattle.obs_text.proofs.DecimalLemmas.{length-decimal}
+use Rattle.obs_case.specs.Items.{is_angle}
 use Rattle.obs_case.specs.Tables.{IsValid, Tables, branch_names, candidate_names, meter_names, node_names}
 use Rattle.obs_matroid.specs.Assignments.{Pair as NumberPair}
 use Rattle.obs_placement.specs.declared.plans.Layer.{Layer as PlacedLayer}
-use Rattle.obs_report.specs.Items.{branch_name, candidate_name, inside_line, is_meter, item_name, item_word, pair_line}
+use Rattle.obs_report.specs.Items.{branch_word, candidate_name, inside_line, is_meter, item_name, item_word, pair_line}
 use Rattle.obs_report.specs.Lines.{line_feed, line_of, tabbed}
 use Rattle.obs_report.specs.Meters.{bound_line, component_name}
 use Rattle.obs_report.specs.Placements.{chosen_line, cost_line, layer_line, shortfall_line}
@@ -72,6 +73,9 @@ module _ (t : Tables) (v : IsValid t) where
     | inr e ↦ rw e (named_short (candidate_names t) (m - length t.meters) v.candidates.named)
   ]
 
+  branch_short : (m e : ℕ) → length (branch_word t m e) ≤ 64
+  branch_short m e = elim (cases_Bool (is_angle t m)) [ inl is ↦ rw is (omega arith) | inr other ↦ rw other (named_short (branch_names t) e v.branches.named) ]
+
   component_short : (c : ℕ) → length (component_name t c) ≤ 64
   component_short c = named_short (node_names t) _ v.nodes.named
 
@@ -85,10 +89,10 @@ module _ (t : Tables) (v : IsValid t) where
 
   pub pair_length : (p : NumberPair) → length (pair_line t p) ≤ 145
   pair_length p =
-      let all = line_length (codes "pair") (item_word t p.0 ∷ item_name t p.0 ∷ branch_name t p.1 ∷ []) in
+      let all = line_length (codes "pair") (item_word t p.0 ∷ item_name t p.0 ∷ branch_word t p.0 p.1 ∷ []) in
       let word = word_short t p.0 in
       let name = item_short p.0 in
-      let branch = named_short (branch_names t) p.1 v.branches.named in
+      let branch = branch_short p.0 p.1 in
       omega (arith, all, word, name, branch)
 
   pub chosen_length : (k : ℕ) → length (chosen_line t k) ≤ 72

@@ -10,7 +10,7 @@ use Rattle.obs_matroid.specs.Assignments.{Pair as NumberPair, branches, items}
 use Rattle.obs_matroid.specs.Lists.{In, IsDistinct}
 use Rattle.obs_matroid.specs.Placement.{Layer as BareLayer, RunOn, layers_sum}
 use Rattle.obs_matroid.proofs.Lists.{In-filter_from, In-map_from, IsDistinct-filter}
-use Rattle.obs_matroid.proofs.Pairs.{In-branches, In-items}
+use Rattle.obs_matroid.proofs.Pairs.{In-items}
 use Rattle.obs_matroid.proofs.Ranges.{range_distinct, range_from}
 use Rattle.obs_first.specs.First.{IsFirstAt}
 use Rattle.obs_placement.specs.Answer.{chosen_of, is_chosen}
@@ -31,6 +31,7 @@ use Rattle.obs_cert.specs.Flaws.{Holds, Listed, all_inside, cycle, listed_layers
 use Rattle.obs_cert.specs.Numbered.{chosen_items, items_of, paired_items, pairs_of}
 use Rattle.obs_cert.specs.Scopes.{has, is_below, is_of_plan, price_at}
 use Rattle.obs_cert.proofs.CompletingLemmas.{bare, same_sum, sum_is}
+use Rattle.obs_report.proofs.OfPairs.{offered_branch}
 use Rattle.obs_claimed.specs.Claimed.{named_items, named_layers, placement_claim, plan_claim}
 use Rattle.obs_claimed.specs.Laws.{PlacementsHold}
 use Rattle.obs_claimed.proofs.ClauseTests.{distinct-moved, once}
@@ -38,7 +39,7 @@ use Rattle.obs_claimed.proofs.Lacks.{lack_holds}
 use Rattle.obs_claimed.proofs.LayerClaims.{are_below, bare_same, inside_distinct, layers_counted, layers_inside, layers_ranked, listed_all, run_from}
 use Rattle.obs_claimed.proofs.Layered.{are_claimed, inside_low, layer_claims}
 use Rattle.obs_claimed.proofs.NamedLemmas.{AreWithin, chosen_known, chosen_named, items_named, none_unknown, paired_named, pairs_known, pairs_named}
-use Rattle.obs_claimed.proofs.PlanPairs.{as_needed, branch_low, branches_once, items_once, no_cycle, paired_inside, paired_live, touched_pairs}
+use Rattle.obs_claimed.proofs.PlanPairs.{as_needed, branches_once, items_once, no_cycle, paired_inside, paired_live, touched_pairs}
 use Rattle.obs_exchange.proofs.AtGraph.{live_low}
 
 -- the clauses of a cost claim, one after the other
@@ -117,7 +118,7 @@ module _ (t : Tables) (v : IsValid t) where
     within p i =
         let live = paired_live t (planned_items (length t.meters) chosen) A first.assigns p.0 (In-items A p i) in
         let low = live_low (case_branches t) (case_offered t) p.0 live in
-        (omega (arith, low, length-case_offered t), branch_low t (planned_items (length t.meters) chosen) A first.assigns p.1 (In-branches A p i))
+        (omega (arith, low, length-case_offered t), offered_branch t p.0 p.1 (first.assigns.touched p i))
 
     pairs_are : pairs_of t claim.pairs ≡ A
     pairs_are = pairs_named t v A within

@@ -7,7 +7,7 @@ use Rattle.obs_matroid.specs.Assignments.{Pair, branches, items}
 use Rattle.obs_matroid.specs.Lists.{In}
 use Rattle.obs_matroid.proofs.Bounds.{length-branches}
 use Rattle.obs_matroid.proofs.Lists.{In-append_cases, In-append_left, In-append_right, In-filter, In-filter_from}
-use Rattle.obs_matroid.proofs.Pairs.{In-branches_from, In-items_from}
+use Rattle.obs_matroid.proofs.Pairs.{In-items_from}
 use Rattle.obs_matroid.proofs.Ranks.{IsDistinct-independent, rank-independent}
 use Rattle.obs_matroid.proofs.Ranges.{range_from, range_in}
 use Rattle.obs_meter.specs.Assignments.{IsAssignmentAt}
@@ -15,19 +15,18 @@ use Rattle.obs_meter.specs.Spanned.{graph_matroid}
 use Rattle.obs_meter.specs.Touches.{is_live, live_items}
 use Rattle.obs_meter.proofs.Assigned.{independent-from_forest_at}
 use Rattle.obs_meter.proofs.Instance.{IsMatroid-graph}
-use Rattle.obs_meter.proofs.Touched.{live-from_In, touched-present}
+use Rattle.obs_meter.proofs.Touched.{live-from_In}
 use Rattle.obs_exchange.proofs.AtGraph.{In-live}
 use Rattle.obs_first.specs.First.{IsFirstAt}
 use Rattle.obs_placement.specs.Laws.{live_meters}
 use Rattle.obs_network.specs.Network.{case_branches, case_needed, case_offered, case_vertex_count}
-use Rattle.obs_network.proofs.OfCase.{case_branches-are, length-case_branches}
+use Rattle.obs_network.proofs.OfCase.{case_branches-are}
 use Rattle.obs_edit.specs.Placements.{CompletesCase}
 use Rattle.obs_edit.specs.Planned.{planned_items}
 use Rattle.obs_cert.specs.Flaws.{cycle, not_inside, not_touched, rank_of_branches, twice}
 use Rattle.obs_cert.specs.Scopes.{has, is_live_item, is_meter, is_of_plan, touches_of}
 use Rattle.obs_cert.proofs.ScopeLemmas.{has_at}
 use Rattle.obs_claimed.proofs.ClauseTests.{all_inside_scope, any_false, once}
-use Rattle.obs_graph.proofs.Present.{present_low}
 
 module _ (t : Tables) (M : List ℕ) (A : List Pair) (a : IsAssignmentAt (case_branches t) (case_offered t) M A) where
   pub touched_pairs : not_touched t A ≡ false
@@ -44,13 +43,6 @@ module _ (t : Tables) (M : List ℕ) (A : List Pair) (a : IsAssignmentAt (case_b
 
   pub paired_of : (m : ℕ) → In m (items A) → In m M
   paired_of m i = let w = In-items_from A m i in subst (λ (x : ℕ). In x M) (sym w.2) (a.of_items w.0 w.1)
-
-  -- a paired branch is one of the case
-  pub branch_low : (e : ℕ) → In e (branches A) → e < length t.branches
-  branch_low e i =
-      let w = In-branches_from A e i in
-      let low = present_low (case_branches t) w.0.1 (touched-present (case_branches t) _ w.0.1 (a.touched w.0 w.1)) in
-      omega (arith, low, length-case_branches t, w.2)
 
   module _ (v : IsValid t) where
     pub branches_once : twice (branches A) ≡ false

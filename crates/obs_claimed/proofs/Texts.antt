@@ -27,7 +27,7 @@ use Rattle.obs_claimed.specs.Laws.{AreLines, BoundsAreLines, PlacementsAreLines,
 use Rattle.obs_claimed.proofs.Lines.{each_line, lines_then, no_lines}
 use Rattle.obs_claimed.proofs.NamedLemmas.{AreWithin}
 use Rattle.obs_claimed.proofs.Small.{IsSmallLayer, bound_outside_small, bound_rank_small, cost_small, lack_outside_small, lack_rank_small, plan_layers_small}
-use Rattle.obs_claimed.proofs.Within.{bound_meters_low, branch_named, candidate_named, case_pairs_within, component_has_name, item_has_name, lack_inside_low, placed_pairs_within, plan_chosen_low, plan_inside_low}
+use Rattle.obs_claimed.proofs.Within.{bound_meters_low, candidate_named, case_pairs_within, component_has_name, item_has_name, lack_inside_low, placed_pairs_within, plan_chosen_low, plan_inside_low, word_named}
 use Rattle.obs_claimed.proofs.Words.{IsSmall, bound_back, chosen_back, cost_back, inside_back, layer_back, pair_back, shortfall_back, tree_back}
 
 -- what stands in a part of a list stands in the list
@@ -50,7 +50,7 @@ module _ (t : Tables) (v : IsValid t) where
   -- pairs
   pairs_lines : (pairs : List NumberPair) → AreWithin t pairs → AreLines (flat_map (pair_text t) pairs) (map pair_line (map (named_pair t) pairs))
   pairs_lines pairs within = each_line (pair_text t) (named_pair t) pair_line pairs
-      (λ p i. let low = within p i in pair_back t p (item_has_name t v p.0 low.0) (branch_named t v p.1 low.1))
+      (λ p i. let low = within p i in pair_back t p (item_has_name t v p.0 low.0) (word_named t v p.0 p.1 low.1))
 
   -- chosen candidates
   chosen_lines : (list : List ℕ) → ((k : ℕ) → In k list → k < length t.candidates) → AreLines (flat_map (chosen_text t) list) (map chosen_line (map (candidate_name t) list))

@@ -4,7 +4,7 @@ use Rattle.std.proofs.lemmas.Bool.{eq-eqb}
 use Rattle.obs_case.specs.Tables.{IsValid, Tables, has_name, node_names}
 use Rattle.obs_matroid.specs.Lists.{In}
 use Rattle.obs_matroid.specs.Assignments.{Pair as NumberPair, branches, items}
-use Rattle.obs_matroid.proofs.Pairs.{In-branches, In-items_from}
+use Rattle.obs_matroid.proofs.Pairs.{In-items_from}
 use Rattle.obs_meter.specs.Assignments.{IsAssignmentAt}
 use Rattle.obs_network.specs.Network.{case_branches, case_component_count, case_meters, case_offered}
 use Rattle.obs_network.specs.Observable.{IsObservable, is_energised_component}
@@ -14,6 +14,7 @@ use Rattle.obs_cert.specs.Numbered.{items_of, paired_items, pairs_of}
 use Rattle.obs_cert.specs.Scopes.{is_meter_in, named_component, named_need, names_component}
 use Rattle.obs_cert.proofs.ClaimLemmas.{tree_rest}
 use Rattle.obs_report.specs.Meters.{component_name}
+use Rattle.obs_report.proofs.OfPairs.{offered_branch}
 use Rattle.obs_edit.specs.Answers.{component_meters}
 use Rattle.obs_edit.specs.Laws.{tree_pairs}
 use Rattle.obs_edit.proofs.FirstTrees.{tree_first, tree_whole}
@@ -23,7 +24,7 @@ use Rattle.obs_claimed.proofs.Bounds.{component_meter, meter_touches_same}
 use Rattle.obs_claimed.proofs.ClauseTests.{all_inside_scope}
 use Rattle.obs_claimed.proofs.ComponentNames.{component_known, component_named, component_names, component_need}
 use Rattle.obs_claimed.proofs.NamedLemmas.{AreWithin, paired_named, pairs_known, pairs_named}
-use Rattle.obs_claimed.proofs.PlanPairs.{branch_low, branches_once, items_once, no_cycle, touched_pairs}
+use Rattle.obs_claimed.proofs.PlanPairs.{branches_once, items_once, no_cycle, touched_pairs}
 
 -- an assignment of meters is one of what is offered, and all its numbers are within the tables
 module _ (t : Tables) (M : List ℕ) (A : List NumberPair) (a : IsAssignmentAt (case_branches t) (case_meters t) M A) (meters : (m : ℕ) → In m M → m < length t.meters) where
@@ -36,7 +37,7 @@ module _ (t : Tables) (M : List ℕ) (A : List NumberPair) (a : IsAssignmentAt (
   }
 
   pub assigned_within : AreWithin t A
-  assigned_within p i = (let l = meters p.0 (a.of_items p i) in omega (arith, l), branch_low t M A offered p.1 (In-branches A p i))
+  assigned_within p i = (let l = meters p.0 (a.of_items p i) in omega (arith, l), offered_branch t p.0 p.1 (offered.touched p i))
 
 -- and where no clause is false, a tree claim holds
 tree_right : (t : Tables) (c : TreeClaim) → has_name (node_names t) c.component ≡ true → unknown_pair t c.pairs ≡ false → names_component t c.component ≡ true

@@ -1,13 +1,13 @@
 -- Printed positions are within the tables of a case, and the names that stand there are names.
-use Rattle.std.proofs.Common.{◌≡◌, ◌∙◌, ℕ, zero, suc, ◌+◌, ◌-◌, ◌<◌, true, Option, List, [], ◌∷◌, length, get_or, ap, inl, inr, arith}
+use Rattle.std.proofs.Common.{◌≡◌, ◌∙◌, ℕ, zero, suc, ◌+◌, ◌-◌, ◌<◌, true, Option, List, [], ◌∷◌, length, get_or, ap, refl, inl, inr, arith}
 use Rattle.std.specs.Prelude.{not}
 use Rattle.std.specs.List.{list_all}
-use Rattle.std.proofs.lemmas.Bool.{and_parts, cases_lt, le-ltb, lt-ltb}
+use Rattle.std.proofs.lemmas.Bool.{and_parts, cases_Bool, cases_lt, le-ltb, lt-ltb}
 use Rattle.std.proofs.lemmas.List.{length-map}
 use Rattle.obs_text.specs.Names.{is_name}
 use Rattle.obs_graph.specs.declared.Ends.{Ends}
 use Rattle.obs_graph.specs.Positions.{AreBranches}
-use Rattle.obs_graph.proofs.Present.{present_low}
+use Rattle.obs_case.specs.Items.{is_angle}
 use Rattle.obs_case.specs.Tables.{IsValid, Tables, branch_names, candidate_names, meter_names, node_names, prices_of}
 use Rattle.obs_case.specs.declared.rows.Candidate.{Candidate}
 use Rattle.obs_matroid.specs.Assignments.{Pair}
@@ -15,9 +15,7 @@ use Rattle.obs_matroid.specs.Lists.{In}
 use Rattle.obs_matroid.proofs.Lists.{In-append_cases, In-filter_from}
 use Rattle.obs_matroid.proofs.Ranges.{range_from}
 use Rattle.obs_meter.specs.declared.Touch.{Touch}
-use Rattle.obs_meter.specs.declared.Touch.TheVariants.{Nothing}
-use Rattle.obs_meter.specs.Touches.{is_live, live_items}
-use Rattle.obs_meter.proofs.Touched.{touched-present}
+use Rattle.obs_meter.specs.Touches.{is_live, live_items, touch_at}
 use Rattle.obs_exchange.specs.Laws.{noncritical_in}
 use Rattle.obs_first.specs.First.{first_pairs}
 use Rattle.obs_first.proofs.Lawful.{first_pairs-is}
@@ -29,12 +27,13 @@ use Rattle.obs_placement.specs.Placed.Placed.{cheapest, shortfall}
 use Rattle.obs_network.specs.Network.{case_branches, case_component_count, case_meters, case_offered, case_vertex_count}
 use Rattle.obs_network.specs.Observable.{case_live_meters}
 use Rattle.obs_network.proofs.Marked.{filtered_below}
-use Rattle.obs_network.proofs.OfCase.{case_branches-are, length-case_branches, length-case_meters, length-case_offered}
-use Rattle.obs_report.specs.Items.{branch_name, candidate_name, item_count, item_name, meter_name}
+use Rattle.obs_network.proofs.OfCase.{case_branches-are, length-case_meters, length-case_offered}
+use Rattle.obs_report.specs.Items.{IsBranchOf, branch_name, branch_word, candidate_name, item_count, item_name, meter_name}
 use Rattle.obs_report.specs.Meters.{component_name}
+use Rattle.obs_report.proofs.OfPairs.{meter_branch, offered_branch}
 use Rattle.obs_edit.specs.Answers.{bound_meters, case_first_pairs, component_meters, is_critical_meter, is_meter_of}
 use Rattle.obs_edit.specs.Planned.{case_placed_pairs, case_placement, pairs_in, planned_items, touches_of}
-use Rattle.obs_edit.proofs.Planned.{length-touches_of}
+use Rattle.obs_edit.proofs.Planned.{length-touches_of, touch-listed}
 use Rattle.obs_claimed.proofs.ComponentNames.{first_of_component}
 use Rattle.obs_claimed.proofs.NamedLemmas.{AreWithin}
 
@@ -51,8 +50,12 @@ module _ (t : Tables) (v : IsValid t) where
   pub candidate_named : (k : ℕ) → k < length t.candidates → is_name (candidate_name t k) ≡ true
   candidate_named k low = name_at (candidate_names t) k v.candidates.named (omega (arith, low, length-map t.candidates (λ row. row.name)))
 
-  pub branch_named : (e : ℕ) → e < length t.branches → is_name (branch_name t e) ≡ true
+  branch_named : (e : ℕ) → e < length t.branches → is_name (branch_name t e) ≡ true
   branch_named e low = name_at (branch_names t) e v.branches.named (omega (arith, low, length-map t.branches (λ row. row.name)))
+
+  -- the word for the branch of a pair
+  pub word_named : (m e : ℕ) → IsBranchOf t m e → is_name (branch_word t m e) ≡ true
+  word_named m e of = elim (cases_Bool (is_angle t m)) [ inl is ↦ rw is refl | inr other ↦ rw other (branch_named e (of.row other)) ]
 
   -- the name of an item
   pub item_has_name : (m : ℕ) → m < item_count t → is_name (item_name t m) ≡ true
@@ -68,20 +71,20 @@ module _ (t : Tables) (v : IsValid t) where
       let low = first.1.low in
       ap is_name first.1.name ∙ name_at (node_names t) first.0 v.nodes.named (omega (arith, low, length-map t.nodes (λ row. row.name)))
 
--- the pairs of a first assignment are items and branches
+-- the pairs of a first assignment are items with branches that they touch
 pub first_pairs_low : (n : ℕ) (ends : List (Option Ends)) (touches : List Touch) → AreBranches n ends → (p : Pair) → In p (first_pairs n ends touches)
-    → (p.0 < length touches) × (p.1 < length ends)
+    → (p.0 < length touches) × In p.1 (touch_at ends touches p.0)
 first_pairs_low n ends touches ok p i =
     let assigns = (first_pairs-is n ends touches ok).assigns in
     let low = range_from 0 (length touches) p.0 (assigns.of_items p i) in
-    (omega (arith, low.1), present_low ends p.1 (touched-present ends (get_or touches p.0 Nothing) p.1 (assigns.touched p i)))
+    (omega (arith, low.1), assigns.touched p i)
 
 -- so are those of a case's meters
 pub case_pairs_within : (t : Tables) → IsValid t → AreWithin t (case_first_pairs t)
 unfolding case_first_pairs
 case_pairs_within t v p i =
     let low = first_pairs_low (case_vertex_count t) (case_branches t) (case_meters t) (case_branches-are t v) p i in
-    (omega (arith, low.0, length-case_meters t), omega (arith, low.1, length-case_branches t))
+    (omega (arith, low.0, length-case_meters t), meter_branch t p.0 p.1 low.1)
 
 -- the items that a bound lists
 pub bound_meters_low : (t : Tables) (c m : ℕ) → In m (bound_meters t c) → m < item_count t
@@ -92,18 +95,19 @@ bound_meters_low t c m i =
     let low = filtered_below (is_live (case_branches t) (case_meters t)) 0 (length (case_meters t)) m live in
     omega (arith, low, length-case_meters t)
 
--- the pairs of a placement, over what each item of the case touches or nothing
-pairs_in_within : (t : Tables) → IsValid t → (touches : List Touch) → length touches ≡ item_count t → (placed : Placed)
-    → AreWithin t (pairs_in (case_vertex_count t) (case_branches t) touches placed)
-pairs_in_within t v touches many (cheapest plan) p i =
-    let low = first_pairs_low (case_vertex_count t) (case_branches t) touches (case_branches-are t v) p i in
-    (omega (arith, low.0, many), omega (arith, low.1, length-case_branches t))
-pairs_in_within t v touches many (shortfall lack) p i = absurd i
+-- the pairs of a placement, over what the listed items of the case touch
+pairs_in_within : (t : Tables) → IsValid t → (listed : List ℕ) (placed : Placed)
+    → AreWithin t (pairs_in (case_vertex_count t) (case_branches t) (touches_of (case_offered t) listed) placed)
+pairs_in_within t v listed (cheapest plan) p i =
+    let low = first_pairs_low (case_vertex_count t) (case_branches t) (touches_of (case_offered t) listed) (case_branches-are t v) p i in (
+      omega (arith, low.0, length-touches_of (case_offered t) listed, length-case_offered t),
+      offered_branch t p.0 p.1 (touch-listed (case_offered t) listed (case_branches t) p.0 p.1 low.1).1,
+    )
+pairs_in_within t v listed (shortfall lack) p i = absurd i
 
 pub placed_pairs_within : (t : Tables) → IsValid t → AreWithin t (case_placed_pairs t)
 placed_pairs_within t v =
-    let listed = planned_items (length t.meters) (chosen_of (case_vertex_count t) (case_branches t) (case_offered t) (length t.meters) (prices_of t.candidates)) in
-    pairs_in_within t v (touches_of (case_offered t) listed) (length-touches_of (case_offered t) listed ∙ length-case_offered t) (case_placement t)
+    pairs_in_within t v (planned_items (length t.meters) (chosen_of (case_vertex_count t) (case_branches t) (case_offered t) (length t.meters) (prices_of t.candidates))) (case_placement t)
 
 -- what is listed over some touches
 module _ (n : ℕ) (ends : List (Option Ends)) (touches : List Touch) (price : ℕ → ℕ) where

@@ -6,7 +6,7 @@ use Rattle.obs_placement.specs.declared.plans.Layer.{Layer as PlacedLayer}
 use Rattle.obs_placement.specs.Placed.{ShortfallValue, Placed, PlanValue}
 use Rattle.obs_placement.specs.Placed.Placed.{cheapest, shortfall as short_of}
 use Rattle.obs_cert.specs.Claims.{BoundClaim, Claim, CostClaim, Item, Layer, Pair, ShortfallClaim, TreeClaim, meter, candidate, cost, shortfall}
-use Rattle.obs_report.specs.Items.{branch_name, candidate_name, is_meter, meter_name}
+use Rattle.obs_report.specs.Items.{branch_word, candidate_name, is_meter, meter_name}
 use Rattle.obs_report.specs.Meters.{component_name}
 use Rattle.obs_edit.specs.Answers.{bound_meters, bound_outside, bound_rank}
 use Rattle.obs_edit.specs.Laws.{tree_pairs}
@@ -18,9 +18,9 @@ named_item t m = if is_meter t m then meter (meter_name t m) else candidate (can
 abbrev pub named_items : Tables → List ℕ → List Item
 named_items t list = map (named_item t) list
 
--- a pair by its names
+-- a pair by the name of its item and the word for its branch
 abbrev pub named_pair : Tables → NumberPair → Pair
-named_pair t p = record { item = named_item t p.0; branch = branch_name t p.1 }
+named_pair t p = record { item = named_item t p.0; branch = branch_word t p.0 p.1 }
 
 -- the tree of a component: the pairs of the first assignment that lie in it
 unfoldable pub component_tree : Tables → ℕ → TreeClaim

@@ -1,8 +1,8 @@
 // The lines on items: meters and then candidates.
-ghost use Rattle.std.specs.Prelude.{◌≡◌, ◌<◌, All, IfSome, [], ◌∷◌, length};
+ghost use Rattle.std.specs.Prelude.{◌≡◌, ◌<◌, All, IfSome, [], ◌∷◌};
 ghost use Rattle.std.specs.List.{flat_map};
 ghost use Rattle.obs_matroid.specs.Slots.{pairs_from};
-ghost use Rattle.obs_report.specs.Items.{inside_line, item_count, item_name, item_word, pair_line};
+ghost use Rattle.obs_report.specs.Items.{IsBranchOf, branch_word, inside_line, item_count, item_name, item_word, pair_line};
 ghost use Rattle.obs_report.specs.Printed.{Prints};
 
 use crate::line_buffer::LineBuffer;
@@ -59,10 +59,22 @@ pub(crate) fn print_list<W: Sink>(
     }
 }
 
+// The word for the branch of an item's pair.
+fn branch_word(case: &Case, m: u32, e: u32) -> &[u8]
+    requires branch { IsBranchOf case.now m e }
+    ensures word { result.now ≡ branch_word case.now m e }
+{
+    if case.is_angle(m) {
+        b"angle"
+    } else {
+        branch_name(case, e)
+    }
+}
+
 // Prints the line of an item and its branch.
 fn print_pair_line<W: Sink>(lines: &mut LineBuffer, output: &mut W, case: &Case, m: u32, e: u32)
     requires item { m < item_count case.now }
-    requires branch { e < length case.now.branches }
+    requires branch { IsBranchOf case.now m e }
     ensures printed { Prints W.written W.faults W.has_room output.old output.new lines.old lines.new
         (pair_line case.now (m, e)) }
 {
@@ -70,7 +82,7 @@ fn print_pair_line<W: Sink>(lines: &mut LineBuffer, output: &mut W, case: &Case,
         b"pair",
         item_word(case, m),
         item_name(case, m),
-        branch_name(case, e),
+        branch_word(case, m, e),
     ];
     lines.line(output, &words);
 }
@@ -84,7 +96,7 @@ pub(crate) fn print_pair<W: Sink>(
     branch: Option<u32>,
 )
     requires item { m < item_count case.now }
-    requires branch { IfSome branch (λ e. e < length case.now.branches) }
+    requires branch { IfSome branch (λ e. IsBranchOf case.now m e) }
     ensures printed { Prints W.written W.faults W.has_room output.old output.new lines.old lines.new
         (flat_map (pair_line case.now) (pairs_from m (branch ∷ []))) }
 {

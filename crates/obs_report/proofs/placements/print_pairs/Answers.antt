@@ -1,9 +1,8 @@
 use Rattle.std.proofs.Common.{◌<◌, ◌≤◌, ◌++◌, [], ◌∷◌, None, length, get_or, ap, refl, arith}
 use Rattle.std.specs.List.{flat_map}
 use Rattle.obs_matroid.specs.Slots.{pairs_from, pairs_of}
-use Rattle.obs_network.specs.Network.{case_offered}
 use Rattle.obs_report.specs.Items.{pair_line}
-use Rattle.obs_report.proofs.OfPairs.{held_low}
+use Rattle.obs_report.proofs.OfPairs.{held_branch, offered_branch}
 use Rattle.obs_report.proofs.Printing.{nothing_printed, then_printed}
 use Rattle.obs_report.proofs.Slotted.{slot_more, slot_none}
 use Rattle.obs_report.proofs.placements.print_pairs.Goals as goal
@@ -17,7 +16,8 @@ branch_of-branch-requires g c =
 
 pub print_pair-requires-clause-branch : goal.print_pair-requires-clause-branch
 print_pair-requires-clause-branch g c =
-    rw c.branch_of-branch.ensures.branch (held_low c.args.case.now c.args.pairs.now (case_offered c.args.case.now) c.requires.pairs.touched c.loop-m.m)
+    let t = c.args.case.now in
+    rw c.branch_of-branch.ensures.branch (held_branch t c.args.pairs.now (λ m e h. offered_branch t m e (c.requires.pairs.touched m e h)) c.loop-m.m)
 
 pub loop-m-preserved : goal.loop-m-preserved
 loop-m-preserved g c =

@@ -1,8 +1,7 @@
 use Rattle.std.proofs.Common.{◌++◌, [], get_or, refl, arith}
-use Rattle.obs_network.specs.Network.{case_meters}
 use Rattle.obs_network.proofs.OfCase.{length-case_meters}
 use Rattle.obs_report.proofs.Listed.{listed_more, listed_all}
-use Rattle.obs_report.proofs.OfPairs.{held_low, slot_lines}
+use Rattle.obs_report.proofs.OfPairs.{held_branch, meter_branch, slot_lines}
 use Rattle.obs_report.proofs.Printing.{nothing_printed, then_printed}
 use Rattle.obs_report.proofs.trees.print_pairs.Goals as goal
 
@@ -19,7 +18,9 @@ print_pair-requires-clause-item g c = let low = c.requires.meters c.loop-m.m-ind
 
 pub print_pair-requires-clause-branch : goal.print_pair-requires-clause-branch
 print_pair-requires-clause-branch g c =
-    rw c.branch_of.ensures.branch (held_low c.args.case.now c.args.pairs.now (case_meters c.args.case.now) c.requires.pairs.touched (get_or c.args.meters.now c.loop-m.m-index 0))
+    let t = c.args.case.now in
+    rw c.branch_of.ensures.branch
+    (held_branch t c.args.pairs.now (λ m e h. meter_branch t m e (c.requires.pairs.touched m e h)) (get_or c.args.meters.now c.loop-m.m-index 0))
 
 pub loop-m-preserved : goal.loop-m-preserved
 loop-m-preserved g c =
