@@ -15,7 +15,7 @@ FILES = ["nodes", "switches", "branches", "meters", "candidates"]
 SPOILT_FIELDS = [b"", b"0", b"1", b"2", b"00", b" 1", b"flow", b"zero", b"Zero", b"angle", b"Angle", b"1000000000", b"1000000001", b"9" * 20,
                  b"0" * 18 + b"1", b"-1", b"x" * 64, b"x" * 65, b"a\tb", b"a\x7fb", b"\xff", b"node", b"from", b"kind", b"price", b"absolute"]
 SPOILT_LINES = [b"", b"# note", b"trip", b"status ", b"report x", b"lose  m0", b"\xff", b"#" * 400, b"close s0\r"]
-SPOILT_WORDS = ["nope", "", "0", "1", "18446744073709551615", "9999999999999999999", "00", "tree", "end"]
+SPOILT_WORDS = ["nope", "", "0", "1", "18446744073709551615", "9999999999999999999", "00", "tree", "end", "angle"]
 
 
 def bytes_of(text):

@@ -21,6 +21,9 @@ class Case:
         self.meters = meters
         self.candidates = candidates
 
+    def is_angle(self, item):
+        return [*self.meters, *self.candidates][item][1] == "angle"
+
 
 def firsts(count, links):
     """For each of so many things the first one that it is joined with."""

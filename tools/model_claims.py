@@ -81,13 +81,22 @@ class Claim:
             at = place(case.candidates, name)
             return None if at is None else at + len(case.meters)
 
+        def branch(m, word):
+            if m is None or not case.is_angle(m):
+                return place(case.branches, word)
+            return len(case.branches) + m if word == b"angle" else None
+
+        def pair(word, name, at):
+            m = item(word, name)
+            return m, branch(m, at)
+
         self.kind = lines[0][0]
         self.numbers = [whole(word) for word in lines[0][1:] if self.kind in (b"cost", b"shortfall")]
         self.named = self.kind in (b"tree", b"bound")
         self.node = place(case.nodes, lines[0][1]) if self.named else None
         if self.kind == b"bound":
             self.numbers = [whole(word) for word in lines[0][2:]]
-        self.pairs = [(item(*words[1:3]), place(case.branches, words[3])) for words in lines if words[0] == b"pair"]
+        self.pairs = [pair(*words[1:]) for words in lines if words[0] == b"pair"]
         self.inside = [item(*words[1:]) for words in lines if words[0] == b"inside"]
         self.chosen = [item(b"candidate", words[1]) for words in lines if words[0] == b"chosen"]
         self.layers, listed = [], []

@@ -35,7 +35,8 @@ class Text:
         return ("meter", self.case.meters[m][0]) if m < meters else ("candidate", self.case.candidates[m - meters][0])
 
     def pairs(self, pairs):
-        return "".join(line("pair", *self.item(m), self.case.branches[e][0]) for m, e in pairs)
+        word = lambda m, e: "angle" if self.case.is_angle(m) else self.case.branches[e][0]
+        return "".join(line("pair", *self.item(m), word(m, e)) for m, e in pairs)
 
     def inside(self, items):
         return "".join(line("inside", *self.item(m)) for m in items)
