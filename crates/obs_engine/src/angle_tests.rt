@@ -4,6 +4,7 @@ use crate::Status;
 use crate::tests::{answers, outcome, taking};
 use crate::worked::{
     CDF_FILE, MATPOWER_FILE, METER, NO_SWITCHES, PATH_BRANCHES, PATH_PLAN, SESSION, VERIFY,
+    VERIFY_WITH,
 };
 use std::alloc::Global;
 use std::process::Abort;
@@ -189,6 +190,93 @@ fn faults_of_the_kind_angle_are_printed(rt: HostRuntime) -> Result<(), Fail> {
     ] {
         let files = [b"".as_slice(), NODES, NO_SWITCHES, PATH_BRANCHES, meters];
         answers(&rt, rt.alloc(), &REPORT, &files, Status::InputFault, text)?;
+    }
+    Ok(())
+}
+
+// Two buses with a flow meter on the branch between them, an idle angle meter and an idle angle candidate. The branch has one name
+// or another.
+const PLAIN: [&[u8]; 2] = [
+    b"branch,from,to,inservice\nL1,a,b,1\n",
+    b"meter,kind,at,inservice\nf1,flow,L1,1\ng1,angle,b,1\n",
+];
+
+const ANGLE: [&[u8]; 2] = [
+    b"branch,from,to,inservice\nangle,a,b,1\n",
+    b"meter,kind,at,inservice\nf1,flow,angle,1\ng1,angle,b,1\n",
+];
+
+// The answer to a certificate on them.
+fn verdict(
+    rt: &impl Abort,
+    alloc: Global,
+    named: [&'static [u8]; 2],
+    certificate: &'static [u8],
+    text: &'static [u8],
+) -> Result<(), Fail> {
+    let nodes = b"node,source\na,1\nb,0\n".as_slice();
+    let candidates = b"candidate,kind,at,price\nq1,angle,a,0\n".as_slice();
+    let [branches, meters] = named;
+    let none = b"".as_slice();
+    let files = [
+        none,
+        nodes,
+        NO_SWITCHES,
+        branches,
+        meters,
+        none,
+        candidates,
+        certificate,
+    ];
+    let status = if text == VALID {
+        Status::Done
+    } else {
+        Status::Short
+    };
+    answers(rt, alloc, &VERIFY_WITH, &files, status, text)
+}
+
+const VALID: &[u8] = b"valid\t1\n";
+
+const UNKNOWN: &[u8] = b"flaw\t1\t1\tUnknownName\n";
+
+const NOT_INSIDE: &[u8] = b"flaw\t1\t3\tNotInside\n";
+
+// In a pair of an angle item the branch is `angle` and nothing else. In one of a flow it is the name of a branch, which may be
+// `angle` too.
+#[test]
+fn branch_words_of_pairs_are_read(rt: HostRuntime) -> Result<(), Fail> {
+    for (named, certificate, text) in [
+        (
+            PLAIN,
+            b"tree\ta\npair\tmeter\tf1\tL1\nend\n".as_slice(),
+            VALID,
+        ),
+        (PLAIN, b"tree\ta\npair\tmeter\tf1\tangle\nend\n", UNKNOWN),
+        (PLAIN, b"tree\ta\npair\tmeter\tg1\tL1\nend\n", UNKNOWN),
+        (PLAIN, b"tree\ta\npair\tmeter\tg1\tAngle\nend\n", UNKNOWN),
+        (PLAIN, b"tree\ta\npair\tmeter\tg1\tangle\nend\n", NOT_INSIDE),
+        (PLAIN, b"tree\ta\npair\tcandidate\tq1\tL1\nend\n", UNKNOWN),
+        (
+            PLAIN,
+            b"tree\ta\npair\tcandidate\tq1\tangle\nend\n",
+            NOT_INSIDE,
+        ),
+        (
+            PLAIN,
+            b"cost\t0\nchosen\tq1\npair\tcandidate\tq1\tL1\nend\n",
+            UNKNOWN,
+        ),
+        (
+            PLAIN,
+            b"cost\t0\nchosen\tq1\npair\tcandidate\tq1\tangle\nend\n",
+            NOT_INSIDE,
+        ),
+        (ANGLE, b"tree\ta\npair\tmeter\tf1\tangle\nend\n", VALID),
+        (ANGLE, b"tree\ta\npair\tmeter\tf1\tL1\nend\n", UNKNOWN),
+        (ANGLE, b"tree\ta\npair\tmeter\tg1\tangle\nend\n", NOT_INSIDE),
+    ] {
+        verdict(&rt, rt.alloc(), named, certificate, text)?;
     }
     Ok(())
 }
