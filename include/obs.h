@@ -12,7 +12,8 @@
 extern "C" {
 #endif
 
-/* What obs_run answers: the exit statuses of the program, where 5 is what no block was long enough for, and one more. */
+/* What obs_run answers: the exit statuses of the program, of which 5 speaks of the block for the text, and one more. 4 never comes,
+ * since no file is opened. */
 enum obs_status {
     OBS_DONE = 0,             /* all was answered, and the answer is the good one */
     OBS_SHORT = 1,            /* all was answered, and something falls short */
@@ -41,8 +42,8 @@ enum obs_status {
  *
  * The caller upholds: no pointer is null, even where the length beside it is 0; each leads to as many elements as that length
  * says, and lengths and written are aligned; text and *written overlap none of the others; nobody changes a block during the
- * call; malloc, realloc and free are those of one allocator; no call comes from a signal handler, or from the forked child of a
- * process with threads. */
+ * call; malloc, realloc and free are those of one allocator, which aligns as C asks; no call comes from a signal handler, or from
+ * the forked child of a process with threads. */
 uint8_t obs_run(const uint8_t *words, size_t words_length,
                 const uint8_t *contents, size_t contents_length,
                 const size_t *lengths, size_t lengths_count,

@@ -1,4 +1,7 @@
-"""The library for C, called as the program is: over files in a folder, with the program's statuses."""
+"""The library for C, called as the program is: over files in a folder, with the program's statuses.
+
+What the Python module reads of an answer and writes again is to be the same text.
+"""
 import os
 import sys
 
@@ -12,9 +15,9 @@ class Library:
     def __init__(self, file, folder):
         os.environ["OBS_LIBRARY"] = os.path.abspath(file)
         sys.path.insert(0, os.path.join(HOME, "python"))
-        from obs import library
+        from obs import calls, library
 
-        self.library, self.folder = library, folder
+        self.library, self.calls, self.folder = library, calls, folder
 
     def run(self, words, given=b""):
         """What is written, and the status: that of the program too where a word isn't UTF-8, or a file can't be read."""
@@ -32,6 +35,10 @@ class Library:
                 return b"", 4
             pairs[k] = (words[k], content)
         status, text = self.library.call(pairs, given)
+        if status in (self.library.DONE, self.library.SHORT):
+            answer = self.calls.read(words[0].decode(), status, text, given)
+            if str(answer).encode("utf-8", "surrogateescape") != text:
+                return b"read otherwise by the Python module: " + text, status
         return text, status
 
     def content(self, name):

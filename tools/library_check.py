@@ -5,10 +5,13 @@ LIBRARY is libobs.so, PROGRAM the built program. It says what was tried, and end
 
 - the examples (examples/*/*.run) whose commands are all plain ones of obs: what the module reads of an answer, written as text again, is
   what the program prints, and its status is the program's; a fault has the words of the printed line
+- random cases whose tables are rows, with names of many kinds: the answer is that of the definitions (tools/model.py)
+- a session whose text is longer than the module's first block, and one whose lines are too long
 - blocks for the text of 0 to 40 bytes, and of a byte less, none more and one more than the text: the status, the front that is written,
   and that nothing behind it is touched
 - ten threads at once, each with cases of its own
 - less and less memory: every call ends with its answer, or with 6 and nothing written
+- each request for memory refused in turn, so too; and all memory is given back. This needs a C compiler and libobs.a beside the library
 - blocks that are no words and contents: 8, and nothing written
 
 Random cases are compared by tools/compare.py LIBRARY.
@@ -17,6 +20,7 @@ import ctypes
 import os
 import random
 import shlex
+import shutil
 import subprocess
 import sys
 import tempfile
@@ -26,8 +30,11 @@ HERE = os.path.dirname(os.path.abspath(__file__))
 EXAMPLES = os.path.join(HERE, "..", "examples")
 sys.path[:0] = [os.path.join(HERE, "..", "python"), HERE]
 
-import obs  # noqa: E402
-from obs import library  # noqa: E402
+import obs
+from cases import random_case, records_of
+from memory import COMMANDS
+from model_text import Text
+from obs import library
 
 FILL = 0xA5
 TABLES = ["nodes", "switches", "branches", "meters"]
@@ -123,6 +130,68 @@ def try_examples(program):
     print(count, "examples are answered as by the program")
 
 
+class Frame:
+    """As much of a frame of pandas as the module asks for."""
+
+    def __init__(self, columns, rows):
+        self.columns, self.rows = columns, rows
+
+    def to_dict(self, _):
+        return [dict(zip(self.columns, row)) for row in self.rows]
+
+
+def given_rows(r, part, records):
+    """A table of these records: its bytes, or rows of one kind, with the flags and prices as numbers or as text."""
+    columns, rows = [name.decode() for name in records[0]], [list(map(bytes, row)) for row in records[1:]]
+    kind = r.randrange(6)
+    if kind == 0:
+        quoted = lambda field: b'"' + field.replace(b'"', b'""') + b'"'
+        return b"".join(b",".join(map(quoted, row)) + b"\n" for row in records)
+    if kind == 1:
+        return rows
+    rows = [[field.decode("utf-8", "surrogateescape") for field in row] for row in rows]
+    value = r.choice([int, float, lambda word: bool(int(word)) if part != "candidates" else int(word)])
+    rows = [(*row[:-1], value(row[-1])) for row in rows]
+    dictionaries = [dict(zip(columns, row), note="x") for row in rows]
+    return {2: rows, 3: tuple(rows), 4: dictionaries, 5: Frame(columns, rows)}[kind]
+
+
+def try_rows():
+    count = 0
+    for seed in range(500):
+        r = random.Random(seed)
+        case = random_case(r)
+        case.nodes[0] = (r.choice([case.nodes[0][0], "\udcff\udc80", " a ", "x\u2028y", '"', "a,b"]), case.nodes[0][1])
+        if len({row[0] for row in case.nodes}) < len(case.nodes):
+            continue
+        *tables, offered = [given_rows(r, part, records) for part, records in zip(obs.COLUMNS, records_of(case))]
+        made = obs.tables(*tables)
+        agree(seed, str(obs.report(made)), Text(case).ask("report"))
+        agree(seed, str(obs.place(made, offered)), Text(case).ask("place"))
+        agree(seed, str(obs.topology(*tables[:2])), Text(case).topology())
+        count += 1
+    wrong = [([("a",)], ValueError), ([{"node": "a"}], ValueError), (["ab"], TypeError), ([("a", 0.5)], TypeError), (7, TypeError)]
+    for rows, error in wrong:
+        try:
+            obs.topology(rows, None)
+            fail("these rows are no table:", rows)
+        except error:
+            pass
+    print(count, "cases are answered from rows as the definitions say")
+
+
+def try_sessions():
+    case = obs.cdf(*(os.path.join(EXAMPLES, "ieee14", name) for name in ("case.cdf", "meters.csv")))
+    one, count = str(obs.report(case)), 2000
+    agree("a long text", str(obs.session(case, ["report"] * count)), one * count)
+    try:
+        obs.session(case, b"status\n" + b"#" * (16 << 20))
+        fail("a session that is too long is answered")
+    except obs.SessionTooLong as found:
+        agree("a long session", found.text, str(obs.session(case, "status")))
+    print("a text of", count * len(one), "bytes is answered whole, and a session that is too long up to where it is")
+
+
 def blocks_of(folder, words):
     """The blocks of a call whose words name files where they have a point."""
     contents = [content(folder, word) if "." in word else b"" for word in words]
@@ -132,12 +201,7 @@ def blocks_of(folder, words):
 def call_with(words, contents, lengths, given, room):
     """A call with so much room: the status, how many bytes are written, and the block with some bytes behind it."""
     text = (ctypes.c_char * (room + BEHIND)).from_buffer_copy(bytes([FILL]) * (room + BEHIND))
-    written = ctypes.c_size_t(12345)
-    sizes = (ctypes.c_size_t * max(len(lengths), 1))(*lengths)
-    status = library.load()(
-        words, len(words), contents, len(contents), sizes, len(lengths), given, len(given), text, room, ctypes.byref(written)
-    )
-    return status, written.value, text.raw
+    return (*library.call_once(words, contents, lengths, given, text, room), text.raw)
 
 
 def try_rooms():
@@ -220,6 +284,63 @@ def try_memory():
     print(f"{len(found)} limits of memory: {sum(one[0] == library.NO_MEMORY for one in found)} calls end with 6, the others with the answer")
 
 
+REFUSING = """
+#include <stddef.h>
+void *__real_malloc(size_t);
+void *__real_realloc(void *, size_t);
+void __real_free(void *);
+static long asked, refused, held;
+void refuse(long which) { asked = 0; refused = which; }
+long count_asked(void) { return asked; }
+long count_held(void) { return held; }
+void *__wrap_malloc(size_t size) { void *made = asked++ == refused ? 0 : __real_malloc(size); held += made != 0; return made; }
+void *__wrap_realloc(void *old, size_t size) {
+  void *made = asked++ == refused ? 0 : __real_realloc(old, size);
+  held += made && !old;
+  return made;
+}
+void __wrap_free(void *old) { held -= old != 0; __real_free(old); }
+"""
+
+
+def refusing(file, folder):
+    """The library with a count of its requests for memory, of which one can be refused; None where it can't be built."""
+    archive, compiler = os.path.splitext(file)[0] + ".a", os.environ.get("CC", "cc")
+    if not os.path.exists(archive) or not shutil.which(compiler):
+        return None
+    source, made = os.path.join(folder, "refusing.c"), os.path.join(folder, "refusing.so")
+    with open(source, "w") as out:
+        out.write(REFUSING)
+    wraps = [f"-Wl,--wrap={name}" for name in ("malloc", "realloc", "free")]
+    whole = ["-Wl,--whole-archive", archive, "-Wl,--no-whole-archive"]
+    subprocess.run([compiler, "-shared", "-fPIC", "-O1", "-o", made, source, *wraps, *whole], check=True)
+    return made
+
+
+def try_refusals(file):
+    with tempfile.TemporaryDirectory() as folder:
+        made = refusing(file, folder)
+        if not made:
+            print("no request for memory is refused: there is no C compiler, or no libobs.a beside the library")
+            return
+        counted, given = ctypes.CDLL(made), os.environ["OBS_LIBRARY"]
+        os.environ["OBS_LIBRARY"] = made
+        total = 0
+        for name, words, lines in COMMANDS:
+            blocks = blocks_of(os.path.join(EXAMPLES, name), words)
+            counted.refuse(-1)
+            whole = call_with(*blocks, lines.encode(), 100000)
+            nothing = (library.NO_MEMORY, 0, bytes([FILL]) * len(whole[2]))
+            for which in range(counted.count_asked()):
+                counted.refuse(which)
+                found = call_with(*blocks, lines.encode(), 100000)
+                if found not in (nothing, whole) or counted.count_held():
+                    fail(words, "request", which, "refused: status", *found[:2], "held", counted.count_held())
+                total += 1
+        os.environ["OBS_LIBRARY"] = given
+    print(total, "requests for memory are refused, one a call: 6 and nothing written, or the whole answer, and nothing is kept")
+
+
 def try_malformed():
     own = os.path.join(EXAMPLES, "own")
     words, contents, lengths = blocks_of(own, ["report", "tables", *(f"{name}.csv" for name in TABLES)])
@@ -249,10 +370,13 @@ def try_malformed():
 def main(file, program):
     os.environ["OBS_LIBRARY"] = os.path.abspath(file)
     try_examples(os.path.abspath(program))
+    try_rows()
+    try_sessions()
     try_rooms()
     try_malformed()
     try_threads()
     try_memory()
+    try_refusals(os.environ["OBS_LIBRARY"])
 
 
 if __name__ == "__main__":

@@ -213,4 +213,5 @@ def main():
     sys.exit(watched.odd > 0)
 
 
-main()
+if __name__ == "__main__":
+    main()

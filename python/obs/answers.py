@@ -125,6 +125,8 @@ class Report(Lines):
     @property
     def certificate(self):
         """The trees and bounds as text that `verify` takes."""
+        if self.claims is None:
+            raise ValueError("no trees or bounds were asked for")
         return "".join(map(str, self.claims)) + "end\n"
 
     def lines(self):

@@ -1,6 +1,4 @@
 """The commands."""
-import os
-
 from . import library
 from .answers import Reading
 from .cases import content, table
@@ -9,7 +7,7 @@ from .faults import Fault, Malformed, NoMemory, NotUnderstood, SessionTooLong
 
 def report(case):
     """A Report: the counts and the verdict, a tree or a bound for each energised part, the islands and the critical meters."""
-    return _ask(["report", *_form(case)], lambda reading, _: reading.report())
+    return _ask(["report", *_form(case)])
 
 
 def place(case, candidates):
@@ -18,7 +16,7 @@ def place(case, candidates):
     candidates   a table as in `tables`: (candidate, kind, at, price), where kind and at are those of a meter, and price is a whole number
                  up to 1,000,000,000, in any unit that is the same for all.
     """
-    return _ask(["place", *_form(case), table("candidates", candidates)], lambda reading, _: reading.placement())
+    return _ask(["place", *_form(case), table("candidates", candidates)])
 
 
 def session(case, lines, candidates=None):
@@ -28,10 +26,7 @@ def session(case, lines, candidates=None):
                  with a blank and a name; status, tree, bound, cert, islands, critical, report; and place where there are candidates.
     candidates   a table as in `place`, or None.
     """
-    given = _input(lines)
-    answered = [line.decode("utf-8", "surrogateescape") for line in _answered(given)]
-    words = ["session", *_form(case), *_with(candidates)]
-    return _ask(words, lambda reading, status: reading.session(answered, status == library.DONE), given)
+    return _ask(["session", *_form(case), *_with(candidates)], _input(lines))
 
 
 def verify(case, certificate, candidates=None):
@@ -42,12 +37,12 @@ def verify(case, certificate, candidates=None):
     """
     given = getattr(certificate, "certificate", None)
     claims = content(certificate) if given is None else given.encode("utf-8", "surrogateescape")
-    return _ask(["verify", *_form(case), *_with(candidates), claims], lambda reading, _: reading.verified())
+    return _ask(["verify", *_form(case), *_with(candidates), claims])
 
 
 def topology(nodes, switches):
     """A Topology: for each node the first node of its bus. The two are tables as in `tables`."""
-    return _ask(["topology", table("nodes", nodes), table("switches", switches)], lambda reading, _: reading.topology())
+    return _ask(["topology", table("nodes", nodes), table("switches", switches)])
 
 
 def run(words, given=b""):
@@ -56,7 +51,7 @@ def run(words, given=b""):
     words   a list: a text is a word, bytes are the contents of a file whose name stands there.
     given   bytes: what a session reads.
     """
-    pairs = [(b"file", word) if isinstance(word, bytes) else (os.fsencode(word), None) for word in words]
+    pairs = [(b"file", word) if isinstance(word, bytes) else (word.encode("utf-8", "surrogateescape"), None) for word in words]
     status, text = library.call(pairs, given)
     if status == library.NO_MEMORY:
         raise NoMemory("there was no memory for the answer")
@@ -69,15 +64,24 @@ def run(words, given=b""):
     return status, text
 
 
-def _ask(words, read, given=b""):
-    """What is read of the text, with the status, where there is an answer."""
+def read(command, status, text, given=b""):
+    """The answer of a command that ended with 0 or 1 and this text, to what a session read."""
+    reading = Reading(text)
+    if command == "session":
+        answered = [line.decode("utf-8", "surrogateescape") for line in _answered(given)]
+        return reading.end(reading.session(answered, status == library.DONE))
+    calls = {"report": reading.report, "place": reading.placement, "verify": reading.verified, "topology": reading.topology}
+    return reading.end(calls[command]())
+
+
+def _ask(words, given=b""):
+    """The answer to these words, where there is one."""
     status, text = run(words, given)
     if status == library.INPUT_FAULT:
         raise Fault(text.decode())
     if status == library.USAGE:
         raise NotUnderstood("the library has no such command: it is of another version than this package")
-    reading = Reading(text)
-    return reading.end(read(reading, status))
+    return read(words[0], status, text, given)
 
 
 def _form(case):

@@ -49,18 +49,20 @@ def load():
         return _loaded[file]
 
 
-def call_once(words, contents, lengths, given, text):
+def call_once(words, contents, lengths, given, text, room):
     """One call with these blocks. Gives the status, and how many bytes are written.
 
     words      bytes: each word, ended by a zero byte.
     contents   bytes: the contents of all files, one behind another.
     lengths    a list of numbers of bytes, one for each word.
     given      bytes: what a session reads.
-    text       a ctypes array of chars with room for at least one.
+    text       a ctypes array of at least one char.
+    room       how many of these chars may be written.
     """
+    # No pointer may be null: where there are no lengths there is room for one, and all bytes of Python have a zero byte behind them. What
+    # stands in `written` first is no number that the call writes.
     sizes = (ctypes.c_size_t * max(len(lengths), 1))(*lengths)
-    written = ctypes.c_size_t()
-    room = max(ctypes.sizeof(text) - 1, 0)
+    written = ctypes.c_size_t(room + 1)
     status = load()(
         words, len(words), contents, len(contents), sizes, len(lengths), given, len(given), text, room, ctypes.byref(written)
     )
@@ -76,10 +78,10 @@ def call(words, given=b""):
     block = b"".join(word + b"\0" for word, _ in words)
     contents = b"".join(content for _, content in words if content)
     lengths = [len(content or b"") for _, content in words]
-    room = 65536 + 2 * len(contents) + 64 * len(given)
+    room = 65536 + 2 * len(contents) + 4 * len(given)
     while True:
-        text = ctypes.create_string_buffer(room + 1)
-        status, written = call_once(block, contents, lengths, given, text)
+        text = ctypes.create_string_buffer(room)
+        status, written = call_once(block, contents, lengths, given, text, room)
         if status != TEXT_TOO_LONG:
             return status, ctypes.string_at(text, written)
         room *= 4
