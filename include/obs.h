@@ -27,13 +27,13 @@ enum obs_status {
 
 /* Runs obs once, and answers one of the numbers above.
  *
- * words, words_length       the words behind the program's own name, each ended by a zero byte: "report\0cdf\0C\0M\0" is four
- *                           words in 15 bytes. Each is UTF-8. A word that names a file is any name: no file is opened.
+ * words, words_length       the words behind the program's own name, each ended by a zero byte: "report\0cdf\0C\0M" is four
+ *                           words in 15 bytes with the zero byte that C adds. Each is UTF-8. A word that names a file is any name: no file is opened.
  * contents, contents_length the contents of all files, one behind another, in the order of their words.
  * lengths, lengths_count    for each word how many bytes of contents are its file's; 0 for a word that names none. The count is
  *                           that of the words, and the lengths sum up to contents_length.
  * input, input_length       what a session reads.
- * text, text_length         room for what is printed. It isn't ended by a zero byte. What stands behind the written bytes is
+ * text, text_length         room for what is printed. The call asks malloc for as many bytes while it runs. It isn't ended by a zero byte. What stands behind the written bytes is
  *                           left as it was.
  * written                   how many bytes of text were written, also where the answer is no good one.
  *

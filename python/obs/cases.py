@@ -12,6 +12,8 @@ COLUMNS = {
     "meters": ("meter", "kind", "at", "inservice"),
     "candidates": ("candidate", "kind", "at", "price"),
 }
+# The columns that a table may have behind these.
+FURTHER = {"nodes": ("absolute",)}
 # One byte more than obs takes of a file: it answers then that the file is too long.
 _MOST_READ = 16777217
 _MARKS = (b",", b'"', b"\r", b"\n")
@@ -37,12 +39,13 @@ def tables(nodes, switches, branches, meters):
 
     Each is a path, or the bytes of a CSV file with a header line, or rows without one:
 
-    - nodes: (node, source)
+    - nodes: (node, source), or (node, source, absolute)
     - switches: (switch, from, to, closed), where from and to name nodes; None stands for no switches
     - branches: (branch, from, to, inservice)
-    - meters: (meter, kind, at, inservice), where kind is "flow" and at names a branch, or "injection" or "zero" and at names a node
+    - meters: (meter, kind, at, inservice), where kind is "flow" and at names a branch, or "injection", "zero" or "angle" and at
+      names a node
 
-    source, closed and inservice are True or False, 1 or 0. A name has 1 to 64 bytes. A table has at most 20,000 rows, a file at most
+    Rows of nodes have absolute all or none. source, absolute, closed and inservice are True or False, 1 or 0. A name has 1 to 64 bytes. A table has at most 20,000 rows, a file at most
     16,777,216 bytes. Files are read now: what becomes of them later doesn't change the case.
     """
     given = [("nodes", nodes), ("switches", switches), ("branches", branches), ("meters", meters)]
@@ -83,8 +86,12 @@ def table(part, given):
     """The bytes of a table that is given by a path, by bytes or by rows."""
     if is_path(given) or isinstance(given, (bytes, bytearray, memoryview)):
         return content(given)
-    lines = [[name.encode() for name in COLUMNS[part]]]
-    lines += [_fields(part, number, row) for number, row in enumerate(_rows(given), 1)]
+    rows = list(_rows(given))
+    columns = COLUMNS[part] + FURTHER.get(part, ())
+    if not any(_has_all(row, columns) for row in rows):
+        columns = COLUMNS[part]
+    lines = [[name.encode() for name in columns]]
+    lines += [_fields(part, columns, number, row) for number, row in enumerate(rows, 1)]
     return b"".join(b",".join(map(_quoted, line)) + b"\n" for line in lines)
 
 
@@ -97,9 +104,15 @@ def _rows(given):
     return given
 
 
-def _fields(part, number, row):
+def _has_all(row, columns):
+    """Whether a row has all these columns, the further ones among them."""
+    if hasattr(row, "keys"):
+        return all(name in row.keys() for name in columns)
+    return isinstance(row, (tuple, list)) and len(row) == len(columns)
+
+
+def _fields(part, columns, number, row):
     """The fields of a row in the order of the columns."""
-    columns = COLUMNS[part]
     if hasattr(row, "keys"):
         missing = [name for name in columns if name not in row.keys()]
         if missing:
