@@ -32,6 +32,7 @@ sys.path[:0] = [os.path.join(HERE, "..", "python"), HERE]
 
 import obs
 from cases import random_case, records_of
+import relations
 from memory import COMMANDS
 from model_text import Text
 from obs import library
@@ -329,11 +330,11 @@ def try_refusals(file):
         for name, words, lines in COMMANDS:
             blocks = blocks_of(os.path.join(EXAMPLES, name), words)
             counted.refuse(-1)
-            whole = call_with(*blocks, lines.encode(), 100000)
+            whole = call_with(*blocks, relations.lines_of(lines), 100000)
             nothing = (library.NO_MEMORY, 0, bytes([FILL]) * len(whole[2]))
             for which in range(counted.count_asked()):
                 counted.refuse(which)
-                found = call_with(*blocks, lines.encode(), 100000)
+                found = call_with(*blocks, relations.lines_of(lines), 100000)
                 if found not in (nothing, whole) or counted.count_held():
                     fail(words, "request", which, "refused: status", *found[:2], "held", counted.count_held())
                 total += 1
