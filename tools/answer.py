@@ -242,10 +242,16 @@ class Answer:
         self.islands = members(self.island)
         self.islands_of = members([self.part[u] if self.island[u] == u else None for u in range(len(self.names))])
         self.parts = members([part if self.island[u] is not None else None for u, part in enumerate(self.part)])
+        marked = {self.part[self.bus[node]] for node, row in enumerate(self.case.nodes) if row[2]}
+        self.absolute = {part for part in self.parts if part in marked}
         self.dead_parts = members([part if self.island[u] is None else None for u, part in enumerate(self.part)])
 
     def find_items(self):
-        """Which items are live, and the branches between islands. The counts are to be those that obs printed."""
+        """Which items are live, the branches between islands, and of each absolute part the island that angle meters tie to the reference.
+
+        An angle meter and its bus alone tie that bus to it, so all buses with one lie in that island. The counts are to be those that
+        obs printed.
+        """
         self.live_branches = [e for e, (u, _) in self.ends.items() if self.island[u] is not None]
         self.at_bus = [[] for _ in self.names]
         for e in self.live_branches:
@@ -258,6 +264,8 @@ class Answer:
         for e in self.ties:
             self.ties_of.setdefault(self.part[self.ends[e][0]], []).append(e)
         self.injected = {self.place(self.case.meters[m]) for m in self.live_meters if self.case.meters[m][1] in ("injection", "zero")}
+        angles = {self.place(self.case.meters[m]) for m in self.live_meters if self.case.meters[m][1] == "angle"}
+        self.with_reference = {self.part[u]: self.island[u] for u in angles}
         self.short_parts = [part for part in self.parts if self.names[part] in self.bounds]
         self.meter_at = {row[0]: m for m, row in enumerate(self.case.meters)}
         self.candidate_at = {row[0]: c for c, row in enumerate(self.case.candidates)}
@@ -268,7 +276,7 @@ class Answer:
 
     def is_touching(self, row):
         if row[1] == "angle":
-            return False
+            return self.part[self.place(row)] in self.absolute
         return self.place(row) in self.ends and self.is_live(row[2]) if row[1] == "flow" else bool(self.at_bus[self.place(row)])
 
     def is_live(self, e):
@@ -279,7 +287,7 @@ class Answer:
         return row[2] if row[1] == "flow" else self.bus[row[2]]
 
     def need(self, part):
-        return len(self.parts[part]) - 1
+        return len(self.parts[part]) - (part not in self.absolute)
 
     def missing(self, part):
         """How many pairs a short component lacks: its bound is what it can have."""

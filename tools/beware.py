@@ -76,11 +76,9 @@ def counting(number):
 
 
 def idle_cause(answer, row):
-    if row[1] == "angle":
-        return "the kind `angle` has no effect yet"
     if row[1] != "flow":
-        u = answer.place(row)
-        return "in a part without a source" if answer.island[u] is None else "no branch in service is at this bus"
+        nothing = "no node of its part is marked absolute" if row[1] == "angle" else "no branch in service is at this bus"
+        return "in a part without a source" if answer.island[answer.place(row)] is None else nothing
     if not answer.case.branches[row[2]][3]:
         return "the branch is out of service"
     return "in a part without a source" if row[2] in answer.ends else "both ends of the branch are at one bus"
@@ -98,7 +96,7 @@ def twice_measured(answer, words):
         for row in some:
             if row[1] in ("injection", "zero"):
                 at.setdefault(answer.place(row), []).append(row)
-        places = {answer.place(row) for row in wanted if row[1] != "flow"}
+        places = {answer.place(row) for row in wanted if row[1] in ("injection", "zero")}
         several = [u for u in at if u in places and len(at[u]) > 1]
         items = [f"{words.bus(u)}: " + words.list(f"{quoted(row[0])} ({row[1]})" for row in at[u]) for u in several]
         if items:

@@ -23,15 +23,16 @@ def bytes_of(text):
 
 
 def random_case(r):
-    count = r.randint(1, 7)
-    marked = r.choice([0, 0, 0.4, 1])
-    nodes = [(name, r.random() < 0.4, r.random() < marked) for name in r.sample(NAMES, count)]
+    """Of some cases no node is marked absolute, of some a third and of some all; and of some no meter is an angle meter."""
+    count, fed = r.randint(1, 7), r.choice([0.4, 0.8])
+    marked, angles, in_service = r.choice([0, 0.3, 1]), r.choice([0, 0.2, 0.5]), r.choice([0.85, 0.85, 0.5])
+    nodes = [(name, r.random() < fed, r.random() < marked) for name in r.sample(NAMES, count)]
     end = lambda: r.randrange(count)
     switches = [[f"s{i}", end(), end(), r.random() < 0.4] for i in range(r.choice([0, 0, 1, 2, 3, 4]))]
-    branches = [[f"L{i}", end(), end(), r.random() < 0.85] for i in range(r.randint(0, 8))]
+    branches = [[f"L{i}", end(), end(), r.random() < in_service] for i in range(r.randint(0, 8))]
 
     def item(name, last):
-        kind = r.choice(["flow", "flow", "injection", "zero", "angle"] if branches else ["injection", "zero", "angle"])
+        kind = "angle" if r.random() < angles else r.choice(["flow", "flow", "injection", "zero"] if branches else ["injection", "zero"])
         return [name, kind, r.randrange(len(branches)) if kind == "flow" else end(), last]
 
     meters = [item(f"m{i}", r.random() < 0.85) for i in range(r.randint(0, 7))]
@@ -39,25 +40,47 @@ def random_case(r):
 
 
 def records_of(case):
+    """The five tables. Nodes have the column `absolute`, as the last one, where a node is marked."""
     node, branch = (lambda i: bytes_of(case.nodes[i][0])), (lambda i: bytes_of(case.branches[i][0]))
     flag = lambda value: b"1" if value else b"0"
     at = lambda row: branch(row[2]) if row[1] == "flow" else node(row[2])
+    marked = 3 if any(row[2] for row in case.nodes) else 2
+    columns = {part: [word.encode() for word in some] for part, some in model_reads.COLUMNS.items()}
+    columns["nodes"] = [*columns["nodes"], b"absolute"][:marked]
     rows = [
-        [[bytes_of(row[0]), flag(row[1])] for row in case.nodes],
+        [[bytes_of(row[0]), flag(row[1]), flag(row[2])][:marked] for row in case.nodes],
         [[bytes_of(row[0]), node(row[1]), node(row[2]), flag(row[3])] for row in case.switches],
         [[bytes_of(row[0]), node(row[1]), node(row[2]), flag(row[3])] for row in case.branches],
         [[bytes_of(row[0]), row[1].encode(), at(row), flag(row[3])] for row in case.meters],
         [[bytes_of(row[0]), row[1].encode(), at(row), str(row[3]).encode()] for row in case.candidates],
     ]
-    return [[[word.encode() for word in model_reads.COLUMNS[part]], *some] for part, some in zip(FILES, rows)]
+    return [[columns[part], *some] for part, some in zip(FILES, rows)]
 
 
 def with_marks(r, case, records):
     """The table of nodes with the column `absolute` at any place, where a node is marked or else by chance."""
+    records = [record[:2] for record in records]
     if not any(row[2] for row in case.nodes) and r.random() < 0.8:
-        return records
+        return [records[0], *(record + [b"1"] for record in records[1:])] if r.random() < 0.1 else records
     at, column = r.randrange(3), [b"absolute", *(b"1" if row[2] else b"0" for row in case.nodes)]
-    return [record[:at] + [field] + record[at:] for record, field in zip(records, column)]
+    records = [record[:at] + [field] + record[at:] for record, field in zip(records, column)]
+    return spoil_marks(r, at, records) if r.random() < 0.1 else records
+
+
+def spoil_marks(r, at, records):
+    """That column twice, or by another name, or a row whose field there is missing or no flag."""
+    row, what = r.choice(records[1:]), r.randrange(5)
+    if what == 0:
+        records[0].append(b"absolute")
+    elif what == 1:
+        return [record + [record[at]] for record in records]
+    elif what == 2:
+        records[0][at] = r.choice([b" absolute", b"Absolute"])
+    elif what == 3:
+        del row[max(at, 1) :]
+    else:
+        row[at] = r.choice([b"", b"2", b" 1", b"yes"])
+    return records
 
 
 def csv_of(r, records):

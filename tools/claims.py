@@ -59,7 +59,15 @@ def listed(size):
     return size, [0], branches, meters, [], repeated(claim)
 
 
-SHAPES = {"alone": (alone, 20000), "tree": (tree, 20000), "layers": (layers, 20000), "hub": (hub, 20000), "listed": (listed, 20000)}
+def angles(size):
+    """So many absolute buses alone, each with a source and an angle meter, and a claim of one pair for each."""
+    meters = [("angle", f"n{v}") for v in range(size)]
+    claims = "".join(f"tree\tn{v}\npair\tmeter\tm{v}\tangle\n" for v in range(size))
+    return size, range(size), [], meters, [], claims + "end\n"
+
+
+SHAPES = {name: (make, 20000) for name, make in [
+    ("alone", alone), ("angles", angles), ("tree", tree), ("layers", layers), ("hub", hub), ("listed", listed)]}
 
 
 def table(folder, name, header, rows):
@@ -72,9 +80,10 @@ def main():
     shape, folder = sys.argv[1], sys.argv[2]
     make, full = SHAPES[shape]
     nodes, sources, branches, meters, offered, claims = make(int(sys.argv[3]) if len(sys.argv) > 3 else full)
-    sources = set(sources)
+    sources, is_absolute = set(sources), any(kind == "angle" for kind, _ in meters)
     os.makedirs(folder, exist_ok=True)
-    table(folder, "nodes.csv", "node,source", (f"n{v},{int(v in sources)}" for v in range(nodes)))
+    head, mark = ("node,source,absolute", ",1") if is_absolute else ("node,source", "")
+    table(folder, "nodes.csv", head, (f"n{v},{int(v in sources)}{mark}" for v in range(nodes)))
     table(folder, "switches.csv", "switch,from,to,closed", [])
     table(folder, "branches.csv", "branch,from,to,inservice", (f"b{e},n{a},n{b},1" for e, (a, b) in enumerate(branches)))
     table(folder, "meters.csv", "meter,kind,at,inservice", (f"m{m},{kind},{at},1" for m, (kind, at) in enumerate(meters)))

@@ -5,7 +5,8 @@ Usage: tools/compare_pictures.py PROGRAM [FIRST [COUNT]]
 
 Each number from FIRST (0) on makes one case, for COUNT (1000) cases, with names that are hard to quote. Of two thirds of them it is seen
 that the drawing has each bus and each live branch once, that its groups are the islands and the dead parts, that each branch between
-two islands is named, and that a flow meter at it, and an injection at a bus that is named as free, raises the rank by one; and that of a
+two islands is named, and that a flow meter at it, and an injection at a bus that is named as free, raises the rank by one, and in an
+absolute part an angle meter at a bus outside of the island that is named as tied to the reference, and at no other bus; and that of a
 part without a source those switches and branches are named that would feed it, and no others; and that no purchase makes more pairs than
 the cheapest of the chosen candidates do for as much money. Of each tenth number the picture by Graphviz has each bus with its name and
 colour, and of each hundredth the page as Chromium has it, where these are there. The others are files in the IEEE format and of
@@ -96,6 +97,20 @@ def see_ties(number, case, network, islands, found):
     return count
 
 
+def see_angles(number, case, network, found):
+    """That in an absolute part an angle meter helps exactly outside of the island that is tied to the reference."""
+    rank, count = network.rho(network.meters), 0
+    if found.absolute != network.absolute.intersection(network.energised):
+        fail(number, "other parts are absolute", found.absolute)
+    for part in found.absolute:
+        for u in found.parts[part]:
+            count += 1
+            more = found.island[u] != found.with_reference.get(part)
+            if rank_with(case, ["more", "angle", found.firsts[u], True]) != rank + more:
+                fail(number, "an angle meter raises the rank otherwise", u)
+    return count
+
+
 def see_feeds(number, case, found):
     """That of each part without a source those rows are named which would feed it."""
     named = {(part, way) for part, ways in feeds_of(found).items() for way in ways}
@@ -170,12 +185,13 @@ def see_case(r, number, folder, case):
     network = Network(case)
     groups, islands = expected_groups(network)
     drawn, lines = groups_of(Drawing(found, Words(found, 20)).text())
-    if drawn != groups or sorted(lines) != sorted((e, *ends) for e, ends in network.ends.items()):
+    if drawn != groups or sorted(lines) != sorted((e, *ends) for e, ends in network.rows.items()):
         fail(number, "other groups or branches are drawn", drawn, groups, lines)
     counts = {"rows that feed a part": see_feeds(number, case, found)}
     counts["purchases"] = see_purchases(number, case, network, found) if found.plan else 0
     if number % 10 == 0 and shutil.which("dot"):
         see_picture(number, folder, words, found)
+    counts["angle meters"] = see_angles(number, case, network, found)
     return counts | {"meters between islands": see_ties(number, case, network, islands, found)}
 
 

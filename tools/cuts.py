@@ -24,6 +24,7 @@ COMMANDS = [
     ("ieee14", ["verify", "cdf", "case.cdf", "meters.csv", "trees.txt"], ""),
     ("ieee14", ["report", "tables", *TABLES], ""),
     ("case9", ["report", "matpower", "case.m", "meters.csv"], ""),
+    ("angles", ["place", "tables", *TABLES, "candidates.csv"], ""),
 ]
 FAULT = re.compile(rb"fault\t(nodes|switches|branches|meters|candidates|cdf|matpower|certificate)\t\d+\t\d+\t[A-Za-z]+\n")
 WHOLE = re.compile(rb"(.*\n)?end\n|valid\t\d+\n|flaw\t\d+\t\d+\t[A-Za-z]+\n", re.DOTALL)

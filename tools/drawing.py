@@ -61,7 +61,7 @@ class Marks:
         for m in answer.live_meters:
             row = answer.case.meters[m]
             sign = "!" if row[0] in critical else "=" if row[0] in listed else "-"
-            self.add(answer, row, sign, row[0] + (" (zero)" if row[1] == "zero" else ""))
+            self.add(answer, row, sign, row[0] + (f" ({row[1]})" if row[1] in ("zero", "angle") else ""))
         for name in answer.plan.chosen if answer.plan else []:
             row = answer.case.candidates[answer.candidate_at[name]]
             self.add(answer, row, "+", f"{name}, {row[3]:,}")
@@ -141,7 +141,7 @@ class Drawing:
             label="\n".join(lines + self.labels(marks)),
             tooltip="\n".join(hint),
             id=f"bus_{u}",
-            shape="box" if any(sign != "+" for sign, _ in marks) else "ellipse",
+            shape="box" if u in self.answer.injected else "ellipse",
             peripheries=2 if u in self.sources else 1,
             fillcolor=colours[0],
             fontcolor=colours[1],

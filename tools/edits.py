@@ -50,13 +50,14 @@ def main():
     random.seed(2)
     os.makedirs(folder, exist_ok=True)
     nodes, branches, meters = rows(tables, "nodes.csv"), rows(tables, "branches.csv"), rows(tables, "meters.csv")
-    write(folder, "nodes.csv", ["node,source"] + [f"{n},{s}\n{n}q,0" for n, s in nodes])
-    write(folder, "switches.csv", ["switch,from,to,closed"] + [f"s{n},{n},{n}q,1" for n, _ in nodes])
+    head = ",".join(["node", "source", "absolute"][: len(nodes[0])])
+    write(folder, "nodes.csv", [head] + [f"{','.join(row)}\n{row[0]}q{',0' * (len(row) - 1)}" for row in nodes])
+    write(folder, "switches.csv", ["switch,from,to,closed"] + [f"s{row[0]},{row[0]},{row[0]}q,1" for row in nodes])
     far = [f"{e},{a}{'q' if k % 2 else ''},{b}{'q' if k % 3 else ''},{i}" for k, (e, a, b, i) in enumerate(branches)]
     write(folder, "branches.csv", ["branch,from,to,inservice"] + far)
     write(folder, "meters.csv", ["meter,kind,at,inservice"] + [",".join(row) for row in meters])
     write(folder, "candidates.csv", ["candidate,kind,at,price"] + [",".join(row) for row in rows(tables, "candidates.csv")])
-    names = {"switch": [f"s{n}" for n, _ in nodes], "branch": [row[0] for row in branches], "meter": [row[0] for row in meters]}
+    names = {"switch": [f"s{row[0]}" for row in nodes], "branch": [row[0] for row in branches], "meter": [row[0] for row in meters]}
     write(folder, "mixed.txt", session(names, ["switch", "branch", "meter"], 200))
     for kind, name in [("meter", "meters.txt"), ("branch", "branches.txt"), ("switch", "switches.txt")]:
         write(folder, name, session(names, [kind], 0))

@@ -74,9 +74,13 @@ def short_part(answer, words, part):
     alone = [island for island in islands if len(answer.islands[island]) == 1]
     several = [f"island {words.bus(i)}, {counted(len(answer.islands[i]), 'bus', 'buses')}: {words.buses(answer.islands[i])}"
                for i in islands if len(answer.islands[i]) > 1]
-    entries = [(f"It falls into {len(islands):,} islands. What lies inside of one can be estimated, what lies between two can't.", several)]
-    entries += [f"{counted(len(alone), 'bus stands', 'buses stand')} alone: {words.buses(alone)}."] if alone else []
-    entries += tied(answer, words, part) if len(islands) > 1 else []
+    entries = []
+    if len(islands) > 1:
+        inside = "What lies inside of one can be estimated, what lies between two can't."
+        entries = [(f"It falls into {len(islands):,} islands. {inside}", several)]
+        entries += [f"{counted(len(alone), 'bus stands', 'buses stand')} alone: {words.buses(alone)}."] if alone else []
+        entries += tied(answer, words, part)
+    entries += referred(answer, words, part) + out_of_service(answer, words, part)
     needed = f"{answer.need(part):,} {'is' if answer.need(part) == 1 else 'are'} needed"
     others = counted(bound.outside, "other live meter is", "other live meters are")
     if bound.inside:
@@ -91,19 +95,39 @@ def short_part(answer, words, part):
     return f"The part of {words.bus(part)}, {counted(len(buses), 'bus', 'buses')}: {missing} missing", entries
 
 
+def free_ends(answer, part):
+    """The buses at branches between islands that have no injection."""
+    return {u for e in answer.ties_of.get(part, []) for u in answer.ends[e]} - answer.injected
+
+
 def tied(answer, words, part):
-    """The branches between islands, and the meters out of service that stand there."""
-    ties = answer.ties_of.get(part, [])
-    free = {u for e in ties for u in answer.ends[e]} - answer.injected
-    items = [tie(answer, words, e, free) for e in ties]
+    """The branches between islands."""
+    ties, free = answer.ties_of.get(part, []), free_ends(answer, part)
     one = "it" if len(ties) == 1 else "any of them"
     sentence = f"{counted(len(ties), 'branch ties', 'branches tie')} two islands. A flow meter on {one} makes one pair more, and so does " \
                "an injection meter at a bus that is named as free. Then ask again, since the islands are others."
-    at = set(ties)
-    out = [m for m, row in enumerate(answer.case.meters) if not row[3] and (
-        row[2] in at if row[1] == "flow" else row[1] == "injection" and answer.place(row) in free)]
-    entries = [(sentence, items)]
-    return entries + ([("Meters out of service that would do so:", [words.meter(m) for m in out])] if out else [])
+    return [(sentence, [tie(answer, words, e, free) for e in ties])]
+
+
+def referred(answer, words, part):
+    """What ties an absolute part to the time reference."""
+    if part not in answer.absolute:
+        return []
+    island = answer.with_reference.get(part)
+    if island is None:
+        return ["It is absolute, and no live angle meter ties it to the time reference. An angle meter at any of its buses makes one pair "
+                "more."]
+    return [f"It is absolute, and what angle meters tie to the time reference is island {words.bus(island)}. An angle meter at a bus "
+            "outside of that makes one pair more."]
+
+
+def out_of_service(answer, words, part):
+    """The meters out of service that would make a pair more."""
+    ties, free = set(answer.ties_of.get(part, [])), free_ends(answer, part)
+    untied = {u for u in answer.parts[part] if part in answer.absolute and answer.island[u] != answer.with_reference.get(part)}
+    places = {"flow": ties, "injection": free, "zero": set(), "angle": untied}
+    out = [m for m, row in enumerate(answer.case.meters) if not row[3] and answer.place(row) in places[row[1]]]
+    return [("Meters out of service that would do so:", [words.meter(m) for m in out])] if out else []
 
 
 def tie(answer, words, e, free):
@@ -161,4 +185,9 @@ def shortfall(answer, words):
     islands = lambda e: " and ".join(words.bus(rest.island[u]) for u in rest.ends[e])
     ties = counted(len(rest.ties), "branch would tie", "branches would tie")
     items = [f"{words.branch(e)}, islands {islands(e)}" for e in rest.ties]
-    return entries + [(f"Even then {ties} two islands. Offer a flow meter on such a one:", items)]
+    entries += [(f"Even then {ties} two islands. Offer a flow meter on such a one:", items)] if items else []
+    parts = [part for part in rest.short_parts if part in rest.absolute]
+    outside = lambda part: f"outside of island {words.bus(rest.with_reference[part])}" if part in rest.with_reference else "at any bus"
+    items = [f"the part of {words.bus(part)}, {outside(part)}" for part in parts]
+    sentence = "In an absolute part an angle meter would help too:" if rest.ties else "What is missing is an angle meter in an absolute part:"
+    return entries + ([(sentence, items)] if items else [])

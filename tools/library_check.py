@@ -162,7 +162,7 @@ def try_rows():
     for seed in range(500):
         r = random.Random(seed)
         case = random_case(r)
-        case.nodes[0] = (r.choice([case.nodes[0][0], "\udcff\udc80", " a ", "x\u2028y", '"', "a,b"]), case.nodes[0][1])
+        case.nodes[0] = (r.choice([case.nodes[0][0], "\udcff\udc80", " a ", "x\u2028y", '"', "a,b"]), *case.nodes[0][1:])
         if len({row[0] for row in case.nodes}) < len(case.nodes):
             continue
         *tables, offered = [given_rows(r, part, records) for part, records in zip(obs.COLUMNS, records_of(case))]

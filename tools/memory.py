@@ -32,17 +32,19 @@ from runs import Runs
 TABLES = ["nodes.csv", "switches.csv", "branches.csv", "meters.csv"]
 EXAMPLES = os.path.join(os.path.dirname(os.path.abspath(__file__)), "..", "examples")
 EVERY_ASK = ["place", "status", "tree", "bound", "islands", "critical", "cert", "report", "place"]
-FULL = ["grid", "small"]
+FULL = ["grid", "small", "stations"]
 COMMANDS = [
     ("substation", ["topology", "nodes.csv", "switches.csv"], []),
     ("short", ["report", "tables", *TABLES], []),
     ("ieee14", ["report", "cdf", "case.cdf", "meters.csv"], []),
     ("case9", ["report", "matpower", "case.m", "meters.csv"], []),
     ("short", ["place", "tables", *TABLES, "candidates.csv"], []),
+    ("angles", ["report", "tables", *TABLES], []),
     ("own", ["session", "tables", *TABLES], ["trip North-West", "restore North-West", "lose West P", *EVERY_ASK]),
     ("short", ["session", "tables", *TABLES, "with", "candidates.csv"], EVERY_ASK),
     ("ieee14", ["verify", "tables", *TABLES, "trees.txt"], []),
     ("short", ["verify", "tables", *TABLES, "with", "candidates.csv", "plan.txt"], []),
+    ("angles", ["session", "tables", *TABLES, "with", "candidates.csv"], ["restore Ridge-Lake", "regain Harbour phasor", *EVERY_ASK]),
     ("short", ["trial", "3", "1"], []),
 ]
 BETWEEN = r"""

@@ -46,23 +46,26 @@ def links_of(r, count):
 
 
 def random_middle(r):
-    """A case whose meters are about as many as are needed; buses have one or two nodes."""
+    """A case whose meters are about as many as are needed; buses have one or two nodes, and some parts are absolute."""
     buses, doubled = r.randint(9, 45), r.choice([0, 0, 0.2, 0.33])
     mark = list(range(buses))
     if r.random() < 0.5:
         r.shuffle(mark)
     second = [v for v in range(buses) if r.random() < doubled]
     count = max(12, buses + len(second))
-    nodes = [(f"n{v}", r.random() < 0.05 or v == 0, False) for v in range(count)]
+    fed, marked, in_service = r.choice([0.05, 0.05, 0.3]), r.choice([0, 0, 0.05, 1]), r.choice([0.97, 0.97, 0.7])
+    nodes = [(f"n{v}", r.random() < fed or v == 0, r.random() < marked) for v in range(count)]
     second_of = {v: buses + k for k, v in enumerate(second)}
     end = lambda v: second_of[mark[v]] if mark[v] in second_of and r.random() < 0.5 else mark[v]
     switches = [[f"s{k}", v, second_of[v], r.random() < 0.9] for k, v in enumerate(second)]
     if r.random() < 0.3:
         switches += [[f"t{k}", r.randrange(count), r.randrange(count), r.random() < 0.1] for k in range(5)]
-    branches = [[f"b{e}", end(a), end(b), r.random() < 0.97] for e, (a, b) in enumerate(links_of(r, buses))]
-    flows = r.choice([0, 0.1, 0.5, 0.5, 0.9]) if branches else 0
+    branches = [[f"b{e}", end(a), end(b), r.random() < in_service] for e, (a, b) in enumerate(links_of(r, buses))]
+    flows, angles = r.choice([0, 0.1, 0.5, 0.5, 0.9]) if branches else 0, r.choice([0.05, 0.2, 0.5]) if marked else r.choice([0, 0, 0.1])
 
     def item(name, last):
+        if r.random() < angles:
+            return [name, "angle", r.randrange(count), last]
         if r.random() < flows:
             return [name, "flow", r.randrange(len(branches)), last]
         return [name, r.choice(["injection", "injection", "zero"]), r.randrange(count), last]

@@ -1,7 +1,7 @@
 """What the program is to answer to a small case, from the definitions alone.
 
 It shares nothing with the program: buses, components and islands are sets that are closed under joining, and every assignment, every
-set of buses and every set of candidates is tried. Cases of up to about eight branches and a dozen items take milliseconds.
+set of vertices and every set of candidates is tried. Cases of up to about eight branches and a dozen items take milliseconds.
 """
 import functools
 import itertools
@@ -41,38 +41,53 @@ def firsts(count, links):
 
 
 class Network:
-    """The network of a case, and what can be assigned there."""
+    """The network of a case, and what can be assigned there.
+
+    A vertex is a bus, by its number, or behind the buses the reference vertex of a component. A branch is a row of the branch table, or
+    behind the rows the angle branch of an item. A component is named by its first bus.
+    """
 
     def __init__(self, case):
         self.case = case
         of_nodes = firsts(len(case.nodes), [(row[1], row[2]) for row in case.switches if row[3]])
         self.names = sorted(set(of_nodes))
         self.bus = [self.names.index(first) for first in of_nodes]
-        self.ends = {}
+        self.rows = {}
         for e, row in enumerate(case.branches):
             if row[3] and self.bus[row[1]] != self.bus[row[2]]:
-                self.ends[e] = (self.bus[row[1]], self.bus[row[2]])
-        self.component = firsts(len(self.names), list(self.ends.values()))
-        sources = {self.component[self.bus[i]] for i, row in enumerate(case.nodes) if row[1]}
-        self.energised = sorted(sources)
-        self.need = {c: self.component.count(c) - 1 for c in self.energised}
+                self.rows[e] = (self.bus[row[1]], self.bus[row[2]])
+        self.component = firsts(len(self.names), list(self.rows.values()))
+        parts = sorted(set(self.component))
+        self.reference = {c: len(self.names) + k for k, c in enumerate(parts)}
+        self.vertices = len(self.names) + len(parts)
+        marked = lambda k: {self.component[self.bus[i]] for i, row in enumerate(case.nodes) if row[k]}
+        self.energised, self.absolute = sorted(marked(1)), marked(2)
+        self.need = {c: self.component.count(c) - (c not in self.absolute) for c in self.energised}
         self.needed = sum(self.need.values())
-        self.live_branches = [e for e in self.ends if self.component[self.ends[e][0]] in sources]
-        rows = [tuple(row) for row in case.meters] + [(*row[:3], True) for row in case.candidates]
-        self.touches = [self.touch(*row[1:]) for row in rows]
+        self.live_branches = [e for e in self.rows if self.component[self.rows[e][0]] in self.energised]
+        items = [tuple(row) for row in case.meters] + [(*row[:3], True) for row in case.candidates]
+        self.angles = {}
+        for m, (_, kind, at, _) in enumerate(items):
+            c = self.component[self.bus[at]] if kind == "angle" else None
+            if c in self.energised and c in self.absolute:
+                self.angles[len(case.branches) + m] = (self.bus[at], self.reference[c])
+        self.ends = {**self.rows, **self.angles}
+        self.touches = [self.touch(m, *row[1:]) for m, row in enumerate(items)]
         self.meters = [m for m in range(len(case.meters)) if self.touches[m]]
-        self.candidates = [m for m in range(len(case.meters), len(rows)) if self.touches[m]]
+        self.candidates = [m for m in range(len(case.meters), len(items)) if self.touches[m]]
         self.kept = {}
 
-    def touch(self, kind, at, inservice):
-        if not inservice or kind == "angle":
+    def touch(self, item, kind, at, inservice):
+        if not inservice:
             return []
+        if kind == "angle":
+            return [e for e in self.angles if e == len(self.case.branches) + item]
         if kind == "flow":
             return [e for e in self.live_branches if e == at]
         return [e for e in self.live_branches if self.bus[at] in self.ends[e]]
 
     def rank(self, branches):
-        of = firsts(len(self.names), [self.ends[e] for e in branches])
+        of = firsts(self.vertices, [self.ends[e] for e in branches])
         return sum(1 for u in range(len(of)) if of[u] != u)
 
     def forests(self, items):
@@ -128,6 +143,7 @@ class Network:
         return pairs
 
     def component_of(self, item):
+        """Each branch that it touches begins at a bus."""
         return self.component[self.ends[self.touches[item][0]][0]]
 
     def meters_of(self, c):
@@ -140,16 +156,17 @@ class Network:
         return all(self.is_observable(c) for c in self.energised)
 
     def islands(self):
-        """For each bus the first bus of the largest set around it that is spanned from inside."""
+        """For each bus the first vertex of the largest set around it that is spanned from inside, which is a bus."""
         spanned = []
-        for count in range(1, len(self.names) + 1):
-            for some in itertools.combinations(range(len(self.names)), count):
-                inside = [m for m in self.meters if all(set(self.ends[e]) <= set(some) for e in self.touches[m])]
-                if self.rho(inside) >= count - 1:
-                    spanned.append(set(some))
-        largest = [s for s in spanned if not any(s < other for other in spanned)]
-        assert sum(map(len, largest)) == len(self.names)
-        return [min(next(s for s in largest if u in s)) for u in range(len(self.names))]
+        around = [sum(1 << v for v in {v for e in some for v in self.ends[e]}) for some in self.touches]
+        for some in range(1, 1 << self.vertices):
+            inside = [m for m in self.meters if around[m] & ~some == 0]
+            if len(inside) >= some.bit_count() - 1 and self.rho(inside) >= some.bit_count() - 1:
+                spanned.append(some)
+        largest = [s for s in spanned if not any(s != other and s & ~other == 0 for other in spanned)]
+        assert sum(some.bit_count() for some in largest) == self.vertices
+        around_bus = [next(s for s in largest if s >> u & 1) for u in range(len(self.names))]
+        return [(s & -s).bit_length() - 1 for s in around_bus]
 
     def price(self, item):
         return self.case.candidates[item - len(self.case.meters)][3]

@@ -162,11 +162,12 @@ def trial_case(size, seed):
     return Case(nodes, [], branches, meters, [])
 
 
-def trial(size, seed, searches):
-    """The text of a trial in which the edits took so many searches, and whether they may."""
-    text = Text(trial_case(size, seed))
+def trial(size, seed, searches=None, network_of=Network):
+    """The text of a trial in which the edits took so many searches (or as few as they may), and whether they may."""
+    text = Text(trial_case(size, seed), network_of)
     n = text.network
     dips, edits = len(n.critical(n.meters)), 2 * len(text.case.meters)
+    searches = dips if searches is None else searches
     islands = len({island for u, island in enumerate(n.islands()) if n.component[u] in n.energised})
     numbers = line("islands", islands) + line("dips", dips) + line("edits", edits) + line("searches", searches)
     return line("trial", size, seed) + text.counts() + numbers + "end\n", text.status(), dips <= searches <= edits

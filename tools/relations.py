@@ -3,11 +3,12 @@
 
 Usage: tools/relations.py PROGRAM FOLDER [SEED [EDITS]]
 
-FOLDER has nodes.csv, switches.csv, branches.csv, meters.csv and candidates.csv, as tools/shapes.py or tools/edits.py make them. Rows in
-another order change no count, verdict, critical meter or island. Edits and their undoing give the report of before. A session after EDITS
-(1000) edits prints what a fresh run over the edited tables prints. The chosen candidates of a plan, added as meters, make the case
-observable, and any of them left out doesn't; where the table of meters has no room for them, meters without a pair are left out. The
-answers to `tree`, `bound`, `cert` and `place` pass `verify`. It stops at the first that doesn't hold.
+FOLDER has nodes.csv, switches.csv, branches.csv, meters.csv and candidates.csv, as tools/shapes.py or tools/edits.py make them; nodes may
+have the column `absolute` behind the others. Rows in another order change no count, verdict, critical meter or island. Edits and their
+undoing give the report of before. A session after EDITS (1000) edits prints what a fresh run over the edited tables prints. The chosen
+candidates of a plan, added as meters, make the case observable, and any of them left out doesn't; where the table of meters has no room
+for them, meters without a pair are left out. The answers to `tree`, `bound`, `cert` and `place` pass `verify`. It stops at the first
+that doesn't hold.
 """
 import csv
 import io
@@ -16,7 +17,7 @@ import random
 import sys
 import tempfile
 
-from model_reads import COLUMNS, MOST_ROWS
+from model_reads import COLUMNS, FURTHER, MOST_ROWS
 from runs import KEPT, Runs
 
 FIVE = list(COLUMNS)
@@ -45,7 +46,8 @@ class Tables:
         """Writes the tables, and gives the words of their form and the file of candidates."""
         for part, rows in self.rows.items():
             text = io.StringIO()
-            csv.writer(text, lineterminator="\n").writerows([COLUMNS[part], *rows])
+            columns = [*COLUMNS[part], *FURTHER.get(part, [])][: len(rows[0]) if rows else len(COLUMNS[part])]
+            csv.writer(text, lineterminator="\n").writerows([columns, *rows])
             runs.write(mark + part, text.getvalue().encode())
         return ["tables", *(mark + part for part in FIVE[:4])], mark + FIVE[4]
 

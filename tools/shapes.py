@@ -3,11 +3,11 @@
 
 Usage: tools/shapes.py SHAPE FOLDER [SIZE]
 
-Writes nodes.csv, switches.csv, branches.csv and meters.csv into FOLDER; few.csv, which has each tenth of the meters; candidates.csv,
-for most shapes with a candidate for each branch, a flow on it or an injection at an end, at prices from 1 to 1000; and, where there are
-no switches, the same network as a MATPOWER case, case.m, with its meters in case-meters.csv. SHAPE is one of the names below; what each
-is stands in shapes_plain.py and shapes_worst.py. The tables are the same at each run. The greatest size is the one that fills the
-tables, and it is taken where none is given.
+Writes nodes.csv, with the column `absolute` where a node is marked, switches.csv, branches.csv and meters.csv into FOLDER; few.csv,
+which has each tenth of the meters; candidates.csv, for most shapes with a candidate for each branch, a flow on it or an injection at an
+end, at prices from 1 to 1000; and, where there are no switches and no marks, the same network as a MATPOWER case, case.m, with its
+meters in case-meters.csv. SHAPE is one of the names below; what each is stands in shapes_plain.py and shapes_worst.py. The tables are
+the same at each run. The greatest size is the one that fills the tables, and it is taken where none is given.
 """
 import os
 import random
@@ -40,6 +40,10 @@ SHAPES = {
     "zigzag": (worst.zigzag, 20000),
     "tangle": (worst.tangle, 20000),
     "lone": (worst.lone, 20000),
+    "stations": (plain.stations, 6600),
+    "synchronised": (plain.synchronised, 100),
+    "angles": (worst.lone_angles, 20000),
+    "phasors": (worst.phasors, 10000),
 }
 
 
@@ -47,6 +51,13 @@ def table(folder, name, header, rows):
     with open(os.path.join(folder, name), "w", encoding="utf-8") as out:
         out.write(header + "\n")
         out.writelines(",".join(map(str, row)) + "\n" for row in rows)
+
+
+def write_nodes(folder, shape):
+    sources, absolute = set(shape.sources), set(shape.absolute)
+    rows = [(f"n{v}", int(v in sources), int(v in absolute)) for v in range(shape.nodes)]
+    count = 3 if absolute else 2
+    table(folder, "nodes.csv", ",".join(["node", "source", "absolute"][:count]), (row[:count] for row in rows))
 
 
 def write_meters(folder, name, meters):
@@ -79,15 +90,14 @@ def write(name, folder, size=None):
     random.seed(1)
     shape = make(size or full)
     offered = offered_at_random(shape.branches) if shape.offered is None else shape.offered
-    sources = set(shape.sources)
     os.makedirs(folder, exist_ok=True)
-    table(folder, "nodes.csv", "node,source", ((f"n{v}", int(v in sources)) for v in range(shape.nodes)))
+    write_nodes(folder, shape)
     table(folder, "switches.csv", "switch,from,to,closed", ((f"s{k}", f"n{a}", f"n{b}", 1) for k, (a, b) in enumerate(shape.switches)))
     table(folder, "branches.csv", "branch,from,to,inservice", ((f"b{e}", f"n{a}", f"n{b}", 1) for e, (a, b) in enumerate(shape.branches)))
     write_meters(folder, "meters.csv", enumerate(shape.meters))
     write_meters(folder, "few.csv", list(enumerate(shape.meters))[::10])
     table(folder, "candidates.csv", "candidate,kind,at,price", ((f"c{k}", *row) for k, row in enumerate(offered)))
-    if not shape.switches:
+    if not shape.switches and not shape.absolute:
         write_matpower(folder, shape)
 
 

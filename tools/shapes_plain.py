@@ -1,12 +1,12 @@
 """Shapes of networks that fill the tables: a grid, a chain, a mesh, stars and many small parts.
 
 A shape has so many nodes, the sources among them, the ends of branches, the kinds and places of meters, and where it is worth it also
-ends of closed switches, in the order of their rows, and the kinds, places and prices of candidates.
+ends of closed switches, in the order of their rows, the kinds, places and prices of candidates, and the nodes that are marked absolute.
 """
 import collections
 import random
 
-Shape = collections.namedtuple("Shape", "nodes sources branches meters switches offered", defaults=((), None))
+Shape = collections.namedtuple("Shape", "nodes sources branches meters switches offered absolute", defaults=((), None, ()))
 
 
 def grid(side):
@@ -73,3 +73,22 @@ def hub(size):
     """A node with a branch to each other one, injections at the hub and flows on half of the branches."""
     meters = [("injection", "n0") for _ in range(size // 2)] + [("flow", f"b{e}") for e in range(size // 2)]
     return Shape(size, [0], [(0, v) for v in range(1, size)], meters)
+
+
+def stations(count):
+    """So many absolute components of three nodes, each second one with an angle meter, and an angle candidate at each node."""
+    branches, meters = [], []
+    for k in range(count):
+        a = 3 * k
+        branches += [(a, a + 1), (a + 1, a + 2)]
+        meters += [("flow", f"b{2 * k}"), ("injection", f"n{a + 2}")] + ([("angle", f"n{a + 1}")] if k % 2 else [])
+    offered = [("angle", f"n{v}", random.randint(1, 1000)) for v in range(3 * count)]
+    return Shape(3 * count, range(0, 3 * count, 3), branches, meters, (), offered, range(0, 3 * count, 3))
+
+
+def synchronised(side):
+    """That grid with one mark, an angle meter at each tenth node and an angle candidate at each one."""
+    plain = grid(side)
+    meters = [("angle", f"n{v}") for v in range(0, plain.nodes, 10)] + plain.meters
+    offered = [("angle", f"n{v}", random.randint(1, 1000)) for v in range(plain.nodes)]
+    return plain._replace(meters=meters[:20000], offered=offered, absolute=[0])

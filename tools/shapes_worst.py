@@ -148,3 +148,16 @@ def tangle(size):
 def lone(size):
     """So many nodes alone, each with a source, and an injection at each, which touches nothing."""
     return Shape(size, range(size), [], injections(range(size)), (), at_one_price(injections(range(size))))
+
+
+def lone_angles(size):
+    """So many absolute nodes alone, each with a source, an angle meter and an angle candidate."""
+    angles = [("angle", f"n{v}") for v in range(size)]
+    return Shape(size, range(size), [], angles, (), at_one_price(angles), range(size))
+
+
+def phasors(count):
+    """An absolute hub with a path: at the hub so many injections and as many angle meters, and candidates of both kinds."""
+    branches = [(0, v) for v in range(1, count)] + [(v, v + 1) for v in range(count, 2 * count - 1)] + [(1, count)]
+    here = injections([0]) * count + [("angle", "n0")] * count
+    return Shape(2 * count, [0], branches, here, (), at_one_price(here), [2 * count - 1])

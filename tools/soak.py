@@ -3,11 +3,12 @@
 
 Usage: tools/soak.py PROGRAM FOLDER [EDITS [SECONDS [SEED]]]
 
-FOLDER has nodes.csv, switches.csv, branches.csv, meters.csv and candidates.csv. A session is given EDITS (1,000,000) edits as long as
-SECONDS aren't over and the lines stay below the bytes that a session takes: of a hundred 90 of meters and 5 each of branches and
-switches, with few rows out at once, and an ask after about each thousandth. At each 50,000th edit and at the end all asks are held
-against a fresh session and a fresh report, and the memory of the session is read. It stops at the first that differs, and fails where
-the session took memory after it had begun. It needs the folder /proc.
+FOLDER has nodes.csv, switches.csv, branches.csv, meters.csv and candidates.csv, as tools/edits.py makes them; `stations` and
+`synchronised` of tools/shapes.py are shapes with angle meters. A session is given EDITS (1,000,000) edits as long as SECONDS aren't over
+and the lines stay below the bytes that a session takes: of a hundred 90 of meters and 5 each of branches and switches, with few rows out
+at once, and an ask after about each thousandth. At each 50,000th edit and at the end all asks are held against a fresh session and a
+fresh report, and the memory of the session is read. It stops at the first that differs, and fails where the session took memory after
+it had begun. It needs the folder /proc.
 """
 import os
 import random

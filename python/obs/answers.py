@@ -30,7 +30,7 @@ class Counts(Lines):
     buses: int  # that the closed switches make of the nodes
     energised: int  # of these, in a part of the network that has a source
     branches: int  # in service between two buses of such a part
-    meters: int  # in service that touch such a branch
+    meters: int  # in service that touch such a branch, or an angle branch
     needed: int  # pairs that the energised parts need
     rank: int  # the most pairs that the meters can have
     verdict: str  # observable or short
@@ -62,7 +62,7 @@ class Pair(Lines):
 
     sort: str  # meter or candidate
     name: str
-    branch: str
+    branch: str  # its name; of an item of the kind angle the word angle
 
     def lines(self):
         return [["pair", self.sort, self.name, self.branch]]
@@ -70,7 +70,9 @@ class Pair(Lines):
 
 @dataclasses.dataclass(frozen=True)
 class Tree(Lines):
-    """The part of the network that its first bus names is observable: these pairs' branches join all its buses."""
+    """The part of the network that its first bus names is observable: these pairs' branches join all its buses, and those of an
+    absolute part also with its reference.
+    """
 
     component: str
     pairs: typing.Tuple[Pair, ...]

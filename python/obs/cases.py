@@ -45,8 +45,9 @@ def tables(nodes, switches, branches, meters):
     - meters: (meter, kind, at, inservice), where kind is "flow" and at names a branch, or "injection", "zero" or "angle" and at
       names a node
 
-    Rows of nodes have absolute all or none. source, absolute, closed and inservice are True or False, 1 or 0. A name has 1 to 64 bytes. A table has at most 20,000 rows, a file at most
-    16,777,216 bytes. Files are read now: what becomes of them later doesn't change the case.
+    Rows of nodes have absolute all or none. source, absolute, closed and inservice are True or False, 1 or 0. A name has 1 to 64
+    bytes. A table has at most 20,000 rows, a file at most 16,777,216 bytes. Files are read now: what becomes of them later doesn't
+    change the case.
     """
     given = [("nodes", nodes), ("switches", switches), ("branches", branches), ("meters", meters)]
     return Case("tables", tuple((part, table(part, one)) for part, one in given))

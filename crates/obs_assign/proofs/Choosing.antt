@@ -6,26 +6,15 @@ use Rattle.std.proofs.lemmas.List.{get_or_past}
 use Rattle.std.proofs.lemmas.Option.{none-some}
 use Rattle.obs_graph.specs.declared.Ends.{Ends}
 use Rattle.obs_graph.specs.declared.search.Up.{Up}
-use Rattle.obs_graph.specs.Positions.{branches_at, has_end}
-use Rattle.obs_graph.proofs.AtVertex.{at_vertex, has_end-at_vertex}
-use Rattle.std.specs.Cmp.Derive.{one_truth}
 use Rattle.obs_meter.specs.declared.Touch.{Touch}
-use Rattle.obs_forest.specs.Forest.{has_position}
-use Rattle.obs_forest.proofs.Held.{has_position-contains, contains-has_position}
 use Rattle.obs_assign.specs.declared.Move.{Move}
 use Rattle.obs_assign.specs.Kept.{IsInverse}
 use Rattle.obs_assign.specs.Retain.{AreChosen, IsPairUp, touched_slot}
 use Rattle.obs_assign.proofs.Slotted.{none_some, some_same}
 
--- the branches at v are those with an end there
-pub star_position : (ends : List (Option Ends)) (v e : ℕ) → has_position (branches_at ends v) e ≡ has_end v (get_or ends e None)
-star_position ends v e = one_truth (has_position (branches_at ends v) e) (has_end v (get_or ends e None))
-    (λ t. has_end-at_vertex ends v e (has_position-contains (branches_at ends v) e t))
-    (λ t. contains-has_position (branches_at ends v) e (at_vertex ends v e t))
-
-pub IfSome-by : (P : ℕ → Type 0) (o : Option ℕ) → ((e : ℕ) → o ≡ Some e → P e) → IfSome o P
+pub IfSome-by : {X : Type 0} (P : X → Type 0) (o : Option X) → ((x : X) → o ≡ Some x → P x) → IfSome o P
 IfSome-by P None h = tt
-IfSome-by P (Some e) h = h e refl
+IfSome-by P (Some x) h = h x refl
 
 -- the first i slots are those whose branch is touched, the others as they were
 pub record IsTouching (ends : List (Option Ends)) (touches : List Touch) (before : List (Option ℕ)) (i : ℕ) (slots : List (Option ℕ)) : Type 0 where

@@ -55,7 +55,7 @@ none_pairs n [] h = refl
 none_pairs n (None ∷ slots) h = none_pairs (suc n) slots (λ k. h (suc k))
 none_pairs n (Some e ∷ slots) h = absurd (none_some e (sym (h 0)))
 
-replicate_at : {X : Type 0} (n k : ℕ) (x : X) → get_or (replicate n x) k x ≡ x
+pub replicate_at : {X : Type 0} (n k : ℕ) (x : X) → get_or (replicate n x) k x ≡ x
 replicate_at n k x = elim (cases_lt k n) [ inl l ↦ get_or-replicate n k x x l | inr l ↦ get_or_past (replicate n x) k x (let e = length-replicate n x in omega arith) ]
 
 pub empty_pairs : (n : ℕ) → pairs_of (replicate n None) ≡ []

@@ -25,9 +25,9 @@ use Rattle.obs_meter.specs.declared.Touch.{Touch}
 use Rattle.obs_meter.specs.declared.Touch.TheVariants.{Nothing}
 use Rattle.obs_meter.specs.Touches.{touch_at}
 use Rattle.obs_meter.specs.Spanned.{joined_at}
-use Rattle.obs_meter.proofs.Touched.{touched-present}
+use Rattle.obs_meter.proofs.Touched.{In-from_any, touched-present}
 use Rattle.obs_forest.specs.Forest.{taken}
-use Rattle.obs_forest.proofs.Held.{has_position-contains, part-taken, taken-at, taken-some}
+use Rattle.obs_forest.proofs.Held.{part-taken, taken-at, taken-some}
 use Rattle.obs_assign.specs.Kept.{SlotsApart}
 use Rattle.obs_assign.specs.Retain.{AreChosen, touched_slot}
 use Rattle.obs_assign.specs.Still.{AreRetained, is_still}
@@ -219,7 +219,7 @@ module _ (n : ℕ) (ends : List (Option Ends)) (touches : List Touch) (before ke
     joined = λ p i.
         let f = In-filter_from (is_still ends touches) p (pairs_of before) i in
         let k : get_or kept p.0 None ≡ Some p.1 = kept_is p.0 ∙ (ap (touched_slot ends touches p.0) (slot_from before p f.0) ∙ touched_to ends touches p.0 p.1 f.1) in
-        let t = In-from_Contains p.1 (touch_at ends touches p.0) (has_position-contains (touch_at ends touches p.0) p.1 f.1) in
+        let t = In-from_any (touch_at ends touches p.0) p.1 f.1 in
         let x = some_of (get_or ends p.1 None) (touched-present ends (slice_index_or touches p.0 Nothing) p.1 t) in
         let held : get_or (taken ends (branches (pairs_of kept))) p.1 None ≡ Some x.0 = taken-at ends (branches (pairs_of kept)) p.1 (Contains-from_In p.1 (branches (pairs_of kept)) (slot_branch kept p.0 p.1 k)) ∙ x.1 in
         let low = branch_at n ends p.1 x.0 branches_ok (some_is_in ends p.1 x.0 x.1) x.1 in

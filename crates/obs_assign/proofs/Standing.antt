@@ -6,7 +6,6 @@ use Rattle.obs_graph.specs.Graph.{Graph}
 use Rattle.obs_matroid.specs.Lists.{In}
 use Rattle.obs_matroid.specs.Assignments.{Pair, branches}
 use Rattle.obs_matroid.proofs.Lists.{In-filter, In-filter_from}
-use Rattle.obs_matroid.proofs.Contained.{Contains-from_In, In-from_Contains}
 use Rattle.obs_matroid.proofs.Pairs.{In-branches_from, branches_within}
 use Rattle.obs_matroid.proofs.Ranks.{rank-independent, rank-within}
 use Rattle.obs_matroid.proofs.Bounds.{length-branches, weak_bound}
@@ -18,7 +17,7 @@ use Rattle.obs_meter.specs.Assignments.{IsAssignmentAt, bound_at}
 use Rattle.obs_meter.specs.Spanned.{graph_matroid, rank_at}
 use Rattle.obs_meter.proofs.Assigned.{to_matroid, independent-from_forest_at}
 use Rattle.obs_meter.proofs.Instance.{IsMatroid-graph}
-use Rattle.obs_forest.proofs.Held.{has_position-contains, contains-has_position}
+use Rattle.obs_meter.proofs.Touched.{In-from_any, any-from_In}
 use Rattle.obs_assign.specs.Assignment.{Assignment, IsWhole, StandsOver, pairs}
 use Rattle.obs_assign.specs.Still.{AreRetained, is_still, still}
 use Rattle.obs_assign.proofs.Slotted.{IsForestAt-over, slot_low}
@@ -41,10 +40,10 @@ weak_bound_at n ends touches M J A b a = weak_bound (graph_matroid n ends) (IsMa
 
 pub still_from : (ends : List (Option Ends)) (touches : List Touch) (A : List Pair) (p : Pair) → In p (still ends touches A) → In p A × In p.1 (touch_at ends touches p.0)
 still_from ends touches A p i =
-    let f = In-filter_from (is_still ends touches) p A i in (f.0, In-from_Contains p.1 (touch_at ends touches p.0) (has_position-contains (touch_at ends touches p.0) p.1 f.1))
+    let f = In-filter_from (is_still ends touches) p A i in (f.0, In-from_any (touch_at ends touches p.0) p.1 f.1)
 
 pub still_at : (ends : List (Option Ends)) (touches : List Touch) (A : List Pair) (p : Pair) → In p A → In p.1 (touch_at ends touches p.0) → In p (still ends touches A)
-still_at ends touches A p i t = In-filter (is_still ends touches) p A i (contains-has_position (touch_at ends touches p.0) p.1 (Contains-from_In p.1 (touch_at ends touches p.0) t))
+still_at ends touches A p i t = In-filter (is_still ends touches) p A i (any-from_In (touch_at ends touches p.0) p.1 t)
 
 -- as many pairs are retained as the branches of those that stand still have rank
 pub length-retained : (n : ℕ) (ends : List (Option Ends)) (touches : List Touch) (before after : List Pair) → AreBranches n ends → IsForestAt ends (branches after)

@@ -4,13 +4,12 @@ use Rattle.obs_graph.specs.declared.Ends.{Ends}
 use Rattle.obs_matroid.specs.Lists.{In}
 use Rattle.obs_matroid.specs.Assignments.{Pair, branches}
 use Rattle.obs_meter.specs.declared.Touch.{Touch}
-use Rattle.obs_meter.specs.Touches.{touch_at}
-use Rattle.obs_forest.specs.Forest.{has_position}
+use Rattle.obs_meter.specs.Touches.{touches_branch}
 use Rattle.obs_assign.specs.Pins.{joins}
 
 -- whether the meter of the pair touches its branch
 abbrev pub is_still : List (Option Ends) → List Touch → Pair → Bool
-is_still ends touches p = has_position (touch_at ends touches p.0) p.1
+is_still ends touches p = touches_branch ends touches p.0 p.1
 
 -- the pairs that stand still: those whose meter touches their branch
 abbrev pub still : List (Option Ends) → List Touch → List Pair → List Pair

@@ -3,25 +3,25 @@ use Rattle.std.proofs.Common.{◌≡◌, ℕ, ◌≤◌, List, [], length, take,
 use Rattle.obs_graph.specs.Graph.{Graph}
 use Rattle.obs_graph.proofs.Ranks.{rank-le-n}
 use Rattle.obs_case.specs.Tables.{IsValid, Tables}
-use Rattle.obs_network.specs.Network.{Network, case_branches, case_vertex_count, network_of}
-use Rattle.obs_network.proofs.OfCase.{case_branches-are, case_bus_count-le}
+use Rattle.obs_network.specs.Network.{Network, case_branches, case_vertex_count, case_vertex_room, network_of}
+use Rattle.obs_network.proofs.OfCase.{case_branches-are, case_vertex_count-le}
 use Rattle.obs_cert.specs.Flaws.{rank_of_branches}
 use Rattle.obs_cert.specs.Joins.{AreJoined, onto}
 use Rattle.obs_cert.proofs.JoinLemmas.{count_is}
 use Rattle.obs_cert.proofs.RankLemmas.{noted_rank}
 
 -- there is room for the vertices
-pub vertices_fit : (t : Tables) (n : Network) (g : Graph) (long : ℕ) → n ≡ network_of t → g ≡ n.graph → length t.nodes ≤ long → g.vertices ≤ long
+pub vertices_fit : (t : Tables) (n : Network) (g : Graph) (long : ℕ) → n ≡ network_of t → g ≡ n.graph → case_vertex_room t ≤ long → g.vertices ≤ long
 vertices_fit t n g long is same le =
     let e : g.vertices ≡ case_vertex_count t = ap (λ (s : Graph). s.vertices) (same ∙ ap (λ (m : Network). m.graph) is) in
-    omega (arith, e, case_bus_count-le t, le)
+    omega (arith, e, case_vertex_count-le t, le)
 
 -- what is noted is the rank
-pub case_rank : (t : Tables) (n : Network) (g : Graph) (ps ups moved : List ℕ) (count : ℕ) → IsValid t → n ≡ network_of t → g ≡ n.graph → length t.nodes ≤ length ups → count ≤ length moved
+pub case_rank : (t : Tables) (n : Network) (g : Graph) (ps ups moved : List ℕ) (count : ℕ) → IsValid t → n ≡ network_of t → g ≡ n.graph → case_vertex_room t ≤ length ups → count ≤ length moved
     → AreJoined (onto g.ends ps []) ups (take count moved) → count ≡ rank_of_branches t ps
 case_rank t n g ps ups moved count valid is same le fits j =
     let e : g.ends ≡ case_branches t = ap (λ (s : Graph). s.ends) (same ∙ ap (λ (m : Network). m.graph) is) in
-    noted_rank (case_vertex_count t) (case_branches t) ps ups moved count (case_branches-are t valid) (omega (arith, case_bus_count-le t, le)) fits
+    noted_rank (case_vertex_count t) (case_branches t) ps ups moved count (case_branches-are t valid) (omega (arith, case_vertex_count-le t, le)) fits
     (subst (λ ends. AreJoined (onto ends ps []) ups (take count moved)) e j)
 
 pub noted_few : (g : Graph) (ps ups moved : List ℕ) (count : ℕ) → count ≤ length moved → AreJoined (onto g.ends ps []) ups (take count moved) → count ≤ length ups

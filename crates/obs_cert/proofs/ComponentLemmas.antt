@@ -3,7 +3,7 @@ use Rattle.std.proofs.Common.{◌≡◌, ℕ, ◌+◌, ◌*◌, ◌<◌, ◌≤�
 use Rattle.std.specs.List.{range_with_len}
 use Rattle.std.proofs.lemmas.Bool.{and_parts, lt-ltb, ltb-true}
 use Rattle.std.proofs.lemmas.List.{length-map}
-use Rattle.obs_network.proofs.Listed.{meter_is_item}
+use Rattle.obs_network.proofs.Items.{meter_is_item}
 use Rattle.std.proofs.lemmas.List.FromFn.{length-range_with_len}
 use Rattle.obs_matroid.proofs.Lists.{In-filter, In-filter_from, IsDistinct-filter, length-within}
 use Rattle.obs_matroid.proofs.Ranges.{range_in}
@@ -13,7 +13,8 @@ use Rattle.obs_meter.specs.Spanned.{common_vertex}
 use Rattle.obs_meter.specs.Touches.{is_live, live_items, touched}
 use Rattle.obs_meter.proofs.Assigned.{live_items-distinct}
 use Rattle.obs_case.specs.Tables.{IsValid, Tables, most_rows}
-use Rattle.obs_network.specs.Located.{component_of_item, is_meter_in as is_in, live_meters_of, touch_component, vertex_component}
+use Rattle.obs_network.specs.Components.{vertex_component}
+use Rattle.obs_network.specs.Located.{component_of_item, is_meter_in as is_in, live_meters_of, touch_component}
 use Rattle.obs_network.specs.Network.{case_branches, case_components, case_meters, case_offered, network_of}
 use Rattle.obs_network.proofs.Marked.{filtered_below}
 use Rattle.obs_network.proofs.OfCase.{length-case_meters, length-case_offered}

@@ -6,6 +6,7 @@ pub mod WordLemmas
 pub mod JoinLemmas
 pub mod NumberLemmas
 pub mod ScopeLemmas
+pub mod StarLemmas
 pub mod MarkLemmas
 pub mod RankLemmas
 pub mod PairLemmas

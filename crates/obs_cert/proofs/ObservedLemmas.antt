@@ -17,7 +17,7 @@ use Rattle.obs_meter.proofs.Assigned.{to_matroid}
 use Rattle.obs_network.specs.Network.{case_branches, case_meters, case_offered, case_vertex_count}
 use Rattle.obs_network.specs.Observable.{IsObservable, branch_component, case_live_meters, item_component}
 use Rattle.obs_network.proofs.InComponents.{touched_component}
-use Rattle.obs_network.proofs.Listed.{meter_is_item}
+use Rattle.obs_network.proofs.Items.{meter_is_item}
 use Rattle.obs_network.proofs.Marked.{filtered_below}
 use Rattle.obs_network.proofs.OfCase.{length-case_meters, length-case_offered}
 use Rattle.obs_cert.specs.declared.flaw.FlawCode.TheVariants.{NotInside}

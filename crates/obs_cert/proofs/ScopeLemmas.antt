@@ -2,11 +2,8 @@
 use Rattle.std.proofs.Common.{◌≡◌, ℕ, ◌<◌, ◌≤◌, Bool, true, false, eqb, Option, Some, None, List, [], ◌∷◌, length, map, get_or, refl, sym, ap, ◌∙◌, inl, inr, arith}
 use Rattle.std.proofs.lemmas.Bool.{cases_Bool, eq-eqb, eqb-true, or_cases, or_left, or_right}
 use Rattle.obs_graph.specs.declared.Ends.{Ends}
-use Rattle.obs_graph.specs.Positions.{branches_at, has_end}
-use Rattle.obs_graph.proofs.AtVertex.{at_vertex, has_end-at_vertex}
 use Rattle.obs_graph.proofs.Present.{present_low}
 use Rattle.obs_matroid.specs.Lists.{In}
-use Rattle.obs_matroid.proofs.Contained.{Contains-from_In, In-from_Contains}
 use Rattle.obs_matroid.proofs.Lists.{clash}
 use Rattle.obs_switch.specs.Buses.{members_of}
 use Rattle.obs_switch.proofs.FirstNodes.{buses_of-at, first_member}
@@ -36,22 +33,9 @@ has_at (y ∷ ys) x (inr i) = or_right (eqb y x) (has ys x) (has_at ys x i)
 pub has_not : (xs : List ℕ) (x : ℕ) → (In x xs → ⊥) → has xs x ≡ false
 has_not xs x n = elim (cases_Bool (has xs x)) [ inl t ↦ absurd (n (has_from xs x t)) | inr f ↦ f ]
 
--- two truths that say the same are one
-pub same_truth : (a b : Bool) → (a ≡ true → b ≡ true) → (b ≡ true → a ≡ true) → a ≡ b
-same_truth true true f g = refl
-same_truth true false f g = sym (f refl)
-same_truth false true f g = g refl
-same_truth false false f g = refl
-
 -- what is touched is one of the graph's positions
 pub not_past : (ends : List (Option Ends)) (t : Touch) (e : ℕ) → length ends ≤ e → false ≡ has (touched ends t) e
 not_past ends t e past = sym (has_not (touched ends t) e (λ i. let l = present_low ends e (touched-present ends t e i) in omega (arith, l, past)))
-
-pub ends_touch : (ends : List (Option Ends)) (v e : ℕ) → has_end v (get_or ends e None) ≡ has (branches_at ends v) e
-ends_touch ends v e =
-    same_truth (has_end v (get_or ends e None)) (has (branches_at ends v) e)
-    (λ t. has_at (branches_at ends v) e (In-from_Contains e (branches_at ends v) (at_vertex ends v e t)))
-    (λ t. has_end-at_vertex ends v e (Contains-from_In e (branches_at ends v) (has_from (branches_at ends v) e t)))
 
 -- the first member of a node's bus
 pub member : (t : Tables) (u : ℕ) → u < length t.nodes

@@ -1,5 +1,5 @@
 -- What claims are checked in.
-use Rattle.std.specs.Prelude.{ℕ, ◌+◌, ◌<◌, ◌≤◌, ◌^◌, [], length}
+use Rattle.std.specs.Prelude.{ℕ, ◌+◌, ◌*◌, ◌<◌, ◌≤◌, ◌^◌, [], length}
 use Rattle.obs_case.specs.Tables.{Tables}
 use Rattle.obs_network.specs.Network.{Rows, rows_of}
 use Rattle.obs_cert.specs.declared.work.Work.{Work}
@@ -7,13 +7,14 @@ use Rattle.obs_cert.specs.Joins.{AreJoined}
 use Rattle.obs_cert.specs.Marks.{AreBelow}
 use Rattle.obs_cert.specs.Stars.{AreStarRanks}
 
--- the arrays have room for a case with so many rows
+-- the arrays have room for a case with so many rows: ways up and ranks for two vertices of each node, and a mark for each row of the branch table
+-- and each item
 pub record HasRoom (rows : Rows) (w : Work) : Type 0 where
   pub chosen : rows.meters + rows.candidates < length w.chosen.items
   pub paired : rows.meters + rows.candidates < length w.paired.items
   pub listed : rows.meters + rows.candidates < length w.listed.items
   pub taken : rows.branches + (rows.meters + rows.candidates) < length w.taken.items
-  pub ups : rows.nodes ≤ length w.ups.items
+  pub ups : 2 * rows.nodes ≤ length w.ups.items
   pub few : length w.ups.items < 2 ^ 32
   pub moved : length w.ups.items ≤ length w.moved.items
   pub stars : length w.ups.items ≤ length w.stars.items

@@ -1,13 +1,13 @@
--- The ranks of the branches at single vertices, as they are kept from the first time that they are measured.
+-- The ranks of the rows of the branch table at single vertices, as they are kept from the first time that they are measured.
 use Rattle.std.specs.Prelude.{◌≡◌, ℕ, suc, ◌<◌, List, slice_index_or}
 use Rattle.obs_case.specs.Tables.{Tables}
 use Rattle.obs_graph.specs.Positions.{branches_at}
-use Rattle.obs_network.specs.Network.{case_branches}
+use Rattle.obs_network.specs.Network.{case_rows}
 use Rattle.obs_cert.specs.Flaws.{rank_of_branches}
 
--- the rank of the branches at a vertex
+-- the rank of the rows at a vertex
 abbrev pub star_rank : Tables → ℕ → ℕ
-star_rank t v = rank_of_branches t (branches_at (case_branches t) v)
+star_rank t v = rank_of_branches t (branches_at (case_rows t) v)
 
 -- a number that isn't 0 is one more than the rank at its vertex
 abbrev pub AreStarRanks : Tables → List ℕ → Type 0

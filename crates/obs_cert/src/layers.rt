@@ -2,6 +2,7 @@
 ghost use Rattle.std.specs.Prelude.{◌≡◌, ◌≤◌, ◌^◌, ◌-◌, ◌*◌, ◌||◌, ◌++◌, ◌∷◌, [], false, ℕ, List, length, min, nat_lt, not, take};
 ghost use Rattle.std.specs.List.{list_any, sum_by};
 ghost use Rattle.obs_graph.specs.declared.Ends.{Ends};
+ghost use Rattle.obs_network.specs.Network.{case_vertex_room};
 ghost use Rattle.obs_cert.specs.Flaws.{all_inside, listed_layers, not_below, not_inside, runs_on, shows, twice, wrong_outside, wrong_rank};
 ghost use Rattle.obs_cert.specs.Joins.{AreJoined};
 ghost use Rattle.obs_cert.specs.Keys.{AreKeys};
@@ -106,7 +107,7 @@ fn join_layers(
     moved: &mut [u32],
 ) -> (usize, bool)
     requires clear { AreJoined [] ups.old [] }
-    requires vertices { length present.now.nodes ≤ length ups.old }
+    requires vertices { case_vertex_room present.now ≤ length ups.old }
     requires room { length ups.old ≤ length moved.old }
     ensures rank { result.1 ≡ list_any (λ l. wrong_rank present.now l.list l.layer.rank)
         (listed_layers present.now layers.entry) }
@@ -134,7 +135,7 @@ pub(crate) fn has_wrong_rank(
     moved: &mut [u32],
 ) -> bool
     requires clear { AreJoined [] ups.old [] }
-    requires vertices { length present.now.nodes ≤ length ups.old }
+    requires vertices { case_vertex_room present.now ≤ length ups.old }
     requires room { length ups.old ≤ length moved.old }
     ensures rank { result ≡ list_any (λ l. wrong_rank present.now l.list l.layer.rank)
         (listed_layers present.now layers.entry) }

@@ -1,7 +1,7 @@
 // Passes over the items of a claim, one clause each.
 ghost use Rattle.std.specs.Prelude.{◌≡◌, ◌≤◌, ◌<◌, ◌^◌, ◌-◌, ◌+◌, [], ℕ, suc, List, flat_map, length, min, sum_by, take};
 ghost use Rattle.obs_graph.specs.declared.Ends.{Ends};
-ghost use Rattle.obs_network.specs.Network.{network_of};
+ghost use Rattle.obs_network.specs.Network.{case_vertex_room, network_of};
 ghost use Rattle.obs_cert.specs.Flaws.{not_inside, rank_of_items, twice, unknown_item};
 ghost use Rattle.obs_cert.specs.InScope.{in_scope};
 ghost use Rattle.obs_cert.specs.Joins.{AreJoined, onto};
@@ -139,7 +139,7 @@ pub(crate) fn measure_items(
     moved: &mut [u32],
 ) -> u32
     requires clear { AreJoined [] ups.old [] }
-    requires vertices { length present.now.nodes ≤ length ups.old }
+    requires vertices { case_vertex_room present.now ≤ length ups.old }
     requires few { length ups.old < 2 ^ 32 }
     requires room { length ups.old ≤ length moved.old }
     ensures rank { result ≡ rank_of_items present.now (items_of present.now items.entry) }

@@ -3,6 +3,7 @@ ghost use Rattle.std.specs.Prelude.{◌≡◌, ◌≤◌, ◌<◌, ◌^◌, ◌=
 ghost use Rattle.std.specs.List.{cons_option};
 ghost use Rattle.obs_graph.specs.declared.Ends.{Ends};
 ghost use Rattle.obs_matroid.specs.Assignments.{branches};
+ghost use Rattle.obs_network.specs.Network.{case_vertex_room};
 ghost use Rattle.obs_cert.specs.Flaws.{cycle, not_touched, rank_of_branches, twice, unknown_branch};
 ghost use Rattle.obs_cert.specs.Joins.{AreJoined, onto};
 ghost use Rattle.obs_cert.specs.Marks.{AreBelow};
@@ -128,7 +129,7 @@ pub(crate) fn measure_pairs(
     moved: &mut [u32],
 ) -> Forest
     requires clear { AreJoined [] ups.old [] }
-    requires vertices { length present.now.nodes ≤ length ups.old }
+    requires vertices { case_vertex_room present.now ≤ length ups.old }
     requires few { length ups.old < 2 ^ 32 }
     requires room { length ups.old ≤ length moved.old }
     ensures rank { result.rank ≡ rank_of_branches present.now (branches (pairs_of present.now pairs.entry)) }

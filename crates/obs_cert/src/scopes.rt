@@ -1,7 +1,6 @@
 // What a case says of an item by its number, and of a component by its name.
-ghost use Rattle.std.specs.Prelude.{◌≡◌, ◌<◌, ◌==◌, length, IfSome, is_some, None, slice_index_or};
-ghost use Rattle.obs_graph.specs.Positions.{has_end};
-ghost use Rattle.obs_meter.specs.Touches.{IsInRange, touched};
+ghost use Rattle.std.specs.Prelude.{◌≡◌, ◌<◌, ◌==◌, length, IfSome, is_some};
+ghost use Rattle.obs_meter.specs.Touches.{touch_at};
 ghost use Rattle.obs_network.specs.Located.{component_of_item};
 ghost use Rattle.obs_network.specs.Network.{network_of};
 ghost use Rattle.obs_network.specs.Switched.{case_first_node};
@@ -13,7 +12,7 @@ ghost use Rattle.obs_cert.specs.InScope.{in_scope};
 use crate::present::Present;
 use obs_case::Case;
 use obs_graph::Graph;
-use obs_meter::Touch;
+use obs_meter::Meters;
 
 /// Which items a claim may speak of.
 #[derive(Clone, Copy, Debug)]
@@ -82,29 +81,15 @@ fn lies_in(present: &Present<'_>, m: u32, c: u32) -> bool
     }
 }
 
-// Whether the branch at a position is present and has an end at a vertex.
-fn ends_at(g: &Graph, e: u32, v: u32) -> bool
-    requires e { e < length g.now.ends }
-    ensures end { result ≡ has_end v (slice_index_or g.now.ends e None) }
+// Whether an item touches a branch. What is no position isn't touched.
+fn is_touched(g: &Graph, items: &Meters, m: u32, e: u32) -> bool
+    requires item { m < length items.now.touches }
+    ensures touched { result ≡ has (touch_at g.now.ends items.now.touches m) e }
 {
-    match g.ends(e) {
-        Some(ends) => ends.a == v || ends.b == v,
-        None => false,
-    }
-}
-
-// Whether a branch is touched.
-fn is_touched(g: &Graph, touch: Touch, e: u32) -> bool
-    requires in_range { IsInRange g.now touch }
-    ensures touched { result ≡ has (touched g.now.ends touch) e }
-{
-    if e >= g.positions() {
-        return false;
-    }
-    match touch {
-        Touch::Nothing => false,
-        Touch::Edge(at) => at == e && g.ends(e).is_some(),
-        Touch::Star(v) => ends_at(g, e, v),
+    if e < g.positions() {
+        items.is_touched(g, m, e)
+    } else {
+        false
     }
 }
 
@@ -114,7 +99,7 @@ pub(crate) fn touches(present: &Present<'_>, m: u32, e: u32) -> bool
 {
     let network = present.network();
     if m < network.offered().count() {
-        is_touched(network.graph(), network.offered().kind(m), e)
+        is_touched(network.graph(), network.offered(), m, e)
     } else {
         false
     }

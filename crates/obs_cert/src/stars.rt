@@ -1,8 +1,8 @@
-// Lists of one item that touches all branches at a vertex. Their rank is kept there from the first one on.
+// Lists of one item that touches the rows of the branch table at a vertex. Their rank is kept there from the first one on.
 ghost use Rattle.std.specs.Prelude.{◌≡◌, ◌<◌, ◌≤◌, ◌^◌, [], ◌∷◌, IfSome, length};
 ghost use Rattle.obs_case.specs.Tables.{Tables};
 ghost use Rattle.obs_graph.specs.Positions.{branches_at};
-ghost use Rattle.obs_network.specs.Network.{network_of};
+ghost use Rattle.obs_network.specs.Network.{case_offered, case_rows, case_vertex_room, network_of};
 ghost use Rattle.obs_cert.specs.Flaws.{rank_of_items};
 ghost use Rattle.obs_cert.specs.Joins.{AreJoined};
 ghost use Rattle.obs_cert.specs.Numbered.{items_of};
@@ -17,7 +17,6 @@ use crate::lists::measure_items;
 use crate::numbers::item_of;
 use crate::present::Present;
 use crate::walk::{Items, Sort, walk_items};
-use obs_meter::Touch;
 
 // The one item that is listed.
 fn only(items: Items<'_>) -> Option<Item<'_>>
@@ -31,22 +30,25 @@ fn only(items: Items<'_>) -> Option<Item<'_>>
     }
 }
 
-// The vertex at which an item touches all branches.
+// The vertex at which an item touches the rows of the branch table.
 fn star_of(present: &Present<'_>, m: u32) -> Option<u32>
-    ensures star { IfSome result (λ v. touches_of present.now m ≡ branches_at (network_of present.now).graph.ends v) }
+    ensures star { IfSome result (λ v. touches_of present.now m ≡ branches_at (case_rows present.now) v) }
     ensures vertex { IfSome result (λ v. v < (network_of present.now).graph.vertices) }
+    ensures item { IfSome result (λ v. m < length (case_offered present.now)) }
 {
+    let _case = present.case();
     let network = present.network();
-    if m >= network.offered().count() {
+    let items = network.offered();
+    if m >= items.count() {
         return None;
     }
-    match network.offered().kind(m) {
-        Touch::Star(v) => Some(v),
-        _ => None,
+    match items.hub(network.graph(), m) {
+        Some(hub) => Some(hub.vertex),
+        None => None,
     }
 }
 
-// Keeps the rank of the branches at a vertex, where one more is a number.
+// Keeps the rank of the rows at a vertex, where one more is a number.
 fn keep(stars: &mut [u32], v: u32, rank: u32)
     requires v { v < length stars.old }
     ensures kept { (t : Tables) → rank ≡ star_rank t v → AreStarRanks t stars.old → AreStarRanks t stars.new }
@@ -57,17 +59,20 @@ fn keep(stars: &mut [u32], v: u32, rank: u32)
     stars[v as usize] = rank + 1;
 }
 
-// The rank of the branches at a vertex.
+// The rank of the rows at a vertex, which an item touches.
 fn measure_star(
     present: &Present<'_>,
+    m: u32,
     v: u32,
     stars: &mut [u32],
     ups: &mut [u32],
     moved: &mut [u32],
 ) -> u32
+    requires item { m < length (case_offered present.now) }
+    requires star { touches_of present.now m ≡ branches_at (case_rows present.now) v }
     requires vertex { v < (network_of present.now).graph.vertices }
     requires clear { AreJoined [] ups.old [] }
-    requires vertices { length present.now.nodes ≤ length ups.old }
+    requires vertices { case_vertex_room present.now ≤ length ups.old }
     requires few { length ups.old < 2 ^ 32 }
     requires room { length ups.old ≤ length moved.old }
     requires stars { length ups.old ≤ length stars.old }
@@ -83,7 +88,8 @@ fn measure_star(
         return known - 1;
     }
     let graph = network.graph();
-    let count = join_all(graph, graph.branches_at(v), ups, moved, 0);
+    let touched = network.offered().touch(graph, m);
+    let count = join_all(graph, touched, ups, moved, 0);
     clear(ups, &moved[..count]);
     keep(stars, v, count as u32);
     count as u32
@@ -98,7 +104,7 @@ pub(crate) fn measure_listed(
     moved: &mut [u32],
 ) -> u32
     requires clear { AreJoined [] ups.old [] }
-    requires vertices { length present.now.nodes ≤ length ups.old }
+    requires vertices { case_vertex_room present.now ≤ length ups.old }
     requires few { length ups.old < 2 ^ 32 }
     requires room { length ups.old ≤ length moved.old }
     requires stars { length ups.old ≤ length stars.old }
@@ -109,8 +115,9 @@ pub(crate) fn measure_listed(
 {
     let case = present.case();
     if let Some(item) = only(walk_items(Sort::Inside, rest)) {
-        if let Some(v) = star_of(present, item_of(case, item)) {
-            return measure_star(present, v, stars, ups, moved);
+        let m = item_of(case, item);
+        if let Some(v) = star_of(present, m) {
+            return measure_star(present, m, v, stars, ups, moved);
         }
     }
     measure_items(present, walk_items(Sort::Inside, rest), ups, moved)

@@ -7,6 +7,7 @@ ghost use Rattle.obs_cert.specs.Ready.{HasRoom, IsReady};
 use crate::joins::begin;
 use crate::memory::NoMemory;
 use obs_case::Case;
+use obs_network::vertex_room;
 use std::alloc::Global;
 
 /// Marks of items and branches, the ways up of vertices, and ranks that are known.
@@ -44,7 +45,7 @@ impl Work {
     pub(crate) fn make(alloc: Global, case: &Case) -> Result<Work, NoMemory>
         ensures room { IfOk result (HasRoom (rows_of case.now)) }
     {
-        let nodes = case.nodes().len();
+        let vertices = vertex_room(case) as usize;
         let items = case.meters().len() + case.candidates().len() + 1;
         let branches = case.branches().len() + items;
         Ok(Work {
@@ -52,9 +53,9 @@ impl Work {
             paired: vec![in alloc; 0; items]?,
             listed: vec![in alloc; 0; items]?,
             taken: vec![in alloc; 0; branches]?,
-            ups: vec![in alloc; 0; nodes]?,
-            moved: vec![in alloc; 0; nodes]?,
-            stars: vec![in alloc; 0; nodes]?,
+            ups: vec![in alloc; 0; vertices]?,
+            moved: vec![in alloc; 0; vertices]?,
+            stars: vec![in alloc; 0; vertices]?,
         })
     }
 

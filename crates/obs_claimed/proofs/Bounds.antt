@@ -10,7 +10,7 @@ use Rattle.obs_meter.specs.Touches.{is_live, touch_at, touched}
 use Rattle.obs_meter.proofs.Assigned.{live_items-distinct}
 use Rattle.obs_network.specs.Network.{case_branches, case_component_count, case_meters, case_need, case_vertex_count}
 use Rattle.obs_network.specs.Observable.{IsObservable, case_live_meters}
-use Rattle.obs_network.proofs.Listed.{meter_is_item}
+use Rattle.obs_network.proofs.Items.{meter_is_item}
 use Rattle.obs_network.proofs.Marked.{filtered_below}
 use Rattle.obs_network.proofs.OfCase.{length-case_meters}
 use Rattle.obs_edit.specs.Answers.{bound_meters, bound_outside, bound_rank, component_meters, component_rank, is_critical_meter, is_meter_of}

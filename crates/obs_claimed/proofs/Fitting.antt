@@ -7,9 +7,8 @@ use Rattle.std.proofs.lemmas.List.FromFn.{length-range_with_len}
 use Rattle.std.proofs.lemmas.List.Sums.{sum_by-cons, sum_by-le-sum_by}
 use Rattle.obs_case.specs.Tables.{IsValid, Tables}
 use Rattle.obs_matroid.specs.Assignments.{Pair as NumberPair}
-use Rattle.obs_network.specs.Network.{case_branches, case_component_count, case_meters}
+use Rattle.obs_network.specs.Network.{case_branches, case_component_count, case_meters, case_vertex_count}
 use Rattle.obs_network.specs.Observable.{branch_component, case_live_meters, item_component}
-use Rattle.obs_network.specs.Switched.{case_bus_count}
 use Rattle.obs_network.proofs.OfCase.{case_branches-are, case_bus_count-le, case_component_count-le, few_meters, few_nodes, length-case_meters}
 use Rattle.obs_report.specs.Items.{inside_line, pair_line}
 use Rattle.obs_report.specs.Meters.{bound_line, bound_text, component_name}
@@ -28,7 +27,7 @@ module _ (t : Tables) (v : IsValid t) where
   unfolding case_first_pairs
   trees_few n =
       let parts = parts_few (λ (p : NumberPair). branch_component t p.1) (case_first_pairs t) n in
-      let few = first_pairs_few (case_bus_count t) (case_branches t) (case_meters t) (case_branches-are t v) in
+      let few = first_pairs_few (case_vertex_count t) (case_branches t) (case_meters t) (case_branches-are t v) in
       omega (arith, parts, few, length-case_meters t, few_meters t v)
 
   -- and the live meters

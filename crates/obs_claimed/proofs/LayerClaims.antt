@@ -26,7 +26,8 @@ use Rattle.obs_cert.specs.Flaws.{Listed, all_inside, listed_from, listed_layers,
 use Rattle.obs_cert.specs.Numbered.{items_of}
 use Rattle.obs_cert.specs.Scopes.{has, is_below, is_live_item, is_meter, price_at, scope_of, touches_of}
 use Rattle.obs_cert.proofs.OutsideLemmas.{scope_distinct}
-use Rattle.obs_cert.proofs.ScopeLemmas.{has_at, has_from, same_truth}
+use Rattle.std.specs.Cmp.Derive.{one_truth}
+use Rattle.obs_cert.proofs.ScopeLemmas.{has_at, has_from}
 use Rattle.obs_cert.proofs.TruthLemmas.{laws}
 use Rattle.obs_cert.proofs.CompletingLemmas.{bare}
 use Rattle.obs_claimed.specs.Claimed.{named_item, named_items, named_layers}
@@ -99,7 +100,7 @@ module _ (t : Tables) (v : IsValid t) where
       let B = placed_scope (case_branches t) (case_offered t) (price t) to in
       let p : ℕ → Bool = λ m. not (has list m) in
       let q : ℕ → Bool = λ m. not (own t to m) in
-      let same : (m : ℕ) → has list m ≡ own t to m = λ m. same_truth (has list m) (own t to m) (λ e. (h m).0 (has_from list m e)) (λ e. has_at list m ((h m).1 e)) in
+      let same : (m : ℕ) → has list m ≡ own t to m = λ m. one_truth (has list m) (own t to m) (λ e. (h m).0 (has_from list m e)) (λ e. has_at list m ((h m).1 e)) in
       let up = length-within (filter p S) (filter q B) (IsDistinct-filter p S (scope_distinct t (is_below t to))) (λ m i.
       let u = In-filter_from p m S i in
       let both = and_parts (is_live_item t m) (is_meter t m || nat_lt (price_at t m) to) (In-filter_from (is_below t to) m (every_item (case_offered t)) u.0).1 in

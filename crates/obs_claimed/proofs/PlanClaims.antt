@@ -118,7 +118,7 @@ module _ (t : Tables) (v : IsValid t) where
     within p i =
         let live = paired_live t (planned_items (length t.meters) chosen) A first.assigns p.0 (In-items A p i) in
         let low = live_low (case_branches t) (case_offered t) p.0 live in
-        (omega (arith, low, length-case_offered t), offered_branch t p.0 p.1 (first.assigns.touched p i))
+        (omega (arith, low, length-case_offered t), offered_branch t v p.0 p.1 (first.assigns.touched p i))
 
     pairs_are : pairs_of t claim.pairs ≡ A
     pairs_are = pairs_named t v A within

@@ -27,8 +27,7 @@ use Rattle.obs_placement.specs.Order.{price_of}
 use Rattle.obs_placement.specs.Placed.{ShortfallValue, Placed, PlanValue, shortfall_of, plan_of}
 use Rattle.obs_placement.specs.Placed.Placed.{cheapest, shortfall as short_of}
 use Rattle.obs_placement.proofs.Growing.{prices_rising}
-use Rattle.obs_network.specs.Network.{case_branches, case_needed, case_offered}
-use Rattle.obs_network.specs.Switched.{case_bus_count}
+use Rattle.obs_network.specs.Network.{case_branches, case_needed, case_offered, case_vertex_count}
 use Rattle.obs_network.proofs.OfCase.{case_branches-are}
 use Rattle.obs_report.specs.Items.{inside_line, pair_line}
 use Rattle.obs_report.specs.Lines.{last_line}
@@ -91,7 +90,7 @@ module _ (t : Tables) (v : IsValid t) where
       omega (arith, lines, few)
 
   abbrev layer_from : ℕ → ℕ → ℕ → PlacedLayer
-  layer_from f to u = layer_of (case_bus_count t) (case_branches t) (case_offered t) (price_of (length t.meters) (prices_of t.candidates)) f to u
+  layer_from f to u = layer_of (case_vertex_count t) (case_branches t) (case_offered t) (price_of (length t.meters) (prices_of t.candidates)) f to u
 
   -- layers, which list behind u items those from u on
   layers_length : (inside : List ℕ) (f u : ℕ) (ts : List ℕ) → ((l : PlacedLayer) → In l (layers_from t f u ts) → IsSmallLayer l)
@@ -112,13 +111,13 @@ module _ (t : Tables) (v : IsValid t) where
   prices = prices_of t.candidates
 
   abbrev chosen : List ℕ
-  chosen = chosen_of (case_bus_count t) (case_branches t) (case_offered t) (length t.meters) prices
+  chosen = chosen_of (case_vertex_count t) (case_branches t) (case_offered t) (length t.meters) prices
 
   abbrev plan : PlanValue
-  plan = plan_of (case_bus_count t) (case_branches t) (case_offered t) (length t.meters) prices
+  plan = plan_of (case_vertex_count t) (case_branches t) (case_offered t) (length t.meters) prices
 
   abbrev lack : ShortfallValue
-  lack = shortfall_of (case_bus_count t) (case_branches t) (case_offered t) (case_needed t)
+  lack = shortfall_of (case_vertex_count t) (case_branches t) (case_offered t) (case_needed t)
 
   -- the listed items are different ones
   inside_few : length plan.inside ≤ 40000
@@ -132,7 +131,7 @@ module _ (t : Tables) (v : IsValid t) where
   pairs_few : length (case_placed_pairs t) ≤ 40000
   pairs_few =
       let touches = touches_of (case_offered t) (planned_items (length t.meters) chosen) in
-      let few = pairs_in_few (case_bus_count t) (case_branches t) touches (case_branches-are t v) (case_placement t) in
+      let few = pairs_in_few (case_vertex_count t) (case_branches t) touches (case_branches-are t v) (case_placement t) in
       let same = length-touches_of (case_offered t) (planned_items (length t.meters) chosen) in
       omega (arith, few, same, few_offered t v)
 
@@ -146,7 +145,7 @@ module _ (t : Tables) (v : IsValid t) where
       let first = length-append (cost_line plan.cost) (flat_map (chosen_line t) chosen) in
       let second = length-append (cost_line plan.cost ++ flat_map (chosen_line t) chosen) (flat_map (pair_line t) pairs) in
       let all = length-append ((cost_line plan.cost ++ flat_map (chosen_line t) chosen) ++ flat_map (pair_line t) pairs) (layers_text t plan.inside 0 plan.layers) in
-      let few = chosen_few (case_bus_count t) (case_branches t) (case_offered t) (length t.meters) prices in
+      let few = chosen_few (case_vertex_count t) (case_branches t) (case_offered t) (length t.meters) prices in
       let offered = few_prices t prices v refl in
       let layers = prices_few prices chosen in
       let inside = inside_few in
@@ -158,7 +157,7 @@ module _ (t : Tables) (v : IsValid t) where
       let line = shortfall_length lack.rank lack.outside (lack_rank_small t v (case_needed t)) (lack_outside_small t v (case_needed t)) in
       let listed = each_length (inside_line t) 82 lack.inside (inside_length t v) in
       let all = length-append (shortfall_line lack.rank lack.outside) (flat_map (inside_line t) lack.inside) in
-      let few = filter_few (noncritical_in (case_bus_count t) (case_branches t) (case_offered t) live) live in
+      let few = filter_few (noncritical_in (case_vertex_count t) (case_branches t) (case_offered t) live) live in
       let items = live_few (case_branches t) (case_offered t) in
       let offered = few_offered t v in
       omega (arith, line, listed, all, few, items, offered)
@@ -171,5 +170,5 @@ module _ (t : Tables) (v : IsValid t) where
 
 pub placements_fit : PlacementsFit
 placements_fit t v =
-    let is_short = nat_lt (rho_at (case_bus_count t) (case_branches t) (case_offered t) (live_items (case_branches t) (case_offered t))) (case_needed t) in
+    let is_short = nat_lt (rho_at (case_vertex_count t) (case_branches t) (case_offered t) (live_items (case_branches t) (case_offered t))) (case_needed t) in
     either_length t v is_short (case_placed_pairs t) (pairs_few t v)

@@ -25,9 +25,8 @@ use Rattle.obs_placement.specs.Placed.{shortfall_of, plan_of}
 use Rattle.obs_placement.specs.Taking.{is_below, is_listed_at}
 use Rattle.obs_network.specs.Network.{case_branches, case_meters, case_offered, case_vertex_count}
 use Rattle.obs_network.specs.Observable.{case_live_meters}
-use Rattle.obs_network.specs.Switched.{case_bus_count}
 use Rattle.obs_network.proofs.Marked.{filtered_below}
-use Rattle.obs_network.proofs.OfCase.{case_bus_count-le, few_meters, few_nodes, length-case_meters, length-case_offered}
+use Rattle.obs_network.proofs.OfCase.{case_vertex_count-le, few_meters, few_nodes, length-case_meters, length-case_offered}
 use Rattle.obs_edit.specs.Answers.{bound_meters, bound_outside, bound_rank, component_meters, is_critical_meter, is_meter_of}
 use Rattle.obs_edit.proofs.Priced.{cheap_prices, few_prices}
 use Rattle.obs_claimed.proofs.Words.{IsSmall}
@@ -43,8 +42,9 @@ rank_few n ends positions = rank-le-n n (ends_of ends positions)
 pub live_few : (ends : List (Option Ends)) (touches : List Touch) → length (live_items ends touches) ≤ length touches
 live_few ends touches = omega (arith, filter_few (is_live ends touches) (every_item touches), length-range_with_len 0 (length touches))
 
-few_buses : (t : Tables) → IsValid t → case_bus_count t ≤ most_rows
-few_buses t v = omega (arith, case_bus_count-le t, few_nodes t v)
+-- there are at most two vertices for each node
+few_vertices : (t : Tables) → IsValid t → case_vertex_count t ≤ 2 * most_rows
+few_vertices t v = omega (arith, case_vertex_count-le t, few_nodes t v)
 
 pub few_offered : (t : Tables) → IsValid t → length (case_offered t) ≤ 2 * most_rows
 few_offered t v =
@@ -57,7 +57,7 @@ pub bound_rank_small : (t : Tables) (c : ℕ) → IsValid t → IsSmall (bound_r
 unfolding bound_rank
 bound_rank_small t c v =
     let few = rank_few (case_vertex_count t) (case_branches t) (flat_map (touch_at (case_branches t) (case_meters t)) (bound_meters t c)) in
-    omega (arith, few, few_buses t v)
+    omega (arith, few, few_vertices t v)
 
 pub bound_outside_small : (t : Tables) (c : ℕ) → IsValid t → IsSmall (bound_outside t c)
 unfolding bound_outside component_meters
@@ -124,7 +124,7 @@ module _ (t : Tables) (v : IsValid t) where
 
   pub plan_layers_small : (l : Layer) → In l (plan_of (case_vertex_count t) (case_branches t) (case_offered t) (length t.meters) prices).layers → IsSmallLayer l
   plan_layers_small =
-      layers_small (case_vertex_count t) (case_branches t) (case_offered t) (price_of (length t.meters) prices) (omega (arith, few_buses t v)) (omega (arith, few_offered t v)) 0 0
+      layers_small (case_vertex_count t) (case_branches t) (case_offered t) (price_of (length t.meters) prices) (omega (arith, few_vertices t v)) (omega (arith, few_offered t v)) 0 0
       (prices_above prices chosen 0) (omega arith)
       (λ x i. let low = filtered_below (is_price_of prices chosen) 1 (cost_of prices chosen - 0) x i in omega (arith, low, cost_few))
 
@@ -132,7 +132,7 @@ module _ (t : Tables) (v : IsValid t) where
   pub lack_rank_small : (needed : ℕ) → IsSmall (shortfall_of (case_vertex_count t) (case_branches t) (case_offered t) needed).rank
   lack_rank_small needed =
       let few = rank_few (case_vertex_count t) (case_branches t) (flat_map (touch_at (case_branches t) (case_offered t)) (shortfall_of (case_vertex_count t) (case_branches t) (case_offered t) needed).inside) in
-      omega (arith, few, few_buses t v)
+      omega (arith, few, few_vertices t v)
 
   pub lack_outside_small : (needed : ℕ) → IsSmall (shortfall_of (case_vertex_count t) (case_branches t) (case_offered t) needed).outside
   lack_outside_small needed =

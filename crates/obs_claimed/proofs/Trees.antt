@@ -36,8 +36,8 @@ module _ (t : Tables) (M : List ℕ) (A : List NumberPair) (a : IsAssignmentAt (
     forest = a.forest;
   }
 
-  pub assigned_within : AreWithin t A
-  assigned_within p i = (let l = meters p.0 (a.of_items p i) in omega (arith, l), offered_branch t p.0 p.1 (offered.touched p i))
+  pub assigned_within : IsValid t → AreWithin t A
+  assigned_within v p i = (let l = meters p.0 (a.of_items p i) in omega (arith, l), offered_branch t v p.0 p.1 (offered.touched p i))
 
 -- and where no clause is false, a tree claim holds
 tree_right : (t : Tables) (c : TreeClaim) → has_name (node_names t) c.component ≡ true → unknown_pair t c.pairs ≡ false → names_component t c.component ≡ true
@@ -53,7 +53,7 @@ module _ (t : Tables) (v : IsValid t) (c : ℕ) where
   meters m i = (component_meter t c m i).0
 
   within : AreWithin t (tree_pairs t c)
-  within = assigned_within t (component_meters t c) (tree_pairs t c) assigns meters
+  within = assigned_within t (component_meters t c) (tree_pairs t c) assigns meters v
 
   each_inside : (m : ℕ) → In m (items (tree_pairs t c)) → is_meter_in t c m ≡ true
   each_inside m i =

@@ -84,7 +84,7 @@ pub case_pairs_within : (t : Tables) → IsValid t → AreWithin t (case_first_p
 unfolding case_first_pairs
 case_pairs_within t v p i =
     let low = first_pairs_low (case_vertex_count t) (case_branches t) (case_meters t) (case_branches-are t v) p i in
-    (omega (arith, low.0, length-case_meters t), meter_branch t p.0 p.1 low.1)
+    (omega (arith, low.0, length-case_meters t), meter_branch t v p.0 p.1 low.1)
 
 -- the items that a bound lists
 pub bound_meters_low : (t : Tables) (c m : ℕ) → In m (bound_meters t c) → m < item_count t
@@ -101,7 +101,7 @@ pairs_in_within : (t : Tables) → IsValid t → (listed : List ℕ) (placed : P
 pairs_in_within t v listed (cheapest plan) p i =
     let low = first_pairs_low (case_vertex_count t) (case_branches t) (touches_of (case_offered t) listed) (case_branches-are t v) p i in (
       omega (arith, low.0, length-touches_of (case_offered t) listed, length-case_offered t),
-      offered_branch t p.0 p.1 (touch-listed (case_offered t) listed (case_branches t) p.0 p.1 low.1).1,
+      offered_branch t v p.0 p.1 (touch-listed (case_offered t) listed (case_branches t) p.0 p.1 low.1).1,
     )
 pairs_in_within t v listed (shortfall lack) p i = absurd i
 

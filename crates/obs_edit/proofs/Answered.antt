@@ -29,10 +29,10 @@ use Rattle.obs_first.proofs.Lawful.{first_pairs-is}
 use Rattle.obs_islands.specs.Firsts.{islands_of}
 use Rattle.obs_network.specs.Located.{live_meters_of}
 use Rattle.obs_network.specs.Network.{case_branches, case_meters, case_vertex_count, network_of}
-use Rattle.obs_network.specs.Observable.{case_live_meters}
+use Rattle.obs_network.specs.Observable.{case_live_meters, case_rank}
 use Rattle.obs_network.proofs.Observed.{pairs_in}
 use Rattle.obs_network.proofs.OfCase.{case_branches-are, length-case_meters}
-use Rattle.obs_edit.specs.Answers.{bound_meters, bound_outside, bound_rank, case_critical_meters, case_first_pairs, case_islands, case_rank, component_meters, component_rank, is_critical_meter, is_meter_of}
+use Rattle.obs_edit.specs.Answers.{bound_meters, bound_outside, bound_rank, case_critical_meters, case_first_pairs, case_islands, component_meters, component_rank, is_critical_meter, is_meter_of}
 use Rattle.obs_edit.specs.Sessions.{AreLongest, AreMarks}
 use Rattle.obs_edit.proofs.Enough.{in_component, least, live_pairs}
 use Rattle.obs_edit.proofs.Tight.{IsClosedFor, bound_is, mark_from, pairs_in_from, rank_from}

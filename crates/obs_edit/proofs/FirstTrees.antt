@@ -2,8 +2,7 @@
 use Rattle.std.proofs.Common.{Bool, ◌≡◌, ℕ, ◌<◌, true, List, [], ◌∷◌, length, filter, get_or, refl, sym, ap, ◌∙◌, subst, inl, inr, arith}
 use Rattle.std.specs.Prelude.{◌==◌}
 use Rattle.std.specs.List.{range_with_len}
-use Rattle.std.proofs.lemmas.Bool.{cases_Bool, eq-eqb, eqb-true}
-use Rattle.obs_graph.specs.Positions.{present}
+use Rattle.std.proofs.lemmas.Bool.{cases_Bool, eqb-true}
 use Rattle.obs_case.specs.Tables.{IsValid, Tables}
 use Rattle.obs_matroid.specs.Lists.{In, IsDistinct, IsRising}
 use Rattle.obs_matroid.specs.Values.{first_of}
@@ -24,19 +23,16 @@ use Rattle.obs_first.specs.First.{IsFirstAt, first_pairs}
 use Rattle.obs_meter.specs.Touches.{every_item, is_live}
 use Rattle.obs_first.proofs.Listed.{IsRising-first_of, pairs_same}
 use Rattle.obs_first.proofs.Lawful.{first-from_matroid, first-live, first-to_matroid, first_pairs-is}
-use Rattle.obs_network.specs.Components.{component_of}
-use Rattle.obs_network.specs.Network.{case_branches, case_component_count, case_components, case_live, case_meters, case_need, case_vertex_count}
+use Rattle.obs_network.specs.Network.{case_branches, case_component_count, case_meters, case_need, case_vertex_count}
 use Rattle.obs_network.specs.Observable.{IsObservable, branch_component, case_live_meters, item_component, is_vertex_of}
-use Rattle.obs_network.proofs.InComponents.{ends_component, kinds_sum, present_below, touched_component}
-use Rattle.obs_network.proofs.Observed.{buses_of_component, is_of, size_is}
+use Rattle.obs_network.proofs.InComponents.{kinds_sum, present_below, present_placed, touched_component}
 use Rattle.obs_network.proofs.OfCase.{case_branches-are}
-use Rattle.obs_network.proofs.OfLaws.{case_component-at}
+use Rattle.obs_network.proofs.Vertices.{need_is, vertices_of_component}
 use Rattle.obs_edit.specs.Answers.{case_first_pairs, component_meters, component_rank, is_meter_of}
 use Rattle.obs_edit.specs.Laws.{TreesAreFirst, TreesAreWhole, TreesSpan, TreesStandAlone, tree_pairs}
 use Rattle.obs_edit.proofs.FirstParts.{first_in_component}
 use Rattle.obs_network.proofs.Listed.{rising_filter}
 use Rattle.obs_edit.proofs.Tight.{case_matroid, case_touch, observable-to}
-use Rattle.obs_islands.proofs.Spanning.{some_in}
 
 -- some of the pairs rise, where all do
 IsRising-filter_items : (f : Pair → Bool) (A : List Pair) → IsRising (items A) → IsRising (items (filter f A))
@@ -106,32 +102,33 @@ module _ (t : Tables) (v : IsValid t) (c : ℕ) where
   tree_whole l o = tree_rank ∙ observable-to t v c l o
 
 module _ (t : Tables) (v : IsValid t) (c : ℕ) where
-  bus_in : (u : ℕ) → u < case_vertex_count t → get_or (case_components t) u 0 ≡ c → In u (buses_of_component t c)
-  bus_in u l e =
-      In-filter (is_of t c) u (range_with_len 0 (case_vertex_count t)) (range_in 0 (case_vertex_count t) u (omega arith) (omega (arith, l)))
-      (eq-eqb (component_of (present (case_live t)) u) c (sym (case_component-at t u l) ∙ e))
+  vertex_in : (u : ℕ) → u < case_vertex_count t → is_vertex_of t c u ≡ true → In u (vertices_of_component t c)
+  vertex_in u l own =
+      In-filter (is_vertex_of t c) u (range_with_len 0 (case_vertex_count t)) (range_in 0 (case_vertex_count t) u (omega arith) (omega (arith, l))) own
 
-  -- both ends of a branch of the tree are buses of the component
-  ends_in : (e : ℕ) → In e (branches (tree_pairs t c)) → In (ends_at (case_branches t) e).0 (buses_of_component t c) × In (ends_at (case_branches t) e).1 (buses_of_component t c)
+  -- both ends of a branch of the tree are vertices of the component
+  ends_in : (e : ℕ) → In e (branches (tree_pairs t c)) → In (ends_at (case_branches t) e).0 (vertices_of_component t c) × In (ends_at (case_branches t) e).1 (vertices_of_component t c)
   ends_in e i =
       let w = In-branches_from (tree_pairs t c) e i in
       let there = touched-present (case_branches t) (get_or (case_meters t) w.0.0 Nothing) w.0.1 ((tree_first t v c).assigns.touched w.0 w.1) in
       let low = present_below t v w.0.1 there in
-      let lies = eqb-true (branch_component t w.0.1) c (In-filter_from (λ (p : Pair). branch_component t p.1 == c) w.0 (case_first_pairs t) w.1).1 in
-      subst (λ (x : ℕ). In (ends_at (case_branches t) x).0 (buses_of_component t c) × In (ends_at (case_branches t) x).1 (buses_of_component t c)) (sym w.2)
-      (bus_in (ends_at (case_branches t) w.0.1).0 low.0 lies, bus_in (ends_at (case_branches t) w.0.1).1 low.1 (sym (ends_component t v w.0.1) ∙ lies))
+      let p = present_placed t v w.0.1 there in
+      let lies = eqb-true (branch_component t w.0.1) c (In-filter_from (λ (q : Pair). branch_component t q.1 == c) w.0 (case_first_pairs t) w.1).1 in
+      subst (λ (x : ℕ). In (ends_at (case_branches t) x).0 (vertices_of_component t c) × In (ends_at (case_branches t) x).1 (vertices_of_component t c)) (sym w.2) (
+        vertex_in (ends_at (case_branches t) w.0.1).0 low.0 (subst (λ k. is_vertex_of t k (ends_at (case_branches t) w.0.1).0 ≡ true) lies p.of_a),
+        vertex_in (ends_at (case_branches t) w.0.1).1 low.1 (subst (λ k. is_vertex_of t k (ends_at (case_branches t) w.0.1).1 ≡ true) lies p.of_b),
+      )
 
   pub tree_spans : (u w : ℕ) → c < case_component_count t → IsObservable t c → u < case_vertex_count t → w < case_vertex_count t
       → is_vertex_of t c u ≡ true → is_vertex_of t c w ≡ true → joined_at (case_branches t) (branches (tree_pairs t c)) u w ≡ true
   tree_spans u w l o lu lw su sw =
       let n = case_vertex_count t in
       let ends = case_branches t in
-      let W = buses_of_component t c in
-      let iu = bus_in u lu (eqb-true (get_or (case_components t) u 0) c su) in
-      forest_joins (ends_at ends) (joined_at ends) (rank_at n ends) (IsJoining-graph ends) W (IsDistinct-filter (is_of t c) (range_with_len 0 n) (range_distinct 0 n)) (branches (tree_pairs t c))
+      let W = vertices_of_component t c in
+      forest_joins (ends_at ends) (joined_at ends) (rank_at n ends) (IsJoining-graph ends) W (IsDistinct-filter (is_vertex_of t c) (range_with_len 0 n) (range_distinct 0 n)) (branches (tree_pairs t c))
       (to_matroid n ends (case_meters t) (component_meters t c) (tree_pairs t c) (tree_first t v c).assigns).independent ends_in
-      (let many = tree_whole t v c l o in let same = size_is t c l in let some = some_in u W iu in omega (arith, many, same, some, length-branches (tree_pairs t c)))
-      u w iu (bus_in w lw (eqb-true (get_or (case_components t) w 0) c sw))
+      (let many = tree_whole t v c l o in let need = need_is t c l in omega (arith, many, need, length-branches (tree_pairs t c)))
+      u w (vertex_in u lu su) (vertex_in w lw sw)
 
 pub trees_are_first : TreesAreFirst
 trees_are_first t c v = tree_first t v c

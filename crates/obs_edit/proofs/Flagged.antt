@@ -1,13 +1,16 @@
 -- A flag that is set to what it is changes nothing, and any other does.
-use Rattle.std.proofs.Common.{◌≡◌, ◌≢◌, ℕ, zero, suc, ◌<◌, Bool, true, false, List, [], ◌∷◌, length, get_or, refl, sym, ap, ◌∙◌, arith}
-use Rattle.std.specs.Prelude.{MatchBool}
+use Rattle.std.proofs.Common.{◌≡◌, ◌≢◌, ℕ, zero, suc, ◌+◌, ◌<◌, Bool, true, false, List, [], ◌∷◌, length, get_or, refl, sym, ap, ◌∙◌, arith}
+use Rattle.std.specs.Prelude.{MatchBool, if◌then◌else◌}
+use Rattle.std.specs.List.{list_any}
 use Rattle.std.proofs.lemmas.Bool.{false≢true, true≢false}
 use Rattle.obs_case.specs.declared.rows.Branch.{Branch}
 use Rattle.obs_case.specs.declared.rows.Meter.{Meter}
 use Rattle.obs_case.specs.declared.rows.Switch.{Switch}
 use Rattle.obs_case.specs.Flags.{changed_at, with_branch_inservice, with_closed, with_meter_inservice}
 use Rattle.obs_case.specs.Tables.{Tables}
-use Rattle.obs_network.specs.Network.{rows_of}
+use Rattle.obs_network.specs.Angles.{has_angle}
+use Rattle.obs_network.specs.Network.{Rows, case_position_count, rows_of}
+use Rattle.obs_network.proofs.Edited.{flags-with_meter}
 use Rattle.obs_network.proofs.OfLaws.{rows-with_branch, rows-with_closed, rows-with_meter}
 use Rattle.obs_edit.specs.declared.edit.Edit.{Edit}
 use Rattle.obs_edit.specs.declared.edit.Edit.TheVariants as edit
@@ -79,3 +82,17 @@ pub same_candidates : (t : Tables) (e : Edit) → (edited t e).candidates ≡ t.
 same_candidates t (edit.Switch at closed) = refl
 same_candidates t (edit.Branch at inservice) = refl
 same_candidates t (edit.Meter at inservice) = refl
+
+-- and no item becomes an angle item
+pub same_angles : (t : Tables) (e : Edit) → has_angle (edited t e) ≡ has_angle t
+same_angles t (edit.Switch at closed) = refl
+same_angles t (edit.Branch at inservice) = refl
+same_angles t (edit.Meter at inservice) = ap (list_any (λ (b : Bool). b)) (flags-with_meter t at inservice)
+
+-- so the positions stay as many
+positions_of : Rows → Bool → ℕ
+positions_of r some = r.branches + (if some then r.meters + r.candidates else 0)
+
+pub positions-edited : (t : Tables) (e : Edit) → case_position_count (edited t e) ≡ case_position_count t
+unfolding positions_of
+positions-edited t e = ap (λ r. positions_of r (has_angle (edited t e))) (rows-edited t e) ∙ ap (positions_of (rows_of t)) (same_angles t e)

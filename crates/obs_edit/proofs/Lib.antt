@@ -1,4 +1,3 @@
-pub mod Longest
 pub mod OfNetwork
 pub mod Enough
 pub mod Planned

@@ -1,5 +1,5 @@
 -- An edit of a meter: no branch changes, and no other meter's touch.
-use Rattle.std.proofs.Common.{◌⊎◌, inl, inr, ◌≡◌, ℕ, zero, suc, ◌+◌, ◌≤◌, Bool, true, false, None, List, [], ◌∷◌, length, map, get_or, refl, sym, ap, ◌∙◌, subst, arith}
+use Rattle.std.proofs.Common.{◌⊎◌, inl, inr, ◌≡◌, ℕ, zero, suc, ◌+◌, ◌≤◌, Bool, true, false, Option, None, List, [], ◌∷◌, length, get_or, refl, sym, ap, ◌∙◌, subst, arith}
 use Rattle.std.specs.Prelude.{if◌then◌else◌}
 use Rattle.std.specs.List.{range_with_len}
 use Rattle.std.proofs.lemmas.Bool.{cases_Bool, cases_eq}
@@ -8,6 +8,7 @@ use Rattle.obs_case.specs.declared.rows.Meter.{Meter}
 use Rattle.obs_case.specs.Flags.{changed_at, with_meter_inservice}
 use Rattle.obs_case.specs.Tables.{IsValid, Tables}
 use Rattle.obs_case.proofs.RowLemmas.{length-changed}
+use Rattle.obs_graph.specs.declared.Ends.{Ends}
 use Rattle.obs_graph.specs.Positions.{IsForestAt}
 use Rattle.obs_graph.specs.Graph.{Graph}
 use Rattle.obs_matroid.specs.Lists.{In, IsDistinct, other_than}
@@ -19,67 +20,73 @@ use Rattle.obs_meter.specs.declared.Touch.TheVariants.{Nothing}
 use Rattle.obs_meter.specs.Assignments.{IsAssignmentAt}
 use Rattle.obs_meter.specs.Touches.{every_item, touch_at, touched}
 use Rattle.obs_network.specs.Switched.{case_buses}
-use Rattle.obs_network.specs.Network.{case_branches, case_component_count, case_components, case_energised, case_live, case_meters, case_vertex_count, network_of}
-use Rattle.obs_network.specs.Touching.{meter_touch, touch_of}
+use Rattle.obs_network.specs.Network.{case_branches, case_component_count, case_components, case_energised, case_live, case_meters, case_rows, case_vertex_count, case_vertex_room, network_of}
+use Rattle.obs_network.specs.Touching.{meter_touches, touch_of}
 use Rattle.obs_network.proofs.Edited.{branches-with_meter}
 use Rattle.obs_network.proofs.OfCase.{case_branches-are, length-case_meters}
 use Rattle.obs_assign.specs.Assignment.{Assignment, StandsOver, branch_at}
 use Rattle.obs_assign.proofs.Slotted.{none_some}
-use Rattle.obs_edit.specs.Longest.{IsMost}
+use Rattle.obs_exchange.specs.Longest.{IsMost}
 use Rattle.obs_edit.proofs.Retained.{assigns-within}
 
 abbrev flagged : Bool → Meter → Meter
 flagged inservice row = record row { inservice = inservice }
 
 -- what stands in a list of which one row changed
-module _ (buses : List ℕ) (inservice : Bool) where
-  abbrev after : ℕ → List Meter → List Touch
-  after at rows = map (meter_touch buses) (changed_at (flagged inservice) at rows)
+module _ (branches : List (Option Ends)) (buses : List ℕ) where
+  -- what each meter touches, where one flag is set
+  abbrev touches : Bool → ℕ → ℕ → List Meter → List Touch
+  touches inservice k at rows = meter_touches branches buses k (changed_at (flagged inservice) at rows)
 
-  abbrev before : List Meter → List Touch
-  before rows = map (meter_touch buses) rows
-
-  other_touch : (rows : List Meter) (at m : ℕ) → (m ≡ at → ⊥) → get_or (after at rows) m Nothing ≡ get_or (before rows) m Nothing
+  other_touch : (inservice : Bool) (k : ℕ) (rows : List Meter) (at m : ℕ) → (m ≡ at → ⊥) → get_or (touches inservice k at rows) m Nothing ≡ get_or (meter_touches branches buses k rows) m Nothing
   unfolding changed_at
-  other_touch [] at m ne = refl
-  other_touch (row ∷ rows) zero zero ne = absurd (ne refl)
-  other_touch (row ∷ rows) zero (suc m) ne = refl
-  other_touch (row ∷ rows) (suc at) zero ne = refl
-  other_touch (row ∷ rows) (suc at) (suc m) ne = other_touch rows at m (λ e. ne (ap suc e))
+  other_touch inservice k [] at m ne = refl
+  other_touch inservice k (row ∷ rows) zero zero ne = absurd (ne refl)
+  other_touch inservice k (row ∷ rows) zero (suc m) ne = refl
+  other_touch inservice k (row ∷ rows) (suc at) zero ne = refl
+  other_touch inservice k (row ∷ rows) (suc at) (suc m) ne = other_touch inservice (suc k) rows at m (λ e. ne (ap suc e))
 
-touch_gone : (buses : List ℕ) (rows : List Meter) (at : ℕ) → get_or (map (meter_touch buses) (changed_at (flagged false) at rows)) at Nothing ≡ Nothing
-unfolding changed_at
-touch_gone buses [] at = refl
-touch_gone buses (row ∷ rows) zero = refl
-touch_gone buses (row ∷ rows) (suc at) = touch_gone buses rows at
+  touch_gone : (k : ℕ) (rows : List Meter) (at : ℕ) → get_or (touches false k at rows) at Nothing ≡ Nothing
+  unfolding changed_at
+  touch_gone k [] at = refl
+  touch_gone k (row ∷ rows) zero = refl
+  touch_gone k (row ∷ rows) (suc at) = touch_gone (suc k) rows at
 
-touch_back : (buses : List ℕ) (rows : List Meter) (at : ℕ)
-    → (get_or (map (meter_touch buses) rows) at Nothing ≡ Nothing) ⊎ (get_or (map (meter_touch buses) (changed_at (flagged true) at rows)) at Nothing ≡ get_or (map (meter_touch buses) rows) at Nothing)
-unfolding changed_at
-touch_back buses [] at = inl refl
-touch_back buses (row ∷ rows) zero =
-    elim (cases_Bool row.inservice) [
-      | inl e ↦ inr (sym (ap (λ (b : Bool). if b then touch_of buses row.kind row.at else Nothing) e))
-      | inr e ↦ inl (ap (λ (b : Bool). if b then touch_of buses row.kind row.at else Nothing) e)
-    ]
-touch_back buses (row ∷ rows) (suc at) = touch_back buses rows at
+  touch_back : (k : ℕ) (rows : List Meter) (at : ℕ)
+      → (get_or (meter_touches branches buses k rows) at Nothing ≡ Nothing) ⊎ (get_or (touches true k at rows) at Nothing ≡ get_or (meter_touches branches buses k rows) at Nothing)
+  unfolding changed_at
+  touch_back k [] at = inl refl
+  touch_back k (row ∷ rows) zero =
+      elim (cases_Bool row.inservice) [
+        | inl e ↦ inr (sym (ap (λ (b : Bool). if b then touch_of branches buses k row.kind row.at else Nothing) e))
+        | inr e ↦ inl (ap (λ (b : Bool). if b then touch_of branches buses k row.kind row.at else Nothing) e)
+      ]
+  touch_back k (row ∷ rows) (suc at) = touch_back (suc k) rows at
 
 module _ (t : Tables) (at : ℕ) (inservice : Bool) where
   pub same_graph : (network_of (with_meter_inservice t at inservice)).graph ≡ (network_of t).graph
-  unfolding case_branches case_components case_energised case_component_count case_live
-  same_graph = refl
+  unfolding case_component_count case_live
+  same_graph =
+      let of : List (Option Ends) → ℕ → Graph = λ ends meters. record {
+        vertices = case_vertex_count t;
+        ends = ends;
+        most_vertices = case_vertex_room t;
+        most_branches = length t.branches + (meters + length t.candidates);
+      } in
+      ap (λ ends. of ends (length (with_meter_inservice t at inservice).meters)) (branches-with_meter t at inservice)
+      ∙ ap (of (case_branches t)) (length-changed (flagged inservice) t.meters at)
 
   pub same_count : length (case_meters (with_meter_inservice t at inservice)) ≡ length (case_meters t)
   same_count = length-case_meters (with_meter_inservice t at inservice) ∙ (length-changed (flagged inservice) t.meters at ∙ sym (length-case_meters t))
 
   pub same_touch : (m : ℕ) → (m ≡ at → ⊥) → touch_at (case_branches t) (case_meters (with_meter_inservice t at inservice)) m ≡ touch_at (case_branches t) (case_meters t) m
-  unfolding case_meters
-  same_touch m ne = ap (λ (x : Touch). touched (case_branches t) x) (other_touch (case_buses t) inservice t.meters at m ne)
+  unfolding case_meters case_rows case_components case_component_count case_energised case_live
+  same_touch m ne = ap (λ (x : Touch). touched (case_branches t) x) (other_touch (case_rows t) (case_buses t) inservice 0 t.meters at m ne)
 
 -- a meter that goes touches nothing, so what is touched was touched before
 pub none_touched : (t : Tables) (at : ℕ) → touch_at (case_branches t) (case_meters (with_meter_inservice t at false)) at ≡ []
-unfolding case_meters
-none_touched t at = ap (λ (x : Touch). touched (case_branches t) x) (touch_gone (case_buses t) t.meters at)
+unfolding case_meters case_rows case_components case_component_count case_energised case_live
+none_touched t at = ap (λ (x : Touch). touched (case_branches t) x) (touch_gone (case_rows t) (case_buses t) 0 t.meters at)
 
 pub touched_before : (t : Tables) (at m e : ℕ) → In e (touch_at (case_branches t) (case_meters (with_meter_inservice t at false)) m) → (m ≡ at → ⊥) × In e (touch_at (case_branches t) (case_meters t) m)
 touched_before t at m e i =
@@ -90,7 +97,7 @@ touched_before t at m e i =
 
 -- what was touched is so where a meter comes back
 pub touched_after : (t : Tables) (at m e : ℕ) → In e (touch_at (case_branches t) (case_meters t) m) → In e (touch_at (case_branches t) (case_meters (with_meter_inservice t at true)) m)
-unfolding case_meters
+unfolding case_meters case_rows case_components case_component_count case_energised case_live
 touched_after t at m e i =
     elim (cases_eq m at) [
       | inl s ↦ subst (λ k. In e (touch_at (case_branches t) (case_meters (with_meter_inservice t at true)) k)) (sym s)
@@ -99,7 +106,7 @@ touched_after t at m e i =
     ]
   where
     here : In e (touch_at (case_branches t) (case_meters t) at) → In e (touch_at (case_branches t) (case_meters (with_meter_inservice t at true)) at)
-    here j = elim (touch_back (case_buses t) t.meters at) [
+    here j = elim (touch_back (case_rows t) (case_buses t) 0 t.meters at) [
       | inl nothing ↦ absurd (subst (λ (x : Touch). In e (touched (case_branches t) x)) nothing j)
       | inr same ↦ subst (λ (x : Touch). In e (touched (case_branches t) x)) (sym same) j
     ]

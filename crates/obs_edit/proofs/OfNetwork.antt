@@ -9,10 +9,10 @@ use Rattle.obs_meter.specs.Touches.{every_item}
 use Rattle.obs_assign.specs.Assignment.{Assignment, Fits}
 use Rattle.obs_exchange.specs.Found.{Work}
 use Rattle.obs_network.specs.Network.{Network, case_branches, case_meters, case_needed, network_of}
-use Rattle.obs_network.proofs.OfCase.{case_bus_count-le, length-case_branches, length-case_meters}
+use Rattle.obs_network.proofs.OfCase.{case_vertex_count-le, length-case_branches, length-case_meters}
 use Rattle.obs_network.proofs.Observed.{most_pairs}
-use Rattle.obs_edit.specs.Longest.{IsLongest, IsMost}
-use Rattle.obs_edit.specs.Sessions.{AreLongest, HasRoom, case_rows}
+use Rattle.obs_exchange.specs.Longest.{IsLongest, IsMost}
+use Rattle.obs_edit.specs.Sessions.{AreLongest, HasRoom, case_room}
 
 pub few_meters : (t : Tables) → IsValid t → length (case_meters t) ≤ most_rows
 few_meters t v = let few = v.meters.few in omega (arith, few, length-map t.meters (λ row. row.name), length-case_meters t)
@@ -20,7 +20,7 @@ few_meters t v = let few = v.meters.few in omega (arith, few, length-map t.meter
 pub fits_case : (t : Tables) (a : Assignment) (w : Work) → HasRoom t a w → Fits a (network_of t).graph (case_meters t)
 fits_case t a w r = record {
   meters = let p = r.pair_meters in omega (arith, p, length-case_meters t);
-  vertices = let p = r.pair_vertices in omega (arith, p, case_bus_count-le t);
+  vertices = let p = r.pair_vertices in omega (arith, p, case_vertex_count-le t);
   branches = let p = r.pair_branches in omega (arith, p, length-case_branches t);
 }
 
@@ -48,9 +48,9 @@ IsLongest-of_network n t g i a same graph meters h =
     subst (λ (h : Graph). IsLongest h (case_meters t) a) gs (subst (λ (j : Meters). IsLongest g j.touches a) is h)
 
 -- what was made for the rows of a case has room for its network
-pub room_of_rows : (t : Tables) (s : Sizes) (g : Graph) (ms : Meters) → g ≡ (network_of t).graph → ms ≡ (network_of t).meters → s ≡ case_rows t → HasRoomFor s g ms.touches
+pub room_of_rows : (t : Tables) (s : Sizes) (g : Graph) (ms : Meters) → g ≡ (network_of t).graph → ms ≡ (network_of t).meters → s ≡ case_room t → HasRoomFor s g ms.touches
 room_of_rows t s g ms gg mm e = record {
   meters = let r = ap (λ (x : Sizes). x.meters) e in let m = ap (λ (i : Meters). length i.touches) mm in omega (arith, r, m, length-case_meters t);
   branches = let r = ap (λ (x : Sizes). x.branches) e in let b = ap (λ (x : Graph). length x.ends) gg in omega (arith, r, b, length-case_branches t);
-  vertices = let r = ap (λ (x : Sizes). x.vertices) e in let v = ap (λ (x : Graph). x.vertices) gg in omega (arith, r, v, case_bus_count-le t);
+  vertices = let r = ap (λ (x : Sizes). x.vertices) e in let v = ap (λ (x : Graph). x.vertices) gg in omega (arith, r, v, case_vertex_count-le t);
 }

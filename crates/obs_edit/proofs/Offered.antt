@@ -9,8 +9,8 @@ use Rattle.obs_meter.specs.declared.Touch.{Touch}
 use Rattle.obs_meter.specs.Held.{Meters}
 use Rattle.obs_meter.specs.Sizes.{HasRoomFor, Sizes}
 use Rattle.obs_network.specs.Network.{Network, case_branches, case_needed, case_offered, case_vertex_count, network_of}
-use Rattle.obs_network.proofs.OfCase.{case_bus_count-le, length-case_branches, length-case_offered}
-use Rattle.obs_edit.specs.Planned.{offered_rows}
+use Rattle.obs_network.proofs.OfCase.{case_vertex_count-le, length-case_branches, length-case_offered}
+use Rattle.obs_edit.specs.Planned.{offered_room}
 
 module _ (t : Tables) (n : Network) (g : Graph) (i : Meters) (same : n ≡ network_of t) (graph : g ≡ n.graph) (offered : i ≡ n.offered) where
   graph_is : g ≡ (network_of t).graph
@@ -25,11 +25,11 @@ module _ (t : Tables) (n : Network) (g : Graph) (i : Meters) (same : n ≡ netwo
       let each = ap length priced ∙ length-map t.candidates (λ (row : Candidate). row.price) in
       omega (arith, all, each, count)
 
-  pub offered_room : (s : Sizes) → s ≡ offered_rows t → HasRoomFor s g i.touches
-  offered_room s rows = record {
+  pub room_of_offered : (s : Sizes) → s ≡ offered_room t → HasRoomFor s g i.touches
+  room_of_offered s rows = record {
     meters = let all = ap length touches_are ∙ length-case_offered t in let r = ap (λ (x : Sizes). x.meters) rows in omega (arith, all, r);
     branches = let e = ap (λ (x : Graph). length x.ends) graph_is ∙ length-case_branches t in let r = ap (λ (x : Sizes). x.branches) rows in omega (arith, e, r);
-    vertices = let e = ap (λ (x : Graph). x.vertices) graph_is in let r = ap (λ (x : Sizes). x.vertices) rows in omega (arith, e, r, case_bus_count-le t);
+    vertices = let e = ap (λ (x : Graph). x.vertices) graph_is in let r = ap (λ (x : Sizes). x.vertices) rows in omega (arith, e, r, case_vertex_count-le t);
   }
 
   -- what is worked out of the network is so out of the case

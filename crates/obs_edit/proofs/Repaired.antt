@@ -26,18 +26,18 @@ use Rattle.obs_assign.proofs.Keeping.{slot_without}
 use Rattle.obs_assign.proofs.Standing.{IsAssignmentAt-standing, length-retained, still_at, still_from}
 use Rattle.obs_assign.proofs.Slotted.{none_some}
 use Rattle.obs_exchange.specs.Lengthened.{HasLengthened}
-use Rattle.obs_network.specs.Network.{Network, Rows, case_branches, case_meters, case_needed, case_vertex_count, network_of}
+use Rattle.obs_network.specs.Network.{Network, Rows, case_branches, case_meters, case_needed, case_position_count, case_vertex_count, case_vertex_room, network_of}
 use Rattle.obs_network.specs.Edited.{ArePresent}
 use Rattle.obs_network.proofs.Edited.{branches-with_meter}
 use Rattle.obs_network.proofs.KeptForests.{forest_closed, forest_opened, forest_rank, forest_with_branch, forest_with_meter}
 use Rattle.obs_network.proofs.Observed.{most_pairs as most_needed}
-use Rattle.obs_network.proofs.OfCase.{case_branches-are, case_bus_count-le, length-case_branches, length-case_meters}
+use Rattle.obs_network.proofs.OfCase.{case_branches-are, case_vertex_count-le, length-case_branches, length-case_meters}
 use Rattle.obs_edit.specs.declared.edit.Edit.{Edit}
 use Rattle.obs_edit.specs.declared.edit.Edit.TheVariants as edit
 use Rattle.obs_edit.specs.Edits.{HasRow, IsRepaired, edited, standing}
-use Rattle.obs_edit.specs.Longest.{IsMost}
+use Rattle.obs_exchange.specs.Longest.{IsMost}
 use Rattle.obs_edit.specs.Repairing.{AreKept, CostsOwnPair, IsBefore, most_pairs}
-use Rattle.obs_edit.proofs.Flagged.{rows-edited}
+use Rattle.obs_edit.proofs.Flagged.{positions-edited, rows-edited}
 use Rattle.obs_edit.proofs.Metered.{most-lost, most-regained, same_graph, stands-lost, stands-regained, touched_before}
 use Rattle.obs_edit.proofs.Retained.{few, forest-still, lost_one, present-still}
 
@@ -103,10 +103,10 @@ module _ (n : Network) (t : Tables) (e : Edit) (a : Assignment) (v : IsValid t) 
   pub as_many_positions : length g.ends ≡ length a.forest.held
   as_many_positions =
       ap (λ (s : Graph). length s.ends) graph_now
-      ∙ (length-case_branches t ∙ (ap (λ (x : Tables). length x.branches) b.same ∙ (ap (λ (r : Rows). r.branches) (rows-edited b.before e) ∙ (sym (length-case_branches b.before) ∙ stood.forest.positions))))
+      ∙ (length-case_branches t ∙ (ap case_position_count b.same ∙ (positions-edited b.before e ∙ (sym (length-case_branches b.before) ∙ stood.forest.positions))))
 
-  pub fits_vertices : length t.nodes ≤ a.forest.most_vertices → g.vertices ≤ a.forest.most_vertices
-  fits_vertices room = let same = ap (λ (x : Graph). x.vertices) graph_now in omega (arith, room, same, case_bus_count-le t)
+  pub fits_vertices : case_vertex_room t ≤ a.forest.most_vertices → g.vertices ≤ a.forest.most_vertices
+  fits_vertices room = let same = ap (λ (x : Graph). x.vertices) graph_now in omega (arith, room, same, case_vertex_count-le t)
 
   old_assignment : IsAssignmentAt (case_branches b.before) (case_meters b.before) (every_item (case_meters b.before)) (pairs a)
   old_assignment = IsAssignmentAt-standing a (network_of b.before).graph (case_meters b.before) b.longest.whole stood

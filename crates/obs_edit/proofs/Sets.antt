@@ -1,5 +1,5 @@
 -- What a session keeps after an edit.
-use Rattle.std.proofs.Common.{inl, inr, [], ◌≡◌, ℕ, ◌+◌, ◌<◌, Bool, true, false, Option, Some, None, List, length, refl, sym, ap, ◌∙◌, subst, arith}
+use Rattle.std.proofs.Common.{inl, inr, [], ◌≡◌, ℕ, ◌+◌, ◌*◌, ◌<◌, Bool, true, false, Option, Some, None, List, length, refl, sym, ap, ◌∙◌, subst, arith}
 use Rattle.std.specs.Prelude.{◌&&◌, Result, Ok, Err, if◌then◌else◌, not}
 use Rattle.std.specs.Str.{bytes_eq}
 use Rattle.std.proofs.lemmas.Bool.{cases_Bool, false≢true}
@@ -17,7 +17,7 @@ use Rattle.obs_critical.specs.Listed.{CriticalWork}
 use Rattle.obs_exchange.specs.Found.{Work}
 use Rattle.obs_exchange.specs.Lengthened.{HasLengthened}
 use Rattle.obs_islands.specs.IslandWork.{IslandWork}
-use Rattle.obs_network.specs.Network.{Rows, case_branches, case_meters, network_of, rows_of}
+use Rattle.obs_network.specs.Network.{Rows, case_branches, case_meters, case_position_count, network_of, rows_of}
 use Rattle.obs_meter.specs.Sizes.{Sizes}
 use Rattle.obs_script.specs.declared.command.Ask.{Ask}
 use Rattle.obs_script.specs.declared.fault.LineFault.{LineFault}
@@ -31,10 +31,10 @@ use Rattle.obs_edit.specs.declared.edit.Refusal.TheVariants.{NoCandidates, Unkno
 use Rattle.obs_edit.specs.declared.hand.AtHand.{AtHand}
 use Rattle.obs_edit.specs.Edits.{HasRow, IsRepaired, TakesOne, edited, nothing_at_hand}
 use Rattle.obs_edit.specs.Lines.{edit_at, is_place, meaning_of, meant_by, meant_of, refusal_of}
-use Rattle.obs_edit.specs.Planned.{Planning, offered_rows}
+use Rattle.obs_edit.specs.Planned.{Planning, offered_room}
 use Rattle.obs_edit.specs.Repairing.{CostsOwnPair}
-use Rattle.obs_edit.specs.Sessions.{AreAnswers, BoundOf, HasRoom, HasRoomToAnswer, IsPlacing, case_rows}
-use Rattle.obs_edit.proofs.Flagged.{rows-edited, same_candidates}
+use Rattle.obs_edit.specs.Sessions.{AreAnswers, BoundOf, HasRoom, HasRoomToAnswer, IsPlacing, case_room}
+use Rattle.obs_edit.proofs.Flagged.{positions-edited, rows-edited, same_candidates}
 use Rattle.obs_edit.proofs.Repaired.{AreKept-by, IsRepaired-by, few_standing}
 
 -- nothing is given up where nothing changes
@@ -67,29 +67,29 @@ repaired-same t e a rank searches stands is none =
     let kept = AreKept-by t e a a refl (λ p i. still_at (case_branches t) (case_meters t) (pairs a) p i (stands.touched p.0 p.1 (slot_from a.slots p i))) (few_standing t a) (costs_nothing e a) in
     subst (λ r. IsRepaired t a a r searches) (sym is) (subst (λ s. IsRepaired t a a (length (pairs a)) s) (sym none) (IsRepaired-by t e a a a 0 kept (no_search a)))
 
-sizes_of : Rows → Sizes
-sizes_of r = record { meters = r.meters; branches = r.branches; vertices = r.nodes }
+-- the room is that for as many rows and positions
+sizes_of : Rows → ℕ → Sizes
+sizes_of r positions = record { meters = r.meters; branches = positions; vertices = 2 * r.nodes }
 
-sizes : (t u : Tables) → rows_of t ≡ rows_of u → case_rows t ≡ case_rows u
+sizes-edited : (t : Tables) (e : Edit) → case_room t ≡ case_room (edited t e)
 unfolding sizes_of
-sizes t u rows = ap sizes_of rows
+sizes-edited t e = ap (λ r. sizes_of r (case_position_count t)) (sym (rows-edited t e)) ∙ ap (sizes_of (rows_of (edited t e))) (sym (positions-edited t e))
 
-offered_sizes_of : Rows → Sizes
-offered_sizes_of r = record { meters = r.meters + r.candidates; branches = r.branches; vertices = r.nodes }
+offered_sizes_of : Rows → ℕ → Sizes
+offered_sizes_of r positions = record { meters = r.meters + r.candidates; branches = positions; vertices = 2 * r.nodes }
 
-offered_sizes : (t u : Tables) → rows_of t ≡ rows_of u → offered_rows t ≡ offered_rows u
+offered_sizes-edited : (t : Tables) (e : Edit) → offered_room t ≡ offered_room (edited t e)
 unfolding offered_sizes_of
-offered_sizes t u rows = ap offered_sizes_of rows
+offered_sizes-edited t e = ap (λ r. offered_sizes_of r (case_position_count t)) (sym (rows-edited t e)) ∙ ap (offered_sizes_of (rows_of (edited t e))) (sym (positions-edited t e))
 
--- the room is that for as many rows
 pub room-edited : (t : Tables) (e : Edit) (a : Assignment) (w : Work) → HasRoom t a w → HasRoom (edited t e) a w
 room-edited t e a w r =
-    let rows = sym (rows-edited t e) in
+    let same = sizes-edited t e in
     record {
-      pair_meters = r.pair_meters ∙ ap (λ (x : Rows). x.meters) rows;
-      pair_branches = r.pair_branches ∙ ap (λ (x : Rows). x.branches) rows;
-      pair_vertices = r.pair_vertices ∙ ap (λ (x : Rows). x.nodes) rows;
-      work = r.work ∙ sizes t (edited t e) rows;
+      pair_meters = r.pair_meters ∙ ap (λ (x : Sizes). x.meters) same;
+      pair_branches = r.pair_branches ∙ ap (λ (x : Sizes). x.branches) same;
+      pair_vertices = r.pair_vertices ∙ ap (λ (x : Sizes). x.vertices) same;
+      work = r.work ∙ same;
     }
 
 pub answer_room-edited : (t : Tables) (e : Edit) (flags : List Bool) (listing : CriticalWork) (found : IslandWork) (list : List ℕ) (listed : ℕ)
@@ -99,7 +99,7 @@ answer_room-edited t e flags listing found list listed r =
     record {
       flags_len = r.flags_len ∙ meters;
       listing_room = r.listing_room ∙ meters;
-      islands_room = r.islands_room ∙ sizes t (edited t e) (sym (rows-edited t e));
+      islands_room = r.islands_room ∙ sizes-edited t e;
       list_len = r.list_len ∙ meters;
       within = r.within;
     }
@@ -119,7 +119,7 @@ no_answers t a flags listing found measured hand none = record {
 pub placing-edited : (t after : Tables) (e : Edit) (offered before now : Bool) (p : Planning) → after ≡ edited t e → now ≡ false → IsPlacing t offered before p → IsPlacing after offered now p
 placing-edited t after e offered before now p same none was = record {
   prices = was.prices ∙ sym (ap (λ (x : Tables). prices_of x.candidates) same ∙ ap prices_of (same_candidates t e));
-  sizes = λ some. was.sizes some ∙ (offered_sizes t (edited t e) (sym (rows-edited t e)) ∙ ap offered_rows (sym same));
+  sizes = λ some. was.sizes some ∙ (offered_sizes-edited t e ∙ ap offered_room (sym same));
   placed = λ y. absurd (false≢true (sym none ∙ y));
   pairs = λ y. absurd (false≢true (sym none ∙ y));
   stands = λ y. absurd (false≢true (sym none ∙ y));

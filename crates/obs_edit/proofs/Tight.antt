@@ -23,11 +23,11 @@ use Rattle.obs_meter.specs.Touches.{every_item, is_live, touch_at}
 use Rattle.obs_meter.proofs.Assigned.{from_matroid, live_items-distinct, to_matroid}
 use Rattle.obs_meter.proofs.Instance.{IsMatroid-graph}
 use Rattle.obs_network.specs.Network.{case_branches, case_component_count, case_meters, case_need, case_vertex_count}
-use Rattle.obs_network.specs.Observable.{IsObservable, branch_component, case_live_meters, item_component}
+use Rattle.obs_network.specs.Observable.{IsObservable, branch_component, case_live_meters, case_rank, item_component}
 use Rattle.obs_network.proofs.InComponents.{kinds_sum, touched_component}
 use Rattle.obs_network.proofs.Observed.{few_in, pairs_in}
 use Rattle.obs_network.proofs.OfCase.{case_branches-are}
-use Rattle.obs_edit.specs.Answers.{bound_meters, bound_outside, bound_rank, case_rank, component_meters, component_rank, is_critical_meter, is_meter_of}
+use Rattle.obs_edit.specs.Answers.{bound_meters, bound_outside, bound_rank, component_meters, component_rank, is_critical_meter, is_meter_of}
 
 not_not : (b : Bool) → not (not b) ≡ b
 not_not true = refl

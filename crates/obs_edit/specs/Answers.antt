@@ -2,7 +2,6 @@
 use Rattle.std.specs.Prelude.{ℕ, ◌==◌, ◌&&◌, Bool, not, List, length, filter, flat_map}
 use Rattle.std.specs.List.{range_with_len}
 use Rattle.obs_case.specs.Tables.{Tables}
-use Rattle.obs_meter.specs.Assignments.{rho_at}
 use Rattle.obs_meter.specs.Spanned.{rank_at}
 use Rattle.obs_meter.specs.Touches.{touch_at}
 use Rattle.obs_matroid.specs.Assignments.{Pair}
@@ -10,15 +9,7 @@ use Rattle.obs_exchange.specs.Critical.{critical_at, critical_meters}
 use Rattle.obs_first.specs.First.{first_pairs}
 use Rattle.obs_islands.specs.Firsts.{islands_of}
 use Rattle.obs_network.specs.Network.{case_branches, case_component_count, case_meters, case_need, case_vertex_count}
-use Rattle.obs_network.specs.Observable.{case_live_meters, is_energised_component, item_component}
-
--- the greatest length of an assignment of some meters of a case
-abbrev pub rank_of_meters : Tables → List ℕ → ℕ
-rank_of_meters t meters = rho_at (case_vertex_count t) (case_branches t) (case_meters t) meters
-
--- the rank of a case: that of its live meters
-unfoldable pub case_rank : Tables → ℕ
-case_rank t = rank_of_meters t (case_live_meters t)
+use Rattle.obs_network.specs.Observable.{case_live_meters, is_energised_component, item_component, rank_of_meters}
 
 -- whether a meter of a case is critical
 unfoldable pub is_critical_meter : Tables → ℕ → Bool
@@ -64,6 +55,6 @@ bound_outside t c = length (filter (is_critical_meter t) (component_meters t c))
 unfoldable pub case_first_pairs : Tables → List Pair
 case_first_pairs t = first_pairs (case_vertex_count t) (case_branches t) (case_meters t)
 
--- of each bus of a case the first bus of its island
+-- of each vertex of a case the first vertex of its island; the buses come first, so that of a bus is a bus
 unfoldable pub case_islands : Tables → List ℕ
 case_islands t = islands_of (case_vertex_count t) (case_branches t) (case_meters t)

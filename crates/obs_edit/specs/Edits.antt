@@ -11,8 +11,8 @@ use Rattle.obs_edit.specs.declared.edit.Applied.{Applied}
 use Rattle.obs_edit.specs.declared.edit.Edit.{Edit}
 use Rattle.obs_edit.specs.declared.edit.Edit.TheVariants.{Switch, Branch, Meter}
 use Rattle.obs_edit.specs.declared.hand.AtHand.{AtHand}
-use Rattle.obs_edit.specs.Answers.{case_rank}
-use Rattle.obs_edit.specs.Sessions.{IsRankOf, Session}
+use Rattle.obs_network.specs.Observable.{IsRankOf, case_rank}
+use Rattle.obs_edit.specs.Sessions.{Session}
 
 -- the tables after an edit: one flag of one row is set
 abbrev pub edited : Tables → Edit → Tables

@@ -7,6 +7,7 @@ use Rattle.obs_meter.specs.Spanned.{graph_matroid, joined_at}
 use Rattle.obs_meter.specs.Touches.{touch_at}
 use Rattle.obs_first.specs.First.{IsFirstAt}
 use Rattle.obs_islands.specs.Islands.{IsFirstIn, IsIslandAt, IsOnlyIslandOf}
+use Rattle.obs_network.specs.Switched.{case_bus_count}
 use Rattle.obs_network.specs.Network.{case_branches, case_component_count, case_meters, case_need, case_vertex_component, case_vertex_count}
 use Rattle.obs_network.specs.Observable.{IsObservable, branch_component, is_vertex_of}
 use Rattle.obs_edit.specs.Answers.{case_first_pairs, case_islands, component_meters}
@@ -48,6 +49,11 @@ abbrev pub IslandsAreNamed : Type 0
 IslandsAreNamed = (t : Tables) (u : ℕ) → IsValid t → u < case_vertex_count t →
     (S : ℕ → Bool) × IsOnlyIslandOf (case_vertex_count t) (case_branches t) (case_meters t) u S
     × IsFirstIn (case_vertex_count t) S (slice_index (case_islands t) u)
+
+-- a bus is named by a bus
+abbrev pub IslandsBeginWithBuses : Type 0
+IslandsBeginWithBuses = (t : Tables) (u : ℕ) → IsValid t → u < case_bus_count t →
+    slice_index (case_islands t) u < case_bus_count t
 
 -- two vertices are named alike exactly where some island has both
 abbrev pub IslandsTellApart : Type 0

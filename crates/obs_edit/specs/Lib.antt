@@ -1,7 +1,6 @@
 pub mod Answers
 pub mod Edits
 pub mod Lines
-pub mod Longest
 pub mod Planned
 pub mod Placements
 pub mod Repairing

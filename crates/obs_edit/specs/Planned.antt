@@ -54,8 +54,8 @@ case_placed_pairs t =
     placed_pairs (case_vertex_count t) (case_branches t) (case_offered t) (length t.meters) (prices_of t.candidates) (case_needed t)
 
 -- the sizes of a work value for a case where candidates count as meters
-abbrev pub offered_rows : Tables → Sizes
-offered_rows t = record { meters = length t.meters + length t.candidates; branches = case_position_count t; vertices = case_vertex_room t }
+abbrev pub offered_room : Tables → Sizes
+offered_room t = record { meters = length t.meters + length t.candidates; branches = case_position_count t; vertices = case_vertex_room t }
 
 -- no rows
 abbrev pub no_rows : Sizes
@@ -84,4 +84,4 @@ planning_of sizes prices = record { placed = nothing_placed; pairs = no_pairs si
 
 -- as it is made for a case: there is room for a placement where candidates were given
 abbrev pub new_planning : Bool → Tables → Planning
-new_planning offered t = planning_of (if offered then offered_rows t else no_rows) (prices_of t.candidates)
+new_planning offered t = planning_of (if offered then offered_room t else no_rows) (prices_of t.candidates)

@@ -6,13 +6,12 @@ use Rattle.obs_assign.specs.Assignment.{Assignment, StandsOver, pairs}
 use Rattle.obs_exchange.specs.Found.{Work}
 use Rattle.obs_critical.specs.Listed.{CriticalWork}
 use Rattle.obs_islands.specs.IslandWork.{IslandWork}
-use Rattle.obs_meter.specs.Assignments.{IsRhoAt}
 use Rattle.obs_meter.specs.Sizes.{Sizes}
 use Rattle.obs_network.specs.Network.{case_branches, case_meters, case_offered, case_position_count, case_vertex_room, network_of}
 use Rattle.obs_network.specs.Observable.{case_live_meters}
 use Rattle.obs_edit.specs.Answers.{bound_meters, bound_outside, bound_rank, case_critical_meters, case_first_pairs, case_islands, is_critical_meter}
-use Rattle.obs_edit.specs.Longest.{IsLongest}
-use Rattle.obs_edit.specs.Planned.{Planning, case_placed_pairs, case_placement, offered_rows}
+use Rattle.obs_exchange.specs.Longest.{IsLongest}
+use Rattle.obs_edit.specs.Planned.{Planning, case_placed_pairs, case_placement, offered_room}
 use Rattle.obs_edit.specs.declared.hand.AtHand.{AtHand}
 
 -- a session: the present case, whether it was begun with candidates, the kept pairs, and what is at hand
@@ -22,24 +21,20 @@ pub record Session : Type 0 where
   pub pairs : Assignment
   pub at_hand : AtHand
 
--- the rank of a case: the greatest number of pairs of its live meters
-abbrev pub IsRankOf : Tables → ℕ → Type 0
-IsRankOf t r = IsRhoAt (case_branches t) (case_meters t) (case_live_meters t) r
-
 -- the pairs are a longest assignment over the network of a case, and nothing is frozen
 abbrev pub AreLongest : Tables → Assignment → Type 0
 AreLongest t a = IsLongest (network_of t).graph (case_meters t) a
 
 -- the sizes of a work value for a case, whichever switches are closed
-abbrev pub case_rows : Tables → Sizes
-case_rows t = record { meters = length t.meters; branches = case_position_count t; vertices = case_vertex_room t }
+abbrev pub case_room : Tables → Sizes
+case_room t = record { meters = length t.meters; branches = case_position_count t; vertices = case_vertex_room t }
 
 -- there is room for every case with as many rows
 pub record HasRoom (t : Tables) (a : Assignment) (w : Work) : Type 0 where
   pub pair_meters : a.most_meters ≡ length t.meters
   pub pair_branches : a.forest.most_branches ≡ case_position_count t
   pub pair_vertices : a.forest.most_vertices ≡ case_vertex_room t
-  pub work : w.sizes ≡ case_rows t
+  pub work : w.sizes ≡ case_room t
 
 -- the flags mark, of the live meters, those that aren't critical
 pub record AreMarks (t : Tables) (flags : List Bool) : Type 0 where
@@ -60,7 +55,7 @@ case_bound t c = record { inside = bound_meters t c; rank = bound_rank t c; outs
 pub record HasRoomToAnswer (t : Tables) (flags : List Bool) (listing : CriticalWork) (found : IslandWork) (list : List ℕ) (listed : ℕ) : Type 0 where
   pub flags_len : length flags ≡ length t.meters
   pub listing_room : listing.most_meters ≡ length t.meters
-  pub islands_room : found.sizes ≡ case_rows t
+  pub islands_room : found.sizes ≡ case_room t
   pub list_len : length list ≡ length t.meters
   pub within : listed ≤ length list
 
@@ -76,7 +71,7 @@ pub record AreAnswers (t : Tables) (a : Assignment) (flags : List Bool) (listing
 -- of the case, with its pairs
 pub record IsPlacing (t : Tables) (offered at_hand : Bool) (p : Planning) : Type 0 where
   pub prices : p.prices ≡ prices_of t.candidates
-  pub sizes : offered ≡ true → p.sizes ≡ offered_rows t
+  pub sizes : offered ≡ true → p.sizes ≡ offered_room t
   pub placed : at_hand ≡ true → p.placed ≡ case_placement t
   pub pairs : at_hand ≡ true → pairs p.pairs ≡ case_placed_pairs t
   pub stands : at_hand ≡ true → StandsOver p.pairs (network_of t).graph (case_offered t)

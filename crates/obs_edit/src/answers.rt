@@ -8,6 +8,7 @@ use crate::memory::NoMemory;
 use obs_case::Case;
 use obs_critical::CriticalWork;
 use obs_islands::IslandWork;
+use obs_network::{position_count, vertex_room};
 use std::alloc::Global;
 
 /// What was found in the present case beside the pairs.
@@ -44,12 +45,12 @@ pub(crate) fn make_answers(alloc: Global, case: &Case) -> Result<Answers, NoMemo
         record { first = false; critical = false; islands = false; bound = None; placed = false }) }
 {
     let meters = case.meters().len();
-    let branches = case.branches().len() as u32;
-    let nodes = case.nodes().len() as u32;
+    let positions = position_count(case);
+    let vertices = vertex_room(case);
     Ok(Answers {
         marks: vec![in alloc; false; meters]?,
         critical: CriticalWork::make(alloc, meters as u32)?,
-        islands: IslandWork::make(alloc, meters as u32, branches, nodes)?,
+        islands: IslandWork::make(alloc, meters as u32, positions, vertices)?,
         inside: vec![in alloc; 0; meters]?,
         measured: Measured {
             listed: 0,

@@ -3,14 +3,13 @@ ghost use Rattle.std.specs.Prelude.{◌≡◌, ◌<◌, ◌≤◌, length, take}
 ghost use Rattle.obs_assign.specs.Assignment.{pairs};
 ghost use Rattle.obs_network.specs.Network.{case_component_count, network_of};
 ghost use Rattle.obs_edit.specs.Answers.{bound_meters, bound_outside, bound_rank, case_critical_meters, case_first_pairs, case_islands};
-ghost use Rattle.obs_edit.specs.Sessions.{AreLongest, AreMarks, HasRoom, case_rows};
+ghost use Rattle.obs_edit.specs.Sessions.{AreLongest, AreMarks, HasRoom, case_room};
 
 use crate::components::{count_paired, list_marked};
-use crate::kept::close;
 use obs_assign::{Assignment, Steps};
 use obs_case::Case;
 use obs_critical::CriticalWork;
-use obs_exchange::Work;
+use obs_exchange::{Work, close};
 use obs_islands::IslandWork;
 use obs_network::Network;
 use std::sync::ledger::Ledger;
@@ -75,7 +74,7 @@ pub(crate) fn find_islands<L: Ledger>(
     steps: &mut Steps<L>,
 )
     requires network { network.now ≡ network_of case.now }
-    requires room { islands.old.sizes ≡ case_rows case.now }
+    requires room { islands.old.sizes ≡ case_room case.now }
     ensures islands { islands.new.firsts ≡ case_islands case.now }
     ensures same_sizes { islands.new.sizes ≡ islands.old.sizes }
 {

@@ -111,7 +111,8 @@ impl Session {
         self.answers.critical.list()
     }
 
-    /// Of each bus of the present case the first bus of its island, where the islands are at hand.
+    /// Of each vertex of the present case the first vertex of its island, where the islands are at hand. The buses come
+    /// first, so that of a bus is a bus.
     pub fn found_islands(&self) -> &[u32]
         requires islands { self.now.at_hand.islands ≡ true }
         ensures islands { result.now ≡ case_islands self.now.tables }

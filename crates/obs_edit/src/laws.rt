@@ -1,5 +1,5 @@
 // The laws of what a session finds.
-ghost use Rattle.obs_edit.specs.Laws.{IslandsAreNamed, IslandsLieInComponents, IslandsTellApart, ObservableIsIsland, TreesAreFirst, TreesAreWhole, TreesSpan, TreesStandAlone};
+ghost use Rattle.obs_edit.specs.Laws.{IslandsAreNamed, IslandsBeginWithBuses, IslandsLieInComponents, IslandsTellApart, ObservableIsIsland, TreesAreFirst, TreesAreWhole, TreesSpan, TreesStandAlone};
 ghost use Rattle.obs_edit.specs.Placements.{LayersAddUp, LayersAreBounds, LayersBoundCosts, PlansAreCheapest, PlansComplete, PlansHaveFirstPairs, ShortfallsRefute};
 ghost use Rattle.obs_edit.specs.Planned.{PlanPairsAreFirst};
 
@@ -12,7 +12,8 @@ pub fn plan_pairs_are_first()
 
 /// The pairs of a tree are the first assignment of the live meters of its component alone: no assignment of these is
 /// longer, and of those that are as long none comes before it. So the meters of other components make no difference to
-/// them. In an observable component they are as many as it needs, and their branches join all its buses.
+/// them. In an observable component they are as many as it needs, and their branches join all its vertices: its
+/// buses, and its reference vertex where it is absolute.
 pub fn trees_are_first()
     ensures first { TreesAreFirst }
     ensures alone { TreesStandAlone }
@@ -20,14 +21,16 @@ pub fn trees_are_first()
     ensures spanning { TreesSpan }
 {}
 
-/// Each bus lies in exactly one island, and is named by the first bus of that island. Two buses are named alike exactly
-/// where some island has both.
+/// Each vertex lies in exactly one island, and is named by the first vertex of that island, which is a bus where the
+/// island has one. Two vertices are named alike exactly where some island has both.
 pub fn islands_are_named()
     ensures named { IslandsAreNamed }
     ensures alike { IslandsTellApart }
+    ensures bus { IslandsBeginWithBuses }
 {}
 
-/// An island lies in one component. A component is observable exactly where its buses are an island.
+/// An island lies in one component. A component is observable exactly where its vertices are an island: its buses, and
+/// its reference vertex where it is absolute.
 pub fn observable_is_island()
     ensures in_component { IslandsLieInComponents }
     ensures island { ObservableIsIsland }

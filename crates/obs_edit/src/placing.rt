@@ -6,7 +6,7 @@ ghost use Rattle.obs_meter.specs.Touches.{AreInRange};
 ghost use Rattle.obs_assign.specs.Assignment.{StandsOver, pairs as pairs_at};
 ghost use Rattle.obs_placement.specs.Placed.{placed_of, placement_of};
 ghost use Rattle.obs_network.specs.Network.{network_of};
-ghost use Rattle.obs_edit.specs.Planned.{case_placed_pairs, case_placement, new_planning, offered_rows, placed_pairs, planning_of};
+ghost use Rattle.obs_edit.specs.Planned.{case_placed_pairs, case_placement, new_planning, offered_room, placed_pairs, planning_of};
 
 use crate::memory::NoMemory;
 use crate::pairing::Pairing;
@@ -14,7 +14,7 @@ use obs_assign::{Assignment, Steps};
 use obs_case::{Candidate, Case};
 use obs_graph::Graph;
 use obs_meter::Meters;
-use obs_network::Network;
+use obs_network::{Network, position_count, vertex_room};
 use obs_placement::{PlaceWork, Placement, find_placement};
 use std::alloc::Global;
 use std::marker::Model;
@@ -82,22 +82,22 @@ fn list_prices(alloc: Global, candidates: &[Candidate]) -> Result<Vec<u64>, NoMe
 }
 
 impl Placing {
-    // Room for a placement of so many items, branches and nodes, with the prices of this case.
+    // Room for a placement of so many items, positions and vertices, with the prices of this case.
     fn with_room(
         alloc: Global,
         case: &Case,
         items: u32,
-        branches: u32,
-        nodes: u32,
+        positions: u32,
+        vertices: u32,
     ) -> Result<Placing, NoMemory>
         ensures empty { IfOk result (λ p. p ≡ planning_of
-            (record { meters = items; branches = branches; vertices = nodes }) (prices_of case.now.candidates)) }
+            (record { meters = items; branches = positions; vertices = vertices }) (prices_of case.now.candidates)) }
     {
         let _nodes = case.nodes();
         Ok(Placing {
             prices: list_prices(alloc, case.candidates())?,
-            work: PlaceWork::make(alloc, items, branches, nodes)?,
-            paired: Pairing::make(alloc, items, branches, nodes)?,
+            work: PlaceWork::make(alloc, items, positions, vertices)?,
+            paired: Pairing::make(alloc, items, positions, vertices)?,
         })
     }
 
@@ -109,9 +109,7 @@ impl Placing {
             return Placing::with_room(alloc, case, 0, 0, 0);
         }
         let items = case.meters().len() as u32 + case.candidates().len() as u32;
-        let branches = case.branches().len() as u32;
-        let nodes = case.nodes().len() as u32;
-        Placing::with_room(alloc, case, items, branches, nodes)
+        Placing::with_room(alloc, case, items, position_count(case), vertex_room(case))
     }
 
     /// Finds the placement of so many meters and then the candidates, and its pairs. No memory is taken.
@@ -170,7 +168,7 @@ pub(crate) fn place<L: Ledger>(
 )
     requires network { network.now ≡ network_of case.now }
     requires prices { placing.old.prices ≡ prices_of case.now.candidates }
-    requires sizes { placing.old.sizes ≡ offered_rows case.now }
+    requires sizes { placing.old.sizes ≡ offered_room case.now }
     ensures placed { placing.new.placed ≡ case_placement case.now }
     ensures pairs { pairs_at placing.new.pairs ≡ case_placed_pairs case.now }
     ensures stands { StandsOver placing.new.pairs network.now.graph network.now.offered.touches }

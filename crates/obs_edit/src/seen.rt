@@ -86,7 +86,7 @@ impl Session {
         }
     }
 
-    /// Of each bus of the present case the first bus of its island.
+    /// Of each vertex of the present case the first vertex of its island; of a bus it is a bus.
     pub fn islands<L: Ledger>(&mut self, steps: &mut Steps<L>) -> Seen<'_, &[u32]>
         ensures case { result.case.now ≡ self.old.tables }
         ensures network { result.network.now ≡ network_of self.old.tables }

@@ -2,11 +2,10 @@
 ghost use Rattle.std.specs.Prelude.{◌≡◌, ◌+◌, ◌<◌, ◌↔◌, true, Err, IfErr, IfOk, OnErr, IsTrue, length};
 ghost use Rattle.obs_assign.specs.Assignment.{pairs};
 ghost use Rattle.obs_network.specs.Network.{case_component_count, case_needed, network_of};
-ghost use Rattle.obs_network.specs.Observable.{IsObservable, is_energised_component};
-ghost use Rattle.obs_edit.specs.Answers.{case_rank};
+ghost use Rattle.obs_network.specs.Observable.{IsObservable, IsRankOf, case_rank, is_energised_component};
 ghost use Rattle.obs_edit.specs.Edits.{HasRow, IsEdited};
 ghost use Rattle.obs_edit.specs.Lines.{IsDone, meant_of, searches_of};
-ghost use Rattle.obs_edit.specs.Sessions.{AreLongest, IsRankOf};
+ghost use Rattle.obs_edit.specs.Sessions.{AreLongest};
 
 use crate::answers::{Answers, make_answers};
 use crate::counted::has_enough;

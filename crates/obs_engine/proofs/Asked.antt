@@ -20,7 +20,7 @@ use Rattle.obs_islands.proofs.Firsts.{first_in, partition}
 use Rattle.obs_network.specs.Network.{Network, case_branches, case_component_count, case_meters, case_need, case_vertex_count, network_of}
 use Rattle.obs_network.proofs.OfCase.{case_branches-are}
 use Rattle.obs_network.specs.Located.{live_meters_of}
-use Rattle.obs_network.specs.Observable.{IsObservable, case_live_meters, is_energised_component}
+use Rattle.obs_network.specs.Observable.{IsObservable, case_live_meters, case_rank, is_energised_component}
 use Rattle.obs_network.proofs.Listed.{no_pairs_in}
 use Rattle.obs_report.specs.Counts.{counts_text}
 use Rattle.obs_report.specs.Islands.{islands_text}
@@ -29,7 +29,7 @@ use Rattle.obs_report.specs.Printed.{AppendsAt}
 use Rattle.obs_report.specs.Items.{pair_line}
 use Rattle.obs_report.specs.Trees.{tree_line, tree_text}
 use Rattle.obs_report.proofs.Printing.{and_then_none}
-use Rattle.obs_edit.specs.Answers.{bound_meters, bound_outside, bound_rank, case_critical_meters, case_first_pairs, case_islands, case_rank, component_rank}
+use Rattle.obs_edit.specs.Answers.{bound_meters, bound_outside, bound_rank, case_critical_meters, case_first_pairs, case_islands, component_rank}
 use Rattle.obs_edit.specs.Sessions.{AreLongest}
 use Rattle.obs_edit.proofs.Enough.{live_pairs}
 use Rattle.obs_edit.proofs.Tight.{observable-from, observable-to}

@@ -9,8 +9,7 @@ use Rattle.std.proofs.lemmas.List.Sums.{sum_by-le-sum_by}
 use Rattle.obs_text.specs.Faults.{Fault, too_long}
 use Rattle.obs_text.specs.Limits.{most_file_bytes}
 use Rattle.obs_case.specs.Tables.{IsValid, Tables}
-use Rattle.obs_network.specs.Components.{need_of}
-use Rattle.obs_network.specs.Network.{case_component_count, case_sizes}
+use Rattle.obs_network.specs.Network.{case_component_count, case_need}
 use Rattle.obs_network.specs.Observable.{is_energised_component}
 use Rattle.obs_report.specs.Lines.{last_line}
 use Rattle.obs_report.specs.Meters.{bound_text}
@@ -50,7 +49,7 @@ module _ (t : Tables) where
   component_length : (trees bounds : Bool) (c : ℕ) → length (component_claim trees bounds t c)
       ≤ length (tree_text t c (case_first_pairs t)) + length (bound_text t c (bound_meters t c) (bound_rank t c) (bound_outside t c))
   unfolding component_claim tree_claim bound_claim
-  component_length trees bounds c = either_length (is_energised_component t c) (component_rank t c == need_of (case_sizes t) c) trees bounds _ _
+  component_length trees bounds c = either_length (is_energised_component t c) (component_rank t c == case_need t c) trees bounds _ _
 
   claims_length : (trees bounds : Bool) → IsValid t → length (claims_text trees bounds t) + length last_line ≤ most_file_bytes
   unfolding claims_text

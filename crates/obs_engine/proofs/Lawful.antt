@@ -14,14 +14,14 @@ use Rattle.obs_meter.proofs.Assigned.{live_items-distinct, rho_at-is}
 use Rattle.obs_exchange.specs.Critical.{IsCriticalAt, critical_at}
 use Rattle.obs_exchange.proofs.Lawful.{critical_at-exactly}
 use Rattle.obs_network.specs.Network.{case_branches, case_component_count, case_meters, case_need, case_needed, case_vertex_count}
-use Rattle.obs_network.specs.Observable.{IsObservable, IsObservableCase, branch_component, case_live_meters, is_energised_component, item_component}
+use Rattle.obs_network.specs.Observable.{IsObservable, IsObservableCase, branch_component, case_live_meters, case_rank, is_energised_component, item_component}
 use Rattle.obs_network.proofs.Marked.{filtered_below}
 use Rattle.obs_network.proofs.Observed.{observed_by_rho}
 use Rattle.obs_network.proofs.OfCase.{case_branches-are}
 use Rattle.obs_engine.specs.declared.status.Status.TheVariants.{Done, Short}
 use Rattle.obs_report.specs.Counts.{verdict_word}
 use Rattle.obs_engine.specs.Laws.{ListsNonCritical}
-use Rattle.obs_edit.specs.Answers.{bound_meters, bound_outside, bound_rank, case_critical_meters, case_rank, component_meters, component_rank, is_critical_meter, is_meter_of, is_short, short_components}
+use Rattle.obs_edit.specs.Answers.{bound_meters, bound_outside, bound_rank, case_critical_meters, component_meters, component_rank, is_critical_meter, is_meter_of, is_short, short_components}
 use Rattle.obs_engine.specs.Asks.{report_status}
 use Rattle.obs_engine.proofs.OfNetwork.{verdict_done, verdict_short}
 use Rattle.obs_edit.proofs.Tight.{bound_is, most_is, observable-from, observable-to, rank_few}

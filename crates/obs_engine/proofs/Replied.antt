@@ -22,7 +22,7 @@ use Rattle.obs_script.specs.declared.command.Ask.{Ask}
 use Rattle.obs_script.specs.declared.command.Ask.TheVariants.{Status as StatusAsk, Tree, Bound, Islands, Critical, Report as ReportAsk, Place as PlaceAsk, Cert}
 use Rattle.obs_text.specs.Faults.{Fault}
 use Rattle.obs_text.specs.Lines.{lines_of}
-use Rattle.obs_edit.specs.Answers.{case_rank}
+use Rattle.obs_network.specs.Observable.{case_rank}
 use Rattle.obs_edit.specs.Planned.{case_placement}
 use Rattle.obs_engine.specs.declared.status.Status.{Status}
 use Rattle.obs_engine.specs.declared.status.Status.TheVariants.{Done, Short, InputFault, SessionTooLong}

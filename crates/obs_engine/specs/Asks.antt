@@ -5,7 +5,7 @@ use Rattle.obs_case.specs.Tables.{Tables}
 use Rattle.obs_placement.specs.Placed.{Placed}
 use Rattle.obs_placement.specs.Placed.Placed.{cheapest, shortfall}
 use Rattle.obs_network.specs.Network.{case_component_count, case_need, case_needed, network_of}
-use Rattle.obs_network.specs.Observable.{is_energised_component}
+use Rattle.obs_network.specs.Observable.{case_rank, is_energised_component}
 use Rattle.obs_report.specs.Counts.{counts_text}
 use Rattle.obs_report.specs.Islands.{islands_text}
 use Rattle.obs_report.specs.Lines.{last_line}
@@ -14,7 +14,7 @@ use Rattle.obs_report.specs.Placements.{placement_text}
 use Rattle.obs_report.specs.Trees.{tree_text}
 use Rattle.obs_script.specs.declared.command.Ask.{Ask}
 use Rattle.obs_script.specs.declared.command.Ask.TheVariants.{Status as StatusAsk, Tree, Bound, Islands as IslandsAsk, Critical as CriticalAsk, Report, Place, Cert}
-use Rattle.obs_edit.specs.Answers.{bound_meters, bound_outside, bound_rank, case_critical_meters, case_first_pairs, case_islands, case_rank, component_rank}
+use Rattle.obs_edit.specs.Answers.{bound_meters, bound_outside, bound_rank, case_critical_meters, case_first_pairs, case_islands, component_rank}
 use Rattle.obs_edit.specs.Planned.{case_placed_pairs, case_placement}
 use Rattle.obs_engine.specs.declared.blocks.Block.{Block}
 use Rattle.obs_engine.specs.declared.blocks.Block.TheVariants.{Counts, Trees, Bounds, Claims, Islands, Critical, Placement}

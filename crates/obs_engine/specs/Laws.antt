@@ -4,7 +4,7 @@ use Rattle.obs_case.specs.Tables.{IsValid, Tables}
 use Rattle.obs_matroid.specs.Lists.{In}
 use Rattle.obs_exchange.specs.Critical.{IsCriticalAt}
 use Rattle.obs_network.specs.Network.{case_branches, case_meters}
-use Rattle.obs_network.specs.Observable.{case_live_meters, item_component}
+use Rattle.obs_network.specs.Observable.{case_live_meters, case_rank, item_component}
 use Rattle.obs_engine.specs.declared.words.CaseForm.{CaseForm}
 use Rattle.obs_engine.specs.declared.words.CaseCommand.TheVariants.{Report}
 use Rattle.obs_engine.specs.declared.words.Form.{Form}
@@ -22,7 +22,7 @@ use Rattle.obs_text.specs.Numbers.{whole_of}
 use Rattle.obs_edit.specs.declared.edit.Edit.{Edit}
 use Rattle.obs_edit.specs.declared.edit.Meant.TheVariants.{Edits, Asks}
 use Rattle.obs_edit.specs.declared.edit.Refusal.{Refusal}
-use Rattle.obs_edit.specs.Answers.{bound_meters, case_rank}
+use Rattle.obs_edit.specs.Answers.{bound_meters}
 use Rattle.obs_edit.specs.Edits.{edited}
 use Rattle.obs_edit.specs.Lines.{meant_of, refusal_code, refusal_name}
 use Rattle.obs_engine.specs.Asks.{ask_text}

@@ -8,7 +8,7 @@ use Rattle.obs_script.specs.Gathered.{content_of, is_comment}
 use Rattle.obs_edit.specs.declared.edit.Meant.{Meant}
 use Rattle.obs_edit.specs.declared.edit.Meant.TheVariants.{Edits, Asks}
 use Rattle.obs_edit.specs.declared.edit.Refusal.{Refusal}
-use Rattle.obs_edit.specs.Answers.{case_rank}
+use Rattle.obs_network.specs.Observable.{case_rank}
 use Rattle.obs_edit.specs.Edits.{edited}
 use Rattle.obs_edit.specs.Lines.{meant_of, refusal_code, refusal_name}
 use Rattle.obs_engine.specs.Asks.{ask_text}

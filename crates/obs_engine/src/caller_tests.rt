@@ -54,12 +54,14 @@ fn is_plan(found: Placement<'_>, layers: &[Layer], inside: &[u32]) -> bool {
 }
 
 // The asks of a path whose first branch has two meters and whose second bus an injection, and of which two buses stand
-// apart. Two candidates complete it.
+// apart. Two candidates complete it. The islands are those of the six buses and, behind them, of two reference vertices.
 fn asks_of_a_path<L: Ledger>(rt: &impl Abort, session: &mut Session, steps: &mut Steps<L>) {
     let seen = session.critical(steps);
     assert!(rt; seen.found == [2].as_slice() && seen.case.meters().len() == 5);
     let seen = session.islands(steps);
-    assert!(rt; seen.found == [0, 0, 0, 3, 4, 5].as_slice() && seen.network.components() == 2);
+    assert!(rt;
+        seen.found == [0, 0, 0, 3, 4, 5, 6, 7].as_slice() && seen.network.components() == 2
+    );
     assert!(rt; session.network().components() == 2);
     assert!(rt; session.network().energised(0));
     assert!(rt; !session.observable(0));

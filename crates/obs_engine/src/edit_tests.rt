@@ -1,7 +1,8 @@
 // Edits of each kind on a grid, forth and back, against sessions that begin anew.
 
 use crate::Status;
-use crate::grids::{Grid, make_grid};
+use crate::grids::{Grid, make_grid, make_marked_rows};
+use crate::reference_cases::{Tables, answers_anew};
 use crate::tests::{Ended, outcome, taking};
 use crate::worked::SESSION;
 use obs_text::{Digits, lines};
@@ -72,7 +73,8 @@ fn turn(input: &mut Vec<u8>, word: &[u8], letter: &[u8], row: usize) -> Result<(
     Ok(())
 }
 
-// What a session that begins with a row's flag turned answers to the edit that turned it, which leaves its tables as they are.
+// What a session that begins with a row's flag turned answers to the edit that turned it, which leaves its tables as
+// they are.
 fn answer_anew(
     alloc: Global,
     grid: &Grid,
@@ -93,8 +95,8 @@ fn answer_anew(
     session(alloc, grid, changed, &line)
 }
 
-// Each row's flag is turned and turned back in one session. Back it answers as at first, and forth, of each so many rows, as a
-// session that begins with the tables as they are then.
+// Each row's flag is turned and turned back in one session. Back it answers as at first, and forth, of each so many
+// rows, as a session that begins with the tables as they are then.
 fn answers_as_anew(
     rt: &impl Abort,
     alloc: Global,
@@ -134,4 +136,79 @@ fn edits_are_as_a_new_session(rt: HostRuntime) -> Result<(), Fail> {
     answers_as_anew(&rt, rt.alloc(), &grid, 0, 10, 1)?;
     answers_as_anew(&rt, rt.alloc(), &grid, 1, 180, 7)?;
     answers_as_anew(&rt, rt.alloc(), &grid, 2, 180, 7)
+}
+
+// Whether the line of a row ends with a set flag.
+fn is_set(bytes: &[u8], row: usize) -> bool {
+    let mut at = 0_usize;
+    for line in lines(bytes) {
+        if at == row.saturating_add(1) {
+            return line.ends_with(b"1");
+        }
+        at = at.wrapping_add(1);
+    }
+    false
+}
+
+// After each flag of a table was turned, all answers are those of a session that begins with it so, and after all
+// were turned forth and back, those of the tables as they were.
+fn turns_as_anew(
+    rt: &impl Abort,
+    alloc: Global,
+    tables: Tables<'_>,
+    table: usize,
+    rows: usize,
+) -> Result<(), Fail> {
+    let words = *TURNS.get(table).ok_or("no table")?;
+    let bytes = match table {
+        0 => tables.switches,
+        1 => tables.branches,
+        _ => tables.meters,
+    };
+    let mut all = Vec::new(alloc);
+    for row in 0..rows {
+        let forth = is_set(bytes, row) == (table != 0);
+        let (forth, back) = if forth {
+            (words.forth, words.back)
+        } else {
+            (words.back, words.forth)
+        };
+        let mut edits = Vec::new(alloc);
+        turn(&mut edits, forth, words.letter, row)?;
+        turn(&mut all, forth, words.letter, row)?;
+        turn(&mut all, back, words.letter, row)?;
+        let now = turned(alloc, bytes, row)?;
+        let changed = match table {
+            0 => Tables {
+                switches: &now,
+                ..tables
+            },
+            1 => Tables {
+                branches: &now,
+                ..tables
+            },
+            _ => Tables {
+                meters: &now,
+                ..tables
+            },
+        };
+        answers_anew(rt, alloc, tables, &edits, changed)?;
+    }
+    answers_anew(rt, alloc, tables, &all, tables)
+}
+
+// Three rows of three nodes, of which some have a source, and some a mark.
+#[test]
+fn edits_of_marked_rows_are_as_a_new_session(rt: HostRuntime) -> Result<(), Fail> {
+    let grid = make_marked_rows(rt.alloc(), 3, 11)?;
+    let tables = Tables {
+        nodes: &grid.nodes,
+        switches: &grid.switches,
+        branches: &grid.branches,
+        meters: &grid.meters,
+        candidates: &grid.candidates,
+    };
+    turns_as_anew(&rt, rt.alloc(), tables, 0, 3)?;
+    turns_as_anew(&rt, rt.alloc(), tables, 1, 12)?;
+    turns_as_anew(&rt, rt.alloc(), tables, 2, 12)
 }

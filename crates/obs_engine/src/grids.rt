@@ -17,6 +17,8 @@ pub(crate) struct Grid {
     links: u64,
     out: u64,
     drawn: u64,
+    // Whether nodes are marked, and every third meter measures an angle.
+    marked: bool,
 }
 
 // Written out: so a caller's proof sees one call, and not the drop of each field.
@@ -32,6 +34,7 @@ impl Drop for Grid {
             links: _,
             out: _,
             drawn: _,
+            marked: _,
         } = self;
     }
 }
@@ -46,11 +49,11 @@ fn put(bytes: &mut Vec<u8>, front: &[u8], number: u64, rest: &[u8]) -> Result<()
 }
 
 // A branch between two nodes, and its meter.
-fn link(grid: &mut Grid, from: u64, to: u64) -> Result<(), Fail> {
+fn link(grid: &mut Grid, from: u64, to: u64, rest: &[u8]) -> Result<(), Fail> {
     let at = grid.links;
     put(&mut grid.branches, b"b", at, b",")?;
     put(&mut grid.branches, b"n", from, b",")?;
-    put(&mut grid.branches, b"n", to, b",1\n")?;
+    put(&mut grid.branches, b"n", to, rest)?;
     grid.drawn = grid.drawn.wrapping_mul(1_103_515_245).wrapping_add(12345) % 2_147_483_648;
     put(&mut grid.meters, b"m", at, b",")?;
     let rest = if grid.out != 0 && at % grid.out == 0 {
@@ -61,6 +64,8 @@ fn link(grid: &mut Grid, from: u64, to: u64) -> Result<(), Fail> {
     let draw = grid.drawn / 65536;
     if draw % 3 == 0 {
         put(&mut grid.meters, b"flow,b", at, rest)?;
+    } else if grid.marked && draw % 3 == 2 {
+        put(&mut grid.meters, b"angle,n", to, rest)?;
     } else {
         let end = if draw % 3 == 1 { from } else { to };
         put(&mut grid.meters, b"injection,n", end, rest)?;
@@ -74,10 +79,10 @@ fn link(grid: &mut Grid, from: u64, to: u64) -> Result<(), Fail> {
     Ok(())
 }
 
-// So many rows of as many nodes. Each meter whose number is a multiple of `out` is out of service; of 0 none is.
-pub(crate) fn make_grid(alloc: Global, rows: u64, seed: u64, out: u64) -> Result<Grid, Fail> {
-    let mut grid = Grid {
-        nodes: Vec::from_slice(alloc, b"node,source\n")?,
+// The headers alone.
+fn empty(alloc: Global, nodes: &[u8], seed: u64, out: u64, marked: bool) -> Result<Grid, Fail> {
+    Ok(Grid {
+        nodes: Vec::from_slice(alloc, nodes)?,
         switches: Vec::from_slice(alloc, b"switch,from,to,closed\n")?,
         branches: Vec::from_slice(alloc, b"branch,from,to,inservice\n")?,
         candidates: Vec::from_slice(alloc, b"candidate,kind,at,price\n")?,
@@ -86,7 +91,13 @@ pub(crate) fn make_grid(alloc: Global, rows: u64, seed: u64, out: u64) -> Result
         links: 0,
         out,
         drawn: seed % 2_147_483_648,
-    };
+        marked,
+    })
+}
+
+// So many rows of as many nodes. Each meter whose number is a multiple of `out` is out of service; of 0 none is.
+pub(crate) fn make_grid(alloc: Global, rows: u64, seed: u64, out: u64) -> Result<Grid, Fail> {
+    let mut grid = empty(alloc, b"node,source\n", seed, out, false)?;
     for row in 0..rows {
         let head = row.wrapping_mul(rows);
         put(&mut grid.switches, b"s", row, b",")?;
@@ -97,10 +108,49 @@ pub(crate) fn make_grid(alloc: Global, rows: u64, seed: u64, out: u64) -> Result
             let source = if at == 0 { b",1\n" } else { b",0\n" };
             put(&mut grid.nodes, b"n", at, source)?;
             if column.wrapping_add(1) < rows {
-                link(&mut grid, at, at.wrapping_add(1))?;
+                link(&mut grid, at, at.wrapping_add(1), b",1\n")?;
             }
             if row.wrapping_add(1) < rows {
-                link(&mut grid, at, at.wrapping_add(rows))?;
+                link(&mut grid, at, at.wrapping_add(rows), b",1\n")?;
+            }
+        }
+    }
+    Ok(grid)
+}
+
+// So many rows of as many nodes, each row a component: the branches from row to row are out of service, and a switch
+// leads from the head of a row to that of the next. Every second row has a source, and two of three a mark.
+pub(crate) fn make_marked_rows(alloc: Global, rows: u64, seed: u64) -> Result<Grid, Fail> {
+    let mut grid = empty(alloc, b"node,source,absolute\n", seed, 0, true)?;
+    for row in 0..rows {
+        let head = row.wrapping_mul(rows);
+        put(&mut grid.switches, b"s", row, b",")?;
+        put(&mut grid.switches, b"n", head, b",")?;
+        let next = if row.wrapping_add(1) < rows {
+            head.wrapping_add(rows)
+        } else {
+            0
+        };
+        put(&mut grid.switches, b"n", next, b",0\n")?;
+        for column in 0..rows {
+            let at = head.wrapping_add(column);
+            let source = if column == 1 && row % 2 == 0 {
+                b",1"
+            } else {
+                b",0"
+            };
+            put(&mut grid.nodes, b"n", at, source)?;
+            let mark = if column == 2 && row % 3 != 2 {
+                b",1\n"
+            } else {
+                b",0\n"
+            };
+            grid.nodes.extend_from_slice(mark)?;
+            if column.wrapping_add(1) < rows {
+                link(&mut grid, at, at.wrapping_add(1), b",1\n")?;
+            }
+            if row.wrapping_add(1) < rows {
+                link(&mut grid, at, at.wrapping_add(rows), b",0\n")?;
             }
         }
     }

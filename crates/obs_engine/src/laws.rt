@@ -6,7 +6,7 @@ ghost use Rattle.obs_matroid.specs.Assignments.{Pair};
 ghost use Rattle.obs_meter.specs.Assignments.{IsAssignmentAt, IsRhoAt};
 ghost use Rattle.obs_exchange.specs.Critical.{IsCriticalAt};
 ghost use Rattle.obs_network.specs.Network.{case_branches, case_component_count, case_meters, case_need, case_needed};
-ghost use Rattle.obs_network.specs.Observable.{IsObservable, IsObservableCase, branch_component, case_live_meters, is_energised_component};
+ghost use Rattle.obs_network.specs.Observable.{IsObservable, IsObservableCase, branch_component, case_live_meters, case_rank, is_energised_component};
 ghost use Rattle.obs_cert.specs.Claims.{Claim};
 ghost use Rattle.obs_cert.specs.Read.{claims_of};
 ghost use Rattle.obs_engine.specs.Verify.{AllHold, verify_reply};
@@ -22,7 +22,7 @@ ghost use Rattle.obs_engine.specs.Asks.{report_status};
 ghost use Rattle.obs_engine.specs.Trials.{dip_meters, dips_of};
 ghost use Rattle.obs_engine.specs.Claimed.{AnswersAreVerified, AnswersFit, AnswersHold};
 ghost use Rattle.obs_engine.specs.Laws.{CasesAreValid, EditsAloneChange, EndedOrLast, IsAnswerTo, IsFormOf, IsInUsage, ListsNonCritical, OrderIsForgotten, ReportsAsTheCommand};
-ghost use Rattle.obs_edit.specs.Answers.{bound_outside, bound_rank, case_critical_meters, case_rank, component_meters, short_components};
+ghost use Rattle.obs_edit.specs.Answers.{bound_outside, bound_rank, case_critical_meters, component_meters, short_components};
 
 /// Every case that files are is valid. The other laws ask this of a case.
 /// Words that are a trial's give it from 1 to 100 rows.

@@ -34,6 +34,14 @@ mod place_tests;
 mod program;
 #[cfg(test)]
 mod read_cert_tests;
+#[cfg(test)]
+mod reference_cases;
+#[cfg(test)]
+mod reference_edit_tests;
+#[cfg(test)]
+mod reference_full_tests;
+#[cfg(test)]
+mod reference_tests;
 mod refused;
 #[cfg(test)]
 mod report_tests;

@@ -5,7 +5,7 @@ ghost use Rattle.obs_network.specs.Switched.{case_bus_count};
 ghost use Rattle.obs_report.specs.Counts.{counts_text};
 ghost use Rattle.obs_report.specs.Printed.{Appends};
 ghost use Rattle.obs_report.specs.Totals.{totals_text, trial_line};
-ghost use Rattle.obs_edit.specs.Answers.{case_rank};
+ghost use Rattle.obs_network.specs.Observable.{case_rank};
 ghost use Rattle.obs_engine.specs.Replies.{IsReplied};
 ghost use Rattle.obs_engine.specs.Trials.{AreInService, dips_of, edits_of, is_dip, is_first_of_island, island_count, trial_reply};
 ghost use Rattle.obs_engine.specs.Turns.{AreSearches, AreTurns, IsTurn};

@@ -1,10 +1,13 @@
 -- A search that begins, and its sources.
-use Rattle.std.proofs.Common.{◌≡◌, ℕ, zero, suc, ◌≤◌, Bool, true, false, Option, None, List, length, replicate, get_or, sym, ◌∙◌, inl, inr, arith}
+use Rattle.std.proofs.Common.{◌≡◌, ℕ, zero, suc, ◌≤◌, Bool, true, false, Option, None, List, length, replicate, get_or, take, sym, ◌∙◌, subst, inl, inr, arith}
 use Rattle.std.proofs.lemmas.Bool.{cases_Bool}
 use Rattle.std.proofs.lemmas.List.{length-replicate}
 use Rattle.obs_graph.specs.declared.Ends.{Ends}
+use Rattle.obs_graph.specs.Positions.{branches_at}
+use Rattle.obs_matroid.specs.Lists.{In}
 use Rattle.obs_meter.specs.declared.Touch.{Touch}
 use Rattle.obs_assign.specs.Assignment.{Assignment, IsWhole, has_flag, is_frozen}
+use Rattle.obs_assign.proofs.Keeping.{replicate_at}
 use Rattle.obs_assign.proofs.Slotted.{item_slot, none_some}
 use Rattle.obs_exchange.specs.declared.Sources.{Sources}
 use Rattle.obs_exchange.specs.declared.Sources.TheVariants.{All, One}
@@ -40,8 +43,8 @@ IsSearching-start over sound trail meters branches full =
     let walked = length-replicate (length trail.walked) false in
     search (arith, none, unwalked, marks, walked)
 
-pub AreStarred-start : (over : Setting) (n : ℕ) (walked : List Bool) → over.graph.vertices ≤ n → AreStarred over (replicate n false) walked
+pub AreStarred-start : (over : Setting) (n : ℕ) (walked : List Bool) → over.graph.vertices ≤ n → AreStarred over (replicate n 0) walked
 AreStarred-start over n walked l = record {
-  room = let e = length-replicate n false in omega (arith, e, l);
-  starred = λ v t. absurd (no_flag n v t);
+  room = let e = length-replicate {A = ℕ} n 0 in omega (arith, e, l);
+  starred = λ v e i. absurd (subst (λ k. In e (take k (branches_at over.graph.ends v))) (replicate_at n v 0) i);
 }

@@ -1,5 +1,6 @@
 pub mod Queued
 pub mod Clearing
+pub mod Fronts
 pub mod Trails
 pub mod Walking
 pub mod Classes
@@ -14,3 +15,5 @@ pub mod Lawful
 pub mod Lengthening
 pub mod Noting
 pub mod Changing
+pub mod Longest
+pub mod Losing

@@ -1,9 +1,12 @@
 -- The branches that a meter of the queue touches, one after the other.
-use Rattle.std.proofs.Common.{rules, ◌≡◌, ℕ, ◌<◌, ◌≤◌, Bool, true, List, length, get_or, set, sym, ap, ◌∙◌, subst, inl, inr, arith, length-set}
+use Rattle.std.proofs.Common.{rules, ◌≡◌, ℕ, ◌<◌, ◌≤◌, Bool, true, List, length, get_or, set, take, sym, ap, ◌∙◌, subst, inl, inr, arith, length-set, get_or-set_same, get_or-set_other}
+use Rattle.std.proofs.lemmas.Bool.{cases_eq}
 use Rattle.std.proofs.lemmas.List.{get_or_default}
 use Rattle.obs_graph.specs.Positions.{branches_at}
 use Rattle.obs_matroid.specs.Lists.{In}
 use Rattle.obs_matroid.proofs.Contained.{Contains-from_In}
+use Rattle.obs_meter.specs.declared.Hub.{Hub}
+use Rattle.obs_meter.proofs.Touched.{In-take_more}
 use Rattle.obs_assign.specs.Assignment.{has_flag}
 use Rattle.obs_exchange.specs.Classes.{AreClasses}
 use Rattle.obs_exchange.specs.Searching.{AreStarred, AreWalkedOf, IsVisiting, IsWalked}
@@ -26,16 +29,32 @@ Touching-end over before trail m tops touched k t same l e i =
     let s : get_or touched c.0 0 ≡ e = get_or_default touched c.0 0 e c.1 ∙ c.2 in
     rw (← s) (t.done c.0 (omega arith))
 
-pub AreStarred-set : (over : Setting) (stars walked : List Bool) (v m : ℕ) → AreStarred over stars walked → touched_in over m ≡ branches_at over.graph.ends v
-    → AreWalkedOf over walked m → AreStarred over (set stars v true) walked
-AreStarred-set over stars walked v m s same all = record {
-  room = let l = length-set stars v true in let r = s.room in omega (arith, l, r);
-  starred = λ w t e i. elim (flag-from stars v w t) [ inl is ↦ all e (subst (λ xs. In e xs) (ap (branches_at over.graph.ends) is ∙ sym same) i) | inr h ↦ s.starred w h.1 e i ];
-}
+module _ (over : Setting) (stars : List ℕ) (walked : List Bool) (h : Hub) (m : ℕ) (s : AreStarred over stars walked)
+    (same : touched_in over m ≡ take h.count (branches_at over.graph.ends h.vertex)) where
+  -- no more branches than were walked
+  pub AreWalkedOf-front : h.count ≤ get_or stars h.vertex 0 → AreWalkedOf over walked m
+  AreWalkedOf-front l e i = s.starred h.vertex e (In-take_more h.count (get_or stars h.vertex 0) (branches_at over.graph.ends h.vertex) e l (subst (λ (xs : List ℕ). In e xs) same i))
+
+  -- no more are noted than were walked
+  pub AreStarred-set : (n : ℕ) → n ≤ h.count → h.vertex < over.graph.vertices → AreWalkedOf over walked m → AreStarred over (set stars h.vertex n) walked
+  AreStarred-set n few low all =
+      let part : List ℕ = branches_at over.graph.ends h.vertex in
+      let r = s.room in
+      let here : get_or (set stars h.vertex n) h.vertex 0 ≡ n = get_or-set_same stars h.vertex n 0 (omega (arith, r, low)) in
+      record {
+        room = let l = length-set stars h.vertex n in omega (arith, l, r);
+        starred = λ w e i. elim (cases_eq w h.vertex) [
+          | inl is ↦
+              let j = subst (λ (v : ℕ). In e (take (get_or (set stars h.vertex n) v 0) (branches_at over.graph.ends v))) is i in
+              let k = subst (λ (a : ℕ). In e (take a part)) here j in
+              all e (subst (λ (xs : List ℕ). In e xs) (sym same) (In-take_more n h.count part e few k))
+          | inr o ↦ s.starred w e (subst (λ (a : ℕ). In e (take a (branches_at over.graph.ends w))) (get_or-set_other stars h.vertex w n 0 o) i)
+        ];
+      }
 
 -- more branches were walked
-pub AreStarred-kept : (over : Setting) (stars walked more : List Bool) → AreStarred over stars walked → Keeps walked more → AreStarred over stars more
-AreStarred-kept over stars walked more s keeps = record { room = s.room; starred = λ v t e i. keeps e (s.starred v t e i) }
+pub AreStarred-kept : (over : Setting) (stars : List ℕ) (walked more : List Bool) → AreStarred over stars walked → Keeps walked more → AreStarred over stars more
+AreStarred-kept over stars walked more s keeps = record { room = s.room; starred = λ v e i. keeps e (s.starred v e i) }
 
 -- a branch whose meters are marked was walked
 pub IsVisiting-walk : (over : Setting) (trail : Trail) (m : ℕ) → IsVisiting over trail m → (e : ℕ) → e < length trail.walked → IsWalked over trail.marks e

@@ -9,3 +9,5 @@ pub mod Classes
 pub mod Critical
 pub mod Laws
 pub mod Blank
+pub mod Stars
+pub mod Longest

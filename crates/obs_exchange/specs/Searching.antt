@@ -1,7 +1,7 @@
 -- What a search knows while it runs. It marks meters and puts them into a queue; the meter at its head looks at the
 -- branches that it touches. A parent is the move by which a meter was reached: another meter, with a branch that it may
 -- take once the reached meter has moved away from its own.
-use Rattle.std.specs.Prelude.{◌≡◌, ◌⊎◌, ℕ, zero, suc, ◌<◌, ◌≤◌, ◌==◌, Bool, true, false, if◌then◌else◌, Option, Some, None, MatchOption, List, [], ◌∷◌, length, slice_index, slice_index_or}
+use Rattle.std.specs.Prelude.{◌≡◌, ◌⊎◌, ℕ, zero, suc, ◌<◌, ◌≤◌, ◌==◌, Bool, true, false, if◌then◌else◌, Option, Some, None, MatchOption, List, [], ◌∷◌, length, slice_index, slice_index_or, take}
 use Rattle.obs_graph.specs.declared.Ends.{Ends}
 use Rattle.obs_graph.specs.Joined.{count_below}
 use Rattle.obs_graph.specs.Positions.{branches_at}
@@ -100,14 +100,14 @@ IsDone trail = trail.head ≡ trail.tail
 abbrev pub AreWalkedOf : Setting → List Bool → ℕ → Type 0
 AreWalkedOf over walked m = (e : ℕ) → In e (touched_in over m) → has_flag walked e ≡ true
 
--- the branches at a vertex whose flag is set were walked
-pub record AreStarred (over : Setting) (stars walked : List Bool) : Type 0 where
+-- at each vertex the first branches, so many as are noted, were walked
+pub record AreStarred (over : Setting) (stars : List ℕ) (walked : List Bool) : Type 0 where
   pub room : over.graph.vertices ≤ length stars
-  pub starred : (v : ℕ) → has_flag stars v ≡ true → (e : ℕ) → In e (branches_at over.graph.ends v)
+  pub starred : (v e : ℕ) → In e (take (slice_index_or stars v 0) (branches_at over.graph.ends v))
       → has_flag walked e ≡ true
 
 -- while a search runs, with what it knows of the vertices
-pub record IsRunning (over : Setting) (trail : Trail) (stars : List Bool) (tops : List ℕ) : Type 0 where
+pub record IsRunning (over : Setting) (trail : Trail) (stars tops : List ℕ) : Type 0 where
   pub searching : IsSearching over trail
   pub starred : AreStarred over stars trail.walked
   pub classes : AreClasses over trail.marks tops

@@ -21,13 +21,15 @@ fn free_place(over: &Setting<'_>, list: &[u32], first: usize) -> Option<usize>
     None
 }
 
-/// So many branches as a count, which begins anew where they are too many for it.
-fn count(branches: usize) -> u32 {
+/// So many branches as a count, and none of them where they are too many for it.
+pub fn count(branches: usize) -> u32
+    ensures few { result ≤ branches }
+{
     u32::try_from(branches).unwrap_or(0)
 }
 
-/// The first free branch that the meter touches. At a vertex so many of the first branches as are counted there are
-/// passed over, and those that were tried in vain are counted.
+/// The first free branch that the meter touches. Where it touches the first so many branches at a vertex, as many of
+/// these as are counted there are passed over, and those that were tried in vain are counted.
 pub fn untried_branch(over: &Setting<'_>, m: u32, stars: &mut Stars) -> Option<u32>
     requires m { m < length over.now.touches }
     requires room { over.now.graph.vertices ≤ length stars.old }
@@ -35,19 +37,20 @@ pub fn untried_branch(over: &Setting<'_>, m: u32, stars: &mut Stars) -> Option<u
     ensures same { stars.new ≡ stars.old }
 {
     let touched = over.touched(m);
-    let Some(v) = over.star(m) else {
+    let Some(h) = over.hub(m) else {
         return match free_place(over, touched, 0) {
             Some(k) => Some(touched[k]),
             None => None,
         };
     };
-    match free_place(over, touched, stars.tried(v) as usize) {
+    let tried = stars.tried(h.vertex);
+    match free_place(over, touched, tried as usize) {
         Some(k) => {
-            stars.set_tried(v, count(k));
+            stars.set_tried(h.vertex, count(k));
             Some(touched[k])
         }
         None => {
-            stars.set_tried(v, count(touched.len()));
+            stars.set_tried(h.vertex, count(touched.len()).max(tried));
             None
         }
     }

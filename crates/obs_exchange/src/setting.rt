@@ -1,8 +1,8 @@
 // What a search is over.
-ghost use Rattle.std.specs.Prelude.{◌≡◌, ◌↔◌, ◌≢◌, ◌<◌, ◌≤◌, ℕ, not, IfNone, IfSome, IsSome, IsTrue, None, Some, length, slice_index, slice_index_or};
+ghost use Rattle.std.specs.Prelude.{◌≡◌, ◌↔◌, ◌≢◌, ◌<◌, ◌≤◌, ℕ, not, IfNone, IfSome, IsSome, IsTrue, None, Some, length, slice_index, slice_index_or, take};
 ghost use Rattle.obs_graph.specs.Positions.{branches_at};
 ghost use Rattle.obs_meter.specs.declared.Touch.{Touch};
-ghost use Rattle.obs_meter.specs.Touches.{AreInRange};
+ghost use Rattle.obs_meter.specs.Touches.{AreInRange, hub_of};
 ghost use Rattle.obs_assign.specs.Assignment.{StandsOver, branch_at, is_frozen};
 ghost use Rattle.obs_exchange.specs.Setting.{IsSound, IsSourceIn, end_of, first_of, is_joined_in, touched_in};
 
@@ -11,7 +11,7 @@ use obs_assign::Assignment;
 use obs_forest::Ways;
 use obs_graph::search::Up;
 use obs_graph::{Ends, Graph};
-use obs_meter::{Meters, Touch};
+use obs_meter::{Hub, Meters};
 use std::marker::Model;
 
 /// A graph, its meters, an assignment and the meters from which a search begins: what stays as it is while the search
@@ -139,17 +139,15 @@ impl<'a> Setting<'a> {
         self.meters.touch(self.graph, m)
     }
 
-    /// The vertex, where the meter touches the branches at one.
-    pub fn star(&self, m: u32) -> Option<u32>
+    /// The vertex at which the meter touches the first so many branches, and how many; None where there is none.
+    pub fn hub(&self, m: u32) -> Option<Hub>
         requires m { m < length self.now.touches }
-        ensures low { IfSome result (λ v. v < self.now.graph.vertices) }
-        ensures star { IfSome result (λ v. touched_in self.now m ≡ branches_at self.now.graph.ends v) }
-        ensures none { IfNone result ((v : ℕ) → slice_index_or self.now.touches m Touch.Nothing ≢ Touch.Star v) }
+        ensures hub { result ≡ hub_of self.now.graph.ends (slice_index_or self.now.touches m Touch.Nothing) }
+        ensures low { IfSome result (λ h. h.vertex < self.now.graph.vertices) }
+        ensures front { IfSome result
+            (λ h. touched_in self.now m ≡ take h.count (branches_at self.now.graph.ends h.vertex)) }
     {
-        match self.meters.kind(m) {
-            Touch::Star(v) => Some(v),
-            _ => None,
-        }
+        self.meters.hub(self.graph, m)
     }
 
     /// The ends of a present branch.

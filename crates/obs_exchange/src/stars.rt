@@ -1,15 +1,16 @@
 // What a search knows of the branches at each vertex.
-ghost use Rattle.std.specs.Prelude.{◌≡◌, ◌<◌, IfOk, false, true, length, replicate, slice_set};
-ghost use Rattle.obs_assign.specs.Assignment.{has_flag};
+ghost use Rattle.std.specs.Prelude.{◌≡◌, ◌<◌, IfOk, length, replicate, slice_index_or, slice_set};
 
 use crate::memory::NoMemory;
 use std::alloc::Global;
 use std::marker::Model;
 
-/// By vertex whether all branches at it were walked, and how many of the first were tried in vain. A contract sees the
-/// flags: nothing rests on the counts.
+/// By vertex how many of the first branches at it were walked, and how many were tried in vain. A contract sees the
+/// former: nothing rests on the latter.
 pub struct Stars {
+    // whether branches at the vertex were walked, and how many of the first where that is so
     walked: Vec<bool>,
+    fronts: Vec<u32>,
     tried: Vec<u32>,
     // no flag and no count, for as many vertices
     clear: Vec<bool>,
@@ -17,16 +18,17 @@ pub struct Stars {
 }
 
 impl Model for Stars {
-    ghost use Rattle.std.specs.Prelude.{◌≡◌, List, Bool, length};
+    ghost use Rattle.std.specs.Prelude.{◌≡◌, ℕ, List, length};
     ghost use Rattle.obs_exchange.specs.Blank.{AreClear};
+    ghost use Rattle.obs_exchange.specs.Stars.{fronts_of};
 
-    ghost Value = { List Bool };
+    ghost Value = { List ℕ };
 
-    ghost view = { λ s. s.walked.items };
+    ghost view = { λ s. fronts_of s.walked.items s.fronts.items };
 
     ghost invariant = { λ s.
-        (length s.tried.items ≡ length s.walked.items) × (length s.zeros.items ≡ length s.walked.items)
-        × AreClear (length s.walked.items) s.clear.items };
+        (length s.fronts.items ≡ length s.walked.items) × (length s.tried.items ≡ length s.walked.items)
+        × (length s.zeros.items ≡ length s.walked.items) × AreClear (length s.walked.items) s.clear.items };
 }
 
 // Written out: so a caller's proof sees one call, and not the drop of each field.
@@ -34,6 +36,7 @@ impl Drop for Stars {
     fn drop(self) {
         let Stars {
             walked: _,
+            fronts: _,
             tried: _,
             clear: _,
             zeros: _,
@@ -44,36 +47,40 @@ impl Drop for Stars {
 impl Stars {
     /// No flag and no count, for so many vertices.
     pub fn make(alloc: Global, most_vertices: u32) -> Result<Stars, NoMemory>
-        ensures made { IfOk result (λ s. s ≡ replicate most_vertices false) }
+        ensures made { IfOk result (λ s. s ≡ replicate most_vertices 0) }
     {
         let vertices = most_vertices as usize;
         Ok(Stars {
             walked: vec![in alloc; false; vertices]?,
+            fronts: vec![in alloc; 0; vertices]?,
             tried: vec![in alloc; 0; vertices]?,
             clear: vec![in alloc; false; vertices]?,
             zeros: vec![in alloc; 0; vertices]?,
         })
     }
 
-    /// Whether all branches at the vertex were walked.
-    pub fn is_walked(&self, v: u32) -> bool
+    /// How many of the first branches at the vertex were walked.
+    pub fn walked(&self, v: u32) -> u32
         requires v { v < length self.now }
-        ensures walked { result ≡ has_flag self.now v }
+        ensures walked { result ≡ slice_index_or self.now v 0 }
     {
-        self.walked[v as usize]
+        let v = v as usize;
+        if self.walked[v] { self.fronts[v] } else { 0 }
     }
 
-    /// Notes that all branches at the vertex were walked.
-    pub fn set_walked(&mut self, v: u32)
+    /// Notes that so many of the first branches at the vertex were walked.
+    pub fn set_walked(&mut self, v: u32, count: u32)
         requires v { v < length self.old }
-        ensures walked { self.new ≡ slice_set self.old v true }
+        ensures walked { self.new ≡ slice_set self.old v count }
     {
-        self.walked[v as usize] = true;
+        let v = v as usize;
+        self.walked[v] = true;
+        self.fronts[v] = count;
     }
 
-    /// Takes all flags back, and keeps the counts.
+    /// Notes that no branch was walked, and keeps how many were tried in vain.
     pub fn clear(&mut self)
-        ensures cleared { self.new ≡ replicate (length self.old) false }
+        ensures cleared { self.new ≡ replicate (length self.old) 0 }
     {
         let vertices = self.walked.len();
         self.walked.copy_from_slice(&self.clear[..vertices]);

@@ -5,27 +5,27 @@ ghost use Rattle.obs_exchange.specs.Searching.{AreStarred, AreWalkedOf, IsDone, 
 ghost use Rattle.obs_exchange.specs.Setting.{touched_in};
 ghost use Rattle.obs_exchange.specs.Trail.{Follows, Stays};
 
-use crate::free::untried_branch;
+use crate::free::{count, untried_branch};
 use crate::setting::Setting;
 use crate::stars::Stars;
 use crate::trail::Trail;
 use crate::walk::walk;
 use obs_assign::Move;
 
-/// Whether the branches of this meter were walked before as those at a vertex.
+/// Whether the branches of this meter were walked before, among the first ones at a vertex.
 fn is_starred(over: &Setting<'_>, m: u32, stars: &Stars) -> bool
     requires m { m < length over.now.touches }
     requires room { over.now.graph.vertices ≤ length stars.now }
     ensures walked { (walked : List Bool) → AreStarred over.now stars.now walked
         → IsTrue result → AreWalkedOf over.now walked m }
 {
-    match over.star(m) {
-        Some(v) => stars.is_walked(v),
+    match over.hub(m) {
+        Some(h) => h.count <= stars.walked(h.vertex) as usize,
         None => false,
     }
 }
 
-/// Notes that the branches of this meter were walked, where they are those at a vertex.
+/// Notes that the branches of this meter were walked, where they are the first so many at a vertex.
 fn star(over: &Setting<'_>, m: u32, stars: &mut Stars)
     requires m { m < length over.now.touches }
     requires room { over.now.graph.vertices ≤ length stars.old }
@@ -33,8 +33,8 @@ fn star(over: &Setting<'_>, m: u32, stars: &mut Stars)
         → AreStarred over.now stars.old walked → AreStarred over.now stars.new walked }
     ensures same_room { length stars.new ≡ length stars.old }
 {
-    if let Some(v) = over.star(m) {
-        stars.set_walked(v);
+    if let Some(h) = over.hub(m) {
+        stars.set_walked(h.vertex, count(h.count));
     }
 }
 

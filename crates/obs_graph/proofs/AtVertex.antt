@@ -1,9 +1,10 @@
 -- The positions of the branches at a vertex.
-use Rattle.std.proofs.Common.{◌≡◌, ℕ, zero, suc, ◌+◌, ◌<◌, ◌≤◌, Bool, true, false, eqb, cond, Option, Some, None, ◌⊎◌, inl, inr, ⊎_elim, List, [], ◌∷◌, length, get_or, refl, sym, ap, ◌∙◌, subst, arith}
+use Rattle.std.proofs.Common.{◌≡◌, ℕ, zero, suc, ◌+◌, ◌<◌, ◌≤◌, Bool, true, false, eqb, cond, Option, Some, None, ◌⊎◌, inl, inr, ⊎_elim, List, [], ◌∷◌, ◌++◌, length, take, get_or, refl, sym, ap, ◌∙◌, subst, arith}
 use Rattle.std.specs.List.{Contains}
 use Rattle.std.proofs.lemmas.Bool.{eq-eqb, or_left, or_right, or_cases, eqb-true, cond-true, cases_lt, true≢false}
 use Rattle.std.proofs.lemmas.List.{get_or_past, get_or_default}
 use Rattle.std.specs.Prelude.{AllPairs}
+use Rattle.std.proofs.Math.Seq.{take-append_seam}
 use Rattle.obs_graph.specs.declared.Ends.{Ends}
 use Rattle.obs_graph.specs.Joined.{Leads}
 use Rattle.obs_graph.specs.Positions.{AreBranches, has_end, positions_from, branches_at}
@@ -96,3 +97,29 @@ positions_from_rise test i (x ∷ xs) = by_test (test x) (positions_from test (s
     by_test true ys low rise zero (suc k) d l lk = omega (arith, low k d (omega arith))
     by_test true ys low rise (suc j) (suc k) d l lk = rise j k d (omega arith) (omega arith)
     by_test false ys low rise j k d l lk = rise j k d l lk
+
+-- behind the positions in the first list come those in the second
+pub positions_from-append : {X : Type 0} (test : X → Bool) (i : ℕ) (xs ys : List X) → positions_from test i (xs ++ ys) ≡ positions_from test i xs ++ positions_from test (i + length xs) ys
+positions_from-append test i [] ys =
+    let same : i + 0 ≡ i = omega arith in
+    rw same refl
+positions_from-append test i (x ∷ xs) ys =
+    let same : i + suc (length xs) ≡ suc i + length xs = omega arith in
+    let rest = positions_from-append test (suc i) xs ys in
+    rw same (by_test (test x) (positions_from test (suc i) (xs ++ ys)) (positions_from test (suc i) xs) (positions_from test (suc i + length xs) ys) rest)
+  where
+    by_test : (b : Bool) (all front back : List ℕ) → all ≡ front ++ back → cond b (i ∷ all) all ≡ cond b (i ∷ front) front ++ back
+    by_test true all front back e = ap (λ l. i ∷ l) e
+    by_test false all front back e = e
+
+-- where more branches stand behind the others, v's part begins as it was, and goes on with those
+pub branches_at-append : (xs ys : List (Option Ends)) (v : ℕ) → branches_at (xs ++ ys) v ≡ branches_at xs v ++ positions_from (has_end v) (length xs) ys
+branches_at-append xs ys v =
+    let same : 0 + length xs ≡ length xs = omega arith in
+    positions_from-append (has_end v) 0 xs ys ∙ ap (λ k. branches_at xs v ++ positions_from (has_end v) k ys) same
+
+-- and so its first entries are those that it had
+pub branches_at-front : (xs ys : List (Option Ends)) (v : ℕ) → take (length (branches_at xs v)) (branches_at (xs ++ ys) v) ≡ branches_at xs v
+branches_at-front xs ys v =
+    ap (λ (l : List ℕ). take (length (branches_at xs v)) l) (branches_at-append xs ys v)
+    ∙ take-append_seam (branches_at xs v) (positions_from (has_end v) (length xs) ys)

@@ -1,16 +1,18 @@
 -- Vertices that become one as the pairs of a list join them.
-use Rattle.std.proofs.Common.{◌≡◌, ◌≢◌, ℕ, suc, ◌+◌, ◌<◌, ◌≤◌, eqb, ⊎_elim, List, [], ◌∷◌, ◌++◌, sym, ap, ◌∙◌, arith}
+use Rattle.std.proofs.Common.{◌⊎◌, inl, inr, ◌≡◌, ◌≢◌, ◌↔◌, ℕ, suc, ◌+◌, ◌-◌, ◌<◌, ◌≤◌, eqb, ⊎_elim, List, [], ◌∷◌, ◌++◌, sym, ap, ◌∙◌, subst, arith}
+use Rattle.std.specs.Prelude.{IsTrue, nat_lt}
 use Rattle.std.specs.List.{Contains}
 use Rattle.std.proofs.lemmas.List.{append-nil}
-use Rattle.std.proofs.lemmas.List.Elements.{Contains-append_left, Contains-append_right, Contains-append_cases, All-nil, All-cons}
-use Rattle.std.proofs.lemmas.Bool.{cases_eq, eq-eqb, eqb-true}
+use Rattle.std.proofs.lemmas.List.Elements.{Contains-append_left, Contains-append_right, Contains-append_cases, All-append, All-nil, All-cons}
+use Rattle.std.proofs.lemmas.Bool.{cases_eq, cases_lt, cond-true, cond-false, eq-eqb, eqb-true, lt-ltb, le-ltb}
 use Rattle.obs_graph.specs.declared.Ends.{Ends}
-use Rattle.obs_graph.specs.Joined.{first_joined, is_joined, rank, InRange, renamed, renamed_one, glue, IsMerging, AreMergedBy}
-use Rattle.obs_graph.proofs.Chains.{first_joined-contains, same_from_Chain, Chain-from_same_first}
+use Rattle.obs_graph.specs.Joined.{first_joined, is_joined, rank, InRange, renamed, renamed_one, shifted, beside, glue, IsMerging, AreMergedBy}
+use Rattle.obs_graph.proofs.Chains.{Contains-here, Contains-there, Contains-cases, first_joined-contains, same_from_Chain, Chain-from_same_first}
+use Rattle.obs_graph.proofs.First.{first_joined-le}
 use Rattle.obs_graph.proofs.IsJoined.{same-from_true, true-from_same}
 use Rattle.obs_graph.proofs.Ranks.{rank-add_joined, rank-add_new}
 use Rattle.obs_graph.proofs.Forests.{same_first-among, rank-among, rank-add-le, rank-nil, in_range_head, in_range_tail, among_front, among_back}
-use Rattle.obs_graph.proofs.Shapes.{same_along_names, ends_by_names, same_tests, range_at, is_joined-merged}
+use Rattle.obs_graph.proofs.Shapes.{Contains-renamed, renamed-contains, same_along_names, ends_by_names, same_tests, range_at, is_joined-merged}
 
 -- new names raise no rank
 pub rank-renamed_le : (n m : ℕ) (h : ℕ → ℕ) → ((u : ℕ) → u < n → h u < m) → (es : List Ends) → InRange n es → rank m (renamed h es) ≤ rank n es
@@ -125,3 +127,157 @@ merged_by-from_one n m s t h ne by_list =
           let names = by_list.one u v lu lv in
           (λ same. eqb-true (glue s t u) (glue s t v) (test ∙ names.0 same), λ same. names.1 (sym test ∙ eq-eqb (glue s t u) (glue s t v) same));
     }
+
+-- where branches don't join the first pair of a list, their rank falls by one less than the rank of the list at most
+pub rank-merges_apart : (n m : ℕ) (e : Ends) (ms : List Ends) (h : ℕ → ℕ) → AreMergedBy n m (e ∷ ms) h → (es : List Ends) → InRange n es → (first_joined es e.a ≡ first_joined es e.b → ⊥)
+    → suc (rank n es) ≤ rank m (renamed h es) + rank n (e ∷ ms)
+rank-merges_apart n m e ms h by_list es range apart =
+    let here = in_range_head n e ms by_list.in_range in
+    let new : rank n (e ∷ es) ≡ suc (rank n es) = rank-add_new n e es here.0 here.1 apart in
+    let more : rank n (e ∷ es) ≤ rank n ((e ∷ ms) ++ es) = rank-among n (e ∷ es) ((e ∷ ms) ++ es) (λ d has. ⊎_elim
+    (λ (same : e ≡ d). subst (λ x. Contains (e ∷ ms ++ es) x) same (Contains-here e (ms ++ es)))
+    (λ there. Contains-there e d (ms ++ es) (Contains-append_right ms es d there))
+    (Contains-cases e d es has)) in
+    let all = rank-merged_by n m (e ∷ ms) h by_list es range in
+    omega (arith, new, more, all)
+
+pub beside-low : (n m : ℕ) (h g : ℕ → ℕ) (v : ℕ) → v < n → beside n m h g v ≡ h v
+beside-low n m h g v l = cond-true (nat_lt v n) (h v) (m + g (v - n)) (lt-ltb v n l)
+
+pub beside-high : (n m : ℕ) (h g : ℕ → ℕ) (v : ℕ) → n ≤ v → beside n m h g v ≡ m + g (v - n)
+beside-high n m h g v l = cond-false (nat_lt v n) (h v) (m + g (v - n)) (le-ltb v n l)
+
+pub beside-shifted : (n m : ℕ) (h g : ℕ → ℕ) (v : ℕ) → beside n m h g (n + v) ≡ m + g v
+beside-shifted n m h g v =
+    let back : (n + v) - n ≡ v = omega arith in
+    beside-high n m h g (n + v) (omega arith) ∙ ap (λ x. m + g x) back
+
+-- vertices side by side: what joins vertices of the one set, and what joins those of the other
+module _ (n m a b : ℕ) (ms ns : List Ends) (h g : ℕ → ℕ) (left : AreMergedBy n m ms h) (right : AreMergedBy a b ns g) where
+  abbrev all : List Ends
+  all = ms ++ shifted n ns
+
+  abbrev name : ℕ → ℕ
+  name = beside n m h g
+
+  -- the first vertex that the list joins with one
+  abbrev first : ℕ → ℕ
+  first = beside n n (first_joined ms) (first_joined ns)
+
+  first_same : (u v : ℕ) → first_joined all u ≡ first_joined all v → first u ≡ first v
+  first_same u v same =
+      same_from_Chain first all (λ e has. ⊎_elim
+      (λ there.
+      let low = range_at n ms left.in_range e there in
+      beside-low n n (first_joined ms) (first_joined ns) e.a low.0 ∙ first_joined-contains ms e there ∙ sym (beside-low n n (first_joined ms) (first_joined ns) e.b low.1))
+      (λ there.
+      let d = renamed-contains (λ v. n + v) ns e there in
+      subst (λ (x : Ends). first x.a ≡ first x.b) d.2
+      (beside-shifted n n (first_joined ms) (first_joined ns) d.0.a ∙ ap (λ x. n + x) (first_joined-contains ns d.0 d.1) ∙ sym (beside-shifted n n (first_joined ms) (first_joined ns) d.0.b)))
+      (Contains-append_cases ms (shifted n ns) e has)) (Chain-from_same_first all u v same)
+
+  left_joined : (u v : ℕ) → first_joined ms u ≡ first_joined ms v → first_joined all u ≡ first_joined all v
+  left_joined = same_first-among ms all (λ e has. Contains-append_left ms (shifted n ns) e has)
+
+  right_joined : (u v : ℕ) → first_joined ns u ≡ first_joined ns v → first_joined all (n + u) ≡ first_joined all (n + v)
+  right_joined u v same =
+      same_from_Chain (λ x. first_joined all (n + x)) ns
+      (λ e has. first_joined-contains all (renamed_one (λ v. n + v) e) (Contains-append_right ms (shifted n ns) (renamed_one (λ v. n + v) e) (Contains-renamed (λ v. n + v) ns e has)))
+      (Chain-from_same_first ns u v same)
+
+  -- two vertices have one name exactly where the list joins them
+  abbrev IsOne : ℕ → ℕ → Type 0
+  IsOne u v = (name u ≡ name v) ↔ IsTrue (is_joined all u v)
+
+  -- of two vertices of the one set
+  both_low : (u v : ℕ) → u < n → v < n → IsOne u v
+  both_low u v lu lv =
+      let names = left.one u v lu lv in
+      let f = first_joined ms in
+      let k = first_joined ns in (
+        (λ same.
+            let old : h u ≡ h v = sym (beside-low n m h g u lu) ∙ same ∙ beside-low n m h g v lv in
+            true-from_same all u v (left_joined u v (same-from_true ms u v (names.0 old)))),
+        (λ joined.
+            let firsts : f u ≡ f v = sym (beside-low n n f k u lu) ∙ first_same u v (same-from_true all u v joined) ∙ beside-low n n f k v lv in
+            beside-low n m h g u lu ∙ names.1 (true-from_same ms u v firsts) ∙ sym (beside-low n m h g v lv)),
+      )
+
+  -- and of the other
+  both_high : (u v : ℕ) → u < a → v < a → IsOne (n + u) (n + v)
+  both_high u v lu lv =
+      let names = right.one u v lu lv in
+      let f = first_joined ms in
+      let k = first_joined ns in (
+        (λ same.
+            let old : m + g u ≡ m + g v = sym (beside-shifted n m h g u) ∙ same ∙ beside-shifted n m h g v in
+            true-from_same all (n + u) (n + v) (right_joined u v (same-from_true ns u v (names.0 (omega (arith, old)))))),
+        (λ joined.
+            let firsts : n + k u ≡ n + k v = sym (beside-shifted n n f k u) ∙ first_same (n + u) (n + v) (same-from_true all (n + u) (n + v) joined) ∙ beside-shifted n n f k v in
+            beside-shifted n m h g u ∙ ap (λ x. m + x) (names.1 (true-from_same ns u v (omega (arith, firsts)))) ∙ sym (beside-shifted n m h g v)),
+      )
+
+  -- one of the one set and one of the other have different names, and are never joined
+  names_differ : (u v : ℕ) → u < n → v < a → name u ≡ name (n + v) → ⊥
+  names_differ u v lu lv same =
+      let is : h u ≡ m + g v = sym (beside-low n m h g u lu) ∙ same ∙ beside-shifted n m h g v in
+      absurd (omega (arith, is, left.into u lu))
+
+  never_joined : (u v : ℕ) → u < n → v < a → first_joined all u ≡ first_joined all (n + v) → ⊥
+  never_joined u v lu lv joined =
+      let f = first_joined ms in
+      let k = first_joined ns in
+      let firsts : f u ≡ n + k v = sym (beside-low n n f k u lu) ∙ first_same u (n + v) joined ∙ beside-shifted n n f k v in
+      absurd (omega (arith, firsts, first_joined-le ms u, lu))
+
+  low_high : (u v : ℕ) → u < n → v < a → IsOne u (n + v)
+  low_high u v lu lv = (
+    (λ same. absurd (names_differ u v lu lv same)),
+    (λ joined. absurd (never_joined u v lu lv (same-from_true all u (n + v) joined))),
+  )
+
+  high_low : (u v : ℕ) → u < a → v < n → IsOne (n + u) v
+  high_low u v lu lv = (
+    (λ same. absurd (names_differ v u lv lu (sym same))),
+    (λ joined. absurd (never_joined v u lv lu (sym (same-from_true all (n + u) v joined)))),
+  )
+
+  -- each vertex is of one of the two sets
+  of_one : (u : ℕ) → u < n + a → (u < n) ⊎ ((w : ℕ) × (w < a) × (u ≡ n + w))
+  of_one u l = elim (cases_lt u n) [ inl low ↦ inl low | inr high ↦ inr (u - n, omega (arith, l, high), omega (arith, high)) ]
+
+  one_beside : (u v : ℕ) → u < n + a → v < n + a → IsOne u v
+  one_beside u v lu lv =
+      elim (of_one u lu) [
+        | inl low ↦ elim (of_one v lv) [
+          | inl below ↦ both_low u v low below
+          | inr y ↦ subst (λ x. IsOne u x) (sym y.2) (low_high u y.0 low y.1)
+        ]
+        | inr w ↦ subst (λ x. IsOne x v) (sym w.2) (elim (of_one v lv) [
+          | inl below ↦ high_low w.0 v w.1 below
+          | inr y ↦ subst (λ x. IsOne (n + w.0) x) (sym y.2) (both_high w.0 y.0 w.1 y.1)
+        ])
+      ]
+
+  into_beside : (u : ℕ) → u < n + a → name u < m + b
+  into_beside u l =
+      elim (of_one u l) [
+        | inl low ↦ omega (arith, beside-low n m h g u low, left.into u low)
+        | inr w ↦ omega (arith, ap name w.2, beside-shifted n m h g w.0, right.into w.0 w.1)
+      ]
+
+  range_beside : InRange (n + a) all
+  range_beside =
+      All-append (λ (e : Ends). (e.a < n + a) × (e.b < n + a)) ms (shifted n ns)
+      (λ k d l. let at = left.in_range k d l in (omega (arith, at.0), omega (arith, at.1)))
+      (higher ns right.in_range)
+    where
+      higher : (es : List Ends) → InRange a es → InRange (n + a) (shifted n es)
+      higher [] range = All-nil (λ (e : Ends). (e.a < n + a) × (e.b < n + a))
+      higher (e ∷ es) range =
+          let here = in_range_head a e es range in
+          All-cons (λ (e : Ends). (e.a < n + a) × (e.b < n + a)) (renamed_one (λ v. n + v) e) (shifted n es) (omega (arith, here.0), omega (arith, here.1)) (higher es (in_range_tail a e es range))
+
+  -- two lists of merges side by side
+  pub merged_beside : AreMergedBy (n + a) (m + b) (ms ++ shifted n ns) (beside n m h g)
+  merged_beside = record { in_range = range_beside; into = into_beside; one = one_beside }

@@ -1,5 +1,5 @@
 -- Which vertices a list of branches joins, forests, and the rank of a list.
-use Rattle.std.specs.Prelude.{◌≡◌, ◌≢◌, ℕ, zero, suc, ◌<◌, min, max, Bool, false, if◌then◌else◌, ◌==◌, ◌||◌, ◌&&◌, ◌⊎◌, ◌↔◌, List, [], ◌∷◌, ◌++◌, map, All, Contains, IsTrue}
+use Rattle.std.specs.Prelude.{◌≡◌, ◌≢◌, ℕ, zero, suc, ◌+◌, ◌-◌, ◌<◌, nat_lt, min, max, Bool, false, if◌then◌else◌, ◌==◌, ◌||◌, ◌&&◌, ◌⊎◌, ◌↔◌, List, [], ◌∷◌, ◌++◌, map, All, Contains, IsTrue}
 use Rattle.obs_graph.specs.declared.Ends.{Ends}
 
 -- the branch has these two ends, in one order or the other
@@ -77,6 +77,14 @@ renamed_one h e = record { a = h e.a; b = h e.b }
 
 abbrev pub renamed : (ℕ → ℕ) → List Ends → List Ends
 renamed h es = map (λ e. record { a = h e.a; b = h e.b }) es
+
+-- the branches, where the number of each vertex is n higher
+abbrev pub shifted : ℕ → List Ends → List Ends
+shifted n es = renamed (λ v. n + v) es
+
+-- names side by side: those of the vertices below n, which are below m, and behind them those of the others
+abbrev pub beside : ℕ → ℕ → (ℕ → ℕ) → (ℕ → ℕ) → ℕ → ℕ
+beside n m h g v = if nat_lt v n then h v else m + g (v - n)
 
 -- by the new names, which are below m, all vertices below n stay apart
 pub record IsRenaming (n m : ℕ) (h : ℕ → ℕ) : Type 0 where

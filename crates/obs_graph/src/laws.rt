@@ -1,7 +1,7 @@
 // The laws of joined, forest and rank.
 ghost use Rattle.std.specs.Prelude.{◌≡◌, ◌≢◌, ◌↔◌, ◌+◌, ◌<◌, ◌≤◌, ℕ, Option, Some, None, List, [], ◌∷◌, ◌++◌, length, Bool, true, false, not, IsTrue, IsSome, All, AllPairs, Contains, slice_index_or};
 ghost use Rattle.obs_graph.specs.declared.Ends.{Ends};
-ghost use Rattle.obs_graph.specs.Joined.{Chain, is_joined, joined_by, first_joined, rank, rank_in, count_below, InRange, LiesIn, IsSeparate, kept_in, IsForest, AreDifferent, glued, renamed, IsRenaming, IsMerging, AreMergedBy};
+ghost use Rattle.obs_graph.specs.Joined.{Chain, is_joined, joined_by, first_joined, rank, rank_in, count_below, InRange, LiesIn, IsSeparate, kept_in, IsForest, AreDifferent, glued, renamed, shifted, beside, IsRenaming, IsMerging, AreMergedBy};
 ghost use Rattle.obs_graph.specs.Positions.{ends_of, has_end, branches_at, IsForestAt};
 
 /// The test is true exactly where a chain of the branches leads from u to v.
@@ -118,7 +118,8 @@ pub fn merged_by_new_names()
 
 /// Where the vertices that the pairs of a list join become one by new names, the branches join what
 /// they joined together with these pairs, and the rank of the two is the rank that is left and that
-/// of the pairs. A list of one pair merges its two vertices.
+/// of the pairs. A list of one pair merges its two vertices, and one of none leaves all. Where the branches don't join
+/// the first pair, their rank falls by one less. Two sets of vertices side by side merge by both lists.
 pub fn merged_by_list()
     ensures joined { (n m : ℕ) (merges : List Ends) (h : ℕ → ℕ) (es : List Ends) → AreMergedBy n m merges h →
         InRange n es → (u v : ℕ) → u < n → v < n →
@@ -127,6 +128,12 @@ pub fn merged_by_list()
         InRange n es → rank n (merges ++ es) ≡ rank m (renamed h es) + rank n merges }
     ensures one { (n m s t : ℕ) (h : ℕ → ℕ) → s ≢ t →
         IsMerging n m s t h ↔ AreMergedBy n m (record { a = s; b = t } ∷ []) h }
+    ensures none { (n : ℕ) → AreMergedBy n n [] (λ v. v) }
+    ensures apart { (n m : ℕ) (e : Ends) (merges : List Ends) (h : ℕ → ℕ) (es : List Ends) →
+        AreMergedBy n m (e ∷ merges) h → InRange n es → is_joined es e.a e.b ≡ false →
+        rank n es + 1 ≤ rank m (renamed h es) + rank n (e ∷ merges) }
+    ensures beside { (n m a b : ℕ) (ms ns : List Ends) (h g : ℕ → ℕ) → AreMergedBy n m ms h →
+        AreMergedBy a b ns g → AreMergedBy (n + a) (m + b) (ms ++ shifted n ns) (beside n m h g) }
 {}
 
 /// Where two vertices become one, a forest loses one branch at most: of two branches beside a part

@@ -1,5 +1,5 @@
--- A round: the star items at a vertex that is given up lie inside no set that is spanned from inside, and where there is none of
--- them, the pieces of a longest assignment are the islands.
+-- A round: the ends of a lost branch lie in no set that is spanned from inside, and where no item touches one at its hub, the
+-- pieces of a longest assignment are the islands.
 use Rattle.std.proofs.Common.{◌≡◌, ℕ, ◌<◌, ◌≤◌, List, length, get_or, refl, sym, ap, ◌∙◌, inl, inr, ◌⊎◌, Bool, true, false, not, ◌||◌, Option, Some, None, subst, arith}
 use Rattle.std.specs.Prelude.{nat_lt, slice_index}
 use Rattle.std.specs.List.{list_any}
@@ -7,30 +7,29 @@ use Rattle.std.proofs.lemmas.Bool.{cases_Bool, cases_eq, or_from}
 use Rattle.std.proofs.lemmas.List.FromFn.{fill_by_all}
 use Rattle.obs_graph.specs.declared.Ends.{Ends}
 use Rattle.obs_graph.specs.Joined.{first_joined}
-use Rattle.obs_graph.specs.Positions.{branches_at, has_end, present}
+use Rattle.obs_graph.specs.Positions.{branches_at, present}
 use Rattle.obs_graph.specs.Graph.{Graph, itself_of}
-use Rattle.obs_graph.proofs.AtVertex.{at_vertex, has_end-at_vertex}
 use Rattle.obs_graph.proofs.First.{first_joined-first_joined, first_joined-le}
-use Rattle.obs_graph.proofs.Present.{branch_at, some_is_in}
+use Rattle.obs_graph.proofs.Present.{branch_at, present_low, some_is_in}
 use Rattle.obs_matroid.specs.Lists.{In, IsDistinct, other_than, without}
 use Rattle.obs_matroid.specs.Matroid.{Matroid}
 use Rattle.obs_matroid.specs.Assignments.{Pair, branches, items, part, IsAssignment}
 use Rattle.obs_matroid.specs.Closed.{none}
 use Rattle.obs_matroid.proofs.Comparing.{cases_Option}
-use Rattle.obs_matroid.proofs.Contained.{Contains-from_In, In-from_Contains}
 use Rattle.obs_matroid.proofs.Graphs.{joined_member, joined_more}
 use Rattle.obs_matroid.proofs.Critical.{longest_from_closed}
 use Rattle.obs_matroid.proofs.Islands.{HoldsInside, joined_at_hub, one_piece}
 use Rattle.obs_matroid.proofs.Lists.{clash, In-filter, In-filter_from, In_same, IsDistinct-filter, other_true}
 use Rattle.obs_matroid.proofs.Pairs.{In-items, In-items_from, In-part, In-part_from, IsDistinct-part, branches_within, independent_part, less_pairs, more_pairs, own}
 use Rattle.obs_matroid.proofs.Slots.{slot_at}
+use Rattle.obs_meter.specs.declared.Hub.{Hub}
 use Rattle.obs_meter.specs.declared.Touch.{Touch}
-use Rattle.obs_meter.specs.declared.Touch.TheVariants.{Nothing, Edge, Star}
+use Rattle.obs_meter.specs.declared.Touch.TheVariants.{Nothing, Edge, Star, Front}
 use Rattle.obs_meter.specs.Spanned.{ends_at, graph_matroid, common_vertex, joined_at, rank_at}
-use Rattle.obs_meter.specs.Touches.{live_items, touch_at, touched}
+use Rattle.obs_meter.specs.Touches.{hub_of, live_items, touch_at, touched}
 use Rattle.obs_meter.proofs.Assigned.{from_matroid, live_items-distinct}
 use Rattle.obs_meter.proofs.Instance.{IsJoining-graph, IsMatroid-graph}
-use Rattle.obs_meter.proofs.Touched.{live-from_In, touched-hub}
+use Rattle.obs_meter.proofs.Touched.{live-from_In, touched-hub, touched-present}
 use Rattle.obs_assign.specs.Assignment.{Assignment, branch_at as slot_of, is_frozen, pairs}
 use Rattle.obs_assign.specs.Pins.{joins}
 use Rattle.obs_assign.proofs.Paths.{apart-pairs, joined-pairs}
@@ -41,11 +40,11 @@ use Rattle.obs_exchange.proofs.AtGraph.{In-live, IsAssignment-live, bare-from_ou
 use Rattle.obs_exchange.proofs.Lawful.{closed_rho}
 use Rattle.obs_exchange.proofs.Walking.{free_is, touched_ends, touched_low}
 use Rattle.obs_islands.specs.Firsts.{island_first, islands_of}
-use Rattle.obs_islands.specs.GivenUp.{GivesUp, IsGivenUp}
-use Rattle.obs_islands.specs.GivenUp.IsGivenUp.{first, next}
+use Rattle.obs_islands.specs.GivenUp.{GivesUp, IsLost}
+use Rattle.obs_islands.specs.GivenUp.IsLost.{first, next}
 use Rattle.obs_islands.specs.Islands.{IsSpannedAt, every_vertex}
-use Rattle.obs_islands.specs.Rounds.{AreFirsts, is_between, is_crossed, remaining, straddles}
-use Rattle.obs_islands.proofs.Crossing.{crossed-from, kept-other, none_straddles, remaining_at, straddles-from, uncrossed-from}
+use Rattle.obs_islands.specs.Rounds.{AreFirsts, is_between, is_crossing, remaining, straddles}
+use Rattle.obs_islands.proofs.Crossing.{crossing-from, kept-other, none_straddles, remaining_at, straddles-from, uncrossed-from}
 use Rattle.obs_islands.proofs.Firsts.{Settled, island_first-is}
 use Rattle.obs_islands.proofs.Parts.{In-vertices, vertices-distinct}
 use Rattle.obs_islands.proofs.Spanning.{ends_low}
@@ -101,51 +100,40 @@ module _ (g : Graph) (ts us : List Touch) (used : IsUsedOf ts us) where
         (from_matroid g.vertices g.ends us (live_items g.ends us) B
         (assignment_same (graph_matroid g.vertices g.ends) (touch_at g.ends ts) (touch_at g.ends us) (live_items g.ends us) (λ m i. sym (used_touch m i)) B b))
 
-    star_touch : (m v : ℕ) → get_or us m Nothing ≡ Star v → (e : ℕ) → In e (branches_at g.ends v) → In e (touch_at g.ends us m)
-    star_touch m v is e i = rw is i
+    -- no set that is spanned from inside has both ends of the branch, and the closed set's own branches don't join them
+    record IsApart (e : ℕ) : Type 0 where
+      outside : (T : ℕ → Bool) → IsSpannedAt g.vertices g.ends ts T → T (ends_at g.ends e).0 ≡ true → T (ends_at g.ends e).1 ≡ true → ⊥
+      unjoined : joins g.ends (own_branches a S) e ≡ false
 
-    -- no set that is spanned from inside has both ends of each branch at v, and of one of these the closed set's own branches
-    -- don't join the ends
-    record IsApart (v : ℕ) : Type 0 where
-      outside : (T : ℕ → Bool) → IsSpannedAt g.vertices g.ends ts T
-          → ((e : ℕ) → In e (branches_at g.ends v) → (T (ends_at g.ends e).0 ≡ true) × (T (ends_at g.ends e).1 ≡ true)) → ⊥
-      branch : ℕ
-      at : In branch (branches_at g.ends v)
-      unjoined : joins g.ends (own_branches a S) branch ≡ false
-
-    -- so it is where a longest assignment, with the closed set's own pairs, doesn't join the ends of a branch at v
+    -- so it is where a longest assignment, with the closed set's own pairs, doesn't join the ends
     apart-from : (U : List ℕ) (A : List Pair) → IsDistinct U → HoldsInside (ends_at g.ends) (graph_matroid g.vertices g.ends) (touch_at g.ends ts) (every_vertex g.vertices) (live_items g.ends ts) U
         → IsAssignment (graph_matroid g.vertices g.ends) (touch_at g.ends ts) U A
         → ((B : List Pair) → IsAssignment (graph_matroid g.vertices g.ends) (touch_at g.ends ts) U B → length B ≤ length A)
         → ((p : Pair) → In p (part (λ x. S x || is_frozen a x) (pairs a)) → In p A)
-        → (v e : ℕ) (x : Ends) → get_or g.ends e None ≡ Some x → has_end v (Some x) ≡ true → joins g.ends (branches A) e ≡ false → IsApart v
-    apart-from U A d holds b most own v e x is h apart =
+        → (e : ℕ) (x : Ends) → get_or g.ends e None ≡ Some x → joins g.ends (branches A) e ≡ false → IsApart e
+    apart-from U A d holds b most own e x is apart =
         let n = g.vertices in
         let ends = g.ends in
         let laws = IsMatroid-graph n ends closed.branches in
         let low = branch_at n ends e x closed.branches (some_is_in ends e x is) is in
-        let at : In e (branches_at ends v) = In-from_Contains e (branches_at ends v) (at_vertex ends v e (rw is h)) in
         record {
-          outside = λ T t all.
-              let both = all e at in
+          outside = λ T t left right.
               clash
               (one_piece (ends_at ends) (joined_at ends) (rank_at n ends) (IsJoining-graph ends) laws (touch_at ends ts) (every_vertex n) (live_items ends ts)
               (vertices-distinct n) (live_items-distinct ends ts) (λ m f i j. ends_low n ends ts closed.branches m f j)
               U A T d b most t
               (λ m j. let p = In-items_from t.pairs m j in
               holds T t m (In_same m p.0.0 (live_items ends ts) p.2 (t.assigns.of_items p.0 p.1)) (t.lie_inside m j))
-              (ends_at ends e).0 (ends_at ends e).1 (rw is (In-vertices n x.a low.0)) (rw is (In-vertices n x.b low.1)) both.0 both.1)
+              (ends_at ends e).0 (ends_at ends e).1 (rw is (In-vertices n x.a low.0)) (rw is (In-vertices n x.b low.1)) left right)
               apart;
-          branch = e;
-          at = at;
           unjoined = less_pairs (graph_matroid n ends) laws (part (λ y. S y || is_frozen a y) (pairs a)) A e own apart;
         }
 
-    module _ (holds : HoldsAll g ts us) (m v : ℕ) (star : get_or us m Nothing ≡ Star v) (apart : IsApart v) where
+    module _ (holds : HoldsAll g ts us) (m e : ℕ) (touches : In e (touch_at g.ends us m)) (apart : IsApart e) where
       not_marked : S m ≡ false
       not_marked = elim (cases_Bool (S m)) [
         | inr n ↦ n
-        | inl y ↦ clash (closed.least.closed.joined m apart.branch y (star_touch m v star apart.branch apart.at)) apart.unjoined
+        | inl y ↦ clash (closed.least.closed.joined m e y touches) apart.unjoined
       ]
 
       own_others : (p : Pair) → In p (part (λ x. S x || is_frozen a x) (pairs a)) → In p (pairs a) × (other_than m p.0 ≡ true)
@@ -182,64 +170,69 @@ module _ (g : Graph) (ts us : List Touch) (used : IsUsedOf ts us) where
           ))
           B b
 
-      -- what loses its branch with the item is apart too
-      apart-next : (e w : ℕ) → slot_of a m ≡ Some e → has_end w (get_or g.ends e None) ≡ true → IsApart w
-      apart-next e w has h =
+      -- the item lies inside no set that is spanned from inside
+      lies_outside : In m (live_items g.ends us) → (T : ℕ → Bool) → IsSpannedAt g.vertices g.ends ts T
+          → ((f : ℕ) → In f (touch_at g.ends ts m) → (T (ends_at g.ends f).0 ≡ true) × (T (ends_at g.ends f).1 ≡ true)) → ⊥
+      lies_outside i T t inside = let both = inside e (subst (λ (xs : List ℕ). In e xs) (used_touch m i) touches) in apart.outside T t both.0 both.1
+
+      -- the branch that is lost with the item is apart too
+      apart-next : (f : ℕ) → slot_of a m ≡ Some f → IsApart f
+      apart-next f has =
           let M = live_items g.ends us in
-          let there = closed.stands.touched m e has in
-          let x = touched_ends g.ends us m e there in
-          let i : In m M = In-live g.ends us m (live-from_In g.ends us m e there) in
+          let there = closed.stands.touched m f has in
+          let x = touched_ends g.ends us m f there in
+          let i : In m M = In-live g.ends us m (live-from_In g.ends us m f there) in
           apart-from (without m M) (part (other_than m) (pairs a)) (IsDistinct-filter (other_than m) M (live_items-distinct g.ends us))
-          (λ T t y k j. In-filter (other_than m) y M (holds T t y k j) (other_true m y (λ s.
-          apart.outside T t (λ f l. j f (rw s (subst (λ (xs : List ℕ). In f xs) (used_touch m i) (star_touch m v star f l)))))))
+          (λ T t y k j. In-filter (other_than m) y M (holds T t y k j) (other_true m y (λ s. lies_outside i T t (λ d l. j d (rw s l)))))
           (assigns_others m) longest_others
           (λ p k. let o = own_others p k in In-part (other_than m) (pairs a) p o.0 o.1)
-          w e x.0 x.1 (rw x.1 at h)
-          (own (graph_matroid g.vertices g.ends) (IsMatroid-graph g.vertices g.ends closed.branches) (pairs a) (m, e) assigns.independent assigns.different (slot_at a.slots m e has))
+          f x.0 x.1
+          (own (graph_matroid g.vertices g.ends) (IsMatroid-graph g.vertices g.ends closed.branches) (pairs a) (m, f) assigns.independent assigns.different (slot_at a.slots m f has))
 
-    module _ (firsts : List ℕ) (named : AreFirsts g.vertices a.forest.held firsts) (marked : ℕ → Bool) (gives_up : GivesUp g.ends us a (is_crossed g.ends firsts) marked) where
+    module _ (firsts : List ℕ) (named : AreFirsts g.vertices a.forest.held firsts) (lowest : ℕ → ℕ) (gives_up : GivesUp g.ends us a (is_crossing g.ends firsts) lowest) where
       -- the pairs' branches join the ends of a branch exactly where it doesn't lie between two pieces
       joined_is : (e : ℕ) (x : Ends) → e < length g.ends → get_or g.ends e None ≡ Some x → joins g.ends (branches (pairs a)) e ≡ not (is_between firsts (Some x))
       joined_is e x l is =
           let b = branch_at g.vertices g.ends e x closed.branches l is in
           free_is a g.ends e x (slice_index firsts x.a) (slice_index firsts x.b) closed.whole closed.stands.forest.held is (named.first x.a b.0) (named.first x.b b.1)
 
-      -- a vertex that is given up is apart
-      given_up-apart : HoldsAll g ts us → (v : ℕ) → IsGivenUp g.ends us a (is_crossed g.ends firsts) v → IsApart v
-      given_up-apart holds v (first t) =
-          let c = crossed-from g.ends firsts v t in
+      -- a lost branch is apart
+      lost-apart : HoldsAll g ts us → (e : ℕ) → IsLost g.ends us a (is_crossing g.ends firsts) e → IsApart e
+      lost-apart holds e (first t) =
+          let c = crossing-from g.ends firsts e t in
           apart-from (live_items g.ends us) (pairs a) (live_items-distinct g.ends us) holds assigns longest
           (λ p i. (In-part_from (λ x. S x || is_frozen a x) (pairs a) p i).0)
-          v c.0 c.1 c.2 c.3 (joined_is c.0 c.1 (some_is_in g.ends c.0 c.1 c.2) c.2 ∙ ap not c.4)
-      given_up-apart holds v (next {v = u} before l) = apart-next holds l.item u l.star (given_up-apart holds u before) l.branch v l.has l.at
-
-      uncrossed : (v : ℕ) → marked v ≡ false → is_crossed g.ends firsts v ≡ false
-      uncrossed v f = elim (cases_Bool (is_crossed g.ends firsts v)) [ inl y ↦ clash (gives_up.keeps v y) f | inr n ↦ n ]
+          e c.0 c.1 (joined_is e c.0 (some_is_in g.ends e c.0 c.1) c.1 ∙ ap not c.2)
+      lost-apart holds f (next {e = e} before l) = apart-next holds l.item e l.touched (lost-apart holds e before) f l.has
 
       -- no item that is discarded lies inside a spanned set
-      pub round_holds : HoldsAll g ts us → HoldsAll g ts (remaining marked us)
+      pub round_holds : HoldsAll g ts us → HoldsAll g ts (remaining g.ends lowest us)
       round_holds holds T t m i j =
           let k = holds T t m i j in
-          In-live g.ends (remaining marked us) m (elim (cases_Bool (straddles marked (get_or us m Nothing))) [
+          In-live g.ends (remaining g.ends lowest us) m (elim (cases_Bool (straddles g.ends lowest (get_or us m Nothing))) [
             | inr stays ↦
-                ap (λ (x : Touch). nat_lt 0 (length (touched g.ends x))) (remaining_at marked us m ∙ kept-other marked (get_or us m Nothing) stays)
+                ap (λ (x : Touch). nat_lt 0 (length (touched g.ends x))) (remaining_at g.ends lowest us m ∙ kept-other g.ends lowest (get_or us m Nothing) stays)
                 ∙ live-from_live_items g.ends us m k
             | inl out ↦
-                let s = straddles-from marked (get_or us m Nothing) out in
-                absurd ((given_up-apart holds s.0 (gives_up.given_up s.0 s.2)).outside T t
-                (λ e l. j e (subst (λ (xs : List ℕ). In e xs) (used_touch m k) (star_touch m s.0 s.1 e l))))
+                let s = straddles-from g.ends lowest (get_or us m Nothing) out in
+                let low = present_low g.ends (lowest s.0.vertex) (touched-present g.ends (get_or us m Nothing) (lowest s.0.vertex) s.2) in
+                absurd (lies_outside holds m (lowest s.0.vertex) s.2 (lost-apart holds (lowest s.0.vertex) (gives_up.lost s.0.vertex low)) k T t j)
           ])
 
-      module _ (none : list_any (straddles marked) us ≡ false) where
-        -- a flow's own branch, and what a star that stays touches, is joined
+      module _ (none : list_any (straddles g.ends lowest) us ≡ false) where
+        -- what an item that stays touches at its hub is joined
+        hub_joined : (m e : ℕ) (h : Hub) → In e (touch_at g.ends us m) → hub_of g.ends (get_or us m Nothing) ≡ Some h → joins g.ends (branches (pairs a)) e ≡ true
+        hub_joined m e h j is =
+            let x = touched_ends g.ends us m e j in
+            let low = touched_low g.ends us m e j in
+            let off = uncrossed-from g.ends us a (is_crossing g.ends firsts) lowest gives_up m e h is (none_straddles g.ends lowest us m none) j in
+            joined_is e x.0 low x.1 ∙ ap not (ap (is_between firsts) (sym x.1) ∙ off)
+
+        -- and a flow's own branch
         touch_joined : (m e : ℕ) → In m (live_items g.ends us) → In e (touch_at g.ends us m) → (t : Touch) → get_or us m Nothing ≡ t → joins g.ends (branches (pairs a)) e ≡ true
         touch_joined m e i j Nothing is = absurd (rw is at j)
-        touch_joined m e i j (Star v) is =
-            let x = touched_ends g.ends us m e j in
-            let off : is_crossed g.ends firsts v ≡ false = uncrossed v (rw is at (none_straddles marked us m none)) in
-            let at = has_end-at_vertex g.ends v e (Contains-from_In e (branches_at g.ends v) (rw is at j)) in
-            let low = touched_low g.ends us m e j in
-            joined_is e x.0 low x.1 ∙ ap not (uncrossed-from g.ends firsts v e x.0 off low x.1 (rw x.1 at at))
+        touch_joined m e i j (Star v) is = hub_joined m e (record { vertex = v; count = length (branches_at g.ends v) }) j (ap (hub_of g.ends) is)
+        touch_joined m e i j (Front v count) is = hub_joined m e (record { vertex = v; count = count }) j (ap (hub_of g.ends) is)
         touch_joined m e i j (Edge p) is =
             let own : (f : ℕ) → In f (touch_at g.ends us m) → f ≡ p = λ f k. itself_is (get_or g.ends p None) p f (rw is at k) in
             elim (cases_Option (slot_of a m)) [

@@ -1,6 +1,8 @@
 pub mod Parts
 pub mod Spanning
 pub mod Firsts
+pub mod Hubs
+pub mod Noting
 pub mod Crossing
 pub mod Discarding
 pub mod Following

@@ -1,7 +1,8 @@
 -- Between two rounds.
-use Rattle.std.proofs.Common.{◌≡◌, ℕ, ◌<◌, List, length, get_or, ap, ◌∙◌, inl, inr, Bool, true, arith}
+use Rattle.std.proofs.Common.{◌≡◌, ℕ, ◌<◌, List, length, get_or, ap, ◌∙◌, inl, inr, Bool, true, Option, arith}
 use Rattle.std.specs.List.{list_any}
 use Rattle.std.proofs.lemmas.List.{length-map}
+use Rattle.obs_graph.specs.declared.Ends.{Ends}
 use Rattle.obs_graph.specs.Graph.{Graph}
 use Rattle.obs_meter.specs.declared.Touch.{Touch}
 use Rattle.obs_meter.specs.declared.Touch.TheVariants.{Nothing}
@@ -12,8 +13,8 @@ use Rattle.obs_exchange.specs.Found.{Work}
 use Rattle.obs_exchange.specs.Laws.{HasClosedSet, IsThawed}
 use Rattle.obs_exchange.proofs.Lengthening.{room_again, rooms}
 use Rattle.obs_islands.specs.GivenUp.{GivesUp}
-use Rattle.obs_islands.specs.Rounds.{AreFirsts, is_crossed, kept, remaining, straddles}
-use Rattle.obs_islands.proofs.Crossing.{fewer_stars, kept_cases, remaining_at, remaining_in_range, stars}
+use Rattle.obs_islands.specs.Rounds.{AreFirsts, is_crossing, kept, remaining, straddles}
+use Rattle.obs_islands.proofs.Crossing.{fewer_hubs, hubs, kept_cases, remaining_at, remaining_in_range}
 use Rattle.obs_islands.proofs.Discarding.{HoldsAll, IsUsedOf, round_holds}
 
 -- of the items ts those of us are still used; first and start are the assignment and the arrays as they were at first
@@ -28,35 +29,35 @@ pub record IsSettling (g : Graph) (ts us : List Touch) (first : Assignment) (sta
   pub same_room : HasRoomOf first a
   pub same_sizes : w.sizes ≡ start.sizes
 
-still_used : (ts us : List Touch) (crossed : ℕ → Bool) → IsUsedOf ts us → IsUsedOf ts (remaining crossed us)
-still_used ts us crossed used m = elim (kept_cases crossed (get_or us m Nothing)) [
-  | inr k ↦ inr (remaining_at crossed us m ∙ k)
-  | inl k ↦ elim (used m) [ inl e ↦ inl (remaining_at crossed us m ∙ (k ∙ e)) | inr e ↦ inr (remaining_at crossed us m ∙ (k ∙ e)) ]
+still_used : (ts us : List Touch) (ends : List (Option Ends)) (lowest : ℕ → ℕ) → IsUsedOf ts us → IsUsedOf ts (remaining ends lowest us)
+still_used ts us ends lowest used m = elim (kept_cases ends lowest (get_or us m Nothing)) [
+  | inr k ↦ inr (remaining_at ends lowest us m ∙ k)
+  | inl k ↦ elim (used m) [ inl e ↦ inl (remaining_at ends lowest us m ∙ (k ∙ e)) | inr e ↦ inr (remaining_at ends lowest us m ∙ (k ∙ e)) ]
 ]
 
 room_less : (g : Graph) (us vs : List Touch) (w : Work) → length vs ≡ length us → HasRoomFor w.sizes g us → HasRoomFor w.sizes g vs
 room_less g us vs w e r = record { meters = let m = r.meters in omega (arith, e, m); branches = r.branches; vertices = r.vertices }
 
 module _ (g : Graph) (ts us vs : List Touch) (first : Assignment) (start : Work) (a b c : Assignment) (w x : Work) (S : ℕ → Bool) (firsts : List ℕ)
-    (h : IsSettling g ts us first start a w) (marked : ℕ → Bool)
+    (h : IsSettling g ts us first start a w) (lowest : ℕ → ℕ)
     (closed : HasClosedSet b g us S) (thawed : IsThawed b) (named : AreFirsts g.vertices b.forest.held firsts)
-    (gives_up : GivesUp g.ends us b (is_crossed g.ends firsts) marked) (remains : vs ≡ remaining marked us) (room : HasRoomOf a b) (size : x.sizes ≡ w.sizes) where
+    (gives_up : GivesUp g.ends us b (is_crossing g.ends firsts) lowest) (remains : vs ≡ remaining g.ends lowest us) (room : HasRoomOf a b) (size : x.sizes ≡ w.sizes) where
   pub remain-length : length vs ≡ length us
-  remain-length = ap (λ (ys : List Touch). length ys) remains ∙ length-map us (kept marked)
+  remain-length = ap (λ (ys : List Touch). length ys) remains ∙ length-map us (kept g.ends lowest)
 
   pub Settling-next : StandsOver c g vs → IsThawed c → HasRoomOf b c → IsSettling g ts vs first start c x
   Settling-next stands thaw more = record {
     stands = stands;
-    in_range = rw remains (remaining_in_range g marked us h.in_range);
+    in_range = rw remains (remaining_in_range g lowest us h.in_range);
     room = room_less g us vs x remain-length (room_again g us w.sizes x.sizes size h.room);
     thawed = thaw;
     one_each = remain-length ∙ h.one_each;
-    used = rw remains (still_used ts us marked h.used);
-    holds = rw remains (round_holds g ts us h.used b S closed thawed firsts named marked gives_up h.holds);
+    used = rw remains (still_used ts us g.ends lowest h.used);
+    holds = rw remains (round_holds g ts us h.used b S closed thawed firsts named lowest gives_up h.holds);
     same_room = rooms first b c (rooms first a b h.same_room room) more;
     same_sizes = size ∙ h.same_sizes;
   }
 
-  -- where a star straddles, fewer stars remain
-  pub Settling-smaller : list_any (straddles marked) us ≡ true → stars vs < stars us
-  Settling-smaller t = rw remains (fewer_stars marked us t)
+  -- where an item straddles, fewer hubs remain
+  pub Settling-smaller : list_any (straddles g.ends lowest) us ≡ true → hubs vs < hubs us
+  Settling-smaller t = rw remains (fewer_hubs g.ends lowest us t)

@@ -1,34 +1,45 @@
--- Vertices at which injections are given up, and the queue of these. `ends` has the branches by position, `touches` what each
--- item touches, and a set of vertices is a test.
-use Rattle.std.specs.Prelude.{◌≡◌, ℕ, ◌<◌, Bool, true, Option, Some, None, List, length, slice_index, slice_index_or}
+-- Branches that are lost, and the queue of vertices after which more are. `ends` has the branches by position, `touches` what
+-- each item touches, and a set of branches is a test.
+use Rattle.std.specs.Prelude.{◌≡◌, ℕ, ◌<◌, ◌≤◌, Bool, true, Option, Some, None, List, length, nat_lt, slice_index, slice_index_or}
 use Rattle.obs_graph.specs.declared.Ends.{Ends}
 use Rattle.obs_graph.specs.Joined.{count_below}
 use Rattle.obs_graph.specs.Positions.{has_end}
+use Rattle.obs_matroid.specs.Lists.{In}
+use Rattle.obs_meter.specs.declared.Hub.{Hub}
 use Rattle.obs_meter.specs.declared.Touch.{Touch}
-use Rattle.obs_meter.specs.declared.Touch.TheVariants.{Nothing, Star}
-use Rattle.obs_assign.specs.Assignment.{Assignment, branch_at, has_flag}
+use Rattle.obs_meter.specs.declared.Touch.TheVariants.{Nothing}
+use Rattle.obs_meter.specs.Touches.{hub_of, touch_at}
+use Rattle.obs_assign.specs.Assignment.{Assignment, branch_at}
+use Rattle.obs_islands.specs.Rounds.{noted}
 
--- an item that touches all branches at v has a branch with an end at w
-pub record LosesBranch (ends : List (Option Ends)) (touches : List Touch) (a : Assignment) (v w : ℕ) : Type 0 where
+-- an item that touches the branch e has the branch f
+pub record LosesBranch (ends : List (Option Ends)) (touches : List Touch) (a : Assignment) (e f : ℕ) : Type 0 where
   pub item : ℕ
-  pub branch : ℕ
-  pub star : slice_index_or touches item Nothing ≡ Star v
-  pub has : branch_at a item ≡ Some branch
-  pub at : has_end w (slice_index_or ends branch None) ≡ true
+  pub touched : In e (touch_at ends touches item)
+  pub has : branch_at a item ≡ Some f
 
--- v is given up: it passes the test, or the branch of an item that touches all branches at a vertex that is given up has an
--- end at v
-pub data IsGivenUp (ends : List (Option Ends)) (touches : List Touch) (a : Assignment) (test : ℕ → Bool) : ℕ → Type 0 where
-  first : {v : ℕ} → test v ≡ true → IsGivenUp ends touches a test v
-  next : {v w : ℕ} → IsGivenUp ends touches a test v → LosesBranch ends touches a v w → IsGivenUp ends touches a test w
+-- the branch is lost: it passes the test, or is that of an item which touches a lost branch
+pub data IsLost (ends : List (Option Ends)) (touches : List Touch) (a : Assignment) (test : ℕ → Bool) : ℕ → Type 0 where
+  first : {e : ℕ} → test e ≡ true → IsLost ends touches a test e
+  next : {e f : ℕ} → IsLost ends touches a test e → LosesBranch ends touches a e f → IsLost ends touches a test f
 
--- what passes the first test passes the second, and what passes the second is given up from the first on
-pub record GivesUp (ends : List (Option Ends)) (touches : List Touch) (a : Assignment) (before after : ℕ → Bool) : Type 0 where
-  pub keeps : (v : ℕ) → before v ≡ true → after v ≡ true
-  pub given_up : (v : ℕ) → after v ≡ true → IsGivenUp ends touches a before v
+-- the branch that is noted at a vertex lies there and is lost, and no item touches a lower one at its hub that passes the test
+pub record GivesUp (ends : List (Option Ends)) (touches : List Touch) (a : Assignment) (test : ℕ → Bool) (lowest : ℕ → ℕ) : Type 0 where
+  pub at : (v : ℕ) → lowest v < length ends → has_end v (slice_index_or ends (lowest v) None) ≡ true
+  pub lost : (v : ℕ) → lowest v < length ends → IsLost ends touches a test (lowest v)
+  pub none_lower : (m e : ℕ) (h : Hub) → hub_of ends (slice_index_or touches m Nothing) ≡ Some h → In e (touch_at ends touches m)
+      → test e ≡ true → lowest h.vertex ≤ e
 
--- there are as many entries as marked vertices, and each of them is marked
-pub record IsQueue (marked : List Bool) (queue : List ℕ) (tail : ℕ) : Type 0 where
-  pub places : length queue ≡ length marked
-  pub count : tail ≡ count_below (has_flag marked) (length marked)
-  pub marks : (k : ℕ) → k < tail → has_flag marked (slice_index queue k) ≡ true
+-- if that holds before, it does after
+abbrev pub StillGivesUp : List (Option Ends) → List Touch → Assignment → (ℕ → ℕ) → (ℕ → ℕ) → Type 0
+StillGivesUp ends touches a before after = (test : ℕ → Bool) → GivesUp ends touches a test before → GivesUp ends touches a test after
+
+-- whether a branch is noted at a vertex
+abbrev pub is_noted : ℕ → List ℕ → ℕ → Bool
+is_noted positions lowest v = nat_lt (noted lowest v) positions
+
+-- there are as many entries as vertices at which a branch is noted, and at each of them one is
+pub record IsQueue (positions : ℕ) (lowest queue : List ℕ) (tail : ℕ) : Type 0 where
+  pub places : length queue ≡ length lowest
+  pub count : tail ≡ count_below (is_noted positions lowest) (length lowest)
+  pub marks : (k : ℕ) → k < tail → noted lowest (slice_index queue k) < positions

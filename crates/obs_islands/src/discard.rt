@@ -1,40 +1,57 @@
 // The items that stay used.
-ghost use Rattle.std.specs.Prelude.{◌≡◌, All, length};
+ghost use Rattle.std.specs.Prelude.{◌≡◌, ◌<◌, length, slice_index_or};
 ghost use Rattle.std.specs.List.{list_any};
-ghost use Rattle.obs_meter.specs.Touches.{AreInRange};
-ghost use Rattle.obs_assign.specs.Assignment.{StandsOver, has_flag};
+ghost use Rattle.obs_meter.specs.declared.Touch.TheVariants.{Nothing};
+ghost use Rattle.obs_meter.specs.Touches.{AreInRange, IsInRange, touches_branch};
+ghost use Rattle.obs_assign.specs.Assignment.{StandsOver};
 ghost use Rattle.obs_islands.specs.GivenUp.{GivesUp};
-ghost use Rattle.obs_islands.specs.Rounds.{IsStarBelow, is_crossed, remaining, straddles};
+ghost use Rattle.obs_islands.specs.Rounds.{is_crossing, noted, remaining, straddles};
 
 use crate::follow::follow;
-use crate::pieces::mark_crossed;
+use crate::pieces::{limit, mark_crossed};
 use obs_assign::Assignment;
 use obs_graph::Graph;
 use obs_meter::{Meters, Touch};
 
-/// Whether the item touches all branches at a marked vertex.
-fn is_straddling(crossed: &[bool], touch: Touch) -> bool
-    requires low { IsStarBelow (length crossed.now) touch }
-    ensures value { result ≡ straddles (has_flag crossed.now) touch }
+/// Whether the item touches the branch. What is no position isn't touched.
+fn touches(g: &Graph, used: &Meters, m: u32, e: u32) -> bool
+    requires item { m < length used.now.touches }
+    ensures value { result ≡ touches_branch g.now.ends used.now.touches m e }
 {
-    match touch {
-        Touch::Nothing => false,
-        Touch::Edge(_) => false,
-        Touch::Star(v) => crossed[v as usize],
+    if e < g.positions() {
+        used.is_touched(g, m, e)
+    } else {
+        false
     }
 }
 
-/// Discards the items that touch all branches at a marked vertex: they touch nothing then. Says whether there is one.
-fn keep_others(used: &mut Meters, crossed: &[bool]) -> bool
-    requires low { All (IsStarBelow (length crossed.now)) used.old.touches }
+/// Whether the item touches the branch that is noted at its hub.
+fn is_straddling(g: &Graph, used: &Meters, m: u32, lowest: &[u32]) -> bool
+    requires item { m < length used.now.touches }
+    requires in_range { IsInRange g.now (slice_index_or used.now.touches m Nothing) }
+    requires lowest { length lowest.now ≡ g.now.vertices }
+    ensures value { result ≡
+        straddles g.now.ends (noted lowest.now) (slice_index_or used.now.touches m Nothing) }
+{
+    match used.hub(g, m) {
+        Some(hub) => touches(g, used, m, lowest[hub.vertex as usize]),
+        None => false,
+    }
+}
+
+/// Discards the items that touch the branch that is noted at their hub: they touch nothing then. Says whether there is
+/// one.
+fn keep_others(g: &Graph, used: &mut Meters, lowest: &[u32]) -> bool
+    requires in_range { AreInRange g.now used.old.touches }
+    requires lowest { length lowest.now ≡ g.now.vertices }
     ensures remaining { used.new ≡ record used.old {
-      touches = remaining (has_flag crossed.now) used.old.touches;
+      touches = remaining g.now.ends (noted lowest.now) used.old.touches;
     } }
-    ensures some { result ≡ list_any (straddles (has_flag crossed.now)) used.old.touches }
+    ensures some { result ≡ list_any (straddles g.now.ends (noted lowest.now)) used.old.touches }
 {
     let mut some = false;
     for m in 0..used.count() {
-        if !is_straddling(crossed, used.kind(m)) {
+        if !is_straddling(g, used, m, lowest) {
             continue;
         }
         used.set(m, Touch::Nothing);
@@ -43,29 +60,29 @@ fn keep_others(used: &mut Meters, crossed: &[bool]) -> bool
     some
 }
 
-/// Marks the vertices at which a branch lies between two pieces and those that are given up after them. Discards the
-/// items that touch all branches at a marked vertex, and says whether there is one.
+/// Notes at each vertex the lowest branch that lies between two pieces, and what is lost after those. Discards the items
+/// that touch what is noted at their hub, and says whether there is one.
 pub(crate) fn discard(
     g: &Graph,
     used: &mut Meters,
     pairs: &Assignment,
     firsts: &[u32],
-    crossed: &mut [bool],
+    lowest: &mut [u32],
     queue: &mut [u32],
 ) -> bool
     requires stands { StandsOver pairs.now g.now used.old.touches }
     requires in_range { AreInRange g.now used.old.touches }
     requires firsts { length firsts.now ≡ g.now.vertices }
-    requires crossed { length crossed.old ≡ g.now.vertices }
+    requires lowest { length lowest.old ≡ g.now.vertices }
     requires queue { length queue.old ≡ g.now.vertices }
     ensures gives_up { GivesUp g.now.ends used.old.touches pairs.now
-        (is_crossed g.now.ends firsts.now) (has_flag crossed.new) }
+        (is_crossing g.now.ends firsts.now) (noted lowest.new) }
     ensures remaining { used.new ≡ record used.old {
-      touches = remaining (has_flag crossed.new) used.old.touches;
+      touches = remaining g.now.ends (noted lowest.new) used.old.touches;
     } }
-    ensures some { result ≡ list_any (straddles (has_flag crossed.new)) used.old.touches }
+    ensures some { result ≡ list_any (straddles g.now.ends (noted lowest.new)) used.old.touches }
 {
-    mark_crossed(g, firsts, crossed);
-    follow(g, used, pairs, crossed, queue);
-    keep_others(used, crossed)
+    mark_crossed(g, firsts, limit(g, used), lowest);
+    follow(g, used, pairs, lowest, queue);
+    keep_others(g, used, lowest)
 }

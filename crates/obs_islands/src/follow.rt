@@ -1,11 +1,13 @@
-// What is given up after other injections are.
-ghost use Rattle.std.specs.Prelude.{◌≡◌, ◌+◌, ◌<◌, ◌^◌, ◌==◌, ◌||◌, ℕ, true, length, slice_set};
-ghost use Rattle.obs_assign.specs.Assignment.{StandsOver, has_flag};
-ghost use Rattle.obs_islands.specs.GivenUp.{GivesUp, IsQueue};
+// What is lost after other branches are.
+ghost use Rattle.std.specs.Prelude.{◌≡◌, ◌+◌, ◌<◌, ◌≤◌, ◌^◌, ◌==◌, length, slice_set};
+ghost use Rattle.obs_assign.specs.Assignment.{StandsOver};
+ghost use Rattle.obs_islands.specs.GivenUp.{IsQueue, StillGivesUp};
+ghost use Rattle.obs_islands.specs.Rounds.{IsNotedAt, noted};
 
+use crate::pieces::lower;
 use obs_assign::Assignment;
 use obs_graph::Graph;
-use obs_meter::{Meters, Touch};
+use obs_meter::Meters;
 
 /// Puts a vertex at the end of the queue.
 fn push(v: u32, queue: &mut [u32], tail: &mut usize)
@@ -17,115 +19,110 @@ fn push(v: u32, queue: &mut [u32], tail: &mut usize)
     *tail += 1;
 }
 
-/// Puts the marked vertices into the queue, and says how many there are.
-fn fill_queue(crossed: &[bool], queue: &mut [u32]) -> usize
-    requires places { length queue.old ≡ length crossed.now }
-    requires few { length crossed.now < 2 ^ 32 }
-    ensures queue { IsQueue crossed.now queue.new result }
+/// Puts the vertices at which a branch is noted into the queue, and says how many there are.
+fn fill_queue(positions: u32, lowest: &[u32], queue: &mut [u32]) -> usize
+    requires places { length queue.old ≡ length lowest.now }
+    requires few { length lowest.now < 2 ^ 32 }
+    ensures queue { IsQueue positions lowest.now queue.new result }
 {
     let mut tail = 0;
-    for v in 0..crossed.len() {
-        if crossed[v] {
+    for v in 0..lowest.len() {
+        if lowest[v] < positions {
             push(v as u32, queue, &mut tail);
         }
     }
     tail
 }
 
-/// Marks a vertex and puts it at the end of the queue, unless it is marked.
-fn mark(v: u32, crossed: &mut [bool], queue: &mut [u32], tail: &mut usize)
-    requires v { v < length crossed.old }
-    requires queue { IsQueue crossed.old queue.old tail.old }
-    ensures crossed { (u : ℕ) → has_flag crossed.new u ≡ (has_flag crossed.old u || u == v) }
-    ensures queue { IsQueue crossed.new queue.new tail.new }
+/// Notes a lost branch at a vertex. Where it is the first one there, the vertex goes to the end of the queue.
+fn note(v: u32, e: u32, positions: u32, lowest: &mut [u32], queue: &mut [u32], tail: &mut usize)
+    requires v { v < length lowest.old }
+    requires e { e < positions }
+    requires queue { IsQueue positions lowest.old queue.old tail.old }
+    ensures noted { IsNotedAt (λ u. v == u) e lowest.old lowest.new }
+    ensures queue { IsQueue positions lowest.new queue.new tail.new }
 {
-    if crossed[v as usize] {
-        return;
+    if lowest[v as usize] >= positions {
+        push(v, queue, tail);
     }
-    crossed[v as usize] = true;
-    push(v, queue, tail);
+    lower(v, e, lowest);
 }
 
-/// Marks both ends of the branch where the item that has it touches all branches at v.
+/// Notes the branch at both its ends where the item that has it touches what is noted at v.
 fn follow_branch(
     g: &Graph,
     ms: &Meters,
     pairs: &Assignment,
     v: u32,
     e: u32,
-    crossed: &mut [bool],
+    lowest: &mut [u32],
     queue: &mut [u32],
     tail: &mut usize,
 )
     requires stands { StandsOver pairs.now g.now ms.now.touches }
     requires e { e < length g.now.ends }
-    requires crossed { length crossed.old ≡ g.now.vertices }
-    requires marked { has_flag crossed.old v ≡ true }
-    requires queue { IsQueue crossed.old queue.old tail.old }
-    ensures gives_up { GivesUp g.now.ends ms.now.touches pairs.now
-        (has_flag crossed.old) (has_flag crossed.new) }
-    ensures queue { IsQueue crossed.new queue.new tail.new }
+    requires lowest { length lowest.old ≡ g.now.vertices }
+    requires vertex { v < g.now.vertices }
+    requires noted { noted lowest.old v < length g.now.ends }
+    requires queue { IsQueue (length g.now.ends) lowest.old queue.old tail.old }
+    ensures gives_up { StillGivesUp g.now.ends ms.now.touches pairs.now (noted lowest.old) (noted lowest.new) }
+    ensures noted { noted lowest.new v < length g.now.ends }
+    ensures queue { IsQueue (length g.now.ends) lowest.new queue.new tail.new }
 {
     let Some(m) = pairs.meter_of(e) else {
         return;
     };
-    let Touch::Star(u) = ms.kind(m) else {
-        return;
-    };
-    if u != v {
+    if !ms.is_touched(g, m, lowest[v as usize]) {
         return;
     }
     if let Some(x) = g.ends(e) {
-        mark(x.a, crossed, queue, tail);
-        mark(x.b, crossed, queue, tail);
+        note(x.a, e, g.positions(), lowest, queue, tail);
+        note(x.b, e, g.positions(), lowest, queue, tail);
     }
 }
 
-/// Marks the ends of each branch at v that an item has which touches all branches there.
+/// Notes the branches at v that items have which touch what is noted there.
 fn follow_vertex(
     g: &Graph,
     ms: &Meters,
     pairs: &Assignment,
     v: u32,
-    crossed: &mut [bool],
+    lowest: &mut [u32],
     queue: &mut [u32],
     tail: &mut usize,
 )
     requires stands { StandsOver pairs.now g.now ms.now.touches }
-    requires v { v < g.now.vertices }
-    requires crossed { length crossed.old ≡ g.now.vertices }
-    requires marked { has_flag crossed.old v ≡ true }
-    requires queue { IsQueue crossed.old queue.old tail.old }
-    ensures gives_up { GivesUp g.now.ends ms.now.touches pairs.now
-        (has_flag crossed.old) (has_flag crossed.new) }
-    ensures queue { IsQueue crossed.new queue.new tail.new }
+    requires lowest { length lowest.old ≡ g.now.vertices }
+    requires vertex { v < g.now.vertices }
+    requires noted { noted lowest.old v < length g.now.ends }
+    requires queue { IsQueue (length g.now.ends) lowest.old queue.old tail.old }
+    ensures gives_up { StillGivesUp g.now.ends ms.now.touches pairs.now (noted lowest.old) (noted lowest.new) }
+    ensures queue { IsQueue (length g.now.ends) lowest.new queue.new tail.new }
 {
     for e in g.branches_at(v) {
-        follow_branch(g, ms, pairs, v, *e, crossed, queue, tail);
+        follow_branch(g, ms, pairs, v, *e, lowest, queue, tail);
     }
 }
 
-/// Marks what is given up after the marked vertices: the ends of the branches that items have which touch all branches
-/// at a marked vertex.
+/// Notes what is lost after the branches that are noted: those of the items that touch one of them.
 pub(crate) fn follow(
     g: &Graph,
     ms: &Meters,
     pairs: &Assignment,
-    crossed: &mut [bool],
+    lowest: &mut [u32],
     queue: &mut [u32],
 )
     requires stands { StandsOver pairs.now g.now ms.now.touches }
-    requires crossed { length crossed.old ≡ g.now.vertices }
+    requires lowest { length lowest.old ≡ g.now.vertices }
     requires queue { length queue.old ≡ g.now.vertices }
-    ensures gives_up { GivesUp g.now.ends ms.now.touches pairs.now
-        (has_flag crossed.old) (has_flag crossed.new) }
+    ensures gives_up { StillGivesUp g.now.ends ms.now.touches pairs.now (noted lowest.old) (noted lowest.new) }
 {
     let _ = g.vertices();
-    let mut tail = fill_queue(crossed, queue);
+    let mut tail = fill_queue(g.positions(), lowest, queue);
     let mut head = 0;
     while head < tail {
         let v = queue[head];
-        follow_vertex(g, ms, pairs, v, crossed, queue, &mut tail);
+        follow_vertex(g, ms, pairs, v, lowest, queue, &mut tail);
         head += 1;
     }
 }

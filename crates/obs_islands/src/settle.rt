@@ -7,7 +7,7 @@ ghost use Rattle.obs_assign.specs.Assignment.{Fits, HasRoomOf, StandsOver, has_f
 ghost use Rattle.obs_exchange.specs.Laws.{HasClosedSet, IsThawed};
 ghost use Rattle.obs_islands.specs.Firsts.{islands_of};
 ghost use Rattle.obs_islands.specs.GivenUp.{GivesUp};
-ghost use Rattle.obs_islands.specs.Rounds.{AreFirsts, is_crossed, remaining, straddles};
+ghost use Rattle.obs_islands.specs.Rounds.{AreFirsts, is_crossing, noted, remaining, straddles};
 
 use crate::discard::discard;
 use crate::pieces::name_pieces;
@@ -25,7 +25,7 @@ fn round<L: Ledger>(
     pairs: &mut Assignment,
     search: &mut Work,
     firsts: &mut [u32],
-    crossed: &mut [bool],
+    lowest: &mut [u32],
     queue: &mut [u32],
     steps: &mut Steps<L>,
 ) -> bool
@@ -34,24 +34,24 @@ fn round<L: Ledger>(
     requires room { HasRoomFor search.old.sizes g.now used.old.touches }
     requires thawed { IsThawed pairs.old }
     requires firsts { length firsts.old ≡ g.now.vertices }
-    requires crossed { length crossed.old ≡ g.now.vertices }
+    requires lowest { length lowest.old ≡ g.now.vertices }
     requires queue { length queue.old ≡ g.now.vertices }
     ensures closed { HasClosedSet pairs.new g.now used.old.touches (has_flag search.new.reached) }
     ensures thawed { IsThawed pairs.new }
     ensures firsts { AreFirsts g.now.vertices pairs.new.forest.held firsts.new }
     ensures gives_up { GivesUp g.now.ends used.old.touches pairs.new
-        (is_crossed g.now.ends firsts.new) (has_flag crossed.new) }
+        (is_crossing g.now.ends firsts.new) (noted lowest.new) }
     ensures remaining { used.new ≡ record used.old {
-      touches = remaining (has_flag crossed.new) used.old.touches;
+      touches = remaining g.now.ends (noted lowest.new) used.old.touches;
     } }
-    ensures some { result ≡ list_any (straddles (has_flag crossed.new)) used.old.touches }
+    ensures some { result ≡ list_any (straddles g.now.ends (noted lowest.new)) used.old.touches }
     ensures same_room { HasRoomOf pairs.old pairs.new }
     ensures same_sizes { search.new.sizes ≡ search.old.sizes }
 {
     let _ = g.vertices();
     let _ = lengthen(g, used, pairs, u32::MAX, search, steps);
     name_pieces(pairs.forest(), firsts);
-    discard(g, used, pairs, firsts, crossed, queue)
+    discard(g, used, pairs, firsts, lowest, queue)
 }
 
 /// Discards items, round by round, until none of those that are used touches a branch between two pieces. The pieces
@@ -62,7 +62,7 @@ fn settle<L: Ledger>(
     pairs: &mut Assignment,
     search: &mut Work,
     firsts: &mut [u32],
-    crossed: &mut [bool],
+    lowest: &mut [u32],
     queue: &mut [u32],
     steps: &mut Steps<L>,
 )
@@ -72,7 +72,7 @@ fn settle<L: Ledger>(
     requires fits { g.now.vertices ≤ pairs.old.forest.most_vertices }
     requires thawed { IsThawed pairs.old }
     requires firsts { length firsts.old ≡ g.now.vertices }
-    requires crossed { length crossed.old ≡ g.now.vertices }
+    requires lowest { length lowest.old ≡ g.now.vertices }
     requires queue { length queue.old ≡ g.now.vertices }
     ensures firsts { firsts.new ≡ islands_of g.now.vertices g.now.ends used.old.touches }
     ensures meters { length pairs.new.slots ≡ length used.old.touches }
@@ -81,7 +81,7 @@ fn settle<L: Ledger>(
     ensures same_room { HasRoomOf pairs.old pairs.new }
     ensures same_sizes { search.new.sizes ≡ search.old.sizes }
 {
-    while round(g, used, pairs, search, firsts, crossed, queue, steps) {
+    while round(g, used, pairs, search, firsts, lowest, queue, steps) {
         pairs.retain_touching(g, used);
     }
 }
@@ -116,7 +116,7 @@ pub(crate) fn find_firsts<L: Ledger>(
     pairs: &mut Assignment,
     search: &mut Work,
     firsts: &mut [u32],
-    crossed: &mut [bool],
+    lowest: &mut [u32],
     queue: &mut [u32],
     steps: &mut Steps<L>,
 )
@@ -126,7 +126,7 @@ pub(crate) fn find_firsts<L: Ledger>(
     requires fits { g.now.vertices ≤ pairs.old.forest.most_vertices }
     requires thawed { IsThawed pairs.old }
     requires firsts { g.now.vertices ≤ length firsts.old }
-    requires crossed { g.now.vertices ≤ length crossed.old }
+    requires lowest { g.now.vertices ≤ length lowest.old }
     requires queue { g.now.vertices ≤ length queue.old }
     ensures firsts { take g.now.vertices firsts.new ≡ islands_of g.now.vertices g.now.ends used.old.touches }
     ensures meters { length pairs.new.slots ≡ length used.old.touches }
@@ -142,7 +142,7 @@ pub(crate) fn find_firsts<L: Ledger>(
         pairs,
         search,
         &mut firsts[..n],
-        &mut crossed[..n],
+        &mut lowest[..n],
         &mut queue[..n],
         steps,
     );

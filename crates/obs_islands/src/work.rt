@@ -22,8 +22,8 @@ pub struct IslandWork {
     positions: u32,
     // the first vertex of the island of each vertex
     firsts: Vec<u32>,
-    // whether what touches all branches at the vertex is given up, and the vertices at which it is
-    crossed: Vec<bool>,
+    // the lowest branch at the vertex that is lost, and the vertices at which one is
+    lowest: Vec<u32>,
     queue: Vec<u32>,
     // the meters, as long as they are used: those that are discarded touch nothing
     used: Meters,
@@ -44,7 +44,7 @@ impl Model for IslandWork {
       found : w.vertices ≤ length w.firsts.items;
       meters : w.meters ≡ length w.pairs.slots;
       positions : w.positions ≡ length w.pairs.forest.held;
-      crossed : length w.crossed.items ≡ length w.firsts.items;
+      lowest : length w.lowest.items ≡ length w.firsts.items;
       queue : length w.queue.items ≡ length w.firsts.items;
       used : w.used.most ≡ w.search.sizes.meters;
       pair_meters : w.pairs.most_meters ≡ w.search.sizes.meters;
@@ -62,7 +62,7 @@ impl Drop for IslandWork {
             meters: _,
             positions: _,
             firsts: _,
-            crossed: _,
+            lowest: _,
             queue: _,
             used: _,
             pairs: _,
@@ -89,7 +89,7 @@ impl IslandWork {
             meters: 0,
             positions: 0,
             firsts: vec![in alloc; 0; most_vertices as usize]?,
-            crossed: vec![in alloc; false; most_vertices as usize]?,
+            lowest: vec![in alloc; 0; most_vertices as usize]?,
             queue: vec![in alloc; 0; most_vertices as usize]?,
             used: Meters::make(alloc, most_meters)?,
             pairs: Assignment::make(alloc, most_meters, most_branches, most_vertices)?,
@@ -120,7 +120,7 @@ pub fn find_islands<L: Ledger>(g: &Graph, ms: &Meters, work: &mut IslandWork, st
         &mut work.pairs,
         &mut work.search,
         &mut work.firsts,
-        &mut work.crossed,
+        &mut work.lowest,
         &mut work.queue,
         steps,
     );

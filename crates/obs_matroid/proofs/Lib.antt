@@ -21,6 +21,7 @@ pub mod Layers
 pub mod Placement
 pub mod Answer
 pub mod Heredity
+pub mod Partners
 pub mod Cheapest
 pub mod Graphs
 pub mod Pieces

@@ -11,6 +11,7 @@ use Rattle.obs_matroid.specs.Closed.{none, every, HasFrozen, Extends, IsClosed, 
 use Rattle.obs_matroid.specs.Exchange.{put_all, source, IsExchangePath, IsLonger, IsPinned}
 use Rattle.obs_matroid.specs.First.{IsFirst}
 use Rattle.obs_matroid.specs.Values.{first_of, rho_of, is_critical}
+use Rattle.obs_matroid.specs.Partners.{ArePartners, class_of, is_partner}
 use Rattle.obs_matroid.specs.Placement.{below, IsByPrice, IsApart, IsAnswer, answer_of, Layer, RunOn, RunsThrough, layers_sum, IsShown, own_list, own_layers}
 use Rattle.obs_matroid.specs.Graphic.{graphic, IsJoining}
 use Rattle.obs_matroid.specs.Components.{IsSumOfKinds, is_of}
@@ -231,3 +232,40 @@ OwnLayersShow = (g : Matroid) → IsMatroid g → (touch : ℕ → List ℕ) (pr
 abbrev pub OwnListsGrow : Type 0
 OwnListsGrow = (g : Matroid) → IsMatroid g → (touch : ℕ → List ℕ) (price : ℕ → ℕ) (M es : List ℕ) → IsApart M es → (t u : ℕ) → t ≤ u
     → (m : ℕ) → In m (own_list g touch price M es t) → In m (own_list g touch price M es u)
+
+-- two items are partners exactly where the test says so, and then they are different items of the list
+abbrev pub PartnersComputed : Type 0
+PartnersComputed = (g : Matroid) → IsMatroid g → (touch : ℕ → List ℕ) (M : List ℕ) → IsDistinct M → (m k : ℕ)
+    → ((is_partner g touch M m k ≡ true) ↔ ArePartners g touch M m k)
+    × (ArePartners g touch M m k → (m ≡ k → ⊥) × In m M × In k M)
+
+-- what is critical without a redundant item, and wasn't before, are exactly its partners
+abbrev pub PartnersAreNewlyCritical : Type 0
+PartnersAreNewlyCritical = (g : Matroid) → IsMatroid g → (touch : ℕ → List ℕ) (M : List ℕ) → IsDistinct M
+    → (m : ℕ) → (IsCritical g touch M m → ⊥) → (k : ℕ)
+    → (IsCritical g touch (without m M) k × (IsCritical g touch M k → ⊥)) ↔ ArePartners g touch M m k
+
+-- a partner is one both ways, and different partners of one item are partners of each other
+abbrev pub PartnersTogether : Type 0
+PartnersTogether = (g : Matroid) → IsMatroid g → (touch : ℕ → List ℕ) (M : List ℕ) → IsDistinct M
+    → ((m k : ℕ) → ArePartners g touch M m k → ArePartners g touch M k m)
+    × ((m a b : ℕ) → ArePartners g touch M m a → ArePartners g touch M m b → (a ≡ b → ⊥) → ArePartners g touch M a b)
+
+-- so classes are a partition: two items have one class exactly where they are equal or partners
+abbrev pub ClassesPartition : Type 0
+ClassesPartition = (g : Matroid) → IsMatroid g → (touch : ℕ → List ℕ) (M : List ℕ) → IsDistinct M → (m k : ℕ)
+    → (class_of g touch M m ≡ class_of g touch M k) ↔ ((m ≡ k) ⊎ ArePartners g touch M m k)
+
+-- the partners of an item u without a pair in a longest assignment are the redundant items that the other items without a pair don't
+-- reach: those of the least closed set of M that isn't in that of M without u
+abbrev pub PartnersOfUnpaired : Type 0
+PartnersOfUnpaired = (g : Matroid) → IsMatroid g → (touch : ℕ → List ℕ) (M : List ℕ) → IsDistinct M
+    → (u : ℕ) → In u M → (A : List Pair) → IsAssignment g touch M A → (In u (items A) → ⊥) → (S T : ℕ → Bool)
+    → IsLeastClosed g touch M none every A S → IsLeastClosed g touch (without u M) none every A T
+    → (k : ℕ) → In k M → (k ≡ u → ⊥) → ArePartners g touch M u k ↔ ((S k ≡ true) × (T k ≡ false))
+
+-- what two sets of sources reach together is what the one reaches or the other
+abbrev pub SourcesTogether : Type 0
+SourcesTogether = (g : Matroid) → IsMatroid g → (touch : ℕ → List ℕ) (M : List ℕ) (frozen p q : ℕ → Bool) (A : List Pair) (S T U : ℕ → Bool)
+    → IsLeastClosed g touch M frozen p A S → IsLeastClosed g touch M frozen q A T → IsLeastClosed g touch M frozen (λ x. p x || q x) A U
+    → (m : ℕ) → U m ≡ (S m || T m)

@@ -9,6 +9,7 @@ pub mod Closed
 pub mod Exchange
 pub mod First
 pub mod Values
+pub mod Partners
 pub mod Components
 pub mod Islands
 pub mod Placement

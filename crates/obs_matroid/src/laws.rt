@@ -1,5 +1,5 @@
 // The laws of assignments over a matroid: each is the contract of a function that does nothing.
-ghost use Rattle.obs_matroid.specs.Laws.{IndependentByRank, IndependentInAnyOrder, RankIsGreatest, GraphIsMatroid, WeakBound, RhoComputed, RhoUnique, NonCriticalIsTight, OutsideTightIsCritical, CriticalComputed, LeastClosedIsNonCritical, CriticalInSmaller, GrowsOrCloses, ClosedAddsNone, ClosedIsLongest, ClosedCounts, ClosedIsTight, LeastClosedHasNoFrozen, ClosedTogether, ExchangePathGrows, PinGivesUpOne, PinIsImpossible, Regrows, FirstComputed, FirstUnique, ComponentBound, IslandsPartition, LayerBound, AnswerComputed, AnswerUnique, AnswerCompletes, AnswerCounts, AnswerLacks, AnswerCost, AnswerIsCheapest, OwnLayersRun, OwnLayersShow, OwnListsGrow};
+ghost use Rattle.obs_matroid.specs.Laws.{IndependentByRank, IndependentInAnyOrder, RankIsGreatest, GraphIsMatroid, WeakBound, RhoComputed, RhoUnique, NonCriticalIsTight, OutsideTightIsCritical, CriticalComputed, LeastClosedIsNonCritical, CriticalInSmaller, GrowsOrCloses, ClosedAddsNone, ClosedIsLongest, ClosedCounts, ClosedIsTight, LeastClosedHasNoFrozen, ClosedTogether, ExchangePathGrows, PinGivesUpOne, PinIsImpossible, Regrows, FirstComputed, FirstUnique, ComponentBound, IslandsPartition, LayerBound, AnswerComputed, AnswerUnique, AnswerCompletes, AnswerCounts, AnswerLacks, AnswerCost, AnswerIsCheapest, OwnLayersRun, OwnLayersShow, OwnListsGrow, PartnersComputed, PartnersAreNewlyCritical, PartnersTogether, ClassesPartition, PartnersOfUnpaired, SourcesTogether};
 
 /// Independent branches do not depend on their order, and the rank of a list is their greatest number in it.
 pub fn independence()
@@ -38,6 +38,17 @@ pub fn critical()
     ensures in_smaller { CriticalInSmaller }
 {}
 
+/// Two items are partners where neither is critical and without both the greatest length falls. The partners of an item
+/// are what becomes critical without it, and items fall into classes of partners. Those of an item without a pair are
+/// the redundant items that the other items without a pair don't reach.
+pub fn partners()
+    ensures computed { PartnersComputed }
+    ensures newly_critical { PartnersAreNewlyCritical }
+    ensures together { PartnersTogether }
+    ensures classes { ClassesPartition }
+    ensures of_unpaired { PartnersOfUnpaired }
+{}
+
 /// An assignment grows by a source, or it has a least closed set: then none that keeps its items and the frozen pairs
 /// adds a source, and where every item is a source, none that keeps the frozen pairs is longer.
 pub fn search()
@@ -47,12 +58,13 @@ pub fn search()
 {}
 
 /// What a closed set says of other assignments; the least one holds no frozen item,
-/// and two closed sets together are closed.
+/// two closed sets together are closed, and two sets of sources reach together what the one reaches or the other.
 pub fn closed_sets()
     ensures counts { ClosedCounts }
     ensures tight { ClosedIsTight }
     ensures no_frozen { LeastClosedHasNoFrozen }
     ensures together { ClosedTogether }
+    ensures sources { SourcesTogether }
 {}
 
 /// An exchange path without shortcuts gives an assignment of one more pair.

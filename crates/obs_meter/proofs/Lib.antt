@@ -1,3 +1,4 @@
 pub mod Instance
 pub mod Touched
 pub mod Assigned
+pub mod Lost

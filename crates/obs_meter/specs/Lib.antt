@@ -3,3 +3,4 @@ pub mod Held
 pub mod Spanned
 pub mod Assignments
 pub mod Sizes
+pub mod Lost

@@ -6,7 +6,7 @@ use Rattle.obs_graph.specs.Positions.{ends_of}
 use Rattle.obs_matroid.specs.Matroid.{Matroid}
 use Rattle.obs_matroid.specs.Graphic.{graphic}
 use Rattle.obs_meter.specs.declared.Touch.{Touch}
-use Rattle.obs_meter.specs.declared.Touch.TheVariants.{Nothing, Edge, Star}
+use Rattle.obs_meter.specs.declared.Touch.TheVariants.{Nothing, Edge, Star, Front}
 
 -- the two ends of a branch, and 0 twice for an absent one: no list lacks what it would join
 abbrev pub both_ends : Option Ends → ℕ × ℕ
@@ -34,3 +34,4 @@ abbrev pub common_vertex : List (Option Ends) → Touch → ℕ
 common_vertex ends Nothing = 0
 common_vertex ends (Edge e) = (ends_at ends e).0
 common_vertex ends (Star v) = v
+common_vertex ends (Front v count) = v

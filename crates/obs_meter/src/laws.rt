@@ -1,17 +1,20 @@
 // The laws of touched branches, and of assignments over a graph.
-ghost use Rattle.std.specs.Prelude.{◌≡◌, ◌<◌, ◌⊎◌, ◌↔◌, ℕ, Bool, Option, None, List, All, AllPairs, IsSome, slice_index_or};
+ghost use Rattle.std.specs.Prelude.{◌≡◌, ◌<◌, ◌⊎◌, ◌↔◌, ℕ, Bool, Option, None, Some, List, All, AllPairs, IsSome, slice_index_or, take};
 ghost use Rattle.obs_graph.specs.declared.Ends.{Ends};
-ghost use Rattle.obs_graph.specs.Positions.{AreBranches, IsForestAt};
+ghost use Rattle.obs_graph.specs.Positions.{AreBranches, IsForestAt, branches_at};
 ghost use Rattle.obs_matroid.specs.Lists.{IsDistinct};
 ghost use Rattle.obs_matroid.specs.Matroid.{IsIndependent, IsMatroid};
 ghost use Rattle.obs_matroid.specs.Assignments.{IsAssignment, IsRho, Pair};
 ghost use Rattle.obs_matroid.specs.Bounds.{bound};
+ghost use Rattle.obs_meter.specs.declared.Hub.{Hub};
 ghost use Rattle.obs_meter.specs.declared.Touch.{Touch};
-ghost use Rattle.obs_meter.specs.Touches.{every_item, live_items, touch_at, touched};
+ghost use Rattle.obs_meter.specs.Lost.{left_of, losing};
+ghost use Rattle.obs_meter.specs.Touches.{every_item, hub_of, live_items, touch_at, touched};
 ghost use Rattle.obs_meter.specs.Spanned.{ends_at, graph_matroid, common_vertex};
 ghost use Rattle.obs_meter.specs.Assignments.{IsAssignmentAt, IsRhoAt, bound_at, rho_at};
 
-/// The branches that an item touches rise and are present, and all of them lie at one vertex.
+/// The branches that an item touches rise and are present, and all of them lie at one vertex. Where they are the first
+/// so many at a vertex, these are touched.
 pub fn touched_branches()
     ensures rising { (ends : List (Option Ends)) (t : Touch) → AllPairs ◌<◌ (touched ends t) }
     ensures present { (ends : List (Option Ends)) (t : Touch) →
@@ -19,6 +22,8 @@ pub fn touched_branches()
     ensures hub { (ends : List (Option Ends)) (t : Touch) →
         All (λ e. ((ends_at ends e).0 ≡ common_vertex ends t) ⊎ ((ends_at ends e).1 ≡ common_vertex ends t))
         (touched ends t) }
+    ensures front { (ends : List (Option Ends)) (t : Touch) (h : Hub) → hub_of ends t ≡ Some h →
+        touched ends t ≡ take h.count (branches_at ends h.vertex) }
 {}
 
 /// What the branches of a graph join is a matroid, and forests are its independent lists.
@@ -53,4 +58,16 @@ pub fn only_live_items_have_pairs()
         IsAssignmentAt ends touches (live_items ends touches) A ↔ IsAssignmentAt ends touches (every_item touches) A }
     ensures rho { (ends : List (Option Ends)) (touches : List Touch) (r : ℕ) →
         IsRhoAt ends touches (live_items ends touches) r ↔ IsRhoAt ends touches (every_item touches) r }
+{}
+
+/// Where some items are lost, and touch nothing, the live items, the assignments and the greatest length are those of the
+/// items that aren't.
+pub fn lost_meters()
+    ensures live { (ends : List (Option Ends)) (lost : ℕ → Bool) (touches : List Touch) →
+        live_items ends (losing lost touches) ≡ left_of lost (live_items ends touches) }
+    ensures assignments { (ends : List (Option Ends)) (lost : ℕ → Bool) (touches : List Touch) (M : List ℕ)
+        (A : List Pair) →
+        IsAssignmentAt ends (losing lost touches) M A ↔ IsAssignmentAt ends touches (left_of lost M) A }
+    ensures rho { (ends : List (Option Ends)) (lost : ℕ → Bool) (touches : List Touch) (M : List ℕ) (r : ℕ) →
+        IsRhoAt ends (losing lost touches) M r ↔ IsRhoAt ends touches (left_of lost M) r }
 {}

@@ -1,12 +1,21 @@
 //! What the items of a graph touch, and assignments of branches to items.
 #![tactic(auto)]
 
-/// What an item touches: nothing, one branch, by its position, or all branches at one vertex.
+/// What an item touches: nothing, one branch, by its position, all branches at one vertex, or the first so many of
+/// these, by position.
 #[derive(Clone, Copy, Debug, PartialEq, Eq)]
 pub enum Touch {
     Nothing,
     Edge(u32),
     Star(u32),
+    Front { at: u32, count: u32 },
+}
+
+/// The first so many branches at a vertex.
+#[derive(Clone, Copy, Debug, PartialEq, Eq)]
+pub struct Hub {
+    pub vertex: u32,
+    pub count: usize,
 }
 
 pub mod laws;

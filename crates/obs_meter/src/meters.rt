@@ -1,10 +1,12 @@
 // Meters with what each of them touches.
-ghost use Rattle.std.specs.Prelude.{◌≡◌, ◌<◌, ◌≤◌, [], length, All, IfOk, slice_index_or, slice_set, take};
-ghost use Rattle.obs_meter.specs.Touches.{IsInRange, is_live, touch_at};
+ghost use Rattle.std.specs.Prelude.{◌≡◌, ◌<◌, ◌≤◌, ◌==◌, [], length, All, AllPairs, Contains, IfOk, slice_index_or, slice_set, take};
+ghost use Rattle.std.specs.List.{list_any};
+ghost use Rattle.obs_graph.specs.Positions.{has_end};
+ghost use Rattle.obs_meter.specs.Touches.{IsInRange, hub_of, is_live, touch_at, touches_branch};
 
-use crate::Touch;
 use crate::memory::NoMemory;
-use obs_graph::Graph;
+use crate::{Hub, Touch};
+use obs_graph::{Ends, Graph};
 use std::alloc::Global;
 use std::marker::Model;
 
@@ -34,6 +36,28 @@ fn write_first(touches: &[Touch], places: &mut [Touch])
     ensures first { take (length touches.now) places.new ≡ touches.now }
 {
     places[..touches.len()].copy_from_slice(touches);
+}
+
+// Whether a branch is present and has an end at the vertex.
+fn has_end_at(ends: Option<Ends>, v: u32) -> bool
+    ensures value { result ≡ has_end v ends }
+{
+    match ends {
+        Some(x) => x.a == v || x.b == v,
+        None => false,
+    }
+}
+
+// Whether an entry of a rising list is among its first so many: it stands before the one behind these.
+fn is_among(rising: &[u32], count: u32, e: u32) -> bool
+    requires rising { AllPairs ◌<◌ rising.now }
+    requires entry { Contains rising.now e }
+    ensures among { result ≡ list_any (λ p. p == e) (take count rising.now) }
+{
+    match rising.get(count as usize) {
+        Some(behind) => e < *behind,
+        None => true,
+    }
 }
 
 impl Meters {
@@ -98,6 +122,43 @@ impl Meters {
             Touch::Nothing => &[],
             Touch::Edge(e) => g.itself(e),
             Touch::Star(v) => g.branches_at(v),
+            Touch::Front { at, count } => &g.branches_at(at)[..count as usize],
+        }
+    }
+
+    /// The vertex at which the item touches the first so many branches, and how many: at a star all of them. None of an
+    /// item that touches nothing, or one branch by its position.
+    pub fn hub(&self, g: &Graph, m: u32) -> Option<Hub>
+        requires item { m < length self.now.touches }
+        requires in_range { IsInRange g.now (slice_index_or self.now.touches m Touch.Nothing) }
+        ensures hub { result ≡ hub_of g.now.ends (slice_index_or self.now.touches m Touch.Nothing) }
+    {
+        match self.kind(m) {
+            Touch::Star(vertex) => Some(Hub {
+                vertex,
+                count: g.branches_at(vertex).len(),
+            }),
+            Touch::Front { at, count } => Some(Hub {
+                vertex: at,
+                count: count as usize,
+            }),
+            _ => None,
+        }
+    }
+
+    /// Whether the item touches the branch.
+    pub fn is_touched(&self, g: &Graph, m: u32, e: u32) -> bool
+        requires item { m < length self.now.touches }
+        requires branch { e < length g.now.ends }
+        ensures touched { result ≡ touches_branch g.now.ends self.now.touches m e }
+    {
+        match self.kind(m) {
+            Touch::Nothing => false,
+            Touch::Edge(p) => p == e && g.ends(e).is_some(),
+            Touch::Star(v) => has_end_at(g.ends(e), v),
+            Touch::Front { at, count } => {
+                has_end_at(g.ends(e), at) && is_among(g.branches_at(at), count, e)
+            }
         }
     }
 

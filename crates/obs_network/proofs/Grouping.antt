@@ -49,12 +49,12 @@ sizes-most n live k d l =
     omega (arith, sizes_of-at (component_count n live) (components_of n live) k d few, size-most n live k)
 
 -- the arrays after a refill
-pub grouped_whole : (n count : ℕ) (live : List Ends) (numbers first_buses sizes : List ℕ) (energised : List Bool)
-    → length numbers < 2 ^ 32 → n ≤ length numbers → length first_buses ≡ length numbers → length sizes ≡ length numbers → length energised ≡ length numbers → count ≤ n
+pub grouped_whole : (n count : ℕ) (live : List Ends) (numbers first_buses sizes : List ℕ) (energised absolute : List Bool)
+    → length numbers < 2 ^ 32 → n ≤ length numbers → length first_buses ≡ length numbers → length sizes ≡ length numbers → length energised ≡ length numbers → length absolute ≡ length numbers → count ≤ n
     → All (λ c. c < count) (take n numbers) → All (λ b. b < n) (take count first_buses)
     → take n numbers ≡ components_of n live → count ≡ component_count n live → take count sizes ≡ sizes_of count (take n numbers)
-    → AreGrouped n count numbers first_buses sizes energised
-grouped_whole n count live numbers first_buses sizes energised small fits first_len sizes_len energised_len few below firsts are counted sized =
+    → AreGrouped n count numbers first_buses sizes energised absolute
+grouped_whole n count live numbers first_buses sizes energised absolute small fits first_len sizes_len energised_len absolute_len few below firsts are counted sized =
     let sizes_are : take count sizes ≡ sizes_of (component_count n live) (components_of n live) = sized ∙ (ap (λ t. sizes_of count t) are ∙ ap (λ k. sizes_of k (components_of n live)) counted) in
     record {
       small = small;
@@ -63,6 +63,7 @@ grouped_whole n count live numbers first_buses sizes energised small fits first_
       first_len = first_len;
       sizes_len = sizes_len;
       energised_len = energised_len;
+      absolute_len = absolute_len;
       below = below;
       firsts = firsts;
       some = subst (λ (t : List ℕ). All (λ s. 0 < s) t) (sym sizes_are) (sizes-some n live);

@@ -1,9 +1,9 @@
 -- The lists of live meters, and the components of branches and items.
 use Rattle.std.proofs.Common.{◌≡◌, ◌↔◌, ℕ, suc, ◌+◌, ◌<◌, inl, inr, Bool, true, false, ◌&&◌, Option, Some, None, List, [], ◌∷◌, length, filter, map, get_or, refl, sym, ap, ◌∙◌, subst, arith}
-use Rattle.std.specs.Prelude.{All, IsSome, nat_lt, slice_index, slice_index_or, ◌==◌, if◌then◌else◌}
+use Rattle.std.specs.Prelude.{All, IsSome, nat_lt, slice_index_or, ◌==◌, if◌then◌else◌}
 use Rattle.std.specs.List.{range_with_len}
 use Rattle.std.proofs.lemmas.Bool.{cases_Bool, cases_lt, eq-eqb, eqb-true, ne_eqb}
-use Rattle.std.proofs.lemmas.List.{get_or-map, get_or_append_left, get_or_past, length-map}
+use Rattle.std.proofs.lemmas.List.{get_or-map, get_or_past, length-map}
 use Rattle.std.proofs.lemmas.Option.{same_Some}
 use Rattle.obs_graph.specs.declared.Ends.{Ends}
 use Rattle.obs_graph.specs.Positions.{positions_from}
@@ -22,13 +22,12 @@ use Rattle.obs_meter.specs.Spanned.{both_ends, common_vertex}
 use Rattle.obs_meter.specs.Touches.{every_item, is_live, live_items, touch_at, touched}
 use Rattle.obs_meter.proofs.Touched.{live-from_In, touched-present}
 use Rattle.obs_switch.specs.Groups.{items_with}
-use Rattle.obs_network.specs.Network.{Components, Network, case_branches, case_component_count, case_components, case_meters, case_offered, network_of}
-use Rattle.obs_network.specs.Located.{component_of_branch, component_of_item, ends_component, is_meter_in, live_meters_of, touch_component, vertex_component}
+use Rattle.obs_network.specs.Network.{Components, Network, case_branches, case_component_count, case_components, case_meters, case_offered, case_vertex_component, network_of}
+use Rattle.obs_network.specs.Components.{vertex_component}
+use Rattle.obs_network.specs.Located.{component_of_branch, component_of_item, ends_component, is_meter_in, live_meters_of, touch_component}
 use Rattle.obs_network.specs.Observable.{branch_component, case_live_meters, is_energised_component, item_component}
-use Rattle.obs_network.specs.Switched.{case_buses}
-use Rattle.obs_network.specs.Touching.{candidate_touch, meter_touch, meter_touches}
 use Rattle.obs_network.specs.Kept.{list_of, lists_of}
-use Rattle.obs_network.proofs.InComponents.{branch_component-below, live_ends-same, present_energised, present_is, touched_component}
+use Rattle.obs_network.proofs.InComponents.{branch_component-below, placed, present_energised, touched_component}
 use Rattle.obs_network.proofs.Marked.{filtered_below}
 
 -- the positions of a key are the numbers that pass two tests, where just these have the key
@@ -115,7 +114,7 @@ live_in t m live =
     idle touch e live = cc (rw e at live)
 
 -- a present branch has a component
-present_component : (t : Tables) (e : ℕ) (o : Option Ends) → get_or (case_branches t) e None ≡ o → IsSome o → ends_component (case_components t) o ≡ Some (get_or (case_components t) (both_ends o).0 0)
+present_component : (t : Tables) (e : ℕ) (o : Option Ends) → get_or (case_branches t) e None ≡ o → IsSome o → ends_component (case_components t) o ≡ Some (case_vertex_component t (both_ends o).0)
 present_component t e None same s = absurd (cc s)
 present_component t e (Some x) same s = refl
 
@@ -165,11 +164,10 @@ some_list t v m i =
 
 -- both ends of a branch lie in its component
 pub both_ends_in : (t : Tables) → IsValid t → (e : ℕ) (x : Ends) → slice_index_or (case_branches t) e None ≡ Some x
-    → (component_of_branch (network_of t) e ≡ Some (slice_index (case_components t) x.a)) × (component_of_branch (network_of t) e ≡ Some (slice_index (case_components t) x.b))
+    → (component_of_branch (network_of t) e ≡ Some (case_vertex_component t x.a)) × (component_of_branch (network_of t) e ≡ Some (case_vertex_component t x.b))
 both_ends_in t v e x h =
-    let a : component_of_branch (network_of t) e ≡ Some (slice_index (case_components t) x.a) = ap (ends_component (case_components t)) h in
-    let same = (live_ends-same t v e x (present_is t e x h).0).2 in
-    (a, a ∙ ap (λ (k : ℕ). Some k) same)
+    let a : component_of_branch (network_of t) e ≡ Some (case_vertex_component t x.a) = ap (ends_component (case_components t)) h in
+    (a, a ∙ ap (λ (k : ℕ). Some k) (sym (placed t v e x h).at_b))
 
 pub absent_in_none : (t : Tables) (e : ℕ) → slice_index_or (case_branches t) e None ≡ None → component_of_branch (network_of t) e ≡ None
 absent_in_none t e h = ap (ends_component (case_components t)) h
@@ -184,7 +182,7 @@ component_with_branch t v e c h =
     let there : IsSome (slice_index_or (case_branches t) e None) = fed_from t v e c (get_or (case_branches t) e None) refl h in
     let same : branch_component t e ≡ c = same_Some (branch_component t e) c (sym (branch_in t e there) ∙ h) in
     let low = branch_component-below t v e there in
-    (omega (arith, low, same), sym (ap (is_energised_component t) same) ∙ present_energised t e there)
+    (omega (arith, low, same), sym (ap (is_energised_component t) same) ∙ present_energised t v e there)
 
 -- an item lies in the component of what it touches
 pub item_in : (t : Tables) → IsValid t → (m e : ℕ) → In e (touch_at (case_branches t) (case_offered t) m) → component_of_item (network_of t) m ≡ component_of_branch (network_of t) e
@@ -199,9 +197,3 @@ pub idle_in_none : (t : Tables) (m : ℕ) → touch_at (case_branches t) (case_o
 idle_in_none t m none =
     let home : ℕ = item_component t (case_offered t) m in
     ap (λ (xs : List ℕ). if nat_lt 0 (length xs) then Some home else None) none
-
--- a meter is the item of its number
-pub meter_is_item : (t : Tables) (m : ℕ) → m < length t.meters → slice_index_or (case_offered t) m Nothing ≡ slice_index_or (case_meters t) m Nothing
-unfolding case_offered case_meters
-meter_is_item t m l =
-    get_or_append_left (meter_touches (case_buses t) t.meters) (map (candidate_touch (case_buses t)) t.candidates) Nothing m (omega (arith, l, length-map t.meters (meter_touch (case_buses t))))

@@ -16,7 +16,7 @@ use Rattle.obs_graph.proofs.First.{first_joined-le, first_joined-first_joined}
 use Rattle.obs_switch.proofs.FirstNodes.{count_below-passed}
 use Rattle.obs_graph.specs.declared.Ends.{Ends}
 use Rattle.obs_case.specs.declared.rows.Node.{Node}
-use Rattle.obs_network.specs.Components.{component_count, component_of, components_of, energised_of, first_bus, first_buses_of, is_energised, is_first_bus, sizes_of}
+use Rattle.obs_network.specs.Components.{component_count, component_of, components_of, first_bus, first_buses_of, is_first_bus, is_marked, marked_of, sizes_of}
 use Rattle.obs_network.proofs.Numbered.{components_of-at}
 
 map_same : (xs : List ℕ) → map (λ x. x) xs ≡ xs
@@ -59,10 +59,10 @@ sized_all count numbers sizes len at =
     same_number_lists sizes (sizes_of count numbers) (len ∙ sym (length-map-range_with_len f 0 count)) (λ k l. at k (omega arith) ∙ sym (get_or-map-range_with_len f 0 count k k 0 (omega arith) (omega arith)))
 
 -- each component has its mark
-pub marked_all : (count : ℕ) (numbers buses : List ℕ) (nodes : List Node) (marks : List Bool) → length marks ≡ count → ((c : ℕ) → c < count → get_or marks c false ≡ is_energised numbers buses nodes c) → marks ≡ energised_of count numbers buses nodes
-marked_all count numbers buses nodes marks len at =
-    let f : ℕ → Bool = is_energised numbers buses nodes in
-    ext_get_or false marks (energised_of count numbers buses nodes) (len ∙ sym (length-map-range_with_len f 0 count)) (λ k l. at k (omega arith) ∙ sym (get_or-map-range_with_len f 0 count k k false (omega arith) (omega arith)))
+pub marked_all : (flag : Node → Bool) (count : ℕ) (numbers buses : List ℕ) (nodes : List Node) (marks : List Bool) → length marks ≡ count → ((c : ℕ) → c < count → get_or marks c false ≡ is_marked flag numbers buses nodes c) → marks ≡ marked_of flag count numbers buses nodes
+marked_all flag count numbers buses nodes marks len at =
+    let f : ℕ → Bool = is_marked flag numbers buses nodes in
+    ext_get_or false marks (marked_of flag count numbers buses nodes) (len ∙ sym (length-map-range_with_len f 0 count)) (λ k l. at k (omega arith) ∙ sym (get_or-map-range_with_len f 0 count k k false (omega arith) (omega arith)))
 
 pub or_nothing : (b : Bool) → b || false ≡ b
 or_nothing true = refl

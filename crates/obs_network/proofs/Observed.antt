@@ -4,7 +4,6 @@ use Rattle.std.specs.Prelude.{IsSome, cond, slice_index, slice_index_or, ◌==�
 use Rattle.std.specs.List.{range_with_len}
 use Rattle.std.proofs.lemmas.Bool.{cases_Bool, eq-eqb, eqb-true, cond-true, cond-false}
 use Rattle.std.proofs.lemmas.List.{map-append}
-use Rattle.std.proofs.lemmas.List.Sums.{length-filter}
 use Rattle.obs_graph.specs.Positions.{present, sum_below}
 use Rattle.obs_case.specs.Tables.{Tables, IsValid}
 use Rattle.obs_matroid.specs.Lists.{In, IsDistinct}
@@ -25,49 +24,29 @@ use Rattle.obs_meter.specs.Touches.{touch_at}
 use Rattle.obs_meter.proofs.Assigned.{from_matroid, to_matroid, live_items-distinct, rho_at-is, rho_at-unique}
 use Rattle.obs_meter.proofs.Instance.{IsJoining-graph, IsMatroid-graph}
 use Rattle.obs_meter.proofs.Touched.{touched-present}
-use Rattle.obs_network.specs.Components.{component_of}
-use Rattle.obs_network.specs.Network.{case_branches, case_component_count, case_components, case_live, case_meters, case_need, case_needed, case_sizes, case_vertex_count}
-use Rattle.obs_network.specs.Observable.{IsObservable, IsObservableCase, branch_component, case_live_meters, is_energised_component, item_component}
+use Rattle.obs_network.specs.Switched.{case_bus_count}
+use Rattle.obs_network.specs.Network.{case_branches, case_component_count, case_components, case_live, case_meters, case_need, case_needed, case_vertex_count}
+use Rattle.obs_network.specs.Observable.{IsObservable, IsObservableCase, branch_component, case_live_meters, is_energised_component, is_vertex_of, item_component}
 use Rattle.obs_network.proofs.Numbered.{component_at}
-use Rattle.obs_network.proofs.Grouping.{sizes_of-at}
 use Rattle.obs_network.proofs.OfCase.{case_branches-are}
 use Rattle.obs_network.proofs.OfLaws.{case_component-at}
-use Rattle.obs_network.proofs.InComponents.{branch_component-below, ends_component, kinds_sum, present_below, present_energised, touched_component}
+use Rattle.obs_network.proofs.Vertices.{is_vertex_of-bus, need_is, vertices_of_component}
+use Rattle.obs_network.proofs.InComponents.{branch_component-below, kinds_sum, present_below, present_energised, present_placed, touched_component}
 use Rattle.obs_network.proofs.Sums.{nothing_in, split_by, sum_below-le, sum_below-same}
-
--- the buses of a component
-abbrev pub is_of : Tables → ℕ → ℕ → Bool
-is_of t c u = component_of (present (case_live t)) u == c
-
-abbrev pub buses_of_component : Tables → ℕ → List ℕ
-buses_of_component t c = filter (is_of t c) (range_with_len 0 (case_vertex_count t))
-
-count_by-map : (f : ℕ → ℕ) (c : ℕ) (xs : List ℕ) → length (filter (λ x. x == c) (map f xs)) ≡ length (filter (λ u. f u == c) xs)
-count_by-map f c [] = refl
-count_by-map f c (x ∷ xs) = elim (cases_Bool (f x == c)) [ inl e ↦ rw e (ap suc (count_by-map f c xs)) | inr e ↦ rw e (count_by-map f c xs) ]
-
--- they are as many as its size
-pub size_is : (t : Tables) (c : ℕ) → c < case_component_count t → slice_index (case_sizes t) c ≡ length (buses_of_component t c)
-unfolding case_sizes case_components
-size_is t c l =
-    let f : ℕ → ℕ = component_of (present (case_live t)) in
-    let xs = range_with_len 0 (case_vertex_count t) in
-    sizes_of-at (case_component_count t) (map f xs) c 0 l ∙ (sym (length-filter (λ x. x == c) (map f xs)) ∙ count_by-map f c xs)
 
 -- the pairs whose branch lies in a component
 abbrev pub pairs_in : Tables → ℕ → List Pair → List Pair
 pairs_in t c A = filter (λ p. branch_component t p.1 == c) A
 
-bus_in : (t : Tables) (c u : ℕ) → u < case_vertex_count t → get_or (case_components t) u 0 ≡ c → In u (buses_of_component t c)
-bus_in t c u l e =
-    In-filter (is_of t c) u (range_with_len 0 (case_vertex_count t)) (range_in 0 (case_vertex_count t) u (omega arith) (omega (arith, l)))
-    (eq-eqb (component_of (present (case_live t)) u) c (sym (case_component-at t u l) ∙ e))
+vertex_in : (t : Tables) (c u : ℕ) → u < case_vertex_count t → is_vertex_of t c u ≡ true → In u (vertices_of_component t c)
+vertex_in t c u l e = In-filter (is_vertex_of t c) u (range_with_len 0 (case_vertex_count t)) (range_in 0 (case_vertex_count t) u (omega arith) (omega (arith, l))) e
 
-has_bus : (t : Tables) (c : ℕ) → c < case_component_count t → (u : ℕ) × In u (buses_of_component t c)
+has_vertex : (t : Tables) (c : ℕ) → c < case_component_count t → (u : ℕ) × In u (vertices_of_component t c)
 unfolding case_component_count
-has_bus t c l =
-    let b = component_at (case_vertex_count t) (present (case_live t)) c l in
-    (b.0, In-filter (is_of t c) b.0 (range_with_len 0 (case_vertex_count t)) (range_in 0 (case_vertex_count t) b.0 (omega arith) (let low = b.1 in omega (arith, low))) (eq-eqb (component_of (present (case_live t)) b.0) c b.2))
+has_vertex t c l =
+    let b = component_at (case_bus_count t) (present (case_live t)) c l in
+    let low = b.1 in
+    (b.0, vertex_in t c b.0 (omega (arith, low)) (is_vertex_of-bus t c b.0 low ∙ eq-eqb (slice_index (case_components t) b.0) c (case_component-at t b.0 low ∙ b.2)))
 
 some_long : (xs : List ℕ) (x : ℕ) → In x xs → 0 < length xs
 some_long [] x i = absurd i
@@ -88,20 +67,23 @@ module _ (t : Tables) (v : IsValid t) where
       let b = to_matroid n ends touches M A a in
       let q : Pair → Bool = λ p. branch_component t p.1 == c in
       let free = independent_within (graph_matroid n ends) laws A (pairs_in t c A) b.independent b.different (IsDistinct-filter_items q A a.different) (λ p i. (In-filter_from q p A i).0) in
-      let inside : (e : ℕ) → In e (branches (pairs_in t c A)) → In (ends_at ends e).0 (buses_of_component t c) × In (ends_at ends e).1 (buses_of_component t c) =
+      let inside : (e : ℕ) → In e (branches (pairs_in t c A)) → In (ends_at ends e).0 (vertices_of_component t c) × In (ends_at ends e).1 (vertices_of_component t c) =
       λ e i.
       let w = In-branches_from (pairs_in t c A) e i in
       let u = In-filter_from q w.0 A w.1 in
-      let low = present_below t v w.0.1 (pair_present touches M A a w.0 u.0) in
+      let place = present_placed t v w.0.1 (pair_present touches M A a w.0 u.0) in
+      let below = present_below t v w.0.1 (pair_present touches M A a w.0 u.0) in
       let own = eqb-true (branch_component t w.0.1) c u.1 in
-      subst (λ (x : ℕ). In (ends_at ends x).0 (buses_of_component t c) × In (ends_at ends x).1 (buses_of_component t c)) (sym w.2)
-      (bus_in t c (ends_at ends w.0.1).0 low.0 own, bus_in t c (ends_at ends w.0.1).1 low.1 (sym (ends_component t v w.0.1) ∙ own)) in
-      let W = buses_of_component t c in
-      let found = firsts (ends_at ends) (joined_at ends) (rank_at n ends) (IsJoining-graph ends) W (IsDistinct-filter (is_of t c) (range_with_len 0 n) (range_distinct 0 n)) (branches (pairs_in t c A)) free inside in
-      let bus = has_bus t c l in
-      let r = found.1.covers bus.0 bus.1 in
+      subst (λ (x : ℕ). In (ends_at ends x).0 (vertices_of_component t c) × In (ends_at ends x).1 (vertices_of_component t c)) (sym w.2) (
+        vertex_in t c (ends_at ends w.0.1).0 below.0 (ap (λ k. is_vertex_of t k (ends_at ends w.0.1).0) (sym own) ∙ place.of_a),
+        vertex_in t c (ends_at ends w.0.1).1 below.1 (ap (λ k. is_vertex_of t k (ends_at ends w.0.1).1) (sym own) ∙ place.of_b),
+      ) in
+      let W = vertices_of_component t c in
+      let found = firsts (ends_at ends) (joined_at ends) (rank_at n ends) (IsJoining-graph ends) W (IsDistinct-filter (is_vertex_of t c) (range_with_len 0 n) (range_distinct 0 n)) (branches (pairs_in t c A)) free inside in
+      let some_vertex = has_vertex t c l in
+      let r = found.1.covers some_vertex.0 some_vertex.1 in
       let some = some_long found.0 r.0 r.1 in
-      omega (arith, found.1.count, some, length-branches (pairs_in t c A), size_is t c l)
+      omega (arith, found.1.count, some, length-branches (pairs_in t c A), need_is t c l)
 
   kind_below : (touches : List Touch) (M : List ℕ) (A : List Pair) → IsAssignmentAt (case_branches t) touches M A → (p : Pair) → In p A → branch_component t p.1 < case_component_count t
   kind_below touches M A a p i = branch_component-below t v p.1 (pair_present touches M A a p i)
@@ -120,7 +102,7 @@ module _ (t : Tables) (v : IsValid t) where
             (λ p i.
             let u = In-filter_from (λ (q : Pair). branch_component t q.1 == c) p A i in
             let own = eqb-true (branch_component t p.1) c u.1 in
-            absurd (cc (sym (ap (is_energised_component t) own) ∙ present_energised t p.1 (pair_present touches M A a p u.0), dead))) in
+            absurd (cc (sym (ap (is_energised_component t) own) ∙ present_energised t v p.1 (pair_present touches M A a p u.0), dead))) in
             omega (arith, none)
       ]
 

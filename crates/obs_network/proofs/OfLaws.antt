@@ -1,6 +1,8 @@
 -- What a reader means by components, sources and edits.
-use Rattle.std.proofs.Common.{◌≡◌, ◌↔◌, ℕ, zero, suc, ◌<◌, ◌≤◌, Bool, List, [], ◌∷◌, length, get_or, refl, sym, ap, ◌∙◌, arith}
-use Rattle.std.specs.Prelude.{IsTrue}
+use Rattle.std.proofs.Common.{◌≡◌, ◌↔◌, ℕ, zero, suc, ◌<◌, ◌≤◌, Bool, true, List, [], ◌∷◌, length, get_or, refl, sym, ap, ◌∙◌, arith}
+use Rattle.std.specs.Prelude.{Contains, IsTrue, slice_index, ◌==◌}
+use Rattle.std.proofs.lemmas.Bool.{eq-eqb, eqb-true}
+use Rattle.std.proofs.lemmas.List.Folds.{Any-from_list_any, list_any-from_Any}
 use Rattle.obs_graph.specs.declared.Ends.{Ends}
 use Rattle.obs_graph.specs.Joined.{Chain, is_joined}
 use Rattle.obs_graph.specs.Positions.{present}
@@ -11,11 +13,12 @@ use Rattle.obs_switch.specs.Buses.{bus_of, ends_of_links}
 use Rattle.obs_switch.proofs.FirstNodes.{one_bus}
 use Rattle.obs_case.specs.declared.rows.Branch.{Branch}
 use Rattle.obs_case.specs.declared.rows.Meter.{Meter}
+use Rattle.obs_case.specs.declared.rows.Node.{Node}
 use Rattle.obs_case.specs.declared.rows.Switch.{Switch}
 use Rattle.obs_case.specs.Flags.{changed_at, with_branch_inservice, with_closed, with_meter_inservice}
 use Rattle.obs_case.specs.Tables.{Tables}
 use Rattle.obs_network.specs.Switched.{case_bus_count}
-use Rattle.obs_network.specs.Components.{component_of, first_bus}
+use Rattle.obs_network.specs.Components.{component_of, first_bus, is_marked, marked_nodes}
 use Rattle.obs_network.specs.Network.{case_components, case_live, rows_of}
 use Rattle.obs_network.proofs.Whole.{rows_are}
 use Rattle.obs_network.proofs.Numbered.{components_of-at, one_component}
@@ -39,6 +42,19 @@ one_case_component t b c l m =
 
 pub lowest_bus : (live : List Ends) (b c : ℕ) → Chain live b c → first_bus live b ≤ c
 lowest_bus live b c chain = omega (arith, same_first-from_Chain live chain, first_joined-le live c)
+
+-- a component is marked exactly where one of its nodes is
+pub marked_by_a_node : (flag : Node → Bool) (components buses : List ℕ) (nodes : List Node) (c : ℕ)
+    → (is_marked flag components buses nodes c ≡ true) ↔ (u : ℕ) × Contains (marked_nodes flag nodes) u × (slice_index components (slice_index buses u) ≡ c)
+marked_by_a_node flag components buses nodes c =
+    let there : ℕ → Bool = λ u. slice_index components (slice_index buses u) == c in (
+      (λ marked.
+          let any = Any-from_list_any there (marked_nodes flag nodes) marked in
+          (any.1, (any.0, any.2, any.3), eqb-true (slice_index components (slice_index buses any.1)) c any.4)),
+      (λ node.
+          list_any-from_Any there (marked_nodes flag nodes)
+          (node.1.0, node.0, node.1.1, node.1.2, eq-eqb (slice_index components (slice_index buses node.0)) c node.2)),
+    )
 
 pub length-changed_at : {A : Type 0} (change : A → A) (i : ℕ) (xs : List A) → length (changed_at change i xs) ≡ length xs
 unfolding changed_at

@@ -1,25 +1,22 @@
 -- A network after the flag of one meter was set.
-use Rattle.std.proofs.Common.{◌≡◌, ◌≢◌, ℕ, ◌+◌, ◌<◌, ◌≤◌, Bool, List, length, get_or, set, take, refl, sym, ap, ◌∙◌, subst, arith}
-use Rattle.std.proofs.lemmas.List.{get_or-map, get_or-set_same, length-map, map-set}
-use Rattle.std.proofs.Math.Seq.{take-set-lt}
+use Rattle.std.proofs.Common.{◌≡◌, ℕ, ◌+◌, ◌<◌, ◌≤◌, Bool, List, length, get_or, set, refl, sym, ap, ◌∙◌, subst, arith}
+use Rattle.std.proofs.lemmas.List.{get_or-set_same, length-map, map-set}
 use Rattle.obs_case.specs.declared.rows.Meter.{Meter}
 use Rattle.obs_case.specs.Flags.{with_meter_inservice}
-use Rattle.obs_case.specs.declared.rows.Kind.TheVariants.{Flow}
-use Rattle.obs_case.specs.Tables.{IsValid, Tables}
+use Rattle.obs_case.specs.Tables.{Tables}
 use Rattle.obs_meter.specs.declared.Touch.{Touch}
 use Rattle.obs_meter.specs.declared.Touch.TheVariants.{Nothing}
-use Rattle.obs_network.specs.Switched.{case_buses}
-use Rattle.obs_network.specs.Touching.{meter_touch}
-use Rattle.obs_network.specs.Network.{Components, Network, case_branches, case_component_count, case_components, case_energised, case_first_buses, case_live, case_meters, case_needed, case_offered, case_sizes, case_vertex_count, network_of}
+use Rattle.obs_network.specs.Switched.{case_bus_count, case_buses}
+use Rattle.obs_network.specs.Network.{Components, Network, case_absolute, case_branches, case_component_count, case_components, case_energised, case_first_buses, case_live, case_meters, case_needed, case_offered, case_sizes, case_vertex_count, network_of}
 use Rattle.obs_graph.specs.Graph.{Graph}
 use Rattle.obs_meter.specs.Held.{Meters}
 use Rattle.obs_network.specs.Kept.{list_of, lists_of}
 use Rattle.obs_network.specs.Located.{touch_component}
 use Rattle.obs_network.specs.Edited.{IsBeforeMeter}
 use Rattle.obs_network.proofs.Edited.{branches-with_meter, meters-with_meter, offered-with_meter}
-use Rattle.obs_network.proofs.OfCase.{meters-at_nodes, length-case_meters, length-case_offered}
+use Rattle.obs_network.proofs.OfCase.{length-case_meters, length-case_offered}
 use Rattle.obs_network.proofs.OfLaws.{length-changed_at, rows-with_meter}
-use Rattle.obs_network.proofs.Whole.{items_are, network_is}
+use Rattle.obs_network.proofs.Whole.{items_are, network_is, shape_is}
 
 -- the network with one item's touch changed
 abbrev pub with_touch : Network → ℕ → Touch → Network
@@ -37,18 +34,10 @@ pub record AreAfter (n : Network) (after : Tables) (m : ℕ) : Type 0 where
   pub meters : set n.meters.touches m (get_or (case_meters after) m Nothing) ≡ case_meters after
   pub offered : set n.offered.touches m (get_or (case_meters after) m Nothing) ≡ case_offered after
   pub buses : n.buses.buses ≡ case_buses after
+  pub count : n.buses.count ≡ case_bus_count after
   pub vertices : n.graph.vertices ≡ case_vertex_count after
   pub ends : n.graph.ends ≡ case_branches after
   pub whole : with_touch n m (get_or (case_meters after) m Nothing) ≡ network_of after
-
--- what the changed row touches
-pub touch_at_row : (t : Tables) (m : ℕ) (row : Meter) → m < length t.meters → row ≡ get_or t.meters m row → meter_touch (case_buses t) row ≡ get_or (case_meters t) m Nothing
-unfolding case_meters
-touch_at_row t m row low is = ap (meter_touch (case_buses t)) is ∙ sym (get_or-map (meter_touch (case_buses t)) t.meters m row Nothing low)
-
--- what is no flow stands at a node
-pub row_at_node : (t : Tables) → IsValid t → (m : ℕ) → m < length t.meters → (row : Meter) → row ≡ get_or t.meters m row → row.kind ≢ Flow → row.at < length t.nodes
-row_at_node t valid m low row is other = subst (λ (r : Meter). r.kind ≢ Flow → r.at < length t.nodes) (sym is) (meters-at_nodes t valid m row low) other
 
 module _ (t : Tables) (m : ℕ) (inservice : Bool) (low : m < length (with_meter_inservice t m inservice).meters) where
   abbrev after : Tables
@@ -67,13 +56,16 @@ module _ (t : Tables) (m : ℕ) (inservice : Bool) (low : m < length (with_meter
   of_offered = sym (offered-with_meter t m inservice there)
 
   whole : with_touch (network_of t) m touch ≡ network_of after
-  unfolding case_branches case_components case_component_count case_energised case_first_buses case_live case_needed case_sizes
+  unfolding case_absolute case_components case_component_count case_energised case_first_buses case_live case_needed case_sizes
   whole =
       let rows = sym (rows-with_meter t m inservice) in
       let same = length-changed_at (λ (r : Meter). record r { inservice = inservice }) m t.meters in
-      network_is (with_touch (network_of t) m touch) (network_of after) rows refl refl refl (items_are _ _ of_meters (sym same)) (items_are _ _ of_offered (ap (λ k. k + length t.candidates) (sym same))) refl
+      let more = ap (λ k. k + length t.candidates) (sym same) in
+      network_is (with_touch (network_of t) m touch) (network_of after) rows refl refl (shape_is _ _ refl (sym (branches-with_meter t m inservice)) refl (ap (λ k. length t.branches + k) more))
+      (items_are _ _ of_meters (sym same)) (items_are _ _ of_offered more) refl
 
   are_after : AreAfter (network_of t) after m
+  unfolding case_component_count case_live
   are_after = record {
     item = omega (arith, there, length-case_meters t);
     item_offered = omega (arith, there, length-case_offered t);
@@ -82,6 +74,7 @@ module _ (t : Tables) (m : ℕ) (inservice : Bool) (low : m < length (with_meter
     meters = of_meters;
     offered = of_offered;
     buses = refl;
+    count = refl;
     vertices = refl;
     ends = sym (branches-with_meter t m inservice);
     whole = whole;
@@ -104,11 +97,3 @@ lists-set components graph meters changed m touch kind low is is_kind old new wa
 
 pub length-lists_of : (components : Components) (graph : Graph) (meters : Meters) → length (lists_of components graph meters) ≡ length meters.touches
 length-lists_of components graph meters = length-map meters.touches (λ t. list_of (length components.first_buses) (touch_component components.of_buses graph.ends t))
-
--- what all items touch, where the meters are the first of them and one of these touches something else
-module _ (touches offered meters : List Touch) (m : ℕ) (touch : Touch) (kept : take (length offered) touches ≡ offered) (front : take (length meters) offered ≡ meters) (low : m < length meters) (low_offered : m < length offered) where
-  pub offered-set : take (length offered) (set touches m touch) ≡ set offered m touch
-  offered-set = take-set-lt (length offered) touches m touch low_offered ∙ ap (λ l. set l m touch) kept
-
-  pub front-set : take (length meters) (set offered m touch) ≡ set meters m touch
-  front-set = take-set-lt (length meters) offered m touch low ∙ ap (λ l. set l m touch) front

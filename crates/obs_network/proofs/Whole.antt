@@ -12,14 +12,15 @@ labelled_is a b e f g =
     let of : List ℕ → ℕ → ℕ → Buses = λ x y z. record { buses = x; count = y; most_nodes = z } in
     ap (λ x. of x a.count a.most_nodes) e ∙ (ap (λ y. of b.buses y a.most_nodes) f ∙ ap (λ z. of b.buses b.count z) g)
 
-pub grouped_is : (a b : Components) → a.of_buses ≡ b.of_buses → a.first_buses ≡ b.first_buses → a.sizes ≡ b.sizes → a.energised ≡ b.energised → a.most_buses ≡ b.most_buses → a ≡ b
-grouped_is a b e f g h k =
-    let of : List ℕ → List ℕ → List ℕ → List Bool → ℕ → Components = λ x y z u w. record { of_buses = x; first_buses = y; sizes = z; energised = u; most_buses = w } in
-    ap (λ x. of x a.first_buses a.sizes a.energised a.most_buses) e
-    ∙ (ap (λ y. of b.of_buses y a.sizes a.energised a.most_buses) f
-    ∙ (ap (λ z. of b.of_buses b.first_buses z a.energised a.most_buses) g
-    ∙ (ap (λ u. of b.of_buses b.first_buses b.sizes u a.most_buses) h
-    ∙ ap (λ w. of b.of_buses b.first_buses b.sizes b.energised w) k)))
+pub grouped_is : (a b : Components) → a.of_buses ≡ b.of_buses → a.first_buses ≡ b.first_buses → a.sizes ≡ b.sizes → a.energised ≡ b.energised → a.absolute ≡ b.absolute → a.most_buses ≡ b.most_buses → a ≡ b
+grouped_is a b e f g h l k =
+    let of : List ℕ → List ℕ → List ℕ → List Bool → List Bool → ℕ → Components = λ x y z u v w. record { of_buses = x; first_buses = y; sizes = z; energised = u; absolute = v; most_buses = w } in
+    ap (λ x. of x a.first_buses a.sizes a.energised a.absolute a.most_buses) e
+    ∙ (ap (λ y. of b.of_buses y a.sizes a.energised a.absolute a.most_buses) f
+    ∙ (ap (λ z. of b.of_buses b.first_buses z a.energised a.absolute a.most_buses) g
+    ∙ (ap (λ u. of b.of_buses b.first_buses b.sizes u a.absolute a.most_buses) h
+    ∙ (ap (λ v. of b.of_buses b.first_buses b.sizes b.energised v a.most_buses) l
+    ∙ ap (λ w. of b.of_buses b.first_buses b.sizes b.energised b.absolute w) k))))
 
 pub shape_is : (a b : Graph) → a.vertices ≡ b.vertices → a.ends ≡ b.ends → a.most_vertices ≡ b.most_vertices → a.most_branches ≡ b.most_branches → a ≡ b
 shape_is a b e f g h =

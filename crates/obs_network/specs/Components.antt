@@ -1,5 +1,5 @@
 -- Components: what live branches join. `live` has the ends of the live branches, and buses are numbered from 0.
-use Rattle.std.specs.Prelude.{ℕ, ◌-◌, ◌==◌, Bool, false, if◌then◌else◌, Option, Some, None, List, map, filter, count_by, slice_index, slice_index_or}
+use Rattle.std.specs.Prelude.{ℕ, ◌-◌, ◌==◌, Bool, false, nat_lt, if◌then◌else◌, Option, Some, None, List, length, map, filter, count_by, slice_index, slice_index_or}
 use Rattle.std.specs.List.{list_any, range_with_len}
 use Rattle.obs_graph.specs.declared.Ends.{Ends}
 use Rattle.obs_graph.specs.Joined.{Chain, count_below, first_joined}
@@ -38,25 +38,55 @@ first_buses_of count live = filter (is_first_bus live) (range_with_len 0 count)
 abbrev pub sizes_of : ℕ → List ℕ → List ℕ
 sizes_of count components = map (λ c. count_by (λ x. x == c) components) (range_with_len 0 count)
 
+-- the nodes that a flag marks
+abbrev pub marked_nodes : (Node → Bool) → List Node → List ℕ
+marked_nodes flag nodes = positions_from flag 0 nodes
+
+-- whether the flag marks one of a component's nodes
+abbrev pub is_marked : (Node → Bool) → List ℕ → List ℕ → List Node → ℕ → Bool
+is_marked flag components buses nodes c = list_any (λ u. slice_index components (slice_index buses u) == c) (marked_nodes flag nodes)
+
+-- which of so many components are marked so
+abbrev pub marked_of : (Node → Bool) → ℕ → List ℕ → List ℕ → List Node → List Bool
+marked_of flag count components buses nodes = map (is_marked flag components buses nodes) (range_with_len 0 count)
+
+-- whether a node is fed from outside
+abbrev pub is_source : Node → Bool
+is_source row = row.source
+
+-- whether a node's component is to be estimated against the common time reference
+abbrev pub is_absolute_node : Node → Bool
+is_absolute_node row = row.absolute
+
 -- the nodes that are fed from outside
 abbrev pub source_nodes : List Node → List ℕ
-source_nodes nodes = positions_from (λ (row : Node). row.source) 0 nodes
+source_nodes nodes = marked_nodes is_source nodes
 
 -- whether a component is energised: one of its nodes is a source
 abbrev pub is_energised : List ℕ → List ℕ → List Node → ℕ → Bool
-is_energised components buses nodes c = list_any (λ u. slice_index components (slice_index buses u) == c) (source_nodes nodes)
+is_energised components buses nodes c = is_marked is_source components buses nodes c
 
 -- which of so many components are energised
 abbrev pub energised_of : ℕ → List ℕ → List ℕ → List Node → List Bool
-energised_of count components buses nodes = map (is_energised components buses nodes) (range_with_len 0 count)
+energised_of count components buses nodes = marked_of is_source count components buses nodes
 
--- the pairs that a component needs: one fewer than it has buses
-abbrev pub need_of : List ℕ → ℕ → ℕ
-need_of sizes c = slice_index sizes c - 1
+-- which of so many components are absolute: one of their nodes is marked absolute
+abbrev pub absolute_of : ℕ → List ℕ → List ℕ → List Node → List Bool
+absolute_of count components buses nodes = marked_of is_absolute_node count components buses nodes
+
+-- the pairs that a component needs: as many as it has buses where it is absolute, else one fewer
+abbrev pub need_of : List ℕ → List Bool → ℕ → ℕ
+need_of sizes absolute c = if slice_index_or absolute c false then slice_index sizes c else slice_index sizes c - 1
 
 -- the sum of what the energised ones of the first so many components need
-abbrev pub needed_of : List ℕ → List Bool → ℕ → ℕ
-needed_of sizes energised count = sum_below (λ c. if slice_index_or energised c false then need_of sizes c else 0) count
+abbrev pub needed_of : List ℕ → List Bool → List Bool → ℕ → ℕ
+needed_of sizes energised absolute count =
+    sum_below (λ c. if slice_index_or energised c false then need_of sizes absolute c else 0) count
+
+-- the component of a vertex, where the component of each bus is given: the vertices are the buses, and behind them one
+-- reference vertex for each component
+abbrev pub vertex_component : List ℕ → ℕ → ℕ
+vertex_component components v = if nat_lt v (length components) then slice_index components v else v - length components
 
 -- a live branch, where it is of an energised component
 abbrev pub if_energised : List ℕ → List Bool → Option Ends → Option Ends

@@ -5,7 +5,8 @@ use Rattle.obs_graph.specs.Joined.{AreMergedBy, renamed_one}
 use Rattle.obs_case.specs.Flags.{with_meter_inservice}
 use Rattle.obs_case.specs.Tables.{Tables}
 use Rattle.obs_network.specs.Switched.{case_bus_count, case_buses}
-use Rattle.obs_network.specs.Network.{Network, case_branches, case_vertex_count, network_of}
+use Rattle.obs_network.specs.Angles.{reference_of}
+use Rattle.obs_network.specs.Network.{Network, case_branches, case_components, case_vertex_count, network_of}
 
 -- all these positions have present branches
 abbrev pub ArePresent : List (Option Ends) → List ℕ → Type 0
@@ -30,12 +31,31 @@ pub record AreMerged (t after : Tables) (merges : List Ends) : Type 0 where
   pub nodes : (u : ℕ) → u < length t.nodes → slice_index (case_buses after) u ≡ name (slice_index (case_buses t) u)
   pub ends : AreRenamed name (case_branches t) (case_branches after)
 
--- two different vertices become one
+-- the reference vertex of a bus's component
+abbrev pub reference_vertex : Tables → ℕ → ℕ
+reference_vertex t bus = reference_of (case_components t) (slice_index (case_components t) bus)
+
+-- the reference vertices of two buses' components, as a pair that becomes one
+abbrev pub references : Tables → ℕ → ℕ → Ends
+references t one other = record { a = reference_vertex t one; b = reference_vertex t other }
+
+-- the buses stay, and the components of two buses become one, where they are two
+pub record IsReferenceMerge (t after : Tables) : Type 0 where
+  pub one : ℕ
+  pub other : ℕ
+  pub one_low : one < case_bus_count t
+  pub other_low : other < case_bus_count t
+  pub buses : case_buses after ≡ case_buses t
+  pub merged : AreMerged t after (references t one other ∷ [])
+
+-- two different buses become one, and so do their components, where they are two
 pub record IsOneMerge (t after : Tables) : Type 0 where
   pub one : ℕ
   pub other : ℕ
+  pub one_low : one < case_bus_count t
+  pub other_low : other < case_bus_count t
   pub apart : one ≢ other
-  pub merged : AreMerged t after (record { a = one; b = other } ∷ [])
+  pub merged : AreMerged t after (record { a = one; b = other } ∷ references t one other ∷ [])
 
 -- a network is that of the tables before the flag of this meter was set
 pub record IsBeforeMeter (n : Network) (m : ℕ) (after : Tables) : Type 0 where

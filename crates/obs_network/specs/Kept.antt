@@ -1,25 +1,38 @@
 -- What the arrays of a network hold.
-use Rattle.std.specs.Prelude.{ℕ, suc, ◌≡◌, ◌<◌, ◌≤◌, ◌^◌, All, Bool, Option, Some, None, List, length, map, slice_index, take}
+use Rattle.std.specs.Prelude.{ℕ, suc, ◌+◌, ◌-◌, ◌*◌, ◌≡◌, ◌<◌, ◌≤◌, ◌^◌, All, Bool, if◌then◌else◌, Option, Some, None, List, length, map, slice_index, take}
 use Rattle.obs_graph.specs.declared.Ends.{Ends}
 use Rattle.obs_graph.specs.Search.{State, room_of}
 use Rattle.obs_graph.specs.Graph.{Graph}
+use Rattle.obs_case.specs.declared.rows.Node.{Node}
 use Rattle.obs_switch.specs.declared.link.Link.{Link}
 use Rattle.obs_switch.specs.Groups.{AreGroups}
 use Rattle.obs_switch.specs.Held.{Buses}
 use Rattle.obs_meter.specs.declared.Touch.{Touch}
 use Rattle.obs_meter.specs.Held.{Meters}
 use Rattle.obs_meter.specs.Touches.{AreInRange}
+use Rattle.obs_network.specs.declared.marks.Flag.{Flag}
+use Rattle.obs_network.specs.declared.marks.Flag.TheVariants.{Source, Absolute}
 use Rattle.obs_network.specs.Network.{Components}
 use Rattle.obs_network.specs.Located.{touch_component}
 
+-- whether a node has a flag
+abbrev pub flag_of : Flag → Node → Bool
+flag_of Source row = row.source
+flag_of Absolute row = row.absolute
+
+-- the pairs that a component of a size needs
+abbrev pub need_by : ℕ → Bool → ℕ
+need_by size absolute = if absolute then size else size - 1
+
 -- the arrays of components, of which the first entries are in use
-pub record AreGrouped (buses count : ℕ) (numbers first_buses sizes : List ℕ) (energised : List Bool) : Type 0 where
+pub record AreGrouped (buses count : ℕ) (numbers first_buses sizes : List ℕ) (energised absolute : List Bool) : Type 0 where
   pub small : length numbers < 2 ^ 32
   pub fits : buses ≤ length numbers
   pub few : count ≤ buses
   pub first_len : length first_buses ≡ length numbers
   pub sizes_len : length sizes ≡ length numbers
   pub energised_len : length energised ≡ length numbers
+  pub absolute_len : length absolute ≡ length numbers
   pub below : All (λ c. c < count) (take buses numbers)
   pub firsts : All (λ b. b < buses) (take count first_buses)
   pub some : All (λ s. 0 < s) (take count sizes)
@@ -57,13 +70,13 @@ pub record AreListed (meters components most_components : ℕ) (lists members st
 pub record AreParts (links : List Link) (live kept : List (Option Ends)) (touches : List Touch) (search : State)
     (buses : Buses) (components : Components) (graph : Graph) (meters offered : Meters) (listed : Listed) : Type 0 where
   pub buses_room : buses.most_nodes ≡ components.most_buses
-  pub vertices_room : graph.most_vertices ≡ components.most_buses
-  pub branches_room : graph.most_branches ≡ length live
-  pub kept_len : length kept ≡ length live
+  pub vertices_room : graph.most_vertices ≡ 2 * components.most_buses
+  pub branches_room : graph.most_branches ≡ length live + offered.most
+  pub kept_len : length kept ≡ length live + offered.most
   pub touches_len : length touches ≡ offered.most
   pub fewer : meters.most ≤ offered.most
   pub search_room : room_of search ≡ components.most_buses
-  pub vertices : graph.vertices ≡ buses.count
+  pub vertices : graph.vertices ≡ buses.count + length components.first_buses
   pub of_buses : length components.of_buses ≡ buses.count
   pub meters_in_range : AreInRange graph meters.touches
   pub offered_in_range : AreInRange graph offered.touches
@@ -71,5 +84,3 @@ pub record AreParts (links : List Link) (live kept : List (Option Ends)) (touche
   pub listed_components : listed.most_components ≡ components.most_buses
   pub listed_count : listed.components ≡ length components.first_buses
   pub lists : listed.lists ≡ lists_of components graph meters
-  pub touches_are : take (length offered.touches) touches ≡ offered.touches
-  pub front : take (length meters.touches) offered.touches ≡ meters.touches

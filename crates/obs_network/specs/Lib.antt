@@ -1,9 +1,11 @@
 pub mod Switched
 pub mod Live
 pub mod Components
+pub mod Angles
 pub mod Touching
 pub mod Network
 pub mod Located
 pub mod Kept
 pub mod Observable
+pub mod Plain
 pub mod Edited

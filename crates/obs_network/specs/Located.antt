@@ -1,16 +1,13 @@
 -- Where branches and items lie: in the component in which all lies that they touch. `components` has the component of
--- each vertex, and `ends` the ends of the branches by position.
-use Rattle.std.specs.Prelude.{ℕ, ◌==◌, Bool, nat_lt, if◌then◌else◌, Option, Some, None, List, length, filter, slice_index, slice_index_or}
+-- each bus, and `ends` the ends of the branches by position.
+use Rattle.std.specs.Prelude.{ℕ, ◌==◌, Bool, nat_lt, if◌then◌else◌, Option, Some, None, List, length, filter, slice_index_or}
 use Rattle.obs_graph.specs.declared.Ends.{Ends}
 use Rattle.obs_meter.specs.declared.Touch.{Touch}
 use Rattle.obs_meter.specs.declared.Touch.TheVariants.{Nothing}
 use Rattle.obs_meter.specs.Spanned.{common_vertex}
 use Rattle.obs_meter.specs.Touches.{live_items, touched}
+use Rattle.obs_network.specs.Components.{vertex_component}
 use Rattle.obs_network.specs.Network.{Network}
-
--- the component of a vertex, which is a bus
-abbrev pub vertex_component : List ℕ → ℕ → ℕ
-vertex_component components v = slice_index components v
 
 -- the component of the branch with these ends, and none of an absent one
 abbrev pub ends_component : List ℕ → Option Ends → Option ℕ

@@ -1,11 +1,12 @@
 // The components of a network.
-ghost use Rattle.std.specs.Prelude.{◌≡◌, ◌<◌, ◌≤◌, ◌^◌, [], ℕ, All, IfOk, length, slice_index, slice_index_or, take, false};
+ghost use Rattle.std.specs.Prelude.{◌≡◌, ◌+◌, ◌<◌, ◌≤◌, ◌^◌, [], ℕ, All, IfOk, length, slice_index, slice_index_or, take, false};
 ghost use Rattle.obs_case.specs.Tables.{most_rows};
 ghost use Rattle.obs_graph.specs.Joined.{first_joined};
 ghost use Rattle.obs_graph.specs.Positions.{present};
-ghost use Rattle.obs_network.specs.Components.{component_count, components_of, energised_of, first_buses_of, needed_of, sizes_of};
+ghost use Rattle.obs_network.specs.Components.{absolute_of, component_count, components_of, energised_of, first_buses_of, need_of, needed_of, sizes_of, vertex_component};
+ghost use Rattle.obs_network.specs.Angles.{reference_of};
 
-use crate::marks::{add_needs, count_sizes, mark_energised, number};
+use crate::marks::{Flag, add_needs, count_sizes, mark_components, need_by, number};
 use crate::memory::NoMemory;
 use obs_case::Node;
 use obs_graph::Ends;
@@ -13,8 +14,8 @@ use obs_switch::Buses;
 use std::alloc::Global;
 use std::marker::Model;
 
-/// The component of each bus, and of each component its first bus, its size and whether it is
-/// energised.
+/// The component of each bus, and of each component its first bus, its size, whether it is energised
+/// and whether it is absolute.
 pub(crate) struct Components {
     // how many buses and components there are
     buses: usize,
@@ -27,6 +28,8 @@ pub(crate) struct Components {
     sizes: Vec<u32>,
     // whether it is energised
     energised: Vec<bool>,
+    // whether it is absolute
+    absolute: Vec<bool>,
 }
 
 impl Model for Components {
@@ -41,11 +44,13 @@ impl Model for Components {
       first_buses = take c.count c.first_buses.items;
       sizes = take c.count c.sizes.items;
       energised = take c.count c.energised.items;
+      absolute = take c.count c.absolute.items;
       most_buses = length c.numbers.items;
     } };
 
     ghost invariant = { λ c.
-        AreGrouped c.buses c.count c.numbers.items c.first_buses.items c.sizes.items c.energised.items };
+        AreGrouped c.buses c.count c.numbers.items c.first_buses.items c.sizes.items c.energised.items
+        c.absolute.items };
 }
 
 // Written out: so a caller's proof sees one call, and not the drop of each field.
@@ -58,6 +63,7 @@ impl Drop for Components {
             first_buses: _,
             sizes: _,
             energised: _,
+            absolute: _,
         } = self;
     }
 }
@@ -66,28 +72,19 @@ impl Drop for Components {
 fn group(
     firsts: &[u32],
     live: &[Option<Ends>],
-    nodes: &[Node],
-    buses: &Buses,
     numbers: &mut [u32],
     first_buses: &mut [u32],
     sizes: &mut [u32],
-    energised: &mut [bool],
 ) -> usize
-    requires nodes { length nodes.now < 2 ^ 32 }
-    requires few { length firsts.now < 2 ^ 32 }
-    requires buses { buses.now.count ≡ length firsts.now }
-    requires nodes_are { length nodes.now ≡ length buses.now.buses }
+    requires small { length firsts.now < 2 ^ 32 }
     requires numbers { length firsts.now ≤ length numbers.old }
     requires first_buses { length firsts.now ≤ length first_buses.old }
     requires sizes { length firsts.now ≤ length sizes.old }
-    requires energised { length firsts.now ≤ length energised.old }
     requires firsts { (b : ℕ) → b < length firsts.now → slice_index firsts.now b ≡ first_joined (present live.now) b }
     ensures numbers { take (length firsts.now) numbers.new ≡ components_of (length firsts.now) (present live.now) }
     ensures count { result ≡ component_count (length firsts.now) (present live.now) }
     ensures first_buses { take result first_buses.new ≡ first_buses_of (length firsts.now) (present live.now) }
     ensures sizes { take result sizes.new ≡ sizes_of result (take (length firsts.now) numbers.new) }
-    ensures energised { take result energised.new
-        ≡ energised_of result (take (length firsts.now) numbers.new) buses.now.buses nodes.now }
     ensures few { result ≤ length firsts.now }
     ensures below { All (λ c. c < result) (take (length firsts.now) numbers.new) }
     ensures firsts { All (λ b. b < length firsts.now) (take result first_buses.new) }
@@ -95,8 +92,38 @@ fn group(
     let numbers = &mut numbers[..firsts.len()];
     let count = number(firsts, live, numbers, first_buses);
     count_sizes(numbers, &mut sizes[..count]);
-    mark_energised(nodes, buses, numbers, &mut energised[..count]);
     count
+}
+
+// Marks the energised ones and the absolute ones of so many components.
+fn mark(
+    nodes: &[Node],
+    buses: &Buses,
+    numbers: &[u32],
+    count: usize,
+    energised: &mut [bool],
+    absolute: &mut [bool],
+)
+    requires few { length nodes.now < 2 ^ 32 }
+    requires nodes { length nodes.now ≡ length buses.now.buses }
+    requires numbers { buses.now.count ≤ length numbers.now }
+    requires below { All (λ c. c < count) (take buses.now.count numbers.now) }
+    requires energised { count ≤ length energised.old }
+    requires absolute { count ≤ length absolute.old }
+    ensures energised { take count energised.new
+        ≡ energised_of count (take buses.now.count numbers.now) buses.now.buses nodes.now }
+    ensures absolute { take count absolute.new
+        ≡ absolute_of count (take buses.now.count numbers.now) buses.now.buses nodes.now }
+{
+    let numbers = &numbers[..buses.count() as usize];
+    mark_components(Flag::Source, nodes, buses, numbers, &mut energised[..count]);
+    mark_components(
+        Flag::Absolute,
+        nodes,
+        buses,
+        numbers,
+        &mut absolute[..count],
+    );
 }
 
 impl Components {
@@ -107,6 +134,7 @@ impl Components {
           first_buses = [];
           sizes = [];
           energised = [];
+          absolute = [];
           most_buses = most_buses;
         }) }
     {
@@ -118,6 +146,7 @@ impl Components {
             first_buses: vec![in alloc; 0; room]?,
             sizes: vec![in alloc; 0; room]?,
             energised: vec![in alloc; false; room]?,
+            absolute: vec![in alloc; false; room]?,
         })
     }
 
@@ -143,18 +172,27 @@ impl Components {
         ensures energised { self.new.energised
             ≡ energised_of (component_count (length firsts.now) (present live.now))
             self.new.of_buses buses.now.buses nodes.now }
+        ensures absolute { self.new.absolute
+            ≡ absolute_of (component_count (length firsts.now) (present live.now))
+            self.new.of_buses buses.now.buses nodes.now }
         ensures room { self.new.most_buses ≡ self.old.most_buses }
     {
-        self.count = group(
+        let count = group(
             firsts,
             live,
-            nodes,
-            buses,
             &mut self.numbers,
             &mut self.first_buses,
             &mut self.sizes,
-            &mut self.energised,
         );
+        mark(
+            nodes,
+            buses,
+            &self.numbers,
+            count,
+            &mut self.energised,
+            &mut self.absolute,
+        );
+        self.count = count;
         self.buses = firsts.len();
     }
 
@@ -195,6 +233,45 @@ impl Components {
         self.energised[c as usize]
     }
 
+    pub(crate) fn absolute(&self, c: u32) -> bool
+        requires component { c < length self.now.first_buses }
+        ensures absolute { result ≡ slice_index_or self.now.absolute c false }
+    {
+        self.absolute[c as usize]
+    }
+
+    /// How many pairs a component needs.
+    pub(crate) fn need(&self, c: u32) -> u32
+        requires component { c < length self.now.first_buses }
+        ensures need { result ≡ need_of self.now.sizes self.now.absolute c }
+    {
+        need_by(self.size(c), self.absolute(c))
+    }
+
+    /// The component of a vertex: a bus, or a reference vertex, which stands behind all buses at the
+    /// number of its component.
+    pub(crate) fn of_vertex(&self, v: u32) -> u32
+        requires vertex { v < length self.now.of_buses + length self.now.first_buses }
+        ensures component { result ≡ vertex_component self.now.of_buses v }
+        ensures below { result < length self.now.first_buses }
+    {
+        let buses = self.buses as u32;
+        if v < buses {
+            self.component(v)
+        } else {
+            v - buses
+        }
+    }
+
+    /// The reference vertex of a component.
+    pub(crate) fn reference(&self, c: u32) -> u32
+        requires few { self.now.most_buses ≤ most_rows }
+        requires component { c < length self.now.first_buses }
+        ensures vertex { result ≡ reference_of self.now.of_buses c }
+    {
+        self.buses as u32 + c
+    }
+
     /// The component of each bus.
     pub(crate) fn numbers(&self) -> &[u32]
         ensures numbers { result.now ≡ self.now.of_buses }
@@ -213,8 +290,13 @@ impl Components {
     /// What the energised components need together.
     pub(crate) fn needed(&self) -> u32
         requires few { self.now.most_buses ≤ most_rows }
-        ensures needed { result ≡ needed_of self.now.sizes self.now.energised (length self.now.first_buses) }
+        ensures needed { result ≡ needed_of self.now.sizes self.now.energised self.now.absolute
+            (length self.now.first_buses) }
     {
-        add_needs(&self.sizes[..self.count], &self.energised[..self.count])
+        add_needs(
+            &self.sizes[..self.count],
+            &self.energised[..self.count],
+            &self.absolute[..self.count],
+        )
     }
 }

@@ -1,5 +1,5 @@
 // The laws of networks.
-ghost use Rattle.std.specs.Prelude.{◌≡◌, ◌↔◌, ◌⊎◌, ◌<◌, ◌≤◌, ◌+◌, ℕ, Bool, true, false, List, Some, None, [], IsTrue, Contains, length, filter, sum_by, slice_index, slice_index_or, slice_set};
+ghost use Rattle.std.specs.Prelude.{◌≡◌, ◌↔◌, ◌⊎◌, ◌<◌, ◌≤◌, ◌+◌, ◌-◌, ℕ, Bool, true, false, List, Some, None, [], IsSome, IsTrue, Contains, length, filter, sum_by, slice_index, slice_index_or, slice_set};
 ghost use Rattle.std.specs.List.{range_with_len};
 ghost use Rattle.obs_graph.specs.declared.Ends.{Ends};
 ghost use Rattle.obs_graph.specs.Joined.{is_joined};
@@ -8,6 +8,7 @@ ghost use Rattle.obs_switch.specs.declared.link.Link.{Link};
 ghost use Rattle.obs_switch.specs.Buses.{bus_of, ends_of_links};
 ghost use Rattle.obs_case.specs.declared.rows.Node.{Node};
 ghost use Rattle.obs_case.specs.Flags.{with_branch_inservice, with_closed, with_meter_inservice};
+ghost use Rattle.obs_case.specs.Items.{angle_position, is_angle};
 ghost use Rattle.obs_case.specs.Tables.{IsValid, Tables};
 ghost use Rattle.obs_matroid.specs.Lists.{In, IsRising};
 ghost use Rattle.obs_matroid.specs.Assignments.{Pair};
@@ -17,12 +18,13 @@ ghost use Rattle.obs_meter.specs.declared.Touch.TheVariants.{Nothing};
 ghost use Rattle.obs_meter.specs.Assignments.{IsAssignmentAt, IsRhoAt, rho_at};
 ghost use Rattle.obs_meter.specs.Spanned.{graph_matroid, rank_at};
 ghost use Rattle.obs_meter.specs.Touches.{AreInRange, touch_at};
-ghost use Rattle.obs_network.specs.Switched.{case_bus_count};
-ghost use Rattle.obs_network.specs.Components.{AreOneComponent, component_count, component_of, components_of, first_bus, first_buses_of, is_energised, need_of, needed_of, sizes_of, source_nodes};
+ghost use Rattle.obs_network.specs.Switched.{case_bus_count, case_buses};
+ghost use Rattle.obs_network.specs.Components.{AreOneComponent, component_count, component_of, components_of, first_bus, first_buses_of, is_absolute_node, is_energised, is_marked, marked_nodes, need_of, needed_of, sizes_of, source_nodes};
 ghost use Rattle.obs_network.specs.Located.{component_of_branch, component_of_item, live_meters_of};
-ghost use Rattle.obs_network.specs.Network.{Network, case_branches, case_component_count, case_components, case_live, case_meters, case_needed, case_offered, case_vertex_component, case_vertex_count, network_of, rows_of};
-ghost use Rattle.obs_network.specs.Edited.{AreKept, AreMerged, ArePresent, IsOneMerge};
+ghost use Rattle.obs_network.specs.Network.{Network, case_branches, case_component_count, case_components, case_live, case_meters, case_need, case_needed, case_offered, case_rows, case_sizes, case_vertex_component, case_vertex_count, network_of, rows_of};
+ghost use Rattle.obs_network.specs.Edited.{AreKept, AreMerged, ArePresent, IsOneMerge, IsReferenceMerge};
 ghost use Rattle.obs_network.specs.Observable.{IsObservableCase, branch_component, case_live_meters, is_energised_component, item_component};
+ghost use Rattle.obs_network.specs.Plain.{HasNoAbsolute, other_touches_in_order, touches_in_order, without_angles};
 
 /// Two nodes have one bus exactly where the closed switches, as branches between nodes, join them.
 pub fn bus_is_what_switches_join()
@@ -58,21 +60,26 @@ pub fn components_have_buses()
         0 < slice_index (sizes_of (component_count n live) (components_of n live)) c }
 {}
 
-/// A component is energised exactly where one of its nodes is a source.
+/// A component is energised exactly where one of its nodes is a source, and absolute exactly where one of them is marked
+/// absolute.
 pub fn energised_by_a_source()
     ensures source { (components buses : List ℕ) (nodes : List Node) (c : ℕ) →
         (is_energised components buses nodes c ≡ true)
         ↔ (u : ℕ) × Contains (source_nodes nodes) u × (slice_index components (slice_index buses u) ≡ c) }
+    ensures absolute { (components buses : List ℕ) (nodes : List Node) (c : ℕ) →
+        (is_marked is_absolute_node components buses nodes c ≡ true)
+        ↔ (u : ℕ) × Contains (marked_nodes is_absolute_node nodes) u
+        × (slice_index components (slice_index buses u) ≡ c) }
 {}
 
 /// The needed number is the sum of what the energised components need.
 pub fn needed_is_a_sum()
-    ensures sum { (sizes : List ℕ) (energised : List Bool) (count : ℕ) →
-        needed_of sizes energised count
-        ≡ sum_by (need_of sizes) (filter (λ c. slice_index_or energised c false) (range_with_len 0 count)) }
+    ensures sum { (sizes : List ℕ) (energised absolute : List Bool) (count : ℕ) →
+        needed_of sizes energised absolute count
+        ≡ sum_by (need_of sizes absolute) (filter (λ c. slice_index_or energised c false) (range_with_len 0 count)) }
 {}
 
-/// The branches of a network have two different buses as their ends, and what items touch is in its range.
+/// The branches of a network have two different vertices as their ends, and what items touch is in its range.
 pub fn network_is_in_range()
     ensures branches { (t : Tables) → IsValid t → AreBranches (case_vertex_count t) (case_branches t) }
     ensures meters { (t : Tables) → IsValid t → AreInRange (network_of t).graph (case_meters t) }
@@ -106,6 +113,27 @@ pub fn nothing_energised_is_observable()
         ((c : ℕ) → c < case_component_count t → is_energised_component t c ≡ false) → IsObservableCase t }
 {}
 
+/// An angle item touches no other branch than its angle branch, which stands behind the rows of the branch table at the
+/// item's number. Any other item touches rows of the branch table alone.
+pub fn positions_of_items()
+    ensures angle { (t : Tables) → IsValid t → (m e : ℕ) → In e (touch_at (case_branches t) (case_offered t) m) →
+        is_angle t m ≡ true → e ≡ angle_position t m }
+    ensures row { (t : Tables) → IsValid t → (m e : ℕ) → In e (touch_at (case_branches t) (case_offered t) m) →
+        is_angle t m ≡ false → e < length t.branches }
+{}
+
+/// Where no node is marked absolute, each component needs one pair fewer than it has buses, no angle branch is present,
+/// and the items of other kinds touch, one after another, what the items of the case without its angle items touch. The
+/// rows of the branch table that are present don't depend on items.
+pub fn without_absolute_nodes()
+    ensures needs { (t : Tables) → HasNoAbsolute t → (c : ℕ) → case_need t c ≡ slice_index (case_sizes t) c - 1 }
+    ensures angles { (t : Tables) → HasNoAbsolute t → (e : ℕ) → length t.branches ≤ e →
+        slice_index_or (case_branches t) e None ≡ None }
+    ensures touches { (t : Tables) → HasNoAbsolute t →
+        other_touches_in_order t ≡ touches_in_order (without_angles t) }
+    ensures rows { (t : Tables) → case_rows (without_angles t) ≡ case_rows t }
+{}
+
 /// A new flag leaves the numbers of rows.
 pub fn flags_keep_rows()
     ensures switch { (t : Tables) (at : ℕ) (closed : Bool) → rows_of (with_closed t at closed) ≡ rows_of t }
@@ -115,17 +143,14 @@ pub fn flags_keep_rows()
         rows_of (with_meter_inservice t at inservice) ≡ rows_of t }
 {}
 
-/// A branch put in service or taken out leaves the buses, the ends of the branches that stay present, and what items
-/// touch, and merges no vertices.
+/// A branch put in service or taken out leaves the buses. Between a branch out of service and the same branch in
+/// service, the reference vertices of its ends' components become one, all other vertices keep apart, and the ends of
+/// branches follow.
 pub fn a_branch_keeps_buses()
-    ensures kept { (t : Tables) → IsValid t → (at : ℕ) (inservice : Bool) →
-        AreKept t (with_branch_inservice t at inservice) }
-    ensures merged { (t : Tables) → IsValid t → (at : ℕ) (inservice : Bool) →
-        AreMerged t (with_branch_inservice t at inservice) [] }
-    ensures meters { (t : Tables) (at : ℕ) (inservice : Bool) →
-        case_meters (with_branch_inservice t at inservice) ≡ case_meters t }
-    ensures offered { (t : Tables) (at : ℕ) (inservice : Bool) →
-        case_offered (with_branch_inservice t at inservice) ≡ case_offered t }
+    ensures buses { (t : Tables) (at : ℕ) (inservice : Bool) →
+        case_buses (with_branch_inservice t at inservice) ≡ case_buses t }
+    ensures merged { (t : Tables) → IsValid t → (at : ℕ) → at < length t.branches →
+        IsReferenceMerge (with_branch_inservice t at false) (with_branch_inservice t at true) }
 {}
 
 /// A meter put in service or taken out leaves the buses and all branches, merges no vertices, and changes what it
@@ -146,11 +171,13 @@ pub fn a_meter_changes_its_touch()
         (slice_index_or (case_meters (with_meter_inservice t at inservice)) at Nothing) }
 {}
 
-/// Between a switch open and the same switch closed, the buses and the ends of branches are the same, or two buses
-/// become one and all others keep apart. A switch is open or closed.
+/// Between a switch open and the same switch closed, the buses, the vertices and the ends of branches are the same, or
+/// two buses become one, and so do the reference vertices of their components; all other vertices keep apart, and the
+/// ends of branches follow. A switch is open or closed.
 pub fn a_switch_merges_two_buses()
     ensures closing { (t : Tables) → IsValid t → (at : ℕ) →
-        AreKept (with_closed t at false) (with_closed t at true)
+        (AreKept (with_closed t at false) (with_closed t at true)
+        × AreMerged (with_closed t at false) (with_closed t at true) [])
         ⊎ IsOneMerge (with_closed t at false) (with_closed t at true) }
     ensures as_it_is { (t : Tables) (at : ℕ) → (t ≡ with_closed t at false) ⊎ (t ≡ with_closed t at true) }
 {}
@@ -209,4 +236,14 @@ pub fn live_meters_by_component()
         (c : ℕ) × (c < case_component_count t) × In m (live_meters_of (network_of t) c) }
     ensures one_list { (n : Network) (c d m : ℕ) →
         In m (live_meters_of n c) → In m (live_meters_of n d) → c ≡ d }
+{}
+
+/// Where a branch goes out of service, each branch that is present was present, and what a meter touches it touched.
+pub fn an_outage_takes_away()
+    ensures present { (t : Tables) → IsValid t → (at e : ℕ) →
+        IsSome (slice_index_or (case_branches (with_branch_inservice t at false)) e None) →
+        IsSome (slice_index_or (case_branches t) e None) }
+    ensures touched { (t : Tables) → IsValid t → (at m e : ℕ) →
+        In e (touch_at (case_branches (with_branch_inservice t at false)) (case_meters (with_branch_inservice t at false)) m) →
+        In e (touch_at (case_branches t) (case_meters t) m) }
 {}

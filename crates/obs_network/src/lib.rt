@@ -1,6 +1,7 @@
 //! The network of a case.
 #![tactic(auto)]
 
+mod angles;
 mod components;
 pub mod laws;
 mod live;
@@ -10,9 +11,11 @@ mod marks;
 mod memory;
 mod network;
 mod rebuild;
+mod room;
 mod switched;
 mod touching;
 
 pub use memory::NoMemory;
 pub use network::Network;
+pub use room::{position_count, vertex_room};
 pub use switched::buses_of_case;

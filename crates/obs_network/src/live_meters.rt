@@ -1,5 +1,5 @@
 // The live meters of each component.
-ghost use Rattle.std.specs.Prelude.{◌≡◌, ◌<◌, ◌≤◌, ◌^◌, [], ℕ, IfOk, suc, length, slice_index, slice_set, take};
+ghost use Rattle.std.specs.Prelude.{◌≡◌, ◌+◌, ◌<◌, ◌≤◌, ◌^◌, [], ℕ, IfOk, suc, length, slice_index, slice_set, take};
 ghost use Rattle.obs_meter.specs.Touches.{AreInRange, IsInRange};
 ghost use Rattle.obs_switch.specs.Groups.{AreGroups, items_with};
 ghost use Rattle.obs_network.specs.Located.{touch_component};
@@ -63,7 +63,8 @@ impl Drop for LiveMeters {
 
 // The list of what is touched so: that of its component, or the last where it is nothing.
 fn list_of(components: &Components, graph: &Graph, touch: Touch) -> u32
-    requires vertices { graph.now.vertices ≡ length components.now.of_buses }
+    requires vertices { graph.now.vertices
+        ≡ length components.now.of_buses + length components.now.first_buses }
     requires in_range { IsInRange graph.now touch }
     ensures list { result ≡ list_of (length components.now.first_buses)
         (touch_component components.now.of_buses graph.now.ends touch) }
@@ -77,7 +78,8 @@ fn list_of(components: &Components, graph: &Graph, touch: Touch) -> u32
 
 // Writes the list of each meter.
 fn write_lists(components: &Components, graph: &Graph, meters: &Meters, lists: &mut [u32])
-    requires vertices { graph.now.vertices ≡ length components.now.of_buses }
+    requires vertices { graph.now.vertices
+        ≡ length components.now.of_buses + length components.now.first_buses }
     requires in_range { AreInRange graph.now meters.now.touches }
     requires one_each { length lists.old ≡ length meters.now.touches }
     ensures lists { lists.new ≡ lists_of components.now graph.now meters.now }
@@ -97,7 +99,8 @@ fn write_members(
     members: &mut [u32],
     starts: &mut [usize],
 )
-    requires vertices { graph.now.vertices ≡ length components.now.of_buses }
+    requires vertices { graph.now.vertices
+        ≡ length components.now.of_buses + length components.now.first_buses }
     requires in_range { AreInRange graph.now meters.now.touches }
     requires few { length lists.old < 2 ^ 32 }
     requires meters { length meters.now.touches ≤ length lists.old }
@@ -170,7 +173,8 @@ impl LiveMeters {
 
     /// Makes the lists those of these meters, which touch branches of this graph.
     pub(crate) fn refill(&mut self, components: &Components, graph: &Graph, meters: &Meters)
-        requires vertices { graph.now.vertices ≡ length components.now.of_buses }
+        requires vertices { graph.now.vertices
+            ≡ length components.now.of_buses + length components.now.first_buses }
         requires in_range { AreInRange graph.now meters.now.touches }
         requires meters { length meters.now.touches ≤ self.old.most_meters }
         requires components { length components.now.first_buses ≤ self.old.most_components }
@@ -193,7 +197,8 @@ impl LiveMeters {
 
     /// Puts one meter into the list of what it touches now.
     pub(crate) fn set(&mut self, components: &Components, graph: &Graph, m: u32, touch: Touch)
-        requires vertices { graph.now.vertices ≡ length components.now.of_buses }
+        requires vertices { graph.now.vertices
+            ≡ length components.now.of_buses + length components.now.first_buses }
         requires in_range { IsInRange graph.now touch }
         requires components { self.old.components ≡ length components.now.first_buses }
         requires meter { m < length self.old.lists }

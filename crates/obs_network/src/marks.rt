@@ -3,11 +3,19 @@ ghost use Rattle.std.specs.Prelude.{◌≡◌, ◌≢◌, ◌<◌, ◌≤◌, �
 ghost use Rattle.obs_graph.specs.Positions.{present};
 ghost use Rattle.obs_case.specs.Tables.{most_rows};
 ghost use Rattle.obs_graph.specs.Joined.{first_joined};
-ghost use Rattle.obs_network.specs.Components.{component_count, components_of, energised_branches, energised_of, first_buses_of, if_energised, needed_of, sizes_of};
+ghost use Rattle.obs_network.specs.Components.{component_count, components_of, energised_branches, first_buses_of, if_energised, marked_of, needed_of, sizes_of};
+ghost use Rattle.obs_network.specs.Kept.{flag_of, need_by};
 
 use obs_case::Node;
 use obs_graph::Ends;
 use obs_switch::Buses;
+
+/// A flag of nodes.
+#[derive(Clone, Copy)]
+pub(crate) enum Flag {
+    Source,
+    Absolute,
+}
 
 // The number of the component of a bus with this first bus.
 fn number_of(first: usize, bus: usize, count: u32, numbers: &[u32]) -> u32
@@ -61,34 +69,60 @@ pub(crate) fn count_sizes(numbers: &[u32], sizes: &mut [u32])
     }
 }
 
-/// Marks the components with a source.
-pub(crate) fn mark_energised(nodes: &[Node], buses: &Buses, numbers: &[u32], energised: &mut [bool])
+// Whether a node has the flag.
+fn has(row: &Node, flag: Flag) -> bool
+    ensures value { result ≡ flag_of flag row.now }
+{
+    match flag {
+        Flag::Source => row.source,
+        Flag::Absolute => row.absolute,
+    }
+}
+
+/// Marks the components with a node that has the flag.
+pub(crate) fn mark_components(
+    flag: Flag,
+    nodes: &[Node],
+    buses: &Buses,
+    numbers: &[u32],
+    marks: &mut [bool],
+)
     requires few { length nodes.now < 2 ^ 32 }
     requires nodes { length nodes.now ≡ length buses.now.buses }
     requires buses { buses.now.count ≡ length numbers.now }
-    requires below { All (λ c. c < length energised.old) numbers.now }
-    ensures energised { energised.new ≡ energised_of (length energised.old) numbers.now buses.now.buses nodes.now }
+    requires below { All (λ c. c < length marks.old) numbers.now }
+    ensures marks { marks.new ≡ marked_of (flag_of flag) (length marks.old) numbers.now buses.now.buses nodes.now }
 {
-    energised.fill(false);
+    marks.fill(false);
     for u in 0..nodes.len() {
-        if nodes[u].source {
-            energised[numbers[buses.bus(u as u32) as usize] as usize] = true;
+        if has(&nodes[u], flag) {
+            marks[numbers[buses.bus(u as u32) as usize] as usize] = true;
         }
     }
 }
 
+/// The pairs that a component of this size needs.
+pub(crate) fn need_by(size: u32, absolute: bool) -> u32
+    requires some { 0 < size }
+    ensures need { result ≡ need_by size absolute }
+    ensures few { result ≤ size }
+{
+    if absolute { size } else { size - 1 }
+}
+
 /// Adds up what the energised components need.
-pub(crate) fn add_needs(sizes: &[u32], energised: &[bool]) -> u32
+pub(crate) fn add_needs(sizes: &[u32], energised: &[bool], absolute: &[bool]) -> u32
     requires lengths { length sizes.now ≡ length energised.now }
+    requires as_many { length sizes.now ≡ length absolute.now }
     requires few { length sizes.now ≤ most_rows }
     requires small { All (λ s. s ≤ most_rows) sizes.now }
     requires some { All (λ s. 0 < s) sizes.now }
-    ensures needed { result ≡ needed_of sizes.now energised.now (length sizes.now) }
+    ensures needed { result ≡ needed_of sizes.now energised.now absolute.now (length sizes.now) }
 {
     let mut needed = 0;
     for c in 0..sizes.len() {
         if energised[c] {
-            needed += sizes[c] - 1;
+            needed += need_by(sizes[c], absolute[c]);
         }
     }
     needed

@@ -1,12 +1,13 @@
 // The network of a case.
-ghost use Rattle.std.specs.Prelude.{◌≡◌, ◌-◌, ◌<◌, All, IfOk, IfSome, IsTrue, length, slice_index, slice_index_or, false};
+ghost use Rattle.std.specs.Prelude.{◌≡◌, ◌+◌, ◌-◌, ◌<◌, All, IfOk, IfSome, IsTrue, length, slice_index, slice_index_or, false};
 ghost use Rattle.obs_meter.specs.Touches.{AreInRange};
 ghost use Rattle.obs_network.specs.Components.{need_of};
 ghost use Rattle.obs_network.specs.Edited.{IsBeforeMeter};
 ghost use Rattle.obs_network.specs.Located.{component_of_branch, component_of_item, live_meters_of};
-ghost use Rattle.obs_network.specs.Network.{network_of, rows_of};
+ghost use Rattle.obs_network.specs.Network.{live_branch_count, network_of, rows_of};
 
 use crate::components::Components;
+use crate::live::count_present;
 use crate::live_meters::LiveMeters;
 use crate::located::{component_of_branch, component_of_touch};
 use crate::memory::NoMemory;
@@ -22,7 +23,8 @@ use std::alloc::Global;
 use std::marker::Model;
 
 /// The network of a case: its buses, its components, the graph of the live branches of energised
-/// components, and what its items touch there. It keeps the numbers of rows of the case that it was made for.
+/// components and of the angle branches, and what its items touch there. It keeps the numbers of rows of the case that it was
+/// made for.
 pub struct Network {
     buses: Buses,
     components: Components,
@@ -35,9 +37,9 @@ pub struct Network {
     links: Vec<Link>,
     // the ends of each live branch
     live: Vec<Option<Ends>>,
-    // the ends of each live branch of an energised component
+    // the ends of each live branch of an energised component, and behind them those of the angle branches
     kept: Vec<Option<Ends>>,
-    // what the meters touch, and the candidates behind them
+    // what the meters touch, and the candidates behind them, while items are made
     touches: Vec<Touch>,
     // the pieces that live branches join
     search: Search,
@@ -105,13 +107,13 @@ impl Network {
         Ok(Network {
             buses: Buses::make(alloc, nodes, case.switches().len() as u32)?,
             components: Components::make(alloc, nodes)?,
-            graph: Graph::make(alloc, nodes, branches as u32)?,
+            graph: Graph::make(alloc, 2 * nodes, branches as u32 + offered)?,
             meters: Meters::make(alloc, meters)?,
             offered: Meters::make(alloc, offered)?,
             needed: 0,
             links: vec![in alloc; Link { from: 0, to: 0 }; case.switches().len()]?,
             live: vec![in alloc; None; branches]?,
-            kept: vec![in alloc; None; branches]?,
+            kept: vec![in alloc; None; branches + offered as usize]?,
             touches: vec![in alloc; Touch::Nothing; offered as usize]?,
             search: Search::make(alloc, nodes)?,
             live_meters: LiveMeters::make(alloc, meters, nodes)?,
@@ -146,6 +148,7 @@ impl Network {
         );
         refill_graph(
             case,
+            &self.buses,
             &self.components,
             &self.live,
             &mut self.kept,
@@ -154,6 +157,7 @@ impl Network {
         refill_items(
             case,
             &self.buses,
+            &self.graph,
             &mut self.touches,
             &mut self.meters,
             &mut self.offered,
@@ -191,8 +195,8 @@ impl Network {
         change_item(
             case,
             &self.buses,
+            &self.graph,
             m,
-            &mut self.touches,
             &mut self.meters,
             &mut self.offered,
         );
@@ -209,11 +213,13 @@ impl Network {
         &self.buses
     }
 
-    /// The graph over all buses of the live branches of energised components, each at its position in
-    /// the table of branches.
+    /// The graph over all buses and, behind them, a reference vertex for each component. Its branches are the live ones of
+    /// energised components, each at its position in the table of branches, and behind them, where there are angle items,
+    /// the angle branch of each item.
     pub fn graph(&self) -> &Graph
         ensures graph { result.now ≡ self.now.graph }
-        ensures vertices { result.now.vertices ≡ self.now.buses.count }
+        ensures vertices { result.now.vertices
+            ≡ self.now.buses.count + length self.now.components.first_buses }
     {
         &self.graph
     }
@@ -305,12 +311,27 @@ impl Network {
         self.components.energised(c)
     }
 
-    /// How many pairs a component needs to be observable: one fewer than it has buses.
+    /// Whether a component is absolute: one of its nodes is marked so.
+    pub fn absolute(&self, c: u32) -> bool
+        requires component { c < length self.now.components.first_buses }
+        ensures absolute { result ≡ slice_index_or self.now.components.absolute c false }
+    {
+        self.components.absolute(c)
+    }
+
+    /// How many pairs a component needs to be observable: as many as it has buses where it is absolute, else one fewer.
     pub fn need(&self, c: u32) -> u32
         requires component { c < length self.now.components.first_buses }
-        ensures need { result ≡ need_of self.now.components.sizes c }
+        ensures need { result ≡ need_of self.now.components.sizes self.now.components.absolute c }
     {
-        self.components.size(c) - 1
+        self.components.need(c)
+    }
+
+    /// How many live rows of the branch table energised components have.
+    pub fn live_branches(&self) -> u32
+        ensures count { result ≡ live_branch_count self.now }
+    {
+        count_present(&self.graph, self.live.len())
     }
 
     /// How many pairs the energised components need together.

@@ -1,9 +1,11 @@
 // The parts of the network of a case, made anew one after another.
 ghost use Rattle.std.specs.Prelude.{◌≡◌, ◌<◌, ◌≤◌, ◌+◌, IsTrue, length, slice_index_or, slice_set, take};
+ghost use Rattle.obs_case.specs.Tables.{most_rows};
 ghost use Rattle.obs_graph.specs.Search.{room_of};
 ghost use Rattle.obs_network.specs.Switched.{case_bus_count, case_buses, closed_links};
-ghost use Rattle.obs_network.specs.Network.{case_branches, case_components, case_energised, case_first_buses, case_live, case_meters, case_offered, case_sizes, case_vertex_count};
+ghost use Rattle.obs_network.specs.Network.{case_absolute, case_branches, case_components, case_energised, case_first_buses, case_live, case_meters, case_offered, case_sizes, case_vertex_count};
 
+use crate::angles::write_angles;
 use crate::components::Components;
 use crate::live::write_live;
 use crate::marks::write_energised;
@@ -89,8 +91,8 @@ pub(crate) fn find_components(
     ensures first_buses { components.new.first_buses ≡ case_first_buses case.now }
     ensures sizes { components.new.sizes ≡ case_sizes case.now }
     ensures energised { components.new.energised ≡ case_energised case.now }
+    ensures absolute { components.new.absolute ≡ case_absolute case.now }
     ensures room { components.new.most_buses ≡ components.old.most_buses }
-    ensures vertices { graph.new.vertices ≡ case_bus_count case.now }
     ensures most_vertices { graph.new.most_vertices ≡ graph.old.most_vertices }
     ensures most_branches { graph.new.most_branches ≡ graph.old.most_branches }
     ensures search_room { room_of search.new ≡ room_of search.old }
@@ -102,40 +104,82 @@ pub(crate) fn find_components(
     components.refill(&search.pieces()[..count as usize], live, nodes, buses);
 }
 
-/// Makes the graph that of the live branches of energised components.
+// Writes the branches of the case by position, and says how many positions there are: the rows of the branch table, and
+// behind them the angle branches.
+fn write_branches(
+    case: &Case,
+    buses: &Buses,
+    components: &Components,
+    live: &[Option<Ends>],
+    kept: &mut [Option<Ends>],
+) -> usize
+    requires few { components.now.most_buses ≤ most_rows }
+    requires buses { buses.now.buses ≡ case_buses case.now }
+    requires count { buses.now.count ≡ case_bus_count case.now }
+    requires of_buses { components.now.of_buses ≡ case_components case.now }
+    requires energised { components.now.energised ≡ case_energised case.now }
+    requires absolute { components.now.absolute ≡ case_absolute case.now }
+    requires live { live.now ≡ case_live case.now }
+    requires kept { length kept.old
+        ≡ length live.now + (length case.now.meters + length case.now.candidates) }
+    ensures branches { take result kept.new ≡ case_branches case.now }
+    ensures few { result ≤ length kept.new }
+    ensures kept { length kept.new ≡ length kept.old }
+{
+    let _nodes = case.nodes();
+    let (rows, items) = kept.split_at_mut(live.len());
+    write_energised(live, components.numbers(), components.marks(), rows);
+    live.len() + write_angles(case, buses, components, items)
+}
+
+/// Makes the graph that of the case: over its buses and reference vertices, with the live branches of energised components and
+/// the angle branches.
 pub(crate) fn refill_graph(
     case: &Case,
+    buses: &Buses,
     components: &Components,
     live: &[Option<Ends>],
     kept: &mut [Option<Ends>],
     graph: &mut Graph,
 )
+    requires few { components.now.most_buses ≤ most_rows }
+    requires buses { buses.now.buses ≡ case_buses case.now }
+    requires count { buses.now.count ≡ case_bus_count case.now }
     requires of_buses { components.now.of_buses ≡ case_components case.now }
+    requires first_buses { components.now.first_buses ≡ case_first_buses case.now }
     requires energised { components.now.energised ≡ case_energised case.now }
+    requires absolute { components.now.absolute ≡ case_absolute case.now }
     requires live { live.now ≡ case_live case.now }
-    requires kept { length kept.old ≡ length live.now }
-    requires at { graph.old.vertices ≡ case_bus_count case.now }
+    requires kept { length kept.old
+        ≡ length live.now + (length case.now.meters + length case.now.candidates) }
     requires vertices { case_vertex_count case.now ≤ graph.old.most_vertices }
-    requires branches { length live.now ≤ graph.old.most_branches }
+    requires branches { length kept.old ≤ graph.old.most_branches }
     ensures ends { graph.new.ends ≡ case_branches case.now }
     ensures vertices { graph.new.vertices ≡ case_vertex_count case.now }
     ensures most_vertices { graph.new.most_vertices ≡ graph.old.most_vertices }
     ensures most_branches { graph.new.most_branches ≡ graph.old.most_branches }
+    ensures kept { length kept.new ≡ length kept.old }
 {
-    let _case = case.nodes();
-    write_energised(live, components.numbers(), components.marks(), kept);
-    graph.refill(graph.vertices(), kept);
+    let _nodes = case.nodes();
+    let positions = write_branches(case, buses, components, live, kept);
+    let vertices = buses.count() + components.count();
+    graph.refill(vertices, &kept[..positions]);
 }
 
-/// Makes the items those of the case: its meters, and these with the candidates behind them.
+/// Makes the items those of the case: its meters, and these with the candidates behind them. The graph is that of the
+/// case already.
 pub(crate) fn refill_items(
     case: &Case,
     buses: &Buses,
+    graph: &Graph,
     touches: &mut [Touch],
     meters: &mut Meters,
     offered: &mut Meters,
 )
     requires buses { buses.now.buses ≡ case_buses case.now }
+    requires count { buses.now.count ≡ case_bus_count case.now }
+    requires vertices { graph.now.vertices ≡ case_vertex_count case.now }
+    requires ends { graph.now.ends ≡ case_branches case.now }
     requires touches { length touches.old ≡ length case.now.meters + length case.now.candidates }
     requires meters { length case.now.meters ≤ meters.old.most }
     requires offered { length case.now.meters + length case.now.candidates ≤ offered.old.most }
@@ -143,45 +187,49 @@ pub(crate) fn refill_items(
     ensures offered { offered.new.touches ≡ case_offered case.now }
     ensures most_meters { meters.new.most ≡ meters.old.most }
     ensures most_offered { offered.new.most ≡ offered.old.most }
-    ensures kept { touches.new ≡ offered.new.touches }
-    ensures front { take (length meters.new.touches) touches.new ≡ meters.new.touches }
+    ensures same_room { length touches.new ≡ length touches.old }
 {
-    let (of_meters, of_candidates) = touches.split_at_mut(case.meters().len());
-    write_meters(case.meters(), buses, of_meters);
+    let rows = case.branches().len() as u32;
+    let first = case.meters().len();
+    let (of_meters, of_candidates) = touches.split_at_mut(first);
+    write_meters(case.meters(), buses, graph, rows, of_meters);
     meters.refill(of_meters);
-    write_candidates(case.candidates(), buses, of_candidates);
+    write_candidates(
+        case.candidates(),
+        first as u32,
+        buses,
+        graph,
+        rows,
+        of_candidates,
+    );
     offered.refill(touches);
 }
 
-/// Makes one meter that of the case: among the meters, among these with the candidates behind them, and in the array
-/// from which both were made.
+/// Makes one meter that of the case: among the meters, and among these with the candidates behind them.
 pub(crate) fn change_item(
     case: &Case,
     buses: &Buses,
+    graph: &Graph,
     m: u32,
-    touches: &mut [Touch],
     meters: &mut Meters,
     offered: &mut Meters,
 )
     requires buses { buses.now.buses ≡ case_buses case.now }
+    requires count { buses.now.count ≡ case_bus_count case.now }
+    requires vertices { graph.now.vertices ≡ case_vertex_count case.now }
+    requires ends { graph.now.ends ≡ case_branches case.now }
     requires meter { m < length case.now.meters }
     requires meters { m < length meters.old.touches }
     requires offered { m < length offered.old.touches }
-    requires room_offered { length offered.old.touches ≤ length touches.old }
-    requires kept { take (length offered.old.touches) touches.old ≡ offered.old.touches }
-    requires front { take (length meters.old.touches) offered.old.touches ≡ meters.old.touches }
     ensures meters { meters.new ≡ record meters.old {
       touches = slice_set meters.old.touches m (slice_index_or (case_meters case.now) m Touch.Nothing);
     } }
     ensures offered { offered.new ≡ record offered.old {
       touches = slice_set offered.old.touches m (slice_index_or (case_meters case.now) m Touch.Nothing);
     } }
-    ensures same_room { length touches.new ≡ length touches.old }
-    ensures kept { take (length offered.new.touches) touches.new ≡ offered.new.touches }
-    ensures front { take (length meters.new.touches) offered.new.touches ≡ meters.new.touches }
 {
-    let touch = touch_of_meter(&case.meters()[m as usize], buses);
-    touches[m as usize] = touch;
+    let rows = case.branches().len() as u32;
+    let touch = touch_of_meter(&case.meters()[m as usize], m, buses, graph, rows);
     meters.set(m, touch);
     offered.set(m, touch);
 }

@@ -4,7 +4,7 @@ use Rattle.std.specs.Prelude.{nat_lt}
 use Rattle.std.proofs.lemmas.Bool.{cases_Bool, cases_eq, cases_lt, lt-ltb, ne_eqb}
 use Rattle.std.proofs.lemmas.List.{get_or_default, get_or_past, length-replicate, length-set, same_lists, take_all, take_more}
 use Rattle.obs_graph.specs.Graph.{Graph}
-use Rattle.obs_graph.specs.Positions.{AreBranches}
+use Rattle.obs_graph.specs.Positions.{AreBranches, branches_at}
 use Rattle.obs_matroid.specs.Lists.{In, other_than}
 use Rattle.obs_matroid.specs.Assignments.{others, part}
 use Rattle.obs_matroid.specs.Matroid.{IsMatroid}
@@ -12,18 +12,19 @@ use Rattle.obs_matroid.proofs.Contained.{In-get_or}
 use Rattle.obs_matroid.proofs.Lists.{In-append_cases, In-append_left, In-append_right, cases_In, clash, other_true}
 use Rattle.obs_matroid.proofs.Pairs.{In-branches, In-part, In-part_from, less_pairs, own}
 use Rattle.obs_matroid.proofs.Slots.{slot_at}
+use Rattle.obs_meter.specs.declared.Hub.{Hub}
 use Rattle.obs_meter.specs.declared.Touch.{Touch}
-use Rattle.obs_meter.specs.declared.Touch.TheVariants.{Nothing, Star}
 use Rattle.obs_meter.specs.Spanned.{graph_matroid}
 use Rattle.obs_meter.specs.Touches.{touch_at}
 use Rattle.obs_meter.proofs.Instance.{IsMatroid-graph}
+use Rattle.obs_meter.proofs.Touched.{In-take_more}
 use Rattle.obs_assign.specs.Assignment.{Assignment, IsWhole, StandsOver, branch_at, has_flag, is_frozen, pairs}
 use Rattle.obs_assign.specs.Pins.{IsPinnedAt, MayPin, joins}
-use Rattle.obs_assign.proofs.Keeping.{flags_clear}
+use Rattle.obs_assign.proofs.Keeping.{flags_clear, replicate_at}
 use Rattle.obs_assign.proofs.Slotted.{none_some}
 use Rattle.obs_exchange.specs.Found.{AreListed}
 use Rattle.obs_exchange.proofs.AtGraph.{IsAssignment-live}
-use Rattle.obs_placement.specs.Holding.{AreStarsOfKnown, AreTouchedByKnown}
+use Rattle.obs_placement.specs.Holding.{AreFrontsOfKnown, AreTouchedByKnown, IsTouchedByKnown}
 use Rattle.obs_placement.specs.Taking.{AreAdded, AreKept, StandsWithKnown, is_known, never, since_after, since_at}
 
 -- of the items that a mark is for, some are known from its price on
@@ -147,23 +148,33 @@ module _ (g : Graph) (touches : List Touch) where
   pub AreTouchedByKnown-none : (since : List ℕ) (n : ℕ) (flags : List Bool) → n ≡ length g.ends → flags ≡ replicate n false → AreTouchedByKnown g touches since flags
   AreTouchedByKnown-none since n flags c is = rw is (record { count = length-replicate n false ∙ c; known = λ e t. clash t (flags_clear n e) })
 
-  pub AreStarsOfKnown-none : (since : List ℕ) (n : ℕ) (flags : List Bool) → n ≡ g.vertices → flags ≡ replicate n false → AreStarsOfKnown g touches since flags
-  AreStarsOfKnown-none since n flags c is = rw is (record { count = length-replicate n false ∙ c; known = λ v t. clash t (flags_clear n v) })
+  -- and nothing is counted
+  pub AreFrontsOfKnown-none : (since : List ℕ) (n : ℕ) (counts : List ℕ) → n ≡ g.vertices → counts ≡ replicate n 0 → AreFrontsOfKnown g touches since counts
+  AreFrontsOfKnown-none since n counts c is = rw is (record {
+    count = length-replicate n 0 ∙ c;
+    known = λ v e i. absurd (subst (λ k. In e (take k (branches_at g.ends v))) (replicate_at n v 0) i);
+  })
+
+  -- known items touch what is no more than was counted
+  pub known_front : (since counts : List ℕ) (m : ℕ) (hub : Hub) → AreFrontsOfKnown g touches since counts → touch_at g.ends touches m ≡ take hub.count (branches_at g.ends hub.vertex)
+      → hub.count ≤ get_or counts hub.vertex 0 → (e : ℕ) → In e (touch_at g.ends touches m) → IsTouchedByKnown g.ends touches since e
+  known_front since counts m hub k is l e i =
+      k.known hub.vertex e (In-take_more hub.count (get_or counts hub.vertex 0) (branches_at g.ends hub.vertex) e l (subst (λ (xs : List ℕ). In e xs) is i))
 
   module _ (before after : List ℕ) (still : (m : ℕ) → is_known before m ≡ true → is_known after m ≡ true) where
     pub AreTouchedByKnown-more : (flags : List Bool) → AreTouchedByKnown g touches before flags → AreTouchedByKnown g touches after flags
     AreTouchedByKnown-more flags h = record { count = h.count; known = λ e t. let v = h.known e t in (v.0, still v.0 v.1, v.2) }
 
-    pub AreStarsOfKnown-more : (flags : List Bool) → AreStarsOfKnown g touches before flags → AreStarsOfKnown g touches after flags
-    AreStarsOfKnown-more flags h = record { count = h.count; known = λ v t. let w = h.known v t in (w.0, still w.0 w.1, w.2) }
+    pub AreFrontsOfKnown-more : (counts : List ℕ) → AreFrontsOfKnown g touches before counts → AreFrontsOfKnown g touches after counts
+    AreFrontsOfKnown-more counts h = record { count = h.count; known = λ v e i. let w = h.known v e i in (w.0, still w.0 w.1, w.2) }
 
     pub StandsWithKnown-more : (a : Assignment) → StandsWithKnown g touches a before → StandsWithKnown g touches a after
     StandsWithKnown-more a h = record { stands = h.stands; whole = h.whole; frozen = λ m f. still m (h.frozen m f) }
 
-  module _ (since : List ℕ) (m : ℕ) (k : is_known since m ≡ true) (flags : List Bool) where
+  module _ (since : List ℕ) (m : ℕ) (k : is_known since m ≡ true) where
     -- the flag of a branch that a known item touches
-    pub AreTouchedByKnown-set : (e : ℕ) → In e (touch_at g.ends touches m) → AreTouchedByKnown g touches since flags → AreTouchedByKnown g touches since (set flags e true)
-    AreTouchedByKnown-set e i h = record {
+    pub AreTouchedByKnown-set : (flags : List Bool) (e : ℕ) → In e (touch_at g.ends touches m) → AreTouchedByKnown g touches since flags → AreTouchedByKnown g touches since (set flags e true)
+    AreTouchedByKnown-set flags e i h = record {
       count = length-set flags e true ∙ h.count;
       known = λ f t. elim (cases_eq f e) [
         | inl s ↦ (m, k, subst (λ (x : ℕ). In x (touch_at g.ends touches m)) (sym s) i)
@@ -171,15 +182,23 @@ module _ (g : Graph) (touches : List Touch) where
       ];
     }
 
-    -- and of the vertex at which it is a star
-    pub AreStarsOfKnown-set : (v : ℕ) → get_or touches m Nothing ≡ Star v → AreStarsOfKnown g touches since flags → AreStarsOfKnown g touches since (set flags v true)
-    AreStarsOfKnown-set v is h = record {
-      count = length-set flags v true ∙ h.count;
-      known = λ w t. elim (cases_eq w v) [
-        | inl s ↦ (m, k, is ∙ ap Star (sym s))
-        | inr n ↦ h.known w (sym (get_or-set_other flags v w true false n) ∙ t)
-      ];
-    }
+    -- and the count of the vertex at which it touches the first so many
+    pub AreFrontsOfKnown-set : (counts : List ℕ) (hub : Hub) → hub.vertex < g.vertices → touch_at g.ends touches m ≡ take hub.count (branches_at g.ends hub.vertex)
+        → AreFrontsOfKnown g touches since counts → AreFrontsOfKnown g touches since (set counts hub.vertex hub.count)
+    AreFrontsOfKnown-set counts hub low is h =
+        let here = get_or-set_same counts hub.vertex hub.count 0 (let c = h.count in omega (arith, c, low)) in
+        record {
+          count = length-set counts hub.vertex hub.count ∙ h.count;
+          known = λ w e i. elim (cases_eq w hub.vertex) [
+            | inl s ↦ (
+              m,
+              k,
+              subst (λ (xs : List ℕ). In e xs) (ap (λ n. take n (branches_at g.ends hub.vertex)) here ∙ sym is)
+                  (subst (λ (v : ℕ). In e (take (get_or (set counts hub.vertex hub.count) v 0) (branches_at g.ends v))) s i),
+            )
+            | inr n ↦ h.known w e (subst (λ (j : ℕ). In e (take j (branches_at g.ends w))) (get_or-set_other counts hub.vertex w hub.count 0 n) i)
+          ];
+        }
 
 -- a pair that stands may be pinned, and nothing else changes
 module _ (g : Graph) (touches : List Touch) (ok : AreBranches g.vertices g.ends) (a : Assignment) (whole : IsWhole a) (stands : StandsOver a g touches) (m e : ℕ)

@@ -12,7 +12,7 @@ use Rattle.obs_placement.specs.declared.offer.Offer.{Offer}
 use Rattle.obs_placement.specs.Holding.{IsTakenNow, IsToTake, IsTouchedByKnown, Known, StandsBeside, Taking}
 use Rattle.obs_placement.specs.Offer.{earlier_in, is_chosen_in, price_in}
 use Rattle.obs_placement.specs.Taking.{AreAdded, AreHeld, AreKept, is_known}
-use Rattle.obs_placement.proofs.Flagged.{AreAdded-marked, AreStarsOfKnown-more, AreTouchedByKnown-more, StandsWithKnown-more, bounded_after, kept_marked, still_known}
+use Rattle.obs_placement.proofs.Flagged.{AreAdded-marked, AreFrontsOfKnown-more, AreTouchedByKnown-more, StandsWithKnown-more, bounded_after, kept_marked, still_known}
 use Rattle.obs_placement.proofs.Stepped.{bare_source, chosen_by, earlier-live, earlier-out, grown_held, grown_raising, grown_taken, held_slots, joined_added, joined_at, joined_not_raising, passed_at, passed_not_raising, taken_slots}
 
 module _ (o : Offer) (ok : AreBranches o.graph.now.vertices o.graph.now.ends) (c price : ℕ) (before : Taking) (h : IsToTake o c price before) where
@@ -114,7 +114,7 @@ module _ (o : Offer) (ok : AreBranches o.graph.now.vertices o.graph.now.ends) (c
           standing = StandsWithKnown-more G T since more still a h.before.beside.standing;
           flags = record {
             touched = AreTouchedByKnown-more G T since more still before.known.touched h.before.beside.flags.touched;
-            stars = AreStarsOfKnown-more G T since more still before.known.stars h.before.beside.flags.stars;
+            fronts = AreFrontsOfKnown-more G T since more still before.known.fronts h.before.beside.flags.fronts;
           };
         };
       };

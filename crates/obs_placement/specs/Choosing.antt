@@ -44,7 +44,7 @@ no_pairs s = record {
 -- nothing is taken, with room for these sizes
 abbrev pub nothing_taken : Sizes → Taking
 nothing_taken s = record {
-  known = record { since = []; touched = []; stars = []; sizes = s };
+  known = record { since = []; touched = []; fronts = []; sizes = s };
   pairs = no_pairs s;
   sizes = s;
 }

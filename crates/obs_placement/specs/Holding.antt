@@ -1,10 +1,11 @@
--- What is known of items while they are taken, with flags of what those touch which are known not to be critical.
-use Rattle.std.specs.Prelude.{◌≡◌, ℕ, ◌≤◌, ◌<◌, Bool, true, false, Option, List, ◌∷◌, length, replicate, slice_index_or}
+-- What is known of items while they are taken, with flags and counts of what those touch which are known not to be
+-- critical.
+use Rattle.std.specs.Prelude.{◌≡◌, ℕ, ◌≤◌, ◌<◌, Bool, true, false, Option, List, ◌∷◌, length, replicate, slice_index_or, take}
 use Rattle.obs_graph.specs.declared.Ends.{Ends}
 use Rattle.obs_graph.specs.Graph.{Graph}
+use Rattle.obs_graph.specs.Positions.{branches_at}
 use Rattle.obs_matroid.specs.Lists.{In}
 use Rattle.obs_meter.specs.declared.Touch.{Touch}
-use Rattle.obs_meter.specs.declared.Touch.TheVariants.{Nothing, Star}
 use Rattle.obs_meter.specs.Sizes.{Sizes}
 use Rattle.obs_meter.specs.Touches.{is_live, touch_at}
 use Rattle.obs_assign.specs.Assignment.{Assignment, has_flag}
@@ -12,21 +13,21 @@ use Rattle.obs_placement.specs.declared.offer.Offer.{Offer}
 use Rattle.obs_placement.specs.Offer.{earlier_in, is_chosen_in, price_in}
 use Rattle.obs_placement.specs.Taking.{AreAdded, AreHeld, AreTaken, IsTakenAt, IsUnderWay, StandsWithKnown, is_known, never, since_at}
 
--- by item the price from which on it isn't critical, by branch and by vertex a flag, and the sizes that there is room
--- for
+-- by item the price from which on it isn't critical, by branch a flag, by vertex a count, and the sizes that there is
+-- room for
 pub record Known : Type 0 where
   pub since : List ℕ
   pub touched : List Bool
-  pub stars : List Bool
+  pub fronts : List ℕ
   pub sizes : Sizes
 
--- no item of the offer is known, and no flag is set
+-- no item of the offer is known, no flag is set, and nothing is counted
 abbrev pub nothing_known : Known → Offer → Known
 nothing_known k o =
     record k {
       since = replicate (length o.items.now.touches) never;
       touched = replicate (length o.graph.now.ends) false;
-      stars = replicate o.graph.now.vertices false;
+      fronts = replicate o.graph.now.vertices 0;
     }
 
 -- some item that is known not to be critical touches the branch e
@@ -38,17 +39,17 @@ pub record AreTouchedByKnown (g : Graph) (touches : List Touch) (since : List �
   pub count : length flags ≡ length g.ends
   pub known : (e : ℕ) → has_flag flags e ≡ true → IsTouchedByKnown g.ends touches since e
 
--- there is a flag for each vertex, and a known item is a star at those whose flag is set
-pub record AreStarsOfKnown (g : Graph) (touches : List Touch) (since : List ℕ) (flags : List Bool) : Type 0 where
-  pub count : length flags ≡ g.vertices
-  pub known : (v : ℕ) → has_flag flags v ≡ true → (m : ℕ) × (is_known since m ≡ true) × (slice_index_or touches m Nothing ≡ Star v)
+-- there is a count for each vertex, and known items touch so many of the first branches there
+pub record AreFrontsOfKnown (g : Graph) (touches : List Touch) (since : List ℕ) (counts : List ℕ) : Type 0 where
+  pub count : length counts ≡ g.vertices
+  pub known : (v e : ℕ) → In e (take (slice_index_or counts v 0) (branches_at g.ends v)) → IsTouchedByKnown g.ends touches since e
 
--- known items touch what the flags are set for
+-- known items touch what the flags are set for, and what is counted
 pub record AreFlagged (o : Offer) (k : Known) : Type 0 where
   pub touched : AreTouchedByKnown o.graph.now o.items.now.touches k.since k.touched
-  pub stars : AreStarsOfKnown o.graph.now o.items.now.touches k.since k.stars
+  pub fronts : AreFrontsOfKnown o.graph.now o.items.now.touches k.since k.fronts
 
--- the pairs stand beside what is known: only known items are frozen, and known items touch what the flags are set for
+-- the pairs stand beside what is known: only known items are frozen, and known items touch what the flags and counts say
 pub record StandsBeside (o : Offer) (a : Assignment) (k : Known) : Type 0 where
   pub count : length k.since ≡ length o.items.now.touches
   pub standing : StandsWithKnown o.graph.now o.items.now.touches a k.since

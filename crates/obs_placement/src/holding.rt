@@ -1,5 +1,5 @@
-// Flags of the branches that items touch which are known not to be critical, and of the vertices with a known star. An
-// item raises nothing where such items touch all that it touches. The pairs of known items are frozen.
+// Flags of the branches that items touch which are known not to be critical, and by vertex how many of the first branches
+// they touch. An item raises nothing where such items touch all that it touches. The pairs of known items are frozen.
 ghost use Rattle.std.specs.Prelude.{◌≡◌, ◌⊎◌, ◌<◌, ℕ, All, IsTrue, false, length, slice_set, true};
 ghost use Rattle.obs_matroid.specs.Lists.{In};
 ghost use Rattle.obs_meter.specs.Touches.{touch_at};
@@ -14,7 +14,7 @@ use obs_assign::{Assignment, Steps};
 use obs_meter::Touch;
 use std::sync::ledger::Ledger;
 
-/// Whether the flags say that known items touch all that the item touches.
+/// Whether the flags and counts say that known items touch all that the item touches.
 pub fn touches_known(offer: &Offer<'_>, known: &Known, m: u32) -> bool
     requires offer { IsOffer offer.now }
     requires m { m < length offer.now.items.now.touches }
@@ -22,30 +22,32 @@ pub fn touches_known(offer: &Offer<'_>, known: &Known, m: u32) -> bool
     ensures known { IsTrue result → (e : ℕ) → In e (touch_at offer.now.graph.now.ends offer.now.items.now.touches m)
         → IsTouchedByKnown offer.now.graph.now.ends offer.now.items.now.touches known.now.since e }
 {
+    if let Some(h) = offer.items.hub(offer.graph, m) {
+        return h.count <= known.fronts()[h.vertex as usize];
+    }
     match offer.items.kind(m) {
-        Touch::Nothing => false,
         Touch::Edge(e) => known.touched()[e as usize],
-        Touch::Star(v) => known.stars()[v as usize],
+        _ => false,
     }
 }
 
-/// Sets the flag of the vertex where the known item is a star, and says whether it was set before.
-fn mark_star(offer: &Offer<'_>, known: &mut Known, m: u32) -> bool
+/// Notes how many of the first branches at a vertex the known item touches, and says whether as many were noted before.
+fn mark_front(offer: &Offer<'_>, known: &mut Known, m: u32) -> bool
     requires offer { IsOffer offer.now }
     requires m { m < length offer.now.items.now.touches }
     requires is_known { is_known known.old.since m ≡ true }
     requires flags { AreFlagged offer.now known.old }
     ensures flags { AreFlagged offer.now known.new }
-    ensures only_stars { known.new ≡ record known.old { stars = known.new.stars } }
+    ensures only_fronts { known.new ≡ record known.old { fronts = known.new.fronts } }
 {
-    match offer.items.kind(m) {
-        Touch::Star(v) => {
-            let before = known.stars()[v as usize];
-            known.put_star(v);
-            before
-        }
-        _ => false,
+    let Some(h) = offer.items.hub(offer.graph, m) else {
+        return false;
+    };
+    if h.count <= known.fronts()[h.vertex as usize] {
+        return true;
     }
+    known.put_front(h.vertex, h.count);
+    false
 }
 
 /// Sets the flags of the branches that the known item touches.
@@ -101,7 +103,7 @@ fn keep_item<L: Ledger>(
     ensures same_sizes { known.new.sizes ≡ known.old.sizes }
 {
     known.set(m, price);
-    if !mark_star(offer, known, m) {
+    if !mark_front(offer, known, m) {
         mark_touched(offer, known, m);
     }
     freeze(offer, pairs, m, steps);

@@ -12,7 +12,7 @@ use std::marker::Model;
 /// The price of an item that wasn't found not to be critical: above all prices.
 pub const NEVER: u64 = 18446744073709551615;
 
-/// The price from which on each item isn't critical, with flags of what such items touch.
+/// The price from which on each item isn't critical, with flags and counts of what such items touch.
 pub struct Known {
     // how many items, branches and vertices there are
     items: usize,
@@ -20,9 +20,10 @@ pub struct Known {
     vertices: usize,
     // the price from which on the item isn't critical, or `NEVER`
     since: Vec<u64>,
-    // whether an item that is known not to be critical touches the branch, and whether one is a star at the vertex
+    // whether an item that is known not to be critical touches the branch
     touched: Vec<bool>,
-    stars: Vec<bool>,
+    // how many of the first branches at the vertex one of them touches, or 0
+    fronts: Vec<usize>,
 }
 
 impl Model for Known {
@@ -34,18 +35,18 @@ impl Model for Known {
     ghost view = { λ k. record {
       since = take k.items k.since.items;
       touched = take k.branches k.touched.items;
-      stars = take k.vertices k.stars.items;
+      fronts = take k.vertices k.fronts.items;
       sizes = record {
         meters = length k.since.items;
         branches = length k.touched.items;
-        vertices = length k.stars.items;
+        vertices = length k.fronts.items;
       };
     } };
 
     ghost invariant = { λ k. record {
       items : k.items ≤ length k.since.items;
       branches : k.branches ≤ length k.touched.items;
-      vertices : k.vertices ≤ length k.stars.items;
+      vertices : k.vertices ≤ length k.fronts.items;
     } };
 }
 
@@ -58,7 +59,7 @@ impl Drop for Known {
             vertices: _,
             since: _,
             touched: _,
-            stars: _,
+            fronts: _,
         } = self;
     }
 }
@@ -77,6 +78,15 @@ pub fn clear(flags: &mut [bool])
     ensures clear { flags.new ≡ replicate (length flags.old) false }
 {
     flags.fill(false);
+}
+
+/// Forgets the first n counts.
+fn forget_counts(counts: &mut [usize], n: usize)
+    requires n { n ≤ length counts.old }
+    ensures count { length counts.new ≡ length counts.old }
+    ensures forgotten { take n counts.new ≡ replicate n 0 }
+{
+    counts[..n].fill(0);
 }
 
 /// Takes the first n flags back.
@@ -99,7 +109,7 @@ impl Known {
         ensures empty { IfOk result (λ k. k ≡ record {
           since = [];
           touched = [];
-          stars = [];
+          fronts = [];
           sizes = record { meters = most_items; branches = most_branches; vertices = most_vertices };
         }) }
     {
@@ -109,7 +119,7 @@ impl Known {
             vertices: 0,
             since: vec![in alloc; 0; most_items as usize]?,
             touched: vec![in alloc; false; most_branches as usize]?,
-            stars: vec![in alloc; false; most_vertices as usize]?,
+            fronts: vec![in alloc; 0; most_vertices as usize]?,
         })
     }
 
@@ -127,11 +137,11 @@ impl Known {
         &self.touched[..self.branches]
     }
 
-    /// By vertex whether such an item is a star there.
-    pub fn stars(&self) -> &[bool]
-        ensures stars { result.now ≡ self.now.stars }
+    /// By vertex how many of the first branches there such an item touches, or 0.
+    pub fn fronts(&self) -> &[usize]
+        ensures fronts { result.now ≡ self.now.fronts }
     {
-        &self.stars[..self.vertices]
+        &self.fronts[..self.vertices]
     }
 
     /// Knows nothing of what is offered.
@@ -144,7 +154,7 @@ impl Known {
         self.vertices = offer.graph.vertices() as usize;
         forget(&mut self.since, self.items);
         unset(&mut self.touched, self.branches);
-        unset(&mut self.stars, self.vertices);
+        forget_counts(&mut self.fronts, self.vertices);
     }
 
     /// The item isn't critical from this price on.
@@ -163,11 +173,11 @@ impl Known {
         self.touched[e as usize] = true;
     }
 
-    /// A known item is a star at the vertex.
-    pub fn put_star(&mut self, v: u32)
-        requires v { v < length self.old.stars }
-        ensures star { self.new ≡ record self.old { stars = slice_set self.old.stars v true } }
+    /// A known item touches so many of the first branches at the vertex.
+    pub fn put_front(&mut self, v: u32, count: usize)
+        requires v { v < length self.old.fronts }
+        ensures front { self.new ≡ record self.old { fronts = slice_set self.old.fronts v count } }
     {
-        self.stars[v as usize] = true;
+        self.fronts[v as usize] = count;
     }
 }

@@ -12,7 +12,7 @@ use Rattle.obs_meter.specs.declared.Touch.{Touch}
 use Rattle.obs_meter.specs.Touches.{is_live, touch_at}
 use Rattle.obs_rankcut.specs.Bounds.{listed, unlisted}
 use Rattle.obs_rankcut.specs.Flags.{marked}
-use Rattle.obs_rankcut.specs.Marks.{AreMarkedToo, AreStarsMarked, MarksJust}
+use Rattle.obs_rankcut.specs.Marks.{AreFrontsMarked, AreMarkedToo, MarksJust}
 
 -- what is neither marked nor unmarked isn't live
 pub idle : (live mark : Bool) → (live && mark) ≡ false → (live && not mark) ≡ false → live ≡ false
@@ -26,14 +26,14 @@ module _ (ends : List (Option Ends)) (touches : List Touch) (marks scope : ℕ �
   left i = filter scope (filter (is_live ends touches) (later (length touches) i))
 
   -- the meters below i are listed or counted, and what the listed ones touch is marked
-  pub record IsPassed (flags stars : List Bool) (list : List ℕ) (count outside i : ℕ) : Type 0 where
+  pub record IsPassed (flags : List Bool) (fronts list : List ℕ) (count outside i : ℕ) : Type 0 where
     pub bound : count ≤ i
     pub bound_outside : outside ≤ i
     pub lists : take count list ++ filter marks (left i) ≡ listed ends touches marks scope
     pub counts : outside + length (filter (λ m. not (marks m)) (left i)) ≡ length (unlisted ends touches marks scope)
     pub adds : (m e : ℕ) → In m (take count list) → In e (touch_at ends touches m) → marked flags e ≡ true
     pub only : (e : ℕ) → marked flags e ≡ true → In e (flat_map (touch_at ends touches) (listed ends touches marks scope))
-    pub stars_done : AreStarsMarked ends stars flags
+    pub fronts_done : AreFrontsMarked ends fronts flags
 
   module _ (i : ℕ) (low : i < length touches) where
     left_idle : is_live ends touches i ≡ false → left i ≡ left (i + 1)
@@ -48,9 +48,9 @@ module _ (ends : List (Option Ends)) (touches : List Touch) (marks scope : ℕ �
     left_in : is_live ends touches i ≡ true → scope i ≡ true → left i ≡ i ∷ left (i + 1)
     left_in t s = rw (later_next (length touches) i low, t, s) refl
 
-    module _ (flags stars : List Bool) (list : List ℕ) (count outside : ℕ) (h : IsPassed flags stars list count outside i) where
+    module _ (flags : List Bool) (fronts list : List ℕ) (count outside : ℕ) (h : IsPassed flags fronts list count outside i) where
       -- a meter that is idle, or not of the scope
-      Passed-same : left i ≡ left (i + 1) → IsPassed flags stars list count outside (i + 1)
+      Passed-same : left i ≡ left (i + 1) → IsPassed flags fronts list count outside (i + 1)
       Passed-same e = record {
         bound = let b = h.bound in omega arith;
         bound_outside = let b = h.bound_outside in omega arith;
@@ -58,16 +58,16 @@ module _ (ends : List (Option Ends)) (touches : List Touch) (marks scope : ℕ �
         counts = rw (← e) h.counts;
         adds = h.adds;
         only = h.only;
-        stars_done = h.stars_done;
+        fronts_done = h.fronts_done;
       }
 
-      pub Passed-idle : is_live ends touches i ≡ false → IsPassed flags stars list count outside (i + 1)
+      pub Passed-idle : is_live ends touches i ≡ false → IsPassed flags fronts list count outside (i + 1)
       Passed-idle n = Passed-same (left_idle n)
 
-      pub Passed-out : scope i ≡ false → IsPassed flags stars list count outside (i + 1)
+      pub Passed-out : scope i ≡ false → IsPassed flags fronts list count outside (i + 1)
       Passed-out n = Passed-same (left_out n)
 
-      pub Passed-counted : is_live ends touches i ≡ true → scope i ≡ true → marks i ≡ false → IsPassed flags stars list count (outside + 1) (i + 1)
+      pub Passed-counted : is_live ends touches i ≡ true → scope i ≡ true → marks i ≡ false → IsPassed flags fronts list count (outside + 1) (i + 1)
       Passed-counted t s n =
           let all : filter (λ m. not (marks m)) (left i) ≡ i ∷ filter (λ m. not (marks m)) (left (i + 1)) = rw (left_in t s, n) refl in
           let mine : filter marks (left i) ≡ filter marks (left (i + 1)) = rw (left_in t s, n) refl in
@@ -79,12 +79,12 @@ module _ (ends : List (Option Ends)) (touches : List Touch) (marks scope : ℕ �
             counts = let c = h.counts in omega (arith, len, c);
             adds = h.adds;
             only = h.only;
-            stars_done = h.stars_done;
+            fronts_done = h.fronts_done;
           }
 
-      pub Passed-listed : is_live ends touches i ≡ true → scope i ≡ true → marks i ≡ true → length touches ≤ length list → (after stars_after : List Bool) → AreMarkedToo flags (touch_at ends touches i) after
-          → AreStarsMarked ends stars_after after → IsPassed after stars_after (set list count i) (count + 1) outside (i + 1)
-      Passed-listed t s m long after stars_after marks_more done =
+      pub Passed-listed : is_live ends touches i ≡ true → scope i ≡ true → marks i ≡ true → length touches ≤ length list → (after : List Bool) (fronts_after : List ℕ) → AreMarkedToo flags (touch_at ends touches i) after
+          → AreFrontsMarked ends fronts_after after → IsPassed after fronts_after (set list count i) (count + 1) outside (i + 1)
+      Passed-listed t s m long after fronts_after marks_more done =
           let b = h.bound in
           let more = take_more_set list count i (omega arith) in
           let mine : filter marks (left i) ≡ i ∷ filter marks (left (i + 1)) = rw (left_in t s, m) refl in
@@ -104,10 +104,10 @@ module _ (ends : List (Option Ends)) (touches : List Touch) (marks scope : ℕ �
               | inl l ↦ h.only e l
               | inr l ↦ In-flat_map (touch_at ends touches) i e (listed ends touches marks scope) here l
             ];
-            stars_done = done;
+            fronts_done = done;
           }
 
-  module _ (flags stars : List Bool) (list : List ℕ) (count outside i : ℕ) (end : i ≡ length touches) (h : IsPassed flags stars list count outside i) where
+  module _ (flags : List Bool) (fronts list : List ℕ) (count outside i : ℕ) (end : i ≡ length touches) (h : IsPassed flags fronts list count outside i) where
     left_none : left i ≡ []
     left_none =
         let none : length touches - length touches ≡ 0 = omega arith in

@@ -1,5 +1,5 @@
--- Flags of branches and of vertices, as a pass over the meters sets them.
-use Rattle.std.specs.Prelude.{◌≡◌, ◌⊎◌, ◌↔◌, ℕ, Bool, true, Option, List}
+-- Flags of branches and counts at vertices, as a pass over the meters sets them.
+use Rattle.std.specs.Prelude.{◌≡◌, ◌⊎◌, ◌↔◌, ℕ, Bool, true, Option, List, take, slice_index_or}
 use Rattle.obs_graph.specs.declared.Ends.{Ends}
 use Rattle.obs_graph.specs.Positions.{branches_at}
 use Rattle.obs_matroid.specs.Lists.{In}
@@ -11,9 +11,9 @@ pub record AreMarkedToo (before : List Bool) (L : List ℕ) (after : List Bool) 
   pub kept : (e : ℕ) → marked before e ≡ true → marked after e ≡ true
   pub only : (e : ℕ) → marked after e ≡ true → (marked before e ≡ true) ⊎ In e L
 
--- all branches at each marked vertex are marked
-abbrev pub AreStarsMarked : List (Option Ends) → List Bool → List Bool → Type 0
-AreStarsMarked ends stars flags = (v e : ℕ) → marked stars v ≡ true → In e (branches_at ends v) → marked flags e ≡ true
+-- at each vertex the first so many branches are marked
+abbrev pub AreFrontsMarked : List (Option Ends) → List ℕ → List Bool → Type 0
+AreFrontsMarked ends fronts flags = (v e : ℕ) → In e (take (slice_index_or fronts v 0) (branches_at ends v)) → marked flags e ≡ true
 
 -- just the listed branches are marked
 abbrev pub MarksJust : List ℕ → List Bool → Type 0

@@ -1,14 +1,15 @@
 // One pass over the meters: the marked ones of the scope are listed with the branches that they touch, and the others
 // counted.
-ghost use Rattle.std.specs.Prelude.{◌≡◌, ◌<◌, ◌≤◌, ◌&&◌, All, false, flat_map, length, not, replicate, take};
-ghost use Rattle.obs_meter.specs.Touches.{AreInRange, IsInRange, touch_at, touched};
+ghost use Rattle.std.specs.Prelude.{◌≡◌, ◌<◌, ◌≤◌, ◌&&◌, All, false, flat_map, length, not, replicate, slice_index_or, take};
+ghost use Rattle.obs_meter.specs.declared.Touch.TheVariants.{Nothing};
+ghost use Rattle.obs_meter.specs.Touches.{AreInRange, IsInRange, touch_at};
 ghost use Rattle.obs_graph.specs.Positions.{branches_at};
 ghost use Rattle.obs_rankcut.specs.Bounds.{listed, listed_rank, unlisted};
 ghost use Rattle.obs_rankcut.specs.Flags.{marked};
-ghost use Rattle.obs_rankcut.specs.Marks.{AreMarkedToo, AreStarsMarked, MarksJust};
+ghost use Rattle.obs_rankcut.specs.Marks.{AreFrontsMarked, AreMarkedToo, MarksJust};
 
 use obs_graph::{Graph, GraphWork};
-use obs_meter::{Meters, Touch};
+use obs_meter::{Hub, Meters};
 
 // Takes all flags back.
 fn clear(flags: &mut [bool])
@@ -27,34 +28,44 @@ fn mark_all(positions: &[u32], flags: &mut [bool])
     }
 }
 
-// Marks the branches at the vertex, unless this was done before.
-fn mark_star(g: &Graph, v: u32, flags: &mut [bool], stars: &mut [bool])
-    requires v { v < g.now.vertices }
-    requires flags { length flags.old ≡ length g.now.ends }
-    requires stars { length stars.old ≡ g.now.vertices }
-    requires done { AreStarsMarked g.now.ends stars.old flags.old }
-    ensures marks { AreMarkedToo flags.old (branches_at g.now.ends v) flags.new }
-    ensures done { AreStarsMarked g.now.ends stars.new flags.new }
+// Takes all counts back.
+fn begin(fronts: &mut [usize])
+    ensures none { fronts.new ≡ replicate (length fronts.old) 0 }
 {
-    if !stars[v as usize] {
-        stars[v as usize] = true;
-        mark_all(g.branches_at(v), flags);
+    fronts.fill(0);
+}
+
+// Marks the first so many branches at a vertex. Those that were marked there before are passed over.
+fn mark_hub(g: &Graph, hub: Hub, flags: &mut [bool], fronts: &mut [usize])
+    requires vertex { hub.vertex < g.now.vertices }
+    requires count { hub.count ≤ length (branches_at g.now.ends hub.vertex) }
+    requires flags { length flags.old ≡ length g.now.ends }
+    requires fronts { length fronts.old ≡ g.now.vertices }
+    requires done { AreFrontsMarked g.now.ends fronts.old flags.old }
+    ensures marks { AreMarkedToo flags.old (take hub.count (branches_at g.now.ends hub.vertex)) flags.new }
+    ensures done { AreFrontsMarked g.now.ends fronts.new flags.new }
+{
+    let known = fronts[hub.vertex as usize];
+    if known < hub.count {
+        fronts[hub.vertex as usize] = hub.count;
+        let front = &g.branches_at(hub.vertex)[..hub.count];
+        mark_all(&front[known..], flags);
     }
 }
 
-// Marks the branches that are touched.
-fn mark_touched(g: &Graph, touch: Touch, flags: &mut [bool], stars: &mut [bool])
-    requires in_range { IsInRange g.now touch }
+// Marks the branches that a meter touches.
+fn mark_touched(g: &Graph, ms: &Meters, m: u32, flags: &mut [bool], fronts: &mut [usize])
+    requires item { m < length ms.now.touches }
+    requires in_range { IsInRange g.now (slice_index_or ms.now.touches m Nothing) }
     requires flags { length flags.old ≡ length g.now.ends }
-    requires stars { length stars.old ≡ g.now.vertices }
-    requires done { AreStarsMarked g.now.ends stars.old flags.old }
-    ensures marks { AreMarkedToo flags.old (touched g.now.ends touch) flags.new }
-    ensures done { AreStarsMarked g.now.ends stars.new flags.new }
+    requires fronts { length fronts.old ≡ g.now.vertices }
+    requires done { AreFrontsMarked g.now.ends fronts.old flags.old }
+    ensures marks { AreMarkedToo flags.old (touch_at g.now.ends ms.now.touches m) flags.new }
+    ensures done { AreFrontsMarked g.now.ends fronts.new flags.new }
 {
-    match touch {
-        Touch::Nothing => {}
-        Touch::Edge(e) => mark_all(g.itself(e), flags),
-        Touch::Star(v) => mark_star(g, v, flags, stars),
+    match ms.hub(g, m) {
+        Some(hub) => mark_hub(g, hub, flags, fronts),
+        None => mark_all(ms.touch(g, m), flags),
     }
 }
 
@@ -87,14 +98,14 @@ pub(crate) fn pass(
     scope: &[bool],
     list: &mut [u32],
     flags: &mut [bool],
-    stars: &mut [bool],
+    fronts: &mut [usize],
 ) -> Passed
     requires in_range { AreInRange g.now ms.now.touches }
     requires marks { length marks.now ≡ length ms.now.touches }
     requires scope { length scope.now ≡ length ms.now.touches }
     requires list { length ms.now.touches ≤ length list.old }
     requires flags { length flags.old ≡ length g.now.ends }
-    requires stars { length stars.old ≡ g.now.vertices }
+    requires fronts { length fronts.old ≡ g.now.vertices }
     ensures bound { result.count ≤ length ms.now.touches }
     ensures listed { take result.count list.new ≡
         listed g.now.ends ms.now.touches (marked marks.now) (marked scope.now) }
@@ -104,7 +115,7 @@ pub(crate) fn pass(
         (listed g.now.ends ms.now.touches (marked marks.now) (marked scope.now))) flags.new }
 {
     clear(flags);
-    clear(stars);
+    begin(fronts);
     let mut count = 0;
     let mut outside = 0;
     for m in 0..ms.count() {
@@ -114,7 +125,7 @@ pub(crate) fn pass(
             if is_listed(live, mark) {
                 list[count] = m;
                 count += 1;
-                mark_touched(g, ms.kind(m), flags, stars);
+                mark_touched(g, ms, m, flags, fronts);
             } else if is_outside(live, mark) {
                 outside += 1;
             }
@@ -139,7 +150,7 @@ pub(crate) fn count_in(
     scope: &[bool],
     list: &mut [u32],
     flags: &mut [bool],
-    stars: &mut [bool],
+    fronts: &mut [usize],
     work: &mut GraphWork,
 ) -> Counted
     requires in_range { AreInRange g.now ms.now.touches }
@@ -147,7 +158,7 @@ pub(crate) fn count_in(
     requires scope { length scope.now ≡ length ms.now.touches }
     requires list { length ms.now.touches ≤ length list.old }
     requires flags { length g.now.ends ≤ length flags.old }
-    requires stars { g.now.vertices ≤ length stars.old }
+    requires fronts { g.now.vertices ≤ length fronts.old }
     requires branches { length g.now.ends ≤ work.old.most_branches }
     requires vertices { g.now.vertices ≤ work.old.most_vertices }
     ensures bound { result.count ≤ length ms.now.touches }
@@ -160,8 +171,8 @@ pub(crate) fn count_in(
     ensures work { work.new ≡ work.old }
 {
     let flags = &mut flags[..g.positions() as usize];
-    let stars = &mut stars[..g.vertices() as usize];
-    let passed = pass(g, ms, marks, scope, list, flags, stars);
+    let fronts = &mut fronts[..g.vertices() as usize];
+    let passed = pass(g, ms, marks, scope, list, flags, fronts);
     Counted {
         count: passed.count,
         rank: g.rank_of(flags, work),

@@ -21,8 +21,8 @@ pub struct CutWork {
     list: Vec<u32>,
     // whether a listed meter touches the branch
     flags: Vec<bool>,
-    // whether all branches at the vertex are marked so
-    stars: Vec<bool>,
+    // how many of the first branches at the vertex are marked so
+    fronts: Vec<usize>,
     // what the rank is found in
     ranks: GraphWork,
 }
@@ -35,13 +35,13 @@ impl Model for CutWork {
 
     ghost view = { λ w. record {
       inside = take w.count w.list.items;
-      sizes = record { meters = length w.list.items; branches = length w.flags.items; vertices = length w.stars.items };
+      sizes = record { meters = length w.list.items; branches = length w.flags.items; vertices = length w.fronts.items };
     } };
 
     ghost invariant = { λ w. record {
       count : w.count ≤ length w.list.items;
       branches : w.ranks.most_branches ≡ length w.flags.items;
-      vertices : w.ranks.most_vertices ≡ length w.stars.items;
+      vertices : w.ranks.most_vertices ≡ length w.fronts.items;
     } };
 }
 
@@ -52,7 +52,7 @@ impl Drop for CutWork {
             count: _,
             list: _,
             flags: _,
-            stars: _,
+            fronts: _,
             ranks: _,
         } = self;
     }
@@ -75,7 +75,7 @@ impl CutWork {
             count: 0,
             list: vec![in alloc; 0; most_meters as usize]?,
             flags: vec![in alloc; false; most_branches as usize]?,
-            stars: vec![in alloc; false; most_vertices as usize]?,
+            fronts: vec![in alloc; 0; most_vertices as usize]?,
             ranks: GraphWork::make(alloc, most_vertices, most_branches)?,
         })
     }
@@ -125,7 +125,7 @@ pub fn measure(
         scope,
         &mut work.list,
         &mut work.flags,
-        &mut work.stars,
+        &mut work.fronts,
         &mut work.ranks,
     );
     work.count = counted.count;

@@ -1,86 +1,39 @@
 -- Pairs that stand over the network of a case.
-use Rattle.std.proofs.Common.{◌≡◌, ◌∙◌, ◌<◌, ◌+◌, ℕ, zero, suc, inl, inr, Bool, true, false, Option, Some, None, List, [], ◌∷◌, ◌++◌, length, get_or, filter, map, refl, sym, ap, subst, append-nil, add-one, arith}
-use Rattle.std.specs.Prelude.{IfSome, IsSome, slice_index_or, ◌==◌}
+use Rattle.std.proofs.Common.{◌≡◌, ◌∙◌, ◌<◌, ◌+◌, ℕ, zero, suc, inl, inr, Bool, true, false, Option, Some, None, List, [], ◌∷◌, ◌++◌, length, get_or, filter, refl, sym, ap, subst, append-nil, add-one, arith}
+use Rattle.std.specs.Prelude.{IfSome, ◌==◌}
 use Rattle.std.specs.List.{flat_map, range_with_len}
-use Rattle.std.proofs.lemmas.Bool.{cases_Bool, false≢true}
-use Rattle.obs_case.specs.Items.{angle_flags, is_angle_kind}
+use Rattle.std.proofs.lemmas.Bool.{cases_Bool, cases_lt}
+use Rattle.std.proofs.lemmas.List.{get_or_past}
 use Rattle.obs_case.specs.Tables.{Tables, IsValid}
-use Rattle.obs_case.specs.declared.rows.Candidate.{Candidate}
-use Rattle.obs_case.specs.declared.rows.Kind.{Kind}
-use Rattle.obs_case.specs.declared.rows.Kind.TheVariants.{Flow, Injection, Zero, Angle}
-use Rattle.obs_case.specs.declared.rows.Meter.{Meter}
-use Rattle.obs_graph.proofs.Present.{present_low}
 use Rattle.obs_matroid.specs.Assignments.{Pair}
 use Rattle.obs_matroid.specs.Lists.{In}
 use Rattle.obs_matroid.specs.Slots.{pairs_from, pairs_of}
 use Rattle.obs_meter.specs.declared.Touch.{Touch}
 use Rattle.obs_meter.specs.declared.Touch.TheVariants.{Nothing}
 use Rattle.obs_meter.specs.Touches.{is_live, touch_at, touched}
-use Rattle.obs_meter.proofs.Touched.{live-from_In, touched-present}
+use Rattle.obs_meter.proofs.Touched.{live-from_In}
 use Rattle.obs_assign.specs.Assignment.{Assignment, StandsOver, branch_at}
 use Rattle.obs_network.specs.Network.{case_branches, case_meters, case_offered, network_of}
 use Rattle.obs_network.specs.Located.{is_meter_in, live_meters_of}
-use Rattle.obs_network.specs.Switched.{case_buses}
-use Rattle.obs_network.specs.Touching.{candidate_touch, meter_touch, touch_of}
 use Rattle.obs_network.proofs.InComponents.{touched_component}
-use Rattle.obs_network.proofs.OfCase.{length-case_branches, length-case_offered}
+use Rattle.obs_network.proofs.Items.{meter_is_item}
+use Rattle.obs_network.proofs.OfCase.{length-case_meters, length-case_offered}
+use Rattle.obs_network.proofs.WithoutAngles.{position_of_item}
 use Rattle.obs_report.specs.Items.{IsBranchOf, pair_line}
 use Rattle.obs_report.specs.Placements.{ArePairsOf}
 use Rattle.obs_report.specs.Trees.{lies_in, pair_lines}
 
--- a present branch has a row in the table
-branch_low : (t : Tables) (e : ℕ) → IsSome (slice_index_or (case_branches t) e None) → e < length t.branches
-branch_low t e s = omega (arith, present_low (case_branches t) e s, length-case_branches t)
-
--- an angle item touches nothing yet, whether it is a meter or a candidate
-idle_kind : (buses : List ℕ) (kind : Kind) (at : ℕ) → is_angle_kind kind ≡ true → touch_of buses kind at ≡ Nothing
-idle_kind buses Flow at h = absurd (false≢true h)
-idle_kind buses Injection at h = absurd (false≢true h)
-idle_kind buses Zero at h = absurd (false≢true h)
-idle_kind buses Angle at h = refl
-
-idle_meter : (buses : List ℕ) (row : Meter) → is_angle_kind row.kind ≡ true → meter_touch buses row ≡ Nothing
-idle_meter buses row h = elim (cases_Bool row.inservice) [ inl e ↦ rw e (idle_kind buses row.kind row.at h) | inr e ↦ rw e refl ]
-
--- among some touches those of what a list of flags marks are none
-AreIdle : List Bool → List Touch → Type 0
-AreIdle flags touches = (m : ℕ) → slice_index_or flags m false ≡ true → slice_index_or touches m Nothing ≡ Nothing
-
-idle_candidates : (buses : List ℕ) (rows : List Candidate) → AreIdle (map (λ (row : Candidate). is_angle_kind row.kind) rows) (map (candidate_touch buses) rows)
-unfolding AreIdle
-idle_candidates buses [] m h = refl
-idle_candidates buses (row ∷ rows) zero h = idle_kind buses row.kind row.at h
-idle_candidates buses (row ∷ rows) (suc m) h = idle_candidates buses rows m h
-
-idle_items : (buses : List ℕ) (rows : List Meter) (flags : List Bool) (touches : List Touch) → AreIdle flags touches
-    → AreIdle (map (λ (row : Meter). is_angle_kind row.kind) rows ++ flags) (map (meter_touch buses) rows ++ touches)
-unfolding AreIdle
-idle_items buses [] flags touches idle m h = idle m h
-idle_items buses (row ∷ rows) flags touches idle zero h = idle_meter buses row h
-idle_items buses (row ∷ rows) flags touches idle (suc m) h = idle_items buses rows flags touches idle m h
-
-idle_offered : (t : Tables) → AreIdle (angle_flags t) (case_offered t)
-unfolding case_offered
-idle_offered t = idle_items (case_buses t) t.meters _ _ (idle_candidates (case_buses t) t.candidates)
-
-idle_meters : (t : Tables) → AreIdle (angle_flags t) (case_meters t)
-unfolding case_meters AreIdle
-idle_meters t = subst (AreIdle (angle_flags t)) (append-nil (map (meter_touch (case_buses t)) t.meters))
-    (idle_items (case_buses t) t.meters (map (λ (row : Candidate). is_angle_kind row.kind) t.candidates) [] (λ m h. refl))
-
 -- what an item touches is a branch that its pair may have
-touched_branch : (t : Tables) (touches : List Touch) → AreIdle (angle_flags t) touches → (m e : ℕ) → In e (touch_at (case_branches t) touches m) → IsBranchOf t m e
-unfolding AreIdle
-touched_branch t touches idle m e i = record {
-  angle = λ h. absurd (subst (λ (x : Touch). In e (touched (case_branches t) x)) (idle m h) i);
-  row = λ h. branch_low t e (touched-present (case_branches t) (slice_index_or touches m Nothing) e i);
-}
+pub offered_branch : (t : Tables) → IsValid t → (m e : ℕ) → In e (touch_at (case_branches t) (case_offered t) m) → IsBranchOf t m e
+offered_branch t v m e i = let is = position_of_item t v m e i in record { angle = is.0; row = is.1 }
 
-pub meter_branch : (t : Tables) (m e : ℕ) → In e (touch_at (case_branches t) (case_meters t) m) → IsBranchOf t m e
-meter_branch t m e i = touched_branch t (case_meters t) (idle_meters t) m e i
-
-pub offered_branch : (t : Tables) (m e : ℕ) → In e (touch_at (case_branches t) (case_offered t) m) → IsBranchOf t m e
-offered_branch t m e i = touched_branch t (case_offered t) (idle_offered t) m e i
+-- and a meter is an item
+pub meter_branch : (t : Tables) → IsValid t → (m e : ℕ) → In e (touch_at (case_branches t) (case_meters t) m) → IsBranchOf t m e
+meter_branch t v m e i =
+    elim (cases_lt m (length t.meters)) [
+      | inl l ↦ offered_branch t v m e (subst (λ (x : Touch). In e (touched (case_branches t) x)) (sym (meter_is_item t m l)) i)
+      | inr past ↦ absurd (subst (λ (x : Touch). In e (touched (case_branches t) x)) (get_or_past (case_meters t) m Nothing (omega (arith, past, length-case_meters t))) i)
+    ]
 
 -- the branch of an item's pair is one that it may have
 pub held_branch : (t : Tables) (a : Assignment) → ((m e : ℕ) → branch_at a m ≡ Some e → IsBranchOf t m e) → (m : ℕ) → IfSome (branch_at a m) (IsBranchOf t m)

@@ -1,17 +1,12 @@
 -- The counts of a network, and the verdict.
 use Rattle.std.specs.Prelude.{ℕ, ◌==◌, false, List, [], ◌∷◌, ◌++◌, length, codes, count_by, if◌then◌else◌, slice_index_or}
-use Rattle.obs_graph.specs.Positions.{present}
 use Rattle.obs_meter.specs.Touches.{live_items}
-use Rattle.obs_network.specs.Network.{Network}
+use Rattle.obs_network.specs.Network.{Network, live_branch_count}
 use Rattle.obs_report.specs.Lines.{count_line, line_of}
 
 -- how many buses energised components have
 abbrev pub energised_buses : Network → ℕ
 energised_buses n = count_by (λ c. slice_index_or n.components.energised c false) n.components.of_buses
-
--- how many live branches energised components have
-abbrev pub branch_count : Network → ℕ
-branch_count n = length (present n.graph.ends)
 
 -- how many meters touch a branch
 abbrev pub live_count : Network → ℕ
@@ -30,7 +25,7 @@ abbrev pub counts_text : Network → ℕ → List ℕ
 counts_text n rank =
     count_line (codes "buses") n.buses.count
     ++ (count_line (codes "energised") (energised_buses n)
-    ++ (count_line (codes "branches") (branch_count n)
+    ++ (count_line (codes "branches") (live_branch_count n)
     ++ (count_line (codes "meters") (live_count n)
     ++ (count_line (codes "needed") n.needed
     ++ (count_line (codes "rank") rank

@@ -1,6 +1,5 @@
 // The counts of a network, and the verdict.
 ghost use Rattle.std.specs.Prelude.{◌≡◌, length};
-ghost use Rattle.obs_graph.specs.Positions.{present};
 ghost use Rattle.obs_meter.specs.Touches.{AreInRange, live_items};
 ghost use Rattle.obs_report.specs.Counts.{counts_text, energised_buses, verdict_line, verdict_word};
 ghost use Rattle.obs_report.specs.Printed.{Appends, Prints};
@@ -25,19 +24,6 @@ fn count_energised(network: &Network) -> u32
     energised
 }
 
-// How many live branches energised components have.
-fn count_branches(graph: &Graph) -> u32
-    ensures branches { result ≡ length (present graph.now.ends) }
-{
-    let mut branches = 0;
-    for e in 0..graph.positions() {
-        if graph.ends(e).is_some() {
-            branches += 1;
-        }
-    }
-    branches
-}
-
 // How many items touch a branch.
 #[tactic(auto, using(crate::proofs::Counted::range_more_yes, crate::proofs::Counted::range_more_no))]
 fn count_live(graph: &Graph, meters: &Meters) -> u32
@@ -53,8 +39,8 @@ fn count_live(graph: &Graph, meters: &Meters) -> u32
     live
 }
 
-// The word of the verdict.
-fn verdict_word(rank: u32, needed: u32) -> &'static [u8]
+/// The word of the verdict on a rank and a needed number.
+pub fn verdict_word(rank: u32, needed: u32) -> &'static [u8]
     ensures verdict { result.now ≡ verdict_word rank needed }
 {
     if rank == needed {
@@ -81,7 +67,7 @@ pub fn print_counts<W: Sink>(output: &mut W, network: &Network, rank: u32) -> Re
     let graph = network.graph();
     let buses = network.buses().count();
     let energised = count_energised(network);
-    let branches = count_branches(graph);
+    let branches = network.live_branches();
     let meters = count_live(graph, network.meters());
     let needed = network.needed();
     let mut lines = LineBuffer::new();

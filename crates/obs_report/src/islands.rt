@@ -55,7 +55,7 @@ fn print_bus<W: Sink>(
 }
 
 /// Appends a line for each bus of an energised component, in the order of the buses: the word `island`, the name of the
-/// first bus of its island, which `islands` has for each bus, and the name of the bus.
+/// first bus of its island, which `islands` has for each vertex, and the name of the bus.
 pub fn print_islands<W: Sink>(
     output: &mut W,
     case: &Case,

@@ -14,10 +14,12 @@ mod totals;
 mod trees;
 mod words;
 
-pub use counts::print_counts;
+pub use counts::{print_counts, verdict_word};
 pub use islands::print_islands;
+pub use line_buffer::LineBuffer;
 pub use lines::{print_count, print_fault, print_last_line, print_ok, print_refused};
 pub use meters::{print_bound, print_critical};
+pub use names::{branch_name, meter_name, node_name};
 pub use nodes::print_nodes;
 pub use placements::print_placement;
 pub use totals::{print_flaw, print_totals, print_trial, print_valid};

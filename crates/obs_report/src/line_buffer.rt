@@ -12,7 +12,7 @@ const CAPACITY: usize = 4096;
 
 /// Bytes that were printed and are held back from the sink, and what printing answers so far.
 #[derive(Drop)]
-pub(crate) struct LineBuffer {
+pub struct LineBuffer {
     bytes: [u8; CAPACITY],
     len: usize,
     outcome: Result<(), Failed>,
@@ -39,7 +39,7 @@ fn append(buffer: &mut [u8], end: usize, bytes: &[u8])
 
 impl LineBuffer {
     /// No bytes yet.
-    pub(crate) fn new() -> LineBuffer
+    pub fn new() -> LineBuffer
         ensures empty { result ≡ empty_buffer }
     {
         LineBuffer {
@@ -117,7 +117,7 @@ impl LineBuffer {
     }
 
     /// Prints a line of these words.
-    pub(crate) fn line<W: Sink>(&mut self, output: &mut W, words: &[&[u8]])
+    pub fn line<W: Sink>(&mut self, output: &mut W, words: &[&[u8]])
         ensures printed { Prints W.written W.faults W.has_room output.old output.new self.old self.new
             (line_of (map (λ word. word.now) words.now)) }
     {
@@ -128,7 +128,7 @@ impl LineBuffer {
     }
 
     /// Sends what is still held, and answers whether all was sent.
-    pub(crate) fn finish<W: Sink>(&mut self, output: &mut W) -> Result<(), Failed>
+    pub fn finish<W: Sink>(&mut self, output: &mut W) -> Result<(), Failed>
         ensures printed { PrintsAt (W.written output.old) (W.written output.new) self.old.held []
             (W.faults output.old) (W.faults output.new) (W.has_room output.old) (W.has_room output.new)
             self.old.outcome result [] }

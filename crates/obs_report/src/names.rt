@@ -9,7 +9,7 @@ use obs_case::{Branch, Candidate, Case, Meter, Node};
 use obs_network::Network;
 
 /// The name of the node at a position.
-pub(crate) fn node_name(case: &Case, node: u32) -> &[u8]
+pub fn node_name(case: &Case, node: u32) -> &[u8]
     requires node { node < length case.now.nodes }
     ensures name { result.now ≡ node_name case.now node }
 {
@@ -17,7 +17,7 @@ pub(crate) fn node_name(case: &Case, node: u32) -> &[u8]
 }
 
 /// The name of the branch at a position.
-pub(crate) fn branch_name(case: &Case, e: u32) -> &[u8]
+pub fn branch_name(case: &Case, e: u32) -> &[u8]
     requires branch { e < length case.now.branches }
     ensures name { result.now ≡ branch_name case.now e }
 {
@@ -25,7 +25,7 @@ pub(crate) fn branch_name(case: &Case, e: u32) -> &[u8]
 }
 
 /// The name of the meter at a position.
-pub(crate) fn meter_name(case: &Case, m: u32) -> &[u8]
+pub fn meter_name(case: &Case, m: u32) -> &[u8]
     requires meter { m < length case.now.meters }
     ensures name { result.now ≡ meter_name case.now m }
 {

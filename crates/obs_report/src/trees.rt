@@ -29,6 +29,7 @@ fn print_pairs<W: Sink>(
     ensures printed { Prints W.written W.faults W.has_room output.old output.new lines.old lines.new
         (flat_map (λ m. flat_map (pair_line case.now) (pairs_from m (branch_at pairs.now m ∷ []))) meters.now) }
 {
+    let _nodes = case.nodes();
     for m in meters {
         print_pair(lines, output, case, *m, pairs.branch_of(*m));
     }

@@ -1,7 +1,8 @@
 use Rattle.std.proofs.Common.{◌≤◌, ◌≡◌, [], length, ap, ◌∙◌, arith, refl}
 use Rattle.obs_graph.specs.Graph.{Graph}
-use Rattle.obs_graph.specs.Positions.{branches_at}
-use Rattle.obs_network.specs.Network.{Network, case_branches, network_of}
+use Rattle.obs_meter.specs.Held.{Meters}
+use Rattle.obs_meter.specs.Touches.{touch_at}
+use Rattle.obs_network.specs.Network.{Network, case_branches, case_offered, network_of}
 use Rattle.obs_cert.specs.Flaws.{rank_of_branches}
 use Rattle.obs_cert.specs.Stars.{star_rank}
 use Rattle.obs_cert.proofs.CaseLemmas.{case_rank, noted_few, vertices_fit}
@@ -20,7 +21,7 @@ join_all-count-requires-clause-vertices c =
 few : (c : After-clear) → c.join_all-count.result ≤ length c.join_all-count.new.ups
 few c =
     let j = c.join_all-count in
-    noted_few c.graph-graph.result.now c.branches_at.result.now j.new.ups j.new.moved j.result j.ensures.count (j.ensures.joined [] c.requires.clear)
+    noted_few c.graph-graph.result.now c.touch-touched.result.now j.new.ups j.new.moved j.result j.ensures.count (j.ensures.joined [] c.requires.clear)
 
 pub overflow_cast-count : goal.overflow_cast-count
 overflow_cast-count c = let f = few (goal.at.overflow_cast-count c).After-clear in omega (arith, f, c.requires.few, c.join_all-count.auto.ups)
@@ -34,9 +35,10 @@ rank_is c =
     let g = c.graph-graph.result.now in
     let j = c.join_all-count in
     let ends : g.ends ≡ case_branches t = ap (λ (x : Graph). x.ends) (c.graph-graph.ensures.graph ∙ ap (λ (n : Network). n.graph) c.network-network.ensures.network) in
-    case_rank t c.network-network.result.now g c.branches_at.result.now j.new.ups j.new.moved j.result c.case-case.ensures.valid c.network-network.ensures.network c.graph-graph.ensures.graph
+    let items : c.offered.result.now.touches ≡ case_offered t = ap (λ (x : Meters). x.touches) (c.offered.ensures.offered ∙ ap (λ (n : Network). n.offered) c.network-network.ensures.network) in
+    case_rank t c.network-network.result.now g c.touch-touched.result.now j.new.ups j.new.moved j.result c.case-case.ensures.valid c.network-network.ensures.network c.graph-graph.ensures.graph
     (omega (arith, c.requires.vertices, j.auto.ups)) j.ensures.count (j.ensures.joined [] c.requires.clear)
-    ∙ ap (rank_of_branches t) (c.branches_at.ensures.branches ∙ ap (λ es. branches_at es c.args.v) ends)
+    ∙ ap (rank_of_branches t) (c.touch-touched.ensures.touched ∙ ap (λ es. touch_at es c.offered.result.now.touches c.args.m) ends ∙ ap (λ ts. touch_at (case_branches t) ts c.args.m) items ∙ c.requires.star)
 
 pub keep-requires : goal.keep-requires
 keep-requires c =

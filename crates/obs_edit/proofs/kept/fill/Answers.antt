@@ -1,4 +1,4 @@
-use Rattle.obs_edit.proofs.Longest.{IsLongest-filled}
+use Rattle.obs_exchange.proofs.Longest.{IsLongest-filled}
 use Rattle.obs_edit.proofs.OfNetwork.{IsLongest-of_network, fits_network, most_of_network}
 use Rattle.obs_edit.proofs.kept.fill.Goals as goal
 

@@ -1,6 +1,6 @@
 use Rattle.std.proofs.Common.{length, ap, ◌∙◌}
 use Rattle.obs_edit.specs.Planned.{placed_pairs}
-use Rattle.obs_edit.proofs.Offered.{at_case, offered_count, offered_room}
+use Rattle.obs_edit.proofs.Offered.{at_case, offered_count, room_of_offered}
 use Rattle.obs_edit.proofs.placing.place.Goals as goal
 
 pub find-requires-clause-items : goal.find-requires-clause-items
@@ -10,7 +10,7 @@ find-requires-clause-items g c =
 
 pub find-requires-clause-room : goal.find-requires-clause-room
 find-requires-clause-room g c =
-    offered_room c.args.case.now c.args.network.now c.graph.result.now c.offered.result.now c.requires.network c.graph.ensures.graph c.offered.ensures.offered
+    room_of_offered c.args.case.now c.args.network.now c.graph.result.now c.offered.result.now c.requires.network c.graph.ensures.graph c.offered.ensures.offered
     c.args.placing.now.sizes c.requires.sizes
 
 pub returns-clause-pairs : goal.returns-clause-pairs

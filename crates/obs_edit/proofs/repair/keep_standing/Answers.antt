@@ -40,6 +40,11 @@ pub retain_touching-requires-in-Branch-clause-positions :
 retain_touching-requires-in-Branch-clause-positions c =
     as_many_positions c.args.network.now c.args.case.now c.args.edit c.args.a.now c.nodes-nodes.ensures.valid c.requires.before c.requires.network c.graph-g.result.now c.graph-g.ensures.graph c.meters-ms.result.now c.meters-ms.ensures.meters
 
+pub retain_touching-requires-in-Branch-clause-vertices :
+    goal.retain_touching-requires-in-Branch-clause-vertices
+retain_touching-requires-in-Branch-clause-vertices c =
+    fits_vertices c.args.network.now c.args.case.now c.args.edit c.args.a.now c.nodes-nodes.ensures.valid c.requires.before c.requires.network c.graph-g.result.now c.graph-g.ensures.graph c.meters-ms.result.now c.meters-ms.ensures.meters c.requires.vertices
+
 bare : (o : Option ℕ) → is_some o ≡ false → o ≡ None
 bare None e = refl
 bare (Some x) e = cc

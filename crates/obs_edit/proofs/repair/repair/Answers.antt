@@ -1,5 +1,5 @@
 use Rattle.obs_exchange.proofs.Lengthening.{thawed-lengthened}
-use Rattle.obs_edit.proofs.Longest.{IsLongest-ended}
+use Rattle.obs_exchange.proofs.Longest.{IsLongest-ended}
 use Rattle.obs_edit.proofs.OfNetwork.{IsLongest-of_network}
 use Rattle.obs_edit.proofs.Repaired.{IsRepaired-by, bound_now}
 use Rattle.obs_edit.proofs.repair.repair.Goals as goal

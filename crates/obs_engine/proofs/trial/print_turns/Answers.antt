@@ -4,7 +4,7 @@ use Rattle.obs_network.specs.Network.{network_of}
 use Rattle.obs_report.specs.Counts.{counts_text}
 use Rattle.obs_report.specs.Totals.{totals_text}
 use Rattle.obs_report.proofs.Printing.{failed_call, then_call}
-use Rattle.obs_edit.specs.Answers.{case_rank}
+use Rattle.obs_network.specs.Observable.{case_rank}
 use Rattle.obs_engine.specs.Trials.{edits_of}
 use Rattle.obs_engine.proofs.Asked.{appends_as}
 use Rattle.obs_engine.proofs.Turned.{counts_now}

@@ -1,10 +1,10 @@
 use Rattle.std.proofs.Common.{◌≡◌}
-use Rattle.obs_assign.specs.Assignment.{has_flag}
+use Rattle.obs_islands.specs.Rounds.{noted}
 use Rattle.obs_islands.proofs.Crossing.{IsKeeping}
 use Rattle.obs_islands.proofs.discard.keep_others.Given as goal
 
 abbrev pub invariant-loop-m : goal.invariant-loop-m
 invariant-loop-m l = record {
-  keeping : IsKeeping (has_flag l.crossed) l.fn.used.touches l.used.touches l.m l.some;
+  keeping : IsKeeping l.g.ends (noted l.lowest) l.fn.used.touches l.used.touches l.m l.some;
   most : l.used.most ≡ l.fn.used.most;
 }

@@ -1,32 +1,33 @@
-use Rattle.std.proofs.Common.{arith}
-use Rattle.obs_assign.specs.Assignment.{has_flag}
-use Rattle.obs_islands.proofs.Following.{GivesUp-refl, GivesUp-then, tail_low}
+use Rattle.std.proofs.Common.{ℕ, length, subst, arith}
+use Rattle.obs_islands.specs.GivenUp.{IsQueue}
+use Rattle.obs_islands.specs.Rounds.{noted}
+use Rattle.obs_islands.proofs.Following.{StillGivesUp-refl, StillGivesUp-then, tail_low}
 use Rattle.obs_islands.proofs.follow.follow.Goals as goal
 
 pub loop-head-init : goal.loop-head-init
 loop-head-init c = record {
-  gives_up = GivesUp-refl c.args.g.now.ends c.args.ms.now.touches c.args.pairs.now (has_flag c.args.crossed.now);
-  queue = c.fill_queue-tail.ensures.queue;
+  gives_up = StillGivesUp-refl c.args.g.now.ends c.args.ms.now.touches c.args.pairs.now (noted c.args.lowest.now);
+  queue = subst (λ (n : ℕ). IsQueue n c.args.lowest.now c.fill_queue-tail.new.queue c.fill_queue-tail.result) c.positions.ensures.count c.fill_queue-tail.ensures.queue;
 }
 
 pub offset_bounds-queue-head : goal.offset_bounds-queue-head
 offset_bounds-queue-head c =
-    let low = tail_low c.loop-head.crossed c.loop-head.queue c.loop-head.tail c.loop-head.invariant.queue in
-    omega (arith, low, c.loop-head-test.true, c.loop-head.auto.crossed, c.requires.crossed, c.vertices.ensures.value, c.vertices.type_inv)
+    let low = tail_low (length c.args.g.now.ends) c.loop-head.lowest c.loop-head.queue c.loop-head.tail c.loop-head.invariant.queue in
+    omega (arith, low, c.loop-head-test.true, c.loop-head.auto.lowest, c.requires.lowest, c.vertices.ensures.value, c.vertices.type_inv)
 
 pub bounds-queue-head : goal.bounds-queue-head
 bounds-queue-head c =
-    let low = tail_low c.loop-head.crossed c.loop-head.queue c.loop-head.tail c.loop-head.invariant.queue in
+    let low = tail_low (length c.args.g.now.ends) c.loop-head.lowest c.loop-head.queue c.loop-head.tail c.loop-head.invariant.queue in
     omega (arith, low, c.loop-head-test.true, c.loop-head.invariant.queue.places)
 
 pub loop-head-smaller : goal.loop-head-smaller
 loop-head-smaller c =
-    let low = tail_low c.loop-head.crossed c.loop-head.queue c.loop-head.tail c.loop-head.invariant.queue in
-    omega (arith, low, c.loop-head-test.true, c.loop-head.auto.crossed, c.requires.crossed)
+    let low = tail_low (length c.args.g.now.ends) c.loop-head.lowest c.loop-head.queue c.loop-head.tail c.loop-head.invariant.queue in
+    omega (arith, low, c.loop-head-test.true, c.loop-head.auto.lowest, c.requires.lowest)
 
 pub loop-head-preserved : goal.loop-head-preserved
 loop-head-preserved c = record {
-  gives_up = GivesUp-then c.args.g.now.ends c.args.ms.now.touches c.args.pairs.now (has_flag c.args.crossed.now) (has_flag c.loop-head.crossed) (has_flag c.follow_vertex.new.crossed)
+  gives_up = StillGivesUp-then c.args.g.now.ends c.args.ms.now.touches c.args.pairs.now (noted c.args.lowest.now) (noted c.loop-head.lowest) (noted c.follow_vertex.new.lowest)
       c.loop-head.invariant.gives_up c.follow_vertex.ensures.gives_up;
   queue = c.follow_vertex.ensures.queue;
 }

@@ -1,10 +1,11 @@
-use Rattle.obs_assign.specs.Assignment.{has_flag}
-use Rattle.obs_islands.proofs.Following.{GivesUp-refl, GivesUp-then, entry_low}
+use Rattle.obs_islands.specs.Rounds.{noted}
+use Rattle.obs_islands.proofs.Following.{StillGivesUp-refl, StillGivesUp-then, entry_low}
 use Rattle.obs_islands.proofs.follow.follow_vertex.Goals as goal
 
 pub loop-e-init : goal.loop-e-init
 loop-e-init c = record {
-  gives_up = GivesUp-refl c.args.g.now.ends c.args.ms.now.touches c.args.pairs.now (has_flag c.args.crossed.now);
+  gives_up = StillGivesUp-refl c.args.g.now.ends c.args.ms.now.touches c.args.pairs.now (noted c.args.lowest.now);
+  noted_there = c.requires.noted;
   queue = c.requires.queue;
 }
 
@@ -13,7 +14,8 @@ follow_branch-requires-clause-e c = entry_low c.args.g.now.ends c.args.v c.loop-
 
 pub loop-e-preserved : goal.loop-e-preserved
 loop-e-preserved c = record {
-  gives_up = GivesUp-then c.args.g.now.ends c.args.ms.now.touches c.args.pairs.now (has_flag c.args.crossed.now) (has_flag c.loop-e.crossed) (has_flag c.follow_branch.new.crossed)
+  gives_up = StillGivesUp-then c.args.g.now.ends c.args.ms.now.touches c.args.pairs.now (noted c.args.lowest.now) (noted c.loop-e.lowest) (noted c.follow_branch.new.lowest)
       c.loop-e.invariant.gives_up c.follow_branch.ensures.gives_up;
+  noted_there = c.follow_branch.ensures.noted;
   queue = c.follow_branch.ensures.queue;
 }

@@ -1,9 +1,5 @@
-use Rattle.std.proofs.Common.{◌≡◌, ◌&&◌, ℕ, take}
-use Rattle.std.specs.List.{list_any}
-use Rattle.obs_graph.specs.Positions.{has_end}
-use Rattle.obs_assign.specs.Assignment.{has_flag}
-use Rattle.obs_islands.specs.Rounds.{is_between}
+use Rattle.obs_islands.specs.Rounds.{AreLowest, is_crossing}
 use Rattle.obs_islands.proofs.pieces.mark_crossed.Given as goal
 
 abbrev pub invariant-loop-e : goal.invariant-loop-e
-invariant-loop-e l = (v : ℕ) → has_flag l.crossed v ≡ list_any (λ o. has_end v o && is_between l.firsts o) (take l.e l.g.ends)
+invariant-loop-e l = AreLowest l.g.ends (is_crossing l.g.ends l.firsts) l.e l.lowest

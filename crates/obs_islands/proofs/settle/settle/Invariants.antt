@@ -1,5 +1,5 @@
 use Rattle.std.proofs.Common.{◌≡◌}
-use Rattle.obs_islands.proofs.Crossing.{stars}
+use Rattle.obs_islands.proofs.Crossing.{hubs}
 use Rattle.obs_islands.proofs.Settling.{IsSettling}
 use Rattle.obs_islands.proofs.settle.settle.Given as goal
 
@@ -10,4 +10,4 @@ invariant-loop-pairs g l = record {
 }
 
 abbrev pub decreases-loop-pairs : goal.decreases-loop-pairs
-decreases-loop-pairs g l = stars l.used.touches
+decreases-loop-pairs g l = hubs l.used.touches

@@ -1,4 +1,5 @@
 use Rattle.obs_matroid.proofs.Closed.{closed_count, least_not_frozen, IsClosed-union}
+use Rattle.obs_matroid.proofs.Partners.{sources_together}
 use Rattle.obs_matroid.proofs.Critical.{closed_tight}
 use Rattle.obs_matroid.proofs.laws.closed_sets.Goals as goal
 
@@ -13,3 +14,6 @@ returns-clause-together c = λ g laws touch M frozen A S T. IsClosed-union g law
 
 pub returns-clause-no_frozen : goal.returns-clause-no_frozen
 returns-clause-no_frozen c = least_not_frozen
+
+pub returns-clause-sources : goal.returns-clause-sources
+returns-clause-sources c = sources_together

@@ -3,7 +3,7 @@ use Rattle.std.specs.Prelude.{IsSome, slice_index_or}
 use Rattle.obs_matroid.proofs.Contained.{All-from_In}
 use Rattle.obs_meter.specs.Touches.{touched}
 use Rattle.obs_meter.specs.Spanned.{ends_at, common_vertex}
-use Rattle.obs_meter.proofs.Touched.{touched-rising, touched-present, touched-hub}
+use Rattle.obs_meter.proofs.Touched.{touched-front, touched-hub, touched-present, touched-rising}
 use Rattle.obs_meter.proofs.laws.touched_branches.Goals as goal
 
 pub returns-clause-rising : goal.returns-clause-rising
@@ -14,3 +14,6 @@ returns-clause-present c = λ ends t. All-from_In (λ e. IsSome (slice_index_or 
 
 pub returns-clause-hub : goal.returns-clause-hub
 returns-clause-hub c = λ ends t. All-from_In (λ e. ((ends_at ends e).0 ≡ common_vertex ends t) ⊎ ((ends_at ends e).1 ≡ common_vertex ends t)) (touched ends t) (touched-hub ends t)
+
+pub returns-clause-front : goal.returns-clause-front
+returns-clause-front c = touched-front

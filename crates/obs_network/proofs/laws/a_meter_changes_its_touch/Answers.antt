@@ -1,12 +1,11 @@
-use Rattle.obs_case.specs.Flags.{with_meter_inservice}
-use Rattle.obs_network.proofs.Edited.{branches-with_meter, kept_with_meter, merged_kept, meters-with_meter, offered-with_meter}
+use Rattle.obs_network.proofs.Edited.{branches-with_meter, kept_with_meter, merged_with_meter, meters-with_meter, offered-with_meter}
 use Rattle.obs_network.proofs.laws.a_meter_changes_its_touch.Goals as goal
 
 pub returns-clause-kept : goal.returns-clause-kept
 returns-clause-kept c = kept_with_meter
 
 pub returns-clause-merged : goal.returns-clause-merged
-returns-clause-merged c = λ t v at inservice. merged_kept t (with_meter_inservice t at inservice) (kept_with_meter t v at inservice)
+returns-clause-merged c = merged_with_meter
 
 pub returns-clause-branches : goal.returns-clause-branches
 returns-clause-branches c = branches-with_meter

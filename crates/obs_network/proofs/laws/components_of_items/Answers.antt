@@ -1,4 +1,5 @@
-use Rattle.obs_network.proofs.Listed.{idle_in_none, item_in, meter_is_item}
+use Rattle.obs_network.proofs.Items.{meter_is_item}
+use Rattle.obs_network.proofs.Listed.{idle_in_none, item_in}
 use Rattle.obs_network.proofs.laws.components_of_items.Goals as goal
 
 pub returns-clause-touching : goal.returns-clause-touching

@@ -1,6 +1,7 @@
 use Rattle.std.proofs.Common.{refl}
 use Rattle.obs_network.specs.Network.{network_of}
-use Rattle.obs_network.proofs.OfCase.{case_branches-are, meters-in_range, offered-in_range}
+use Rattle.obs_network.proofs.Items.{meters-in_range, offered-in_range}
+use Rattle.obs_network.proofs.OfCase.{case_branches-are}
 use Rattle.obs_network.proofs.laws.network_is_in_range.Goals as goal
 
 pub returns-clause-branches : goal.returns-clause-branches

@@ -5,6 +5,6 @@ use Rattle.obs_network.proofs.marks.add_needs.Given as goal
 
 abbrev pub invariant-loop-c : goal.invariant-loop-c
 invariant-loop-c l = record {
-  added : l.needed ≡ needed_of l.sizes l.energised l.c;
+  added : l.needed ≡ needed_of l.sizes l.energised l.absolute l.c;
   small : l.needed ≤ most_rows * l.c;
 }

@@ -1,7 +1,7 @@
 use Rattle.std.proofs.Common.{◌≡◌, ◌∙◌, refl, ap, length, take, arith}
 use Rattle.std.proofs.lemmas.List.{length-take-le}
 use Rattle.obs_network.specs.Switched.{case_bus_count}
-use Rattle.obs_network.specs.Network.{case_component_count, case_components, case_energised, case_first_buses, case_sizes}
+use Rattle.obs_network.specs.Network.{case_absolute, case_component_count, case_components, case_energised, case_first_buses, case_sizes}
 use Rattle.obs_network.proofs.OfCase.{case_live-branches, length-case_buses}
 use Rattle.obs_network.proofs.rebuild.find_components.Goals as goal
 
@@ -39,3 +39,8 @@ pub returns-clause-energised : goal.returns-clause-energised
 unfolding case_energised case_component_count case_components
 returns-clause-energised c =
     c.refill-2.ensures.energised ∙ rw (c.refill-2.ensures.of_buses, c.nodes-nodes.ensures.rows, c.requires.buses, firsts c, c.requires.live) refl
+
+pub returns-clause-absolute : goal.returns-clause-absolute
+unfolding case_absolute case_component_count case_components
+returns-clause-absolute c =
+    c.refill-2.ensures.absolute ∙ rw (c.refill-2.ensures.of_buses, c.nodes-nodes.ensures.rows, c.requires.buses, firsts c, c.requires.live) refl

@@ -1,21 +1,32 @@
-use Rattle.std.proofs.Common.{ap, ◌∙◌, refl}
+use Rattle.std.proofs.Common.{◌≡◌, ℕ, List, ◌+◌, ap, ◌∙◌, length, arith}
+use Rattle.obs_case.specs.Tables.{Tables}
 use Rattle.obs_graph.specs.Graph.{Graph}
-use Rattle.obs_network.specs.Network.{case_branches}
-use Rattle.obs_network.proofs.OfCase.{case_branches-are, case_live-ends}
+use Rattle.obs_network.specs.Switched.{case_bus_count}
+use Rattle.obs_network.specs.Network.{case_first_buses, case_vertex_count}
+use Rattle.obs_network.proofs.OfCase.{case_branches-are, case_bus_count-le, case_component_count-le, few_nodes, length-case_first_buses}
 use Rattle.obs_network.proofs.rebuild.refill_graph.Goals as goal
 
-pub write_energised-requires-clause-ends : goal.write_energised-requires-clause-ends
-write_energised-requires-clause-ends c =
-    rw (c.requires.live, c.numbers.ensures.numbers, c.requires.of_buses) (case_live-ends c.args.case.now c.nodes-case.ensures.valid)
+-- so many vertices
+vertices : (t : Tables) (buses components count : ℕ) (firsts : List ℕ) → buses ≡ count → components ≡ length firsts → count ≡ case_bus_count t → firsts ≡ case_first_buses t → buses + components ≡ case_vertex_count t
+vertices t buses components count firsts a b e f = omega (arith, a, b, e, ap (λ l. length l) f, length-case_first_buses t)
+
+pub overflow_add-vertices : goal.overflow_add-vertices
+overflow_add-vertices c =
+    let t = c.args.case.now in
+    let all = vertices t c.count.result c.count-2.result _ _ c.count.ensures.count c.count-2.ensures.count c.requires.count c.requires.first_buses in
+    omega (arith, all, case_bus_count-le t, case_component_count-le t, few_nodes t c.nodes-nodes.ensures.valid)
+
+pub refill-requires-clause-vertices : goal.refill-requires-clause-vertices
+refill-requires-clause-vertices c =
+    let all = vertices c.args.case.now c.count.result c.count-2.result _ _ c.count.ensures.count c.count-2.ensures.count c.requires.count c.requires.first_buses in
+    omega (arith, all, c.requires.vertices)
 
 pub refill-requires-clause-branches : goal.refill-requires-clause-branches
-unfolding case_branches
 refill-requires-clause-branches c =
-    rw (c.write_energised.ensures.kept, c.numbers.ensures.numbers, c.marks.ensures.marks, c.requires.of_buses, c.requires.energised, c.requires.live, c.vertices.ensures.value, c.requires.at)
-    (case_branches-are c.args.case.now c.nodes-case.ensures.valid)
+    let all = vertices c.args.case.now c.count.result c.count-2.result _ _ c.count.ensures.count c.count-2.ensures.count c.requires.count c.requires.first_buses in
+    rw (all, c.write_branches-positions.ensures.branches) (case_branches-are c.args.case.now c.nodes-nodes.ensures.valid)
 
-pub returns-clause-ends : goal.returns-clause-ends
-unfolding case_branches
-returns-clause-ends c =
-    ap (λ (g : Graph). g.ends) c.refill.ensures.whole
-    ∙ rw (c.write_energised.ensures.kept, c.numbers.ensures.numbers, c.marks.ensures.marks, c.requires.of_buses, c.requires.energised, c.requires.live) refl
+pub returns-clause-vertices : goal.returns-clause-vertices
+returns-clause-vertices c =
+    ap (λ (g : Graph). g.vertices) c.refill.ensures.whole
+    ∙ vertices c.args.case.now c.count.result c.count-2.result _ _ c.count.ensures.count c.count-2.ensures.count c.requires.count c.requires.first_buses

@@ -17,7 +17,7 @@ loop-e-preserved c =
       record {
         touched = AreTouchedByKnown-set o.graph.now o.items.now.touches l.known.since c.args.m (ap (λ (k : Known). is_known k.since c.args.m) was.1 ∙ c.requires.is_known) l.known.touched e
             (subst (λ xs. In e xs) c.touch-e-items.ensures.touched (In-get_or L l.e-index 0 c.loop-e-test.true)) was.0.touched;
-        stars = was.0.stars;
+        fronts = was.0.fronts;
       },
       ap (λ (k : Known). record k { touched = set l.known.touched e true }) was.1,
     )

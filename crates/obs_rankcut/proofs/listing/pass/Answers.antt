@@ -1,9 +1,7 @@
-use Rattle.std.proofs.Common.{◌<◌, false, not, length, sym, ◌∙◌, subst, arith}
+use Rattle.std.proofs.Common.{◌<◌, false, not, length, sym, ◌∙◌, arith}
 use Rattle.std.specs.Prelude.{slice_index_or}
 use Rattle.std.proofs.lemmas.Bool.{and_parts, not-true}
-use Rattle.obs_meter.specs.Touches.{touched}
 use Rattle.obs_rankcut.specs.Flags.{marked}
-use Rattle.obs_rankcut.specs.Marks.{AreMarkedToo}
 use Rattle.obs_rankcut.proofs.Passing.{Passed-counted, Passed-flags, Passed-idle, Passed-listed, Passed-out, idle}
 use Rattle.obs_rankcut.proofs.listing.pass.Goals as goal
 use Rattle.obs_rankcut.proofs.listing.pass.Goals.{then-scope-m+then-is_listed, then-scope-m+else-is_listed+then-is_outside, then-scope-m+else-is_listed+else-is_outside, else-scope-m}
@@ -22,24 +20,24 @@ loop-m-preserved c =
     elim c.if-scope-m.branch [
       | then-scope-m+then-is_listed w ↦
           let parts = and_parts w.live-live.result (slice_index_or c.args.marks.now l.m false) (sym w.is_listed.ensures.listed ∙ w.if-is_listed.true) in
-          rw (w.flags-is, w.stars-is, w.list-is, w.count-is, w.outside-is)
-          (Passed-listed ends touches marks scope l.m low l.flags l.stars l.list l.count l.outside l.invariant (sym w.live-live.ensures.live ∙ parts.0) w.if-scope-m.true parts.1 (omega arith)
-          w.mark_touched.new.flags w.mark_touched.new.stars
-          (subst (λ t. AreMarkedToo l.flags (touched ends t) w.mark_touched.new.flags) w.kind.ensures.kind w.mark_touched.ensures.marks)
+          rw (w.flags-is, w.fronts-is, w.list-is, w.count-is, w.outside-is)
+          (Passed-listed ends touches marks scope l.m low l.flags l.fronts l.list l.count l.outside l.invariant (sym w.live-live.ensures.live ∙ parts.0) w.if-scope-m.true parts.1 (omega arith)
+          w.mark_touched.new.flags w.mark_touched.new.fronts
+          w.mark_touched.ensures.marks
           w.mark_touched.ensures.done)
       | then-scope-m+else-is_listed+then-is_outside w ↦
           let parts = and_parts w.live-live.result (not (slice_index_or c.args.marks.now l.m false)) (sym w.is_outside.ensures.outside ∙ w.if-is_outside.true) in
-          rw (w.flags-is, w.stars-is, w.list-is, w.count-is, w.outside-is)
-          (Passed-counted ends touches marks scope l.m low l.flags l.stars l.list l.count l.outside l.invariant (sym w.live-live.ensures.live ∙ parts.0) w.if-scope-m.true (not-true (slice_index_or c.args.marks.now l.m false) parts.1))
+          rw (w.flags-is, w.fronts-is, w.list-is, w.count-is, w.outside-is)
+          (Passed-counted ends touches marks scope l.m low l.flags l.fronts l.list l.count l.outside l.invariant (sym w.live-live.ensures.live ∙ parts.0) w.if-scope-m.true (not-true (slice_index_or c.args.marks.now l.m false) parts.1))
       | then-scope-m+else-is_listed+else-is_outside w ↦
           let none = idle w.live-live.result (slice_index_or c.args.marks.now l.m false) (sym w.is_listed.ensures.listed ∙ w.if-is_listed.false) (sym w.is_outside.ensures.outside ∙ w.if-is_outside.false) in
-          rw (w.flags-is, w.stars-is, w.list-is, w.count-is, w.outside-is)
-          (Passed-idle ends touches marks scope l.m low l.flags l.stars l.list l.count l.outside l.invariant (sym w.live-live.ensures.live ∙ none))
-      | else-scope-m w ↦ rw (w.flags-is, w.stars-is, w.list-is, w.count-is, w.outside-is)
-          (Passed-out ends touches marks scope l.m low l.flags l.stars l.list l.count l.outside l.invariant w.if-scope-m.false)
+          rw (w.flags-is, w.fronts-is, w.list-is, w.count-is, w.outside-is)
+          (Passed-idle ends touches marks scope l.m low l.flags l.fronts l.list l.count l.outside l.invariant (sym w.live-live.ensures.live ∙ none))
+      | else-scope-m w ↦ rw (w.flags-is, w.fronts-is, w.list-is, w.count-is, w.outside-is)
+          (Passed-out ends touches marks scope l.m low l.flags l.fronts l.list l.count l.outside l.invariant w.if-scope-m.false)
     ]
 
 pub returns-clause-flags : goal.returns-clause-flags
 returns-clause-flags c =
     Passed-flags c.args.g.now.ends c.args.ms.now.touches (marked c.args.marks.now) (marked c.args.scope.now)
-    c.loop-m.flags c.loop-m.stars c.loop-m.list c.loop-m.count c.loop-m.outside c.loop-m.m (omega arith) c.loop-m.invariant
+    c.loop-m.flags c.loop-m.fronts c.loop-m.list c.loop-m.count c.loop-m.outside c.loop-m.m (omega arith) c.loop-m.invariant

@@ -17,7 +17,7 @@ branch_of-branch-requires g c =
 pub print_pair-requires-clause-branch : goal.print_pair-requires-clause-branch
 print_pair-requires-clause-branch g c =
     let t = c.args.case.now in
-    rw c.branch_of-branch.ensures.branch (held_branch t c.args.pairs.now (λ m e h. offered_branch t m e (c.requires.pairs.touched m e h)) c.loop-m.m)
+    rw c.branch_of-branch.ensures.branch (held_branch t c.args.pairs.now (λ m e h. offered_branch t c.meters.ensures.valid m e (c.requires.pairs.touched m e h)) c.loop-m.m)
 
 pub loop-m-preserved : goal.loop-m-preserved
 loop-m-preserved g c =

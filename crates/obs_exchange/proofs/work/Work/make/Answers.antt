@@ -1,4 +1,4 @@
-use Rattle.std.proofs.Common.{◌≡◌, ◌++◌, Bool, List, false, length, take, drop, ap, ◌∙◌, arith}
+use Rattle.std.proofs.Common.{◌≡◌, ℕ, ◌++◌, List, false, length, take, drop, ap, ◌∙◌, arith}
 use Rattle.std.proofs.lemmas.List.{length-replicate}
 use Rattle.obs_meter.specs.Held.{Meters}
 use Rattle.obs_exchange.specs.Noting.{Noted}
@@ -9,7 +9,7 @@ use Rattle.obs_graph.proofs.Stored.{written_back}
 pub invariant_of-result : goal.invariant_of-result
 invariant_of-result c =
     let marks = ap (λ (t : Trail). length t.marks) c.in_ok-make.ensures.made ∙ length-replicate c.args.most_meters false in
-    let stars = ap (λ (s : List Bool). length s) c.in_ok-make-2.ensures.made ∙ length-replicate c.args.most_vertices false in
+    let stars = ap (λ (s : List ℕ). length s) c.in_ok-make-2.ensures.made ∙ length-replicate c.args.most_vertices 0 in
     let noted = ap (λ (n : Noted). length n.flags) c.in_ok-make-3.ensures.made ∙ length-replicate c.args.most_meters false in
     let copied : c.in_ok-make-4.field-0.most ≡ c.args.most_meters = ap (λ (m : Meters). m.most) c.in_ok-make-4.ensures.empty in
     let tops = c.in_ok-vec.ensures.len in

@@ -1,4 +1,4 @@
-use Rattle.std.proofs.Common.{◌≡◌, ◌∙◌, ℕ, sym, ap, ◌<◌, ◌≤◌, length, get_or, set, take, subst, arith}
+use Rattle.std.proofs.Common.{◌≡◌, ◌∙◌, ℕ, sym, ap, ◌<◌, length, get_or, set, subst, arith}
 use Rattle.obs_meter.specs.declared.Touch.TheVariants.{Nothing}
 use Rattle.std.proofs.lemmas.List.Elements.{All-get_or}
 use Rattle.obs_meter.specs.Held.{Meters}
@@ -6,26 +6,23 @@ use Rattle.obs_meter.specs.Touches.{IsInRange}
 use Rattle.obs_case.specs.Tables.{Tables}
 use Rattle.obs_network.specs.contracts.network.Network.{the_view}
 use Rattle.obs_network.specs.Network.{Network, case_meters, case_offered}
-use Rattle.obs_network.proofs.OfCase.{length-case_meters, meters-in_range, offered-in_range}
+use Rattle.obs_network.proofs.Items.{meters-in_range, offered-in_range}
+use Rattle.obs_network.proofs.OfCase.{length-case_meters}
 use Rattle.obs_network.proofs.RefreshedMeter.{AreAfter, length-lists_of, lists-set, meter_edited, with_touch}
 use Rattle.obs_network.proofs.network.Network.refresh_meter.Goals as goal
-use Rattle.obs_graph.proofs.Stored.{written_back}
 
 pub change_item-requires : goal.change_item-requires
 change_item-requires c =
     let f = meter_edited c.args.self.now c.args.m c.args.case.now c.requires.before c.requires.meter in
     let is = c.self.view_is in
-    let few_offered = subst (λ (x : Network). length x.offered.touches ≤ x.offered.most) (sym is) f.few_offered in
-    let room = c.self.invariant.touches_len in
-    let same = ap length c.deref_mut.ensures.value in
     record {
       buses = ap (λ (x : Network). x.buses.buses) is ∙ f.buses;
+      count = ap (λ (x : Network). x.buses.count) is ∙ f.count;
+      vertices = ap (λ (x : Network). x.graph.vertices) is ∙ f.vertices;
+      ends = ap (λ (x : Network). x.graph.ends) is ∙ f.ends;
       meter = c.requires.meter;
       meters = subst (λ (x : Network). c.args.m < length x.meters.touches) (sym is) f.item;
       offered = subst (λ (x : Network). c.args.m < length x.offered.touches) (sym is) f.item_offered;
-      room_offered = omega (arith, few_offered, room, same);
-      kept = ap (take (length c.self.inside.offered.touches)) c.deref_mut.ensures.value ∙ c.self.invariant.touches_are;
-      front = c.self.invariant.front;
     }
 
 -- what the meters and the items touch after
@@ -69,14 +66,12 @@ invariant_of-self c =
     let listed = c.set.ensures in
     let most = ap (λ (i : Meters). i.most) items.meters in
     let most_offered = ap (λ (i : Meters). i.most) items.offered in
-    let as_long = items.same_room ∙ ap length c.deref_mut.ensures.value in
-    let back = written_back c.self.inside.touches.len c.change_item.new.touches c.self.inside.touches.items as_long (omega arith) in
     record {
       buses_room = v.buses_room;
       vertices_room = v.vertices_room;
-      branches_room = v.branches_room;
-      kept_len = v.kept_len;
-      touches_len = ap length back ∙ (as_long ∙ (v.touches_len ∙ sym most_offered));
+      branches_room = omega (arith, v.branches_room, most_offered);
+      kept_len = omega (arith, v.kept_len, most_offered);
+      touches_len = v.touches_len ∙ sym most_offered;
       fewer = omega (arith, v.fewer, most, most_offered);
       search_room = v.search_room;
       vertices = v.vertices;
@@ -88,8 +83,6 @@ invariant_of-self c =
       listed_count = listed.components ∙ v.listed_count;
       lists = lists-set c.self.inside.components g c.self.inside.meters c.change_item.new.meters c.args.m (get_or (case_meters c.args.case.now) c.args.m Nothing) c.kind-touch.result
           (subst (λ (x : Network). c.args.m < length x.meters.touches) (sym is) f.item) items.meters c.kind-touch.ensures.kind c.self.inside.live_meters.lists c.set.new.self.lists v.lists listed.lists;
-      touches_are = ap (take (length c.change_item.new.offered.touches)) back ∙ items.kept;
-      front = items.front;
     }
 
 pub returns : goal.returns

@@ -1,8 +1,8 @@
-use Rattle.std.proofs.Common.{◌∙◌, sym, refl, ap, length, take, arith}
-use Rattle.std.proofs.lemmas.List.{take_all}
+use Rattle.std.proofs.Common.{◌∙◌, ◌≡◌, ◌+◌, ◌*◌, sym, ap, length, arith, refl}
 use Rattle.obs_switch.specs.Held.{Buses}
 use Rattle.obs_network.specs.Network.{Network, Rows, case_needed}
-use Rattle.obs_network.proofs.OfCase.{case_bus_count-le, case_component_count-le, few_nodes, length-case_components, length-case_first_buses, length-case_meters, meters-in_range, offered-in_range}
+use Rattle.obs_network.proofs.Items.{meters-in_range, offered-in_range}
+use Rattle.obs_network.proofs.OfCase.{case_bus_count-le, case_component_count-le, case_vertex_count-le, few_nodes, length-case_components, length-case_first_buses, length-case_live, length-case_meters}
 use Rattle.obs_network.proofs.Whole.{labelled_is, grouped_is, shape_is, items_are, rows_are, network_is}
 use Rattle.obs_network.proofs.network.Network.remake.Goals as goal
 use Rattle.obs_graph.proofs.Stored.{written_back}
@@ -32,15 +32,23 @@ find_components-requires-clause-search_room c =
     let room = c.self.invariant.search_room in
     omega (arith, nodes, room, case_bus_count-le c.args.case.now)
 
+pub refill_graph-requires-clause-few : goal.refill_graph-requires-clause-few
+refill_graph-requires-clause-few c =
+    let rows = ap (λ (n : Network). n.rows) c.self.view_is ∙ c.requires.rows in
+    let nodes = ap (λ (r : Rows). r.nodes) rows in
+    omega (arith, nodes, c.find_components.ensures.room, few_nodes c.args.case.now c.nodes-nodes.ensures.valid)
+
 pub refill_graph-requires-clause-vertices : goal.refill_graph-requires-clause-vertices
 refill_graph-requires-clause-vertices c =
     let rows = ap (λ (n : Network). n.rows) c.self.view_is ∙ c.requires.rows in
     let nodes = ap (λ (r : Rows). r.nodes) rows in
     let room = c.self.invariant.vertices_room in
-    omega (arith, nodes, room, c.find_components.ensures.most_vertices, case_bus_count-le c.args.case.now)
+    omega (arith, nodes, room, c.find_components.ensures.most_vertices, case_vertex_count-le c.args.case.now)
 
 pub refill-requires-clause-vertices : goal.refill-requires-clause-vertices
-refill-requires-clause-vertices c = c.refill_graph.ensures.vertices ∙ sym (ap length c.find_components.ensures.of_buses ∙ length-case_components c.args.case.now)
+refill-requires-clause-vertices c =
+    let t = c.args.case.now in
+    omega (arith, c.refill_graph.ensures.vertices, ap (λ l. length l) c.find_components.ensures.of_buses, length-case_components t, ap (λ l. length l) c.find_components.ensures.first_buses, length-case_first_buses t)
 
 pub refill-requires-clause-in_range : goal.refill-requires-clause-in_range
 refill-requires-clause-in_range c =
@@ -91,12 +99,12 @@ invariant_of-self c =
     record {
       buses_room = omega (arith, v.buses_room, c.relabel_unless.ensures.room, found.room);
       vertices_room = omega (arith, v.vertices_room, found.most_vertices, found.room, kept.most_vertices);
-      branches_room = omega (arith, v.branches_room, found.most_branches, kept.most_branches, live);
-      kept_len = omega (arith, v.kept_len, live, keeps);
+      branches_room = omega (arith, v.branches_room, found.most_branches, kept.most_branches, live, items.most_offered);
+      kept_len = omega (arith, v.kept_len, live, keeps, items.most_offered);
       touches_len = omega (arith, v.touches_len, touches, items.most_offered);
       fewer = omega (arith, v.fewer, items.most_meters, items.most_offered);
       search_room = omega (arith, v.search_room, found.search_room, found.room);
-      vertices = kept.vertices ∙ sym c.relabel_unless.ensures.count;
+      vertices = omega (arith, kept.vertices, c.relabel_unless.ensures.count, ap (λ l. length l) found.first_buses, length-case_first_buses t);
       of_buses = ap length found.of_buses ∙ (length-case_components t ∙ sym c.relabel_unless.ensures.count);
       meters_in_range = rw items.meters (meters-in_range t valid c.refill_graph.new.graph kept.vertices kept.ends);
       offered_in_range = rw items.offered (offered-in_range t valid c.refill_graph.new.graph kept.vertices kept.ends);
@@ -104,8 +112,6 @@ invariant_of-self c =
       listed_components = omega (arith, v.listed_components, listed.most_components, found.room);
       listed_count = listed.components;
       lists = listed.lists;
-      touches_are = ap (take (length c.refill_items.new.offered.touches)) items.kept ∙ take_all (length c.refill_items.new.offered.touches) c.refill_items.new.offered.touches (omega arith);
-      front = ap (take (length c.refill_items.new.meters.touches)) (sym items.kept) ∙ items.front;
     }
 
 pub returns : goal.returns
@@ -133,9 +139,9 @@ returns c =
           (rows_are _ _ (found.room ∙ nodes) (omega (arith, wrote_links, links, switches)) (omega (arith, wrote_live, live, branches)) (items.most_meters ∙ meters)
           (omega (arith, items.most_meters, items.most_offered, candidates)))
           (labelled_is _ _ c.relabel_unless.ensures.buses c.relabel_unless.ensures.count (c.relabel_unless.ensures.room ∙ (v.buses_room ∙ nodes)))
-          (grouped_is _ _ found.of_buses found.first_buses found.sizes found.energised (found.room ∙ nodes))
-          (shape_is _ _ kept.vertices kept.ends (kept.most_vertices ∙ (found.most_vertices ∙ (v.vertices_room ∙ nodes))) (kept.most_branches ∙ (found.most_branches ∙ (v.branches_room ∙ branches))))
+          (grouped_is _ _ found.of_buses found.first_buses found.sizes found.energised found.absolute (found.room ∙ nodes))
+          (shape_is _ _ kept.vertices kept.ends (omega (arith, kept.most_vertices, found.most_vertices, v.vertices_room, nodes)) (omega (arith, kept.most_branches, found.most_branches, v.branches_room, branches, v.fewer, meters, candidates)))
           (items_are _ _ items.meters (items.most_meters ∙ meters))
           (items_are _ _ items.offered (items.most_offered ∙ omega (arith, v.fewer, meters, candidates)))
-          (c.needed-self-inside.ensures.needed ∙ rw (found.sizes, found.energised, found.first_buses, count) refl);
+          (c.needed-self-inside.ensures.needed ∙ rw (found.sizes, found.energised, found.absolute, found.first_buses, count) refl);
     }

@@ -1,0 +1,2 @@
+pub mod OfNetwork
+pub mod StandingStill

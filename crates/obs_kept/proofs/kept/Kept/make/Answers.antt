@@ -1,0 +1,17 @@
+use Rattle.obs_kept.proofs.OfNetwork.{fits_network, most_network, room_network}
+use Rattle.obs_kept.proofs.kept.Kept.make.Goals as goal
+
+pub fill-requires-clause-fits : goal.fill-requires-clause-fits
+fill-requires-clause-fits g c =
+    let k = c.in_ok-kept.kept in
+    fits_network k.network c.args.case.now c.in_ok-kept.ensures.network c.graph.result.now c.graph.ensures.graph c.meters.result.now c.meters.ensures.meters k.pairs k.work c.in_ok-kept.ensures.room
+
+pub fill-requires-clause-room : goal.fill-requires-clause-room
+fill-requires-clause-room g c =
+    let k = c.in_ok-kept.kept in
+    room_network k.network c.args.case.now c.in_ok-kept.ensures.network c.graph.result.now c.graph.ensures.graph c.meters.result.now c.meters.ensures.meters k.pairs k.work c.in_ok-kept.ensures.room
+
+pub fill-requires-clause-most : goal.fill-requires-clause-most
+fill-requires-clause-most g c =
+    let k = c.in_ok-kept.kept in
+    most_network k.network c.args.case.now c.in_ok-kept.ensures.network c.graph.result.now c.graph.ensures.graph c.meters.result.now c.meters.ensures.meters c.needed.result c.nodes-nodes.ensures.valid c.needed.ensures.needed

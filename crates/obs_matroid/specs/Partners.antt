@@ -1,0 +1,29 @@
+-- Items that are critical together: neither is critical, and without both the greatest length of an assignment falls.
+use Rattle.std.specs.Prelude.{ℕ, ◌<◌, ◌==◌, ◌&&◌, ◌||◌, Bool, not, nat_lt, if◌then◌else◌, List, [], ◌∷◌}
+use Rattle.obs_matroid.specs.Lists.{without}
+use Rattle.obs_matroid.specs.Matroid.{Matroid}
+use Rattle.obs_matroid.specs.Assignments.{IsRho}
+use Rattle.obs_matroid.specs.Critical.{IsCritical}
+use Rattle.obs_matroid.specs.Values.{is_critical, rho_of}
+
+-- m and k are partners in M: neither is critical there, and without both the greatest length falls
+-- (they lie in series in the matroid on the items, restricted to M; that they are different items of M follows)
+pub record ArePartners (g : Matroid) (touch : ℕ → List ℕ) (M : List ℕ) (m k : ℕ) : Type 0 where
+  pub one_redundant : IsCritical g touch M m → ⊥
+  pub other_redundant : IsCritical g touch M k → ⊥
+  pub falls : (r s : ℕ) → IsRho g touch M r → IsRho g touch (without k (without m M)) s → s < r
+
+-- whether m and k are partners in M
+unfoldable pub is_partner : Matroid → (ℕ → List ℕ) → List ℕ → ℕ → ℕ → Bool
+is_partner g touch M m k =
+    not (is_critical g touch M m) && not (is_critical g touch M k)
+    && nat_lt (rho_of g touch (without k (without m M))) (rho_of g touch M)
+
+-- the first of some numbers that passes the test, and d where none does
+abbrev pub first_passing : (ℕ → Bool) → ℕ → List ℕ → ℕ
+first_passing test d [] = d
+first_passing test d (x ∷ xs) = if test x then x else first_passing test d xs
+
+-- the class of m in M: the first item that is m or its partner
+abbrev pub class_of : Matroid → (ℕ → List ℕ) → List ℕ → ℕ → ℕ
+class_of g touch M m = first_passing (λ x. (x == m) || is_partner g touch M m x) m M

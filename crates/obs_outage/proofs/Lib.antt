@@ -1,0 +1,5 @@
+pub mod Restored
+pub mod InOutage
+pub mod Carried
+pub mod Entries
+pub mod Reported

@@ -1,0 +1,40 @@
+-- What becomes of a case where one branch goes out of service.
+use Rattle.std.specs.Prelude.{◌≡◌, ℕ, Bool, false, is_some, None, List, filter, length, map, slice_index_or}
+use Rattle.std.specs.List.{range_with_len}
+use Rattle.obs_case.specs.Flags.{with_branch_inservice}
+use Rattle.obs_case.specs.Tables.{Tables}
+use Rattle.obs_assign.specs.Assignment.{Assignment, pairs}
+use Rattle.obs_assign.specs.Still.{still}
+use Rattle.obs_network.specs.Network.{Network, case_branches, case_meters, case_needed}
+use Rattle.obs_network.specs.Observable.{case_rank}
+use Rattle.obs_outage.specs.declared.outages.Outage.{Outage}
+
+-- the outage case of a branch: the case with that branch out of service
+abbrev pub outage_case : Tables → ℕ → Tables
+outage_case t e = with_branch_inservice t e false
+
+-- whether a row of the branch table is live and lies in an energised component
+abbrev pub is_outage_row : Tables → ℕ → Bool
+is_outage_row t e = is_some (slice_index_or (case_branches t) e None)
+
+-- the live rows of the branch table in energised components, in order
+unfoldable pub outage_rows : Tables → List ℕ
+outage_rows t = filter (is_outage_row t) (range_with_len 0 (length t.branches))
+
+-- a row with the rank and the needed number of its outage case
+abbrev pub outage_of : Tables → ℕ → Outage
+outage_of t e = record { branch = e; rank = case_rank (outage_case t e); needed = case_needed (outage_case t e) }
+
+-- the outage list of a case
+unfoldable pub outages_of : Tables → List Outage
+outages_of t = map (outage_of t) (outage_rows t)
+
+-- every pair stands in the outage case of a branch: its meter touches its branch there too
+abbrev pub AllStand : Tables → Assignment → ℕ → Type 0
+AllStand t a e = still (case_branches (outage_case t e)) (case_meters (outage_case t e)) (pairs a) ≡ pairs a
+
+-- what is kept for the outages of a case: its network, a longest assignment, and the list that was found last
+pub record Outages : Type 0 where
+  pub network : Network
+  pub pairs : Assignment
+  pub found : List Outage

@@ -1,0 +1,88 @@
+// One outage by the long way: the network of the outage case is made, and the pairs are made longest there and back.
+ghost use Rattle.std.specs.Prelude.{◌≡◌, ◌≤◌, length};
+ghost use Rattle.obs_graph.specs.Positions.{IsForestAt};
+ghost use Rattle.obs_matroid.specs.Assignments.{branches};
+ghost use Rattle.obs_matroid.specs.Lists.{In};
+ghost use Rattle.obs_assign.specs.Assignment.{pairs as pairs_at};
+ghost use Rattle.obs_assign.specs.Still.{still};
+ghost use Rattle.obs_exchange.specs.Longest.{IsMost};
+ghost use Rattle.obs_network.specs.Network.{network_of};
+ghost use Rattle.obs_kept.specs.Kept.{AreLongest, HasRoom};
+ghost use Rattle.obs_outage.specs.Outages.{AllStand, outage_of, outage_rows};
+
+use crate::Outage;
+use obs_assign::{Assignment, Steps};
+use obs_case::Case;
+use obs_exchange::{Work, regrow};
+use obs_network::Network;
+use std::sync::ledger::Ledger;
+
+/// Carries the pairs over to the network of a case, of which no assignment has more than `most` pairs, and makes them
+/// longest there. Where the pairs that stand there are so many and a forest, nothing is searched.
+fn carry<L: Ledger>(
+    case: &Case,
+    network: &Network,
+    most: u32,
+    pairs: &mut Assignment,
+    work: &mut Work,
+    steps: &mut Steps<L>,
+)
+    requires network { network.now ≡ network_of case.now }
+    requires room { HasRoom network.now pairs.old work.old }
+    requires meters { length network.now.meters.touches ≡ length pairs.old.slots }
+    requires positions { length network.now.graph.ends ≡ length pairs.old.forest.held }
+    requires most { IsMost network.now.graph.ends network.now.meters.touches most }
+    ensures longest { AreLongest case.now pairs.new }
+    ensures room { HasRoom network.now pairs.new work.new }
+    ensures quiet { IsForestAt network.now.graph.ends
+        (branches (still network.now.graph.ends network.now.meters.touches (pairs_at pairs.old))) →
+        most ≤ length (still network.now.graph.ends network.now.meters.touches (pairs_at pairs.old)) →
+        (steps.new ≡ steps.old) × (pairs.new.turns ≡ pairs.old.turns) }
+{
+    let _nodes = case.nodes();
+    let g = network.graph();
+    let ms = network.meters();
+    let _ = g.vertices();
+    let _ = pairs.retain_touching(g, ms);
+    let _ = regrow(g, ms, pairs, most, work, steps);
+}
+
+/// The entry of one row. The pairs are longest before and after; between, they are longest in the outage case.
+pub(crate) fn outage_at<L: Ledger>(
+    case: &mut Case,
+    e: u32,
+    network: &Network,
+    other: &mut Network,
+    pairs: &mut Assignment,
+    work: &mut Work,
+    steps: &mut Steps<L>,
+) -> Outage
+    requires network { network.now ≡ network_of case.old }
+    requires row { In e (outage_rows case.old) }
+    requires longest { AreLongest case.old pairs.old }
+    requires room { HasRoom network.now pairs.old work.old }
+    requires rows { other.old.rows ≡ network.now.rows }
+    requires buses { other.old.buses ≡ network.now.buses }
+    ensures entry { result ≡ outage_of case.old e }
+    ensures quiet { AllStand case.old pairs.old e →
+        (steps.new ≡ steps.old) × (pairs.new.turns ≡ pairs.old.turns) }
+    ensures case { case.new ≡ case.old }
+    ensures longest { AreLongest case.old pairs.new }
+    ensures room { HasRoom network.now pairs.new work.new }
+    ensures rows { other.new.rows ≡ network.now.rows }
+    ensures buses { other.new.buses ≡ network.now.buses }
+{
+    let _nodes = case.nodes();
+    let most = pairs.length();
+    case.set_branch(e, false);
+    other.refresh_branches(case);
+    carry(case, other, most, pairs, work, steps);
+    let entry = Outage {
+        branch: e,
+        rank: pairs.length(),
+        needed: other.needed(),
+    };
+    case.set_branch(e, true);
+    carry(case, network, most, pairs, work, steps);
+    entry
+}

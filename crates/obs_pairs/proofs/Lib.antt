@@ -1,0 +1,4 @@
+pub mod Partnered
+pub mod Unreached
+pub mod Settling
+pub mod Left

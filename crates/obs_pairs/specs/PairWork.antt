@@ -1,0 +1,13 @@
+-- What is kept of classes that were found.
+use Rattle.std.specs.Prelude.{ℕ, ◌==◌, ◌&&◌, Bool, not, List, length, slice_index}
+use Rattle.std.specs.List.{list_any, range_with_len}
+use Rattle.obs_meter.specs.Sizes.{Sizes}
+
+-- of each meter the class in which it was found last, and the sizes that the work value was made for
+pub record PairWork : Type 0 where
+  pub list : List ℕ
+  pub sizes : Sizes
+
+-- whether another meter has the class that the meter has in a list
+abbrev pub has_another : List ℕ → ℕ → Bool
+has_another list m = list_any (λ k. not (k == m) && (slice_index list k == slice_index list m)) (range_with_len 0 (length list))

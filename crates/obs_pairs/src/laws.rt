@@ -1,0 +1,40 @@
+// The laws of partners and their classes.
+ghost use Rattle.std.specs.Prelude.{◌≡◌, ◌≢◌, ◌↔◌, ◌⊎◌, ℕ, true, false, Option, List};
+ghost use Rattle.obs_graph.specs.declared.Ends.{Ends};
+ghost use Rattle.obs_graph.specs.Positions.{AreBranches};
+ghost use Rattle.obs_matroid.specs.Lists.{In, without};
+ghost use Rattle.obs_meter.specs.declared.Touch.{Touch};
+ghost use Rattle.obs_meter.specs.Touches.{is_live, live_items};
+ghost use Rattle.obs_exchange.specs.Critical.{IsCriticalAt, critical_at};
+ghost use Rattle.obs_pairs.specs.Partners.{ArePartnersAt, class_at, partner_at};
+
+/// The computed partners are the meters without which, both lost, the greatest length falls, though neither is
+/// critical. The partners of a meter that isn't critical are those that become critical without it.
+pub fn partners()
+    ensures computed { (n : ℕ) (ends : List (Option Ends)) (touches : List Touch) (m k : ℕ) → AreBranches n ends →
+        (partner_at n ends touches m k ≡ true) ↔ ArePartnersAt ends touches (live_items ends touches) m k }
+    ensures newly_critical { (n : ℕ) (ends : List (Option Ends)) (touches : List Touch) (m k : ℕ) →
+        AreBranches n ends → In m (live_items ends touches) →
+        (IsCriticalAt ends touches (live_items ends touches) m → ⊥) →
+        (IsCriticalAt ends touches (without m (live_items ends touches)) k
+        × (IsCriticalAt ends touches (live_items ends touches) k → ⊥))
+        ↔ ArePartnersAt ends touches (live_items ends touches) m k }
+{}
+
+/// A partner is one both ways, and different partners of one meter are partners of each other. So classes are a
+/// partition: two meters have one class exactly where they are the same or partners.
+pub fn classes_are_a_partition()
+    ensures both_ways { (n : ℕ) (ends : List (Option Ends)) (touches : List Touch) (m k : ℕ) → AreBranches n ends →
+        ArePartnersAt ends touches (live_items ends touches) m k →
+        ArePartnersAt ends touches (live_items ends touches) k m }
+    ensures together { (n : ℕ) (ends : List (Option Ends)) (touches : List Touch) (m k x : ℕ) → AreBranches n ends →
+        ArePartnersAt ends touches (live_items ends touches) m k →
+        ArePartnersAt ends touches (live_items ends touches) m x → k ≢ x →
+        ArePartnersAt ends touches (live_items ends touches) k x }
+    ensures classes { (n : ℕ) (ends : List (Option Ends)) (touches : List Touch) (m k : ℕ) → AreBranches n ends →
+        (class_at n ends touches m ≡ class_at n ends touches k)
+        ↔ ((m ≡ k) ⊎ ArePartnersAt ends touches (live_items ends touches) m k) }
+    ensures alone { (n : ℕ) (ends : List (Option Ends)) (touches : List Touch) (m : ℕ) → AreBranches n ends →
+        (is_live ends touches m ≡ false) ⊎ (critical_at n ends touches m ≡ true) →
+        class_at n ends touches m ≡ m }
+{}

@@ -1,0 +1,11 @@
+//! Meters that are critical together, and the classes into which they fall.
+#![tactic(auto)]
+
+mod lacking;
+pub mod laws;
+mod memory;
+mod settle;
+mod work;
+
+pub use memory::NoMemory;
+pub use work::{PairWork, classes, find_classes};

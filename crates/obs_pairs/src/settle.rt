@@ -1,0 +1,153 @@
+// Classes, settled one after the other.
+ghost use Rattle.std.specs.Prelude.{◌≡◌, ◌&&◌, ◌<◌, ◌≤◌, ◌^◌, if◌then◌else◌, ℕ, not, length, slice_index, take};
+ghost use Rattle.obs_meter.specs.Sizes.{HasRoomFor};
+ghost use Rattle.obs_meter.specs.Touches.{AreInRange};
+ghost use Rattle.obs_assign.specs.Assignment.{HasRoomOf, has_flag};
+ghost use Rattle.obs_exchange.specs.Blank.{AreNumbers};
+ghost use Rattle.obs_exchange.specs.Longest.{IsLongest};
+ghost use Rattle.obs_pairs.specs.Partners.{classes_of};
+ghost use Rattle.obs_pairs.specs.Settled.{AreSettled};
+
+use crate::lacking::search_without;
+use obs_assign::{Assignment, Steps};
+use obs_exchange::{Work, close};
+use obs_graph::Graph;
+use obs_meter::Meters;
+use std::sync::ledger::Ledger;
+
+// The marked meters wait for their class, and each meter is written as its own.
+fn begin(marks: &[bool], waiting: &mut [bool], list: &mut [u32])
+    requires waiting { length waiting.old ≡ length marks.now }
+    requires few { length list.old < 2 ^ 32 }
+    ensures waiting { waiting.new ≡ marks.now }
+    ensures list { AreNumbers list.new }
+{
+    waiting.copy_from_slice(marks);
+    for k in 0..list.len() {
+        list[k] = k as u32;
+    }
+}
+
+// Whether the meter waits and isn't marked.
+fn is_lacking(waiting: &[bool], marks: &[bool], k: usize) -> bool
+    requires waiting { k < length waiting.now }
+    requires marks { k < length marks.now }
+    ensures value { result ≡ (has_flag waiting.now k && not (has_flag marks.now k)) }
+{
+    waiting[k] && !marks[k]
+}
+
+// Settles the meters that wait that aren't marked: m names their class.
+fn settle(marks: &[bool], m: u32, waiting: &mut [bool], list: &mut [u32])
+    requires waiting { length waiting.old ≡ length marks.now }
+    requires list { length list.old ≡ length marks.now }
+    ensures waiting { (k : ℕ) → has_flag waiting.new k ≡ (has_flag waiting.old k && has_flag marks.now k) }
+    ensures list { (k : ℕ) → slice_index list.new k
+        ≡ (if has_flag waiting.old k && not (has_flag marks.now k) then m else slice_index list.old k) }
+{
+    for k in 0..marks.len() {
+        if is_lacking(waiting, marks, k) {
+            waiting[k] = false;
+            list[k] = m;
+        }
+    }
+}
+
+// Settles the class of each waiting meter, by its first.
+fn settle_all<L: Ledger>(
+    g: &Graph,
+    ms: &Meters,
+    a: &mut Assignment,
+    left: &mut Meters,
+    search: &mut Work,
+    waiting: &mut [bool],
+    list: &mut [u32],
+    steps: &mut Steps<L>,
+)
+    requires longest { IsLongest g.now ms.now.touches a.old }
+    requires in_range { AreInRange g.now ms.now.touches }
+    requires room { HasRoomFor search.old.sizes g.now ms.now.touches }
+    requires left { left.old.touches ≡ ms.now.touches }
+    requires settled { AreSettled g.now.vertices g.now.ends ms.now.touches waiting.old list.old 0 }
+    ensures classes { list.new ≡ classes_of g.now.vertices g.now.ends ms.now.touches }
+    ensures longest { IsLongest g.now ms.now.touches a.new }
+    ensures left { left.new ≡ left.old }
+    ensures same_room { HasRoomOf a.old a.new }
+    ensures same_sizes { search.new.sizes ≡ search.old.sizes }
+{
+    // What the graph knows of itself: the branches lie between the vertices.
+    let _ = g.vertices();
+    for m in 0..ms.count() {
+        if waiting[m as usize] {
+            search_without(g, ms, a, m, left, search, steps);
+            settle(search.reached(), m, waiting, list);
+        }
+    }
+}
+
+// Finds the redundant meters, and settles their classes.
+fn find_all<L: Ledger>(
+    g: &Graph,
+    ms: &Meters,
+    a: &mut Assignment,
+    left: &mut Meters,
+    search: &mut Work,
+    waiting: &mut [bool],
+    list: &mut [u32],
+    steps: &mut Steps<L>,
+)
+    requires longest { IsLongest g.now ms.now.touches a.old }
+    requires in_range { AreInRange g.now ms.now.touches }
+    requires room { HasRoomFor search.old.sizes g.now ms.now.touches }
+    requires left { left.old.touches ≡ ms.now.touches }
+    requires waiting { length waiting.old ≡ length ms.now.touches }
+    requires list { length list.old ≡ length ms.now.touches }
+    ensures classes { list.new ≡ classes_of g.now.vertices g.now.ends ms.now.touches }
+    ensures longest { IsLongest g.now ms.now.touches a.new }
+    ensures left { left.new ≡ left.old }
+    ensures same_room { HasRoomOf a.old a.new }
+    ensures same_sizes { search.new.sizes ≡ search.old.sizes }
+{
+    let _ = g.vertices();
+    let _ = a.length();
+    let _ = ms.count();
+    close(g, ms, a, search, steps);
+    begin(search.reached(), waiting, list);
+    settle_all(g, ms, a, left, search, waiting, list, steps);
+}
+
+/// Writes the class of each meter. The flags say afterwards which meters' classes aren't known: none.
+pub(crate) fn list_classes<L: Ledger>(
+    g: &Graph,
+    ms: &Meters,
+    a: &mut Assignment,
+    left: &mut Meters,
+    search: &mut Work,
+    waiting: &mut [bool],
+    list: &mut [u32],
+    steps: &mut Steps<L>,
+)
+    requires longest { IsLongest g.now ms.now.touches a.old }
+    requires in_range { AreInRange g.now ms.now.touches }
+    requires room { HasRoomFor search.old.sizes g.now ms.now.touches }
+    requires left { left.old.touches ≡ ms.now.touches }
+    requires waiting { length ms.now.touches ≤ length waiting.old }
+    requires list { length ms.now.touches ≤ length list.old }
+    ensures classes { take (length ms.now.touches) list.new ≡ classes_of g.now.vertices g.now.ends ms.now.touches }
+    ensures longest { IsLongest g.now ms.now.touches a.new }
+    ensures left { left.new ≡ left.old }
+    ensures same_room { HasRoomOf a.old a.new }
+    ensures same_sizes { search.new.sizes ≡ search.old.sizes }
+{
+    let n = ms.count() as usize;
+    find_all(
+        g,
+        ms,
+        a,
+        left,
+        search,
+        &mut waiting[..n],
+        &mut list[..n],
+        steps,
+    );
+}

@@ -1,0 +1,171 @@
+// Classes of partners, and what they are found in.
+ghost use Rattle.std.specs.Prelude.{◌≡◌, ◌==◌, ◌&&◌, ◌<◌, [], IfOk, length, not, slice_index};
+ghost use Rattle.obs_meter.specs.Sizes.{HasRoomFor};
+ghost use Rattle.obs_meter.specs.Touches.{AreInRange};
+ghost use Rattle.obs_assign.specs.Assignment.{HasRoomOf};
+ghost use Rattle.obs_exchange.specs.Longest.{IsLongest};
+ghost use Rattle.obs_pairs.specs.PairWork.{has_another};
+ghost use Rattle.obs_pairs.specs.Partners.{classes_of};
+
+use crate::memory::NoMemory;
+use crate::settle::list_classes;
+use obs_assign::{Assignment, Steps};
+use obs_exchange::Work;
+use obs_graph::Graph;
+use obs_meter::Meters;
+use std::alloc::Global;
+use std::marker::Model;
+use std::sync::ledger::Ledger;
+
+/// Room for finding classes, and those that were found last.
+pub struct PairWork {
+    // how many meters there were last
+    count: usize,
+    // the class of each meter, and whether it is still to be found
+    list: Vec<u32>,
+    waiting: Vec<bool>,
+    // the meters, where one of them may be lost
+    left: Meters,
+    // what finds pairs
+    search: Work,
+}
+
+impl Model for PairWork {
+    ghost use Rattle.std.specs.Prelude.{◌≡◌, ◌≤◌, length, take};
+    ghost use Rattle.obs_pairs.specs.PairWork.{PairWork};
+
+    ghost Value = { PairWork };
+
+    ghost view = { λ w. record { list = take w.count w.list.items; sizes = w.search.sizes } };
+
+    ghost invariant = { λ w. record {
+      found : w.count ≤ length w.list.items;
+      places : length w.list.items ≡ w.search.sizes.meters;
+      flags : length w.waiting.items ≡ w.search.sizes.meters;
+      left : w.left.most ≡ w.search.sizes.meters;
+    } };
+}
+
+// Written out: so a caller's proof sees one call, and not the drop of each field.
+impl Drop for PairWork {
+    fn drop(self) {
+        let PairWork {
+            count: _,
+            list: _,
+            waiting: _,
+            left: _,
+            search: _,
+        } = self;
+    }
+}
+
+// Whether k is another meter than m, of the same class.
+fn is_other(list: &[u32], m: u32, k: usize) -> bool
+    requires m { m < length list.now }
+    requires k { k < length list.now }
+    ensures value { result ≡ (not (k == m) && (slice_index list.now k == slice_index list.now m)) }
+{
+    k != m as usize && list[k] == list[m as usize]
+}
+
+// Whether another meter has the class that the meter has.
+fn is_shared(list: &[u32], m: u32) -> bool
+    requires m { m < length list.now }
+    ensures value { result ≡ has_another list.now m }
+{
+    for k in 0..list.len() {
+        if is_other(list, m, k) {
+            return true;
+        }
+    }
+    false
+}
+
+impl PairWork {
+    /// Room for so many meters, branches and vertices.
+    pub fn make(
+        alloc: Global,
+        most_meters: u32,
+        most_branches: u32,
+        most_vertices: u32,
+    ) -> Result<PairWork, NoMemory>
+        ensures empty { IfOk result (λ w. w ≡ record {
+          list = [];
+          sizes = record { meters = most_meters; branches = most_branches; vertices = most_vertices };
+        }) }
+    {
+        Ok(PairWork {
+            count: 0,
+            list: vec![in alloc; 0; most_meters as usize]?,
+            waiting: vec![in alloc; false; most_meters as usize]?,
+            left: Meters::make(alloc, most_meters)?,
+            search: Work::make(alloc, most_meters, most_branches, most_vertices)?,
+        })
+    }
+
+    /// Of each meter the first meter of its class, as `find_classes` found them last.
+    pub fn list(&self) -> &[u32]
+        ensures list { result.now ≡ self.now.list }
+    {
+        &self.list[..self.count]
+    }
+
+    /// Whether another meter has the meter's class in the list.
+    pub fn has_partner(&self, m: u32) -> bool
+        requires m { m < length self.now.list }
+        ensures partner { result ≡ has_another self.now.list m }
+    {
+        is_shared(self.list(), m)
+    }
+}
+
+/// Finds the classes. `PairWork::list` then has for each meter the first meter of its class. The pairs may be others
+/// afterwards, and are as many.
+pub fn find_classes<L: Ledger>(
+    g: &Graph,
+    ms: &Meters,
+    a: &mut Assignment,
+    work: &mut PairWork,
+    steps: &mut Steps<L>,
+)
+    requires longest { IsLongest g.now ms.now.touches a.old }
+    requires in_range { AreInRange g.now ms.now.touches }
+    requires room { HasRoomFor work.old.sizes g.now ms.now.touches }
+    ensures classes { work.new.list ≡ classes_of g.now.vertices g.now.ends ms.now.touches }
+    ensures longest { IsLongest g.now ms.now.touches a.new }
+    ensures same_room { HasRoomOf a.old a.new }
+    ensures same_sizes { work.new.sizes ≡ work.old.sizes }
+{
+    work.left.refill(ms.touches());
+    list_classes(
+        g,
+        ms,
+        a,
+        &mut work.left,
+        &mut work.search,
+        &mut work.waiting,
+        &mut work.list,
+        steps,
+    );
+    work.count = ms.count() as usize;
+}
+
+/// For each meter the first meter of its class. For a critical meter, one without a partner or one that is idle that is
+/// the meter itself.
+pub fn classes<'a, L: Ledger>(
+    g: &Graph,
+    ms: &Meters,
+    a: &mut Assignment,
+    work: &'a mut PairWork,
+    steps: &mut Steps<L>,
+) -> &'a [u32]
+    requires longest { IsLongest g.now ms.now.touches a.old }
+    requires in_range { AreInRange g.now ms.now.touches }
+    requires room { HasRoomFor work.old.sizes g.now ms.now.touches }
+    ensures classes { result.now ≡ classes_of g.now.vertices g.now.ends ms.now.touches }
+    ensures longest { IsLongest g.now ms.now.touches a.new }
+    ensures same_room { HasRoomOf a.old a.new }
+{
+    find_classes(g, ms, a, work, steps);
+    work.list()
+}
