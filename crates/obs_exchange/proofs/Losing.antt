@@ -140,9 +140,9 @@ module _ (g : Graph) (list : List ℕ) (before : Meters) (a : Assignment) where
       subst (λ (y : ℕ). (λ m. is_listed (take i list) m || eqb y m) ≡ is_listed (take (i + 1) list)) at (listed_more list i l) in
       record {
         left = is
-        ∙ (ap (λ (y : Meters). record y { touches = losing (λ k. eqb x k) y.touches }) h.left
-        ∙ ap (λ (t : List Touch). record before { touches = t })
-        (losing-again (is_listed (take i list)) (λ k. eqb x k) before.touches ∙ ap (λ (p : ℕ → Bool). losing p before.touches) test));
+            ∙ (ap (λ (y : Meters). record y { touches = losing (λ k. eqb x k) y.touches }) h.left
+            ∙ ap (λ (t : List Touch). record before { touches = t })
+            (losing-again (is_listed (take i list)) (λ k. eqb x k) before.touches ∙ ap (λ (p : ℕ → Bool). losing p before.touches) test));
         slots = λ m.
             let there : get_or (set b.slots x None) m None ≡ cond (is_listed (take i list) m || eqb x m) None (branch_at a m) =
             elim (cases_eq m x) [

@@ -45,8 +45,8 @@ mod work;
 
 pub use changed::search_by;
 pub use exchange::search;
-pub use regrown::{close, fill, regrow};
 pub use loss::{lose, regain};
 pub use memory::NoMemory;
+pub use regrown::{close, fill, regrow};
 pub use repeated::{lengthen, lengthen_from};
 pub use work::Work;
