@@ -156,6 +156,6 @@ HasArrays-same a b f p c s f2 p2 c2 s2 h whole room ff pp cc2 ss = record {
   whole = whole;
   frozen_len = ff ∙ (h.frozen_len ∙ sym room.meters);
   path_len = pp ∙ (h.path_len ∙ sym room.vertices);
-  candidates_len = cc2 ∙ (h.candidates_len ∙ sym room.branches);
+  remaining_len = cc2 ∙ (h.remaining_len ∙ sym room.branches);
   search_len = ss ∙ (h.search_len ∙ sym room.vertices);
 }

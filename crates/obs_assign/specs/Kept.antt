@@ -56,9 +56,9 @@ seen k frozen turns =
     record { slots = k.slots; frozen = take (length k.slots) frozen; turns = turns; forest = k.forest; most_meters = k.most_meters }
 
 -- the other arrays of an assignment have room for what it was made for
-pub record HasArrays (a : Assignment) (frozen path candidates search : ℕ) : Type 0 where
+pub record HasArrays (a : Assignment) (frozen path remaining search : ℕ) : Type 0 where
   pub whole : IsWhole a
   pub frozen_len : frozen ≡ a.most_meters
   pub path_len : path ≡ a.forest.most_vertices
-  pub candidates_len : candidates ≡ a.forest.most_branches
+  pub remaining_len : remaining ≡ a.forest.most_branches
   pub search_len : search ≡ a.forest.most_vertices

@@ -36,8 +36,8 @@ pub struct Assignment {
     frozen: Vec<bool>,
     // the branches between the ends of the one that is pinned
     path: Vec<u32>,
-    // the branches that still pairs hold, while pairs are retained, and their pieces
-    candidates: Vec<Option<Ends>>,
+    // the branches of the pairs that remain, while pairs are retained, and their pieces
+    remaining: Vec<Option<Ends>>,
     search: Search,
     // the pairs
     kept: Kept,
@@ -54,7 +54,7 @@ impl Model for Assignment {
     ghost view = { λ a. seen a.kept a.frozen.items a.turns };
 
     ghost invariant = { λ a. HasArrays (seen a.kept a.frozen.items a.turns)
-        (length a.frozen.items) (length a.path.items) (length a.candidates.items) (room_of a.search) };
+        (length a.frozen.items) (length a.path.items) (length a.remaining.items) (room_of a.search) };
 }
 
 // Written out: so a caller's proof sees one call, and not the drop of each field.
@@ -64,7 +64,7 @@ impl Drop for Assignment {
             turns: _,
             frozen: _,
             path: _,
-            candidates: _,
+            remaining: _,
             search: _,
             kept: _,
         } = self;
@@ -89,14 +89,14 @@ impl Assignment {
     {
         let frozen = vec![in alloc; false; most_meters as usize]?;
         let path = vec![in alloc; 0; most_vertices as usize]?;
-        let candidates = vec![in alloc; None; most_branches as usize]?;
+        let remaining = vec![in alloc; None; most_branches as usize]?;
         let search = Search::make(alloc, most_vertices)?;
         let kept = Kept::make(alloc, most_meters, most_branches, most_vertices)?;
         Ok(Assignment {
             turns: 0,
             frozen,
             path,
-            candidates,
+            remaining,
             search,
             kept,
         })
@@ -231,7 +231,7 @@ impl Assignment {
     {
         clear_flags(&mut self.frozen);
         self.kept
-            .retain(g, ms, &mut self.candidates, &mut self.search);
+            .retain(g, ms, &mut self.remaining, &mut self.search);
         self.kept.count()
     }
 }

@@ -201,13 +201,13 @@ impl Kept {
         &mut self,
         g: &Graph,
         ms: &Meters,
-        candidates: &mut [Option<Ends>],
+        remaining: &mut [Option<Ends>],
         search: &mut Search,
     )
         requires meters { length ms.now.touches ≡ length self.old.slots }
         requires positions { length g.now.ends ≡ length self.old.forest.held }
         requires vertices { g.now.vertices ≤ self.old.forest.most_vertices }
-        requires candidates { length g.now.ends ≤ length candidates.old }
+        requires remaining { length g.now.ends ≤ length remaining.old }
         requires room { g.now.vertices ≤ room_of search.old }
         ensures retained { AreRetained g.now.ends ms.now.touches (pairs_of self.old.slots) (pairs_of self.new.slots) }
         ensures forest { IsForestAt g.now.ends (branches (pairs_of self.new.slots)) }
@@ -221,7 +221,7 @@ impl Kept {
             &mut self.slots,
             &mut self.owners,
             &mut self.list,
-            candidates,
+            remaining,
             search,
             &mut self.forest,
         );

@@ -97,7 +97,7 @@ module _ (t : Tables) (c : ℕ) where
 -- so no clause of the claim is false
 pub bounds_hold : BoundsHold
 unfolding component_bound
-bounds_hold t c v l fed unseen =
+bounds_hold t c v l energised unseen =
     let scope = is_meter_in t c in
     let list = bound_meters t c in
     let need = case_need t c in
@@ -107,5 +107,5 @@ bounds_hold t c v l fed unseen =
     ap (λ (b : Bool). cond b (Some Twice) (first_true (bound_clauses t scope list (bound_rank t c) (bound_outside t c) need))) (bound_once t c)
     ∙ sym (bound_right t scope list (bound_rank t c) (bound_outside t c) need (bound_rank_right t c) (bound_outside_right t c) (bound_less t c v l unseen)) in
     let rest = bound_rest t (component_bound t c) c need (sym (component_named t v c l)) (sym (component_need t v c l)) (component_known t v c l)
-    (none_unknown t v list low) (component_names t v c l fed) (ap (not_inside scope) same ∙ bound_inside t c) in
+    (none_unknown t v list low) (component_names t v c l energised) (ap (not_inside scope) same ∙ bound_inside t c) in
     sym rest ∙ ap (λ (xs : List ℕ). first_true (list_clauses t scope xs (bound_rank t c) (bound_outside t c) need)) same ∙ right

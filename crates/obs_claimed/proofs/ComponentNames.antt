@@ -103,13 +103,13 @@ module _ (t : Tables) (v : IsValid t) (c : ℕ) (l : c < case_component_count t)
 
   -- which it names where this is energised
   pub component_names : is_energised_component t c ≡ true → names_component t (component_name t c) ≡ true
-  component_names fed =
+  component_names energised =
       let f = first_of_component t c l in
       let u = f.0 in
       let own : (case_first_node t u == u) ≡ true = eq-eqb (case_first_node t u) u f.1.own in
       let bus : (slice_index (case_first_buses t) (node_component t u) == slice_index (case_buses t) u) ≡ true =
       eq-eqb (slice_index (case_first_buses t) (node_component t u)) (slice_index (case_buses t) u) (ap (λ (k : ℕ). slice_index (case_first_buses t) k) f.1.component ∙ f.1.bus) in
-      let on : is_energised_component t (node_component t u) ≡ true = ap (is_energised_component t) f.1.component ∙ fed in
+      let on : is_energised_component t (node_component t u) ≡ true = ap (is_energised_component t) f.1.component ∙ energised in
       ap (names_at t) component_place
       ∙ and_from (case_first_node t u == u) _ own (and_from (slice_index (case_first_buses t) (node_component t u) == slice_index (case_buses t) u) (is_energised_component t (node_component t u)) bus on)
 

@@ -62,7 +62,7 @@ module _ (t : Tables) (v : IsValid t) (c : ℕ) where
 
   pub tree_holds : c < case_component_count t → is_energised_component t c ≡ true → IsObservable t c → Holds t (tree (component_tree t c))
   unfolding component_tree
-  tree_holds l fed o =
+  tree_holds l energised o =
       let is = component_named t v c l in
       let pairs = map (named_pair t) (tree_pairs t c) in
       let M = component_meters t c in
@@ -70,7 +70,7 @@ module _ (t : Tables) (v : IsValid t) (c : ℕ) where
       let paired = paired_named t v (tree_pairs t c) within in
       let inside = all_inside_scope (is_meter_in t c) (items (tree_pairs t c)) each_inside in
       let a = offered t M (tree_pairs t c) assigns meters in
-      tree_right t (record { component = component_name t c; pairs = pairs }) (component_known t v c l) (pairs_known t v (tree_pairs t c) within) (component_names t v c l fed)
+      tree_right t (record { component = component_name t c; pairs = pairs }) (component_known t v c l) (pairs_known t v (tree_pairs t c) within) (component_names t v c l energised)
       (ap (λ (k : ℕ). not_inside (is_meter_in t k) (items_of t (paired_items pairs))) is ∙ ap (not_inside (is_meter_in t c)) paired ∙ inside)
       (ap (not_touched t) same ∙ touched_pairs t M (tree_pairs t c) a)
       (ap (λ (xs : List ℕ). twice xs || twice (branches (pairs_of t pairs))) paired
@@ -82,4 +82,4 @@ module _ (t : Tables) (v : IsValid t) (c : ℕ) where
       ∙ ap not (eq-eqb (length (tree_pairs t c)) (named_need t (component_name t c)) (tree_whole t v c l o ∙ sym (component_need t v c l))))
 
 pub trees_hold : TreesHold
-trees_hold t c v l fed o = tree_holds t v c l fed o
+trees_hold t c v l energised o = tree_holds t v c l energised o

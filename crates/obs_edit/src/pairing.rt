@@ -23,7 +23,7 @@ pub(crate) struct Pairing {
     items: Meters,
     // the pairs of the items of the plan, and what finds them
     pairs: Assignment,
-    search: Work,
+    exchange: Work,
 }
 
 impl Model for Pairing {
@@ -32,13 +32,13 @@ impl Model for Pairing {
 
     ghost Value = { Paired };
 
-    ghost view = { λ p. record { pairs = p.pairs; sizes = p.search.sizes } };
+    ghost view = { λ p. record { pairs = p.pairs; sizes = p.exchange.sizes } };
 
     ghost invariant = { λ p. record {
-      items : p.items.most ≡ p.search.sizes.meters;
-      pair_meters : p.pairs.most_meters ≡ p.search.sizes.meters;
-      pair_branches : p.pairs.forest.most_branches ≡ p.search.sizes.branches;
-      pair_vertices : p.pairs.forest.most_vertices ≡ p.search.sizes.vertices;
+      items : p.items.most ≡ p.exchange.sizes.meters;
+      pair_meters : p.pairs.most_meters ≡ p.exchange.sizes.meters;
+      pair_branches : p.pairs.forest.most_branches ≡ p.exchange.sizes.branches;
+      pair_vertices : p.pairs.forest.most_vertices ≡ p.exchange.sizes.vertices;
     } };
 }
 
@@ -48,7 +48,7 @@ impl Drop for Pairing {
         let Pairing {
             items: _,
             pairs: _,
-            search: _,
+            exchange: _,
         } = self;
     }
 }
@@ -75,21 +75,21 @@ fn pair_first<L: Ledger>(
     g: &Graph,
     items: &Meters,
     pairs: &mut Assignment,
-    search: &mut Work,
+    exchange: &mut Work,
     steps: &mut Steps<L>,
 )
     requires in_range { AreInRange g.now items.now.touches }
-    requires room { HasRoomFor search.old.sizes g.now items.now.touches }
+    requires room { HasRoomFor exchange.old.sizes g.now items.now.touches }
     requires fits { Fits pairs.old g.now items.now.touches }
     ensures first { pairs_at pairs.new ≡ first_pairs g.now.vertices g.now.ends items.now.touches }
     ensures stands { StandsOver pairs.new g.now items.now.touches }
     ensures same_room { HasRoomOf pairs.old pairs.new }
-    ensures same_sizes { search.new.sizes ≡ search.old.sizes }
+    ensures same_sizes { exchange.new.sizes ≡ exchange.old.sizes }
 {
     let _ = g.vertices();
     pairs.clear(g, items);
-    let _ = lengthen(g, items, pairs, u32::MAX, search, steps);
-    first(g, items, pairs, search, steps);
+    let _ = lengthen(g, items, pairs, u32::MAX, exchange, steps);
+    first(g, items, pairs, exchange, steps);
 }
 
 /// Makes the pairs those of the placement that was found last, over what its items touch.
@@ -98,19 +98,19 @@ fn pair_placed<L: Ledger>(
     items: &Meters,
     work: &PlaceWork,
     pairs: &mut Assignment,
-    search: &mut Work,
+    exchange: &mut Work,
     steps: &mut Steps<L>,
 )
     requires in_range { AreInRange g.now items.now.touches }
-    requires room { HasRoomFor search.old.sizes g.now items.now.touches }
+    requires room { HasRoomFor exchange.old.sizes g.now items.now.touches }
     requires fits { Fits pairs.old g.now items.now.touches }
     ensures pairs { pairs_at pairs.new ≡ pairs_in g.now.vertices g.now.ends items.now.touches work.now.placed }
     ensures stands { StandsOver pairs.new g.now items.now.touches }
     ensures same_room { HasRoomOf pairs.old pairs.new }
-    ensures same_sizes { search.new.sizes ≡ search.old.sizes }
+    ensures same_sizes { exchange.new.sizes ≡ exchange.old.sizes }
 {
     match work.found() {
-        Placement::Cheapest(_) => pair_first(g, items, pairs, search, steps),
+        Placement::Cheapest(_) => pair_first(g, items, pairs, exchange, steps),
         Placement::Shortfall(_) => pairs.clear(g, items),
     }
 }
@@ -123,23 +123,23 @@ fn pair_plan<L: Ledger>(
     work: &PlaceWork,
     items: &mut Meters,
     pairs: &mut Assignment,
-    search: &mut Work,
+    exchange: &mut Work,
     steps: &mut Steps<L>,
 )
     requires in_range { AreInRange g.now offered.now.touches }
     requires chosen { All (λ k. meters + k < length offered.now.touches) work.now.chosen }
-    requires items { items.old.most ≡ search.old.sizes.meters }
-    requires room { HasRoomFor search.old.sizes g.now offered.now.touches }
+    requires items { items.old.most ≡ exchange.old.sizes.meters }
+    requires room { HasRoomFor exchange.old.sizes g.now offered.now.touches }
     requires fits { Fits pairs.old g.now offered.now.touches }
     ensures pairs { pairs_at pairs.new ≡ pairs_in g.now.vertices g.now.ends
         (touches_of offered.now.touches (planned_items meters work.now.chosen)) work.now.placed }
     ensures stands { StandsOver pairs.new g.now offered.now.touches }
     ensures same_most { items.new.most ≡ items.old.most }
     ensures same_room { HasRoomOf pairs.old pairs.new }
-    ensures same_sizes { search.new.sizes ≡ search.old.sizes }
+    ensures same_sizes { exchange.new.sizes ≡ exchange.old.sizes }
 {
     list_plan(offered, meters, work.chosen(), items);
-    pair_placed(g, items, work, pairs, search, steps);
+    pair_placed(g, items, work, pairs, exchange, steps);
 }
 
 impl Pairing {
@@ -156,7 +156,7 @@ impl Pairing {
         Ok(Pairing {
             items: Meters::make(alloc, most_offered)?,
             pairs: Assignment::make(alloc, most_offered, most_branches, most_vertices)?,
-            search: Work::make(alloc, most_offered, most_branches, most_vertices)?,
+            exchange: Work::make(alloc, most_offered, most_branches, most_vertices)?,
         })
     }
 
@@ -184,7 +184,7 @@ impl Pairing {
             work,
             &mut self.items,
             &mut self.pairs,
-            &mut self.search,
+            &mut self.exchange,
             steps,
         );
     }

@@ -72,14 +72,14 @@ pub claim_dead : (trees bounds : Bool) (t : Tables) (c : ℕ) → is_energised_c
 unfolding component_claim
 claim_dead trees bounds t c dead = rw dead refl
 
-module _ (trees bounds : Bool) (t : Tables) (v : IsValid t) (c : ℕ) (low : c < case_component_count t) (fed : is_energised_component t c ≡ true) where
+module _ (trees bounds : Bool) (t : Tables) (v : IsValid t) (c : ℕ) (low : c < case_component_count t) (energised : is_energised_component t c ≡ true) where
   pub claim_observable : IsObservable t c → component_claim trees bounds t c ≡ text_if trees (tree_claim t c)
   unfolding component_claim
-  claim_observable o = let e = eq-eqb (component_rank t c) (case_need t c) (observable-to t v c low o) in rw (fed, e) refl
+  claim_observable o = let e = eq-eqb (component_rank t c) (case_need t c) (observable-to t v c low o) in rw (energised, e) refl
 
   pub claim_short : (IsObservable t c → ⊥) → component_claim trees bounds t c ≡ text_if bounds (bound_claim t c)
   unfolding component_claim
-  claim_short short = let e = ne_eqb (component_rank t c) (case_need t c) (λ same. short (observable-from t v c same)) in rw (fed, e) refl
+  claim_short short = let e = ne_eqb (component_rank t c) (case_need t c) (λ same. short (observable-from t v c same)) in rw (energised, e) refl
 
 -- the texts of the numbers below n, one after the other
 abbrev pub texts_below : (ℕ → List ℕ) → ℕ → List ℕ

@@ -52,9 +52,9 @@ text_if_lines true text claim is = subst (AreLines text) (sym (append-nil (claim
 text_if_lines false text claim is = no_lines
 
 -- one of two texts, or none
-either_lines : (fed full trees bounds : Bool) (first second : List ℕ) (one other : Claim) → AreLines first (claim_lines one) → AreLines second (claim_lines other)
-    → AreLines (if fed then (if full then text_if trees first else text_if bounds second) else [])
-    (lines_of_claims (if fed then (if full then claim_if trees one else claim_if bounds other) else []))
+either_lines : (energised full trees bounds : Bool) (first second : List ℕ) (one other : Claim) → AreLines first (claim_lines one) → AreLines second (claim_lines other)
+    → AreLines (if energised then (if full then text_if trees first else text_if bounds second) else [])
+    (lines_of_claims (if energised then (if full then claim_if trees one else claim_if bounds other) else []))
 either_lines true true trees bounds first second one other a b = text_if_lines trees first one a
 either_lines true false trees bounds first second one other a b = text_if_lines bounds second other b
 either_lines false full trees bounds first second one other a b = no_lines
@@ -64,8 +64,8 @@ held_if t true claim x holds (inl e) = rw e holds
 held_if t true claim x holds (inr i) = absurd i
 held_if t false claim x holds i = absurd i
 
-either_held : (t : Tables) (fed full trees bounds : Bool) (one other x : Claim) → (fed ≡ true → full ≡ true → Holds t one) → (fed ≡ true → full ≡ false → Holds t other)
-    → In x (if fed then (if full then claim_if trees one else claim_if bounds other) else []) → Holds t x
+either_held : (t : Tables) (energised full trees bounds : Bool) (one other x : Claim) → (energised ≡ true → full ≡ true → Holds t one) → (energised ≡ true → full ≡ false → Holds t other)
+    → In x (if energised then (if full then claim_if trees one else claim_if bounds other) else []) → Holds t x
 either_held t true true trees bounds one other x a b i = held_if t trees one x (a refl refl) i
 either_held t true false trees bounds one other x a b i = held_if t bounds other x (b refl refl) i
 either_held t false full trees bounds one other x a b i = absurd i
@@ -83,8 +83,8 @@ module _ (t : Tables) (v : IsValid t) (trees bounds : Bool) where
   on_held c l x i =
       let full = component_rank t c == case_need t c in
       either_held t (is_energised_component t c) full trees bounds (tree (component_tree t c)) (bound (component_bound t c)) x
-      (λ fed is. trees_hold t c v l fed (observable-from t v c (eqb-true (component_rank t c) (case_need t c) is)))
-      (λ fed is. bounds_hold t c v l fed (λ o. absurd (cc (is, eq-eqb (component_rank t c) (case_need t c) (observable-to t v c l o)))))
+      (λ energised is. trees_hold t c v l energised (observable-from t v c (eqb-true (component_rank t c) (case_need t c) is)))
+      (λ energised is. bounds_hold t c v l energised (λ o. absurd (cc (is, eq-eqb (component_rank t c) (case_need t c) (observable-to t v c l o)))))
       i
 
   -- those on several components

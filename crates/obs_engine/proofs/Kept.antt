@@ -38,8 +38,8 @@ if_length : (b : Bool) (text : List ℕ) → length (text_if b text) ≤ length 
 if_length true text = omega arith
 if_length false text = omega arith
 
-either_length : (fed full trees bounds : Bool) (first second : List ℕ)
-    → length (if fed then (if full then text_if trees first else text_if bounds second) else []) ≤ length first + length second
+either_length : (energised full trees bounds : Bool) (first second : List ℕ)
+    → length (if energised then (if full then text_if trees first else text_if bounds second) else []) ≤ length first + length second
 either_length true true trees bounds first second = let few = if_length trees first in omega (arith, few)
 either_length true false trees bounds first second = let few = if_length bounds second in omega (arith, few)
 either_length false full trees bounds first second = omega arith

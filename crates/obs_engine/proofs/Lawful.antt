@@ -91,8 +91,8 @@ short_parts t c s =
 
 short_from : (t : Tables) (c : ℕ) → is_energised_component t c ≡ true → component_rank t c ≢ case_need t c → is_short t c ≡ true
 unfolding is_short
-short_from t c fed n =
-    and_from (is_energised_component t c) (not (component_rank t c == case_need t c)) fed (ap not (ne_eqb (component_rank t c) (case_need t c) n))
+short_from t c energised n =
+    and_from (is_energised_component t c) (not (component_rank t c == case_need t c)) energised (ap not (ne_eqb (component_rank t c) (case_need t c) n))
 
 short_at : (t : Tables) (c : ℕ) → In c (short_components t) → (c < case_component_count t) × (is_short t c ≡ true)
 unfolding short_components

@@ -23,7 +23,7 @@ fn round<L: Ledger>(
     g: &Graph,
     used: &mut Meters,
     pairs: &mut Assignment,
-    search: &mut Work,
+    exchange: &mut Work,
     firsts: &mut [u32],
     lowest: &mut [u32],
     queue: &mut [u32],
@@ -31,12 +31,12 @@ fn round<L: Ledger>(
 ) -> bool
     requires stands { StandsOver pairs.old g.now used.old.touches }
     requires in_range { AreInRange g.now used.old.touches }
-    requires room { HasRoomFor search.old.sizes g.now used.old.touches }
+    requires room { HasRoomFor exchange.old.sizes g.now used.old.touches }
     requires thawed { IsThawed pairs.old }
     requires firsts { length firsts.old ≡ g.now.vertices }
     requires lowest { length lowest.old ≡ g.now.vertices }
     requires queue { length queue.old ≡ g.now.vertices }
-    ensures closed { HasClosedSet pairs.new g.now used.old.touches (has_flag search.new.reached) }
+    ensures closed { HasClosedSet pairs.new g.now used.old.touches (has_flag exchange.new.reached) }
     ensures thawed { IsThawed pairs.new }
     ensures firsts { AreFirsts g.now.vertices pairs.new.forest.held firsts.new }
     ensures gives_up { GivesUp g.now.ends used.old.touches pairs.new
@@ -46,10 +46,10 @@ fn round<L: Ledger>(
     } }
     ensures some { result ≡ list_any (straddles g.now.ends (noted lowest.new)) used.old.touches }
     ensures same_room { HasRoomOf pairs.old pairs.new }
-    ensures same_sizes { search.new.sizes ≡ search.old.sizes }
+    ensures same_sizes { exchange.new.sizes ≡ exchange.old.sizes }
 {
     let _ = g.vertices();
-    let _ = lengthen(g, used, pairs, u32::MAX, search, steps);
+    let _ = lengthen(g, used, pairs, u32::MAX, exchange, steps);
     name_pieces(pairs.forest(), firsts);
     discard(g, used, pairs, firsts, lowest, queue)
 }
@@ -60,7 +60,7 @@ fn settle<L: Ledger>(
     g: &Graph,
     used: &mut Meters,
     pairs: &mut Assignment,
-    search: &mut Work,
+    exchange: &mut Work,
     firsts: &mut [u32],
     lowest: &mut [u32],
     queue: &mut [u32],
@@ -68,7 +68,7 @@ fn settle<L: Ledger>(
 )
     requires stands { StandsOver pairs.old g.now used.old.touches }
     requires in_range { AreInRange g.now used.old.touches }
-    requires room { HasRoomFor search.old.sizes g.now used.old.touches }
+    requires room { HasRoomFor exchange.old.sizes g.now used.old.touches }
     requires fits { g.now.vertices ≤ pairs.old.forest.most_vertices }
     requires thawed { IsThawed pairs.old }
     requires firsts { length firsts.old ≡ g.now.vertices }
@@ -79,9 +79,9 @@ fn settle<L: Ledger>(
     ensures positions { length pairs.new.forest.held ≡ length g.now.ends }
     ensures same_most { used.new.most ≡ used.old.most }
     ensures same_room { HasRoomOf pairs.old pairs.new }
-    ensures same_sizes { search.new.sizes ≡ search.old.sizes }
+    ensures same_sizes { exchange.new.sizes ≡ exchange.old.sizes }
 {
-    while round(g, used, pairs, search, firsts, lowest, queue, steps) {
+    while round(g, used, pairs, exchange, firsts, lowest, queue, steps) {
         pairs.retain_touching(g, used);
     }
 }
@@ -114,7 +114,7 @@ pub(crate) fn find_firsts<L: Ledger>(
     g: &Graph,
     used: &mut Meters,
     pairs: &mut Assignment,
-    search: &mut Work,
+    exchange: &mut Work,
     firsts: &mut [u32],
     lowest: &mut [u32],
     queue: &mut [u32],
@@ -122,7 +122,7 @@ pub(crate) fn find_firsts<L: Ledger>(
 )
     requires stands { StandsOver pairs.old g.now used.old.touches }
     requires in_range { AreInRange g.now used.old.touches }
-    requires room { HasRoomFor search.old.sizes g.now used.old.touches }
+    requires room { HasRoomFor exchange.old.sizes g.now used.old.touches }
     requires fits { g.now.vertices ≤ pairs.old.forest.most_vertices }
     requires thawed { IsThawed pairs.old }
     requires firsts { g.now.vertices ≤ length firsts.old }
@@ -133,14 +133,14 @@ pub(crate) fn find_firsts<L: Ledger>(
     ensures positions { length pairs.new.forest.held ≡ length g.now.ends }
     ensures same_most { used.new.most ≡ used.old.most }
     ensures same_room { HasRoomOf pairs.old pairs.new }
-    ensures same_sizes { search.new.sizes ≡ search.old.sizes }
+    ensures same_sizes { exchange.new.sizes ≡ exchange.old.sizes }
 {
     let n = g.vertices() as usize;
     settle(
         g,
         used,
         pairs,
-        search,
+        exchange,
         &mut firsts[..n],
         &mut lowest[..n],
         &mut queue[..n],

@@ -29,7 +29,7 @@ pub struct IslandWork {
     used: Meters,
     // the pairs of these meters, and what finds them
     pairs: Assignment,
-    search: Work,
+    exchange: Work,
 }
 
 impl Model for IslandWork {
@@ -38,7 +38,7 @@ impl Model for IslandWork {
 
     ghost Value = { IslandWork };
 
-    ghost view = { λ w. record { firsts = take w.vertices w.firsts.items; sizes = w.search.sizes } };
+    ghost view = { λ w. record { firsts = take w.vertices w.firsts.items; sizes = w.exchange.sizes } };
 
     ghost invariant = { λ w. record {
       found : w.vertices ≤ length w.firsts.items;
@@ -46,11 +46,11 @@ impl Model for IslandWork {
       positions : w.positions ≡ length w.pairs.forest.held;
       lowest : length w.lowest.items ≡ length w.firsts.items;
       queue : length w.queue.items ≡ length w.firsts.items;
-      used : w.used.most ≡ w.search.sizes.meters;
-      pair_meters : w.pairs.most_meters ≡ w.search.sizes.meters;
-      pair_branches : w.pairs.forest.most_branches ≡ w.search.sizes.branches;
+      used : w.used.most ≡ w.exchange.sizes.meters;
+      pair_meters : w.pairs.most_meters ≡ w.exchange.sizes.meters;
+      pair_branches : w.pairs.forest.most_branches ≡ w.exchange.sizes.branches;
       pair_vertices : w.pairs.forest.most_vertices ≡ length w.firsts.items;
-      all_vertices : w.search.sizes.vertices ≡ length w.firsts.items;
+      all_vertices : w.exchange.sizes.vertices ≡ length w.firsts.items;
     } };
 }
 
@@ -66,7 +66,7 @@ impl Drop for IslandWork {
             queue: _,
             used: _,
             pairs: _,
-            search: _,
+            exchange: _,
         } = self;
     }
 }
@@ -93,7 +93,7 @@ impl IslandWork {
             queue: vec![in alloc; 0; most_vertices as usize]?,
             used: Meters::make(alloc, most_meters)?,
             pairs: Assignment::make(alloc, most_meters, most_branches, most_vertices)?,
-            search: Work::make(alloc, most_meters, most_branches, most_vertices)?,
+            exchange: Work::make(alloc, most_meters, most_branches, most_vertices)?,
         })
     }
 
@@ -118,7 +118,7 @@ pub fn find_islands<L: Ledger>(g: &Graph, ms: &Meters, work: &mut IslandWork, st
         g,
         &mut work.used,
         &mut work.pairs,
-        &mut work.search,
+        &mut work.exchange,
         &mut work.firsts,
         &mut work.lowest,
         &mut work.queue,

@@ -63,27 +63,27 @@ module _ (line : List ℕ) (is : closes line ≡ true) where
   cut = cut_of line
 
   -- the line up to its line feed, without a carriage return, and without a comment
-  abbrev pub fed : List ℕ
-  fed = before_first is_feed line
+  abbrev pub before_feed : List ℕ
+  before_feed = before_first is_feed line
 
   in_content : list_any is_closing (content line) ≡ true
   in_content = any_in_front is_closing (position_or_len is_percent (content line)) (content line) is
 
-  in_fed : list_any is_closing fed ≡ true
-  in_fed = let s = strip_front fed in any_in_front is_closing s.0 fed (ap (list_any is_closing) (sym s.1) ∙ in_content)
+  in_before_feed : list_any is_closing before_feed ≡ true
+  in_before_feed = let s = strip_front before_feed in any_in_front is_closing s.0 before_feed (ap (list_any is_closing) (sym s.1) ∙ in_content)
 
   cut-content : cut ≡ before_first is_closing (content line)
   cut-content =
-      first_in_front is_closing (position_or_len is_feed line) line in_fed
-      ∙ (let s = strip_front fed in first_in_front is_closing s.0 fed (ap (list_any is_closing) (sym s.1) ∙ in_content) ∙ ap (before_first is_closing) (sym s.1))
+      first_in_front is_closing (position_or_len is_feed line) line in_before_feed
+      ∙ (let s = strip_front before_feed in first_in_front is_closing s.0 before_feed (ap (list_any is_closing) (sym s.1) ∙ in_content) ∙ ap (before_first is_closing) (sym s.1))
 
   cut-code : cut ≡ before_first is_closing (without_comment (content line))
   cut-code = cut-content ∙ first_in_front is_closing (position_or_len is_percent (content line)) (content line) is
 
   pub no_feed_in_cut : list_any is_feed cut ≡ false
   no_feed_in_cut =
-      ap (list_any is_feed) (first_in_front is_closing (position_or_len is_feed line) line in_fed)
-      ∙ none_in_front is_feed (position_or_len is_closing fed) fed (none_before is_feed line)
+      ap (list_any is_feed) (first_in_front is_closing (position_or_len is_feed line) line in_before_feed)
+      ∙ none_in_front is_feed (position_or_len is_closing before_feed) before_feed (none_before is_feed line)
 
   no_comment_in_cut : list_any is_percent cut ≡ false
   no_comment_in_cut =

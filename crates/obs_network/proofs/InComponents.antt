@@ -67,7 +67,7 @@ pub record IsPlaced (t : Tables) (x : Ends) (c : ℕ) : Type 0 where
   pub at_b : case_vertex_component t x.b ≡ c
   pub of_a : is_vertex_of t c x.a ≡ true
   pub of_b : is_vertex_of t c x.b ≡ true
-  pub fed : is_energised_component t c ≡ true
+  pub energised : is_energised_component t c ≡ true
   pub few : c < case_component_count t
 
 row_placed : (t : Tables) → IsValid t → (e : ℕ) (x : Ends) → get_or (case_rows t) e None ≡ Some x → IsPlaced t x (get_or (case_components t) x.a 0)
@@ -83,7 +83,7 @@ row_placed t v e x h =
       at_b = case_vertex_component-bus t x.b low ∙ sym b.2;
       of_a = is_vertex_of-bus t c x.a b.0 ∙ eq-eqb c c refl;
       of_b = is_vertex_of-bus t c x.b low ∙ eq-eqb (get_or (case_components t) x.b 0) c (sym b.2);
-      fed = live.1;
+      energised = live.1;
       few = case_component-below t x.a b.0;
     }
 
@@ -101,7 +101,7 @@ angle_placed t v m x a =
       at_b = ap (case_vertex_component t) end ∙ case_vertex_component-reference t c;
       of_a = is_vertex_of-bus t c x.a a.low ∙ eq-eqb c c refl;
       of_b = ap (is_vertex_of t c) end ∙ is_vertex_of-reference t c c ∙ tests;
-      fed = takes.0;
+      energised = takes.0;
       few = few;
     }
 
@@ -143,7 +143,7 @@ present_placed t v e s = placed_at t v e (get_or (case_branches t) e None) refl 
 
 -- it is of an energised component
 pub present_energised : (t : Tables) → IsValid t → (e : ℕ) → IsSome (slice_index_or (case_branches t) e None) → is_energised_component t (branch_component t e) ≡ true
-present_energised t v e s = (present_placed t v e s).fed
+present_energised t v e s = (present_placed t v e s).energised
 
 pub present_below : (t : Tables) → IsValid t → (e : ℕ) → IsSome (slice_index_or (case_branches t) e None) → ((ends_at (case_branches t) e).0 < case_vertex_count t) × ((ends_at (case_branches t) e).1 < case_vertex_count t)
 present_below t v e s =

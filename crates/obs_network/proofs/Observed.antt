@@ -96,7 +96,7 @@ module _ (t : Tables) (v : IsValid t) where
   unfolding need_at
   few_at touches M A a c l =
       elim (cases_Bool (is_energised_component t c)) [
-        | inl fed ↦ rw fed (few_in touches M A a c l)
+        | inl energised ↦ rw energised (few_in touches M A a c l)
         | inr dead ↦
             let none = nothing_in (pairs_in t c A)
             (λ p i.
@@ -120,11 +120,11 @@ module _ (t : Tables) (v : IsValid t) where
   -- an assignment of the needed number of pairs has in each energised component what it needs
   pub observed : (A : List Pair) → IsAssignmentAt (case_branches t) (case_meters t) (case_live_meters t) A → length A ≡ case_needed t → IsObservableCase t
   unfolding case_needed need_at
-  observed A a long c l fed =
+  observed A a long c l energised =
       let touches = case_meters t in
       let M = case_live_meters t in
       let same = sum_below-same (λ k. length (pairs_in t k A)) need_at (case_component_count t) (few_at touches M A a) (sym (split_pairs touches M A a) ∙ long) c l in
-      record { pairs = A; assigns = a; enough = same ∙ cond-true (is_energised_component t c) (case_need t c) 0 fed }
+      record { pairs = A; assigns = a; enough = same ∙ cond-true (is_energised_component t c) (case_need t c) 0 energised }
 
   -- pairs of the components below k, as many as these need
   record Built (k : ℕ) : Type 0 where
@@ -135,7 +135,7 @@ module _ (t : Tables) (v : IsValid t) where
 
   join : (k : ℕ) → is_energised_component t k ≡ true → IsObservable t k → Built k → Built (suc k)
   unfolding need_at
-  join k fed o b =
+  join k energised o b =
       let n = case_vertex_count t in
       let ends = case_branches t in
       let touches = case_meters t in
@@ -170,7 +170,7 @@ module _ (t : Tables) (v : IsValid t) where
           independent = subst (λ (xs : List ℕ). IsIndependent (graph_matroid n ends) xs) (sym (map-append (λ (p : Pair). p.1) P b.built)) all;
         });
         below = λ p i. elim (cases p i) [ inl h ↦ omega (arith, kind p h) | inr h ↦ let low = b.below p h in omega (arith, low) ];
-        long = length-append P b.built ∙ omega (arith, o.enough, b.long, cond-true (is_energised_component t k) (case_need t k) 0 fed);
+        long = length-append P b.built ∙ omega (arith, o.enough, b.long, cond-true (is_energised_component t k) (case_need t k) 0 energised);
       }
 
   skip : (k : ℕ) → is_energised_component t k ≡ false → Built k → Built (suc k)
@@ -196,7 +196,7 @@ module _ (t : Tables) (v : IsValid t) where
   }
   build o (suc k) l =
       let before = build o k (omega arith) in
-      elim (cases_Bool (is_energised_component t k)) [ inl fed ↦ join k fed (o k (omega arith) fed) before | inr dead ↦ skip k dead before ]
+      elim (cases_Bool (is_energised_component t k)) [ inl energised ↦ join k energised (o k (omega arith) energised) before | inr dead ↦ skip k dead before ]
 
   pub rho_from_observed : IsObservableCase t → IsRhoAt (case_branches t) (case_meters t) (case_live_meters t) (case_needed t)
   unfolding case_needed need_at

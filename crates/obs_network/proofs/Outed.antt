@@ -170,13 +170,13 @@ module _ (t : Tables) (v : IsValid t) (at : ℕ) where
   unfolding case_rows
   row_of k None there x is = absurd (none_some x is)
   row_of k (Some y) there x is =
-      let fed = cond_some (slice_index_or (case_energised out) (slice_index (case_components out) y.a) false) y x is in
+      let energised = cond_some (slice_index_or (case_energised out) (slice_index (case_components out) y.a) false) y x is in
       let was = live_before k y there in
       let low = branch_at (case_bus_count t) (case_live t) k y (case_live-branches t v) (some_is_in (case_live t) k y was) was in
       at_map (if_energised (case_components t) (case_energised t)) refl (case_live t) k
       ∙ ap (if_energised (case_components t) (case_energised t)) was
-      ∙ cond-true (slice_index_or (case_energised t) (slice_index (case_components t) y.a) false) (Some y) None (energised_before y.a low.0 fed.0)
-      ∙ ap Some fed.1
+      ∙ cond-true (slice_index_or (case_energised t) (slice_index (case_components t) y.a) false) (Some y) None (energised_before y.a low.0 energised.0)
+      ∙ ap Some energised.1
 
   pub row_before : (k : ℕ) (x : Ends) → get_or (case_rows out) k None ≡ Some x → get_or (case_rows t) k None ≡ Some x
   unfolding case_rows

@@ -31,10 +31,10 @@ live_is buses row x is =
 kept_is : (components : List ℕ) (energised : List Bool) (o : Option Ends) (x : Ends) → if_energised components energised o ≡ Some x → o ≡ Some x
 kept_is components energised None x is = absurd (none_some x is)
 kept_is components energised (Some e) x is =
-    let fed = slice_index_or energised (slice_index components e.a) false in
-    elim (cases_Bool fed) [
-      | inl t ↦ sym (cond-true fed (Some e) None t) ∙ is
-      | inr f ↦ absurd (none_some x (sym (cond-false fed (Some e) None f) ∙ is))
+    let on = slice_index_or energised (slice_index components e.a) false in
+    elim (cases_Bool on) [
+      | inl t ↦ sym (cond-true on (Some e) None t) ∙ is
+      | inr f ↦ absurd (none_some x (sym (cond-false on (Some e) None f) ∙ is))
     ]
 
 -- the ends of a present branch are the buses of its row's nodes

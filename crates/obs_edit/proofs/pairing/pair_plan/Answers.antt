@@ -14,7 +14,7 @@ pair_placed-requires-clause-in_range g c =
 pub pair_placed-requires-clause-room : goal.pair_placed-requires-clause-room
 pair_placed-requires-clause-room g c =
     let items = planned_items c.args.meters c.chosen.result.now in
-    subst (HasRoomFor c.args.search.now.sizes c.args.g.now) (sym c.list_plan.ensures.planned) (room-listed c.args.offered.now.touches items c.args.g.now c.args.search.now.sizes c.requires.room)
+    subst (HasRoomFor c.args.exchange.now.sizes c.args.g.now) (sym c.list_plan.ensures.planned) (room-listed c.args.offered.now.touches items c.args.g.now c.args.exchange.now.sizes c.requires.room)
 
 pub pair_placed-requires-clause-fits : goal.pair_placed-requires-clause-fits
 pair_placed-requires-clause-fits g c =

@@ -22,30 +22,30 @@ pub returns-then-trees-clause-appends : goal.returns-then-trees-clause-appends
 returns-then-trees-clause-appends g c =
     let t = c.args.session.now.tables in
     let v : IsValid t = subst (λ (x : Tables). IsValid x) c.present.ensures.case c.nodes-nodes.ensures.valid in
-    let fed : is_energised_component t c.args.c ≡ true = sym (energised_in c.network.result.now t c.args.c c.network.ensures.network) ∙ (sym c.energised.ensures.energised ∙ c.if-not-energised.false) in
-    let is = claim_observable c.args.trees c.args.bounds t v c.args.c c.requires.component fed (c.observable.ensures.observable.0 c.if-observable.true) in
+    let energised : is_energised_component t c.args.c ≡ true = sym (energised_in c.network.result.now t c.args.c c.network.ensures.network) ∙ (sym c.energised.ensures.energised ∙ c.if-not-energised.false) in
+    let is = claim_observable c.args.trees c.args.bounds t v c.args.c c.requires.component energised (c.observable.ensures.observable.0 c.if-observable.true) in
     appends_as (sym (is ∙ ap (λ (b : Bool). text_if b (tree_claim t c.args.c)) c.if-trees.true)) c.print_component_tree.ensures.appends
 
 pub returns-then-bounds-clause-appends : goal.returns-then-bounds-clause-appends
 returns-then-bounds-clause-appends g c =
     let t = c.args.session.now.tables in
     let v : IsValid t = subst (λ (x : Tables). IsValid x) c.present.ensures.case c.nodes-nodes.ensures.valid in
-    let fed : is_energised_component t c.args.c ≡ true = sym (energised_in c.network.result.now t c.args.c c.network.ensures.network) ∙ (sym c.energised.ensures.energised ∙ c.if-not-energised.false) in
-    let is = claim_short c.args.trees c.args.bounds t v c.args.c c.requires.component fed (λ o. absurd (cc (c.observable.ensures.observable.1 o, c.if-observable.false))) in
+    let energised : is_energised_component t c.args.c ≡ true = sym (energised_in c.network.result.now t c.args.c c.network.ensures.network) ∙ (sym c.energised.ensures.energised ∙ c.if-not-energised.false) in
+    let is = claim_short c.args.trees c.args.bounds t v c.args.c c.requires.component energised (λ o. absurd (cc (c.observable.ensures.observable.1 o, c.if-observable.false))) in
     appends_as (sym (is ∙ ap (λ (b : Bool). text_if b (bound_claim t c.args.c)) c.if-bounds.true)) c.print_component_bound.ensures.appends
 
 pub returns-else-trees-clause-appends : goal.returns-else-trees-clause-appends
 returns-else-trees-clause-appends g c =
     let t = c.args.session.now.tables in
     let v : IsValid t = subst (λ (x : Tables). IsValid x) c.present.ensures.case c.nodes-nodes.ensures.valid in
-    let fed : is_energised_component t c.args.c ≡ true = sym (energised_in c.network.result.now t c.args.c c.network.ensures.network) ∙ (sym c.energised.ensures.energised ∙ c.if-not-energised.false) in
-    let is = claim_observable c.args.trees c.args.bounds t v c.args.c c.requires.component fed (c.observable.ensures.observable.0 c.if-observable.true) in
+    let energised : is_energised_component t c.args.c ≡ true = sym (energised_in c.network.result.now t c.args.c c.network.ensures.network) ∙ (sym c.energised.ensures.energised ∙ c.if-not-energised.false) in
+    let is = claim_observable c.args.trees c.args.bounds t v c.args.c c.requires.component energised (c.observable.ensures.observable.0 c.if-observable.true) in
     appends_as (sym (is ∙ ap (λ (b : Bool). text_if b (tree_claim t c.args.c)) c.if-trees.false)) (appends_nothing _ _ _ _)
 
 pub returns-else-bounds-clause-appends : goal.returns-else-bounds-clause-appends
 returns-else-bounds-clause-appends g c =
     let t = c.args.session.now.tables in
     let v : IsValid t = subst (λ (x : Tables). IsValid x) c.present.ensures.case c.nodes-nodes.ensures.valid in
-    let fed : is_energised_component t c.args.c ≡ true = sym (energised_in c.network.result.now t c.args.c c.network.ensures.network) ∙ (sym c.energised.ensures.energised ∙ c.if-not-energised.false) in
-    let is = claim_short c.args.trees c.args.bounds t v c.args.c c.requires.component fed (λ o. absurd (cc (c.observable.ensures.observable.1 o, c.if-observable.false))) in
+    let energised : is_energised_component t c.args.c ≡ true = sym (energised_in c.network.result.now t c.args.c c.network.ensures.network) ∙ (sym c.energised.ensures.energised ∙ c.if-not-energised.false) in
+    let is = claim_short c.args.trees c.args.bounds t v c.args.c c.requires.component energised (λ o. absurd (cc (c.observable.ensures.observable.1 o, c.if-observable.false))) in
     appends_as (sym (is ∙ ap (λ (b : Bool). text_if b (bound_claim t c.args.c)) c.if-bounds.false)) (appends_nothing _ _ _ _)

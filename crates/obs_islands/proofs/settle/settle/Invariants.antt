@@ -5,7 +5,7 @@ use Rattle.obs_islands.proofs.settle.settle.Given as goal
 
 abbrev pub invariant-loop-pairs : goal.invariant-loop-pairs
 invariant-loop-pairs g l = record {
-  settling : IsSettling l.g l.fn.used.touches l.used.touches l.fn.pairs l.fn.search l.pairs l.search;
+  settling : IsSettling l.g l.fn.used.touches l.used.touches l.fn.pairs l.fn.exchange l.pairs l.exchange;
   most : l.used.most ≡ l.fn.used.most;
 }
 

@@ -28,16 +28,16 @@ room : (c : After-retain) → HasRoomOf (seen c.self.inside.kept c.self.inside.f
 room c = let ins = c.self.inside in HasRoomOf-with ins.kept c.retain.new.self c.args.g.now _ ins.frozen.items (replicate (length ins.frozen.items) false) ins.turns ins.turns c.retain.ensures.held
 
 -- the branches of still pairs, as the vector has them
-candidates_back : (c : After-retain) → length (take c.self.inside.candidates.len (c.retain.new.candidates ++ drop (length c.retain.new.candidates) c.self.inside.candidates.items)) ≡ length c.self.inside.candidates.items
-candidates_back c =
-    let candidates = c.self.inside.candidates in
-    let new = c.retain.new.candidates in
-    ap (λ (l : List (Option Ends)). length l) (lent_back candidates.len new candidates.items c.retain.auto.candidates c.deref_mut-2.ensures.value candidates.ok.0) ∙ lent_len new c.retain.auto.candidates c.deref_mut-2.ensures.value
+remaining_back : (c : After-retain) → length (take c.self.inside.remaining.len (c.retain.new.remaining ++ drop (length c.retain.new.remaining) c.self.inside.remaining.items)) ≡ length c.self.inside.remaining.items
+remaining_back c =
+    let remaining = c.self.inside.remaining in
+    let new = c.retain.new.remaining in
+    ap (λ (l : List (Option Ends)). length l) (lent_back remaining.len new remaining.items c.retain.auto.remaining c.deref_mut-2.ensures.value remaining.ok.0) ∙ lent_len new c.retain.auto.remaining c.deref_mut-2.ensures.value
 
 pub invariant_of-self : goal.invariant_of-self
 invariant_of-self c =
     let a = (goal.at.invariant_of-self c).After-retain in
-    rw (flags_back a) (HasArrays-same _ _ _ _ _ _ _ _ _ _ c.self.invariant (made a).whole (room a) (length-replicate (length c.self.inside.frozen.items) false) refl (candidates_back a) c.retain.ensures.room)
+    rw (flags_back a) (HasArrays-same _ _ _ _ _ _ _ _ _ _ c.self.invariant (made a).whole (room a) (length-replicate (length c.self.inside.frozen.items) false) refl (remaining_back a) c.retain.ensures.room)
 
 pub returns-clause-retained : goal.returns-clause-retained
 returns-clause-retained c = (made (goal.at.returns-clause-retained c).After-retain).retained
