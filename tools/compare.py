@@ -18,13 +18,16 @@ import model_claims
 import model_reads
 from cases import FILES, all_bounds, bytes_of, cdf_of, csv_of, items_of, matpower_of, random_case, records_of, session_lines
 from cases import spoil_lines, spoil_records, spoilt_claims, with_marks
+from model import Network
+from model_studies import STUDIES
 from model_text import Text, line, session, trial
 from model_words import have_form, usage
 from runs import run_cases
 
 MOST_BYTES = 16777216
-COMMANDS = ["topology", "report", "place", "place", "session", "session", "verify", "verify", "verify"]
-ODD_WORDS = ["", "with", "tables", "cdf", "matpower", "report", "place", "session", "verify", "trial", "Report", "--help", "0", "101"]
+COMMANDS = ["topology", "report", "place", "place", "session", "session", "verify", "verify", "verify", *STUDIES]
+ODD_WORDS = ["", "with", "tables", "cdf", "matpower", "report", "place", "session", "verify", "trial", "Report", "--help", "0", "101",
+             "outages", "pairs", "stations"]
 
 
 def header(part):
@@ -97,6 +100,8 @@ def compare_command(r, number, runs, form, read):
         text, status = model_claims.verify(case, claims)
     elif command == "topology":
         text, status = Text(case).topology(), 0
+    elif command in STUDIES:
+        text, status = STUDIES[command](case, Network)
     else:
         text, status = Text(case).ask(command), Text(case).status(command)
     runs.compare(number, f"{command} {form[0]}", words, text, status, lines)
@@ -129,6 +134,7 @@ def compare_trial(r, number, runs):
 def compare_words(r, number, runs, form):
     """Words with a word less, twice or another, which have no form: the usage line and status 2."""
     heads = [["topology", *form[1:3]], ["report", *form], ["place", *form, "c"], ["session", *form, "with", "c"]]
+    heads += [[study, *form] for study in STUDIES]
     words = r.choice([*heads, ["verify", *form, "with", "c", "claims"], ["trial", "3", "1"]])
     at, what = r.randrange(len(words)), r.randrange(5)
     other = [[], [words[at]] * 2, [r.choice(ODD_WORDS)], [words[at], r.choice(ODD_WORDS)], [b"\xff\xfe"]][what]

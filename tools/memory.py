@@ -27,6 +27,7 @@ import middle
 import relations
 import shapes
 from cases import records_of
+from model_studies import STUDIES
 from runs import Runs
 
 TABLES = ["nodes.csv", "switches.csv", "branches.csv", "meters.csv"]
@@ -40,6 +41,7 @@ COMMANDS = [
     ("case9", ["report", "matpower", "case.m", "meters.csv"], []),
     ("short", ["place", "tables", *TABLES, "candidates.csv"], []),
     ("angles", ["report", "tables", *TABLES], []),
+    *(("angles", [study, "tables", *TABLES], []) for study in STUDIES),
     ("own", ["session", "tables", *TABLES], ["trip North-West", "restore North-West", "lose West P", *EVERY_ASK]),
     ("short", ["session", "tables", *TABLES, "with", "candidates.csv"], EVERY_ASK),
     ("ieee14", ["verify", "tables", *TABLES, "trees.txt"], []),

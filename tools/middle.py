@@ -4,17 +4,19 @@
 Usage: tools/middle.py PROGRAM [FIRST [COUNT [SECONDS]]]
 
 The words are those of tools/compare.py. The model is that of tools/model_middle.py, which finds assignments by matroid intersection and
-sees bounds on the spot. Reports, placements and sessions are to be as it says. A certificate of which one word was changed is to be
-answered as it says; where it is valid still, what it claims is to be true by the model. What tools/relations.py sees is seen here too,
-and some small cases are given to both models.
+sees bounds on the spot. Reports, placements, sessions and studies of losses are to be as it says. A certificate of which one word was
+changed is to be answered as it says; where it is valid still, what it claims is to be true by the model. What tools/relations.py sees is
+seen here too, a study is held against a session that loses the same, and some small cases are given to both models.
 """
 import random
 
 import model_claims
 import relations
+import relations_studies
 from cases import bytes_of, random_case, records_of
-from model import Case
+from model import Case, Network
 from model_middle import Middle
+from model_studies import STUDIES
 from model_text import ASKS, EDITS, Text, session
 from runs import run_cases
 
@@ -138,6 +140,7 @@ def compare_relations(r, number, runs, tables):
         lambda: relations.hold_session(number, runs, tables, r, r.choice([5, 40])),
         lambda: relations.hold_plan(number, runs, tables, r, 5),
         lambda: relations.hold_answers(number, runs, tables),
+        *(lambda hold=relations_studies.HOLD[study]: hold(number, runs, tables, r, 5) for study in STUDIES),
     ])
     relation()
 
@@ -147,11 +150,13 @@ def compare_models(r, number, runs):
     case = random_case(r)
     for what in ("report", "place"):
         runs.alike(number, f"both models: {what}", [what], b"", Text(case, Middle).ask(what), Text(case).ask(what))
+    for study, answered_of in STUDIES.items():
+        runs.alike(number, f"both models: {study}", [study], b"", answered_of(case, Middle), answered_of(case, Network))
 
 
 def compare_case(number, runs):
     r = random.Random(number)
-    case, kind = random_middle(r), r.randrange(20)
+    case, kind = random_middle(r), r.randrange(20 + 2 * len(STUDIES))
     if kind == 0:
         compare_models(r, number, runs)
         return
@@ -169,6 +174,9 @@ def compare_case(number, runs):
         text = Text(case, Middle)
         runs.compare(number, "place", ["place", *form, offered], text.ask("place"), text.status("place"))
         runs.count["a plan" if text.status("place") == 0 else "a shortfall"] += 1
+    elif kind >= 20:
+        study = list(STUDIES)[(kind - 20) // 2]
+        runs.compare(number, study, [study, *form], *STUDIES[study](case, Middle))
     elif kind < 15:
         given = session_lines(r, case)
         runs.compare(number, "session", ["session", *form, "with", offered], *session(case, True, given, Middle), given)

@@ -1,6 +1,8 @@
 """Which words have a form, by the rules of docs/FORMATS.md, and the line that answers others."""
 import os
 
+from model_studies import STUDIES
+
 FILES_OF = {"tables": 4, "cdf": 2, "matpower": 2}
 
 
@@ -28,6 +30,7 @@ def have_form(words):
         return False
     is_with = more[:1] == ["with"]
     return {
+        **{study: len(more) == 0 for study in STUDIES},
         "report": len(more) == 0,
         "place": len(more) == 1,
         "session": len(more) == 0 or (len(more) == 2 and is_with),

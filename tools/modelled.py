@@ -14,6 +14,7 @@ import model_claims
 import model_reads
 from answer import records_of
 from model_middle import Middle
+from model_studies import STUDIES
 from model_text import Text, line, session, trial
 from model_words import have_form, usage
 
@@ -74,6 +75,8 @@ def answered(words):
         given = sys.stdin.buffer.read(MOST_BYTES + 1)
         found = session(case, words.offered, given[:MOST_BYTES], Middle)
         return (found[0], 7) if len(given) > MOST_BYTES else found
+    if words.command in STUDIES:
+        return STUDIES[words.command](case, Middle)
     text = Text(case, Middle)
     if words.command == "topology":
         return text.topology(), 0

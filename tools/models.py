@@ -4,8 +4,9 @@
 Usage: tools/models.py [FIRST [COUNT]]
 
 Each number from FIRST (0) on makes one case, for COUNT (1000) cases. The model that tries everything (tools/model.py) and the one by
-matroid intersection (tools/model_middle.py) are to give one text for a report and a placement, for a session with edits and asks, and
-for a certificate of which some lines are spoilt. It says how many cases there were of each kind, and stops at the first that differs.
+matroid intersection (tools/model_middle.py) are to give one text for a report and a placement, for a session with edits and asks, for a
+certificate of which some lines are spoilt, and for each study of losses. It says how many cases there were of each kind, and stops at the
+first that differs.
 """
 import collections
 import random
@@ -15,6 +16,7 @@ import model_claims
 from cases import all_bounds, bytes_of, random_case, session_lines, spoilt_claims
 from model import Network
 from model_middle import Middle
+from model_studies import STUDIES
 from model_text import Text, session
 
 
@@ -38,6 +40,7 @@ def answers(r, case, network_of):
         "status": (text.status(), text.status("place")),
         "session": (lines, session(case, True, lines, network_of)),
         "verify": (claims, model_claims.verify(case, claims, network_of)),
+        **{study: answered(case, network_of) for study, answered in STUDIES.items()},
     }
 
 

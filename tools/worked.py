@@ -16,6 +16,7 @@ import model_reads
 from answer import records_of
 from model import Network
 from model_middle import Middle
+from model_studies import STUDIES
 from model_text import Text, session
 
 HERE = os.path.dirname(os.path.abspath(__file__))
@@ -59,6 +60,8 @@ def by_model(network_of, contents, command, given, offered):
         return session(case, offered, given, network_of)
     if command == "verify":
         return model_claims.verify(case, given, network_of)
+    if command in STUDIES:
+        return STUDIES[command](case, network_of)
     text = Text(case, network_of)
     return (text.topology(), 0) if command == "topology" else (text.ask(command), text.status(command))
 

@@ -269,6 +269,40 @@ class Session(Lines):
         return _lines_of(self.steps)
 
 
+@dataclasses.dataclass(frozen=True)
+class Outage(Lines):
+    """The case with one branch out of service."""
+
+    branch: str
+    rank: int  # the most pairs that the meters can have then
+    needed: int  # pairs that the energised parts need then: fewer where buses go dead
+    verdict: str  # observable or short
+
+    @property
+    def missing(self):
+        """How many pairs are missing."""
+        return self.needed - self.rank
+
+    def lines(self):
+        return [["outage", self.branch, self.rank, self.needed, self.verdict]]
+
+
+@dataclasses.dataclass(frozen=True)
+class Outages(Lines):
+    """An Outage for each branch in service between two buses of an energised part, in the order of the table."""
+
+    entries: typing.Tuple[Outage, ...]
+    observable: bool  # the case, and each of the outage cases
+
+    @property
+    def short(self):
+        """The branches of which each outage leaves a case that is short."""
+        return tuple(entry.branch for entry in self.entries if entry.verdict == "short")
+
+    def lines(self):
+        return _lines_of(self.entries) + [["end"]]
+
+
 # The parts of a report that each ask of a session has.
 ASKS = {
     "status": ("counts",),
@@ -363,6 +397,11 @@ class Reading:
         found = Topology(bus_of, int(self.line("count", 2)[1]))
         self.line("end", 0)
         return found
+
+    def outages(self, observable):
+        entries = [Outage(name, int(rank), int(needed), word) for name, rank, needed, word in self.all("outage", 4)]
+        self.line("end", 0)
+        return Outages(tuple(entries), observable)
 
     def verified(self):
         if self.word() == "valid":

@@ -40,6 +40,11 @@ def verify(case, certificate, candidates=None):
     return _ask(["verify", *_form(case), *_with(candidates), claims])
 
 
+def outages(case):
+    """Outages: for each branch what the meters are good for when it is out of service."""
+    return _ask(["outages", *_form(case)])
+
+
 def topology(nodes, switches):
     """A Topology: for each node the first node of its bus. The two are tables as in `tables`."""
     return _ask(["topology", table("nodes", nodes), table("switches", switches)])
@@ -70,6 +75,9 @@ def read(command, status, text, given=b""):
     if command == "session":
         answered = [line.decode("utf-8", "surrogateescape") for line in _answered(given)]
         return reading.end(reading.session(answered, status == library.DONE))
+    studies = {"outages": reading.outages}
+    if command in studies:
+        return reading.end(studies[command](status == library.DONE))
     calls = {"report": reading.report, "place": reading.placement, "verify": reading.verified, "topology": reading.topology}
     return reading.end(calls[command]())
 

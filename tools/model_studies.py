@@ -1,0 +1,28 @@
+"""The text of a study of losses, and its status, from the definitions alone.
+
+STUDIES has the commands. One that is left out there has no form for all tools here; the usage line in docs/FORMATS.md is to lack it too.
+"""
+import copy
+
+from model import firsts
+from model_text import line
+
+
+def verdict_word(rank, needed):
+    return "observable" if rank == needed else "short"
+
+
+def outages(case, network_of):
+    """Each live branch of an energised component is out of service once: the rank and the needed number of that case."""
+    n, text, is_good = network_of(case), "", True
+    for e in n.live_branches:
+        out = copy.deepcopy(case)
+        out.branches[e][3] = False
+        after = network_of(out)
+        rank = after.rho(after.meters)
+        text += line("outage", case.branches[e][0], rank, after.needed, verdict_word(rank, after.needed))
+        is_good = is_good and after.all_observable()
+    return text + "end\n", 0 if is_good and n.all_observable() else 1
+
+
+STUDIES = {"outages": outages}
