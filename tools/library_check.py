@@ -86,6 +86,9 @@ def answer_of(folder, words, given):
     if words[0] == "outages":
         answer = obs.outages(case)
         return str(answer), 0 if answer.observable else 1
+    if words[0] == "pairs":
+        answer = obs.pairs(case)
+        return str(answer), 0 if answer.observable else 1
     answer = obs.verify(case, path(rest[-1]), offered)
     return str(answer), 0 if isinstance(answer, obs.Valid) else 1
 

@@ -112,6 +112,12 @@ class Network:
     def critical(self, items):
         return [m for m in items if self.rho([x for x in items if x != m]) < self.rho(items)]
 
+    def partners(self, m, items):
+        """The items that are critical together with one: neither is critical, and without both the greatest length falls."""
+        redundant = [x for x in items if x not in self.critical(items)]
+        falls = lambda k: self.rho([x for x in items if x not in (m, k)]) < self.rho(items)
+        return [k for k in redundant if m in redundant and k != m and falls(k)]
+
     def bound(self, inside, scope):
         touched = {e for m in inside for e in self.touches[m]}
         return self.rank(touched), len([m for m in scope if m not in inside])

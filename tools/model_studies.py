@@ -25,4 +25,14 @@ def outages(case, network_of):
     return text + "end\n", 0 if is_good and n.all_observable() else 1
 
 
-STUDIES = {"outages": outages}
+def pairs(case, network_of):
+    """Each meter that has partners, with the first of its class: itself and its partners."""
+    n, text = network_of(case), ""
+    for m in n.meters:
+        partners = n.partners(m, n.meters)
+        if partners:
+            text += line("class", case.meters[min(m, *partners)][0], case.meters[m][0])
+    return text + "end\n", 0 if n.all_observable() else 1
+
+
+STUDIES = {"outages": outages, "pairs": pairs}

@@ -15,4 +15,20 @@ def hold_outages(number, runs, tables, r, most):
     runs.alike(number, "outages and a session", ["outages", *form], given, (repr((len(found), answers)).encode(), 0), (wanted, 0))
 
 
-HOLD = {"outages": hold_outages}
+def hold_pairs(number, runs, tables, r, most):
+    """Of some meters the others of the class, and those that become critical in a session that loses the meter."""
+    form, _ = tables.write(runs)
+    class_of = {meter: first for _, first, meter in words_of(answered(runs, number, ["pairs", *form])[0])[:-1]}
+    some = [row[0] for row in r.sample(tables.rows["meters"], min(most, len(tables.rows["meters"]))) if row[-1] == "1"]
+    given = lines_of(["critical", *(line for name in some for line in (f"lose {name}", "critical", f"regain {name}"))])
+    critical = [set()]
+    for word, *rest in words_of(answered(runs, number, ["session", *form], given)[0]):
+        critical[-1].update(rest if word == "critical" else [])
+        critical += [set()] if word == "end" else []
+    found = [{m for m, first in class_of.items() if m != name and first == class_of.get(name)} for name in some]
+    wanted = [after - critical[0] for after in critical[1:-1]]
+    sorted_of = lambda sets: repr(list(map(sorted, sets))).encode()
+    runs.alike(number, "pairs and a session", ["pairs", *form], given, (sorted_of(found), 0), (sorted_of(wanted), 0))
+
+
+HOLD = {"outages": hold_outages, "pairs": hold_pairs}

@@ -8,8 +8,8 @@
     for first, buses in answer.islands.items():
         print(first, buses)
 
-A case is made by `tables`, `cdf` or `matpower`. `report`, `place`, `session`, `verify`, `outages` and `topology` answer as the commands of
-these names, and `run` takes the words of any command. An answer is a small value, and `str` of it is the text that the command prints.
+A case is made by `tables`, `cdf` or `matpower`. `report`, `place`, `session`, `verify`, `outages`, `pairs` and `topology` answer as the
+commands of these names, and `run` takes the words of any command. An answer is a small value, and `str` of it is the text that the command prints.
 What is no answer is an exception: a `Fault` of a file has its part, row, code and name.
 
 A table is a path, or the bytes of a file, or its rows: tuples in the order of the columns (`COLUMNS`), dictionaries by the names of the
@@ -23,14 +23,15 @@ meanwhile. A process that was forked off one with threads mustn't call: of multi
 What is proved is said of the library's one call by crates/obs_c/README.md. This package is not proved: it hands blocks of bytes to that
 call, and reads what is printed.
 """
-from .answers import Bound, Counts, Flaw, Item, Layer, Ok, Outage, Outages, Pair, Plan, Refused, Report, Session, Shortfall, Step, Topology
-from .answers import Tree, Valid
-from .calls import outages, place, report, run, session, topology, verify
+from .answers import Bound, Counts, Flaw, Item, Layer, Ok, Outage, Outages, Pair, Pairs, Plan, Refused, Report, Session, Shortfall, Step
+from .answers import Topology, Tree, Valid
+from .calls import outages, pairs, place, report, run, session, topology, verify
 from .cases import COLUMNS, Case, cdf, matpower, tables
 from .faults import Error, Fault, LibraryMissing, Malformed, NoMemory, NotUnderstood, SessionTooLong
 
 __all__ = [
     "Bound", "COLUMNS", "Case", "Counts", "Error", "Fault", "Flaw", "Item", "Layer", "LibraryMissing", "Malformed", "NoMemory",
-    "NotUnderstood", "Ok", "Outage", "Outages", "Pair", "Plan", "Refused", "Report", "Session", "SessionTooLong", "Shortfall", "Step",
-    "Topology", "Tree", "Valid", "cdf", "matpower", "outages", "place", "report", "run", "session", "tables", "topology", "verify",
+    "NotUnderstood", "Ok", "Outage", "Outages", "Pair", "Pairs", "Plan", "Refused", "Report", "Session", "SessionTooLong", "Shortfall",
+    "Step", "Topology", "Tree", "Valid", "cdf", "matpower", "outages", "pairs", "place", "report", "run", "session", "tables", "topology",
+    "verify",
 ]

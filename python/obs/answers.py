@@ -303,6 +303,25 @@ class Outages(Lines):
         return _lines_of(self.entries) + [["end"]]
 
 
+@dataclasses.dataclass(frozen=True)
+class Pairs(Lines):
+    """The meters that are critical together: of a class one can be lost and the rank stays, of two it falls."""
+
+    class_of: dict  # for each meter that has a partner, in their order, the first meter of its class
+    observable: bool  # the case
+
+    @property
+    def classes(self):
+        """For the first meter of each class the list of its meters."""
+        found = {}
+        for meter, first in self.class_of.items():
+            found.setdefault(first, []).append(meter)
+        return found
+
+    def lines(self):
+        return [["class", first, meter] for meter, first in self.class_of.items()] + [["end"]]
+
+
 # The parts of a report that each ask of a session has.
 ASKS = {
     "status": ("counts",),
@@ -402,6 +421,11 @@ class Reading:
         entries = [Outage(name, int(rank), int(needed), word) for name, rank, needed, word in self.all("outage", 4)]
         self.line("end", 0)
         return Outages(tuple(entries), observable)
+
+    def classes(self, observable):
+        class_of = {meter: first for first, meter in self.all("class", 2)}
+        self.line("end", 0)
+        return Pairs(class_of, observable)
 
     def verified(self):
         if self.word() == "valid":

@@ -45,6 +45,11 @@ def outages(case):
     return _ask(["outages", *_form(case)])
 
 
+def pairs(case):
+    """Pairs: the meters that are critical together, in classes."""
+    return _ask(["pairs", *_form(case)])
+
+
 def topology(nodes, switches):
     """A Topology: for each node the first node of its bus. The two are tables as in `tables`."""
     return _ask(["topology", table("nodes", nodes), table("switches", switches)])
@@ -75,7 +80,7 @@ def read(command, status, text, given=b""):
     if command == "session":
         answered = [line.decode("utf-8", "surrogateescape") for line in _answered(given)]
         return reading.end(reading.session(answered, status == library.DONE))
-    studies = {"outages": reading.outages}
+    studies = {"outages": reading.outages, "pairs": reading.classes}
     if command in studies:
         return reading.end(studies[command](status == library.DONE))
     calls = {"report": reading.report, "place": reading.placement, "verify": reading.verified, "topology": reading.topology}
