@@ -34,6 +34,8 @@ import obs
 from cases import random_case, records_of
 import relations
 from memory import COMMANDS
+from model import Network
+from model_studies import STUDIES
 from model_text import Text
 from obs import library
 
@@ -83,11 +85,8 @@ def answer_of(folder, words, given):
     if words[0] == "session":
         answer = obs.session(case, given, offered)
         return str(answer), 0 if answer.observable else 1
-    if words[0] == "outages":
-        answer = obs.outages(case)
-        return str(answer), 0 if answer.observable else 1
-    if words[0] == "pairs":
-        answer = obs.pairs(case)
+    if words[0] in STUDIES:
+        answer = getattr(obs, words[0])(case)
         return str(answer), 0 if answer.observable else 1
     answer = obs.verify(case, path(rest[-1]), offered)
     return str(answer), 0 if isinstance(answer, obs.Valid) else 1
@@ -176,6 +175,8 @@ def try_rows():
         agree(seed, str(obs.report(made)), Text(case).ask("report"))
         agree(seed, str(obs.place(made, offered)), Text(case).ask("place"))
         agree(seed, str(obs.topology(*tables[:2])), Text(case).topology())
+        for study, answered_of in STUDIES.items():
+            agree(seed, str(getattr(obs, study)(made)), answered_of(case, Network)[0])
         count += 1
     wrong = [([("a",)], ValueError), ([{"node": "a"}], ValueError), (["ab"], TypeError), ([("a", 0.5)], TypeError), (7, TypeError)]
     for rows, error in wrong:
@@ -215,6 +216,7 @@ def try_rooms():
     own = os.path.join(EXAMPLES, "own")
     form = ["tables", *(f"{name}.csv" for name in TABLES)]
     runs = [["report", *form], ["place", *form, "candidates.csv"], ["topology", *form[1:3]], ["session", *form], ["trial", "2", "1"]]
+    runs += [[study, *form] for study in STUDIES]
     count = 0
     for words in runs + [["none"], []]:
         given = b"status\ntree\nfoo\n" if words[:1] == ["session"] else b""

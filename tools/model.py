@@ -118,6 +118,10 @@ class Network:
         falls = lambda k: self.rho([x for x in items if x not in (m, k)]) < self.rho(items)
         return [k for k in redundant if m in redundant and k != m and falls(k)]
 
+    def stations(self):
+        """For each node the first one that switches join it with, whether they are open or closed."""
+        return firsts(len(self.case.nodes), [(row[1], row[2]) for row in self.case.switches])
+
     def bound(self, inside, scope):
         touched = {e for m in inside for e in self.touches[m]}
         return self.rank(touched), len([m for m in scope if m not in inside])

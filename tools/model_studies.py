@@ -35,4 +35,18 @@ def pairs(case, network_of):
     return text + "end\n", 0 if n.all_observable() else 1
 
 
-STUDIES = {"outages": outages, "pairs": pairs}
+def stations(case, network_of):
+    """Of each station with a live meter how many it has, and the rank without these."""
+    n, text, is_good = network_of(case), "", True
+    of = n.stations()
+    node_of = lambda row: case.branches[row[2]][1] if row[1] == "flow" else row[2]
+    station = {m: of[node_of(case.meters[m])] for m in n.meters}
+    for first in sorted(set(station.values())):
+        others = [m for m in n.meters if station[m] != first]
+        rank = n.rho(others)
+        text += line("station", case.nodes[first][0], len(n.meters) - len(others), rank, n.needed, verdict_word(rank, n.needed))
+        is_good = is_good and rank == n.needed
+    return text + "end\n", 0 if is_good and n.all_observable() else 1
+
+
+STUDIES = {"outages": outages, "pairs": pairs, "stations": stations}

@@ -31,4 +31,31 @@ def hold_pairs(number, runs, tables, r, most):
     runs.alike(number, "pairs and a session", ["pairs", *form], given, (sorted_of(found), 0), (sorted_of(wanted), 0))
 
 
-HOLD = {"outages": hold_outages, "pairs": hold_pairs}
+def station_of(tables):
+    """For each meter in service the first node of its station, by its name."""
+    order, first = [row[0] for row in tables.rows["nodes"]], {row[0]: row[0] for row in tables.rows["nodes"]}
+    for _, start, end, _ in tables.rows["switches"]:
+        a, b = sorted((first[start], first[end]), key=order.index)
+        first = {node: a if at == b else at for node, at in first.items()}
+    start_of = {row[0]: row[1] for row in tables.rows["branches"]}
+    return {row[0]: first[start_of[row[2]] if row[1] == "flow" else row[2]] for row in tables.rows["meters"] if row[3] == "1"}
+
+
+def hold_stations(number, runs, tables, r, most):
+    """Of some stations the numbers of a session that loses their meters one by one."""
+    form, _ = tables.write(runs)
+    found = {words[1]: list(map(int, words[2:5])) for words in words_of(answered(runs, number, ["stations", *form])[0])[:-1]}
+    station = station_of(tables)
+    some = r.sample(sorted(set(station.values())), min(most, len(set(station.values()))))
+    own = [[meter for meter in station if station[meter] == name] for name in some]
+    edits = lambda word, meters: [f"{word} {meter}" for meter in meters]
+    given = lines_of(["status", *(line for meters in own for line in (*edits("lose", meters), "status", *edits("regain", meters)))])
+    lines = words_of(answered(runs, number, ["session", *form], given)[0])
+    counts = {word: [int(words[2]) for words in lines if words[:2] == ["count", word]] for word in ("meters", "rank", "needed")}
+    live = [counts["meters"][0] - count for count in counts["meters"][1:]]
+    wanted = {name: [*numbers] for name, *numbers in zip(some, live, counts["rank"][1:], counts["needed"][1:]) if numbers[0]}
+    shown = lambda of: repr([of.get(name) for name in some]).encode()
+    runs.alike(number, "stations and a session", ["stations", *form], given, (shown(found), 0), (shown(wanted), 0))
+
+
+HOLD = {"outages": hold_outages, "pairs": hold_pairs, "stations": hold_stations}

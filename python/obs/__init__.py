@@ -8,9 +8,9 @@
     for first, buses in answer.islands.items():
         print(first, buses)
 
-A case is made by `tables`, `cdf` or `matpower`. `report`, `place`, `session`, `verify`, `outages`, `pairs` and `topology` answer as the
-commands of these names, and `run` takes the words of any command. An answer is a small value, and `str` of it is the text that the command prints.
-What is no answer is an exception: a `Fault` of a file has its part, row, code and name.
+A case is made by `tables`, `cdf` or `matpower`. `report`, `place`, `session`, `verify`, `outages`, `pairs`, `stations` and `topology`
+answer as the commands of these names, and `run` takes the words of any command. An answer is a small value, and `str` of it is the text
+that the command prints. What is no answer is an exception: a `Fault` of a file has its part, row, code and name.
 
 A table is a path, or the bytes of a file, or its rows: tuples in the order of the columns (`COLUMNS`), dictionaries by the names of the
 columns, or a frame of pandas. Names are bytes in obs. Text is encoded in UTF-8 and decoded from it with the handler `surrogateescape`, so
@@ -23,15 +23,15 @@ meanwhile. A process that was forked off one with threads mustn't call: of multi
 What is proved is said of the library's one call by crates/obs_c/README.md. This package is not proved: it hands blocks of bytes to that
 call, and reads what is printed.
 """
-from .answers import Bound, Counts, Flaw, Item, Layer, Ok, Outage, Outages, Pair, Pairs, Plan, Refused, Report, Session, Shortfall, Step
-from .answers import Topology, Tree, Valid
-from .calls import outages, pairs, place, report, run, session, topology, verify
+from .answers import Bound, Counts, Flaw, Item, Layer, Loss, Ok, Outage, Outages, Pair, Pairs, Plan, Refused, Report, Session, Shortfall
+from .answers import Stations, Step, Topology, Tree, Valid
+from .calls import outages, pairs, place, report, run, session, stations, topology, verify
 from .cases import COLUMNS, Case, cdf, matpower, tables
 from .faults import Error, Fault, LibraryMissing, Malformed, NoMemory, NotUnderstood, SessionTooLong
 
 __all__ = [
-    "Bound", "COLUMNS", "Case", "Counts", "Error", "Fault", "Flaw", "Item", "Layer", "LibraryMissing", "Malformed", "NoMemory",
+    "Bound", "COLUMNS", "Case", "Counts", "Error", "Fault", "Flaw", "Item", "Layer", "LibraryMissing", "Loss", "Malformed", "NoMemory",
     "NotUnderstood", "Ok", "Outage", "Outages", "Pair", "Pairs", "Plan", "Refused", "Report", "Session", "SessionTooLong", "Shortfall",
-    "Step", "Topology", "Tree", "Valid", "cdf", "matpower", "outages", "pairs", "place", "report", "run", "session", "tables", "topology",
-    "verify",
+    "Stations", "Step", "Topology", "Tree", "Valid", "cdf", "matpower", "outages", "pairs", "place", "report", "run", "session", "stations",
+    "tables", "topology", "verify",
 ]

@@ -322,6 +322,41 @@ class Pairs(Lines):
         return [["class", first, meter] for meter, first in self.class_of.items()] + [["end"]]
 
 
+@dataclasses.dataclass(frozen=True)
+class Loss(Lines):
+    """The case without the meters of one station."""
+
+    station: str  # its first node
+    lost: int  # how many live meters it has
+    rank: int  # the most pairs that the others can have
+    needed: int  # pairs that the energised parts need
+    verdict: str  # observable or short
+
+    @property
+    def missing(self):
+        """How many pairs are missing."""
+        return self.needed - self.rank
+
+    def lines(self):
+        return [["station", self.station, self.lost, self.rank, self.needed, self.verdict]]
+
+
+@dataclasses.dataclass(frozen=True)
+class Stations(Lines):
+    """A Loss for each station with a live meter, in the order of their first nodes."""
+
+    entries: typing.Tuple[Loss, ...]
+    observable: bool  # the case, and what each loss leaves
+
+    @property
+    def short(self):
+        """The stations of which each loss leaves a case that is short, by their first nodes."""
+        return tuple(entry.station for entry in self.entries if entry.verdict == "short")
+
+    def lines(self):
+        return _lines_of(self.entries) + [["end"]]
+
+
 # The parts of a report that each ask of a session has.
 ASKS = {
     "status": ("counts",),
@@ -426,6 +461,11 @@ class Reading:
         class_of = {meter: first for first, meter in self.all("class", 2)}
         self.line("end", 0)
         return Pairs(class_of, observable)
+
+    def stations(self, observable):
+        entries = [Loss(name, *map(int, numbers), word) for name, *numbers, word in self.all("station", 5)]
+        self.line("end", 0)
+        return Stations(tuple(entries), observable)
 
     def verified(self):
         if self.word() == "valid":

@@ -50,6 +50,11 @@ def pairs(case):
     return _ask(["pairs", *_form(case)])
 
 
+def stations(case):
+    """Stations: for each station what the other meters are good for when all of its meters are lost."""
+    return _ask(["stations", *_form(case)])
+
+
 def topology(nodes, switches):
     """A Topology: for each node the first node of its bus. The two are tables as in `tables`."""
     return _ask(["topology", table("nodes", nodes), table("switches", switches)])
@@ -80,7 +85,7 @@ def read(command, status, text, given=b""):
     if command == "session":
         answered = [line.decode("utf-8", "surrogateescape") for line in _answered(given)]
         return reading.end(reading.session(answered, status == library.DONE))
-    studies = {"outages": reading.outages, "pairs": reading.classes}
+    studies = {"outages": reading.outages, "pairs": reading.classes, "stations": reading.stations}
     if command in studies:
         return reading.end(studies[command](status == library.DONE))
     calls = {"report": reading.report, "place": reading.placement, "verify": reading.verified, "topology": reading.topology}
