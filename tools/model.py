@@ -75,7 +75,7 @@ class Network:
         self.touches = [self.touch(m, *row[1:]) for m, row in enumerate(items)]
         self.meters = [m for m in range(len(case.meters)) if self.touches[m]]
         self.candidates = [m for m in range(len(case.meters), len(items)) if self.touches[m]]
-        self.kept = {}
+        self.kept, self.ranks = {}, {}
 
     def touch(self, item, kind, at, inservice):
         if not inservice:
@@ -87,8 +87,11 @@ class Network:
         return [e for e in self.live_branches if self.bus[at] in self.ends[e]]
 
     def rank(self, branches):
-        of = firsts(self.vertices, [self.ends[e] for e in branches])
-        return sum(1 for u in range(len(of)) if of[u] != u)
+        key = frozenset(branches)
+        if key not in self.ranks:
+            of = firsts(self.vertices, [self.ends[e] for e in key])
+            self.ranks[key] = sum(1 for u in range(len(of)) if of[u] != u)
+        return self.ranks[key]
 
     def forests(self, items):
         """The sets of branches that assignments of these items have."""
@@ -114,7 +117,8 @@ class Network:
 
     def partners(self, m, items):
         """The items that are critical together with one: neither is critical, and without both the greatest length falls."""
-        redundant = [x for x in items if x not in self.critical(items)]
+        critical = self.critical(items)
+        redundant = [x for x in items if x not in critical]
         falls = lambda k: self.rho([x for x in items if x not in (m, k)]) < self.rho(items)
         return [k for k in redundant if m in redundant and k != m and falls(k)]
 
