@@ -14,6 +14,8 @@ import subprocess
 import sys
 import tempfile
 
+from model_studies import STUDIES
+
 TABLES = ["nodes.csv", "switches.csv", "branches.csv", "meters.csv"]
 COMMANDS = [
     ("substation", ["topology", "nodes.csv", "switches.csv"], ""),
@@ -25,6 +27,7 @@ COMMANDS = [
     ("ieee14", ["report", "tables", *TABLES], ""),
     ("case9", ["report", "matpower", "case.m", "meters.csv"], ""),
     ("angles", ["place", "tables", *TABLES, "candidates.csv"], ""),
+    *(("studies", [study, "tables", *TABLES], "") for study in STUDIES),
 ]
 FAULT = re.compile(rb"fault\t(nodes|switches|branches|meters|candidates|cdf|matpower|certificate)\t\d+\t\d+\t[A-Za-z]+\n")
 WHOLE = re.compile(rb"(.*\n)?end\n|valid\t\d+\n|flaw\t\d+\t\d+\t[A-Za-z]+\n", re.DOTALL)

@@ -1,5 +1,19 @@
-"""What a study of losses says, and what a session says that loses the same. relations.py has the cases and the other relations."""
-from relations import answered, lines_of, words_of
+#!/usr/bin/env python3
+"""Sees that what a study of losses says is what a session says that loses the same.
+
+Usage: tools/relations_studies.py PROGRAM FOLDER [SEED [MOST [STUDY..]]]
+
+FOLDER has tables as tools/relations.py takes them, which has the other relations. Of MOST (20) branches, meters or stations the numbers
+of `outages`, the classes of `pairs` and the numbers of `stations` are held against a session, for all studies where none is named. It
+stops at the first that differs.
+"""
+import random
+import sys
+import tempfile
+
+from answer import joined
+from relations import Tables, answered, lines_of, words_of
+from runs import KEPT, Runs
 
 
 def hold_outages(number, runs, tables, r, most):
@@ -33,10 +47,10 @@ def hold_pairs(number, runs, tables, r, most):
 
 def station_of(tables):
     """For each meter in service the first node of its station, by its name."""
-    order, first = [row[0] for row in tables.rows["nodes"]], {row[0]: row[0] for row in tables.rows["nodes"]}
-    for _, start, end, _ in tables.rows["switches"]:
-        a, b = sorted((first[start], first[end]), key=order.index)
-        first = {node: a if at == b else at for node, at in first.items()}
+    names = [row[0] for row in tables.rows["nodes"]]
+    at = {name: k for k, name in enumerate(names)}
+    of = joined(len(names), [(at[start], at[end]) for _, start, end, _ in tables.rows["switches"]])
+    first = {name: names[of[k]] for name, k in at.items()}
     start_of = {row[0]: row[1] for row in tables.rows["branches"]}
     return {row[0]: first[start_of[row[2]] if row[1] == "flow" else row[2]] for row in tables.rows["meters"] if row[3] == "1"}
 
@@ -59,3 +73,17 @@ def hold_stations(number, runs, tables, r, most):
 
 
 HOLD = {"outages": hold_outages, "pairs": hold_pairs, "stations": hold_stations}
+
+
+def main():
+    program, folder, seed, most, *studies = sys.argv[1:] + ["0", "20"][max(0, len(sys.argv) - 3) :]
+    tables, r = Tables.of_folder(folder), random.Random(int(seed))
+    with tempfile.TemporaryDirectory() as scratch:
+        runs = Runs(program, scratch, KEPT)
+        for study in studies or HOLD:
+            HOLD[study](seed, runs, tables, r, int(most))
+    runs.summary()
+
+
+if __name__ == "__main__":
+    main()

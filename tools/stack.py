@@ -6,13 +6,15 @@ Usage: tools/stack.py PROGRAM [ROWS]
 For each run of all commands, over examples/own and over a chain of ROWS (20000) nodes with as many meters and candidates, it halves the
 limit of the stack between 16 KiB and 8 MiB until it knows to 4 KiB from where on the run ends with a status and not by a signal. What
 the words and the environment take lies on the stack too, so each run is made with an empty environment, and the first also with one of
-64 KiB.
+64 KiB. Outages of the chain, which take a minute a run, are left out.
 """
 import os
 import resource
 import subprocess
 import sys
 import tempfile
+
+from model_studies import STUDIES
 
 OWN = os.path.join(os.path.dirname(os.path.abspath(__file__)), "..", "examples", "own")
 TABLES = ["nodes.csv", "switches.csv", "branches.csv", "meters.csv"]
@@ -64,6 +66,7 @@ def main():
         for name, folder in [("examples/own", OWN), (f"a chain of {rows} nodes", full)]:
             runs = [(["topology", *TABLES[:2]], b""), (words, b""), (["place", *case, "candidates.csv"], b"")]
             runs.append((["session", *case, "with", "candidates.csv"], ASKS))
+            runs += [([study, *case], b"") for study in STUDIES if study != "outages" or folder == OWN]
             for some, given in runs:
                 print(f"{least(program, folder, some, given)}\t{some[0]}, {name}", flush=True)
         plan = subprocess.run([program, "place", *case, "candidates.csv"], cwd=full, stdout=subprocess.PIPE).stdout

@@ -1,10 +1,11 @@
 #!/usr/bin/env python3
 """Measures the program over full tables of shapes, and prints a row of docs/MEASURED.md for each.
 
-Usage: tools/times.py PROGRAM [SHAPE..]
+Usage: tools/times.py PROGRAM [--studies] [SHAPE..]
 
 The shapes are those of tools/shapes.py, all where none is named. Of each it gives the user time of `report`, of `place` with all meters and
-with a tenth of them, and of `topology`, and the most memory of these. A run that has taken 100 seconds of processor time is ended.
+with a tenth of them, and of `topology`, or with --studies that of `outages`, `pairs` and `stations`, and the most memory of these. A run
+that has taken 100 seconds of processor time is ended, one of a study after 300.
 """
 import os
 import resource
@@ -12,15 +13,17 @@ import sys
 import tempfile
 
 import shapes
+from model_studies import STUDIES
 
-MOST_SECONDS = 100
+MOST_SECONDS, MOST_OF_STUDIES = 100, 300
 
 
 def measure(program, folder, words):
     """The seconds of user time and the megabytes at the peak, or no seconds where the run took too long."""
+    most = MOST_OF_STUDIES if words[0] in STUDIES else MOST_SECONDS
     child = os.fork()
     if child == 0:
-        resource.setrlimit(resource.RLIMIT_CPU, (MOST_SECONDS, MOST_SECONDS))
+        resource.setrlimit(resource.RLIMIT_CPU, (most, most))
         os.chdir(folder)
         nothing = os.open(os.devnull, os.O_RDWR)
         for stream in range(3):
@@ -36,26 +39,31 @@ def shown(seconds):
     return "below 0.01 s" if seconds < 0.01 else f"{seconds:.2f} s" if seconds < 1 else f"{seconds:.1f} s"
 
 
-def row(program, name, folder):
-    tables = ["nodes.csv", "switches.csv", "branches.csv"]
-    commands = [
-        ["report", "tables", *tables, "meters.csv"],
-        ["place", "tables", *tables, "meters.csv", "candidates.csv"],
-        ["place", "tables", *tables, "few.csv", "candidates.csv"],
-        ["topology", *tables[:2]],
-    ]
-    found = [measure(program, folder, words) for words in commands]
+TABLES = ["nodes.csv", "switches.csv", "branches.csv"]
+COMMANDS = {
+    "`report`": ["report", "tables", *TABLES, "meters.csv"],
+    "`place`, all meters": ["place", "tables", *TABLES, "meters.csv", "candidates.csv"],
+    "`place`, few meters": ["place", "tables", *TABLES, "few.csv", "candidates.csv"],
+    "`topology`": ["topology", *TABLES[:2]],
+}
+COMMANDS_OF_STUDIES = {f"`{study}`": [study, "tables", *TABLES, "meters.csv"] for study in STUDIES}
+
+
+def row(program, name, folder, commands):
+    found = [measure(program, folder, words) for words in commands.values()]
     megabytes = [most for _, most in found]
     return f"| `{name}` | {' | '.join(shown(seconds) for seconds, _ in found)} | {max(megabytes):.0f} MB |"
 
 
 def main():
-    program = os.path.abspath(sys.argv[1])
-    print("| Tables | `report` | `place`, all meters | `place`, few meters | `topology` | Memory |\n|---|---|---|---|---|---|", flush=True)
-    for name in sys.argv[2:] or shapes.SHAPES:
+    program, names = os.path.abspath(sys.argv[1]), sys.argv[2:]
+    of_studies = names[:1] == ["--studies"]
+    commands, names = (COMMANDS_OF_STUDIES, names[1:]) if of_studies else (COMMANDS, names)
+    print(f"| Tables | {' | '.join(commands)} | Memory |\n|{'---|' * (len(commands) + 2)}", flush=True)
+    for name in names or shapes.SHAPES:
         with tempfile.TemporaryDirectory() as folder:
             shapes.write(name, folder)
-            print(row(program, name, folder), flush=True)
+            print(row(program, name, folder, commands), flush=True)
 
 
 if __name__ == "__main__":
