@@ -1,1 +1,2 @@
 pub mod Outages
+pub mod Lending

@@ -1,5 +1,6 @@
 // The outages of a case.
 ghost use Rattle.std.specs.Prelude.{◌≡◌, IfOk, []};
+ghost use Rattle.std.specs.Borrow.{sem};
 ghost use Rattle.obs_matroid.specs.Lists.{In};
 ghost use Rattle.obs_network.specs.Network.{network_of};
 ghost use Rattle.obs_kept.specs.Kept.{AreLongest, AreLongestOver};
@@ -66,6 +67,8 @@ impl Drop for Outages {
 }
 
 impl Outages {
+    ghost use Rattle.obs_outage.specs.Lending.{GivenBack};
+
     /// The network of a case and a longest assignment of its meters. All memory is taken here.
     pub fn make<L: Ledger>(
         alloc: Global,
@@ -158,11 +161,13 @@ impl Outages {
         &self.entries[..self.count]
     }
 
-    /// Finds the outage list and lends it.
+    /// Finds the outage list and lends it. When it is given back, all is as after `find_list`.
     pub fn list<L: Ledger>(&mut self, case: &mut Case, steps: &mut Steps<L>) -> &[Outage]
         requires network { self.old.network ≡ network_of case.old }
         ensures list { result.now ≡ outages_of case.old }
         ensures case { case.new ≡ case.old }
+        ensures* given_back { sem 𝓛 (GivenBack self.entry (λ o. (o.found ≡ outages_of case.old)
+            × (o.network ≡ self.old.network) × AreLongest case.old o.pairs)) }
     {
         self.find_list(case, steps);
         self.found()
