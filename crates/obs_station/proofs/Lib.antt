@@ -1,0 +1,5 @@
+pub mod Grouped
+pub mod Regaining
+pub mod Summed
+pub mod Listing
+pub mod Stationed

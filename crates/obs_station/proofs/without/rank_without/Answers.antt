@@ -1,0 +1,100 @@
+use Rattle.std.proofs.Common.{◌≡◌, ℕ, ◌<◌, List, length, sym, ap, ◌∙◌, subst, arith}
+use Rattle.std.specs.Prelude.{All}
+use Rattle.obs_meter.specs.declared.Touch.{Touch}
+use Rattle.obs_meter.specs.Lost.{is_listed, losing}
+use Rattle.obs_meter.specs.Sizes.{HasRoomFor}
+use Rattle.obs_meter.specs.Touches.{AreInRange}
+use Rattle.obs_meter.proofs.Lost.{in_range-losing, length-losing, room-losing}
+use Rattle.obs_exchange.specs.Longest.{IsLongest, IsMost}
+use Rattle.obs_exchange.proofs.Lengthening.{room_again, rooms}
+use Rattle.obs_exchange.proofs.Losing.{most-left, most-longest, stands-all}
+use Rattle.obs_station.proofs.Regaining.{as_long, left_again, left_is, rank_left}
+use Rattle.obs_station.proofs.without.rank_without.Goals as goal
+
+pub lose-requires-clause-low : goal.lose-requires-clause-low
+lose-requires-clause-low g c = subst (λ (t : List Touch). All (λ m. m < length t) c.args.list.now) (sym c.requires.left) c.requires.low
+
+pub regrow-requires-clause-in_range : goal.regrow-requires-clause-in_range
+regrow-requires-clause-in_range g c =
+    let touches = c.args.ms.now.touches in
+    subst (λ (t : List Touch). AreInRange c.args.g.now t) (sym (left_is c.args.list.now c.args.left.now c.lose.new.left touches c.requires.left c.lose.ensures.left))
+    (in_range-losing (is_listed c.args.list.now) touches c.args.g.now c.requires.in_range)
+
+pub regrow-requires-clause-room : goal.regrow-requires-clause-room
+regrow-requires-clause-room g c =
+    let touches = c.args.ms.now.touches in
+    subst (λ (t : List Touch). HasRoomFor c.args.search.now.sizes c.args.g.now t) (sym (left_is c.args.list.now c.args.left.now c.lose.new.left touches c.requires.left c.lose.ensures.left))
+    (room-losing (is_listed c.args.list.now) touches c.args.search.now.sizes c.args.g.now c.requires.room)
+
+pub regrow-requires-clause-most : goal.regrow-requires-clause-most
+regrow-requires-clause-most g c =
+    let touches = c.args.ms.now.touches in
+    let ends = c.args.g.now.ends in
+    subst (λ (t : List Touch). IsMost ends t c.length-most.result) (sym (left_is c.args.list.now c.args.left.now c.lose.new.left touches c.requires.left c.lose.ensures.left))
+    (most-left (is_listed c.args.list.now) ends touches c.length-most.result
+    (subst (λ (most : ℕ). IsMost ends touches most) (sym c.length-most.ensures.length) (most-longest c.args.g.now touches c.args.a.now c.requires.longest)))
+
+pub regain-requires-clause-count : goal.regain-requires-clause-count
+regain-requires-clause-count g c =
+    let touches = c.args.ms.now.touches in
+    ap (λ (t : List Touch). length t) (left_is c.args.list.now c.args.left.now c.lose.new.left touches c.requires.left c.lose.ensures.left) ∙ length-losing (is_listed c.args.list.now) touches
+
+pub regrow-2-requires-clause-stands : goal.regrow-2-requires-clause-stands
+regrow-2-requires-clause-stands g c =
+    let touches = c.args.ms.now.touches in
+    let is = left_is c.args.list.now c.args.left.now c.lose.new.left touches c.requires.left c.lose.ensures.left in
+    let h : IsLongest c.args.g.now (losing (is_listed c.args.list.now) touches) c.regrow.new.a = subst (λ (t : List Touch). IsLongest c.args.g.now t c.regrow.new.a) is c.regrow.ensures.longest in
+    stands-all (is_listed c.args.list.now) c.args.g.now touches c.regrow.new.a h.stands
+
+pub regrow-2-requires-clause-thawed : goal.regrow-2-requires-clause-thawed
+regrow-2-requires-clause-thawed g c = c.regrow.ensures.longest.thawed
+
+pub regrow-2-requires-clause-room : goal.regrow-2-requires-clause-room
+regrow-2-requires-clause-room g c = room_again c.args.g.now c.args.ms.now.touches c.args.search.now.sizes c.regrow.new.work.sizes c.regrow.ensures.same_sizes c.requires.room
+
+pub regrow-2-requires-clause-most : goal.regrow-2-requires-clause-most
+regrow-2-requires-clause-most g c =
+    subst (λ (most : ℕ). IsMost c.args.g.now.ends c.args.ms.now.touches most) (sym c.length-most.ensures.length) (most-longest c.args.g.now c.args.ms.now.touches c.args.a.now c.requires.longest)
+
+pub returns-clause-rank : goal.returns-clause-rank
+returns-clause-rank g c =
+    let touches = c.args.ms.now.touches in
+    let is = left_is c.args.list.now c.args.left.now c.lose.new.left touches c.requires.left c.lose.ensures.left in
+    let h : IsLongest c.args.g.now (losing (is_listed c.args.list.now) touches) c.regrow.new.a = subst (λ (t : List Touch). IsLongest c.args.g.now t c.regrow.new.a) is c.regrow.ensures.longest in
+    c.length-rank.ensures.length ∙ rank_left c.args.g.now touches c.args.list.now c.regrow.new.a c.vertices.ensures.branches h
+
+pub returns-clause-left : goal.returns-clause-left
+returns-clause-left g c =
+    let touches = c.args.ms.now.touches in
+    let is = left_is c.args.list.now c.args.left.now c.lose.new.left touches c.requires.left c.lose.ensures.left in
+    left_again c.args.list.now c.args.left.now c.lose.new.left c.regain.new.left touches c.requires.left c.lose.ensures.left (c.regain.ensures.left (is_listed c.args.list.now) is)
+
+pub returns-clause-ticks : goal.returns-clause-ticks
+returns-clause-ticks g c =
+    let most = c.length-most.ensures.length in
+    let few = c.lose.ensures.few in
+    let one = c.regrow.ensures.lengthened.all_but_one in
+    let b1 = c.regrow.ensures.bound in
+    let b2 = c.regrow-2.ensures.bound in
+    let t1 = c.regrow.ensures.ticks in
+    let t2 = c.regrow-2.ensures.ticks in
+    omega (arith, most, few, one, b1, b2, t1, t2)
+
+pub returns-clause-turns_rise : goal.returns-clause-turns_rise
+returns-clause-turns_rise g c =
+    let t0 = c.lose.ensures.turns in
+    let t1 = c.regrow.ensures.lengthened.turns_rise in
+    let t2 = c.regrow-2.ensures.lengthened.turns_rise in
+    omega (arith, t0, t1, t2)
+
+pub returns-clause-turns_most : goal.returns-clause-turns_most
+returns-clause-turns_most g c =
+    let few = c.lose.ensures.few in
+    let t0 = c.lose.ensures.turns in
+    let t1 = c.regrow.ensures.lengthened.turns_found in
+    let t2 = c.regrow-2.ensures.lengthened.turns_found in
+    let same = as_long c.args.g.now c.args.ms.now.touches c.args.a.now c.regrow-2.new.a c.requires.longest c.regrow-2.ensures.longest in
+    omega (arith, few, t0, t1, t2, same)
+
+pub returns-clause-same_room : goal.returns-clause-same_room
+returns-clause-same_room g c = rooms c.args.a.now c.regrow.new.a c.regrow-2.new.a (rooms c.args.a.now c.lose.new.a c.regrow.new.a c.lose.ensures.same_room c.regrow.ensures.same_room) c.regrow-2.ensures.same_room

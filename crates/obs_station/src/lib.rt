@@ -1,0 +1,12 @@
+//! Stations, and the loss of all meters of one.
+#![tactic(auto)]
+
+mod keys;
+pub mod laws;
+mod losses;
+mod memory;
+mod stations;
+mod without;
+
+pub use losses::{Loss, StationWork};
+pub use memory::NoMemory;

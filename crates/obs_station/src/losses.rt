@@ -1,0 +1,180 @@
+// The losses of stations.
+ghost use Rattle.std.specs.Prelude.{◌≡◌, ◌+◌, ◌≤◌, [], IfOk, length};
+ghost use Rattle.obs_network.specs.Network.{network_of, rows_of};
+ghost use Rattle.obs_network.specs.Observable.{case_live_meters};
+ghost use Rattle.obs_assign.specs.Assignment.{HasRoomOf};
+ghost use Rattle.obs_kept.specs.Kept.{AreLongest};
+ghost use Rattle.obs_station.specs.Stations.{losses_of};
+
+use crate::memory::NoMemory;
+use crate::stations::Stations;
+use crate::without::write_losses;
+use obs_assign::{Assignment, Steps};
+use obs_case::Case;
+use obs_exchange::Work;
+use obs_meter::Meters;
+use obs_network::Network;
+use std::alloc::Global;
+use std::marker::Model;
+use std::sync::ledger::Ledger;
+
+/// What the loss of a station's meters does: the station's first node, how many live meters it has, and the rank
+/// without them.
+#[derive(Clone, Copy, Debug, PartialEq, Eq)]
+pub struct Loss {
+    pub node: u32,
+    pub lost: u32,
+    pub rank: u32,
+}
+
+/// Room for the losses of the stations of cases with the same numbers of rows.
+pub struct StationWork {
+    // how many rows the tables of branches and candidates have
+    branches: u32,
+    candidates: u32,
+    stations: Stations,
+    // the meters, where those of one station may be lost
+    left: Meters,
+    // what finds pairs
+    search: Work,
+    // the first `count` of these are found
+    entries: Vec<Loss>,
+    count: usize,
+}
+
+impl Model for StationWork {
+    ghost use Rattle.std.specs.Prelude.{◌≡◌, ◌≤◌, ◌+◌, ◌*◌, length, take};
+    ghost use Rattle.obs_network.specs.Network.{Rows};
+    ghost use Rattle.obs_station.specs.Stations.{StationWork};
+
+    ghost Value = { StationWork };
+
+    ghost view = { λ w. record {
+      rows = record {
+        nodes = w.stations.buses.most_nodes;
+        switches = w.stations.switches;
+        branches = w.branches;
+        meters = w.stations.most_meters;
+        candidates = w.candidates;
+      };
+      found = take w.count w.entries.items;
+    } };
+
+    ghost invariant = { λ w. record {
+      left : w.left.most ≡ w.stations.most_meters;
+      sizes : w.search.sizes ≡ record {
+        meters = w.stations.most_meters;
+        branches = w.branches + (w.stations.most_meters + w.candidates);
+        vertices = 2 * w.stations.buses.most_nodes;
+      };
+      entries : length w.entries.items ≡ w.stations.buses.most_nodes;
+      found : w.count ≤ length w.entries.items;
+    } };
+}
+
+// Written out: so a caller's proof sees one call, and not the drop of each field.
+impl Drop for StationWork {
+    fn drop(self) {
+        let StationWork {
+            branches: _,
+            candidates: _,
+            stations: _,
+            left: _,
+            search: _,
+            entries: _,
+            count: _,
+        } = self;
+    }
+}
+
+impl StationWork {
+    /// Room for the losses of a case's stations, and of any case with as many rows in each table.
+    pub fn make(alloc: Global, case: &Case) -> Result<StationWork, NoMemory>
+        ensures rows { IfOk result (λ w. w.rows ≡ rows_of case.now) }
+        ensures none_found { IfOk result (λ w. w.found ≡ []) }
+    {
+        let nodes = case.nodes().len() as u32;
+        let branches = case.branches().len() as u32;
+        let meters = case.meters().len() as u32;
+        let candidates = case.candidates().len() as u32;
+        let nothing = Loss {
+            node: 0,
+            lost: 0,
+            rank: 0,
+        };
+        Ok(StationWork {
+            branches,
+            candidates,
+            stations: Stations::make(alloc, nodes, case.switches().len(), meters)?,
+            left: Meters::make(alloc, meters)?,
+            search: Work::make(alloc, meters, branches + (meters + candidates), 2 * nodes)?,
+            entries: vec![in alloc; nothing; nodes as usize]?,
+            count: 0,
+        })
+    }
+
+    /// Finds the loss list: an entry for each station with a live meter, in the order of their first nodes. The pairs
+    /// are a longest assignment, and are one again. There are at most as many searches as live meters and entries
+    /// together. Takes no memory.
+    pub fn find_losses<L: Ledger>(
+        &mut self,
+        case: &Case,
+        network: &Network,
+        a: &mut Assignment,
+        steps: &mut Steps<L>,
+    )
+        requires rows { self.old.rows ≡ rows_of case.now }
+        requires network { network.now ≡ network_of case.now }
+        requires longest { AreLongest case.now a.old }
+        ensures losses { self.new.found ≡ losses_of case.now }
+        ensures longest { AreLongest case.now a.new }
+        ensures ticks { steps.new ≤ steps.old + (length (case_live_meters case.now) + length (losses_of case.now)) }
+        ensures turns_rise { a.old.turns ≤ a.new.turns }
+        ensures turns_most { a.new.turns ≤ a.old.turns + (length (case_live_meters case.now) + length (losses_of case.now)) }
+        ensures same_room { HasRoomOf a.old a.new }
+        ensures rows { self.new.rows ≡ self.old.rows }
+    {
+        let _nodes = case.nodes();
+        self.stations.refill(case, network);
+        self.left.refill(network.meters().touches());
+        self.count = write_losses(
+            network.graph(),
+            network.meters(),
+            &self.stations,
+            a,
+            &mut self.left,
+            &mut self.search,
+            &mut self.entries,
+            steps,
+        );
+    }
+
+    /// The list that was found last.
+    pub fn list(&self) -> &[Loss]
+        ensures list { result.now ≡ self.now.found }
+    {
+        &self.entries[..self.count]
+    }
+
+    /// Finds the loss list and lends it.
+    pub fn losses<L: Ledger>(
+        &mut self,
+        case: &Case,
+        network: &Network,
+        a: &mut Assignment,
+        steps: &mut Steps<L>,
+    ) -> &[Loss]
+        requires rows { self.old.rows ≡ rows_of case.now }
+        requires network { network.now ≡ network_of case.now }
+        requires longest { AreLongest case.now a.old }
+        ensures losses { result.now ≡ losses_of case.now }
+        ensures longest { AreLongest case.now a.new }
+        ensures ticks { steps.new ≤ steps.old + (length (case_live_meters case.now) + length (losses_of case.now)) }
+        ensures turns_rise { a.old.turns ≤ a.new.turns }
+        ensures turns_most { a.new.turns ≤ a.old.turns + (length (case_live_meters case.now) + length (losses_of case.now)) }
+        ensures same_room { HasRoomOf a.old a.new }
+    {
+        self.find_losses(case, network, a, steps);
+        self.list()
+    }
+}

@@ -1,0 +1,149 @@
+// The stations of a case, and the live meters of each.
+ghost use Rattle.std.specs.Prelude.{◌≡◌, ◌<◌, ◌≤◌, [], All, ℕ, IfOk, length, slice_index};
+ghost use Rattle.obs_switch.specs.Buses.{members_of};
+ghost use Rattle.obs_switch.specs.Groups.{items_with};
+ghost use Rattle.obs_network.specs.Network.{network_of};
+ghost use Rattle.obs_station.specs.Held.{has_any, keys_of};
+ghost use Rattle.obs_station.specs.Stations.{case_station_count, case_stations};
+
+use crate::keys::{write_links, write_members};
+use crate::memory::NoMemory;
+use obs_case::Case;
+use obs_network::Network;
+use obs_switch::group::group_of;
+use obs_switch::{Buses, Link};
+use std::alloc::Global;
+use std::marker::Model;
+
+/// The stations of a case, and the live meters of each, one station after another, and behind them the idle meters.
+pub(crate) struct Stations {
+    // how many meters there are
+    meters: usize,
+    // all switches, while stations are made
+    links: Vec<Link>,
+    // the station of each node
+    buses: Buses,
+    // of each meter its station, or the number of stations where it is idle
+    keys: Vec<u32>,
+    // the meters with each key, one key after another
+    members: Vec<u32>,
+    // where each key begins there
+    starts: Vec<usize>,
+}
+
+impl Model for Stations {
+    ghost use Rattle.std.specs.Prelude.{length, take};
+    ghost use Rattle.obs_station.specs.Held.{AreListed, Stations};
+
+    ghost Value = { Stations };
+
+    ghost view = { λ s. record {
+      buses = s.buses;
+      keys = take s.meters s.keys.items;
+      switches = length s.links.items;
+      most_meters = length s.keys.items;
+    } };
+
+    ghost invariant = { λ s. AreListed s.meters s.buses s.keys.items s.members.items s.starts.items };
+}
+
+// Written out: so a caller's proof sees one call, and not the drop of each field.
+impl Drop for Stations {
+    fn drop(self) {
+        let Stations {
+            meters: _,
+            links: _,
+            buses: _,
+            keys: _,
+            members: _,
+            starts: _,
+        } = self;
+    }
+}
+
+impl Stations {
+    /// Room for so many nodes, switches and meters, without any.
+    pub(crate) fn make(
+        alloc: Global,
+        nodes: u32,
+        switches: usize,
+        meters: u32,
+    ) -> Result<Stations, NoMemory>
+        ensures empty { IfOk result (λ s. s ≡ record {
+          buses = record { buses = []; count = 0; most_nodes = nodes };
+          keys = [];
+          switches = switches;
+          most_meters = meters;
+        }) }
+    {
+        Ok(Stations {
+            meters: 0,
+            links: vec![in alloc; Link { from: 0, to: 0 }; switches]?,
+            buses: Buses::make(alloc, nodes, 0)?,
+            keys: vec![in alloc; 0; meters as usize]?,
+            members: vec![in alloc; 0; meters as usize]?,
+            starts: vec![in alloc; 0; nodes as usize + 1]?,
+        })
+    }
+
+    /// Makes the stations those of a case, which determines the network.
+    pub(crate) fn refill(&mut self, case: &Case, network: &Network)
+        requires switches { self.old.switches ≡ length case.now.switches }
+        requires nodes { self.old.buses.most_nodes ≡ length case.now.nodes }
+        requires meters { self.old.most_meters ≡ length case.now.meters }
+        requires network { network.now ≡ network_of case.now }
+        ensures stations { self.new.buses.buses ≡ case_stations case.now }
+        ensures count { self.new.buses.count ≡ case_station_count case.now }
+        ensures nodes { self.new.buses.most_nodes ≡ self.old.buses.most_nodes }
+        ensures keys { self.new.keys ≡ keys_of case.now }
+        ensures switches { self.new.switches ≡ self.old.switches }
+        ensures meters { self.new.most_meters ≡ self.old.most_meters }
+    {
+        write_links(case.switches(), &mut self.links);
+        self.buses.relabel(case.nodes().len() as u32, &self.links);
+        write_members(
+            case,
+            network,
+            &self.buses,
+            &mut self.keys,
+            &mut self.members,
+            &mut self.starts,
+        );
+        self.meters = case.meters().len();
+    }
+
+    /// How many stations there are.
+    pub(crate) fn count(&self) -> u32
+        ensures count { result ≡ self.now.buses.count }
+        ensures few { result ≤ self.now.buses.most_nodes }
+    {
+        self.buses.count()
+    }
+
+    /// The first node of a station, which names it.
+    pub(crate) fn node(&self, c: u32) -> u32
+        requires station { c < self.now.buses.count }
+        requires some { 0 < length (members_of self.now.buses.buses c) }
+        ensures node { result ≡ slice_index (members_of self.now.buses.buses c) 0 }
+    {
+        self.buses.members(c)[0]
+    }
+
+    /// The live meters of a station, rising.
+    pub(crate) fn meters(&self, c: u32) -> &[u32]
+        requires station { c < self.now.buses.count }
+        ensures meters { result.now ≡ items_with self.now.keys c }
+        ensures low { All (λ m. m < length self.now.keys) result.now }
+        ensures few { length result.now ≤ length self.now.keys }
+    {
+        group_of(&self.keys[..self.meters], &self.members, &self.starts, c)
+    }
+
+    /// Whether a station has a live meter.
+    pub(crate) fn has_any(&self, c: u32) -> bool
+        requires station { c < self.now.buses.count }
+        ensures any { result ≡ has_any self.now c }
+    {
+        !self.meters(c).is_empty()
+    }
+}
