@@ -77,7 +77,7 @@ loss_made g touches s c node lost rank list is_list is_node is_lost is_rank =
     ranked M = rho_at g.vertices g.ends touches (left_of (is_listed M) (live_items g.ends touches))
 
 module _ (t : Tables) where
-  live : ℕ → Bool
+  abbrev live : ℕ → Bool
   live = is_live (case_branches t) (case_meters t)
 
   -- the meters with the key of a station are its live meters

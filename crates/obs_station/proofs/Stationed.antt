@@ -2,7 +2,7 @@
 use Rattle.std.proofs.Common.{◌≡◌, ◌↔◌, ℕ, ◌<◌, Bool, true, List, [], ◌∷◌, length, map, get_or, refl, sym, ◌∙◌, subst, arith}
 use Rattle.std.specs.Prelude.{All, nat_lt, slice_index}
 use Rattle.std.specs.List.{range_with_len}
-use Rattle.std.proofs.lemmas.Bool.{eq-eqb, eqb-true}
+use Rattle.std.proofs.lemmas.Bool.{eq-eqb, eqb-true, lt-ltb}
 use Rattle.std.proofs.lemmas.List.{length-map}
 use Rattle.std.proofs.lemmas.List.Elements.{All-map}
 use Rattle.obs_case.specs.declared.rows.Branch.{Branch}
@@ -66,7 +66,7 @@ length-meter_stations t = length-map t.meters (station_of t)
 
 some_length : (xs : List ℕ) (m : ℕ) → In m xs → nat_lt 0 (length xs) ≡ true
 some_length [] m i = absurd i
-some_length (x ∷ xs) m i = refl
+some_length (x ∷ xs) m i = lt-ltb 0 (length (x ∷ xs)) (omega arith)
 
 listed_in : (t : Tables) (c : ℕ) → c < case_station_count t → has_live t c ≡ true → In c (loss_stations t)
 unfolding loss_stations

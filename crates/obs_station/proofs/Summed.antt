@@ -35,7 +35,7 @@ few_keys f live k h (x ∷ xs) =
     let one = cond-one (ltb (f x) k) in
     elim (cases_Bool (live x)) [
       | inl t ↦ rw t (omega (arith, rest, first, most, one))
-      | inr e ↦ let none = ap (λ (b : Bool). cond b 1 0) (le-ltb (f x) k (h x e)) in rw e (omega (arith, rest, first, most, none))
+      | inr e ↦ let none = ap {B = ℕ} (λ (b : Bool). cond b 1 0) (le-ltb (f x) k (h x e)) in rw e (omega (arith, rest, first, most, none))
     ]
 
 -- the live meters of all stations

@@ -36,7 +36,7 @@ pub struct StationWork {
     // the meters, where those of one station may be lost
     left: Meters,
     // what finds pairs
-    search: Work,
+    exchange: Work,
     // the first `count` of these are found
     entries: Vec<Loss>,
     count: usize,
@@ -62,7 +62,7 @@ impl Model for StationWork {
 
     ghost invariant = { λ w. record {
       left : w.left.most ≡ w.stations.most_meters;
-      sizes : w.search.sizes ≡ record {
+      sizes : w.exchange.sizes ≡ record {
         meters = w.stations.most_meters;
         branches = w.branches + (w.stations.most_meters + w.candidates);
         vertices = 2 * w.stations.buses.most_nodes;
@@ -80,7 +80,7 @@ impl Drop for StationWork {
             candidates: _,
             stations: _,
             left: _,
-            search: _,
+            exchange: _,
             entries: _,
             count: _,
         } = self;
@@ -107,7 +107,7 @@ impl StationWork {
             candidates,
             stations: Stations::make(alloc, nodes, case.switches().len(), meters)?,
             left: Meters::make(alloc, meters)?,
-            search: Work::make(alloc, meters, branches + (meters + candidates), 2 * nodes)?,
+            exchange: Work::make(alloc, meters, branches + (meters + candidates), 2 * nodes)?,
             entries: vec![in alloc; nothing; nodes as usize]?,
             count: 0,
         })
@@ -143,7 +143,7 @@ impl StationWork {
             &self.stations,
             a,
             &mut self.left,
-            &mut self.search,
+            &mut self.exchange,
             &mut self.entries,
             steps,
         );

@@ -26,12 +26,12 @@ fn rank_without<L: Ledger>(
     list: &[u32],
     a: &mut Assignment,
     left: &mut Meters,
-    search: &mut Work,
+    exchange: &mut Work,
     steps: &mut Steps<L>,
 ) -> u32
     requires longest { IsLongest g.now ms.now.touches a.old }
     requires in_range { AreInRange g.now ms.now.touches }
-    requires room { HasRoomFor search.old.sizes g.now ms.now.touches }
+    requires room { HasRoomFor exchange.old.sizes g.now ms.now.touches }
     requires left { left.old.touches ≡ ms.now.touches }
     requires low { All (λ m. m < length ms.now.touches) list.now }
     ensures rank { result ≡ rho_at g.now.vertices g.now.ends ms.now.touches
@@ -42,16 +42,16 @@ fn rank_without<L: Ledger>(
     ensures turns_rise { a.old.turns ≤ a.new.turns }
     ensures turns_most { a.new.turns ≤ a.old.turns + length list.now }
     ensures same_room { HasRoomOf a.old a.new }
-    ensures same_sizes { search.new.sizes ≡ search.old.sizes }
+    ensures same_sizes { exchange.new.sizes ≡ exchange.old.sizes }
 {
     // What the graph knows of itself: the branches lie between the vertices.
     let _ = g.vertices();
     let most = a.length();
     lose(g, left, list, a);
-    let _ = regrow(g, left, a, most, search, steps);
+    let _ = regrow(g, left, a, most, exchange, steps);
     let rank = a.length();
     regain(ms, left, list);
-    let _ = regrow(g, ms, a, most, search, steps);
+    let _ = regrow(g, ms, a, most, exchange, steps);
     rank
 }
 
@@ -63,12 +63,12 @@ fn loss_of<L: Ledger>(
     c: u32,
     a: &mut Assignment,
     left: &mut Meters,
-    search: &mut Work,
+    exchange: &mut Work,
     steps: &mut Steps<L>,
 ) -> Loss
     requires longest { IsLongest g.now ms.now.touches a.old }
     requires in_range { AreInRange g.now ms.now.touches }
-    requires room { HasRoomFor search.old.sizes g.now ms.now.touches }
+    requires room { HasRoomFor exchange.old.sizes g.now ms.now.touches }
     requires left { left.old.touches ≡ ms.now.touches }
     requires keys { length stations.now.keys ≡ length ms.now.touches }
     requires station { c < stations.now.buses.count }
@@ -80,12 +80,12 @@ fn loss_of<L: Ledger>(
     ensures turns_rise { a.old.turns ≤ a.new.turns }
     ensures turns_most { a.new.turns ≤ a.old.turns + length (items_with stations.now.keys c) }
     ensures same_room { HasRoomOf a.old a.new }
-    ensures same_sizes { search.new.sizes ≡ search.old.sizes }
+    ensures same_sizes { exchange.new.sizes ≡ exchange.old.sizes }
 {
     // What the meters know of themselves: they are few.
     let _ = ms.count();
     let list = stations.meters(c);
-    let rank = rank_without(g, ms, list, a, left, search, steps);
+    let rank = rank_without(g, ms, list, a, left, exchange, steps);
     Loss {
         node: stations.node(c),
         lost: list.len() as u32,
@@ -100,13 +100,13 @@ pub(crate) fn write_losses<L: Ledger>(
     stations: &Stations,
     a: &mut Assignment,
     left: &mut Meters,
-    search: &mut Work,
+    exchange: &mut Work,
     entries: &mut [Loss],
     steps: &mut Steps<L>,
 ) -> usize
     requires longest { IsLongest g.now ms.now.touches a.old }
     requires in_range { AreInRange g.now ms.now.touches }
-    requires room { HasRoomFor search.old.sizes g.now ms.now.touches }
+    requires room { HasRoomFor exchange.old.sizes g.now ms.now.touches }
     requires left { left.old.touches ≡ ms.now.touches }
     requires keys { length stations.now.keys ≡ length ms.now.touches }
     requires some { (c : ℕ) → c < stations.now.buses.count → 0 < length (members_of stations.now.buses.buses c) }
@@ -120,12 +120,12 @@ pub(crate) fn write_losses<L: Ledger>(
     ensures turns_rise { a.old.turns ≤ a.new.turns }
     ensures turns_most { a.new.turns ≤ a.old.turns + group_start stations.now.keys stations.now.buses.count }
     ensures same_room { HasRoomOf a.old a.new }
-    ensures same_sizes { search.new.sizes ≡ search.old.sizes }
+    ensures same_sizes { exchange.new.sizes ≡ exchange.old.sizes }
 {
     let mut found = 0;
     for c in 0..stations.count() {
         if stations.has_any(c) {
-            entries[found] = loss_of(g, ms, stations, c, a, left, search, steps);
+            entries[found] = loss_of(g, ms, stations, c, a, left, exchange, steps);
             found += 1;
         }
     }

@@ -23,8 +23,8 @@ regrow-requires-clause-in_range g c =
 pub regrow-requires-clause-room : goal.regrow-requires-clause-room
 regrow-requires-clause-room g c =
     let touches = c.args.ms.now.touches in
-    subst (λ (t : List Touch). HasRoomFor c.args.search.now.sizes c.args.g.now t) (sym (left_is c.args.list.now c.args.left.now c.lose.new.left touches c.requires.left c.lose.ensures.left))
-    (room-losing (is_listed c.args.list.now) touches c.args.search.now.sizes c.args.g.now c.requires.room)
+    subst (λ (t : List Touch). HasRoomFor c.args.exchange.now.sizes c.args.g.now t) (sym (left_is c.args.list.now c.args.left.now c.lose.new.left touches c.requires.left c.lose.ensures.left))
+    (room-losing (is_listed c.args.list.now) touches c.args.exchange.now.sizes c.args.g.now c.requires.room)
 
 pub regrow-requires-clause-most : goal.regrow-requires-clause-most
 regrow-requires-clause-most g c =
@@ -39,21 +39,21 @@ regain-requires-clause-count g c =
     let touches = c.args.ms.now.touches in
     ap (λ (t : List Touch). length t) (left_is c.args.list.now c.args.left.now c.lose.new.left touches c.requires.left c.lose.ensures.left) ∙ length-losing (is_listed c.args.list.now) touches
 
-pub regrow-2-requires-clause-stands : goal.regrow-2-requires-clause-stands
-regrow-2-requires-clause-stands g c =
+pub regrow-requires-2-clause-stands : goal.regrow-requires-2-clause-stands
+regrow-requires-2-clause-stands g c =
     let touches = c.args.ms.now.touches in
     let is = left_is c.args.list.now c.args.left.now c.lose.new.left touches c.requires.left c.lose.ensures.left in
     let h : IsLongest c.args.g.now (losing (is_listed c.args.list.now) touches) c.regrow.new.a = subst (λ (t : List Touch). IsLongest c.args.g.now t c.regrow.new.a) is c.regrow.ensures.longest in
     stands-all (is_listed c.args.list.now) c.args.g.now touches c.regrow.new.a h.stands
 
-pub regrow-2-requires-clause-thawed : goal.regrow-2-requires-clause-thawed
-regrow-2-requires-clause-thawed g c = c.regrow.ensures.longest.thawed
+pub regrow-requires-2-clause-thawed : goal.regrow-requires-2-clause-thawed
+regrow-requires-2-clause-thawed g c = c.regrow.ensures.longest.thawed
 
-pub regrow-2-requires-clause-room : goal.regrow-2-requires-clause-room
-regrow-2-requires-clause-room g c = room_again c.args.g.now c.args.ms.now.touches c.args.search.now.sizes c.regrow.new.work.sizes c.regrow.ensures.same_sizes c.requires.room
+pub regrow-requires-2-clause-room : goal.regrow-requires-2-clause-room
+regrow-requires-2-clause-room g c = room_again c.args.g.now c.args.ms.now.touches c.args.exchange.now.sizes c.regrow.new.work.sizes c.regrow.ensures.same_sizes c.requires.room
 
-pub regrow-2-requires-clause-most : goal.regrow-2-requires-clause-most
-regrow-2-requires-clause-most g c =
+pub regrow-requires-2-clause-most : goal.regrow-requires-2-clause-most
+regrow-requires-2-clause-most g c =
     subst (λ (most : ℕ). IsMost c.args.g.now.ends c.args.ms.now.touches most) (sym c.length-most.ensures.length) (most-longest c.args.g.now c.args.ms.now.touches c.args.a.now c.requires.longest)
 
 pub returns-clause-rank : goal.returns-clause-rank

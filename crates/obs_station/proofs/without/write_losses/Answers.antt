@@ -26,7 +26,7 @@ loop-c-preserved g c =
           let ticks_more = e.ticks in
           let rise_more = e.turns_rise in
           let most_more = e.turns_most in
-          rw (w.a-is, w.left-is, w.search-is, w.entries-is, w.found-is, w.steps-is)
+          rw (w.a-is, w.left-is, w.exchange-is, w.entries-is, w.found-is, w.steps-is)
           (record {
             listing = Listing-more c.args.g.now touches s n l.entries l.found l.c i.listing w.loss_of.result low (omega arith) any e.loss;
             low = omega (arith, low);
@@ -40,7 +40,7 @@ loop-c-preserved g c =
           })
       | else-has_any w ↦
           let none : has_any s l.c ≡ false = sym c.has_any.ensures.any ∙ w.if-has_any.false in
-          rw (w.a-is, w.left-is, w.search-is, w.entries-is, w.found-is, w.steps-is)
+          rw (w.a-is, w.left-is, w.exchange-is, w.entries-is, w.found-is, w.steps-is)
           (record {
             listing = Listing-over c.args.g.now touches s n l.entries l.found l.c i.listing low none;
             low = omega (arith, low);

@@ -15,5 +15,5 @@ invariant-loop-c g l = record {
   turns_rise : l.fn.a.turns ≤ l.a.turns;
   turns_most : l.a.turns ≤ l.fn.a.turns + group_start l.stations.keys l.c;
   same_room : HasRoomOf l.fn.a l.a;
-  same_sizes : l.search.sizes ≡ l.fn.search.sizes;
+  same_sizes : l.exchange.sizes ≡ l.fn.exchange.sizes;
 }

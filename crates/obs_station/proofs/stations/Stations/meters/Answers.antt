@@ -1,14 +1,21 @@
-use Rattle.std.proofs.Common.{ℕ, ◌<◌, ◌≤◌, List, length, sym, subst}
+use Rattle.std.proofs.Common.{◌≡◌, ℕ, ◌<◌, ◌≤◌, List, length, take, ap, ◌∙◌, subst}
 use Rattle.std.specs.Prelude.{All}
+use Rattle.obs_switch.specs.Groups.{items_with}
+use Rattle.obs_station.specs.Held.{Stations}
 use Rattle.obs_station.proofs.Summed.{items-few, items-low}
 use Rattle.obs_station.proofs.stations.Stations.meters.Goals as goal
+use Rattle.obs_station.proofs.stations.Stations.meters.Goals.{After-group_of}
+
+-- the keys that are looked at
+keys_are : (c : After-group_of) → take c.self.inside.meters c.deref.result.now ≡ c.args.self.now.keys
+keys_are c = ap (take c.self.inside.meters) c.deref.ensures.value ∙ ap (λ (s : Stations). s.keys) c.self.view_is
 
 pub returns-clause-low : goal.returns-clause-low
 returns-clause-low c =
-    let keys = c.args.self.now.keys in
-    rw (c.group_of.ensures.members) (items-low keys c.args.c)
+    let keys = take c.self.inside.meters c.deref.result.now in
+    rw (c.group_of.ensures.members) (subst (λ (ks : List ℕ). All (λ m. m < length ks) (items_with keys c.args.c)) (keys_are c) (items-low keys c.args.c))
 
 pub returns-clause-few : goal.returns-clause-few
 returns-clause-few c =
-    let keys = c.args.self.now.keys in
-    rw (c.group_of.ensures.members) (items-few keys c.args.c)
+    let keys = take c.self.inside.meters c.deref.result.now in
+    rw (c.group_of.ensures.members) (subst (λ (ks : List ℕ). length (items_with keys c.args.c) ≤ length ks) (keys_are c) (items-few keys c.args.c))
