@@ -3,3 +3,4 @@ pub mod Regaining
 pub mod Summed
 pub mod Listing
 pub mod Stationed
+pub mod Finding
