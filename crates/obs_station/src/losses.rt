@@ -1,4 +1,5 @@
 // The losses of stations.
+ghost use Rattle.std.specs.Borrow.{sem};
 ghost use Rattle.std.specs.Prelude.{◌≡◌, ◌+◌, ◌≤◌, [], IfOk, length};
 ghost use Rattle.obs_network.specs.Network.{network_of, rows_of};
 ghost use Rattle.obs_network.specs.Observable.{case_live_meters};
@@ -88,6 +89,8 @@ impl Drop for StationWork {
 }
 
 impl StationWork {
+    ghost use Rattle.obs_station.specs.Lending.{EndsSo};
+
     /// Room for the losses of a case's stations, and of any case with as many rows in each table.
     pub fn make(alloc: Global, case: &Case) -> Result<StationWork, NoMemory>
         ensures rows { IfOk result (λ w. w.rows ≡ rows_of case.now) }
@@ -173,6 +176,7 @@ impl StationWork {
         ensures turns_rise { a.old.turns ≤ a.new.turns }
         ensures turns_most { a.new.turns ≤ a.old.turns + (length (case_live_meters case.now) + length (losses_of case.now)) }
         ensures same_room { HasRoomOf a.old a.new }
+        ensures* after { sem 𝓛 (EndsSo self.entry (λ w. (w.rows ≡ self.old.rows) × (w.found ≡ losses_of case.now))) }
     {
         self.find_losses(case, network, a, steps);
         self.list()
