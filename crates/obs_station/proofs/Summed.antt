@@ -1,5 +1,5 @@
 -- The live meters of all stations are at most the live meters.
-use Rattle.std.proofs.Common.{◌≡◌, ℕ, zero, suc, ◌+◌, ◌<◌, ◌≤◌, Bool, true, false, cond, eqb, ltb, List, [], ◌∷◌, length, map, get_or, sym, ap, ◌∙◌, inl, inr, arith}
+use Rattle.std.proofs.Common.{◌≡◌, ℕ, zero, suc, ◌+◌, ◌<◌, ◌≤◌, Bool, false, cond, eqb, ltb, List, [], ◌∷◌, length, map, ap, inl, inr, arith}
 use Rattle.std.specs.Prelude.{All, filter}
 use Rattle.std.specs.List.{range_with_len}
 use Rattle.std.proofs.lemmas.Bool.{cases_Bool, le-ltb}
@@ -15,7 +15,7 @@ use Rattle.obs_network.specs.Network.{case_branches, case_meters}
 use Rattle.obs_network.specs.Observable.{case_live_meters}
 use Rattle.obs_network.proofs.OfCase.{length-case_meters}
 use Rattle.obs_station.specs.Held.{key_of, keys_of}
-use Rattle.obs_station.specs.Stations.{case_station_count, meter_stations}
+use Rattle.obs_station.specs.Stations.{case_station_count}
 
 -- one key has the item b, or none below n
 below_or : (b n : ℕ) → sum_below (λ v. cond (eqb b v) 1 0) n ≤ cond (ltb b n) 1 0

@@ -1,5 +1,5 @@
 -- What is held while losses are found.
-use Rattle.std.specs.Prelude.{◌≡◌, ℕ, suc, ◌+◌, ◌<◌, ◌≤◌, ◌^◌, Bool, if◌then◌else◌, nat_lt, List, length, map, filter, slice_index, take}
+use Rattle.std.specs.Prelude.{◌≡◌, ℕ, suc, ◌<◌, ◌≤◌, ◌^◌, Bool, if◌then◌else◌, nat_lt, List, length, map, filter, slice_index, take}
 use Rattle.std.specs.List.{range_with_len}
 use Rattle.obs_graph.specs.Graph.{Graph}
 use Rattle.obs_case.specs.Tables.{Tables}

@@ -1,9 +1,9 @@
-use Rattle.std.proofs.Common.{◌≡◌, ℕ, ◌<◌, List, length, map, sym, ap, ◌∙◌, arith}
+use Rattle.std.proofs.Common.{ℕ, List, length, sym, ap, ◌∙◌, arith}
 use Rattle.std.specs.Prelude.{slice_index, slice_index_or}
 use Rattle.std.proofs.lemmas.List.{get_or-map}
 use Rattle.std.proofs.lemmas.List.FromFn.{length-map-range_with_len}
 use Rattle.obs_switch.specs.Buses.{bus_of}
-use Rattle.obs_station.specs.Stations.{all_links, case_stations, meter_stations, place_node, station_of}
+use Rattle.obs_station.specs.Stations.{all_links, case_stations, meter_stations, station_of}
 use Rattle.obs_station.proofs.keys.station_of.Goals as goal
 
 pub bus-requires : goal.bus-requires

@@ -1,4 +1,4 @@
-use Rattle.std.proofs.Common.{◌≡◌, ℕ, ◌+◌, ◌<◌, ◌≤◌, List, length, refl, sym, ap, ◌∙◌, subst, arith}
+use Rattle.std.proofs.Common.{ℕ, ◌<◌, length, refl, subst}
 use Rattle.std.specs.Prelude.{All}
 use Rattle.obs_station.proofs.Grouped.{loss_made}
 use Rattle.obs_station.proofs.without.loss_of.Goals as goal

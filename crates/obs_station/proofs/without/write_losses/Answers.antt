@@ -1,4 +1,4 @@
-use Rattle.std.proofs.Common.{◌≡◌, ℕ, ◌+◌, ◌<◌, ◌≤◌, true, false, length, sym, ap, ◌∙◌, arith}
+use Rattle.std.proofs.Common.{◌≡◌, ◌<◌, true, false, sym, ap, ◌∙◌, arith}
 use Rattle.obs_exchange.proofs.Lengthening.{rooms}
 use Rattle.obs_switch.specs.Groups.{group_start}
 use Rattle.obs_station.specs.Held.{has_any}

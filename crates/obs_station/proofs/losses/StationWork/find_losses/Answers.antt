@@ -12,7 +12,7 @@ use Rattle.obs_network.specs.Network.{Rows}
 use Rattle.obs_network.specs.Observable.{case_live_meters}
 use Rattle.obs_network.proofs.OfCase.{length-case_meters}
 use Rattle.obs_kept.proofs.OfNetwork.{longest_network}
-use Rattle.obs_station.specs.Held.{key_of, keys_of}
+use Rattle.obs_station.specs.Held.{key_of}
 use Rattle.obs_station.specs.Stations.{StationWork, losses_of}
 use Rattle.obs_station.proofs.Finding.{few-of_case, found-of_case, list-of_case, over_case, room_for, touches_are}
 use Rattle.obs_station.proofs.Stationed.{some_node}
