@@ -10,6 +10,7 @@ use Rattle.obs_matroid.proofs.Lists.{clash}
 use Rattle.obs_meter.specs.declared.Touch.{Touch}
 use Rattle.obs_assign.specs.Assignment.{has_flag}
 use Rattle.obs_exchange.specs.Blank.{AreNumbers}
+use Rattle.obs_pairs.specs.PairWork.{AreFirst}
 use Rattle.obs_pairs.specs.Partners.{class_at, classes_of}
 use Rattle.obs_pairs.specs.Settled.{AreSettled, LacksClass, redundant_at}
 use Rattle.obs_pairs.proofs.Partnered.{class_again, class_alone, class_low, class_redundant}
@@ -31,6 +32,19 @@ module _ (n : ℕ) (ends : List (Option Ends)) (touches : List Touch) (ok : AreB
       all : (a b : Bool) → b ≡ false → a ≡ (a && not b)
       all true b f = rw f refl
       all false b f = refl
+
+  -- the classes are named by their first meters
+  pub first_of_classes : (list : List ℕ) → list ≡ classes_of n ends touches → AreFirst list
+  first_of_classes list e k l =
+      let low = class_low n ends touches ok k in
+      let len = ap (λ (xs : List ℕ). length xs) e ∙ length-map-range_with_len (class_at n ends touches) 0 (length touches) in
+      let at : (x : ℕ) → x < length list → get_or list x 0 ≡ class_at n ends touches x =
+      λ x m. ap (λ (xs : List ℕ). get_or xs x 0) e ∙ get_or-map-range_with_len (class_at n ends touches) 0 (length touches) x x 0 (omega (arith, len, m)) (omega arith) in
+      let first : class_at n ends touches k < length list = omega (arith, low, l) in
+      let own = at k l in (
+        omega (arith, own, low),
+        ap (λ x. get_or list x 0) own ∙ (at (class_at n ends touches k) first ∙ (class_again n ends touches ok k ∙ sym own)),
+      )
 
   module _ (flags : List Bool) (list : List ℕ) (i : ℕ) (h : AreSettled n ends touches flags list i) where
     -- where i isn't open, no class is named i

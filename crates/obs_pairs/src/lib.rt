@@ -5,6 +5,7 @@ mod lacking;
 pub mod laws;
 mod memory;
 mod settle;
+mod shared;
 mod work;
 
 pub use memory::NoMemory;

@@ -1,5 +1,5 @@
 // Classes of partners, and what they are found in.
-ghost use Rattle.std.specs.Prelude.{◌≡◌, ◌==◌, ◌&&◌, ◌<◌, [], IfOk, length, not, slice_index};
+ghost use Rattle.std.specs.Prelude.{◌≡◌, ◌<◌, [], IfOk, length};
 ghost use Rattle.obs_meter.specs.Sizes.{HasRoomFor};
 ghost use Rattle.obs_meter.specs.Touches.{AreInRange};
 ghost use Rattle.obs_assign.specs.Assignment.{HasRoomOf};
@@ -9,6 +9,7 @@ ghost use Rattle.obs_pairs.specs.Partners.{classes_of};
 
 use crate::memory::NoMemory;
 use crate::settle::list_classes;
+use crate::shared::mark_shared;
 use obs_assign::{Assignment, Steps};
 use obs_exchange::Work;
 use obs_graph::Graph;
@@ -24,6 +25,8 @@ pub struct PairWork {
     // the class of each meter, and whether it is still to be found
     list: Vec<u32>,
     waiting: Vec<bool>,
+    // whether another has the same class
+    shared: Vec<bool>,
     // the meters, where one of them may be lost
     left: Meters,
     // what finds pairs
@@ -32,7 +35,7 @@ pub struct PairWork {
 
 impl Model for PairWork {
     ghost use Rattle.std.specs.Prelude.{◌≡◌, ◌≤◌, length, take};
-    ghost use Rattle.obs_pairs.specs.PairWork.{PairWork};
+    ghost use Rattle.obs_pairs.specs.PairWork.{AreShared, PairWork};
 
     ghost Value = { PairWork };
 
@@ -42,6 +45,8 @@ impl Model for PairWork {
       found : w.count ≤ length w.list.items;
       places : length w.list.items ≡ w.search.sizes.meters;
       flags : length w.waiting.items ≡ w.search.sizes.meters;
+      marks : length w.shared.items ≡ w.search.sizes.meters;
+      shared : AreShared (take w.count w.list.items) w.shared.items;
       left : w.left.most ≡ w.search.sizes.meters;
     } };
 }
@@ -53,32 +58,11 @@ impl Drop for PairWork {
             count: _,
             list: _,
             waiting: _,
+            shared: _,
             left: _,
             search: _,
         } = self;
     }
-}
-
-// Whether k is another meter than m, of the same class.
-fn is_other(list: &[u32], m: u32, k: usize) -> bool
-    requires m { m < length list.now }
-    requires k { k < length list.now }
-    ensures value { result ≡ (not (k == m) && (slice_index list.now k == slice_index list.now m)) }
-{
-    k != m as usize && list[k] == list[m as usize]
-}
-
-// Whether another meter has the class that the meter has.
-fn is_shared(list: &[u32], m: u32) -> bool
-    requires m { m < length list.now }
-    ensures value { result ≡ has_another list.now m }
-{
-    for k in 0..list.len() {
-        if is_other(list, m, k) {
-            return true;
-        }
-    }
-    false
 }
 
 impl PairWork {
@@ -98,6 +82,7 @@ impl PairWork {
             count: 0,
             list: vec![in alloc; 0; most_meters as usize]?,
             waiting: vec![in alloc; false; most_meters as usize]?,
+            shared: vec![in alloc; false; most_meters as usize]?,
             left: Meters::make(alloc, most_meters)?,
             search: Work::make(alloc, most_meters, most_branches, most_vertices)?,
         })
@@ -115,7 +100,7 @@ impl PairWork {
         requires m { m < length self.now.list }
         ensures partner { result ≡ has_another self.now.list m }
     {
-        is_shared(self.list(), m)
+        self.shared[m as usize]
     }
 }
 
@@ -136,6 +121,7 @@ pub fn find_classes<L: Ledger>(
     ensures same_room { HasRoomOf a.old a.new }
     ensures same_sizes { work.new.sizes ≡ work.old.sizes }
 {
+    let _ = g.vertices();
     work.left.refill(ms.touches());
     list_classes(
         g,
@@ -148,6 +134,7 @@ pub fn find_classes<L: Ledger>(
         steps,
     );
     work.count = ms.count() as usize;
+    mark_shared(&work.list[..work.count], &mut work.shared);
 }
 
 /// For each meter the first meter of its class. For a critical meter, one without a partner or one that is idle that is

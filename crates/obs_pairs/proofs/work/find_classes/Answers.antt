@@ -1,0 +1,17 @@
+use Rattle.std.proofs.Common.{◌≡◌, ◌++◌, ℕ, List, length, drop, ap, ◌∙◌}
+use Rattle.std.specs.Prelude.{take}
+use Rattle.obs_graph.proofs.Stored.{written_back}
+use Rattle.obs_pairs.specs.Partners.{classes_of}
+use Rattle.obs_pairs.proofs.Settling.{first_of_classes}
+use Rattle.obs_pairs.proofs.work.find_classes.Goals as goal
+
+pub mark_shared-requires-clause-first : goal.mark_shared-requires-clause-first
+mark_shared-requires-clause-first g c =
+    let touches = c.args.ms.now.touches in
+    let list = take c.count.result c.deref.result.now in
+    let v = c.work.inside.list in
+    let new = c.list_classes.new.list in
+    let back : take v.len (new ++ drop (length new) v.items) ≡ new = written_back v.len new v.items (c.list_classes.auto.list ∙ ap length c.deref_mut-2.ensures.value) v.ok.0 in
+    let is : list ≡ classes_of c.args.g.now.vertices c.args.g.now.ends touches =
+    ap (λ (k : ℕ). take k c.deref.result.now) c.count.ensures.count ∙ (ap (λ (xs : List ℕ). take (length touches) xs) (c.deref.ensures.value ∙ back) ∙ c.list_classes.ensures.classes) in
+    first_of_classes c.args.g.now.vertices c.args.g.now.ends touches c.vertices.ensures.branches list is
