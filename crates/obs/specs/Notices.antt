@@ -36,7 +36,7 @@ abbrev pub notice : List (List ℕ) → Status → Option ℕ → List ℕ
 notice words Done failed = []
 notice words Short failed = []
 notice words Usage failed =
-    codes "obs: these words are none of: topology N S, report FORM, place FORM CAND, session FORM, verify FORM CERT, trial N SEED.\n"
+    codes "obs: these words are none of: topology N S, report FORM, place FORM CAND, session FORM, verify FORM CERT, trial N SEED,\nobs: outages FORM, pairs FORM, stations FORM.\n"
     ++ codes "obs: FORM is: tables N S B M, or cdf C M, or matpower C M; session and verify also take FORM with CAND. Names of files are UTF-8.\n"
 notice words InputFault failed =
     codes "obs: a file has a fault. The line on standard output has its part, row, code and name; docs/GUIDE.md has likely causes.\n"

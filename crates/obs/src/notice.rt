@@ -7,7 +7,8 @@ use obs_engine::Status;
 use obs_io::{Failed, Sink, write_all};
 
 const USAGE: &[u8] =
-    b"obs: these words are none of: topology N S, report FORM, place FORM CAND, session FORM, verify FORM CERT, trial N SEED.\n\
+    b"obs: these words are none of: topology N S, report FORM, place FORM CAND, session FORM, verify FORM CERT, trial N SEED,\n\
+obs: outages FORM, pairs FORM, stations FORM.\n\
 obs: FORM is: tables N S B M, or cdf C M, or matpower C M; session and verify also take FORM with CAND. Names of files are UTF-8.\n";
 
 const INPUT_FAULT: &[u8] =

@@ -133,7 +133,7 @@ fn what_cannot_be_said_changes_nothing(rt: HostRuntime) -> Result<(), Fail> {
     assert_eq!(rt; found.notice.as_slice(), b"obs: this".as_slice());
     let usage = outcome(rt.alloc(), &["topologie", "nodes.csv"], NODES, &[], &[0])?;
     assert_eq!(rt; usage.status, Status::Usage);
-    assert_eq!(rt; usage.answer.len(), 105);
+    assert_eq!(rt; usage.answer.len(), 149);
     assert_eq!(rt; usage.notice.as_slice(), b"".as_slice());
     Ok(())
 }

@@ -30,7 +30,7 @@ pub rank_greatest : (t : Tables) → IsValid t → IsRhoAt (case_branches t) (ca
 unfolding case_rank
 rank_greatest t v = rho_at-is (case_vertex_count t) (case_branches t) (case_meters t) (case_live_meters t) (case_branches-are t v) (live_items-distinct (case_branches t) (case_meters t))
 
-rank_observed : (t : Tables) → IsValid t → IsObservableCase t ↔ (case_rank t ≡ case_needed t)
+pub rank_observed : (t : Tables) → IsValid t → IsObservableCase t ↔ (case_rank t ≡ case_needed t)
 unfolding case_rank
 rank_observed t v = observed_by_rho t v
 

@@ -24,3 +24,8 @@ pub mod Generated
 pub mod Claimed
 pub mod Kept
 pub mod StillValid
+pub mod Studied
+pub mod Bearing
+pub mod OutagesBorne
+pub mod LossesBorne
+pub mod FailTogether

@@ -16,6 +16,8 @@ use Rattle.obs_ieee_cdf.specs.Read.{tables_after}
 use Rattle.obs_ieee_cdf.specs.Rows.{cdf_of}
 use Rattle.obs_matpower.specs.Faults.{mat_fault}
 use Rattle.obs_matpower.specs.Read.{mat_of}
+use Rattle.obs_outage.specs.Outages.{outages_of}
+use Rattle.obs_station.specs.Stations.{losses_of}
 use Rattle.obs_placement.specs.Placed.{Placed}
 use Rattle.obs_placement.specs.Placed.Placed.{cheapest, shortfall}
 use Rattle.obs_script.specs.declared.command.Ask.{Ask}
@@ -28,7 +30,9 @@ use Rattle.obs_engine.specs.declared.status.Status.{Status}
 use Rattle.obs_engine.specs.declared.status.Status.TheVariants.{Done, Short, InputFault, SessionTooLong}
 use Rattle.obs_engine.specs.declared.words.CaseForm.{CaseForm}
 use Rattle.obs_engine.specs.declared.words.CaseForm.TheVariants.{Csv, Cdf, Matpower}
-use Rattle.obs_engine.specs.declared.words.CaseCommand.TheVariants.{Report, Place, Session, Verify}
+use Rattle.obs_engine.specs.declared.words.CaseCommand.TheVariants.{Report, Place, Session, Verify, Study as StudyOf}
+use Rattle.obs_engine.specs.declared.words.Study.{Study}
+use Rattle.obs_engine.specs.declared.words.Study.TheVariants.{Outages, Pairs, Stations}
 use Rattle.obs_engine.specs.declared.words.Form.{Form}
 use Rattle.obs_engine.specs.declared.words.Form.TheVariants.{Topology, Case, Trial}
 use Rattle.obs_engine.specs.Asks.{ask_reply, ask_status, placed_status, report_status}
@@ -40,6 +44,9 @@ use Rattle.obs_engine.specs.Lines.{lines_case}
 use Rattle.obs_engine.specs.Sessions.{most_input_bytes, session_reply}
 use Rattle.obs_engine.specs.Stated.{Told}
 use Rattle.obs_engine.specs.Replies.{IsRefused, IsReplyTo, Reply}
+use Rattle.obs_engine.specs.OutageReply.{are_met, outages_status}
+use Rattle.obs_engine.specs.StationReply.{are_borne, stations_status}
+use Rattle.obs_engine.specs.Studies.{study_reply}
 use Rattle.obs_engine.specs.Topology.{topology_reply}
 use Rattle.obs_engine.specs.Trials.{dips_of, trial_reply}
 use Rattle.obs_engine.specs.Verify.{checked_reply, claims_reply, verify_reply}
@@ -134,6 +141,28 @@ claims-can t (Err fault) = inr (inr refl)
 pub verify-can : (t : Tables) (bytes : List ℕ) → CanVerify (verify_reply t bytes).status
 verify-can t bytes = claims-can t (claims_of bytes)
 
+-- the statuses of studies
+pub outages_status-is : (t : Tables) → IsVerdict (outages_status t)
+unfolding outages_status
+outages_status-is t = by (are_met (outages_of t))
+  where
+    by : (b : Bool) → IsVerdict (if b then report_status t else Short)
+    by true = report_status-is t
+    by false = inr refl
+
+pub stations_status-is : (t : Tables) → IsVerdict (stations_status t)
+unfolding stations_status
+stations_status-is t = by (are_borne (case_needed t) (losses_of t))
+  where
+    by : (b : Bool) → IsVerdict (if b then report_status t else Short)
+    by true = report_status-is t
+    by false = inr refl
+
+study-is : (study : Study) (t : Tables) → IsVerdict (study_reply study t).status
+study-is Outages t = outages_status-is t
+study-is Pairs t = report_status-is t
+study-is Stations t = stations_status-is t
+
 -- the status of the reply to a case
 pub case-can : (form : Form) (input certificate : List ℕ) (t : Tables) (reply : Reply) → IsCaseReply form input certificate t reply → CanEnd form reply.status
 case-can Topology input certificate t reply is = ap (λ (r : Reply). r.status) is
@@ -141,6 +170,7 @@ case-can (Case Report from) input certificate t reply is = subst (λ (r : Reply)
 case-can (Case Place from) input certificate t reply is = subst (λ (r : Reply). IsVerdict r.status) (sym is) (placed_status-is (case_placement t))
 case-can (Case (Session offered) from) input certificate t reply is = subst (λ (r : Reply). CanReply r.status) (sym is) (session-can offered t input)
 case-can (Case (Verify offered) from) input certificate t reply is = subst (λ (r : Reply). CanVerify r.status) (sym is) (verify-can t certificate)
+case-can (Case (StudyOf study) from) input certificate t reply is = subst (λ (r : Reply). IsVerdict r.status) (sym is) (study-is study t)
 case-can (Trial rows seed) input certificate t reply (searches, few, most, is) = subst (λ (r : Reply). IsVerdict r.status) (sym is) (report_status-is t)
 
 pub verdict_no_failure : (status : Status) → IsVerdict status → IsFailure status → ⊥
@@ -174,6 +204,7 @@ end_no_failure (Case Report from) status e = verdict_no_failure status e
 end_no_failure (Case Place from) status e = verdict_no_failure status e
 end_no_failure (Case (Session offered) from) status e = reply_no_failure status e
 end_no_failure (Case (Verify offered) from) status e = verify_no_failure status e
+end_no_failure (Case (StudyOf study) from) status e = verdict_no_failure status e
 end_no_failure (Trial rows seed) status e = verdict_no_failure status e
 
 pub case_no_failure : (form : Form) (input certificate : List ℕ) (t : Tables) (reply : Reply) → IsCaseReply form input certificate t reply → IsFailure reply.status → ⊥
@@ -194,6 +225,7 @@ some_reply (Case Report from) input certificate t = (ask_reply ReportAsk t, refl
 some_reply (Case Place from) input certificate t = (ask_reply PlaceAsk t, refl)
 some_reply (Case (Session offered) from) input certificate t = (session_reply offered t input, refl)
 some_reply (Case (Verify offered) from) input certificate t = (verify_reply t certificate, refl)
+some_reply (Case (StudyOf study) from) input certificate t = (study_reply study t, refl)
 some_reply (Trial rows seed) input certificate t = (trial_reply rows seed t (dips_of t), (dips_of t, omega arith, dips_few t, refl))
 
 -- and so one that is stated for the files of a form
@@ -221,4 +253,5 @@ nothing_before (Case Report from) told left is = refl
 nothing_before (Case Place from) told left is = refl
 nothing_before (Case (Session offered) from) told left is = ap (λ (l : Option (List ℕ)). answered_in offered (case_in_files (Case (Session offered) from) told.file) told.input l) (is tt) ∙ nothing_in offered (case_in_files (Case (Session offered) from) told.file) told.input
 nothing_before (Case (Verify offered) from) told left is = refl
+nothing_before (Case (StudyOf study) from) told left is = refl
 nothing_before (Trial rows seed) told left is = refl

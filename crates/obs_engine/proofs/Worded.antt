@@ -10,7 +10,8 @@ use Rattle.obs_text.proofs.ByteLemmas.{same_bytes}
 use Rattle.obs_engine.specs.declared.words.CaseForm.{CaseForm}
 use Rattle.obs_engine.specs.declared.words.CaseForm.TheVariants.{Csv, Cdf, Matpower}
 use Rattle.obs_engine.specs.declared.words.CaseCommand.{CaseCommand}
-use Rattle.obs_engine.specs.declared.words.CaseCommand.TheVariants.{Report, Place, Session, Verify}
+use Rattle.obs_engine.specs.declared.words.CaseCommand.TheVariants.{Report, Place, Session, Verify, Study as StudyOf}
+use Rattle.obs_engine.specs.declared.words.Study.TheVariants.{Outages, Pairs, Stations}
 use Rattle.obs_engine.specs.declared.words.Form.{Form}
 use Rattle.obs_engine.specs.declared.words.Form.TheVariants.{Topology, Case, Trial}
 use Rattle.obs_engine.specs.Forms.{HasRows}
@@ -248,6 +249,12 @@ from_case (Verify false) from files behind l m = let t = one behind m in
     subst (λ bs. Has (Verify false) (λ fs. fs ++ bs) from files) (sym t.1) (of_files (Has (Verify false) (λ fs. fs ++ (t.0 ∷ []))) (λ a b d e. refl) (λ a b. refl) (λ a b. refl) from files l)
 from_case (Verify true) from files behind l m = let t = two behind m in
     subst (λ bs. Has (Verify true) (λ fs. fs ++ (codes "with" ∷ bs)) from files) (sym t.2) (of_files (Has (Verify true) (λ fs. fs ++ (codes "with" ∷ t.0 ∷ t.1 ∷ []))) (λ a b d e. refl) (λ a b. refl) (λ a b. refl) from files l)
+from_case (StudyOf Outages) from files behind l m = let e = none behind m in
+    subst (λ bs. Has (StudyOf Outages) (λ fs. fs ++ bs) from files) (sym e) (of_files (Has (StudyOf Outages) (λ fs. fs ++ [])) (λ a b d e. refl) (λ a b. refl) (λ a b. refl) from files l)
+from_case (StudyOf Pairs) from files behind l m = let e = none behind m in
+    subst (λ bs. Has (StudyOf Pairs) (λ fs. fs ++ bs) from files) (sym e) (of_files (Has (StudyOf Pairs) (λ fs. fs ++ [])) (λ a b d e. refl) (λ a b. refl) (λ a b. refl) from files l)
+from_case (StudyOf Stations) from files behind l m = let e = none behind m in
+    subst (λ bs. Has (StudyOf Stations) (λ fs. fs ++ bs) from files) (sym e) (of_files (Has (StudyOf Stations) (λ fs. fs ++ [])) (λ a b d e. refl) (λ a b. refl) (λ a b. refl) from files l)
 
 from_form : (words : List (List ℕ)) (form : Form) → IsFormOf form words → form_of words ≡ Some form
 from_form words Topology h = subst (λ (ws : List (List ℕ)). form_of ws ≡ Some Topology) (sym h.2) refl
@@ -264,11 +271,14 @@ form_exactly words form = (to_form words form, from_form words form)
 
 -- the usage line names each form
 pub in_usage : (form : Form) → IsInUsage form
-in_usage Topology = (codes "usage: obs", codes " | report FORM | place FORM CAND | session FORM | verify FORM CERT | trial N SEED\n", refl)
-in_usage (Case Report from) = (codes "usage: obs topology N S |", codes " | place FORM CAND | session FORM | verify FORM CERT | trial N SEED\n", refl)
-in_usage (Case Place from) = (codes "usage: obs topology N S | report FORM |", codes " | session FORM | verify FORM CERT | trial N SEED\n", refl)
-in_usage (Case (Session false) from) = (codes "usage: obs topology N S | report FORM | place FORM CAND |", codes " | verify FORM CERT | trial N SEED\n", refl)
-in_usage (Case (Session true) from) = (codes "usage: obs topology N S | report FORM | place FORM CAND |", codes " | verify FORM CERT | trial N SEED\n", refl)
-in_usage (Case (Verify false) from) = (codes "usage: obs topology N S | report FORM | place FORM CAND | session FORM |", codes " | trial N SEED\n", refl)
-in_usage (Case (Verify true) from) = (codes "usage: obs topology N S | report FORM | place FORM CAND | session FORM |", codes " | trial N SEED\n", refl)
-in_usage (Trial rows seed) = (codes "usage: obs topology N S | report FORM | place FORM CAND | session FORM | verify FORM CERT |", codes "\n", refl)
+in_usage Topology = (codes "usage: obs", codes " | report FORM | place FORM CAND | session FORM | verify FORM CERT | trial N SEED | outages FORM | pairs FORM | stations FORM\n", refl)
+in_usage (Case Report from) = (codes "usage: obs topology N S |", codes " | place FORM CAND | session FORM | verify FORM CERT | trial N SEED | outages FORM | pairs FORM | stations FORM\n", refl)
+in_usage (Case Place from) = (codes "usage: obs topology N S | report FORM |", codes " | session FORM | verify FORM CERT | trial N SEED | outages FORM | pairs FORM | stations FORM\n", refl)
+in_usage (Case (Session false) from) = (codes "usage: obs topology N S | report FORM | place FORM CAND |", codes " | verify FORM CERT | trial N SEED | outages FORM | pairs FORM | stations FORM\n", refl)
+in_usage (Case (Session true) from) = (codes "usage: obs topology N S | report FORM | place FORM CAND |", codes " | verify FORM CERT | trial N SEED | outages FORM | pairs FORM | stations FORM\n", refl)
+in_usage (Case (Verify false) from) = (codes "usage: obs topology N S | report FORM | place FORM CAND | session FORM |", codes " | trial N SEED | outages FORM | pairs FORM | stations FORM\n", refl)
+in_usage (Case (Verify true) from) = (codes "usage: obs topology N S | report FORM | place FORM CAND | session FORM |", codes " | trial N SEED | outages FORM | pairs FORM | stations FORM\n", refl)
+in_usage (Case (StudyOf Outages) from) = (codes "usage: obs topology N S | report FORM | place FORM CAND | session FORM | verify FORM CERT | trial N SEED |", codes " | pairs FORM | stations FORM\n", refl)
+in_usage (Case (StudyOf Pairs) from) = (codes "usage: obs topology N S | report FORM | place FORM CAND | session FORM | verify FORM CERT | trial N SEED | outages FORM |", codes " | stations FORM\n", refl)
+in_usage (Case (StudyOf Stations) from) = (codes "usage: obs topology N S | report FORM | place FORM CAND | session FORM | verify FORM CERT | trial N SEED | outages FORM | pairs FORM |", codes "\n", refl)
+in_usage (Trial rows seed) = (codes "usage: obs topology N S | report FORM | place FORM CAND | session FORM | verify FORM CERT |", codes " | outages FORM | pairs FORM | stations FORM\n", refl)

@@ -2,13 +2,14 @@
 use Rattle.std.specs.Prelude.{ℕ, ◌≡◌, List}
 use Rattle.obs_case.specs.Tables.{Tables}
 use Rattle.obs_script.specs.declared.command.Ask.TheVariants.{Report as ReportAsk, Place as PlaceAsk}
-use Rattle.obs_engine.specs.declared.words.CaseCommand.TheVariants.{Report, Place, Session, Verify}
+use Rattle.obs_engine.specs.declared.words.CaseCommand.TheVariants.{Report, Place, Session, Verify, Study}
 use Rattle.obs_engine.specs.declared.words.Form.{Form}
 use Rattle.obs_engine.specs.declared.words.Form.TheVariants.{Topology, Case, Trial}
 use Rattle.obs_engine.specs.Asks.{ask_reply}
 use Rattle.obs_engine.specs.Files.{case_in_files, certificate_in}
 use Rattle.obs_engine.specs.Replies.{IsReplyTo, Reply}
 use Rattle.obs_engine.specs.Sessions.{session_reply}
+use Rattle.obs_engine.specs.Studies.{study_reply}
 use Rattle.obs_engine.specs.Topology.{topology_reply}
 use Rattle.obs_engine.specs.Trials.{IsTrialReply}
 use Rattle.obs_engine.specs.Verify.{verify_reply}
@@ -21,6 +22,7 @@ IsCaseReply (Case Report from) input certificate t reply = reply ≡ ask_reply R
 IsCaseReply (Case Place from) input certificate t reply = reply ≡ ask_reply PlaceAsk t
 IsCaseReply (Case (Session offered) from) input certificate t reply = reply ≡ session_reply offered t input
 IsCaseReply (Case (Verify offered) from) input certificate t reply = reply ≡ verify_reply t certificate
+IsCaseReply (Case (Study study) from) input certificate t reply = reply ≡ study_reply study t
 IsCaseReply (Trial rows seed) input certificate t reply = IsTrialReply rows seed t reply
 
 -- the reply to the contents of a form's files, and in a session to an input

@@ -7,10 +7,14 @@ pub mod Files
 pub mod Forms
 pub mod Laws
 pub mod Lines
+pub mod OutageReply
+pub mod PairReply
 pub mod Replies
 pub mod Runs
 pub mod Sessions
 pub mod Stated
+pub mod StationReply
+pub mod Studies
 pub mod Taken
 pub mod Tasks
 pub mod Topology

@@ -17,7 +17,7 @@ pub record Reply : Type 0 where
 abbrev pub usage_reply : Reply
 usage_reply = record {
   status = Usage;
-  text = codes "usage: obs topology N S | report FORM | place FORM CAND | session FORM | verify FORM CERT | trial N SEED\n";
+  text = codes "usage: obs topology N S | report FORM | place FORM CAND | session FORM | verify FORM CERT | trial N SEED | outages FORM | pairs FORM | stations FORM\n";
 }
 
 -- the reply to input that has this fault

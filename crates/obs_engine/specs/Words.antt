@@ -6,7 +6,9 @@ use Rattle.obs_text.specs.Numbers.{whole_of}
 use Rattle.obs_engine.specs.declared.words.CaseForm.{CaseForm}
 use Rattle.obs_engine.specs.declared.words.CaseForm.TheVariants.{Csv, Cdf, Matpower}
 use Rattle.obs_engine.specs.declared.words.CaseCommand.{CaseCommand}
-use Rattle.obs_engine.specs.declared.words.CaseCommand.TheVariants.{Report, Place, Session, Verify}
+use Rattle.obs_engine.specs.declared.words.CaseCommand.TheVariants.{Report, Place, Session, Verify, Study as StudyOf}
+use Rattle.obs_engine.specs.declared.words.Study.{Study}
+use Rattle.obs_engine.specs.declared.words.Study.TheVariants.{Outages, Pairs, Stations}
 use Rattle.obs_engine.specs.declared.words.Form.{Form}
 use Rattle.obs_engine.specs.declared.words.Form.TheVariants.{Topology, Case, Trial}
 
@@ -30,6 +32,12 @@ item_if b x = if b then x ∷ [] else []
 abbrev pub one_if : Bool → ℕ
 one_if b = if b then 1 else 0
 
+-- the word of a study's command
+abbrev pub study_word : Study → List ℕ
+study_word Outages = codes "outages"
+study_word Pairs = codes "pairs"
+study_word Stations = codes "stations"
+
 -- the word of a form's command
 abbrev pub command_word : Form → List ℕ
 command_word Topology = codes "topology"
@@ -37,6 +45,7 @@ command_word (Case Report from) = codes "report"
 command_word (Case Place from) = codes "place"
 command_word (Case (Session offered) from) = codes "session"
 command_word (Case (Verify offered) from) = codes "verify"
+command_word (Case (StudyOf study) from) = study_word study
 command_word (Trial rows seed) = codes "trial"
 
 -- whether candidates stand with the case, and the word `with` before that of theirs
@@ -115,7 +124,8 @@ case_form_of words =
 
 -- the commands over a case, those with candidates behind the word `with` too
 abbrev pub case_commands : List CaseCommand
-case_commands = Report ∷ Place ∷ Session false ∷ Session true ∷ Verify false ∷ Verify true ∷ []
+case_commands = Report ∷ Place ∷ Session false ∷ Session true ∷ Verify false ∷ Verify true
+    ∷ StudyOf Outages ∷ StudyOf Pairs ∷ StudyOf Stations ∷ []
 
 -- whether words are those of a form: so many, the command first, and the word `with` where it stands before candidates
 abbrev pub fits : List (List ℕ) → Form → Bool

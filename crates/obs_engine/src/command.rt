@@ -8,6 +8,7 @@ ghost use Rattle.obs_engine.specs.Runs.{IsAnswered, IsRun};
 use crate::cases::take_case;
 use crate::refused::refuse_files;
 use crate::status::Status;
+use crate::studies::answer_study;
 use crate::tasks::{Task, begin_task};
 use crate::topology::answer_topology;
 use crate::verify::answer_verify;
@@ -47,6 +48,7 @@ fn answer_case<S: Source, W: Sink>(
                 begin_task(alloc, case, offered, Task::Lines, input, output)
             }
             CaseCommand::Verify { .. } => answer_verify(alloc, output, &case, certificate),
+            CaseCommand::Study(study) => answer_study(alloc, study, case, output),
         },
         Form::Trial { rows, seed } => {
             let task = Task::Trial { rows, seed };

@@ -19,9 +19,11 @@ ghost use Rattle.obs_edit.specs.Edits.{edited};
 ghost use Rattle.obs_engine.specs.Words.{form_of};
 ghost use Rattle.obs_report.specs.Counts.{verdict_word};
 ghost use Rattle.obs_engine.specs.Asks.{report_status};
+ghost use Rattle.obs_engine.specs.OutageReply.{outages_status};
+ghost use Rattle.obs_engine.specs.StationReply.{stations_status};
 ghost use Rattle.obs_engine.specs.Trials.{dip_meters, dips_of};
 ghost use Rattle.obs_engine.specs.Claimed.{AnswersAreVerified, AnswersFit, AnswersHold};
-ghost use Rattle.obs_engine.specs.Laws.{CasesAreValid, EditsAloneChange, EndedOrLast, IsAnswerTo, IsFormOf, IsInUsage, ListsNonCritical, OrderIsForgotten, ReportsAsTheCommand};
+ghost use Rattle.obs_engine.specs.Laws.{BearsLosses, BearsOutages, CasesAreValid, EditsAloneChange, EndedOrLast, IsAnswerTo, IsFormOf, IsInUsage, ListsNonCritical, OrderIsForgotten, PairsFailTogether, ReportsAsTheCommand};
 ghost use Rattle.obs_edit.specs.Answers.{bound_outside, bound_rank, case_critical_meters, component_meters, short_components};
 
 /// Every case that files are is valid. The other laws ask this of a case.
@@ -147,4 +149,23 @@ pub fn lines_end_or_are_last()
 pub fn dips_are_critical_meters()
     ensures meters { (t : Tables) → dip_meters t ≡ case_critical_meters t }
     ensures number { (t : Tables) → dips_of t ≡ length (case_critical_meters t) }
+{}
+
+/// The status of outages is the good one exactly where the case and each of its outage cases are observable, and else
+/// the one that says that something falls short.
+pub fn status_of_outages()
+    ensures done { (t : Tables) → IsValid t → (outages_status t ≡ Done) ↔ BearsOutages t }
+    ensures short { (t : Tables) → IsValid t → (outages_status t ≡ Short) ↔ (BearsOutages t → ⊥) }
+{}
+
+/// Two different live meters that aren't critical are printed in one class exactly where the rank falls without both.
+pub fn pairs_fail_together()
+    ensures together { PairsFailTogether }
+{}
+
+/// The status of stations is the good one exactly where the case is observable and is after the loss of any station's
+/// meters, and else the one that says that something falls short.
+pub fn status_of_stations()
+    ensures done { (t : Tables) → IsValid t → (stations_status t ≡ Done) ↔ BearsLosses t }
+    ensures short { (t : Tables) → IsValid t → (stations_status t ≡ Short) ↔ (BearsLosses t → ⊥) }
 {}

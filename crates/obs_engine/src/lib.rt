@@ -25,10 +25,13 @@ mod full_tests;
 #[cfg(test)]
 mod grids;
 mod input;
+mod kept;
 pub mod laws;
 mod lines;
 #[cfg(test)]
 mod matpower_tests;
+mod outages;
+mod pairs;
 #[cfg(test)]
 mod place_tests;
 mod program;
@@ -49,7 +52,11 @@ mod report_tests;
 mod session_tests;
 #[cfg(test)]
 mod spoilt_tests;
+mod stations;
 mod status;
+mod studies;
+#[cfg(test)]
+mod study_tests;
 mod taken;
 mod tasks;
 #[cfg(test)]

@@ -14,7 +14,8 @@ use obs_text::InputFault;
 
 /// The line on words that have no form.
 const USAGE: &[u8] =
-    b"usage: obs topology N S | report FORM | place FORM CAND | session FORM | verify FORM CERT | trial N SEED\n";
+    b"usage: obs topology N S | report FORM | place FORM CAND | session FORM | verify FORM CERT | trial N SEED \
+| outages FORM | pairs FORM | stations FORM\n";
 
 /// Answers words that have no form.
 pub(crate) fn refuse_words<W: Sink>(output: &mut W) -> Status

@@ -353,7 +353,8 @@ fn nodes_are_read_before_switches(rt: HostRuntime) -> Result<(), Fail> {
 }
 
 fn usage() -> &'static [u8] {
-    b"usage: obs topology N S | report FORM | place FORM CAND | session FORM | verify FORM CERT | trial N SEED\n"
+    b"usage: obs topology N S | report FORM | place FORM CAND | session FORM | verify FORM CERT | trial N SEED \
+| outages FORM | pairs FORM | stations FORM\n"
 }
 
 #[test]
@@ -372,6 +373,10 @@ fn other_words_get_the_usage_line(rt: HostRuntime) -> Result<(), Fail> {
         &["verify", "cdf", "c", "m"],
         &["verify", "cdf", "c", "m", "with", "k"],
         &["verify", "cdf", "c", "m", "k", "cert", "more"],
+        &["outages", "cdf", "c", "m", "k"],
+        &["pairs", "cdf", "c"],
+        &["stations", "cdf", "c", "m", "with", "k"],
+        &["station", "cdf", "c", "m"],
         &[],
     ];
     for words in forms {

@@ -2,7 +2,7 @@
 ghost use Rattle.std.specs.Prelude.{◌≡◌, ◌<◌, ◌≤◌, [], map, string_bytes, Some, IfSome, length, slice_index, slice_index_or};
 ghost use Rattle.obs_text.specs.Numbers.{whole_of};
 ghost use Rattle.obs_engine.specs.Forms.{HasRows};
-ghost use Rattle.obs_engine.specs.Words.{behind_case, candidates_at, case_commands, case_form_of, certificate_at, command_word, first_parts, first_word, fits, form_of, form_with, has_with, is_offered, is_word, parts_of, takes_certificate, trial_form, word_count, words_of};
+ghost use Rattle.obs_engine.specs.Words.{behind_case, candidates_at, case_commands, case_form_of, certificate_at, command_word, first_parts, first_word, fits, form_of, form_with, has_with, is_offered, is_word, parts_of, study_word, takes_certificate, trial_form, word_count, words_of};
 
 use obs_text::whole;
 
@@ -15,6 +15,14 @@ pub(crate) enum CaseForm {
     Matpower,
 }
 
+/// What a study says of a case: what the outage of one branch, the loss of two meters, or that of a station's meters does.
+#[derive(Clone, Copy, Debug, PartialEq, Eq)]
+pub(crate) enum Study {
+    Outages,
+    Pairs,
+    Stations,
+}
+
 /// What is asked of a case. Candidates that are offered to a session or beside a certificate stand behind the word
 /// `with`.
 #[derive(Clone, Copy, Debug, PartialEq, Eq)]
@@ -25,6 +33,7 @@ pub(crate) enum CaseCommand {
     Session { offered: bool },
     /// The claims of a certificate are checked.
     Verify { offered: bool },
+    Study(Study),
 }
 
 /// What the words ask for.
@@ -35,6 +44,19 @@ pub(crate) enum Form {
     Case(CaseCommand, CaseForm),
     /// A case of so many rows of nodes is generated from a seed.
     Trial { rows: u32, seed: u64 },
+}
+
+impl Study {
+    // The word of the command.
+    fn word(self) -> &'static str
+        ensures word { result.now ≡ study_word self }
+    {
+        match self {
+            Study::Outages => "outages",
+            Study::Pairs => "pairs",
+            Study::Stations => "stations",
+        }
+    }
 }
 
 impl Form {
@@ -48,6 +70,7 @@ impl Form {
             Form::Case(CaseCommand::Place, _) => "place",
             Form::Case(CaseCommand::Session { .. }, _) => "session",
             Form::Case(CaseCommand::Verify { .. }, _) => "verify",
+            Form::Case(CaseCommand::Study(study), _) => study.word(),
             Form::Trial { .. } => "trial",
         }
     }
@@ -204,6 +227,9 @@ fn case_commands() -> &'static [CaseCommand]
         CaseCommand::Session { offered: true },
         CaseCommand::Verify { offered: false },
         CaseCommand::Verify { offered: true },
+        CaseCommand::Study(Study::Outages),
+        CaseCommand::Study(Study::Pairs),
+        CaseCommand::Study(Study::Stations),
     ]
 }
 

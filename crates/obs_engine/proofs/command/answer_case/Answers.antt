@@ -6,6 +6,7 @@ use Rattle.obs_engine.specs.declared.words.Form.TheVariants.{Case}
 use Rattle.obs_engine.specs.Asks.{ask_reply}
 use Rattle.obs_engine.specs.Commands.{IsCaseReply}
 use Rattle.obs_engine.specs.Forms.{TakesInput}
+use Rattle.obs_engine.specs.Studies.{study_reply}
 use Rattle.obs_engine.specs.Topology.{topology_reply}
 use Rattle.obs_engine.specs.Verify.{verify_reply}
 use Rattle.obs_engine.proofs.Commanded.{IsSessionForm, replied_answered, session_answered, session_form}
@@ -70,6 +71,19 @@ returns-in-Verify g c =
       answered =
           replied_answered c.args.form t beside reply (λ input. subst (λ (f : Form). IsCaseReply f input beside t reply) (sym is) refl)
           (λ takes. subst (λ (f : Form). TakesInput (Some f)) is takes) refl refl c.answer_verify.ensures.replied;
+      input = λ none. refl;
+    }
+
+pub returns-in-Study : goal.returns-in-Study
+returns-in-Study g c =
+    let t = c.args.case in
+    let beside = c.args.certificate.now in
+    let is = c.in-Case.is ∙ ap (λ (command : CaseCommand). Case command c.in-Case.field-1) c.in-Study.is in
+    let reply = study_reply c.in-Study.study t in
+    record {
+      answered =
+          replied_answered c.args.form t beside reply (λ input. subst (λ (f : Form). IsCaseReply f input beside t reply) (sym is) refl)
+          (λ takes. subst (λ (f : Form). TakesInput (Some f)) is takes) refl refl c.answer_study.ensures.replied;
       input = λ none. refl;
     }
 
