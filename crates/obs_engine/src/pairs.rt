@@ -52,19 +52,16 @@ fn find_case_classes<L: Ledger>(
 }
 
 // Prints the line of a meter that has a partner.
-fn print_member<W: Sink>(
-    lines: &mut LineBuffer,
-    output: &mut W,
-    case: &Case,
-    class: u32,
-    m: u32,
-)
+fn print_member<W: Sink>(lines: &mut LineBuffer, output: &mut W, case: &Case, class: u32, m: u32)
     requires class { class < length case.now.meters }
     requires meter { m < length case.now.meters }
     ensures printed { Prints W.written W.faults W.has_room output.old output.new lines.old lines.new
         (class_line case.now class m) }
 {
-    lines.line(output, &[b"class", meter_name(case, class), meter_name(case, m)]);
+    lines.line(
+        output,
+        &[b"class", meter_name(case, class), meter_name(case, m)],
+    );
 }
 
 // Prints the line of a meter, where it has a partner.

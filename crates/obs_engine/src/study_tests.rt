@@ -263,11 +263,23 @@ fn stations_that_are_short(rt: HostRuntime) -> Result<(), Fail> {
 
 #[test]
 fn a_failure_in_a_study_is_told(rt: HostRuntime) -> Result<(), Fail> {
-    let files = [b"".as_slice(), PATH_NODES, NO_SWITCHES, PATH_BRANCHES, PATH_METERS];
+    let files = [
+        b"".as_slice(),
+        PATH_NODES,
+        NO_SWITCHES,
+        PATH_BRANCHES,
+        PATH_METERS,
+    ];
     let texts = [
-        ("outages", b"outage\tL1\t0\t0\tobservable\noutage\tL2\t1\t1\tobservable\noutage\tL3\t2\t2\tobservable\nend\n".as_slice()),
+        (
+            "outages",
+            b"outage\tL1\t0\t0\tobservable\noutage\tL2\t1\t1\tobservable\noutage\tL3\t2\t2\tobservable\nend\n".as_slice(),
+        ),
         ("pairs", b"class\tf1\tf1\nclass\tf1\tf2\nend\n"),
-        ("stations", b"station\ta\t2\t1\t3\tshort\nstation\tb\t1\t1\t3\tshort\nend\n"),
+        (
+            "stations",
+            b"station\ta\t2\t1\t3\tshort\nstation\tb\t1\t1\t3\tshort\nend\n",
+        ),
     ];
     for (study, text) in texts {
         let words = [study, "tables", "n", "s", "b", "m"];
