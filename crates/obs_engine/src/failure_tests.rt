@@ -280,3 +280,25 @@ fn each_call_of_a_verdict_with_candidates_may_fail(rt: HostRuntime) -> Result<()
     ];
     each_call_fails(&rt, rt.alloc(), &rows)
 }
+
+#[test]
+fn each_call_of_a_study_may_fail(rt: HostRuntime) -> Result<(), Fail> {
+    let rows = [
+        Row {
+            words: &["outages", "tables", "n", "s", "b", "m"],
+            files: &[b"", NODES, NO_SWITCHES, BRANCH, METER],
+            ..ending(b"", Status::Done, b"outage\tL1\t0\t0\tobservable\nend\n")
+        },
+        Row {
+            words: &["pairs", "cdf", "c", "m"],
+            files: &[b"", CDF_FILE, METER],
+            ..ending(b"", Status::Done, b"end\n")
+        },
+        Row {
+            words: &["stations", "matpower", "c", "m"],
+            files: &[b"", MATPOWER_FILE, METER],
+            ..ending(b"", Status::Short, b"station\t1\t1\t0\t1\tshort\nend\n")
+        },
+    ];
+    each_call_fails(&rt, rt.alloc(), &rows)
+}

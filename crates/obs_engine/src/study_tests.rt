@@ -1,8 +1,8 @@
 // The printed text of worked studies: outages, pairs and stations.
 
 use crate::Status;
-use crate::tests::{answers, failing_reads, failing_writes};
-use crate::worked::{NO_METERS, NO_SWITCHES, PATH_BRANCHES, PATH_METERS, PATH_NODES};
+use crate::tests::answers;
+use crate::worked::{NO_METERS, NO_SWITCHES};
 use std::alloc::Global;
 use std::process::Abort;
 use std::test::Fail;
@@ -259,32 +259,4 @@ fn stations_that_are_short(rt: HostRuntime) -> Result<(), Fail> {
         },
     ];
     studied(&rt, rt.alloc(), "stations", Status::Short, &rows)
-}
-
-#[test]
-fn a_failure_in_a_study_is_told(rt: HostRuntime) -> Result<(), Fail> {
-    let files = [
-        b"".as_slice(),
-        PATH_NODES,
-        NO_SWITCHES,
-        PATH_BRANCHES,
-        PATH_METERS,
-    ];
-    let texts = [
-        (
-            "outages",
-            b"outage\tL1\t0\t0\tobservable\noutage\tL2\t1\t1\tobservable\noutage\tL3\t2\t2\tobservable\nend\n".as_slice(),
-        ),
-        ("pairs", b"class\tf1\tf1\nclass\tf1\tf2\nend\n"),
-        (
-            "stations",
-            b"station\ta\t2\t1\t3\tshort\nstation\tb\t1\t1\t3\tshort\nend\n",
-        ),
-    ];
-    for (study, text) in texts {
-        let words = [study, "tables", "n", "s", "b", "m"];
-        assert!(rt; failing_reads(&rt, rt.alloc(), &words, &files)? > 4);
-        assert!(rt; failing_writes(&rt, rt.alloc(), &words, &files, text)? > 4);
-    }
-    Ok(())
 }

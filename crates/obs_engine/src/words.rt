@@ -15,7 +15,8 @@ pub(crate) enum CaseForm {
     Matpower,
 }
 
-/// What a study says of a case: what the outage of one branch, the loss of two meters, or that of a station's meters does.
+/// What a study says of a case: what the outage of one branch, the loss of two meters, or that of a station's meters
+/// does.
 #[derive(Clone, Copy, Debug, PartialEq, Eq)]
 pub(crate) enum Study {
     Outages,
