@@ -1,5 +1,5 @@
 -- What studies find and print.
-use Rattle.std.proofs.Common.{◌≡◌, ◌∙◌, ◌⊎◌, inl, inr, ℕ, ◌+◌, ◌<◌, ◌≤◌, Bool, true, false, List, [], ◌∷◌, ◌++◌, All, length, filter, map, drop, get_or, refl, sym, ap, subst, arith, append_assoc, append-nil, Option, Ok, Err}
+use Rattle.std.proofs.Common.{◌≡◌, ◌∙◌, inl, inr, ℕ, ◌+◌, ◌<◌, ◌≤◌, Bool, true, false, List, [], ◌∷◌, ◌++◌, All, length, filter, drop, get_or, refl, sym, ap, subst, arith, append_assoc, append-nil, Option, Ok, Err}
 use Rattle.std.specs.Prelude.{if◌then◌else◌, slice_index, IfOk, Result}
 use Rattle.std.specs.List.{flat_map, range_with_len}
 use Rattle.std.proofs.lemmas.List.{drop_all, drop_more, length-map}
@@ -7,13 +7,11 @@ use Rattle.std.proofs.lemmas.List.Elements.{All-map}
 use Rattle.std.proofs.lemmas.List.FromFn.{get_or-map-range_with_len, length-range_with_len}
 use Rattle.obs_case.specs.Tables.{IsValid, Tables}
 use Rattle.obs_matroid.specs.Lists.{In}
-use Rattle.obs_matroid.specs.Partners.{first_passing, is_partner}
+use Rattle.obs_matroid.specs.Partners.{first_passing}
 use Rattle.obs_matroid.proofs.Contained.{All-from_In}
-use Rattle.obs_matroid.proofs.Lists.{In-filter_from}
 use Rattle.obs_meter.specs.Touches.{every_item, is_live}
 use Rattle.obs_meter.proofs.Assigned.{live_items-distinct, rho_at-is, rho_at-unique}
 use Rattle.obs_assign.specs.Assignment.{Assignment, pairs}
-use Rattle.obs_switch.specs.Buses.{members_of}
 use Rattle.obs_switch.proofs.FirstNodes.{bus_at, first_member, first_node-le}
 use Rattle.obs_network.specs.Network.{Network, case_branches, case_meters, case_needed, case_vertex_count, network_of}
 use Rattle.obs_network.specs.Observable.{case_live_meters, case_rank, rank_of_meters}
@@ -30,11 +28,11 @@ use Rattle.obs_exchange.specs.Longest.{IsLongest}
 use Rattle.obs_pairs.specs.PairWork.{PairWork, has_another}
 use Rattle.obs_pairs.specs.Partners.{class_at, classes_of}
 use Rattle.obs_station.specs.declared.losses.Loss.{Loss}
-use Rattle.obs_station.specs.Stations.{all_links, case_station_count, case_stations, has_live, loss_of, loss_stations, losses_of, station_node}
+use Rattle.obs_station.specs.Stations.{all_links, case_station_count, has_live, loss_of, loss_stations, losses_of, station_node}
 use Rattle.obs_report.specs.Printed.{AppendsAt, PrintsAt}
 use Rattle.obs_report.proofs.Printing.{nothing_printed}
 use Rattle.obs_engine.specs.declared.status.Status.{Status}
-use Rattle.obs_engine.specs.declared.status.Status.TheVariants.{Done, Short, ReadFault, WriteFault}
+use Rattle.obs_engine.specs.declared.status.Status.TheVariants.{Short, ReadFault, WriteFault}
 use Rattle.obs_engine.specs.Asks.{report_status}
 use Rattle.obs_engine.specs.OutageReply.{are_met, outages_status}
 use Rattle.obs_engine.specs.PairReply.{case_classes, class_line, class_lines}

@@ -1,6 +1,6 @@
 // The stations of a case and the loss of their meters, printed.
 ghost use Rattle.std.specs.Prelude.{◌≡◌, ◌<◌, [], ◌∷◌, All, codes, decimal, length};
-ghost use Rattle.obs_network.specs.Network.{case_needed, network_of};
+ghost use Rattle.obs_network.specs.Network.{network_of};
 ghost use Rattle.obs_kept.specs.Kept.{AreLongest};
 ghost use Rattle.obs_report.specs.Lines.{line_of};
 ghost use Rattle.obs_report.specs.Printed.{Appends, Prints};

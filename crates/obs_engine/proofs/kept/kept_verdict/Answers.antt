@@ -1,6 +1,5 @@
-use Rattle.std.proofs.Common.{◌≡◌, ◌∙◌, sym, ap}
-use Rattle.obs_network.specs.Network.{Network, case_needed}
-use Rattle.obs_network.specs.Observable.{case_rank}
+use Rattle.std.proofs.Common.{◌∙◌, sym, ap}
+use Rattle.obs_network.specs.Network.{Network}
 use Rattle.obs_engine.proofs.OfNetwork.{verdict_done, verdict_short}
 use Rattle.obs_engine.proofs.Studied.{kept_rank}
 use Rattle.obs_engine.proofs.kept.kept_verdict.Goals as goal
