@@ -1,10 +1,10 @@
--- What a work value is once the list that it lent isn't used any more.
+-- What is kept when the list that was lent is given back.
 use Rattle.std.specs.Prelude.{⊤}
 use Rattle.std.specs.Borrow.{Fml, MutBor, follows_so}
 use mathlib.Core.Option.{none}
 use Rattle.obs_station.specs.Stations.{StationWork}
 use Rattle.obs_station.specs.contracts.losses.StationWork.{the_row}
 
--- P holds of the lender once the loan has ended
-abbrev pub EndsSo : MutBor StationWork → (StationWork → Type 0) → Fml
-EndsSo s P = follows_so the_row the_row s.ghost_name none (λ _ _. ⊤) P
+-- what is lent to be read is given back as a value of which this holds
+abbrev pub GivenBack : MutBor StationWork → (StationWork → Type 0) → Fml
+GivenBack w P = follows_so the_row the_row w.ghost_name none (λ _ _. ⊤) P

@@ -89,7 +89,7 @@ impl Drop for StationWork {
 }
 
 impl StationWork {
-    ghost use Rattle.obs_station.specs.Lending.{EndsSo};
+    ghost use Rattle.obs_station.specs.Lending.{GivenBack};
 
     /// Room for the losses of a case's stations, and of any case with as many rows in each table.
     pub fn make(alloc: Global, case: &Case) -> Result<StationWork, NoMemory>
@@ -176,7 +176,7 @@ impl StationWork {
         ensures turns_rise { a.old.turns ≤ a.new.turns }
         ensures turns_most { a.new.turns ≤ a.old.turns + (length (case_live_meters case.now) + length (losses_of case.now)) }
         ensures same_room { HasRoomOf a.old a.new }
-        ensures* after { sem 𝓛 (EndsSo self.entry (λ w. (w.rows ≡ self.old.rows) × (w.found ≡ losses_of case.now))) }
+        ensures* given_back { sem 𝓛 (GivenBack self.entry (λ w. (w.rows ≡ self.old.rows) × (w.found ≡ losses_of case.now))) }
     {
         self.find_losses(case, network, a, steps);
         self.list()
