@@ -14,11 +14,6 @@ module _ (g : Graph) (touches : List Touch) (s : Stations) (n : ℕ) where
     pub bound : found ≤ c
     pub lists : take found entries ++ losses_in g touches s (later n c) ≡ losses_in g touches s (range_with_len 0 n)
 
-  pub Listing-none : (entries : List Loss) → IsListing entries 0 0
-  Listing-none entries =
-      let all : n - 0 ≡ n = omega arith in
-      record { bound = omega arith; lists = ap (λ (k : ℕ). losses_in g touches s (range_with_len 0 k)) all }
-
   module _ (entries : List Loss) (found c : ℕ) (h : IsListing entries found c) where
     pub Listing-over : c < n → has_any s c ≡ false → IsListing entries found (c + 1)
     Listing-over low f = record {

@@ -133,7 +133,8 @@ impl StationWork {
         ensures longest { AreLongest case.now a.new }
         ensures ticks { steps.new ≤ steps.old + (length (case_live_meters case.now) + length (losses_of case.now)) }
         ensures turns_rise { a.old.turns ≤ a.new.turns }
-        ensures turns_most { a.new.turns ≤ a.old.turns + (length (case_live_meters case.now) + length (losses_of case.now)) }
+        ensures turns_most { a.new.turns
+            ≤ a.old.turns + (length (case_live_meters case.now) + length (losses_of case.now)) }
         ensures same_room { HasRoomOf a.old a.new }
         ensures rows { self.new.rows ≡ self.old.rows }
     {
@@ -174,7 +175,8 @@ impl StationWork {
         ensures longest { AreLongest case.now a.new }
         ensures ticks { steps.new ≤ steps.old + (length (case_live_meters case.now) + length (losses_of case.now)) }
         ensures turns_rise { a.old.turns ≤ a.new.turns }
-        ensures turns_most { a.new.turns ≤ a.old.turns + (length (case_live_meters case.now) + length (losses_of case.now)) }
+        ensures turns_most { a.new.turns
+            ≤ a.old.turns + (length (case_live_meters case.now) + length (losses_of case.now)) }
         ensures same_room { HasRoomOf a.old a.new }
         ensures* given_back { sem 𝓛 (GivenBack self.entry (λ w. (w.rows ≡ self.old.rows) × (w.found ≡ losses_of case.now))) }
     {
