@@ -3,3 +3,9 @@ pub mod Unreached
 pub mod Settling
 pub mod Left
 pub mod Sharing
+pub mod Avoided
+pub mod Spelling
+pub mod Naming
+pub mod Mapped
+pub mod Splitting
+pub mod Halved

@@ -1,8 +1,7 @@
 -- Classes that are settled one by one.
-use Rattle.std.proofs.Common.{◌≡◌, ◌≢◌, ℕ, ◌+◌, ◌<◌, ◌≤◌, Bool, true, false, not, ◌&&◌, cond, Option, List, length, get_or, set, refl, sym, ap, ◌∙◌, subst, inl, inr, arith}
-use Rattle.std.specs.Prelude.{nat_lt}
-use Rattle.std.proofs.lemmas.Bool.{and_from, and_parts, cases_Bool, cases_eq, cases_lt, le-ltb, lt-ltb, ltb-false, not-true}
-use Rattle.std.proofs.lemmas.List.{get_or-set_other, get_or-set_same, get_or_default, get_or_past, length-set, same_lists}
+use Rattle.std.proofs.Common.{◌≡◌, ℕ, ◌+◌, ◌<◌, ◌≤◌, Bool, true, false, not, ◌&&◌, cond, Option, List, length, get_or, set, refl, sym, ap, ◌∙◌, subst, inl, inr, arith}
+use Rattle.std.proofs.lemmas.Bool.{and_from, and_parts, cases_Bool, cases_eq, cases_lt, not-true}
+use Rattle.std.proofs.lemmas.List.{get_or-set_other, get_or-set_same, get_or_past, length-set}
 use Rattle.std.proofs.lemmas.List.FromFn.{get_or-map-range_with_len, length-map-range_with_len}
 use Rattle.obs_graph.specs.declared.Ends.{Ends}
 use Rattle.obs_graph.specs.Positions.{AreBranches}
@@ -12,7 +11,7 @@ use Rattle.obs_assign.specs.Assignment.{has_flag}
 use Rattle.obs_exchange.specs.Blank.{AreNumbers}
 use Rattle.obs_pairs.specs.PairWork.{AreFirst}
 use Rattle.obs_pairs.specs.Partners.{class_at, classes_of}
-use Rattle.obs_pairs.specs.Settled.{AreSettled, LacksClass, redundant_at}
+use Rattle.obs_pairs.specs.Settled.{AreKeyed, AreSettled, LacksClass, redundant_at}
 use Rattle.obs_pairs.proofs.Partnered.{class_again, class_alone, class_low, class_redundant}
 
 module _ (n : ℕ) (ends : List (Option Ends)) (touches : List Touch) (ok : AreBranches n ends) where
@@ -25,13 +24,20 @@ module _ (n : ℕ) (ends : List (Option Ends)) (touches : List Touch) (ok : AreB
   Settled-begun flags list len places numbers marked = record {
     flags = len;
     places = places;
-    opened = λ k. marked k ∙ all (redundant_at n ends touches k) (nat_lt (class_at n ends touches k) 0) (le-ltb (class_at n ends touches k) 0 (omega arith));
-    settled = λ k l f. numbers k (omega (arith, places, l)) ∙ sym (class_alone n ends touches ok k (sym (marked k) ∙ f));
+    opened = λ k t. sym (marked k) ∙ t;
+    whole = λ j k t e. elim (cases_Bool (redundant_at n ends touches k)) [
+      | inl y ↦ marked k ∙ y
+      | inr f ↦
+          let first : redundant_at n ends touches (class_at n ends touches j) ≡ true = class_redundant n ends touches ok j (sym (marked j) ∙ t) in
+          clash (subst (λ (x : ℕ). redundant_at n ends touches x ≡ true) (sym e ∙ class_alone n ends touches ok k f) first) f
+    ];
+    passed = λ k l. absurd (omega (arith, l));
+    keyed = λ k l f. let own = numbers k (omega (arith, places, l)) in (omega (arith, own, l), ap (class_at n ends touches) own);
+    same = λ j k l m f g e.
+        let one = class_alone n ends touches ok j (sym (marked j) ∙ f) in
+        let other = class_alone n ends touches ok k (sym (marked k) ∙ g) in
+        ap (λ x. get_or list x 0) (sym one ∙ (e ∙ other));
   }
-    where
-      all : (a b : Bool) → b ≡ false → a ≡ (a && not b)
-      all true b f = rw f refl
-      all false b f = refl
 
   -- the classes are named by their first meters
   pub first_of_classes : (list : List ℕ) → list ≡ classes_of n ends touches → AreFirst list
@@ -47,43 +53,28 @@ module _ (n : ℕ) (ends : List (Option Ends)) (touches : List Touch) (ok : AreB
       )
 
   module _ (flags : List Bool) (list : List ℕ) (i : ℕ) (h : AreSettled n ends touches flags list i) where
-    -- where i isn't open, no class is named i
+    -- where i isn't open, it is passed
     pub Settled-over : has_flag flags i ≡ false → AreSettled n ends touches flags list (i + 1)
     Settled-over f = record {
       flags = h.flags;
       places = h.places;
-      opened = λ k. h.opened k ∙ same k;
-      settled = h.settled;
+      opened = h.opened;
+      whole = h.whole;
+      passed = λ k l. elim (cases_eq k i) [ inl e ↦ ap (has_flag flags) e ∙ f | inr m ↦ h.passed k (omega (arith, l, m)) ];
+      keyed = h.keyed;
+      same = h.same;
     }
-      where
-        none : (k : ℕ) → redundant_at n ends touches k ≡ true → class_at n ends touches k ≡ i → ⊥
-        none k t e =
-            let red : redundant_at n ends touches i ≡ true = subst (λ (x : ℕ). redundant_at n ends touches x ≡ true) e (class_redundant n ends touches ok k t) in
-            let own : class_at n ends touches i ≡ i = ap (class_at n ends touches) (sym e) ∙ (class_again n ends touches ok k ∙ e) in
-            clash (h.opened i ∙ and_from (redundant_at n ends touches i) (not (nat_lt (class_at n ends touches i) i)) red (ap not (le-ltb (class_at n ends touches i) i (omega (arith, own))))) f
 
-        same : (k : ℕ) → (redundant_at n ends touches k && not (nat_lt (class_at n ends touches k) i)) ≡ (redundant_at n ends touches k && not (nat_lt (class_at n ends touches k) (i + 1)))
-        same k = elim (cases_Bool (redundant_at n ends touches k)) [
-          | inr r ↦ rw r refl
-          | inl t ↦ rw t (ap not (elim (cases_lt (class_at n ends touches k) i) [
-            | inl l ↦ lt-ltb (class_at n ends touches k) i l ∙ sym (lt-ltb (class_at n ends touches k) (i + 1) (omega (arith, l)))
-            | inr l ↦
-                let apart : class_at n ends touches k ≢ i = none k t in
-                le-ltb (class_at n ends touches k) i l ∙ sym (le-ltb (class_at n ends touches k) (i + 1) (omega (arith, l, apart)))
-          ]))
-        ]
-
-    -- where i is open, it is the first of its class, which is settled
+    -- where i is open, its class is settled
     module _ (t : has_flag flags i ≡ true) where
-      first : class_at n ends touches i ≡ i
-      first =
-          let u = and_parts (redundant_at n ends touches i) (not (nat_lt (class_at n ends touches i) i)) (sym (h.opened i) ∙ t) in
-          let l = ltb-false (class_at n ends touches i) i (not-true (nat_lt (class_at n ends touches i) i) u.1) in
-          let m = class_low n ends touches ok i in
-          omega (arith, l, m)
-
       pub first-redundant : redundant_at n ends touches i ≡ true
-      first-redundant = (and_parts (redundant_at n ends touches i) (not (nat_lt (class_at n ends touches i) i)) (sym (h.opened i) ∙ t)).0
+      first-redundant = h.opened i t
+
+      place : i < length touches
+      place = elim (cases_lt i (length flags)) [
+        | inl l ↦ let e = h.flags in omega (arith, e, l)
+        | inr l ↦ clash t (get_or_past flags i false l)
+      ]
 
       pub Settled-more : (marks after : List Bool) (next : List ℕ) → length after ≡ length flags → length next ≡ length list → LacksClass n ends touches i (has_flag marks)
           → ((k : ℕ) → has_flag after k ≡ (has_flag flags k && has_flag marks k))
@@ -92,56 +83,65 @@ module _ (n : ℕ) (ends : List (Option Ends)) (touches : List Touch) (ok : AreB
       Settled-more marks after next len places lacks opens lists = record {
         flags = len ∙ h.flags;
         places = places ∙ h.places;
-        opened = λ k. opens k ∙ (ap (λ b. b && has_flag marks k) (h.opened k) ∙ open_next k);
-        settled = λ k l f. elim (cases_Bool (has_flag flags k)) [
-          | inr g ↦ lists k ∙ (ap (λ b. cond (b && not (has_flag marks k)) i (get_or list k 0)) g ∙ h.settled k l g)
-          | inl g ↦
-              let red : redundant_at n ends touches k ≡ true = (and_parts (redundant_at n ends touches k) (not (nat_lt (class_at n ends touches k) i)) (sym (h.opened k) ∙ g)).0 in
-              let off : has_flag marks k ≡ false = second (has_flag flags k) (has_flag marks k) g (sym (opens k) ∙ f) in
-              lists k ∙ (ap (λ b. cond (b && not (has_flag marks k)) i (get_or list k 0)) g ∙ (ap (λ b. cond (true && not b) i (get_or list k 0)) off ∙ sym ((lacks k red).0 off ∙ first)))
+        opened = λ k y. h.opened k (both k y).0;
+        whole = λ j k y e.
+            let u = both j y in
+            let was = h.whole j k u.0 e in
+            opens k ∙ and_from (has_flag flags k) (has_flag marks k) was (elim (cases_Bool (has_flag marks k)) [
+              | inl m ↦ m
+              | inr f ↦ clash u.1 ((lacks j (h.opened j u.0)).1 (sym e ∙ (lacks k (h.opened k was)).0 f))
+            ]);
+        passed = λ k l. opens k ∙ (elim (cases_eq k i) [
+          | inl e ↦ no_mark k (ap (has_flag marks) e ∙ (lacks i first-redundant).1 refl)
+          | inr m ↦ no_flag k (h.passed k (omega (arith, l, m)))
+        ]);
+        keyed = λ k l f. elim (cases_Bool (has_flag flags k)) [
+          | inr o ↦ let e = old k o in let u = h.keyed k l o in (omega (arith, e, u.0), ap (class_at n ends touches) e ∙ u.1)
+          | inl o ↦
+              let e = new k o (off k o f) in
+              let p = place in
+              (omega (arith, e, p), ap (class_at n ends touches) e ∙ sym ((lacks k (h.opened k o)).0 (off k o f)))
+        ];
+        same = λ j k l m f g e. elim (cases_Bool (has_flag flags j)) [
+          | inr o ↦ elim (cases_Bool (has_flag flags k)) [
+            | inr q ↦ old j o ∙ (h.same j k l m o q e ∙ sym (old k q))
+            | inl q ↦ clash (h.whole k j q e) o
+          ]
+          | inl o ↦ elim (cases_Bool (has_flag flags k)) [
+            | inr q ↦ clash (h.whole j k o (sym e)) q
+            | inl q ↦ new j o (off j o f) ∙ sym (new k q (off k q g))
+          ]
         ];
       }
         where
-          second : (a b : Bool) → a ≡ true → (a && b) ≡ false → b ≡ false
-          second true b t f = f
-          second false b t f = clash t refl
+          both : (k : ℕ) → has_flag after k ≡ true → (has_flag flags k ≡ true) × (has_flag marks k ≡ true)
+          both k y = and_parts (has_flag flags k) (has_flag marks k) (sym (opens k) ∙ y)
 
-          open_next : (k : ℕ) → ((redundant_at n ends touches k && not (nat_lt (class_at n ends touches k) i)) && has_flag marks k) ≡ (redundant_at n ends touches k && not (nat_lt (class_at n ends touches k) (i + 1)))
-          open_next k = elim (cases_Bool (redundant_at n ends touches k)) [
-            | inr r ↦ rw r refl
-            | inl r ↦ elim (cases_Bool (has_flag marks k)) [
-              | inr f ↦
-                  let e = (lacks k r).0 f ∙ first in
-                  rw (r, f, lt-ltb (class_at n ends touches k) (i + 1) (omega (arith, e))) (no (nat_lt (class_at n ends touches k) i))
-              | inl s ↦
-                  let apart : class_at n ends touches k ≢ i = λ e. clash s ((lacks k r).1 (e ∙ sym first)) in
-                  rw (r, s) (kept (nat_lt (class_at n ends touches k) i) ∙ ap not (elim (cases_lt (class_at n ends touches k) i) [
-                    | inl l ↦ lt-ltb (class_at n ends touches k) i l ∙ sym (lt-ltb (class_at n ends touches k) (i + 1) (omega (arith, l)))
-                    | inr l ↦ le-ltb (class_at n ends touches k) i l ∙ sym (le-ltb (class_at n ends touches k) (i + 1) (omega (arith, l, apart)))
-                  ]))
-            ]
+          no_mark : (k : ℕ) → has_flag marks k ≡ false → (has_flag flags k && has_flag marks k) ≡ false
+          no_mark k f = elim (cases_Bool (has_flag flags k)) [ inl y ↦ rw y f | inr g ↦ rw g refl ]
+
+          no_flag : (k : ℕ) → has_flag flags k ≡ false → (has_flag flags k && has_flag marks k) ≡ false
+          no_flag k f = rw f refl
+
+          off : (k : ℕ) → has_flag flags k ≡ true → has_flag after k ≡ false → has_flag marks k ≡ false
+          off k o f = elim (cases_Bool (has_flag marks k)) [
+            | inr g ↦ g
+            | inl y ↦ clash (opens k ∙ and_from (has_flag flags k) (has_flag marks k) o y) f
           ]
-            where
-              no : (b : Bool) → (not b && false) ≡ false
-              no true = refl
-              no false = refl
 
-              kept : (b : Bool) → (not b && true) ≡ not b
-              kept true = refl
-              kept false = refl
+          old : (k : ℕ) → has_flag flags k ≡ false → get_or next k 0 ≡ get_or list k 0
+          old k o = lists k ∙ ap (λ b. cond (b && not (has_flag marks k)) i (get_or list k 0)) o
+
+          new : (k : ℕ) → has_flag flags k ≡ true → has_flag marks k ≡ false → get_or next k 0 ≡ i
+          new k o f = lists k ∙ (ap (λ b. cond (b && not (has_flag marks k)) i (get_or list k 0)) o ∙ ap (λ b. cond (true && not b) i (get_or list k 0)) f)
 
     -- in the end none is open
-    pub Settled-all : length touches ≤ i → list ≡ classes_of n ends touches
-    Settled-all e =
-        same_lists list (classes_of n ends touches) (h.places ∙ sym (length-map-range_with_len (class_at n ends touches) 0 (length touches))) (λ k d l.
-        let low : k < length touches = omega (arith, h.places, l) in
-        let below = class_low n ends touches ok k in
-        let shut : has_flag flags k ≡ false = h.opened k ∙ none (redundant_at n ends touches k) (nat_lt (class_at n ends touches k) i) (lt-ltb (class_at n ends touches k) i (omega (arith, below, low, e))) in
-        get_or_default list k d 0 l ∙ (h.settled k low shut ∙ sym (get_or-map-range_with_len (class_at n ends touches) 0 (length touches) k k d low (omega arith))))
-      where
-        none : (a b : Bool) → b ≡ true → (a && not b) ≡ false
-        none true b t = rw t refl
-        none false b t = refl
+    pub Settled-all : length touches ≤ i → AreKeyed n ends touches list
+    Settled-all e = record {
+      places = h.places;
+      keyed = λ k l. h.keyed k l (h.passed k (omega (arith, e, l)));
+      same = λ j k l m s. h.same j k l m (h.passed j (omega (arith, e, l))) (h.passed k (omega (arith, e, m))) s;
+    }
 
 -- while the open meters that aren't marked are settled, below i
 pub record IsSettling (marks flags_before : List Bool) (before : List ℕ) (m : ℕ) (flags : List Bool) (list : List ℕ) (i : ℕ) : Type 0 where

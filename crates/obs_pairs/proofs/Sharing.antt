@@ -7,7 +7,6 @@ use Rattle.std.proofs.lemmas.List.{get_or-set_other, get_or-set_same, length-set
 use Rattle.obs_matroid.specs.Lists.{In}
 use Rattle.obs_matroid.proofs.Lists.{clash}
 use Rattle.obs_matroid.proofs.Ranges.{below_from, below_in}
-use Rattle.obs_meter.proofs.Touched.{any-from_In, In-from_any}
 use Rattle.obs_assign.specs.Assignment.{has_flag}
 use Rattle.obs_pairs.specs.PairWork.{AreFirst, AreShared, has_another}
 

@@ -1,3 +1,4 @@
 pub mod Partners
 pub mod PairWork
 pub mod Settled
+pub mod Split

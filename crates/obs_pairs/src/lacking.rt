@@ -20,27 +20,27 @@ pub fn search_without<L: Ledger>(
     a: &mut Assignment,
     m: u32,
     left: &mut Meters,
-    search: &mut Work,
+    exchange: &mut Work,
     steps: &mut Steps<L>,
 )
     requires longest { IsLongest g.now ms.now.touches a.old }
     requires in_range { AreInRange g.now ms.now.touches }
-    requires room { HasRoomFor search.old.sizes g.now ms.now.touches }
+    requires room { HasRoomFor exchange.old.sizes g.now ms.now.touches }
     requires left { left.old.touches ≡ ms.now.touches }
     requires redundant { redundant_at g.now.vertices g.now.ends ms.now.touches m ≡ true }
     ensures longest { IsLongest g.now ms.now.touches a.new }
     ensures left { left.new ≡ left.old }
-    ensures flags { length search.new.reached ≡ length ms.now.touches }
-    ensures lacks { LacksClass g.now.vertices g.now.ends ms.now.touches m (has_flag search.new.reached) }
+    ensures flags { length exchange.new.reached ≡ length ms.now.touches }
+    ensures lacks { LacksClass g.now.vertices g.now.ends ms.now.touches m (has_flag exchange.new.reached) }
     ensures same_room { HasRoomOf a.old a.new }
-    ensures same_sizes { search.new.sizes ≡ search.old.sizes }
+    ensures same_sizes { exchange.new.sizes ≡ exchange.old.sizes }
 {
     let _ = g.vertices();
     let most = a.length();
     let lost = [m];
     lose(g, left, &lost, a);
-    let _ = regrow(g, left, a, most, search, steps);
-    close(g, left, a, search, steps);
+    let _ = regrow(g, left, a, most, exchange, steps);
+    close(g, left, a, exchange, steps);
     let _ = a.length();
     regain(ms, left, &lost);
 }

@@ -1,11 +1,17 @@
 //! Meters that are critical together, and the classes into which they fall.
 #![tactic(auto)]
 
+mod half;
 mod lacking;
 pub mod laws;
 mod memory;
+mod name;
+mod renew;
+mod rounds;
 mod settle;
 mod shared;
+mod spell;
+mod split;
 mod work;
 
 pub use memory::NoMemory;

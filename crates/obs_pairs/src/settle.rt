@@ -6,9 +6,11 @@ ghost use Rattle.obs_assign.specs.Assignment.{HasRoomOf, has_flag};
 ghost use Rattle.obs_exchange.specs.Blank.{AreNumbers};
 ghost use Rattle.obs_exchange.specs.Longest.{IsLongest};
 ghost use Rattle.obs_pairs.specs.Partners.{classes_of};
-ghost use Rattle.obs_pairs.specs.Settled.{AreSettled};
+ghost use Rattle.obs_pairs.specs.Settled.{AreKeyed, AreSettled};
 
 use crate::lacking::search_without;
+use crate::name::name_all;
+use crate::rounds::split_in_rounds;
 use obs_assign::{Assignment, Steps};
 use obs_exchange::{Work, close};
 use obs_graph::Graph;
@@ -37,7 +39,7 @@ fn is_lacking(waiting: &[bool], marks: &[bool], k: usize) -> bool
     waiting[k] && !marks[k]
 }
 
-// Settles the meters that wait that aren't marked: m names their class.
+// Settles the meters that wait that aren't marked: m is the key of their class.
 fn settle(marks: &[bool], m: u32, waiting: &mut [bool], list: &mut [u32])
     requires waiting { length waiting.old ≡ length marks.now }
     requires list { length list.old ≡ length marks.now }
@@ -53,34 +55,34 @@ fn settle(marks: &[bool], m: u32, waiting: &mut [bool], list: &mut [u32])
     }
 }
 
-// Settles the class of each waiting meter, by its first.
+// Settles the class of each waiting meter, one after the other.
 fn settle_all<L: Ledger>(
     g: &Graph,
     ms: &Meters,
     a: &mut Assignment,
     left: &mut Meters,
-    search: &mut Work,
+    exchange: &mut Work,
     waiting: &mut [bool],
     list: &mut [u32],
     steps: &mut Steps<L>,
 )
     requires longest { IsLongest g.now ms.now.touches a.old }
     requires in_range { AreInRange g.now ms.now.touches }
-    requires room { HasRoomFor search.old.sizes g.now ms.now.touches }
+    requires room { HasRoomFor exchange.old.sizes g.now ms.now.touches }
     requires left { left.old.touches ≡ ms.now.touches }
     requires settled { AreSettled g.now.vertices g.now.ends ms.now.touches waiting.old list.old 0 }
-    ensures classes { list.new ≡ classes_of g.now.vertices g.now.ends ms.now.touches }
+    ensures keyed { AreKeyed g.now.vertices g.now.ends ms.now.touches list.new }
     ensures longest { IsLongest g.now ms.now.touches a.new }
     ensures left { left.new ≡ left.old }
     ensures same_room { HasRoomOf a.old a.new }
-    ensures same_sizes { search.new.sizes ≡ search.old.sizes }
+    ensures same_sizes { exchange.new.sizes ≡ exchange.old.sizes }
 {
     // What the graph knows of itself: the branches lie between the vertices.
     let _ = g.vertices();
     for m in 0..ms.count() {
         if waiting[m as usize] {
-            search_without(g, ms, a, m, left, search, steps);
-            settle(search.reached(), m, waiting, list);
+            search_without(g, ms, a, m, left, exchange, steps);
+            settle(exchange.reached(), m, waiting, list);
         }
     }
 }
@@ -91,14 +93,14 @@ fn find_all<L: Ledger>(
     ms: &Meters,
     a: &mut Assignment,
     left: &mut Meters,
-    search: &mut Work,
+    exchange: &mut Work,
     waiting: &mut [bool],
     list: &mut [u32],
     steps: &mut Steps<L>,
 )
     requires longest { IsLongest g.now ms.now.touches a.old }
     requires in_range { AreInRange g.now ms.now.touches }
-    requires room { HasRoomFor search.old.sizes g.now ms.now.touches }
+    requires room { HasRoomFor exchange.old.sizes g.now ms.now.touches }
     requires left { left.old.touches ≡ ms.now.touches }
     requires waiting { length waiting.old ≡ length ms.now.touches }
     requires list { length list.old ≡ length ms.now.touches }
@@ -106,14 +108,16 @@ fn find_all<L: Ledger>(
     ensures longest { IsLongest g.now ms.now.touches a.new }
     ensures left { left.new ≡ left.old }
     ensures same_room { HasRoomOf a.old a.new }
-    ensures same_sizes { search.new.sizes ≡ search.old.sizes }
+    ensures same_sizes { exchange.new.sizes ≡ exchange.old.sizes }
 {
     let _ = g.vertices();
     let _ = a.length();
     let _ = ms.count();
-    close(g, ms, a, search, steps);
-    begin(search.reached(), waiting, list);
-    settle_all(g, ms, a, left, search, waiting, list, steps);
+    close(g, ms, a, exchange, steps);
+    begin(exchange.reached(), waiting, list);
+    split_in_rounds(g, ms, a, left, exchange, waiting, list, steps);
+    settle_all(g, ms, a, left, exchange, waiting, list, steps);
+    name_all(g, ms, list);
 }
 
 /// Writes the class of each meter. The flags say afterwards which meters' classes aren't known: none.
@@ -122,14 +126,14 @@ pub(crate) fn list_classes<L: Ledger>(
     ms: &Meters,
     a: &mut Assignment,
     left: &mut Meters,
-    search: &mut Work,
+    exchange: &mut Work,
     waiting: &mut [bool],
     list: &mut [u32],
     steps: &mut Steps<L>,
 )
     requires longest { IsLongest g.now ms.now.touches a.old }
     requires in_range { AreInRange g.now ms.now.touches }
-    requires room { HasRoomFor search.old.sizes g.now ms.now.touches }
+    requires room { HasRoomFor exchange.old.sizes g.now ms.now.touches }
     requires left { left.old.touches ≡ ms.now.touches }
     requires waiting { length ms.now.touches ≤ length waiting.old }
     requires list { length ms.now.touches ≤ length list.old }
@@ -137,7 +141,7 @@ pub(crate) fn list_classes<L: Ledger>(
     ensures longest { IsLongest g.now ms.now.touches a.new }
     ensures left { left.new ≡ left.old }
     ensures same_room { HasRoomOf a.old a.new }
-    ensures same_sizes { search.new.sizes ≡ search.old.sizes }
+    ensures same_sizes { exchange.new.sizes ≡ exchange.old.sizes }
 {
     let n = ms.count() as usize;
     find_all(
@@ -145,7 +149,7 @@ pub(crate) fn list_classes<L: Ledger>(
         ms,
         a,
         left,
-        search,
+        exchange,
         &mut waiting[..n],
         &mut list[..n],
         steps,

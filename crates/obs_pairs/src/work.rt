@@ -30,7 +30,7 @@ pub struct PairWork {
     // the meters, where one of them may be lost
     left: Meters,
     // what finds pairs
-    search: Work,
+    exchange: Work,
 }
 
 impl Model for PairWork {
@@ -39,15 +39,15 @@ impl Model for PairWork {
 
     ghost Value = { PairWork };
 
-    ghost view = { λ w. record { list = take w.count w.list.items; sizes = w.search.sizes } };
+    ghost view = { λ w. record { list = take w.count w.list.items; sizes = w.exchange.sizes } };
 
     ghost invariant = { λ w. record {
       found : w.count ≤ length w.list.items;
-      places : length w.list.items ≡ w.search.sizes.meters;
-      flags : length w.waiting.items ≡ w.search.sizes.meters;
-      marks : length w.shared.items ≡ w.search.sizes.meters;
+      places : length w.list.items ≡ w.exchange.sizes.meters;
+      flags : length w.waiting.items ≡ w.exchange.sizes.meters;
+      marks : length w.shared.items ≡ w.exchange.sizes.meters;
       shared : AreShared (take w.count w.list.items) w.shared.items;
-      left : w.left.most ≡ w.search.sizes.meters;
+      left : w.left.most ≡ w.exchange.sizes.meters;
     } };
 }
 
@@ -60,7 +60,7 @@ impl Drop for PairWork {
             waiting: _,
             shared: _,
             left: _,
-            search: _,
+            exchange: _,
         } = self;
     }
 }
@@ -84,7 +84,7 @@ impl PairWork {
             waiting: vec![in alloc; false; most_meters as usize]?,
             shared: vec![in alloc; false; most_meters as usize]?,
             left: Meters::make(alloc, most_meters)?,
-            search: Work::make(alloc, most_meters, most_branches, most_vertices)?,
+            exchange: Work::make(alloc, most_meters, most_branches, most_vertices)?,
         })
     }
 
@@ -128,7 +128,7 @@ pub fn find_classes<L: Ledger>(
         ms,
         a,
         &mut work.left,
-        &mut work.search,
+        &mut work.exchange,
         &mut work.waiting,
         &mut work.list,
         steps,

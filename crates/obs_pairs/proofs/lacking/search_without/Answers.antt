@@ -22,8 +22,8 @@ regrow-requires-clause-in_range g c =
 pub regrow-requires-clause-room : goal.regrow-requires-clause-room
 regrow-requires-clause-room g c =
     let touches = c.args.ms.now.touches in
-    subst (λ (t : List Touch). HasRoomFor c.args.search.now.sizes c.args.g.now t) (sym (left_is c.args.left.now c.lose.new.left touches c.args.m c.requires.left c.lose.ensures.left))
-    (room-losing (is_listed (c.args.m ∷ [])) touches c.args.search.now.sizes c.args.g.now c.requires.room)
+    subst (λ (t : List Touch). HasRoomFor c.args.exchange.now.sizes c.args.g.now t) (sym (left_is c.args.left.now c.lose.new.left touches c.args.m c.requires.left c.lose.ensures.left))
+    (room-losing (is_listed (c.args.m ∷ [])) touches c.args.exchange.now.sizes c.args.g.now c.requires.room)
 
 pub regrow-requires-clause-most : goal.regrow-requires-clause-most
 regrow-requires-clause-most g c =
@@ -42,7 +42,7 @@ close-requires-clause-in_range g c =
 pub close-requires-clause-room : goal.close-requires-clause-room
 close-requires-clause-room g c =
     let touches = c.args.ms.now.touches in
-    let room = room_again c.args.g.now touches c.args.search.now.sizes c.regrow.new.work.sizes c.regrow.ensures.same_sizes c.requires.room in
+    let room = room_again c.args.g.now touches c.args.exchange.now.sizes c.regrow.new.work.sizes c.regrow.ensures.same_sizes c.requires.room in
     subst (λ (t : List Touch). HasRoomFor c.regrow.new.work.sizes c.args.g.now t) (sym (left_is c.args.left.now c.lose.new.left touches c.args.m c.requires.left c.lose.ensures.left))
     (room-losing (is_listed (c.args.m ∷ [])) touches c.regrow.new.work.sizes c.args.g.now room)
 

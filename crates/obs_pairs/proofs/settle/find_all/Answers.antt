@@ -5,8 +5,8 @@ use Rattle.obs_pairs.proofs.Settling.{Settled-begun}
 use Rattle.obs_pairs.proofs.Unreached.{closed_redundant}
 use Rattle.obs_pairs.proofs.settle.find_all.Goals as goal
 
-pub settle_all-requires-clause-settled : goal.settle_all-requires-clause-settled
-settle_all-requires-clause-settled g c =
+pub split_in_rounds-requires-clause-settled : goal.split_in_rounds-requires-clause-settled
+split_in_rounds-requires-clause-settled g c =
     let touches = c.args.ms.now.touches in
     let ok = c.vertices.ensures.branches in
     let h = subst (λ (a : Assignment). IsLongest c.args.g.now touches a) (sym c.close.ensures.same) c.requires.longest in

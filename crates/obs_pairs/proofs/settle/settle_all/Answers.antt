@@ -18,7 +18,7 @@ loop-m-preserved g c =
           let e = w.search_without.ensures in
           let lacks : LacksClass n ends touches l.m (has_flag w.reached.result.now) =
           subst (λ (flags : List Bool). LacksClass n ends touches l.m (has_flag flags)) (sym w.reached.ensures.reached) e.lacks in
-          rw (w.a-is, w.left-is, w.search-is, w.waiting-is, w.list-is)
+          rw (w.a-is, w.left-is, w.exchange-is, w.waiting-is, w.list-is)
           (record {
             settled = Settled-more n ends touches ok l.waiting l.list l.m l.invariant.settled w.if-waiting-m.true w.reached.result.now w.settle.new.waiting w.settle.new.list w.settle.auto.waiting w.settle.auto.list lacks
                 w.settle.ensures.waiting w.settle.ensures.list;
@@ -28,7 +28,7 @@ loop-m-preserved g c =
             same_sizes = e.same_sizes ∙ l.invariant.same_sizes;
           })
       | else-waiting-m w ↦
-          rw (w.a-is, w.left-is, w.search-is, w.waiting-is, w.list-is)
+          rw (w.a-is, w.left-is, w.exchange-is, w.waiting-is, w.list-is)
           (record {
             settled = Settled-over n ends touches ok l.waiting l.list l.m l.invariant.settled w.if-waiting-m.false;
             longest = l.invariant.longest;
@@ -38,8 +38,8 @@ loop-m-preserved g c =
           })
     ]
 
-pub returns-clause-classes : goal.returns-clause-classes
-returns-clause-classes g c =
+pub returns-clause-keyed : goal.returns-clause-keyed
+returns-clause-keyed g c =
     let e = c.count-m-end.ensures.count in
     let f = c.loop-m-test.false in
     Settled-all c.args.g.now.vertices c.args.g.now.ends c.args.ms.now.touches c.vertices.ensures.branches c.loop-m.waiting c.loop-m.list c.loop-m.m c.loop-m.invariant.settled (omega (arith, e, f))

@@ -10,5 +10,5 @@ invariant-loop-m g l = record {
   longest : IsLongest l.g l.ms.touches l.a;
   left : l.left ≡ l.fn.left;
   same_room : HasRoomOf l.fn.a l.a;
-  same_sizes : l.search.sizes ≡ l.fn.search.sizes;
+  same_sizes : l.exchange.sizes ≡ l.fn.exchange.sizes;
 }

@@ -1,4 +1,4 @@
-use Rattle.std.proofs.Common.{ℕ, ◌≤◌, length, arith}
+use Rattle.std.proofs.Common.{◌≤◌, length, arith}
 use Rattle.obs_pairs.proofs.Sharing.{Sharing-all, Sharing-first, Sharing-later}
 use Rattle.obs_pairs.proofs.shared.mark_shared.Goals as goal
 use Rattle.obs_pairs.proofs.shared.mark_shared.Goals.{else-first-k, then-first-k}
