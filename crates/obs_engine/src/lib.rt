@@ -25,7 +25,7 @@ mod full_tests;
 #[cfg(test)]
 mod grids;
 mod input;
-mod kept;
+mod judged;
 pub mod laws;
 mod lines;
 #[cfg(test)]

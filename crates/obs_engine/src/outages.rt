@@ -8,7 +8,7 @@ ghost use Rattle.obs_report.specs.Printed.{Appends, Prints};
 ghost use Rattle.obs_engine.specs.OutageReply.{are_met, outage_line, outages_reply, outages_status, outages_text};
 ghost use Rattle.obs_engine.specs.Replies.{IsReplied};
 
-use crate::kept::kept_verdict;
+use crate::judged::kept_verdict;
 use crate::status::Status;
 use obs_assign::Steps;
 use obs_case::Case;

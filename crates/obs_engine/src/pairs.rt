@@ -7,7 +7,7 @@ ghost use Rattle.obs_report.specs.Printed.{Appends, Prints};
 ghost use Rattle.obs_engine.specs.PairReply.{case_classes, class_line, class_lines, classes_text, pairs_reply};
 ghost use Rattle.obs_engine.specs.Replies.{IsReplied};
 
-use crate::kept::kept_verdict;
+use crate::judged::kept_verdict;
 use crate::status::Status;
 use obs_assign::Steps;
 use obs_case::Case;

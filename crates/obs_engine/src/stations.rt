@@ -8,7 +8,7 @@ ghost use Rattle.obs_station.specs.Stations.{losses_of};
 ghost use Rattle.obs_engine.specs.Replies.{IsReplied};
 ghost use Rattle.obs_engine.specs.StationReply.{are_borne, loss_line, losses_text, stations_reply, stations_status};
 
-use crate::kept::kept_verdict;
+use crate::judged::kept_verdict;
 use crate::status::Status;
 use obs_assign::Steps;
 use obs_case::Case;

@@ -2,7 +2,7 @@ use Rattle.std.proofs.Common.{◌∙◌, sym, ap}
 use Rattle.obs_network.specs.Network.{Network}
 use Rattle.obs_engine.proofs.OfNetwork.{verdict_done, verdict_short}
 use Rattle.obs_engine.proofs.Studied.{kept_rank}
-use Rattle.obs_engine.proofs.kept.kept_verdict.Goals as goal
+use Rattle.obs_engine.proofs.judged.kept_verdict.Goals as goal
 
 pub returns-then-length-needed : goal.returns-then-length-needed
 returns-then-length-needed c =
