@@ -14,21 +14,45 @@ use obs_graph::Graph;
 use obs_meter::Meters;
 use std::sync::ledger::Ledger;
 
-// How many flags are set.
-fn count(flags: &[bool]) -> usize
-    ensures few { result ≤ length flags.now }
+// So many classes settled are worth a round: it takes about as long as twice as many searches.
+const WORTH: usize = 64;
+
+// How many meters wait.
+fn count_waiting(waiting: &[bool]) -> usize
+    ensures few { result ≤ length waiting.now }
 {
     let mut count = 0;
-    for k in 0..flags.len() {
-        if flags[k] {
+    for k in 0..waiting.len() {
+        if waiting[k] {
             count += 1;
         }
     }
     count
 }
 
-/// Settles classes by splits, each but the first with other pairs: eight more at most, and none once one has settled less
-/// than a quarter of the meters that waited.
+// How many classes are settled: one meter of each is its own key.
+fn count_settled(waiting: &[bool], list: &[u32]) -> usize
+    requires list { length list.now ≡ length waiting.now }
+    ensures few { result ≤ length waiting.now }
+{
+    let mut count = 0;
+    for k in 0..waiting.len() {
+        if !waiting[k] && list[k] as usize == k {
+            count += 1;
+        }
+    }
+    count
+}
+
+// Whether enough classes were settled since there were so many, and meters enough wait for a round more.
+fn is_worth(waiting: &[bool], list: &[u32], settled: usize) -> bool
+    requires list { length list.now ≡ length waiting.now }
+{
+    WORTH <= count_waiting(waiting) && WORTH <= count_settled(waiting, list).saturating_sub(settled)
+}
+
+/// Settles classes by splits, each but the first with other pairs, as long as they settle classes enough and meters enough
+/// wait.
 pub(crate) fn split_in_rounds<L: Ledger>(
     g: &Graph,
     ms: &Meters,
@@ -50,16 +74,15 @@ pub(crate) fn split_in_rounds<L: Ledger>(
     ensures same_room { HasRoomOf a.old a.new }
     ensures same_sizes { exchange.new.sizes ≡ exchange.old.sizes }
 {
-    let mut before = count(waiting);
+    let settled = count_settled(waiting, list);
     split(g, ms, a, left, exchange, waiting, list, steps);
-    for _round in 0..8u32 {
-        let now = count(waiting);
-        if 0 < now && now <= before - before / 4 {
-            before = now;
+    let mut worth = is_worth(waiting, list, settled);
+    for _round in 0..512u32 {
+        if worth {
+            let settled = count_settled(waiting, list);
             renew(g, ms, a, left, exchange, waiting, steps);
             split(g, ms, a, left, exchange, waiting, list, steps);
-        } else {
-            before = 0;
+            worth = is_worth(waiting, list, settled);
         }
     }
 }

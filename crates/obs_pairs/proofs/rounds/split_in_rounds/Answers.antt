@@ -3,15 +3,15 @@ use Rattle.obs_assign.specs.Assignment.{Assignment, HasRoomOf}
 use Rattle.obs_exchange.specs.Longest.{IsLongest}
 use Rattle.obs_exchange.proofs.Lengthening.{rooms}
 use Rattle.obs_pairs.proofs.rounds.split_in_rounds.Goals as goal
-use Rattle.obs_pairs.proofs.rounds.split_in_rounds.Goals.{then-now-gt0+then-now-before, else-now-gt0}
+use Rattle.obs_pairs.proofs.rounds.split_in_rounds.Goals.{else-worth, then-worth}
 
 pub loop-round-preserved : goal.loop-round-preserved
 loop-round-preserved g c =
     let l = c.loop-round in
     let inv = l.invariant in
-    elim c.if-now-gt0.branch [
-      | then-now-gt0+then-now-before w ↦
-          let s = w.split-then-now-before.ensures in
+    elim c.if-worth.branch [
+      | then-worth w ↦
+          let s = w.split-then-worth.ensures in
           rw (w.a-is, w.left-is, w.exchange-is, w.waiting-is, w.list-is)
           (record {
             settled = s.settled;
@@ -20,7 +20,7 @@ loop-round-preserved g c =
             same_room = subst (λ (a : Assignment). HasRoomOf c.args.a.now a) (sym s.same) (rooms c.args.a.now l.a w.renew.new.a inv.same_room w.renew.ensures.same_room);
             same_sizes = s.same_sizes ∙ (w.renew.ensures.same_sizes ∙ inv.same_sizes);
           })
-      | else-now-gt0 w ↦
+      | else-worth w ↦
           rw (w.a-is, w.left-is, w.exchange-is, w.waiting-is, w.list-is)
           (record {
             settled = inv.settled;
