@@ -18,6 +18,11 @@ pub is_read : {T U : Type 0} (why : CaseError) (r : Result U CaseError) → IsEr
 is_read {T = T} {U = U} why (Ok x) e h = absurd e
 is_read {T = T} {U = U} why (Err x) e h = ap Err (sym e ∙ read_is {T = U} x h)
 
+-- and it is one, where reading failed
+pub read_back : {T U : Type 0} (why : CaseError) (r : Result U CaseError) → IsErrAnd r (λ e. e ≡ why) → IsErrOf {T = T} (Err why) Read → IsErrOf r Read
+read_back {T = T} {U = U} why (Ok x) e h = absurd e
+read_back {T = T} {U = U} why (Err x) e h = ap Err (e ∙ read_is {T = T} why h)
+
 -- a told content that fits
 abbrev pub Fits : (ℕ → Option (List ℕ)) → ℕ → Type 0
 Fits content w = (bytes : List ℕ) → content w ≡ Some bytes → is_too_long bytes ≡ false

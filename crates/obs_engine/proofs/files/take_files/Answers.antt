@@ -1,4 +1,4 @@
-use Rattle.std.proofs.Common.{◌<◌, Err, arith, length, refl, subst, sym, ℕ}
+use Rattle.std.proofs.Common.{◌∙◌, ◌<◌, Err, arith, length, refl, subst, sym, ℕ}
 use Rattle.obs_matroid.proofs.Contained.{In-get_or}
 use Rattle.obs_matroid.specs.Lists.{In}
 use Rattle.obs_text.specs.Faults.{fault_of}
@@ -7,7 +7,7 @@ use Rattle.obs_engine.specs.Taken.{IsNext, bytes_of}
 use Rattle.obs_engine.specs.Words.{parts_of, words_of}
 use Rattle.obs_engine.proofs.Contents.{contents_not_taken, reading_failed, reading_goes_on, reading_refused}
 use Rattle.obs_engine.proofs.Filed.{part_here, word_here}
-use Rattle.obs_engine.proofs.Taking.{is_read, ok_not_read}
+use Rattle.obs_engine.proofs.Taking.{is_read, ok_not_read, read_back}
 use Rattle.obs_engine.proofs.files.take_files.Goals as goal
 
 pub returns-in_err-take_next-clause-stated : goal.returns-in_err-take_next-clause-stated
@@ -32,6 +32,10 @@ returns-in_err-take_next-clause-read g c = λ e.
     reading_failed (parts_of form) (words_of form) _ _ _ c.loop-k.invariant c.file-word.result.0 c.file-word.result.1.now
     (word_here form k low c.file-word.result.0 c.file-word.ensures.word) (part_here form k low c.file-word.result.1.now c.file-word.ensures.part)
     (c.in_err-take_next.ensures.read (is_read _ c.from_residual.result c.from_residual.ensures.1 e)) c.in_err-take_next.ensures.others
+
+pub returns-in_err-take_next-clause-quiet : goal.returns-in_err-take_next-clause-quiet
+returns-in_err-take_next-clause-quiet g c = λ none w.
+    c.in_err-take_next.ensures.quiet (λ e. none (read_back _ c.from_residual.result c.from_residual.ensures.1 e)) w ∙ c.loop-k.invariant.quiet w
 
 pub returns-in_err-take_next-clause-steady : goal.returns-in_err-take_next-clause-steady
 returns-in_err-take_next-clause-steady g c = λ all e.
