@@ -8,7 +8,8 @@ below, SESSIONS (200) random sessions over 12 to 60 nodes with edits and all ask
 requests are to be made before the first byte is taken from the standard input or written to the standard output, and none after it. A
 session takes no byte before it has begun. `place`, `verify` and `trial` write nothing before they have found their answer, so two runs
 are held against each other: `place` makes as many requests as a session over the same files, but for the one word more that this has; a
-certificate whose first claim fails as many as one that holds; and a trial as many as one with another seed.
+certificate whose first claim fails as many as one that holds; and a trial as many as one with another seed. So are those of a study of
+losses, which writes nothing before all is found: over the same rows, none of which is in service, it makes as many.
 
 Then each command is run again and again. The first request is refused, then the second alone, and so on, up to the last. Such a run is
 to end with 6 and nothing written.
@@ -169,6 +170,17 @@ def count_session(watched, runs, name, tables, r, edits):
     return count
 
 
+def count_studies(watched, runs, name, tables, studies):
+    """Where no branch and no meter is in service nothing is searched: as many requests as where some are."""
+    out = tables.copy()
+    for row in [*out.rows["branches"], *out.rows["meters"]]:
+        row[-1] = "0"
+    form, other = tables.write(runs, "all-")[0], out.write(runs, "out-")[0]
+    for study in studies:
+        counts = [watched.count(f"{name}, {study}", runs.folder, [study, *words]) for words in (form, other)]
+        watched.see(counts[0] == counts[1], f"{name}, {study}: {counts} requests with rows in service and without")
+
+
 def count_sessions(watched, runs, sessions):
     total = 0
     for number in range(sessions):
@@ -176,10 +188,13 @@ def count_sessions(watched, runs, sessions):
         records = zip(relations.FIVE, records_of(middle.random_middle(r)))
         tables = relations.Tables({part: [[word.decode() for word in row] for row in rows[1:]] for part, rows in records})
         total += count_session(watched, runs, f"session {number}", tables, r, 40)
+        count_studies(watched, runs, f"session {number}", tables, STUDIES)
     print(f"{sessions} random sessions: {total} requests")
     for name in FULL:
         shapes.write(name, runs.folder)
-        count = count_session(watched, runs, name, relations.Tables.of_folder(runs.folder), random.Random(0), 200)
+        tables = relations.Tables.of_folder(runs.folder)
+        count = count_session(watched, runs, name, tables, random.Random(0), 200)
+        count_studies(watched, runs, name, tables, [study for study in STUDIES if study != "outages"])
         print(f"a session over {name}: {count} requests")
 
 
