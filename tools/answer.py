@@ -149,15 +149,17 @@ def program_of(option):
     return os.path.abspath(program) if "/" in program else program
 
 
-def ask(program, form):
-    """The answer to the case of a form. A file that can't be read here is left to obs, which says why."""
+def ask(program, form, asks_losses=None):
+    """The answer to the case of a form. A file that can't be read here is left to obs, which says why. `asks_losses` asks for more,
+    beside what `report` prints.
+    """
     try:
         contents = form.read()
     except OSError as error:
         run(program, ["report", *form.words(form.files)[0]], None)
         raise Failure(OWN_FAILURE, f"{error}\n") from error
     try:
-        return Answer(program, form, contents)
+        return Answer(program, form, contents, asks_losses)
     except Failure as failure:
         failure.form, failure.contents = form, contents
         raise
@@ -166,11 +168,12 @@ def ask(program, form):
 class Answer:
     """The case of a form whose files have these contents, and what obs answered."""
 
-    def __init__(self, program, form, contents):
+    def __init__(self, program, form, contents, asks_losses=None):
         self.form = form
         self.contents = contents
         with tempfile.TemporaryDirectory() as folder:
-            self.ask(program, folder)
+            words = self.ask(program, folder)
+            self.losses = asks_losses(program, folder, words) if asks_losses else None
         self.case = case_of(form.kind, contents)
         self.find_network()
         self.find_items()
@@ -189,6 +192,7 @@ class Answer:
         if "candidates" in self.contents:
             lines, self.status = run(program, ["place", *with_candidates], folder)
             self.take_placement(lines)
+        return words
 
     def with_all_bought(self, program):
         """The answer where all live candidates are meters, or None where no table takes as many."""

@@ -1,6 +1,7 @@
 """The answer of obs in sentences: sections, each with a title and entries. An entry is a sentence with a list of what it speaks of."""
 from answer import fault_text, records_of
 from beware import all_warnings, file_warnings, lines_of
+from losing import loss_sections
 from model_reads import text_of
 from wording import counted, quoted, shown
 
@@ -12,7 +13,7 @@ def sections_of(answer, words):
     found += [short_part(answer, words, part) for part in first]
     more = [f"{words.bus(part)}, {counted(len(answer.parts[part]), 'bus', 'buses')}: {answer.missing(part):,} missing" for part in others]
     found += [("Further parts that fall short", [(f"There are {len(more):,}:", more)])] if more else []
-    found += [("Critical meters", critical(answer, words)), *placement(answer, words)]
+    found += [("Critical meters", critical(answer, words)), *loss_sections(answer, words), *placement(answer, words)]
     return with_lists(found)
 
 
