@@ -27,7 +27,7 @@ use Rattle.obs_network.proofs.OfLaws.{case_component-at}
 use Rattle.obs_network.proofs.Vertices.{IsAngleBranch, case_vertex_component-bus, case_vertex_component-reference, is_vertex_of-bus, is_vertex_of-reference, row_or_angle}
 
 -- a row of the network is a live one, of an energised component
-get_or-energised : (t : Tables) (e : ℕ) → get_or (case_rows t) e None ≡ if_energised (case_components t) (case_energised t) (get_or (case_live t) e None)
+pub get_or-energised : (t : Tables) (e : ℕ) → get_or (case_rows t) e None ≡ if_energised (case_components t) (case_energised t) (get_or (case_live t) e None)
 unfolding case_rows
 get_or-energised t e =
     let f = if_energised (case_components t) (case_energised t) in

@@ -21,3 +21,17 @@ pub mod MergedVertices
 pub mod RenamedEnds
 pub mod RefreshedMeter
 pub mod Outed
+pub mod Spared
+pub mod SparedItems
+pub mod NeededCount
+pub mod SideCount
+pub mod Bridged
+pub mod SideLists
+pub mod PartedNeeds
+pub mod StillTouched
+pub mod FewLost
+pub mod LoneChange
+pub mod FollowedRows
+pub mod FoundSides
+pub mod Spreading
+pub mod Walking

@@ -1,5 +1,5 @@
 -- A case is observable exactly where the greatest length of an assignment of its meters is the needed number.
-use Rattle.std.proofs.Common.{◌≡◌, ◌↔◌, ℕ, zero, suc, ◌<◌, ◌≤◌, Bool, true, false, None, List, [], ◌∷◌, ◌++◌, length, map, filter, get_or, refl, sym, ap, ◌∙◌, subst, arith, inl, inr, ◌⊎◌, length-append}
+use Rattle.std.proofs.Common.{◌≡◌, ◌↔◌, ℕ, zero, suc, ◌<◌, ◌≤◌, Bool, true, false, None, List, [], ◌∷◌, ◌++◌, length, filter, refl, sym, ap, ◌∙◌, subst, arith, inl, inr, ◌⊎◌, length-append}
 use Rattle.std.specs.Prelude.{IsSome, cond, slice_index, slice_index_or, ◌==◌}
 use Rattle.std.specs.List.{range_with_len}
 use Rattle.std.proofs.lemmas.Bool.{cases_Bool, eq-eqb, eqb-true, cond-true, cond-false}
@@ -48,7 +48,7 @@ has_vertex t c l =
     let low = b.1 in
     (b.0, vertex_in t c b.0 (omega (arith, low)) (is_vertex_of-bus t c b.0 low ∙ eq-eqb (slice_index (case_components t) b.0) c (case_component-at t b.0 low ∙ b.2)))
 
-some_long : (xs : List ℕ) (x : ℕ) → In x xs → 0 < length xs
+pub some_long : (xs : List ℕ) (x : ℕ) → In x xs → 0 < length xs
 some_long [] x i = absurd i
 some_long (y ∷ ys) x i = omega arith
 

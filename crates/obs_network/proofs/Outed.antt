@@ -1,7 +1,7 @@
 -- What an outage takes away: where a branch goes out of service no other branch comes, and no meter touches more.
-use Rattle.std.proofs.Common.{◌≡◌, ℕ, zero, suc, ◌+◌, ◌<◌, ◌&&◌, Bool, true, false, Option, Some, None, List, [], ◌∷◌, ◌++◌, length, map, get_or, refl, sym, ap, ◌∙◌, subst, arith, inl, inr}
-use Rattle.std.specs.Prelude.{All, IsSome, cond, ◌==◌, slice_index, slice_index_or, take}
-use Rattle.std.specs.List.{list_any, range_with_len}
+use Rattle.std.proofs.Common.{◌≡◌, ℕ, zero, suc, ◌+◌, ◌<◌, Bool, true, false, Option, Some, None, List, [], ◌∷◌, ◌++◌, length, map, get_or, refl, sym, ap, ◌∙◌, subst, arith, inl, inr}
+use Rattle.std.specs.Prelude.{All, IsSome, cond, if◌then◌else◌, ◌==◌, slice_index, slice_index_or, take}
+use Rattle.std.specs.List.{list_any}
 use Rattle.std.proofs.lemmas.Bool.{cases_Bool, cases_lt, and_from, and_parts, cond-true, cond-false, eq-eqb, eqb-true, or_cases, or_left, or_right, true≢false}
 use Rattle.std.proofs.lemmas.List.{get_or_past, length-map}
 use Rattle.std.proofs.lemmas.List.Elements.{All-head, All-tail}
@@ -58,7 +58,7 @@ any_more p q (u ∷ us) more any =
       | inr there ↦ or_right (q u) (list_any q us) (any_more p q us (λ x i. more x (inr i)) there)
     ]
 
-marked_low : (flag : Node → Bool) (i : ℕ) (nodes : List Node) (u : ℕ) → In u (positions_from flag i nodes) → u < i + length nodes
+pub marked_low : (flag : Node → Bool) (i : ℕ) (nodes : List Node) (u : ℕ) → In u (positions_from flag i nodes) → u < i + length nodes
 marked_low flag i [] u there = absurd there
 marked_low flag i (row ∷ nodes) u there =
     let rest : In u (positions_from flag (suc i) nodes) → u < i + length (row ∷ nodes) = λ x. let l = marked_low flag (suc i) nodes u x in omega (arith, l) in
@@ -72,13 +72,13 @@ marked_low flag i (row ∷ nodes) u there =
     first (inr x) rest = rest x
 
 -- a list whose entries go by a map that leaves what is absent
-at_map : (f : Option Ends → Option Ends) → f None ≡ None → (xs : List (Option Ends)) (k : ℕ) → get_or (map f xs) k None ≡ f (get_or xs k None)
+pub at_map : (f : Option Ends → Option Ends) → f None ≡ None → (xs : List (Option Ends)) (k : ℕ) → get_or (map f xs) k None ≡ f (get_or xs k None)
 at_map f none [] k = sym none
 at_map f none (x ∷ xs) zero = refl
 at_map f none (x ∷ xs) (suc k) = at_map f none xs k
 
 -- what is there in one list is there in another
-abbrev IsMore : List (Option Ends) → List (Option Ends) → Type 0
+abbrev pub IsMore : List (Option Ends) → List (Option Ends) → Type 0
 IsMore xs ys = (k : ℕ) → IsSome (slice_index_or xs k None) → IsSome (slice_index_or ys k None)
 
 more_append : (xs ys us vs : List (Option Ends)) → length xs ≡ length us → IsMore xs us → IsMore ys vs → (k : ℕ) → IsSome (slice_index_or (xs ++ ys) k None) → IsSome (slice_index_or (us ++ vs) k None)
@@ -99,7 +99,7 @@ itself_more None q e p more i = absurd i
 itself_more (Some x) None e p more i = absurd (true≢false (sym (more refl)))
 itself_more (Some x) (Some y) e p more i = i
 
-some_of : (o : Option Ends) → IsSome o → (x : Ends) × (o ≡ Some x)
+pub some_of : (o : Option Ends) → IsSome o → (x : Ends) × (o ≡ Some x)
 some_of None s = absurd (true≢false (sym s))
 some_of (Some x) s = (x, refl)
 
@@ -108,13 +108,46 @@ end_of v None t = absurd (true≢false (sym t))
 end_of v (Some x) t = (x, refl)
 
 -- the marks of a component, by its number
-energised_at : (t : Tables) (c : ℕ) → c < case_component_count t → slice_index_or (case_energised t) c false ≡ is_marked is_source (case_components t) (case_buses t) t.nodes c
+pub energised_at : (t : Tables) (c : ℕ) → c < case_component_count t → slice_index_or (case_energised t) c false ≡ is_marked is_source (case_components t) (case_buses t) t.nodes c
 unfolding case_energised
 energised_at t c l = get_or-map-range_with_len (is_marked is_source (case_components t) (case_buses t) t.nodes) 0 (case_component_count t) c c false l (omega arith)
 
-absolute_at : (t : Tables) (c : ℕ) → c < case_component_count t → slice_index_or (case_absolute t) c false ≡ is_marked is_absolute_node (case_components t) (case_buses t) t.nodes c
+pub absolute_at : (t : Tables) (c : ℕ) → c < case_component_count t → slice_index_or (case_absolute t) c false ≡ is_marked is_absolute_node (case_components t) (case_buses t) t.nodes c
 unfolding case_absolute
 absolute_at t c l = get_or-map-range_with_len (is_marked is_absolute_node (case_components t) (case_buses t) t.nodes) 0 (case_component_count t) c c false l (omega arith)
+
+-- where the components of more buses take angle branches, more of these are present
+module _ (t : Tables) (v : IsValid t) (ds cs : List ℕ) (lit lit_more fixed fixed_more : List Bool)
+    (takes : (bus : ℕ) → bus < case_bus_count t → takes_angles lit fixed (slice_index ds bus) ≡ true → takes_angles lit_more fixed_more (slice_index cs bus) ≡ true) where
+  one_angle : (kind : Kind) (u : ℕ) → u < places t kind → IsSome (item_angle (case_buses t) ds lit fixed kind u) → IsSome (item_angle (case_buses t) cs lit_more fixed_more kind u)
+  one_angle Flow u l s = s
+  one_angle Injection u l s = s
+  one_angle Zero u l s = s
+  one_angle Angle u l s =
+      let bus = slice_index (case_buses t) u in
+      let low = case_bus-below t u l in
+      let c = slice_index cs bus in
+      let d = slice_index ds bus in
+      let now : Ends = record { a = bus; b = reference_of ds d } in
+      let was : Ends = record { a = bus; b = reference_of cs c } in
+      elim (cases_Bool (takes_angles lit fixed d)) [
+        | inl e ↦ subst IsSome (sym (cond-true (takes_angles lit_more fixed_more c) (Some was) None (takes bus low e))) refl
+        | inr e ↦ absurd (true≢false (sym (subst IsSome (cond-false (takes_angles lit fixed d) (Some now) None e) s)))
+      ]
+
+  pub more_angles : IsMore (if has_angle t then angle_branches (case_buses t) ds lit fixed t.meters t.candidates else [])
+      (if has_angle t then angle_branches (case_buses t) cs lit_more fixed_more t.meters t.candidates else [])
+  more_angles =
+      let now : Kind → ℕ → Option Ends = item_angle (case_buses t) ds lit fixed in
+      let was : Kind → ℕ → Option Ends = item_angle (case_buses t) cs lit_more fixed_more in
+      elim (cases_Bool (has_angle t)) [
+        | inl e ↦ rw e (more_append (map (λ (row : Meter). now row.kind row.at) t.meters) (map (λ (row : Candidate). now row.kind row.at) t.candidates)
+            (map (λ (row : Meter). was row.kind row.at) t.meters) (map (λ (row : Candidate). was row.kind row.at) t.candidates)
+            (length-map t.meters (λ (row : Meter). now row.kind row.at) ∙ sym (length-map t.meters (λ (row : Meter). was row.kind row.at)))
+            (more_map (λ (row : Meter). row.at < places t row.kind) (λ (row : Meter). now row.kind row.at) (λ (row : Meter). was row.kind row.at) (λ row l. one_angle row.kind row.at l) t.meters v.meter_places)
+            (more_map (λ (row : Candidate). row.at < places t row.kind) (λ (row : Candidate). now row.kind row.at) (λ (row : Candidate). was row.kind row.at) (λ row l. one_angle row.kind row.at l) t.candidates v.candidate_places))
+        | inr e ↦ rw e (λ k s. s)
+      ]
 
 module _ (t : Tables) (v : IsValid t) (at : ℕ) where
   abbrev out : Tables
@@ -153,13 +186,13 @@ module _ (t : Tables) (v : IsValid t) (at : ℕ) where
       (eqb-true (slice_index (case_components out) (slice_index buses u)) (slice_index (case_components out) b) e)))
       any
 
-  energised_before : (b : ℕ) → b < case_bus_count t → slice_index_or (case_energised out) (slice_index (case_components out) b) false ≡ true
+  pub energised_before : (b : ℕ) → b < case_bus_count t → slice_index_or (case_energised out) (slice_index (case_components out) b) false ≡ true
       → slice_index_or (case_energised t) (slice_index (case_components t) b) false ≡ true
   energised_before b l e =
       energised_at t (slice_index (case_components t) b) (case_component-below t b l)
       ∙ marked_before is_source b l (sym (energised_at out (slice_index (case_components out) b) (case_component-below out b l)) ∙ e)
 
-  absolute_before : (b : ℕ) → b < case_bus_count t → slice_index_or (case_absolute out) (slice_index (case_components out) b) false ≡ true
+  pub absolute_before : (b : ℕ) → b < case_bus_count t → slice_index_or (case_absolute out) (slice_index (case_components out) b) false ≡ true
       → slice_index_or (case_absolute t) (slice_index (case_components t) b) false ≡ true
   absolute_before b l e =
       absolute_at t (slice_index (case_components t) b) (case_component-below t b l)
@@ -187,43 +220,17 @@ module _ (t : Tables) (v : IsValid t) (at : ℕ) where
       let x = some_of (get_or (case_rows out) k None) s in
       subst IsSome (sym (row_before k x.0 x.1)) refl
 
-  same_rows : length (case_rows out) ≡ length (case_rows t)
+  pub same_rows : length (case_rows out) ≡ length (case_rows t)
   same_rows = length-case_rows out ∙ length-changed (λ (row : Branch). record row { inservice = false }) t.branches at ∙ sym (length-case_rows t)
-
-  -- an angle branch that is present was present
-  angle_more : (kind : Kind) (u : ℕ) → u < places t kind → IsSome (item_angle (case_buses t) (case_components out) (case_energised out) (case_absolute out) kind u)
-      → IsSome (item_angle (case_buses t) (case_components t) (case_energised t) (case_absolute t) kind u)
-  angle_more Flow u l s = s
-  angle_more Injection u l s = s
-  angle_more Zero u l s = s
-  angle_more Angle u l s =
-      let bus = slice_index (case_buses t) u in
-      let low = case_bus-below t u l in
-      let c = slice_index (case_components t) bus in
-      let d = slice_index (case_components out) bus in
-      let now : Ends = record { a = bus; b = reference_of (case_components out) d } in
-      let was : Ends = record { a = bus; b = reference_of (case_components t) c } in
-      elim (cases_Bool (takes_angles (case_energised out) (case_absolute out) d)) [
-        | inl e ↦
-            let p = and_parts (slice_index_or (case_energised out) d false) (slice_index_or (case_absolute out) d false) e in
-            subst IsSome (sym (cond-true (takes_angles (case_energised t) (case_absolute t) c) (Some was) None
-            (and_from (slice_index_or (case_energised t) c false) (slice_index_or (case_absolute t) c false) (energised_before bus low p.0) (absolute_before bus low p.1)))) refl
-        | inr e ↦ absurd (true≢false (sym (subst IsSome (cond-false (takes_angles (case_energised out) (case_absolute out) d) (Some now) None e) s)))
-      ]
 
   angles_more : IsMore (case_angles out) (case_angles t)
   unfolding case_angles
   angles_more =
-      let now : Kind → ℕ → Option Ends = item_angle (case_buses t) (case_components out) (case_energised out) (case_absolute out) in
-      let was : Kind → ℕ → Option Ends = item_angle (case_buses t) (case_components t) (case_energised t) (case_absolute t) in
-      elim (cases_Bool (has_angle t)) [
-        | inl e ↦ rw e (more_append (map (λ (row : Meter). now row.kind row.at) t.meters) (map (λ (row : Candidate). now row.kind row.at) t.candidates)
-            (map (λ (row : Meter). was row.kind row.at) t.meters) (map (λ (row : Candidate). was row.kind row.at) t.candidates)
-            (length-map t.meters (λ (row : Meter). now row.kind row.at) ∙ sym (length-map t.meters (λ (row : Meter). was row.kind row.at)))
-            (more_map (λ (row : Meter). row.at < places t row.kind) (λ (row : Meter). now row.kind row.at) (λ (row : Meter). was row.kind row.at) (λ row l. angle_more row.kind row.at l) t.meters v.meter_places)
-            (more_map (λ (row : Candidate). row.at < places t row.kind) (λ (row : Candidate). now row.kind row.at) (λ (row : Candidate). was row.kind row.at) (λ row l. angle_more row.kind row.at l) t.candidates v.candidate_places))
-        | inr e ↦ rw e (λ k s. s)
-      ]
+      more_angles t v (case_components out) (case_components t) (case_energised out) (case_energised t) (case_absolute out) (case_absolute t) (λ bus low e.
+      let c = slice_index (case_components t) bus in
+      let d = slice_index (case_components out) bus in
+      let p = and_parts (slice_index_or (case_energised out) d false) (slice_index_or (case_absolute out) d false) e in
+      and_from (slice_index_or (case_energised t) c false) (slice_index_or (case_absolute t) c false) (energised_before bus low p.0) (absolute_before bus low p.1))
 
   -- a branch that is present was present
   pub present_before : (e : ℕ) → IsSome (slice_index_or (case_branches out) e None) → IsSome (slice_index_or (case_branches t) e None)

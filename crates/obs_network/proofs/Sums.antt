@@ -25,7 +25,7 @@ sum_below-same f g (suc n) h e c l =
     ]
 
 -- one term is greater by one
-one_more : (h : ℕ → ℕ) (m n : ℕ) → m < n → sum_below (λ c. cond (m == c) (suc (h c)) (h c)) n ≡ suc (sum_below h n)
+pub one_more : (h : ℕ → ℕ) (m n : ℕ) → m < n → sum_below (λ c. cond (m == c) (suc (h c)) (h c)) n ≡ suc (sum_below h n)
 one_more h m zero l = absurd (omega arith)
 one_more h m (suc n) l =
     elim (cases_eq m n) [

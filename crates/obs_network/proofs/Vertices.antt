@@ -161,7 +161,7 @@ one_passes p b (suc c) a (suc n) l is others =
     (λ k low other. let e : a + 1 + k ≡ a + suc k = omega arith in ap p e ∙ others (suc k) (omega (arith, low)) (λ z. other (omega (arith, z)))))
 
 -- as many numbers pass as entries of a list are equal to c
-counted_at : (xs : List ℕ) (c a : ℕ) (p : ℕ → Bool) → ((k : ℕ) → k < length xs → p (a + k) ≡ (get_or xs k 0 == c)) → length (filter p (range_with_len a (length xs))) ≡ length (filter (λ x. x == c) xs)
+pub counted_at : (xs : List ℕ) (c a : ℕ) (p : ℕ → Bool) → ((k : ℕ) → k < length xs → p (a + k) ≡ (get_or xs k 0 == c)) → length (filter p (range_with_len a (length xs))) ≡ length (filter (λ x. x == c) xs)
 counted_at [] c a p same = refl
 counted_at (x ∷ xs) c a p same =
     let start : a ≡ a + 0 = omega arith in

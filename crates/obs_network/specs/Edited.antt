@@ -1,12 +1,15 @@
 -- What an edit of a flag does to the network of a case: `t` are the tables before it, and `after` those after it.
-use Rattle.std.specs.Prelude.{ℕ, ◌≡◌, ◌≢◌, ◌<◌, All, IsSome, Bool, Option, Some, None, List, [], ◌∷◌, length, slice_index, slice_index_or}
+use Rattle.std.specs.Prelude.{ℕ, ◌≡◌, ◌≢◌, ◌↔◌, ◌<◌, All, IsSome, Bool, false, true, Option, Some, None, List, [], ◌∷◌, length, slice_index, slice_index_or, slice_set}
 use Rattle.obs_graph.specs.declared.Ends.{Ends}
 use Rattle.obs_graph.specs.Joined.{AreMergedBy, renamed_one}
-use Rattle.obs_case.specs.Flags.{with_meter_inservice}
+use Rattle.obs_case.specs.Flags.{with_branch_inservice, with_meter_inservice}
 use Rattle.obs_case.specs.Tables.{Tables}
+use Rattle.obs_matroid.specs.Lists.{In}
+use Rattle.obs_meter.specs.Touches.{touch_at}
 use Rattle.obs_network.specs.Switched.{case_bus_count, case_buses}
 use Rattle.obs_network.specs.Angles.{reference_of}
-use Rattle.obs_network.specs.Network.{Network, case_branches, case_components, case_vertex_count, network_of}
+use Rattle.obs_network.specs.Network.{Components, Network, case_branches, case_components, case_vertex_count, network_of}
+use Rattle.obs_network.specs.Parted.{AreJoinedWithout}
 
 -- all these positions have present branches
 abbrev pub ArePresent : List (Option Ends) → List ℕ → Type 0
@@ -63,3 +66,27 @@ pub record IsBeforeMeter (n : Network) (m : ℕ) (after : Tables) : Type 0 where
   pub inservice : Bool
   pub network : n ≡ network_of tables
   pub edited : after ≡ with_meter_inservice tables m inservice
+
+-- a network is that of the tables before the flag of this branch was set
+pub record IsBeforeBranch (n : Network) (at : ℕ) (after : Tables) : Type 0 where
+  pub tables : Tables
+  pub inservice : Bool
+  pub network : n ≡ network_of tables
+  pub edited : after ≡ with_branch_inservice tables at inservice
+
+-- two networks are the same but for one branch: they have the same vertices, components and needed number, and at every other
+-- position the same ends, which the same meters touch
+pub record AreSameBut (at : ℕ) (one other : Network) : Type 0 where
+  pub vertices : other.graph.vertices ≡ one.graph.vertices
+  pub components : other.components ≡ one.components
+  pub needed : other.needed ≡ one.needed
+  pub ends : other.graph.ends ≡ slice_set one.graph.ends at (slice_index_or other.graph.ends at None)
+  pub touched : (m e : ℕ) → e ≢ at → In e (touch_at one.graph.ends one.meters.touches m) ↔ In e (touch_at other.graph.ends other.meters.touches m)
+
+-- a branch comes or goes alone: the buses that it joins now lie in one energised component already, or the other rows join the ends
+-- that it had
+abbrev pub ChangesAlone : Components → List (Option Ends) → ℕ → Option Ends → Type 0
+ChangesAlone components rows at None = IsSome (slice_index_or rows at None) × AreJoinedWithout rows at
+ChangesAlone components rows at (Some x) =
+    (slice_index components.of_buses x.a ≡ slice_index components.of_buses x.b)
+    × (slice_index_or components.energised (slice_index components.of_buses x.a) false ≡ true)

@@ -14,6 +14,7 @@ use Rattle.obs_network.specs.declared.marks.Flag.{Flag}
 use Rattle.obs_network.specs.declared.marks.Flag.TheVariants.{Source, Absolute}
 use Rattle.obs_network.specs.Network.{Components}
 use Rattle.obs_network.specs.Located.{touch_component}
+use Rattle.obs_network.specs.Sides.{Sides}
 
 -- whether a node has a flag
 abbrev pub flag_of : Flag → Node → Bool
@@ -68,14 +69,16 @@ pub record AreListed (meters components most_components : ℕ) (lists members st
 
 -- the parts of a network agree, and each has the room that it needs
 pub record AreParts (links : List Link) (live kept : List (Option Ends)) (touches : List Touch) (search : State)
-    (buses : Buses) (components : Components) (graph : Graph) (meters offered : Meters) (listed : Listed) : Type 0 where
+    (buses : Buses) (components : Components) (graph : Graph) (meters offered : Meters) (listed : Listed) (sides : Sides) : Type 0 where
   pub buses_room : buses.most_nodes ≡ components.most_buses
   pub vertices_room : graph.most_vertices ≡ 2 * components.most_buses
   pub branches_room : graph.most_branches ≡ length live + offered.most
   pub kept_len : length kept ≡ length live + offered.most
+  pub kept_ends : take (length graph.ends) kept ≡ graph.ends
   pub touches_len : length touches ≡ offered.most
   pub fewer : meters.most ≤ offered.most
   pub search_room : room_of search ≡ components.most_buses
+  pub sides_room : sides.most_vertices ≡ 2 * components.most_buses
   pub vertices : graph.vertices ≡ buses.count + length components.first_buses
   pub of_buses : length components.of_buses ≡ buses.count
   pub meters_in_range : AreInRange graph meters.touches

@@ -5,6 +5,8 @@ pub mod Angles
 pub mod Touching
 pub mod Network
 pub mod Located
+pub mod Parted
+pub mod Sides
 pub mod Kept
 pub mod Observable
 pub mod Plain

@@ -1,5 +1,5 @@
 // The laws of networks.
-ghost use Rattle.std.specs.Prelude.{◌≡◌, ◌↔◌, ◌⊎◌, ◌<◌, ◌≤◌, ◌+◌, ◌-◌, ℕ, Bool, true, false, List, Some, None, [], IsSome, IsTrue, Contains, length, filter, sum_by, slice_index, slice_index_or, slice_set};
+ghost use Rattle.std.specs.Prelude.{◌≡◌, ◌≢◌, ◌↔◌, ◌⊎◌, ◌<◌, ◌≤◌, ◌+◌, ◌-◌, ℕ, Bool, true, false, List, Some, None, [], IsSome, IsTrue, Contains, length, filter, sum_by, slice_index, slice_index_or, slice_set};
 ghost use Rattle.std.specs.List.{range_with_len};
 ghost use Rattle.obs_graph.specs.declared.Ends.{Ends};
 ghost use Rattle.obs_graph.specs.Joined.{is_joined};
@@ -22,8 +22,9 @@ ghost use Rattle.obs_network.specs.Switched.{case_bus_count, case_buses};
 ghost use Rattle.obs_network.specs.Components.{AreOneComponent, component_count, component_of, components_of, first_bus, first_buses_of, is_absolute_node, is_energised, is_marked, marked_nodes, need_of, needed_of, sizes_of, source_nodes};
 ghost use Rattle.obs_network.specs.Located.{component_of_branch, component_of_item, live_meters_of};
 ghost use Rattle.obs_network.specs.Network.{Network, case_branches, case_component_count, case_components, case_live, case_meters, case_need, case_needed, case_offered, case_rows, case_sizes, case_vertex_component, case_vertex_count, network_of, rows_of};
-ghost use Rattle.obs_network.specs.Edited.{AreKept, AreMerged, ArePresent, IsOneMerge, IsReferenceMerge};
-ghost use Rattle.obs_network.specs.Observable.{IsObservableCase, branch_component, case_live_meters, is_energised_component, item_component};
+ghost use Rattle.obs_network.specs.Edited.{AreKept, AreMerged, ArePresent, AreSameBut, IsOneMerge, IsReferenceMerge};
+ghost use Rattle.obs_network.specs.Parted.{AreJoinedWithout, HasSource, HasSourceBeside, IsParted, StaysJoined, without};
+ghost use Rattle.obs_network.specs.Observable.{IsObservableCase, branch_component, case_live_meters, case_rank, is_energised_component, item_component};
 ghost use Rattle.obs_network.specs.Plain.{HasNoAbsolute, other_touches_in_order, touches_in_order, without_angles};
 
 /// Two nodes have one bus exactly where the closed switches, as branches between nodes, join them.
@@ -246,4 +247,38 @@ pub fn an_outage_takes_away()
     ensures touched { (t : Tables) → IsValid t → (at m e : ℕ) →
         In e (touch_at (case_branches (with_branch_inservice t at false)) (case_meters (with_branch_inservice t at false)) m) →
         In e (touch_at (case_branches t) (case_meters t) m) }
+{}
+
+/// Where the ends of a live branch stay joined without it, its outage changes nothing but this branch. They do where the
+/// other rows join them.
+pub fn an_outage_between_joined_ends()
+    ensures same { (t : Tables) → IsValid t → (at : ℕ) → at < length t.branches → StaysJoined t at →
+        AreSameBut at (network_of t) (network_of (without t at)) }
+    ensures absent { (t : Tables) → IsValid t → (at : ℕ) → at < length t.branches → StaysJoined t at →
+        slice_index_or (case_branches (without t at)) at None ≡ None }
+    ensures by_rows { (t : Tables) → IsValid t → (at : ℕ) → IsSome (slice_index_or (case_rows t) at None) →
+        AreJoinedWithout (case_rows t) at → StaysJoined t at }
+{}
+
+/// Where an outage parts the buses of a component that isn't absolute, the needed number falls by one where both sides have
+/// a source, and else by the number of buses of the side that has none. The rank falls by no more than the needed number
+/// does; so an observable case stays observable. Where the needed number falls by one, no meter loses another branch.
+pub fn an_outage_parts_a_component()
+    ensures both { (t : Tables) → IsValid t → (e c : ℕ) (side : List ℕ) → IsParted t e c side →
+        HasSource t side → HasSourceBeside t c side → case_needed (without t e) + 1 ≡ case_needed t }
+    ensures listed { (t : Tables) → IsValid t → (e c : ℕ) (side : List ℕ) → IsParted t e c side →
+        (HasSource t side → ⊥) → case_needed (without t e) + length side ≡ case_needed t }
+    ensures other { (t : Tables) → IsValid t → (e c : ℕ) (side : List ℕ) → IsParted t e c side →
+        (HasSourceBeside t c side → ⊥) →
+        case_needed (without t e) + (slice_index (case_sizes t) c - length side) ≡ case_needed t }
+    ensures size { (t : Tables) → IsValid t → (e c : ℕ) (side : List ℕ) → IsParted t e c side →
+        length side ≤ slice_index (case_sizes t) c }
+    ensures rank { (t : Tables) → IsValid t → (e c : ℕ) (side : List ℕ) → IsParted t e c side →
+        case_rank t + case_needed (without t e) ≤ case_rank (without t e) + case_needed t }
+    ensures observable { (t : Tables) → IsValid t → (e c : ℕ) (side : List ℕ) → IsParted t e c side →
+        IsObservableCase t → IsObservableCase (without t e) }
+    ensures alone { (t : Tables) → IsValid t → (e c : ℕ) (side : List ℕ) → IsParted t e c side →
+        case_needed (without t e) + 1 ≡ case_needed t → (m k : ℕ) → k ≢ e →
+        In k (touch_at (case_branches t) (case_meters t) m) →
+        In k (touch_at (case_branches (without t e)) (case_meters (without t e)) m) }
 {}

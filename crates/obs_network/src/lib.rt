@@ -1,6 +1,7 @@
 //! The network of a case.
 #![tactic(auto)]
 
+mod alone;
 mod angles;
 mod components;
 pub mod laws;
@@ -12,10 +13,12 @@ mod memory;
 mod network;
 mod rebuild;
 mod room;
+mod sides;
 mod switched;
 mod touching;
 
 pub use memory::NoMemory;
 pub use network::Network;
 pub use room::{position_count, vertex_room};
+pub use sides::Sides;
 pub use switched::buses_of_case;

@@ -7,8 +7,8 @@ use obs_case::Branch;
 use obs_graph::{Ends, Graph};
 use obs_switch::Buses;
 
-// The two buses that a branch joins, where it is live.
-fn ends_of(row: &Branch, buses: &Buses) -> Option<Ends>
+/// The two buses that a branch joins, where it is live.
+pub(crate) fn ends_of(row: &Branch, buses: &Buses) -> Option<Ends>
     requires from { row.now.from < length buses.now.buses }
     requires to { row.now.to < length buses.now.buses }
     ensures ends { result ≡ live_ends buses.now.buses row.now }

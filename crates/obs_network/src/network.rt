@@ -1,11 +1,12 @@
 // The network of a case.
-ghost use Rattle.std.specs.Prelude.{◌≡◌, ◌+◌, ◌-◌, ◌<◌, All, IfOk, IfSome, IsTrue, length, slice_index, slice_index_or, false};
+ghost use Rattle.std.specs.Prelude.{◌≡◌, ◌+◌, ◌-◌, ◌<◌, All, IfOk, IfSome, IsTrue, None, length, slice_index, slice_index_or, take, false};
 ghost use Rattle.obs_meter.specs.Touches.{AreInRange};
 ghost use Rattle.obs_network.specs.Components.{need_of};
-ghost use Rattle.obs_network.specs.Edited.{IsBeforeMeter};
+ghost use Rattle.obs_network.specs.Edited.{AreSameBut, ChangesAlone, IsBeforeBranch, IsBeforeMeter};
 ghost use Rattle.obs_network.specs.Located.{component_of_branch, component_of_item, live_meters_of};
-ghost use Rattle.obs_network.specs.Network.{live_branch_count, network_of, rows_of};
+ghost use Rattle.obs_network.specs.Network.{case_live, live_branch_count, network_of, rows_of};
 
+use crate::alone::{change_row, changes_alone, live_ends_at};
 use crate::components::Components;
 use crate::live::count_present;
 use crate::live_meters::LiveMeters;
@@ -14,6 +15,7 @@ use crate::memory::NoMemory;
 use crate::rebuild::{
     change_item, find_components, find_live, refill_graph, refill_items, relabel_unless,
 };
+use crate::sides::Sides;
 use obs_case::Case;
 use obs_graph::search::Search;
 use obs_graph::{Ends, Graph};
@@ -22,9 +24,8 @@ use obs_switch::{Buses, Link};
 use std::alloc::Global;
 use std::marker::Model;
 
-/// The network of a case: its buses, its components, the graph of the live branches of energised
-/// components and of the angle branches, and what its items touch there. It keeps the numbers of rows of the case that it was
-/// made for.
+/// The network of a case: its buses, its components, the graph of the live branches of energised components and of the angle
+/// branches, and what its items touch there. It keeps the numbers of rows of the case that it was made for.
 pub struct Network {
     buses: Buses,
     components: Components,
@@ -45,6 +46,8 @@ pub struct Network {
     search: Search,
     // the live meters of each component
     live_meters: LiveMeters,
+    // what the rows join without one of them
+    sides: Sides,
 }
 
 impl Model for Network {
@@ -72,7 +75,7 @@ impl Model for Network {
 
     ghost invariant = { λ n.
         AreParts n.links.items n.live.items n.kept.items n.touches.items n.search
-        n.buses n.components n.graph n.meters n.offered n.live_meters };
+        n.buses n.components n.graph n.meters n.offered n.live_meters n.sides };
 }
 
 // Written out: so a caller's proof sees one call, and not the drop of each field.
@@ -91,6 +94,7 @@ impl Drop for Network {
             touches: _,
             search: _,
             live_meters: _,
+            sides: _,
         } = self;
     }
 }
@@ -117,6 +121,7 @@ impl Network {
             touches: vec![in alloc; Touch::Nothing; offered as usize]?,
             search: Search::make(alloc, nodes)?,
             live_meters: LiveMeters::make(alloc, meters, nodes)?,
+            sides: Sides::make(alloc, 2 * nodes)?,
         })
     }
 
@@ -175,13 +180,65 @@ impl Network {
         self.remake(case, false);
     }
 
-    /// The same, where the buses are those of the case already, as after the flag of a branch was set. Takes no memory.
-    pub fn refresh_branches(&mut self, case: &Case)
-        requires rows { self.old.rows ≡ rows_of case.now }
-        requires buses { self.old.buses ≡ (network_of case.now).buses }
-        ensures whole { self.new ≡ network_of case.now }
+    // Whether nothing but a branch changes, of which the flag was set.
+    fn is_alone(&mut self, case: &Case, at: u32) -> bool
+        requires branch { at < length case.now.branches }
+        requires before { IsBeforeBranch self.old at case.now }
+        ensures same { self.new ≡ self.old }
+        ensures alone { IsTrue result → ChangesAlone self.old.components
+            (take (length case.now.branches) self.old.graph.ends) at (slice_index_or (case_live case.now) at None) }
     {
-        self.remake(case, true);
+        let ends = live_ends_at(case, at, &self.buses);
+        let rows = case.branches().len() as u32;
+        changes_alone(
+            &self.components,
+            &self.graph,
+            rows,
+            at,
+            ends,
+            &mut self.sides,
+        )
+    }
+
+    // Makes a branch that of the case, and the items, where nothing else changes.
+    fn change_branch(&mut self, case: &Case, at: u32)
+        requires branch { at < length case.now.branches }
+        requires before { IsBeforeBranch self.old at case.now }
+        requires alone { ChangesAlone self.old.components (take (length case.now.branches) self.old.graph.ends) at
+            (slice_index_or (case_live case.now) at None) }
+        ensures whole { self.new ≡ network_of case.now }
+        ensures alone { AreSameBut at self.old self.new }
+    {
+        let _nodes = case.nodes();
+        let ends = live_ends_at(case, at, &self.buses);
+        change_row(at, ends, &mut self.kept, &mut self.graph);
+        refill_items(
+            case,
+            &self.buses,
+            &self.graph,
+            &mut self.touches,
+            &mut self.meters,
+            &mut self.offered,
+        );
+        self.live_meters
+            .refill(&self.components, &self.graph, &self.meters);
+    }
+
+    /// Makes the network that of the case after the flag of one branch was set, where it was that of the case before.
+    /// Answers true only where nothing but this branch changed. Takes no memory.
+    pub fn refresh_branch(&mut self, case: &Case, at: u32) -> bool
+        requires branch { at < length case.now.branches }
+        requires before { IsBeforeBranch self.old at case.now }
+        ensures whole { self.new ≡ network_of case.now }
+        ensures alone { IsTrue result → AreSameBut at self.old self.new }
+    {
+        let alone = self.is_alone(case, at);
+        if alone {
+            self.change_branch(case, at);
+        } else {
+            self.remake(case, true);
+        }
+        alone
     }
 
     /// Makes the network that of the case after the flag of one meter was set, where it was that of the case before.

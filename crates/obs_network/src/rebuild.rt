@@ -159,6 +159,7 @@ pub(crate) fn refill_graph(
     ensures most_vertices { graph.new.most_vertices ≡ graph.old.most_vertices }
     ensures most_branches { graph.new.most_branches ≡ graph.old.most_branches }
     ensures kept { length kept.new ≡ length kept.old }
+    ensures kept_ends { take (length graph.new.ends) kept.new ≡ graph.new.ends }
 {
     let _nodes = case.nodes();
     let positions = write_branches(case, buses, components, live, kept);

@@ -1,4 +1,5 @@
-use Rattle.std.proofs.Common.{◌≡◌, ℕ, List, ◌+◌, ap, ◌∙◌, length, arith}
+use Rattle.std.proofs.Common.{◌≡◌, ℕ, List, ◌+◌, take, ap, ◌∙◌, length, arith}
+use Rattle.std.proofs.lemmas.List.{length-take-le}
 use Rattle.obs_case.specs.Tables.{Tables}
 use Rattle.obs_graph.specs.Graph.{Graph}
 use Rattle.obs_network.specs.Switched.{case_bus_count}
@@ -30,3 +31,8 @@ pub returns-clause-vertices : goal.returns-clause-vertices
 returns-clause-vertices c =
     ap (λ (g : Graph). g.vertices) c.refill.ensures.whole
     ∙ vertices c.args.case.now c.count.result c.count-2.result _ _ c.count.ensures.count c.count-2.ensures.count c.requires.count c.requires.first_buses
+
+pub returns-clause-kept_ends : goal.returns-clause-kept_ends
+returns-clause-kept_ends c =
+    let kept = c.write_branches-positions.new.kept in
+    rw (ap (λ (g : Graph). g.ends) c.refill.ensures.whole) (ap (λ n. take n kept) (length-take-le c.write_branches-positions.result kept c.write_branches-positions.ensures.few))

@@ -1,8 +1,8 @@
-use Rattle.std.proofs.Common.{◌∙◌, ◌≡◌, ◌+◌, ◌*◌, sym, ap, length, arith, refl}
+use Rattle.std.proofs.Common.{◌∙◌, sym, ap, length, arith, refl}
 use Rattle.obs_switch.specs.Held.{Buses}
 use Rattle.obs_network.specs.Network.{Network, Rows, case_needed}
 use Rattle.obs_network.proofs.Items.{meters-in_range, offered-in_range}
-use Rattle.obs_network.proofs.OfCase.{case_bus_count-le, case_component_count-le, case_vertex_count-le, few_nodes, length-case_components, length-case_first_buses, length-case_live, length-case_meters}
+use Rattle.obs_network.proofs.OfCase.{case_bus_count-le, case_component_count-le, case_vertex_count-le, few_nodes, length-case_components, length-case_first_buses, length-case_meters}
 use Rattle.obs_network.proofs.Whole.{labelled_is, grouped_is, shape_is, items_are, rows_are, network_is}
 use Rattle.obs_network.proofs.network.Network.remake.Goals as goal
 use Rattle.obs_graph.proofs.Stored.{written_back}
@@ -101,9 +101,11 @@ invariant_of-self c =
       vertices_room = omega (arith, v.vertices_room, found.most_vertices, found.room, kept.most_vertices);
       branches_room = omega (arith, v.branches_room, found.most_branches, kept.most_branches, live, items.most_offered);
       kept_len = omega (arith, v.kept_len, live, keeps, items.most_offered);
+      kept_ends = kept.kept_ends;
       touches_len = omega (arith, v.touches_len, touches, items.most_offered);
       fewer = omega (arith, v.fewer, items.most_meters, items.most_offered);
       search_room = omega (arith, v.search_room, found.search_room, found.room);
+      sides_room = omega (arith, v.sides_room, found.room);
       vertices = omega (arith, kept.vertices, c.relabel_unless.ensures.count, ap (λ l. length l) found.first_buses, length-case_first_buses t);
       of_buses = ap length found.of_buses ∙ (length-case_components t ∙ sym c.relabel_unless.ensures.count);
       meters_in_range = rw items.meters (meters-in_range t valid c.refill_graph.new.graph kept.vertices kept.ends);

@@ -1,0 +1,23 @@
+use Rattle.std.proofs.Common.{◌≡◌, Some, None, get_or, take, sym, ◌∙◌, arith}
+use Rattle.std.proofs.lemmas.List.{get_or-take, get_or_default}
+use Rattle.obs_network.specs.Sides.{rows_but}
+use Rattle.obs_network.proofs.FoundSides.{AreClear-after, leads_apart, walked_parts}
+use Rattle.obs_network.proofs.sides.part.Goals as goal
+
+pub returns-clause-clear : goal.returns-clause-clear
+returns-clause-clear c =
+    let g = c.args.g.now in
+    let s = c.spread-walked in
+    AreClear-after g.vertices (rows_but g.ends c.args.rows c.args.e) s.new.labels c.end_with_fewer-one.result c.other-there.result s.new.queue s.new.queue_there s.result s.ensures.walked
+    c.clear.new.labels c.clear-2.new.labels c.clear.ensures.cleared c.clear.ensures.kept c.clear-2.ensures.cleared c.clear-2.ensures.kept
+
+pub returns-clause-parted : goal.returns-clause-parted
+returns-clause-parted c =
+    let g = c.args.g.now in
+    let s = c.spread-walked in
+    let ends = c.in-Some.ends in
+    let leads = c.other-there.ensures.other in
+    let is : get_or (take c.args.rows g.ends) c.args.e None ≡ Some ends =
+    get_or-take c.args.rows g.ends c.args.e None c.requires.row ∙ (get_or_default g.ends c.args.e None (Some ends) (omega (arith, c.requires.row, c.requires.rows)) ∙ sym c.in-Some.ensures.ends) in
+    walked_parts g.vertices (take c.args.rows g.ends) c.args.e s.new.labels c.end_with_fewer-one.result c.other-there.result s.new.queue s.new.queue_there s.result s.ensures.walked
+    (leads_apart ends c.end_with_fewer-one.result c.other-there.result leads c.in-Some.ensures.in_range.2) ends is leads s.ensures.ended c.keep.result c.keep.new.queue c.keep.ensures.kept

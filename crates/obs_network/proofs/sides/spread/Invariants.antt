@@ -1,0 +1,10 @@
+use Rattle.std.proofs.Common.{◌+◌, ◌-◌, length}
+use Rattle.obs_network.specs.Sides.{AreWalked, rows_but}
+use Rattle.obs_network.proofs.sides.spread.Given as goal
+
+abbrev pub invariant-loop-met : goal.invariant-loop-met
+invariant-loop-met l = AreWalked l.g.vertices (rows_but l.g.ends l.rows l.e) l.labels l.one l.there l.queue l.queue_there
+    (record { met = l.met; head = l.head; tail = l.tail; head_there = l.head_there; tail_there = l.tail_there })
+
+abbrev pub decreases-loop-met : goal.decreases-loop-met
+decreases-loop-met l = (length l.fn.labels - l.head) + (length l.fn.labels - l.head_there)
