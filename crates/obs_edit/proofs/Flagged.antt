@@ -9,8 +9,9 @@ use Rattle.obs_case.specs.declared.rows.Switch.{Switch}
 use Rattle.obs_case.specs.Flags.{changed_at, with_branch_inservice, with_closed, with_meter_inservice}
 use Rattle.obs_case.specs.Tables.{Tables}
 use Rattle.obs_network.specs.Angles.{has_angle}
-use Rattle.obs_network.specs.Network.{Rows, case_position_count, rows_of}
+use Rattle.obs_network.specs.Network.{Rows, case_meters, case_position_count, rows_of}
 use Rattle.obs_network.proofs.Edited.{flags-with_meter}
+use Rattle.obs_network.proofs.OfCase.{length-case_meters}
 use Rattle.obs_network.proofs.OfLaws.{rows-with_branch, rows-with_closed, rows-with_meter}
 use Rattle.obs_edit.specs.declared.edit.Edit.{Edit}
 use Rattle.obs_edit.specs.declared.edit.Edit.TheVariants as edit
@@ -96,3 +97,7 @@ positions_of r some = r.branches + (if some then r.meters + r.candidates else 0)
 pub positions-edited : (t : Tables) (e : Edit) → case_position_count (edited t e) ≡ case_position_count t
 unfolding positions_of
 positions-edited t e = ap (λ r. positions_of r (has_angle (edited t e))) (rows-edited t e) ∙ ap (positions_of (rows_of t)) (same_angles t e)
+
+-- nor does the number of meters change
+pub meters-edited : (t : Tables) (e : Edit) → length (case_meters (edited t e)) ≡ length (case_meters t)
+meters-edited t e = length-case_meters (edited t e) ∙ (ap (λ (r : Rows). r.meters) (rows-edited t e) ∙ sym (length-case_meters t))

@@ -17,4 +17,9 @@ pub mod Retained
 pub mod Metered
 pub mod Flagged
 pub mod Repaired
+pub mod Absent
+pub mod SameBut
+pub mod GivenUp
+pub mod MostPairs
+pub mod CameBack
 pub mod Sets

@@ -134,7 +134,7 @@ pub most-lost : (t : Tables) (at most : ℕ) → IsMost (case_branches t) (case_
 most-lost t at most bound B b = bound B (assigns_before t at B b)
 
 -- the pairs but that of one meter are at most one fewer
-without_one : (m : ℕ) (B : List Pair) → IsDistinct (items B) → length B ≤ length (part (other_than m) B) + 1
+pub without_one : (m : ℕ) (B : List Pair) → IsDistinct (items B) → length B ≤ length (part (other_than m) B) + 1
 without_one m B apart =
     let l = length-within (items B) (m ∷ items (part (other_than m) B)) apart there in
     omega (arith, l, length-map B (λ (p : Pair). p.0), length-map (part (other_than m) B) (λ (p : Pair). p.0))

@@ -9,15 +9,13 @@ use Rattle.obs_case.specs.declared.rows.Branch.{Branch}
 use Rattle.obs_case.specs.declared.rows.Meter.{Meter}
 use Rattle.obs_case.specs.declared.rows.Switch.{Switch}
 use Rattle.obs_case.specs.Tables.{Tables, branch_names, meter_names, position_of, prices_of, switch_names}
-use Rattle.obs_matroid.proofs.Slots.{slot_from}
 use Rattle.obs_assign.specs.Assignment.{Assignment, StandsOver, pairs}
-use Rattle.obs_assign.proofs.Standing.{still_at}
 use Rattle.obs_assign.proofs.Slotted.{none_some}
 use Rattle.obs_critical.specs.Listed.{CriticalWork}
 use Rattle.obs_exchange.specs.Found.{Work}
 use Rattle.obs_exchange.specs.Lengthened.{HasLengthened}
 use Rattle.obs_islands.specs.IslandWork.{IslandWork}
-use Rattle.obs_network.specs.Network.{Rows, case_branches, case_meters, case_position_count, network_of, rows_of}
+use Rattle.obs_network.specs.Network.{Rows, case_meters, case_position_count, network_of, rows_of}
 use Rattle.obs_meter.specs.Sizes.{Sizes}
 use Rattle.obs_script.specs.declared.command.Ask.{Ask}
 use Rattle.obs_script.specs.declared.fault.LineFault.{LineFault}
@@ -32,18 +30,11 @@ use Rattle.obs_edit.specs.declared.hand.AtHand.{AtHand}
 use Rattle.obs_edit.specs.Edits.{HasRow, IsRepaired, TakesOne, edited, nothing_at_hand}
 use Rattle.obs_edit.specs.Lines.{edit_at, is_place, meaning_of, meant_by, meant_of, refusal_of}
 use Rattle.obs_edit.specs.Planned.{Planning, offered_room}
-use Rattle.obs_edit.specs.Repairing.{CostsOwnPair}
 use Rattle.obs_edit.specs.Sessions.{AreAnswers, BoundOf, HasRoom, HasRoomToAnswer, IsPlacing, case_room}
 use Rattle.obs_edit.proofs.Flagged.{positions-edited, rows-edited, same_candidates}
-use Rattle.obs_edit.proofs.Repaired.{AreKept-by, IsRepaired-by, few_standing}
+use Rattle.obs_edit.proofs.Repaired.{IsRepaired-by, kept-same}
 
--- nothing is given up where nothing changes
-costs_nothing : (e : Edit) (a : Assignment) → CostsOwnPair e a a
-costs_nothing (edit.Switch at closed) a = tt
-costs_nothing (edit.Branch at inservice) a = tt
-costs_nothing (edit.Meter at false) a = (omega arith, λ n. refl)
-costs_nothing (edit.Meter at true) a = refl
-
+-- no search takes more than one
 pub takes_none : (e : Edit) (a : Assignment) (searches : ℕ) → searches ≡ 0 → TakesOne e a a searches
 takes_none (edit.Switch at closed) a searches none = tt
 takes_none (edit.Branch at inservice) a searches none = tt
@@ -62,10 +53,9 @@ no_search a = record {
 }
 
 -- pairs that stand are repaired without a search
-pub repaired-same : (t : Tables) (e : Edit) (a : Assignment) (rank searches : ℕ) → StandsOver a (network_of t).graph (case_meters t) → rank ≡ length (pairs a) → searches ≡ 0 → IsRepaired t a a rank searches
-repaired-same t e a rank searches stands is none =
-    let kept = AreKept-by t e a a refl (λ p i. still_at (case_branches t) (case_meters t) (pairs a) p i (stands.touched p.0 p.1 (slot_from a.slots p i))) (few_standing t a) (costs_nothing e a) in
-    subst (λ r. IsRepaired t a a r searches) (sym is) (subst (λ s. IsRepaired t a a (length (pairs a)) s) (sym none) (IsRepaired-by t e a a a 0 kept (no_search a)))
+pub repaired-same : (t : Tables) (a : Assignment) (rank searches : ℕ) → StandsOver a (network_of t).graph (case_meters t) → rank ≡ length (pairs a) → searches ≡ 0 → IsRepaired t a a rank searches
+repaired-same t a rank searches stands is none =
+    subst (λ r. IsRepaired t a a r searches) (sym is) (subst (λ s. IsRepaired t a a (length (pairs a)) s) (sym none) (IsRepaired-by t a a a 0 (kept-same t a stands) (no_search a)))
 
 -- the room is that for as many rows and positions
 sizes_of : Rows → ℕ → Sizes

@@ -7,7 +7,7 @@ use Rattle.obs_exchange.specs.Found.{Work}
 use Rattle.obs_critical.specs.Listed.{CriticalWork}
 use Rattle.obs_islands.specs.IslandWork.{IslandWork}
 use Rattle.obs_meter.specs.Sizes.{Sizes}
-use Rattle.obs_network.specs.Network.{case_branches, case_meters, case_offered, case_position_count, case_vertex_room, network_of}
+use Rattle.obs_network.specs.Network.{case_meters, case_offered, case_position_count, case_vertex_room, network_of}
 use Rattle.obs_network.specs.Observable.{case_live_meters}
 use Rattle.obs_edit.specs.Answers.{bound_meters, bound_outside, bound_rank, case_critical_meters, case_first_pairs, case_islands, is_critical_meter}
 use Rattle.obs_exchange.specs.Longest.{IsLongest}

@@ -7,6 +7,7 @@ mod components;
 mod counted;
 mod edit;
 mod finding;
+mod grow;
 mod hand;
 mod kept;
 pub mod laws;

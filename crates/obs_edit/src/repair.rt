@@ -1,19 +1,18 @@
-// The kept pairs after an edit: those that stand are kept, and searches make them longest again.
-ghost use Rattle.std.specs.Prelude.{◌≡◌, ◌≢◌, ◌+◌, ◌≤◌, ℕ, false, None, MatchBool, length};
+// The kept pairs after an edit: what it takes away is given up, those that stand are kept, and searches make them longest.
+ghost use Rattle.std.specs.Prelude.{◌≡◌, ◌≢◌, ◌+◌, ◌≤◌, ℕ, false, IsTrue, MatchBool, None, length};
 ghost use Rattle.obs_assign.specs.Assignment.{HasRoomOf, IsWhole, StandsOver, branch_at, pairs as pairs_at};
 ghost use Rattle.obs_exchange.specs.Laws.{IsThawed};
 ghost use Rattle.obs_network.specs.Network.{case_meters, case_vertex_room, network_of};
 ghost use Rattle.obs_edit.specs.declared.edit.Edit.TheVariants.{Meter};
 ghost use Rattle.obs_edit.specs.Edits.{HasRow, IsRepaired, TakesOne, edited};
-ghost use Rattle.obs_edit.specs.Repairing.{AreKept, IsBefore, IsNetworkBefore, most_pairs};
+ghost use Rattle.obs_edit.specs.Repairing.{AreKept, AreLeft, HasPlace, IsBefore, IsMeterTaken, IsNetworkBefore, IsSaidAlone, StoodBefore, is_put, most_pairs};
 ghost use Rattle.obs_edit.specs.Sessions.{AreLongest, HasRoom};
 
 use crate::edit::Edit;
+use crate::grow::grow;
 use obs_assign::{Assignment, Steps};
 use obs_case::Case;
-use obs_exchange::{Work, lengthen};
-use obs_graph::Graph;
-use obs_meter::Meters;
+use obs_exchange::Work;
 use obs_network::Network;
 use std::sync::ledger::Ledger;
 
@@ -41,101 +40,131 @@ pub(crate) fn set_flag(case: &mut Case, edit: Edit)
     }
 }
 
-/// Makes the network that of the case after an edit. An edit of a meter leaves all but that meter alone, and one of a
-/// branch leaves the buses alone.
-pub(crate) fn follow(case: &Case, edit: Edit, network: &mut Network)
-    requires before { IsNetworkBefore network.old edit case.now }
-    ensures network { network.new ≡ network_of case.now }
+/// The meter whose pair the edit takes away: one that goes, or one that has a branch that trips.
+fn taken(edit: Edit, a: &Assignment) -> Option<u32>
+    requires place { HasPlace edit a.now }
+    ensures taken { IsMeterTaken edit a.now result }
 {
+    let _ = a.length();
     match edit {
-        Edit::Meter { at, inservice: _ } => network.refresh_meter(case, at),
-        Edit::Branch {
-            at: _,
-            inservice: _,
-        } => network.refresh_branches(case),
-        Edit::Switch { at: _, closed: _ } => network.refresh(case),
+        Edit::Meter { at, inservice } => { if inservice { None } else { Some(at) } }
+        Edit::Branch { at, inservice } => { if inservice { None } else { a.meter_of(at) } }
+        Edit::Switch { at: _, closed: _ } => None,
     }
 }
 
-/// How many pairs there can be at the most. An edit of a meter adds one or none.
-fn most_pairs(edit: Edit, had: u32, needed: u32) -> u32
-    ensures most { result ≡ most_pairs edit had needed }
+/// Gives up the pair that the edit takes away. The network is still that of before.
+fn give_up(case: &Case, network: &Network, edit: Edit, a: &mut Assignment)
+    requires before { IsBefore case.now edit network.now a.old }
+    ensures left { AreLeft edit a.old a.new }
+    ensures stands { StandsOver a.new network.now.graph network.now.meters.touches }
+    ensures whole { IsWhole a.new }
+    ensures thawed { IsThawed a.new }
+    ensures same_room { HasRoomOf a.old a.new }
+{
+    let _ = case;
+    let g = network.graph();
+    let _ = a.length();
+    if let Some(m) = taken(edit, a) {
+        a.drop_pair(g, m);
+    }
+}
+
+/// Makes the network that of the case after an edit. Says whether nothing changed but the meter or the branch of the
+/// edit.
+fn follow(case: &Case, edit: Edit, network: &mut Network) -> bool
+    requires before { IsNetworkBefore network.old edit case.now }
+    ensures network { network.new ≡ network_of case.now }
+    ensures alone { IsSaidAlone edit result network.old network.new }
 {
     match edit {
-        Edit::Meter { at: _, inservice } => {
-            if inservice && had < needed {
-                had + 1
-            } else {
-                had
-            }
+        Edit::Meter { at, inservice: _ } => {
+            network.refresh_meter(case, at);
+            true
         }
-        Edit::Switch { at: _, closed: _ } => needed,
-        Edit::Branch {
-            at: _,
-            inservice: _,
-        } => needed,
+        Edit::Branch { at, inservice: _ } => network.refresh_branch(case, at),
+        Edit::Switch { at: _, closed: _ } => {
+            network.refresh(case);
+            false
+        }
+    }
+}
+
+/// Whether the edit closes a switch or puts a row in service.
+fn is_put(edit: Edit) -> bool
+    ensures put { result ≡ is_put edit }
+{
+    match edit {
+        Edit::Switch { at: _, closed } => closed,
+        Edit::Branch { at: _, inservice } => inservice,
+        Edit::Meter { at: _, inservice } => inservice,
+    }
+}
+
+/// How many pairs there can be at the most. A meter or a branch alone adds one or none.
+fn most_pairs(edit: Edit, alone: bool, had: u32, needed: u32) -> u32
+    ensures most { result ≡ most_pairs edit alone had needed }
+{
+    if !alone {
+        return needed;
+    }
+    if is_put(edit) && had < needed {
+        had + 1
+    } else {
+        had
     }
 }
 
 /// Gives up the pairs that don't stand any more, and of the others at most one, whose branch closes a cycle where a
-/// switch was closed. An edit of a meter leaves the pairs of the others as they are.
-fn keep_standing(case: &Case, network: &Network, edit: Edit, a: &mut Assignment)
+/// switch was closed. Where a meter or a branch alone changed, all stand.
+fn keep_standing(case: &Case, network: &Network, edit: Edit, alone: bool, a: &mut Assignment)
     requires network { network.now ≡ network_of case.now }
-    requires before { IsBefore case.now edit a.old }
+    requires before { StoodBefore case.now edit a.old }
+    requires alone { IsTrue alone → StandsOver a.old (network_of case.now).graph (case_meters case.now) }
+    requires thawed { IsThawed a.old }
     requires vertices { case_vertex_room case.now ≤ a.old.forest.most_vertices }
-    ensures kept { AreKept case.now edit a.old a.new }
+    ensures kept { AreKept case.now a.old a.new }
+    ensures same { IsTrue alone → a.new ≡ a.old }
     ensures stands { StandsOver a.new (network_of case.now).graph (case_meters case.now) }
     ensures whole { IsWhole a.new }
     ensures thawed { IsThawed a.new }
     ensures same_room { HasRoomOf a.old a.new }
 {
     let _nodes = case.nodes();
-    let g = network.graph();
-    let ms = network.meters();
+    let _ = edit;
     let _ = a.length();
-    match edit {
-        Edit::Meter { at, inservice } => {
-            if !inservice && a.branch_of(at).is_some() {
-                a.drop_pair(g, at);
-            }
-        }
-        Edit::Switch { at: _, closed: _ } => {
-            let _ = a.retain_touching(g, ms);
-        }
-        Edit::Branch {
-            at: _,
-            inservice: _,
-        } => {
-            let _ = a.retain_touching(g, ms);
-        }
+    if !alone {
+        let _ = a.retain_touching(network.graph(), network.meters());
     }
 }
 
-/// Makes the pairs longest for the network after an edit. Says how many searches it took.
+/// Has the network follow an edit, and makes the pairs longest for it. Says how many searches it took.
 pub(crate) fn repair<L: Ledger>(
     case: &Case,
-    network: &Network,
     edit: Edit,
+    network: &mut Network,
     a: &mut Assignment,
     work: &mut Work,
     steps: &mut Steps<L>,
 ) -> u32
-    requires network { network.now ≡ network_of case.now }
-    requires before { IsBefore case.now edit a.old }
+    requires before { IsBefore case.now edit network.old a.old }
     requires room { HasRoom case.now a.old work.old }
+    ensures network { network.new ≡ network_of case.now }
     ensures longest { AreLongest case.now a.new }
     ensures repaired { IsRepaired case.now a.old a.new (length (pairs_at a.new)) result }
     ensures meter { TakesOne edit a.old a.new result }
     ensures without_pair { (at : ℕ) → edit ≡ Meter at false
-        → branch_at a.old at ≡ None → (result ≡ 0) × (a.new ≡ a.old) }
+        → branch_at a.old at ≡ None → (result ≡ 0) × (a.new.turns ≡ a.old.turns) }
     ensures ticks { steps.new ≡ steps.old + result }
     ensures room { HasRoom case.now a.new work.new }
 {
     let _nodes = case.nodes();
-    let g = network.graph();
-    let ms = network.meters();
-    let _ = g.vertices();
-    let most = most_pairs(edit, a.length(), network.needed());
-    keep_standing(case, network, edit, a);
-    lengthen(g, ms, a, most, work, steps).searches
+    let had = a.length();
+    give_up(case, network, edit, a);
+    let alone = follow(case, edit, network);
+    keep_standing(case, network, edit, alone, a);
+    let _ = network.graph();
+    let _ = network.meters();
+    let most = most_pairs(edit, alone, had, network.needed());
+    grow(network, edit, most, a, work, steps)
 }

@@ -15,7 +15,7 @@ use crate::kept::{Held, fill, make_held};
 use crate::lines::meant;
 use crate::memory::NoMemory;
 use crate::placing::Placing;
-use crate::repair::{follow, is_set, repair, set_flag};
+use crate::repair::{is_set, repair, set_flag};
 use obs_assign::{Assignment, Steps};
 use obs_case::Case;
 use obs_network::Network;
@@ -200,12 +200,11 @@ impl Session {
         }
         let _nodes = self.case.nodes();
         set_flag(&mut self.case, edit);
-        follow(&self.case, edit, &mut self.network);
         self.answers.hand = AtHand::nothing();
         let searches = repair(
             &self.case,
-            &self.network,
             edit,
+            &mut self.network,
             &mut self.held.pairs,
             &mut self.held.work,
             steps,

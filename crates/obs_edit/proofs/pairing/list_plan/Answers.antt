@@ -1,4 +1,4 @@
-use Rattle.std.proofs.Common.{◌≡◌, ◌+◌, ◌∙◌, get_or, length, set, ap, sym, take, arith}
+use Rattle.std.proofs.Common.{◌+◌, ◌∙◌, get_or, length, set, ap, sym, take, arith}
 use Rattle.std.proofs.lemmas.List.{length-set}
 use Rattle.obs_meter.specs.Held.{Meters}
 use Rattle.obs_edit.specs.Planned.{planned_items, touches_of}

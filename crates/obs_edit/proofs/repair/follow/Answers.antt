@@ -1,6 +1,6 @@
 use Rattle.std.proofs.Common.{◌<◌, length, sym, ap, ◌∙◌, subst}
 use Rattle.obs_case.specs.Tables.{Tables}
-use Rattle.obs_network.specs.Network.{Network, Rows, network_of, rows_of}
+use Rattle.obs_network.specs.Network.{Network, Rows, rows_of}
 use Rattle.obs_edit.specs.declared.edit.Edit.{Edit}
 use Rattle.obs_edit.specs.Edits.{HasRow, edited}
 use Rattle.obs_edit.proofs.Flagged.{rows-edited}
@@ -17,14 +17,15 @@ refresh_meter-requires c =
       before = record { tables = b.before; inservice = c.in-Meter.inservice; network = b.network; edited = same };
     }
 
-pub refresh_branches-requires : goal.refresh_branches-requires
-refresh_branches-requires c =
+pub refresh_branch-requires : goal.refresh_branch-requires
+refresh_branch-requires c =
     let b = c.requires.before in
     let is = c.in-Branch.is in
+    let low = subst (λ (e : Edit). HasRow b.before e) is b.row in
     let same = b.same ∙ ap (edited b.before) is in
     record {
-      rows = ap (λ (n : Network). n.rows) b.network ∙ sym (ap rows_of b.same ∙ rows-edited b.before c.args.edit);
-      buses = ap (λ (n : Network). n.buses) b.network ∙ sym (ap (λ (t : Tables). (network_of t).buses) same);
+      branch = subst (λ n. c.in-Branch.at < n) (sym (ap (λ (t : Tables). length t.branches) b.same ∙ ap (λ (r : Rows). r.branches) (rows-edited b.before c.args.edit))) low;
+      before = record { tables = b.before; inservice = c.in-Branch.inservice; network = b.network; edited = same };
     }
 
 pub refresh-requires : goal.refresh-requires

@@ -1,4 +1,4 @@
-use Rattle.std.proofs.Common.{ap, inl, ◌≡◌, refl, sym, subst}
+use Rattle.std.proofs.Common.{ap, inl, ◌≡◌, ◌∙◌, refl, sym, subst}
 use Rattle.std.specs.Prelude.{take}
 use Rattle.obs_case.specs.Tables.{Tables}
 use Rattle.obs_assign.specs.Assignment.{StandsOver}
@@ -16,21 +16,11 @@ returns-then-is_set-clause-edited g c = record {
   rank = c.applied.ensures.rank;
   computed = c.applied.ensures.computed;
   needed = c.applied.ensures.needed;
-  repaired = repaired-same c.args.self.now.tables c.args.edit c.args.self.now.pairs c.applied.result.rank c.applied.result.searches
+  repaired = repaired-same c.args.self.now.tables c.args.self.now.pairs c.applied.result.rank c.applied.result.searches
       (subst (λ (k : Session). StandsOver k.pairs (network_of k.tables).graph (case_meters k.tables)) c.self.view_is c.self.invariant.longest.stands) c.applied.ensures.length c.applied.ensures.searches;
   meter = takes_none c.args.edit c.args.self.now.pairs c.applied.result.searches c.applied.ensures.searches;
   without_pair = λ at is none. (c.applied.ensures.searches, refl);
   flag = inl (refl, c.applied.ensures.searches);
-}
-
-pub follow-requires : goal.follow-requires
-follow-requires g c = record {
-  before = record {
-    before = c.self.inside.case;
-    row = subst (λ (k : Session). HasRow k.tables c.args.edit) (sym c.self.view_is) c.requires.row;
-    network = c.self.invariant.network;
-    same = c.set_flag.ensures.edited;
-  };
 }
 
 pub repair-searches-requires-clause-before : goal.repair-searches-requires-clause-before
@@ -39,6 +29,8 @@ repair-searches-requires-clause-before g c = record {
   valid = c.nodes-nodes.ensures.valid;
   row = subst (λ (k : Session). HasRow k.tables c.args.edit) (sym c.self.view_is) c.requires.row;
   same = c.set_flag.ensures.edited;
+  changed = λ k. c.if-is_set.ensures.set (sym c.set_flag.ensures.edited ∙ k);
+  network = c.self.invariant.network;
   longest = c.self.invariant.longest;
 }
 
@@ -48,7 +40,7 @@ repair-searches-requires-clause-room g c =
 
 pub invariant_of-self : goal.invariant_of-self
 invariant_of-self g c = record {
-  network = c.follow.ensures.network;
+  network = c.repair-searches.ensures.network;
   longest = c.repair-searches.ensures.longest;
   room = c.repair-searches.ensures.room;
   answer_room = subst (λ (t : Tables). HasRoomToAnswer t c.self.inside.answers.marks.items c.self.inside.answers.critical c.self.inside.answers.islands c.self.inside.answers.inside.items c.self.inside.answers.measured.listed) (sym c.set_flag.ensures.edited)
