@@ -1,5 +1,14 @@
 pub mod Restored
 pub mod InOutage
 pub mod Carried
+pub mod Costing
+pub mod Joined
+pub mod Crossed
 pub mod Entries
 pub mod Reported
+pub mod Parting
+pub mod Feeding
+pub mod Putting
+pub mod Flagging
+pub mod Sparing
+pub mod SparedBy

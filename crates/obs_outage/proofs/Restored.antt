@@ -45,14 +45,14 @@ at_map f none [] k = sym none
 at_map f none (x ∷ xs) zero = refl
 at_map f none (x ∷ xs) (suc k) = at_map f none xs k
 
-row_gone : (t : Tables) (e : ℕ) → get_or (case_rows (outage_case t e)) e None ≡ None
+pub row_gone : (t : Tables) (e : ℕ) → get_or (case_rows (outage_case t e)) e None ≡ None
 unfolding case_rows case_live
 row_gone t e =
     let out = outage_case t e in
     let f = if_energised (case_components out) (case_energised out) in
     at_map f refl (case_live out) e ∙ ap f (not_live (case_buses t) t.branches e)
 
-row_here : (t : Tables) (e : ℕ) → e < length t.branches → get_or (case_branches t) e None ≡ get_or (case_rows t) e None
+pub row_here : (t : Tables) (e : ℕ) → e < length t.branches → get_or (case_branches t) e None ≡ get_or (case_rows t) e None
 unfolding case_branches
 row_here t e l = get_or_append_left (case_rows t) (case_angles t) None e (omega (arith, l, length-case_rows t))
 
@@ -61,7 +61,7 @@ pub row_low : (t : Tables) (e : ℕ) → In e (outage_rows t) → e < length t.b
 unfolding outage_rows
 row_low t e i = below_from (length t.branches) e (In-filter_from (is_outage_row t) e (range_with_len 0 (length t.branches)) i).0
 
-row_present : (t : Tables) (e : ℕ) → In e (outage_rows t) → is_some (get_or (case_branches t) e None) ≡ true
+pub row_present : (t : Tables) (e : ℕ) → In e (outage_rows t) → is_some (get_or (case_branches t) e None) ≡ true
 unfolding outage_rows
 row_present t e i = (In-filter_from (is_outage_row t) e (range_with_len 0 (length t.branches)) i).1
 

@@ -2,14 +2,20 @@
 ghost use Rattle.std.specs.Prelude.{◌≡◌, ◌<◌, ◌≤◌, None, is_some, length, slice_index_or, take};
 ghost use Rattle.obs_network.specs.Network.{network_of};
 ghost use Rattle.obs_kept.specs.Kept.{AreLongest, HasRoom};
+ghost use Rattle.obs_outage.specs.Feeds.{AreFeeds};
 ghost use Rattle.obs_outage.specs.Outages.{outages_of};
+ghost use Rattle.obs_outage.specs.Costly.{AreCostly};
+ghost use Rattle.obs_outage.specs.Spared.{AreSpared};
+ghost use Rattle.obs_outage.specs.Sparing.{HasFlags};
 
 use crate::Outage;
-use crate::long_way::outage_at;
-use obs_assign::{Assignment, Steps};
+use crate::entry::entry_of;
+use crate::feeds::Feeds;
+use crate::spared::Spared;
+use obs_assign::Steps;
 use obs_case::Case;
-use obs_exchange::Work;
-use obs_network::Network;
+use obs_kept::Kept;
+use obs_network::{Network, Sides};
 use std::sync::ledger::Ledger;
 
 /// Whether a branch is present.
@@ -23,32 +29,38 @@ fn is_present(network: &Network, e: u32) -> bool
 /// Lists the entries of the rows, in order. Says how many they are.
 pub(crate) fn list_outages<L: Ledger>(
     case: &mut Case,
-    network: &Network,
+    kept: &mut Kept,
     other: &mut Network,
-    pairs: &mut Assignment,
-    work: &mut Work,
+    sides: &mut Sides,
+    spared: &Spared,
+    feeds: &Feeds,
     entries: &mut [Outage],
     steps: &mut Steps<L>,
 ) -> usize
-    requires network { network.now ≡ network_of case.old }
-    requires longest { AreLongest case.old pairs.old }
-    requires room { HasRoom network.now pairs.old work.old }
-    requires rows { other.old.rows ≡ network.now.rows }
-    requires buses { other.old.buses ≡ network.now.buses }
+    requires network { kept.old.network ≡ network_of case.old }
+    requires longest { AreLongest case.old kept.old.pairs }
+    requires room { HasRoom kept.old.network kept.old.pairs kept.old.work }
+    requires other { other.old ≡ kept.old.network }
+    requires sides { sides.old.most_vertices ≡ kept.old.network.graph.most_vertices }
+    requires flags { HasFlags kept.old.network spared.now }
+    requires spared { AreSpared kept.old.network spared.now.flags }
+    requires costly { AreCostly kept.old.network spared.now.costly }
+    requires feeds { AreFeeds case.old feeds.now }
     requires entries { length case.old.branches ≤ length entries.old }
     ensures listed { take result entries.new ≡ outages_of case.old }
     ensures bound { result ≤ length entries.new }
     ensures case { case.new ≡ case.old }
-    ensures longest { AreLongest case.old pairs.new }
-    ensures room { HasRoom network.now pairs.new work.new }
-    ensures rows { other.new.rows ≡ network.now.rows }
-    ensures buses { other.new.buses ≡ network.now.buses }
+    ensures network { kept.new.network ≡ kept.old.network }
+    ensures longest { AreLongest case.old kept.new.pairs }
+    ensures room { HasRoom kept.new.network kept.new.pairs kept.new.work }
+    ensures other { other.new ≡ kept.new.network }
+    ensures sides { sides.new.most_vertices ≡ sides.old.most_vertices }
 {
     let rows = case.branches().len() as u32;
     let mut count = 0;
     for e in 0..rows {
-        if is_present(network, e) {
-            entries[count] = outage_at(case, e, network, other, pairs, work, steps);
+        if is_present(&kept.network, e) {
+            entries[count] = entry_of(case, e, kept, other, sides, spared, feeds, steps);
             count += 1;
         }
     }

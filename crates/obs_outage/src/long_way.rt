@@ -61,21 +61,19 @@ pub(crate) fn outage_at<L: Ledger>(
     requires row { In e (outage_rows case.old) }
     requires longest { AreLongest case.old pairs.old }
     requires room { HasRoom network.now pairs.old work.old }
-    requires rows { other.old.rows ≡ network.now.rows }
-    requires buses { other.old.buses ≡ network.now.buses }
+    requires other { other.old ≡ network.now }
     ensures entry { result ≡ outage_of case.old e }
     ensures quiet { AllStand case.old pairs.old e →
         (steps.new ≡ steps.old) × (pairs.new.turns ≡ pairs.old.turns) }
     ensures case { case.new ≡ case.old }
     ensures longest { AreLongest case.old pairs.new }
     ensures room { HasRoom network.now pairs.new work.new }
-    ensures rows { other.new.rows ≡ network.now.rows }
-    ensures buses { other.new.buses ≡ network.now.buses }
+    ensures other { other.new ≡ network.now }
 {
     let _nodes = case.nodes();
     let most = pairs.length();
     case.set_branch(e, false);
-    other.refresh_branches(case);
+    let _ = other.refresh_branch(case, e);
     carry(case, other, most, pairs, work, steps);
     let entry = Outage {
         branch: e,
@@ -83,6 +81,7 @@ pub(crate) fn outage_at<L: Ledger>(
         needed: other.needed(),
     };
     case.set_branch(e, true);
+    let _ = other.refresh_branch(case, e);
     carry(case, network, most, pairs, work, steps);
     entry
 }

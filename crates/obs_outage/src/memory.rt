@@ -30,3 +30,11 @@ impl From<AllocError> for NoMemory {
         NoMemory
     }
 }
+
+impl From<obs_graph::NoMemory> for NoMemory {
+    ghost from_gives = { λ _ e. e ≡ e };
+
+    fn from(_: obs_graph::NoMemory) -> Self {
+        NoMemory
+    }
+}

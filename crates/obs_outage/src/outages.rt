@@ -6,13 +6,15 @@ ghost use Rattle.obs_network.specs.Network.{network_of};
 ghost use Rattle.obs_kept.specs.Kept.{AreLongest, AreLongestOver};
 ghost use Rattle.obs_outage.specs.Outages.{AllStand, outage_of, outage_rows, outages_of};
 
+use crate::entry::entry_of;
+use crate::feeds::Feeds;
 use crate::listing::list_outages;
-use crate::long_way::outage_at;
 use crate::memory::NoMemory;
+use crate::spared::Spared;
 use obs_assign::{Assignment, Steps};
 use obs_case::Case;
 use obs_kept::Kept;
-use obs_network::Network;
+use obs_network::{Network, Sides, vertex_room};
 use std::alloc::Global;
 use std::marker::Model;
 use std::sync::ledger::Ledger;
@@ -28,8 +30,13 @@ pub struct Outage {
 /// The network of a case and a longest assignment of its meters, kept for its outages, and the list that was found last.
 pub struct Outages {
     kept: Kept,
-    // the network of an outage case
+    // the kept network; on the way of one outage the network of its case
     other: Network,
+    sides: Sides,
+    // branches that a longest assignment can miss
+    spared: Spared,
+    // the sources of the case that was handed last
+    feeds: Feeds,
     // the first `count` of these are listed
     entries: Vec<Outage>,
     count: usize,
@@ -39,6 +46,9 @@ impl Model for Outages {
     ghost use Rattle.std.specs.Prelude.{◌≡◌, ◌≤◌, length, take};
     ghost use Rattle.obs_kept.specs.Kept.{AreLongestOver, HasRoom};
     ghost use Rattle.obs_outage.specs.Outages.{Outages};
+    ghost use Rattle.obs_outage.specs.Costly.{AreCostly};
+    ghost use Rattle.obs_outage.specs.Spared.{AreSpared};
+    ghost use Rattle.obs_outage.specs.Sparing.{HasFlags};
 
     ghost Value = { Outages };
 
@@ -47,8 +57,13 @@ impl Model for Outages {
     ghost invariant = { λ o. record {
       longest : AreLongestOver o.kept.network o.kept.pairs;
       room : HasRoom o.kept.network o.kept.pairs o.kept.work;
-      rows : o.other.rows ≡ o.kept.network.rows;
-      buses : o.other.buses ≡ o.kept.network.buses;
+      other : o.other ≡ o.kept.network;
+      sides : o.sides.most_vertices ≡ o.kept.network.graph.most_vertices;
+      flags : HasFlags o.kept.network o.spared;
+      spared : AreSpared o.kept.network o.spared.flags;
+      costly : AreCostly o.kept.network o.spared.costly;
+      fed_buses : length o.feeds.of_buses ≡ o.kept.network.rows.nodes;
+      fed_components : length o.feeds.of_components ≡ o.kept.network.rows.nodes;
       entries : length o.entries.items ≡ o.kept.network.rows.branches;
       listed : o.count ≤ length o.entries.items;
     } };
@@ -60,6 +75,9 @@ impl Drop for Outages {
         let Outages {
             kept: _,
             other: _,
+            sides: _,
+            spared: _,
+            feeds: _,
             entries: _,
             count: _,
         } = self;
@@ -85,11 +103,18 @@ impl Outages {
             needed: 0,
         };
         let other = Network::make(alloc, case)?;
+        let mut sides = Sides::make(alloc, vertex_room(case))?;
+        let mut spared = Spared::make(alloc, case)?;
+        let feeds = Feeds::make(alloc, case)?;
         let entries = vec![in alloc; none; case.branches().len()]?;
-        let kept = Kept::make(alloc, case, steps)?;
+        let mut kept = Kept::make(alloc, case, steps)?;
+        spared.find(case, &mut kept, &mut sides, steps);
         Ok(Outages {
             kept,
             other,
+            sides,
+            spared,
+            feeds,
             entries,
             count: 0,
         })
@@ -124,13 +149,15 @@ impl Outages {
         ensures longest { AreLongest case.old self.new.pairs }
         ensures found { self.new.found ≡ self.old.found }
     {
-        outage_at(
+        self.feeds.count(case, &self.kept.network);
+        entry_of(
             case,
             e,
-            &self.kept.network,
+            &mut self.kept,
             &mut self.other,
-            &mut self.kept.pairs,
-            &mut self.kept.work,
+            &mut self.sides,
+            &self.spared,
+            &self.feeds,
             steps,
         )
     }
@@ -143,12 +170,14 @@ impl Outages {
         ensures network { self.new.network ≡ self.old.network }
         ensures longest { AreLongest case.old self.new.pairs }
     {
+        self.feeds.count(case, &self.kept.network);
         self.count = list_outages(
             case,
-            &self.kept.network,
+            &mut self.kept,
             &mut self.other,
-            &mut self.kept.pairs,
-            &mut self.kept.work,
+            &mut self.sides,
+            &self.spared,
+            &self.feeds,
             &mut self.entries,
             steps,
         );

@@ -1,0 +1,105 @@
+-- Pairs that stand over another network, which is the same but for a branch that none of them has.
+use Rattle.std.proofs.Common.{◌≡◌, ℕ, ◌<◌, Bool, false, Option, Some, None, List, length, get_or, set, sym, ap, ◌∙◌, subst, inl, inr, get_or-set_same, get_or-set_other}
+use Rattle.std.specs.Prelude.{is_some}
+use Rattle.std.proofs.lemmas.Bool.{cases_eq, true≢false}
+use Rattle.std.proofs.lemmas.List.{length-set}
+use Rattle.obs_graph.specs.declared.Ends.{Ends}
+use Rattle.obs_graph.specs.Graph.{Graph}
+use Rattle.obs_case.specs.Tables.{IsValid, Tables}
+use Rattle.obs_matroid.specs.Lists.{In}
+use Rattle.obs_matroid.specs.Assignments.{Pair}
+use Rattle.obs_matroid.proofs.Slots.{slot_at}
+use Rattle.obs_meter.specs.declared.Touch.{Touch}
+use Rattle.obs_meter.specs.declared.Touch.TheVariants.{Nothing}
+use Rattle.obs_meter.specs.Assignments.{IsRhoAt}
+use Rattle.obs_meter.specs.Touches.{touch_at}
+use Rattle.obs_meter.proofs.Assigned.{rho_at-unique}
+use Rattle.obs_meter.proofs.Touched.{touched-present}
+use Rattle.obs_assign.specs.Assignment.{Assignment, IsWhole, StandsOver, branch_at, pairs}
+use Rattle.obs_assign.proofs.Slotted.{branch_slot, none_some, slot_low, slots_apart}
+use Rattle.obs_assign.proofs.Standing.{still_from}
+use Rattle.obs_exchange.specs.declared.Found.{Found}
+use Rattle.obs_exchange.specs.declared.Found.TheVariants.{Closed, Grown}
+use Rattle.obs_exchange.specs.declared.Sources.{Sources}
+use Rattle.obs_exchange.specs.Found.{IsFound}
+use Rattle.obs_exchange.specs.Laws.{IsThawed}
+use Rattle.obs_network.specs.Edited.{AreSameBut}
+use Rattle.obs_network.specs.Network.{Network, case_branches, case_meters}
+use Rattle.obs_network.specs.Observable.{case_live_meters, case_rank}
+use Rattle.obs_kept.specs.Kept.{AreLongestOver}
+use Rattle.obs_outage.specs.Outages.{AllStand, outage_case, outage_rows}
+use Rattle.obs_outage.proofs.InOutage.{as_many_rows, out_valid, rank_is}
+use Rattle.obs_outage.proofs.Restored.{row_gone, row_here, row_low}
+
+-- a search freezes nothing
+pub thawed_found : (ends : List (Option Ends)) (touches : List Touch) (from : Sources) (a b : Assignment) (flags : List Bool) (answer : Found) → IsFound ends touches from a b flags answer → IsThawed a → IsThawed b
+thawed_found ends touches from a b flags (Grown m) h t = λ x. ap (λ (fs : List Bool). get_or fs x false) h.frozen ∙ t x
+thawed_found ends touches from a b flags Closed h t = λ x. ap (λ (c : Assignment). get_or c.frozen x false) h.same ∙ t x
+
+crossed : (e : ℕ) (n o : Network) → o.graph.vertices ≡ n.graph.vertices → length o.graph.ends ≡ length n.graph.ends → ((p : ℕ) → (p ≡ e → ⊥) → get_or o.graph.ends p None ≡ get_or n.graph.ends p None)
+    → length o.meters.touches ≡ length n.meters.touches → ((m k : ℕ) → (k ≡ e → ⊥) → In k (touch_at n.graph.ends n.meters.touches m) → In k (touch_at o.graph.ends o.meters.touches m))
+    → (a : Assignment) → IsWhole a → ((m : ℕ) → branch_at a m ≡ Some e → ⊥) → StandsOver a n.graph n.meters.touches → StandsOver a o.graph o.meters.touches
+crossed e n o vertices positions ends meters touched a whole free s = record {
+  forest = record {
+    vertices = vertices ∙ s.forest.vertices;
+    positions = positions ∙ s.forest.positions;
+    held = λ p x is.
+        let b = branch_slot a.slots p ((whole.paired.holds.exactly p).0 (ap is_some is)) in
+        ends p (λ same. free b.0 (b.1 ∙ ap Some same)) ∙ s.forest.held p x is;
+  };
+  meters = meters ∙ s.meters;
+  touched = λ m k h. touched m k (λ same. free m (h ∙ ap Some same)) (s.touched m k h);
+}
+
+module _ (e : ℕ) (n o : Network) (same : AreSameBut e n o) (meters : length o.meters.touches ≡ length n.meters.touches) where
+  positions : length o.graph.ends ≡ length n.graph.ends
+  positions = ap (λ (xs : List (Option Ends)). length xs) same.ends ∙ length-set n.graph.ends e (get_or o.graph.ends e None)
+
+  ends_at_others : (p : ℕ) → (p ≡ e → ⊥) → get_or o.graph.ends p None ≡ get_or n.graph.ends p None
+  ends_at_others p ne = ap (λ (xs : List (Option Ends)). get_or xs p None) same.ends ∙ get_or-set_other n.graph.ends e p (get_or o.graph.ends e None) None ne
+
+  -- pairs without the branch stand over the other network where they stand over the one
+  stands_there : (a : Assignment) → IsWhole a → ((m : ℕ) → branch_at a m ≡ Some e → ⊥) → StandsOver a n.graph n.meters.touches → StandsOver a o.graph o.meters.touches
+  stands_there = crossed e n o same.vertices positions ends_at_others meters (λ m k ne. (same.touched m k ne).0)
+
+  stands_here : (a : Assignment) → IsWhole a → ((m : ℕ) → branch_at a m ≡ Some e → ⊥) → StandsOver a o.graph o.meters.touches → StandsOver a n.graph n.meters.touches
+  stands_here = crossed e o n (sym same.vertices) (sym positions) (λ p ne. sym (ends_at_others p ne)) (sym meters) (λ m k ne. (same.touched m k ne).1)
+
+  -- so they do when the pair of the branch was dropped
+  pub dropped_there : (a : Assignment) → AreLongestOver n a → (m : ℕ) → branch_at a m ≡ Some e → (g : Graph) → g ≡ n.graph → (b : Assignment) → b.slots ≡ set a.slots m None → IsWhole b
+      → ((touches : List Touch) → StandsOver a g touches → StandsOver b g touches) → StandsOver b o.graph o.meters.touches
+  dropped_there a h m has g gg b is whole keeps =
+      let stands : StandsOver b n.graph n.meters.touches =
+      subst (λ (x : Graph). StandsOver b x n.meters.touches) gg (keeps n.meters.touches (subst (λ (x : Graph). StandsOver a x n.meters.touches) (sym gg) h.stands)) in
+      stands_there b whole (λ x k.
+      let low = slot_low a.slots m e has in
+      let at : get_or (set a.slots m None) x None ≡ Some e = ap (λ (s : List (Option ℕ)). get_or s x None) (sym is) ∙ k in
+      elim (cases_eq x m) [
+        | inl y ↦ none_some e (sym (get_or-set_same a.slots m None None low) ∙ (ap (λ j. get_or (set a.slots m None) j None) (sym y) ∙ at))
+        | inr ne ↦ ne (slots_apart a.forest.held a.slots h.whole.paired.holds.forest x m e (sym (get_or-set_other a.slots m x None None ne) ∙ at) has)
+      ]) stands
+
+  -- and those that are longest over the other network, where the branch is absent, stand over the one
+  pub grown_here : get_or o.graph.ends e None ≡ None → (b : Assignment) → AreLongestOver o b → StandsOver b n.graph n.meters.touches
+  grown_here gone b h = stands_here b h.whole (λ x k.
+      true≢false (sym (touched-present o.graph.ends (get_or o.meters.touches x Nothing) e (h.stands.touched x e k)) ∙ ap (λ (y : Option Ends). is_some y) gone)) h.stands
+
+-- the outage case of a row has none there
+pub gone_out : (t : Tables) → IsValid t → (e : ℕ) → In e (outage_rows t) → get_or (case_branches (outage_case t e)) e None ≡ None
+gone_out t v e i =
+    let low = row_low t e i in
+    let many = as_many_rows t v e in
+    row_here (outage_case t e) e (subst (λ k. e < k) (sym many) low) ∙ row_gone t e
+
+-- so a pair with it doesn't stand there
+pub held_falls : (t : Tables) → IsValid t → (a : Assignment) (m e : ℕ) → In e (outage_rows t) → branch_at a m ≡ Some e → AllStand t a e → ⊥
+held_falls t v a m e i has all =
+    let out = outage_case t e in
+    let still = still_from (case_branches out) (case_meters out) (pairs a) (m, e) (subst (λ (l : List Pair). In (m, e) l) (sym all) (slot_at a.slots m e has)) in
+    true≢false (sym (touched-present (case_branches out) (get_or (case_meters out) m Nothing) e still.1) ∙ ap (λ (y : Option Ends). is_some y) (gone_out t v e i))
+
+-- a greatest length in the outage case is its rank
+pub rank_there : (t : Tables) → IsValid t → (e r : ℕ) → IsRhoAt (case_branches (outage_case t e)) (case_meters (outage_case t e)) (case_live_meters (outage_case t e)) r → r ≡ case_rank (outage_case t e)
+rank_there t v e r h =
+    let out = outage_case t e in
+    rho_at-unique (case_branches out) (case_meters out) (case_live_meters out) r (case_rank out) h (rank_is out (out_valid t v e))

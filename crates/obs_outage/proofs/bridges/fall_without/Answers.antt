@@ -1,0 +1,86 @@
+use Rattle.std.proofs.Common.{◌<◌, ℕ, List, length, refl, sym, ap, ◌∙◌, arith}
+use Rattle.std.specs.Prelude.{slice_index, sum_by}
+use Rattle.obs_matroid.proofs.Contained.{All-from_In}
+use Rattle.obs_network.specs.Network.{Network}
+use Rattle.obs_network.proofs.OfCase.{case_bus_count-le, few_nodes, length-case_branches}
+use Rattle.obs_network.proofs.PartedNeeds.{found, short_side}
+use Rattle.obs_outage.proofs.Parting.{component_low, fall_by, few_buses, parted_by, side_buses}
+use Rattle.obs_outage.proofs.Restored.{row_low}
+use Rattle.obs_outage.proofs.bridges.fall_without.Goals as goal
+
+pub component_of_branch-requires : goal.component_of_branch-requires
+component_of_branch-requires c =
+    let low = row_low c.args.case.now c.args.e c.requires.row in
+    let many = length-case_branches c.args.case.now in
+    let net = ap (λ (x : Network). length x.graph.ends) c.requires.network in
+    record { branch = omega (arith, low, many, net) }
+
+pub sources_of-here-requires-clause-few : goal.sources_of-here-requires-clause-few
+sources_of-here-requires-clause-few c =
+    let t = c.args.case.now in
+    let v = c.nodes-nodes.ensures.valid in
+    let e = c.args.e in
+    let side = c.args.side.now in
+    let k = c.in_ok-c.c in
+    let p = parted_by t c.args.network.now e k side c.requires.network (row_low t e c.requires.row) (sym c.in_ok-c.ensures.component) (sym c.absolute.ensures.absolute ∙ c.if-absolute.false) c.requires.side in
+    omega (arith, few_buses t v e k side p, case_bus_count-le t, few_nodes t v)
+
+pub sources_of-here-requires-clause-buses : goal.sources_of-here-requires-clause-buses
+sources_of-here-requires-clause-buses c =
+    let t = c.args.case.now in
+    let v = c.nodes-nodes.ensures.valid in
+    let e = c.args.e in
+    let side = c.args.side.now in
+    let k = c.in_ok-c.c in
+    let p = parted_by t c.args.network.now e k side c.requires.network (row_low t e c.requires.row) (sym c.in_ok-c.ensures.component) (sym c.absolute.ensures.absolute ∙ c.if-absolute.false) c.requires.side in
+    let counts = ap (λ (xs : List ℕ). length xs) c.of_buses.ensures.counts in
+    let room = c.requires.feeds.buses in
+    All-from_In (λ b. b < length c.of_buses.result.now) side (λ b i. let l = side_buses t v e k side p b i in omega (arith, l, case_bus_count-le t, counts, room))
+
+pub of_component-requires : goal.of_component-requires
+of_component-requires c =
+    let t = c.args.case.now in
+    let v = c.nodes-nodes.ensures.valid in
+    let e = c.args.e in
+    let side = c.args.side.now in
+    let k = c.in_ok-c.c in
+    let p = parted_by t c.args.network.now e k side c.requires.network (row_low t e c.requires.row) (sym c.in_ok-c.ensures.component) (sym c.absolute.ensures.absolute ∙ c.if-absolute.false) c.requires.side in
+    let room = c.requires.feeds.components in
+    record { component = omega (arith, component_low t v e k side p, room) }
+
+pub overflow_cast-side : goal.overflow_cast-side
+overflow_cast-side c =
+    let t = c.args.case.now in
+    let v = c.nodes-nodes.ensures.valid in
+    let e = c.args.e in
+    let side = c.args.side.now in
+    let k = c.in_ok-c.c in
+    let p = parted_by t c.args.network.now e k side c.requires.network (row_low t e c.requires.row) (sym c.in_ok-c.ensures.component) (sym c.absolute.ensures.absolute ∙ c.if-absolute.false) c.requires.side in
+    omega (arith, few_buses t v e k side p, case_bus_count-le t, few_nodes t v)
+
+pub fall-requires : goal.fall-requires
+fall-requires c =
+    let t = c.args.case.now in
+    let v = c.nodes-nodes.ensures.valid in
+    let e = c.args.e in
+    let side = c.args.side.now in
+    let k = c.in_ok-c.c in
+    let p = parted_by t c.args.network.now e k side c.requires.network (row_low t e c.requires.row) (sym c.in_ok-c.ensures.component) (sym c.absolute.ensures.absolute ∙ c.if-absolute.false) c.requires.side in
+    let size = c.size.ensures.size ∙ ap (λ (x : Network). slice_index x.components.sizes k) c.requires.network in
+    record { buses = omega (arith, short_side t v e k side p (found t v e k side p), size) }
+
+pub returns : goal.returns
+returns c =
+    let t = c.args.case.now in
+    let v = c.nodes-nodes.ensures.valid in
+    let e = c.args.e in
+    let side = c.args.side.now in
+    let k = c.in_ok-c.c in
+    let p = parted_by t c.args.network.now e k side c.requires.network (row_low t e c.requires.row) (sym c.in_ok-c.ensures.component) (sym c.absolute.ensures.absolute ∙ c.if-absolute.false) c.requires.side in
+    let size = c.size.ensures.size ∙ ap (λ (x : Network). slice_index x.components.sizes k) c.requires.network in
+    let fed = c.from-sources.ensures ∙ c.of_component.ensures.count in
+    let sum = c.sources_of-here.ensures.sum ∙ ap (λ (xs : List ℕ). sum_by (slice_index xs) side) c.of_buses.ensures.counts in
+    record {
+      fall = fall_by t v e k side p c.args.feeds.now c.requires.feeds c.size.result c.from-sources.result (length side) c.sources_of-here.result c.fall.result size fed refl sum
+          c.fall.ensures.listed c.fall.ensures.other c.fall.ensures.both;
+    }

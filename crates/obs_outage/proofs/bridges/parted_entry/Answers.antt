@@ -1,0 +1,53 @@
+use Rattle.std.proofs.Common.{◌≡◌, ◌-◌, length, refl, sym, ap, ◌∙◌, arith}
+use Rattle.obs_network.specs.Network.{Network, case_needed}
+use Rattle.obs_network.proofs.OfCase.{length-case_branches}
+use Rattle.obs_outage.specs.Outages.{outage_case}
+use Rattle.obs_outage.proofs.Joined.{known_is}
+use Rattle.obs_outage.proofs.Parting.{if_some, observable_entry}
+use Rattle.obs_outage.proofs.Restored.{row_low}
+use Rattle.obs_outage.proofs.bridges.parted_entry.Goals as goal
+
+pub returns-then-length-before : goal.returns-then-length-before
+returns-then-length-before c =
+    let t = c.args.case.now in
+    let k = c.in_ok-fall.fall in
+    let before = c.needed-before.ensures.needed ∙ ap (λ (x : Network). x.needed) c.requires.network in
+    let full = sym c.length.ensures.length ∙ c.if-length-before.true ∙ before in
+    let less = ap (λ n. n - k) before in
+    record { entry = observable_entry t c.nodes-nodes.ensures.valid c.args.e k c.in_ok-fall.ensures.fall c.args.pairs.now c.requires.longest full _ refl less less }
+
+pub known_entry-requires-clause-branch : goal.known_entry-requires-clause-branch
+known_entry-requires-clause-branch c =
+    let low = row_low c.args.case.now c.args.e c.requires.row in
+    let many = length-case_branches c.args.case.now in
+    let same = c.requires.longest.stands.forest.positions in
+    omega (arith, low, many, same)
+
+pub known_entry-requires-clause-flags : goal.known_entry-requires-clause-flags
+known_entry-requires-clause-flags c =
+    let low = row_low c.args.case.now c.args.e c.requires.row in
+    let many = length-case_branches c.args.case.now in
+    let net = ap (λ (x : Network). length x.graph.ends) c.requires.network in
+    let flags = c.requires.flags.branches in
+    omega (arith, low, many, net, flags)
+
+pub known_entry-requires-clause-costly : goal.known_entry-requires-clause-costly
+known_entry-requires-clause-costly c =
+    let low = row_low c.args.case.now c.args.e c.requires.row in
+    let many = length-case_branches c.args.case.now in
+    let net = ap (λ (x : Network). length x.graph.ends) c.requires.network in
+    let flags = c.requires.flags.costly in
+    omega (arith, low, many, net, flags)
+
+pub returns-then-fall-eq1 : goal.returns-then-fall-eq1
+returns-then-fall-eq1 c =
+    let t = c.args.case.now in
+    let e = c.args.e in
+    let fall = c.in_ok-fall.ensures.fall in
+    let before = c.needed-before.ensures.needed ∙ ap (λ (x : Network). x.needed) c.requires.network in
+    let needed : c.needed-before.result - c.in_ok-fall.fall ≡ case_needed (outage_case t e) = let f = fall.needed in omega (arith, before, f) in
+    record {
+      entry = if_some c.known_entry.result (λ o told.
+          known_is t c.nodes-nodes.ensures.valid e (fall.alone c.if-fall-eq1.true) (row_low t e c.requires.row) c.args.pairs.now c.requires.longest c.args.network.now c.requires.network
+          c.args.spared.now c.requires.spared c.requires.costly (c.needed-before.result - c.in_ok-fall.fall) needed o told) c.known_entry.ensures.entry;
+    }

@@ -1,0 +1,108 @@
+use Rattle.std.proofs.Common.{◌≡◌, ℕ, None, List, Option, length, sym, ap, ◌∙◌, subst, arith}
+use Rattle.std.specs.Prelude.{is_some, slice_index_or, take}
+use Rattle.obs_graph.specs.declared.Ends.{Ends}
+use Rattle.obs_graph.specs.Graph.{Graph}
+use Rattle.obs_case.specs.declared.rows.Branch.{Branch}
+use Rattle.obs_network.specs.Network.{Network, case_branches, case_rows}
+use Rattle.obs_network.proofs.OfCase.{case_vertex_count-le, length-case_branches}
+use Rattle.obs_network.specs.Parted.{AreJoinedWithout, IsSide}
+use Rattle.obs_outage.proofs.Crossed.{held_falls}
+use Rattle.obs_outage.proofs.Joined.{joined_is, rows_first, same_by_walk}
+use Rattle.obs_outage.proofs.Restored.{row_low, row_present}
+use Rattle.obs_outage.proofs.entry.entry_of.Goals as goal
+
+pub walk-joined-requires-clause-room : goal.walk-joined-requires-clause-room
+walk-joined-requires-clause-room g c =
+    let v = ap (λ (x : Graph). x.vertices) c.graph.ensures.graph in
+    let net = ap (λ (x : Network). x.graph.vertices) c.requires.network in
+    let room = ap (λ (x : Network). x.graph.most_vertices) c.requires.network in
+    let sides = c.requires.sides in
+    let le = case_vertex_count-le c.args.case.now in
+    omega (arith, v, net, room, sides, le)
+
+pub walk-joined-requires-clause-rows : goal.walk-joined-requires-clause-rows
+walk-joined-requires-clause-rows g c =
+    let rows = ap (λ (xs : List Branch). length xs) c.branches.ensures.rows in
+    let many = length-case_branches c.args.case.now in
+    let net = ap (λ (x : Network). length x.graph.ends) c.requires.network in
+    let same = ap (λ (x : Graph). length x.ends) c.graph.ensures.graph in
+    omega (arith, rows, many, net, same)
+
+pub walk-joined-requires-clause-row : goal.walk-joined-requires-clause-row
+walk-joined-requires-clause-row g c =
+    let rows = ap (λ (xs : List Branch). length xs) c.branches.ensures.rows in
+    let low = row_low c.args.case.now c.args.e c.requires.row in
+    omega (arith, rows, low)
+
+pub walk-joined-requires-clause-present : goal.walk-joined-requires-clause-present
+walk-joined-requires-clause-present g c =
+    let ends : c.graph.result.now.ends ≡ case_branches c.args.case.now =
+    ap (λ (x : Graph). x.ends) c.graph.ensures.graph ∙ ap (λ (x : Network). x.graph.ends) c.requires.network in
+    ap (λ (xs : List (Option Ends)). is_some (slice_index_or xs c.args.e None)) ends ∙ row_present c.args.case.now c.args.e c.requires.row
+
+pub known_entry-requires-clause-branch : goal.known_entry-requires-clause-branch
+known_entry-requires-clause-branch g c =
+    let low = row_low c.args.case.now c.args.e c.requires.row in
+    let many = length-case_branches c.args.case.now in
+    let same = c.requires.longest.stands.forest.positions in
+    omega (arith, low, many, same)
+
+pub known_entry-requires-clause-flags : goal.known_entry-requires-clause-flags
+known_entry-requires-clause-flags g c =
+    let low = row_low c.args.case.now c.args.e c.requires.row in
+    let many = length-case_branches c.args.case.now in
+    let net = ap (λ (x : Network). length x.graph.ends) c.requires.network in
+    let flags = c.requires.flags.branches in
+    omega (arith, low, many, net, flags)
+
+pub known_entry-requires-clause-costly : goal.known_entry-requires-clause-costly
+known_entry-requires-clause-costly g c =
+    let low = row_low c.args.case.now c.args.e c.requires.row in
+    let many = length-case_branches c.args.case.now in
+    let net = ap (λ (x : Network). length x.graph.ends) c.requires.network in
+    let flags = c.requires.flags.costly in
+    omega (arith, low, many, net, flags)
+
+pub returns-in-Some-clause-entry : goal.returns-in-Some-clause-entry
+returns-in-Some-clause-entry g c =
+    let t = c.args.case.now in
+    let e = c.args.e in
+    let rows = ap (λ (xs : List Branch). length xs) c.branches.ensures.rows in
+    let ends : c.graph.result.now.ends ≡ case_branches t =
+    ap (λ (x : Graph). x.ends) c.graph.ensures.graph ∙ ap (λ (x : Network). x.graph.ends) c.requires.network in
+    let joined = subst (λ (xs : List (Option Ends)). AreJoinedWithout (take (length c.branches.result.now) xs) e) ends (c.walk-joined.ensures.joined c.if-joined.true) in
+    joined_is t c.nodes-nodes.ensures.valid e c.requires.row (length c.branches.result.now) rows joined c.args.kept.now.network c.requires.network c.args.kept.now.pairs c.requires.longest
+    c.args.spared.now c.requires.spared c.requires.costly c.needed-needed.result c.needed-needed.ensures.needed c.in-Some.entry c.in-Some.ensures.entry
+
+pub meter_of-requires : goal.meter_of-requires
+meter_of-requires g c =
+    let low = row_low c.args.case.now c.args.e c.requires.row in
+    let many = length-case_branches c.args.case.now in
+    let same = c.requires.longest.stands.forest.positions in
+    record { e = omega (arith, low, many, same) }
+
+pub joined_outage-requires-clause-same : goal.joined_outage-requires-clause-same
+joined_outage-requires-clause-same g c =
+    let t = c.args.case.now in
+    let rows = ap (λ (xs : List Branch). length xs) c.branches.ensures.rows in
+    let ends : c.graph.result.now.ends ≡ case_branches t =
+    ap (λ (x : Graph). x.ends) c.graph.ensures.graph ∙ ap (λ (x : Network). x.graph.ends) c.requires.network in
+    let joined = subst (λ (xs : List (Option Ends)). AreJoinedWithout (take (length c.branches.result.now) xs) c.args.e) ends (c.walk-joined.ensures.joined c.if-joined.true) in
+    same_by_walk t c.nodes-nodes.ensures.valid c.args.e c.requires.row (length c.branches.result.now) rows joined
+
+pub returns-in-Some-meter_of-clause-quiet : goal.returns-in-Some-meter_of-clause-quiet
+returns-in-Some-meter_of-clause-quiet g c = λ all.
+    absurd (held_falls c.args.case.now c.nodes-nodes.ensures.valid c.args.kept.now.pairs c.in-Some-meter_of.m c.args.e c.requires.row c.in-Some-meter_of.ensures.meter all)
+
+pub parted_entry-requires-clause-side : goal.parted_entry-requires-clause-side
+parted_entry-requires-clause-side g c =
+    let t = c.args.case.now in
+    let e = c.args.e in
+    let many = length c.branches.result.now in
+    let rows = ap (λ (xs : List Branch). length xs) c.branches.ensures.rows in
+    let ends : c.graph.result.now.ends ≡ case_branches t =
+    ap (λ (x : Graph). x.ends) c.graph.ensures.graph ∙ ap (λ (x : Network). x.graph.ends) c.requires.network in
+    let first : take many c.graph.result.now.ends ≡ case_rows t =
+    ap (λ (xs : List (Option Ends)). take many xs) ends ∙ ap (λ k. take k (case_branches t)) rows ∙ rows_first t in
+    let side = subst (λ (xs : List (Option Ends)). IsSide xs e c.walk-joined.new.self.found) first (c.walk-joined.ensures.parted c.if-joined.false) in
+    subst (λ (xs : List ℕ). IsSide (case_rows t) e xs) (sym c.found.ensures.found) side

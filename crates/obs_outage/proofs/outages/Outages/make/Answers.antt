@@ -1,0 +1,24 @@
+use Rattle.std.proofs.Common.{List, length, sym, ap, ◌∙◌, subst, arith}
+use Rattle.obs_case.specs.declared.rows.Branch.{Branch}
+use Rattle.obs_kept.specs.Kept.{AreLongestOver}
+use Rattle.obs_network.specs.Network.{Network}
+use Rattle.obs_outage.proofs.outages.Outages.make.Goals as goal
+
+pub invariant_of-result : goal.invariant_of-result
+invariant_of-result g c =
+    let net = c.find.ensures.network ∙ c.in_ok-kept.ensures.network in
+    let nodes = ap (λ (x : Network). x.rows.nodes) net in
+    let rows = ap (λ (xs : List Branch). length xs) c.branches.ensures.rows in
+    record {
+      longest = subst (λ (x : Network). AreLongestOver x c.find.new.kept.pairs) (sym net) c.find.ensures.longest;
+      room = c.find.ensures.room;
+      other = c.in_ok-other.ensures.whole ∙ sym net;
+      sides = c.find.ensures.sides ∙ c.in_ok-sides.ensures.room ∙ c.vertex_room.ensures.room ∙ sym (ap (λ (x : Network). x.graph.most_vertices) net);
+      flags = c.find.ensures.flags;
+      spared = c.find.ensures.spared;
+      costly = c.find.ensures.costly;
+      fed_buses = c.in_ok-feeds.ensures.buses ∙ sym nodes;
+      fed_components = c.in_ok-feeds.ensures.components ∙ sym nodes;
+      entries = (let many = ap (λ (x : Network). x.rows.branches) net in let len = c.in_ok-entries.ensures.len in omega (arith, many, len, rows));
+      listed = omega arith;
+    }

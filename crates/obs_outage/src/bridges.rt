@@ -1,0 +1,105 @@
+// The entry of a row that parts the buses of its component, where no pairs need be counted.
+ghost use Rattle.std.specs.Prelude.{◌≡◌, ◌≢◌, ◌-◌, ◌<◌, ◌≤◌, ◌^◌, All, IfSome, length, slice_index, sum_by};
+ghost use Rattle.obs_matroid.specs.Lists.{In};
+ghost use Rattle.obs_kept.specs.Kept.{AreLongest};
+ghost use Rattle.obs_network.specs.Network.{case_rows, network_of};
+ghost use Rattle.obs_network.specs.Parted.{IsSide};
+ghost use Rattle.obs_outage.specs.Costly.{AreCostly};
+ghost use Rattle.obs_outage.specs.Feeds.{AreFeeds, IsFall};
+ghost use Rattle.obs_outage.specs.Outages.{outage_of, outage_rows};
+ghost use Rattle.obs_outage.specs.Spared.{AreSpared};
+ghost use Rattle.obs_outage.specs.Sparing.{HasFlags};
+
+use crate::Outage;
+use crate::entry::known_entry;
+use crate::feeds::Feeds;
+use crate::spared::Spared;
+use obs_assign::Assignment;
+use obs_case::Case;
+use obs_network::Network;
+
+/// How many sources some buses have.
+fn sources_of(of_buses: &[u32], side: &[u32]) -> u64
+    requires few { length side.now < 2 ^ 32 }
+    requires buses { All (λ b. b < length of_buses.now) side.now }
+    ensures sum { result ≡ sum_by (slice_index of_buses.now) side.now }
+{
+    let mut sum = 0;
+    for b in side {
+        sum += u64::from(of_buses[*b as usize]);
+    }
+    sum
+}
+
+/// How much the needed number falls where a component of this size is parted, so many of whose sources are on a side of so
+/// many buses.
+fn fall(size: u32, sources: u64, buses: u32, here: u64) -> u32
+    requires buses { buses ≤ size }
+    ensures listed { here ≡ 0 → result ≡ buses }
+    ensures other { here ≢ 0 → here ≡ sources → result ≡ size - buses }
+    ensures both { here ≢ 0 → here ≢ sources → result ≡ 1 }
+{
+    if here == 0 {
+        buses
+    } else if here == sources {
+        size - buses
+    } else {
+        1
+    }
+}
+
+/// By how much the needed number falls without a row that parts its component, where this isn't absolute.
+fn fall_without(case: &Case, e: u32, network: &Network, feeds: &Feeds, side: &[u32]) -> Option<u32>
+    requires network { network.now ≡ network_of case.now }
+    requires feeds { AreFeeds case.now feeds.now }
+    requires row { In e (outage_rows case.now) }
+    requires side { IsSide (case_rows case.now) e side.now }
+    ensures fall { IfSome result (IsFall case.now e) }
+{
+    let _nodes = case.nodes();
+    let c = network.component_of_branch(e)?;
+    if network.absolute(c) {
+        return None;
+    }
+    let here = sources_of(feeds.of_buses(), side);
+    let sources = u64::from(feeds.of_component(c));
+    Some(fall(network.size(c), sources, side.len() as u32, here))
+}
+
+/// The entry of a row that parts its component, where this isn't absolute: an observable case stays observable, and else it
+/// can be known where no other branch goes. Nothing is made or searched.
+pub(crate) fn parted_entry(
+    case: &Case,
+    e: u32,
+    network: &Network,
+    pairs: &Assignment,
+    spared: &Spared,
+    feeds: &Feeds,
+    side: &[u32],
+) -> Option<Outage>
+    requires network { network.now ≡ network_of case.now }
+    requires longest { AreLongest case.now pairs.now }
+    requires flags { HasFlags network.now spared.now }
+    requires spared { AreSpared network.now spared.now.flags }
+    requires costly { AreCostly network.now spared.now.costly }
+    requires feeds { AreFeeds case.now feeds.now }
+    requires row { In e (outage_rows case.now) }
+    requires side { IsSide (case_rows case.now) e side.now }
+    ensures entry { IfSome result (λ o. o ≡ outage_of case.now e) }
+{
+    let _nodes = case.nodes();
+    let fall = fall_without(case, e, network, feeds, side)?;
+    let before = network.needed();
+    let needed = before - fall;
+    if pairs.length() == before {
+        return Some(Outage {
+            branch: e,
+            rank: needed,
+            needed,
+        });
+    }
+    if fall == 1 {
+        return known_entry(pairs, spared, e, needed);
+    }
+    None
+}
