@@ -1,10 +1,11 @@
-/* obs in C: topological observability of power networks, by one call over blocks of bytes.
+/* obs in C: topological observability of power networks, over blocks of bytes. obs_run answers once; a session stays between calls.
  *
- * The library is libobs.a or libobs.so; tools/library builds both. crates/obs_c/README.md says what is proved of the call and
+ * The library is libobs.a or libobs.so; tools/library builds both. crates/obs_c/README.md says what is proved of the calls and
  * what the caller must uphold. docs/FORMATS.md has the words, the files and the printed lines. */
 #ifndef OBS_H
 #define OBS_H
 
+#include <stdbool.h>
 #include <stddef.h>
 #include <stdint.h>
 
@@ -12,7 +13,7 @@
 extern "C" {
 #endif
 
-/* What obs_run answers: the exit statuses of the program, of which 5 speaks of the block for the text, and one more. 4 never comes,
+/* What the calls answer: the exit statuses of the program, of which 5 speaks of the block for the text, and two more. 4 never comes,
  * since no file is opened. */
 enum obs_status {
     OBS_DONE = 0,             /* all was answered, and the answer is the good one */
@@ -22,7 +23,8 @@ enum obs_status {
     OBS_TEXT_TOO_LONG = 5,    /* the text is longer than its block, which has the front of it: call again with a longer one */
     OBS_NO_MEMORY = 6,        /* there was no memory, and nothing is written */
     OBS_SESSION_TOO_LONG = 7, /* the input of a session has more than 16,777,216 bytes: what was answered before is written */
-    OBS_MALFORMED = 8         /* the blocks are no words and contents, and nothing is written */
+    OBS_MALFORMED = 8,        /* the blocks are no words and contents, and nothing is written */
+    OBS_OUT_OF_TURN = 9       /* a session is begun where one stays already, or has a line where none stays: nothing is done or written */
 };
 
 /* Runs obs once, and answers one of the numbers above.
@@ -50,6 +52,47 @@ uint8_t obs_run(const uint8_t *words, size_t words_length,
                 const uint8_t *input, size_t input_length,
                 uint8_t *text, size_t text_length,
                 size_t *written);
+
+/* A session that stays between calls, or none. Before the first call it is all zeros, as by `struct obs_session session = {0};`.
+ * After that the calls below alone write it. It isn't copied: of two copies one would name memory that the other gave back. */
+struct obs_session {
+    void *at;
+    bool full;
+};
+
+/* Begins a session: the case is read once. words, contents, lengths, text and written are as for obs_run, with the words of a session
+ * ("session\0cdf\0C\0M", or with "with\0K" behind them).
+ *
+ * OBS_DONE          the session stays, and nothing is written.
+ * OBS_USAGE, OBS_INPUT_FAULT, OBS_TEXT_TOO_LONG, OBS_MALFORMED
+ *                   none stays, and all is as with obs_run. Words of another command are answered by OBS_USAGE.
+ * OBS_NO_MEMORY     none stays, and nothing is written.
+ * OBS_OUT_OF_TURN   one stays already. It is left as it is, and nothing is written. */
+uint8_t obs_session_begin(struct obs_session *session,
+                          const uint8_t *words, size_t words_length,
+                          const uint8_t *contents, size_t contents_length,
+                          const size_t *lengths, size_t lengths_count,
+                          uint8_t *text, size_t text_length,
+                          size_t *written);
+
+/* Does what one line says, and writes its answer: the answers to lines, one behind another, are what obs_run would write for them all. The
+ * line has no line end; an empty one, and one that begins with `#`, has no answer.
+ *
+ * OBS_DONE, OBS_SHORT   the verdict on the case behind the line, also where the line was refused. The whole answer is written.
+ * OBS_TEXT_TOO_LONG     the line is done, and text has a front of its answer. Say the line again with a longer block: that changes nothing
+ *                       more, and has the same answer.
+ * OBS_NO_MEMORY         nothing is done and nothing written. The session stays as it was. A line takes as much memory as text is long.
+ * OBS_OUT_OF_TURN       no session stays. Nothing is done and nothing written. */
+uint8_t obs_session_line(struct obs_session *session,
+                         const uint8_t *line, size_t line_length,
+                         uint8_t *text, size_t text_length,
+                         size_t *written);
+
+/* Ends a session, and gives its memory back: *session is as one that hasn't begun. Where none stays nothing happens. */
+void obs_session_end(struct obs_session *session);
+
+/* The caller upholds for these what is said of obs_run, and: *session is all zeros, or as these calls left it; it overlaps no other
+ * block; nobody else reads or writes what it leads to; calls with one session come one after another, from whichever thread. */
 
 #ifdef __cplusplus
 }

@@ -9,12 +9,10 @@ LIBRARY is libobs.so, PROGRAM the built program. It says what was tried, and end
 - a session whose text is longer than the module's first block, and one whose lines are too long
 - blocks for the text of 0 to 40 bytes, and of a byte less, none more and one more than the text: the status, the front that is written,
   and that nothing behind it is touched
-- ten threads at once, each with cases of its own
-- less and less memory: every call ends with its answer, or with 6 and nothing written
+- ten threads at once, each with cases of its own; less and less memory: every call ends with its answer, or with 6 and nothing written
 - each request for memory refused in turn, so too; and all memory is given back. This needs a C compiler and libobs.a beside the library
 - blocks that are no words and contents: 8, and nothing written
-
-Random cases are compared by tools/compare.py LIBRARY.
+- sessions that stay between calls: tools/library_stays.py says what is tried of them. Random cases are compared by tools/compare.py LIBRARY
 """
 import ctypes
 import os
@@ -30,6 +28,7 @@ HERE = os.path.dirname(os.path.abspath(__file__))
 EXAMPLES = os.path.join(HERE, "..", "examples")
 sys.path[:0] = [os.path.join(HERE, "..", "python"), HERE]
 
+import library_stays
 import obs
 from cases import random_case, records_of
 import relations
@@ -206,9 +205,14 @@ def blocks_of(folder, words):
     return b"".join(word.encode() + b"\0" for word in words), b"".join(contents), list(map(len, contents))
 
 
+def block_of(room):
+    """A block with so much room, and some bytes behind it."""
+    return (ctypes.c_char * (room + BEHIND)).from_buffer_copy(bytes([FILL]) * (room + BEHIND))
+
+
 def call_with(words, contents, lengths, given, room):
     """A call with so much room: the status, how many bytes are written, and the block with some bytes behind it."""
-    text = (ctypes.c_char * (room + BEHIND)).from_buffer_copy(bytes([FILL]) * (room + BEHIND))
+    text = block_of(room)
     return (*library.call_once(words, contents, lengths, given, text, room), text.raw)
 
 
@@ -346,6 +350,7 @@ def try_refusals(file):
                 if found not in (nothing, whole) or counted.count_held():
                     fail(words, "request", which, "refused: status", *found[:2], "held", counted.count_held())
                 total += 1
+        library_stays.try_refusals(counted)
         os.environ["OBS_LIBRARY"] = given
     print(total, "requests for memory are refused, one a call: 6 and nothing written, or the whole answer, and nothing is kept")
 
@@ -384,6 +389,7 @@ def main(file, program):
     try_rooms()
     try_malformed()
     try_threads()
+    library_stays.try_all(os.environ["OBS_LIBRARY"], os.path.abspath(program))
     try_memory()
     try_refusals(os.environ["OBS_LIBRARY"])
 

@@ -20,18 +20,21 @@ The library is the file that the variable OBS_LIBRARY names; else libobs.so besi
 where tools/library builds it. It is read at the first call. Any number of threads may call at once, and other threads of Python go on
 meanwhile. A process that was forked off one with threads mustn't call: of multiprocessing take the method "spawn".
 
-What is proved is said of the library's one call by crates/obs_c/README.md. This package is not proved: it hands blocks of bytes to that
-call, and reads what is printed.
+`LiveSession` is a session that stays open between calls: the case is read once, and each line is answered as it comes.
+
+What is proved is said of the library's calls by crates/obs_c/README.md. This package is not proved: it hands blocks of bytes to these
+calls, and reads what is printed.
 """
 from .answers import Bound, Counts, Flaw, Item, Layer, Loss, Ok, Outage, Outages, Pair, Pairs, Plan, Refused, Report, Session, Shortfall
 from .answers import Stations, Step, Topology, Tree, Valid
 from .calls import outages, pairs, place, report, run, session, stations, topology, verify
 from .cases import COLUMNS, Case, cdf, matpower, tables
-from .faults import Error, Fault, LibraryMissing, Malformed, NoMemory, NotUnderstood, SessionTooLong
+from .faults import Ended, Error, Fault, LibraryMissing, Malformed, NoMemory, NotUnderstood, SessionTooLong
+from .stays import LiveSession
 
 __all__ = [
-    "Bound", "COLUMNS", "Case", "Counts", "Error", "Fault", "Flaw", "Item", "Layer", "LibraryMissing", "Loss", "Malformed", "NoMemory",
-    "NotUnderstood", "Ok", "Outage", "Outages", "Pair", "Pairs", "Plan", "Refused", "Report", "Session", "SessionTooLong", "Shortfall",
-    "Stations", "Step", "Topology", "Tree", "Valid", "cdf", "matpower", "outages", "pairs", "place", "report", "run", "session", "stations",
-    "tables", "topology", "verify",
+    "Bound", "COLUMNS", "Case", "Counts", "Ended", "Error", "Fault", "Flaw", "Item", "Layer", "LibraryMissing", "LiveSession", "Loss",
+    "Malformed", "NoMemory", "NotUnderstood", "Ok", "Outage", "Outages", "Pair", "Pairs", "Plan", "Refused", "Report", "Session",
+    "SessionTooLong", "Shortfall", "Stations", "Step", "Topology", "Tree", "Valid", "cdf", "matpower", "outages", "pairs", "place",
+    "report", "run", "session", "stations", "tables", "topology", "verify",
 ]

@@ -26,7 +26,7 @@ def session(case, lines, candidates=None):
                  with a blank and a name; status, tree, bound, cert, islands, critical, report; and place where there are candidates.
     candidates   a table as in `place`, or None.
     """
-    return _ask(["session", *_form(case), *_with(candidates)], _input(lines))
+    return _ask(session_words(case, candidates), _input(lines))
 
 
 def verify(case, certificate, candidates=None):
@@ -66,8 +66,18 @@ def run(words, given=b""):
     words   a list: a text is a word, bytes are the contents of a file whose name stands there.
     given   bytes: what a session reads.
     """
-    pairs = [(b"file", word) if isinstance(word, bytes) else (word.encode("utf-8", "surrogateescape"), None) for word in words]
-    status, text = library.call(pairs, given)
+    status, text = library.call(word_pairs(words), given)
+    refuse(status, text)
+    return status, text
+
+
+def word_pairs(words):
+    """The pairs of library.call of words as in `run`."""
+    return [(b"file", word) if isinstance(word, bytes) else (word.encode("utf-8", "surrogateescape"), None) for word in words]
+
+
+def refuse(status, text):
+    """Raises what a status says that is no answer and no fault."""
     if status == library.NO_MEMORY:
         raise NoMemory("there was no memory for the answer")
     if status == library.SESSION_TOO_LONG:
@@ -76,7 +86,15 @@ def run(words, given=b""):
         raise Malformed("a word is no UTF-8, or has a zero byte in it")
     if status > library.INPUT_FAULT:
         raise NotUnderstood(f"the library answered {status}")
-    return status, text
+
+
+def refuse_files(status, text):
+    """Raises what a status says that is no answer."""
+    refuse(status, text)
+    if status == library.INPUT_FAULT:
+        raise Fault(text.decode())
+    if status == library.USAGE:
+        raise NotUnderstood("the library has no such command: it is of another version than this package")
 
 
 def read(command, status, text, given=b""):
@@ -95,11 +113,13 @@ def read(command, status, text, given=b""):
 def _ask(words, given=b""):
     """The answer to these words, where there is one."""
     status, text = run(words, given)
-    if status == library.INPUT_FAULT:
-        raise Fault(text.decode())
-    if status == library.USAGE:
-        raise NotUnderstood("the library has no such command: it is of another version than this package")
+    refuse_files(status, text)
     return read(words[0], status, text, given)
+
+
+def session_words(case, candidates):
+    """The words of a session, as in `run`."""
+    return ["session", *_form(case), *_with(candidates)]
 
 
 def _form(case):

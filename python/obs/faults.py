@@ -30,6 +30,10 @@ class SessionTooLong(Error):
         super().__init__("the lines of the session have more than 16,777,216 bytes")
 
 
+class Ended(Error, ValueError):
+    """A line was said to a session that has ended."""
+
+
 class NoMemory(Error, MemoryError):
     """There was no memory for the answer."""
 

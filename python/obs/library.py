@@ -1,4 +1,4 @@
-"""The library: where it is, and its one call."""
+"""The library: where it is, and its calls."""
 import ctypes
 import os
 import threading
@@ -8,7 +8,7 @@ from .faults import LibraryMissing
 FILE = "libobs.so"
 VARIABLE = "OBS_LIBRARY"
 
-DONE, SHORT, USAGE, INPUT_FAULT, TEXT_TOO_LONG, NO_MEMORY, SESSION_TOO_LONG, MALFORMED = 0, 1, 2, 3, 5, 6, 7, 8
+DONE, SHORT, USAGE, INPUT_FAULT, TEXT_TOO_LONG, NO_MEMORY, SESSION_TOO_LONG, MALFORMED, OUT_OF_TURN = 0, 1, 2, 3, 5, 6, 7, 8, 9
 
 _lock = threading.Lock()
 _loaded = {}
@@ -33,20 +33,48 @@ def path():
     raise LibraryMissing(f"there is no {FILE}: build it by tools/library, or name it by the variable {VARIABLE}")
 
 
-def load():
-    """The call obs_run of include/obs.h, with the types of its parameters."""
-    file = os.path.abspath(path())
+class Kept(ctypes.Structure):
+    """struct obs_session of include/obs.h: a session that stays, or none. All calls with it are those of one file."""
+
+    _fields_ = [("at", ctypes.c_void_p), ("full", ctypes.c_bool)]
+
+    def __init__(self):
+        super().__init__()
+        self.file = os.path.abspath(path())
+
+
+_SIZE, _BLOCK, _SIZES, _KEPT = ctypes.c_size_t, ctypes.c_char_p, ctypes.POINTER(ctypes.c_size_t), ctypes.POINTER(Kept)
+_WORDS, _TEXT = [_BLOCK, _SIZE, _BLOCK, _SIZE, _SIZES, _SIZE], [ctypes.c_void_p, _SIZE, _SIZES]
+_CALLS = {
+    "obs_run": (ctypes.c_uint8, [*_WORDS, _BLOCK, _SIZE, *_TEXT]),
+    "obs_session_begin": (ctypes.c_uint8, [_KEPT, *_WORDS, *_TEXT]),
+    "obs_session_line": (ctypes.c_uint8, [_KEPT, _BLOCK, _SIZE, *_TEXT]),
+    "obs_session_end": (None, [_KEPT]),
+}
+
+
+def load(name="obs_run", file=None):
+    """The call of this name of include/obs.h, with the types of its parameters, of this file or of that which is found."""
+    file = file or os.path.abspath(path())
     with _lock:
-        if file not in _loaded:
+        if (file, name) not in _loaded:
             try:
-                call = ctypes.CDLL(file).obs_run
+                call = getattr(ctypes.CDLL(file), name)
             except (OSError, AttributeError) as error:
                 raise LibraryMissing(f"{file} can't be loaded: {error}") from error
-            size, block, sizes = ctypes.c_size_t, ctypes.c_char_p, ctypes.POINTER(ctypes.c_size_t)
-            call.restype = ctypes.c_uint8
-            call.argtypes = [block, size, block, size, sizes, size, block, size, ctypes.c_void_p, size, sizes]
-            _loaded[file] = call
-        return _loaded[file]
+            call.restype, call.argtypes = _CALLS[name]
+            _loaded[file, name] = call
+        return _loaded[file, name]
+
+
+def sizes_of(lengths):
+    # No pointer may be null: where there are no lengths there is room for one, and all bytes of Python have a zero byte behind them.
+    return (ctypes.c_size_t * max(len(lengths), 1))(*lengths)
+
+
+def written_in(room):
+    # What stands there first is no number that a call writes.
+    return ctypes.c_size_t(room + 1)
 
 
 def call_once(words, contents, lengths, given, text, room):
@@ -59,14 +87,38 @@ def call_once(words, contents, lengths, given, text, room):
     text       a ctypes array of at least one char.
     room       how many of these chars may be written.
     """
-    # No pointer may be null: where there are no lengths there is room for one, and all bytes of Python have a zero byte behind them. What
-    # stands in `written` first is no number that the call writes.
-    sizes = (ctypes.c_size_t * max(len(lengths), 1))(*lengths)
-    written = ctypes.c_size_t(room + 1)
+    written = written_in(room)
     status = load()(
-        words, len(words), contents, len(contents), sizes, len(lengths), given, len(given), text, room, ctypes.byref(written)
+        words, len(words), contents, len(contents), sizes_of(lengths), len(lengths), given, len(given), text, room, ctypes.byref(written)
     )
     return status, written.value
+
+
+def begin_once(kept, words, contents, lengths, text, room):
+    """Begins a session in a Kept that has none, with the blocks of call_once. Gives the status, and how many bytes are written."""
+    written = written_in(room)
+    status = load("obs_session_begin", kept.file)(
+        kept, words, len(words), contents, len(contents), sizes_of(lengths), len(lengths), text, room, ctypes.byref(written)
+    )
+    return status, written.value
+
+
+def line_once(kept, line, text, room):
+    """One line of a session, as bytes without a line end. Gives the status, and how many bytes are written."""
+    written = written_in(room)
+    status = load("obs_session_line", kept.file)(kept, line, len(line), text, room, ctypes.byref(written))
+    return status, written.value
+
+
+def end(kept):
+    """Ends a session, where there is one."""
+    load("obs_session_end", kept.file)(kept)
+
+
+def blocks_of(words):
+    """The words, contents and lengths of a call, of pairs as in `call`."""
+    block = b"".join(word + b"\0" for word, _ in words)
+    return block, b"".join(content for _, content in words if content), [len(content or b"") for _, content in words]
 
 
 def call(words, given=b""):
@@ -75,9 +127,7 @@ def call(words, given=b""):
     words   a list of pairs: the bytes of a word, and the bytes of the file that it names, or None where it names none.
     given   bytes: what a session reads.
     """
-    block = b"".join(word + b"\0" for word, _ in words)
-    contents = b"".join(content for _, content in words if content)
-    lengths = [len(content or b"") for _, content in words]
+    block, contents, lengths = blocks_of(words)
     room = 65536 + 2 * len(contents) + 4 * len(given)
     while True:
         text = ctypes.create_string_buffer(room)

@@ -1,4 +1,7 @@
 pub mod Blocked
 pub mod Ended
 pub mod Ending
+pub mod HandleValues
+pub mod LooseValues
+pub mod Staying
 pub mod Taken

@@ -1,2 +1,4 @@
 pub mod Blocks
 pub mod Calls
+pub mod Kept
+pub mod Stays

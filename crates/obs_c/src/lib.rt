@@ -1,8 +1,16 @@
-//! obs for programs in C: one call, `obs_run`, over blocks of bytes that the caller lends.
+//! obs for programs in C: one call, `obs_run`, over blocks of bytes that the caller lends, and a session that stays between
+//! calls.
 #![tactic(auto)]
 
 mod call;
+mod handle;
 mod lengths;
+mod loose;
+mod slot;
+mod stay;
 mod words;
 
 pub use call::obs_run;
+pub use handle::Handle;
+pub use slot::Slot;
+pub use stay::{obs_session_begin, obs_session_end, obs_session_line};

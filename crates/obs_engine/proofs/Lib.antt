@@ -29,3 +29,4 @@ pub mod Bearing
 pub mod OutagesBorne
 pub mod LossesBorne
 pub mod FailTogether
+pub mod Staying

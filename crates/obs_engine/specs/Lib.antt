@@ -14,6 +14,7 @@ pub mod Runs
 pub mod Sessions
 pub mod Stated
 pub mod StationReply
+pub mod Stays
 pub mod Studies
 pub mod Taken
 pub mod Tasks

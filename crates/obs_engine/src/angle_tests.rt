@@ -125,38 +125,41 @@ fn faults(
     answers(rt, alloc, &REPORT, &files, fault, text)
 }
 
+const NODE_FAULTS: &[(&[u8], &[u8])] = &[
+    (
+        b"absolute,node,source,absolute\n1,a,1,1\n",
+        b"fault\tnodes\t0\t3\tColumnTwice\n",
+    ),
+    (
+        b"absolute,node,absolute\n1,a,1\n",
+        b"fault\tnodes\t0\t2\tColumnMissing\n",
+    ),
+    (
+        b"node,source,absolute\na,1,1\nb,0\n",
+        b"fault\tnodes\t2\t4\tShortRow\n",
+    ),
+    (
+        b"node,source,absolute\n,1,2\n",
+        b"fault\tnodes\t1\t5\tBadName\n",
+    ),
+    (
+        b"node,source,absolute\na,1, 1\n",
+        b"fault\tnodes\t1\t6\tBadFlag\n",
+    ),
+    (
+        b"node,source,absolute\na,1,0\na,1,\n",
+        b"fault\tnodes\t2\t6\tBadFlag\n",
+    ),
+    (
+        b"node,source,absolute\na,1,0\na,1,1\n",
+        b"fault\tnodes\t2\t9\tNameTwice\n",
+    ),
+];
+
 #[test]
 fn faults_of_the_column_absolute_are_printed(rt: HostRuntime) -> Result<(), Fail> {
-    for (nodes, text) in [
-        (
-            b"absolute,node,source,absolute\n1,a,1,1\n".as_slice(),
-            b"fault\tnodes\t0\t3\tColumnTwice\n".as_slice(),
-        ),
-        (
-            b"absolute,node,absolute\n1,a,1\n",
-            b"fault\tnodes\t0\t2\tColumnMissing\n",
-        ),
-        (
-            b"node,source,absolute\na,1,1\nb,0\n",
-            b"fault\tnodes\t2\t4\tShortRow\n",
-        ),
-        (
-            b"node,source,absolute\n,1,2\n",
-            b"fault\tnodes\t1\t5\tBadName\n",
-        ),
-        (
-            b"node,source,absolute\na,1, 1\n",
-            b"fault\tnodes\t1\t6\tBadFlag\n",
-        ),
-        (
-            b"node,source,absolute\na,1,0\na,1,\n",
-            b"fault\tnodes\t2\t6\tBadFlag\n",
-        ),
-        (
-            b"node,source,absolute\na,1,0\na,1,1\n",
-            b"fault\tnodes\t2\t9\tNameTwice\n",
-        ),
-    ] {
+    for case in NODE_FAULTS {
+        let (nodes, text) = *case;
         faults(&rt, rt.alloc(), nodes, text)?;
     }
     Ok(())
@@ -172,22 +175,25 @@ fn marked_nodes_have_their_buses(rt: HostRuntime) -> Result<(), Fail> {
     answers(&rt, rt.alloc(), &TOPOLOGY, &files, Status::Done, text)
 }
 
+const KIND_FAULTS: &[(&[u8], &[u8])] = &[
+    (
+        b"meter,kind,at,inservice\ng1,angle,L1,1\n",
+        b"fault\tmeters\t1\t11\tUnknownPlace\n",
+    ),
+    (
+        b"meter,kind,at,inservice\ng1,Angle,a,1\n",
+        b"fault\tmeters\t1\t7\tBadKind\n",
+    ),
+    (
+        b"meter,kind,at,inservice\ng1,Angle,a,2\n",
+        b"fault\tmeters\t1\t6\tBadFlag\n",
+    ),
+];
+
 #[test]
 fn faults_of_the_kind_angle_are_printed(rt: HostRuntime) -> Result<(), Fail> {
-    for (meters, text) in [
-        (
-            b"meter,kind,at,inservice\ng1,angle,L1,1\n".as_slice(),
-            b"fault\tmeters\t1\t11\tUnknownPlace\n".as_slice(),
-        ),
-        (
-            b"meter,kind,at,inservice\ng1,Angle,a,1\n",
-            b"fault\tmeters\t1\t7\tBadKind\n",
-        ),
-        (
-            b"meter,kind,at,inservice\ng1,Angle,a,2\n",
-            b"fault\tmeters\t1\t6\tBadFlag\n",
-        ),
-    ] {
+    for case in KIND_FAULTS {
+        let (meters, text) = *case;
         let files = [b"".as_slice(), NODES, NO_SWITCHES, PATH_BRANCHES, meters];
         answers(&rt, rt.alloc(), &REPORT, &files, Status::InputFault, text)?;
     }
@@ -242,40 +248,39 @@ const UNKNOWN: &[u8] = b"flaw\t1\t1\tUnknownName\n";
 
 const NOT_INSIDE: &[u8] = b"flaw\t1\t3\tNotInside\n";
 
+const PAIRS: &[([&[u8]; 2], &[u8], &[u8])] = &[
+    (PLAIN, b"tree\ta\npair\tmeter\tf1\tL1\nend\n", VALID),
+    (PLAIN, b"tree\ta\npair\tmeter\tf1\tangle\nend\n", UNKNOWN),
+    (PLAIN, b"tree\ta\npair\tmeter\tg1\tL1\nend\n", UNKNOWN),
+    (PLAIN, b"tree\ta\npair\tmeter\tg1\tAngle\nend\n", UNKNOWN),
+    (PLAIN, b"tree\ta\npair\tmeter\tg1\tangle\nend\n", NOT_INSIDE),
+    (PLAIN, b"tree\ta\npair\tcandidate\tq1\tL1\nend\n", UNKNOWN),
+    (
+        PLAIN,
+        b"tree\ta\npair\tcandidate\tq1\tangle\nend\n",
+        NOT_INSIDE,
+    ),
+    (
+        PLAIN,
+        b"cost\t0\nchosen\tq1\npair\tcandidate\tq1\tL1\nend\n",
+        UNKNOWN,
+    ),
+    (
+        PLAIN,
+        b"cost\t0\nchosen\tq1\npair\tcandidate\tq1\tangle\nend\n",
+        NOT_INSIDE,
+    ),
+    (ANGLE, b"tree\ta\npair\tmeter\tf1\tangle\nend\n", VALID),
+    (ANGLE, b"tree\ta\npair\tmeter\tf1\tL1\nend\n", UNKNOWN),
+    (ANGLE, b"tree\ta\npair\tmeter\tg1\tangle\nend\n", NOT_INSIDE),
+];
+
 // In a pair of an angle item the branch is `angle` and nothing else. In one of a flow it is the name of a branch, which may be
 // `angle` too.
 #[test]
 fn branch_words_of_pairs_are_read(rt: HostRuntime) -> Result<(), Fail> {
-    for (named, certificate, text) in [
-        (
-            PLAIN,
-            b"tree\ta\npair\tmeter\tf1\tL1\nend\n".as_slice(),
-            VALID,
-        ),
-        (PLAIN, b"tree\ta\npair\tmeter\tf1\tangle\nend\n", UNKNOWN),
-        (PLAIN, b"tree\ta\npair\tmeter\tg1\tL1\nend\n", UNKNOWN),
-        (PLAIN, b"tree\ta\npair\tmeter\tg1\tAngle\nend\n", UNKNOWN),
-        (PLAIN, b"tree\ta\npair\tmeter\tg1\tangle\nend\n", NOT_INSIDE),
-        (PLAIN, b"tree\ta\npair\tcandidate\tq1\tL1\nend\n", UNKNOWN),
-        (
-            PLAIN,
-            b"tree\ta\npair\tcandidate\tq1\tangle\nend\n",
-            NOT_INSIDE,
-        ),
-        (
-            PLAIN,
-            b"cost\t0\nchosen\tq1\npair\tcandidate\tq1\tL1\nend\n",
-            UNKNOWN,
-        ),
-        (
-            PLAIN,
-            b"cost\t0\nchosen\tq1\npair\tcandidate\tq1\tangle\nend\n",
-            NOT_INSIDE,
-        ),
-        (ANGLE, b"tree\ta\npair\tmeter\tf1\tangle\nend\n", VALID),
-        (ANGLE, b"tree\ta\npair\tmeter\tf1\tL1\nend\n", UNKNOWN),
-        (ANGLE, b"tree\ta\npair\tmeter\tg1\tangle\nend\n", NOT_INSIDE),
-    ] {
+    for case in PAIRS {
+        let (named, certificate, text) = *case;
         verdict(&rt, rt.alloc(), named, certificate, text)?;
     }
     Ok(())

@@ -1,7 +1,7 @@
 // A failure at each call of each command over each form of a case.
 
 use crate::Status;
-use crate::tests::{Ended, Outside, QUIET, entries, outcome_over};
+use crate::tests::{Ended, Outside, QUIET, entries, is_front, outcome_over};
 use crate::worked::{BRANCH, CANDIDATE, CDF_FILE, MATPOWER_FILE, METER, NO_SWITCHES, NODES, OUT};
 use obs_io::Entry;
 use std::alloc::Global;
@@ -45,41 +45,84 @@ fn ended(alloc: Global, row: Row<'_>, piece: usize, failing: Outside<'_>) -> Res
     outcome(alloc, row, entries, piece, failing)
 }
 
-// Each read fails in turn: nothing is written.
+// Whether a run fails where this read does: then nothing is written.
+fn read_fails(
+    rt: &impl Abort,
+    alloc: Global,
+    row: Row<'_>,
+    piece: usize,
+    call: u64,
+) -> Result<bool, Fail> {
+    let reads = Outside {
+        read_fails: &[call],
+        ..QUIET
+    };
+    let found = ended(alloc, row, piece, reads)?;
+    let fails = found.status == Status::ReadFault;
+    assert!(rt; !fails || found.text.is_empty());
+    Ok(fails)
+}
+
+// Each read fails in turn.
 fn each_read_fails(rt: &impl Abort, alloc: Global, row: Row<'_>, piece: usize) -> Result<(), Fail> {
     for call in 0..2000 {
-        let reads = Outside {
-            read_fails: &[call],
-            ..QUIET
-        };
-        let found = ended(alloc, row, piece, reads)?;
-        if found.status != Status::ReadFault {
+        if !read_fails(rt, alloc, row, piece, call)? {
             assert!(rt; call > 1);
             return Ok(());
         }
-        assert!(rt; found.text.is_empty(), "at {call}");
     }
     Ok(())
 }
 
-// Each take of the input fails in turn: what is written is the answer to the lines before it.
+// Whether a run fails where this take of the input does: what is written is the answer to the lines before it.
+fn take_fails(
+    rt: &impl Abort,
+    alloc: Global,
+    row: Row<'_>,
+    piece: usize,
+    call: u64,
+) -> Result<bool, Fail> {
+    let takes = Outside {
+        take_fails: &[call],
+        ..QUIET
+    };
+    let found = ended(alloc, row, piece, takes)?;
+    let fails = found.status == Status::ReadFault;
+    assert!(rt; !fails || row.text.starts_with(&found.text));
+    Ok(fails)
+}
+
+// Each take of the input fails in turn.
 fn each_take_fails(rt: &impl Abort, alloc: Global, row: Row<'_>, piece: usize) -> Result<(), Fail> {
     for call in 0..2000 {
-        let takes = Outside {
-            take_fails: &[call],
-            ..QUIET
-        };
-        let found = ended(alloc, row, piece, takes)?;
-        if found.status != Status::ReadFault {
+        if !take_fails(rt, alloc, row, piece, call)? {
             assert!(rt; row.input.is_empty() || call > 0);
             return Ok(());
         }
-        assert!(rt; row.text.starts_with(&found.text), "at {call}");
     }
     Ok(())
 }
 
-// Each write fails in turn: what is written is a front of the text, and no more than the calls before could take.
+// Whether a run fails where this write does: what is written is a front of the text, and no more than the calls before could take.
+fn write_fails(
+    rt: &impl Abort,
+    alloc: Global,
+    row: Row<'_>,
+    piece: usize,
+    call: u64,
+) -> Result<bool, Fail> {
+    let writes = Outside {
+        write_fails: &[call],
+        ..QUIET
+    };
+    let found = ended(alloc, row, piece, writes)?;
+    let fails = found.status == Status::WriteFault;
+    let most = (call as usize).saturating_mul(piece);
+    assert!(rt; !fails || is_front(&found.text, row.text, most));
+    Ok(fails)
+}
+
+// Each write fails in turn.
 fn each_write_fails(
     rt: &impl Abort,
     alloc: Global,
@@ -87,20 +130,19 @@ fn each_write_fails(
     piece: usize,
 ) -> Result<(), Fail> {
     for call in 0..2000 {
-        let writes = Outside {
-            write_fails: &[call],
-            ..QUIET
-        };
-        let found = ended(alloc, row, piece, writes)?;
-        if found.status != Status::WriteFault {
+        if !write_fails(rt, alloc, row, piece, call)? {
             assert!(rt; call > 0);
             return Ok(());
         }
-        let most = (call as usize).saturating_mul(piece);
-        assert!(rt; found.text.len() < row.text.len(), "at {call}");
-        assert!(rt; found.text.len() <= most, "at {call}");
-        assert!(rt; row.text.starts_with(&found.text), "at {call}");
     }
+    Ok(())
+}
+
+// No call fails.
+fn none_fails(rt: &impl Abort, alloc: Global, row: Row<'_>, piece: usize) -> Result<(), Fail> {
+    let found = ended(alloc, row, piece, QUIET)?;
+    assert!(rt; found.status == row.status);
+    assert!(rt; found.text.as_slice() == row.text);
     Ok(())
 }
 
@@ -111,9 +153,7 @@ fn each_call_fails(rt: &impl Abort, alloc: Global, rows: &[Row<'_>]) -> Result<(
             each_read_fails(rt, alloc, *row, piece)?;
             each_take_fails(rt, alloc, *row, piece)?;
             each_write_fails(rt, alloc, *row, piece)?;
-            let found = ended(alloc, *row, piece, QUIET)?;
-            assert!(rt; found.status == row.status);
-            assert!(rt; found.text.as_slice() == row.text);
+            none_fails(rt, alloc, *row, piece)?;
         }
     }
     Ok(())

@@ -19,6 +19,7 @@ ghost use Rattle.obs_edit.specs.Edits.{edited};
 ghost use Rattle.obs_engine.specs.Words.{form_of};
 ghost use Rattle.obs_report.specs.Counts.{verdict_word};
 ghost use Rattle.obs_engine.specs.Asks.{report_status};
+ghost use Rattle.obs_engine.specs.Stays.{AnswersAsRun, CanBeSaidAgain, RefusesAsRun};
 ghost use Rattle.obs_engine.specs.OutageReply.{outages_status};
 ghost use Rattle.obs_engine.specs.StationReply.{stations_status};
 ghost use Rattle.obs_engine.specs.Trials.{dip_meters, dips_of};
@@ -143,6 +144,18 @@ pub fn the_order_of_edits_is_forgotten()
 /// The lines of an input are those that end within it, and a last one where bytes are left.
 pub fn lines_end_or_are_last()
     ensures lines { (bytes : List ℕ) → EndedOrLast bytes }
+{}
+
+/// A session that stays between calls answers what `run` answers: the replies to its lines, as one, are the reply of `run`
+/// to the same words and files and the input of these lines. Where none begins, `run` has the same reply.
+pub fn sessions_answer_as_run()
+    ensures answers { AnswersAsRun }
+    ensures refuses { RefusesAsRun }
+{}
+
+/// A line that is said again changes nothing more, and has the same reply.
+pub fn lines_can_be_said_again()
+    ensures again { CanBeSaidAgain }
 {}
 
 /// The dips of a trial are exactly the critical meters of its case.

@@ -54,6 +54,9 @@ mod session_tests;
 mod spoilt_tests;
 mod stations;
 mod status;
+mod stays;
+#[cfg(test)]
+mod stays_tests;
 mod studies;
 #[cfg(test)]
 mod study_tests;
@@ -62,6 +65,8 @@ mod tasks;
 #[cfg(test)]
 mod tests;
 mod topology;
+#[cfg(test)]
+mod topology_tests;
 mod trial;
 #[cfg(test)]
 mod trial_tests;
@@ -76,3 +81,4 @@ mod worked;
 
 pub use program::run;
 pub use status::Status;
+pub use stays::{answer_one, begin_session};

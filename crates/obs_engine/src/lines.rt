@@ -22,8 +22,8 @@ fn print_refusal<W: Sink>(output: &mut W, why: Refusal) -> Result<(), Failed>
     print_refused(output, u64::from(why.code()), why.name())
 }
 
-// Does what a line of this content says, and answers it.
-fn answer_content<W: Sink, L: Ledger>(
+/// Does what a line of this content says, and answers it.
+pub(crate) fn answer_content<W: Sink, L: Ledger>(
     output: &mut W,
     session: &mut Session,
     line: &[u8],

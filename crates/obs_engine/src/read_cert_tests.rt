@@ -19,119 +19,109 @@ fn refused(line: u32, code: CertCode) -> Result<u32, CertEnd> {
     Err(CertEnd::Fault(CertFault { line, code }))
 }
 
+const CERTIFICATES: &[(&[u8], u32)] = &[
+    (
+        b"bound\ta\t1\t1\ninside\tmeter\tf1\ninside\tmeter\tf2\nend\n",
+        1,
+    ),
+    (PATH_PLAN, 1),
+    (b"end\n", 0),
+    (b"end", 0),
+    (b"end\r\n", 0),
+    (b"tree\ta\r\npair\tmeter\tf1\tL1\r\nend\r\n", 1),
+    (b"tree\ta\nbound\tb\t0\t0\ntree\tc\nend", 3),
+    (
+        b"cost\t007\nlayer\t0\t1\t0\t0\nlayer\t1\t2\t0\t0\ncost\t0\nend",
+        2,
+    ),
+    (b"shortfall\t2\t0\ninside\tcandidate\tp 1\nend\n", 1),
+];
+
 #[test]
 fn certificates(rt: HostRuntime) {
-    for (bytes, claims) in [
-        (
-            b"bound\ta\t1\t1\ninside\tmeter\tf1\ninside\tmeter\tf2\nend\n".as_slice(),
-            1,
-        ),
-        (PATH_PLAN, 1),
-        (b"end\n".as_slice(), 0),
-        (b"end".as_slice(), 0),
-        (b"end\r\n".as_slice(), 0),
-        (b"tree\ta\r\npair\tmeter\tf1\tL1\r\nend\r\n".as_slice(), 1),
-        (b"tree\ta\nbound\tb\t0\t0\ntree\tc\nend".as_slice(), 3),
-        (
-            b"cost\t007\nlayer\t0\t1\t0\t0\nlayer\t1\t2\t0\t0\ncost\t0\nend".as_slice(),
-            2,
-        ),
-        (
-            b"shortfall\t2\t0\ninside\tcandidate\tp 1\nend\n".as_slice(),
-            1,
-        ),
-    ] {
+    for case in CERTIFICATES {
+        let (bytes, claims) = *case;
         assert!(rt; count(rt.alloc(), bytes) == Ok(claims));
     }
 }
 
+const BAD_LINES: &[&[u8]] = &[
+    b"\n",
+    b"tree a\nend\n",
+    b"tree\t\nend\n",
+    b"tree\ta\t\nend\n",
+    b"tree\nend\n",
+    b"Tree\ta\nend\n",
+    b"end\t\n",
+    b"end\r\r\n",
+    b"cost\t00000000000000000000\nend\n",
+    b"cost\t-1\nend\n",
+    b"inside\tbranch\tL1\n",
+    b"layer\t0\t1\t2\t3\t4\n",
+    b"status\n",
+];
+
 #[test]
 fn bad_lines(rt: HostRuntime) {
-    for bytes in [
-        b"\n".as_slice(),
-        b"tree a\nend\n".as_slice(),
-        b"tree\t\nend\n".as_slice(),
-        b"tree\ta\t\nend\n".as_slice(),
-        b"tree\nend\n".as_slice(),
-        b"Tree\ta\nend\n".as_slice(),
-        b"end\t\n".as_slice(),
-        b"end\r\r\n".as_slice(),
-        b"cost\t00000000000000000000\nend\n".as_slice(),
-        b"cost\t-1\nend\n".as_slice(),
-        b"inside\tbranch\tL1\n".as_slice(),
-        b"layer\t0\t1\t2\t3\t4\n".as_slice(),
-        b"status\n".as_slice(),
-    ] {
+    for bytes in BAD_LINES {
         assert!(rt; count(rt.alloc(), bytes) == refused(1, CertCode::BadLine));
     }
 }
 
+const PLACES: &[(&[u8], u32)] = &[
+    (b"pair\tmeter\tf1\tL1\nend\n", 1),
+    (b"inside\tmeter\tf1\nend\n", 1),
+    (b"chosen\tp1\nend\n", 1),
+    (b"layer\t0\t1\t0\t0\nend\n", 1),
+    (
+        b"bound\ta\t1\t1\ninside\tmeter\tf1\npair\tmeter\tf1\tL1\nend\n",
+        3,
+    ),
+    (b"tree\ta\npair\tmeter\tf1\tL1\nlayer\t0\t1\t0\t0\nend\n", 3),
+    (b"cost\t1\npair\tmeter\tf1\tL1\nchosen\tp1\nend\n", 3),
+    (b"cost\t1\ninside\tmeter\tf1\nend\n", 2),
+    (b"tree\ta\ninside\tmeter\tf1\nend\n", 2),
+    (b"cost\t1\nlayer\t0\t1\t0\t0\npair\tmeter\tf1\tL1\n", 3),
+];
+
 #[test]
 fn places(rt: HostRuntime) {
-    for (bytes, line) in [
-        (b"pair\tmeter\tf1\tL1\nend\n".as_slice(), 1),
-        (b"inside\tmeter\tf1\nend\n".as_slice(), 1),
-        (b"chosen\tp1\nend\n".as_slice(), 1),
-        (b"layer\t0\t1\t0\t0\nend\n".as_slice(), 1),
-        (
-            b"bound\ta\t1\t1\ninside\tmeter\tf1\npair\tmeter\tf1\tL1\nend\n".as_slice(),
-            3,
-        ),
-        (
-            b"tree\ta\npair\tmeter\tf1\tL1\nlayer\t0\t1\t0\t0\nend\n".as_slice(),
-            3,
-        ),
-        (
-            b"cost\t1\npair\tmeter\tf1\tL1\nchosen\tp1\nend\n".as_slice(),
-            3,
-        ),
-        (b"cost\t1\ninside\tmeter\tf1\nend\n".as_slice(), 2),
-        (b"tree\ta\ninside\tmeter\tf1\nend\n".as_slice(), 2),
-        (
-            b"cost\t1\nlayer\t0\t1\t0\t0\npair\tmeter\tf1\tL1\n".as_slice(),
-            3,
-        ),
-    ] {
+    for case in PLACES {
+        let (bytes, line) = *case;
         assert!(rt; count(rt.alloc(), bytes) == refused(line, CertCode::OutOfPlace));
     }
 }
 
+const ENDS: &[(&[u8], u32, CertCode)] = &[
+    (b"", 0, CertCode::NoEnd),
+    (b"bound\ta\t1\t1\ninside\tmeter\tf1\n", 0, CertCode::NoEnd),
+    (b"tree\ta\nx\npair\tmeter\tf1\tL1", 2, CertCode::BadLine),
+    (b"tree\ta\nchosen\tc\nx", 2, CertCode::OutOfPlace),
+    (b"end\nend\n", 2, CertCode::AfterEnd),
+    (b"end\n\n", 2, CertCode::AfterEnd),
+    (b"end\ninside\tmeter\tf1\n", 2, CertCode::AfterEnd),
+    (b"x\nend\nend\n", 1, CertCode::BadLine),
+];
+
 #[test]
 fn ends(rt: HostRuntime) {
-    for (bytes, line, code) in [
-        (b"".as_slice(), 0, CertCode::NoEnd),
-        (
-            b"bound\ta\t1\t1\ninside\tmeter\tf1\n".as_slice(),
-            0,
-            CertCode::NoEnd,
-        ),
-        (
-            b"tree\ta\nx\npair\tmeter\tf1\tL1".as_slice(),
-            2,
-            CertCode::BadLine,
-        ),
-        (b"tree\ta\nchosen\tc\nx".as_slice(), 2, CertCode::OutOfPlace),
-        (b"end\nend\n".as_slice(), 2, CertCode::AfterEnd),
-        (b"end\n\n".as_slice(), 2, CertCode::AfterEnd),
-        (
-            b"end\ninside\tmeter\tf1\n".as_slice(),
-            2,
-            CertCode::AfterEnd,
-        ),
-        (b"x\nend\nend\n".as_slice(), 1, CertCode::BadLine),
-    ] {
+    for case in ENDS {
+        let (bytes, line, code) = *case;
         assert!(rt; count(rt.alloc(), bytes) == refused(line, code));
     }
 }
 
+const CODES: &[(CertCode, u32, &[u8])] = &[
+    (CertCode::BadLine, 1, b"BadLine"),
+    (CertCode::OutOfPlace, 2, b"OutOfPlace"),
+    (CertCode::NoEnd, 3, b"NoEnd"),
+    (CertCode::AfterEnd, 4, b"AfterEnd"),
+];
+
 #[test]
 fn faults(rt: HostRuntime) {
-    for (code, number, name) in [
-        (CertCode::BadLine, 1, b"BadLine".as_slice()),
-        (CertCode::OutOfPlace, 2, b"OutOfPlace".as_slice()),
-        (CertCode::NoEnd, 3, b"NoEnd".as_slice()),
-        (CertCode::AfterEnd, 4, b"AfterEnd".as_slice()),
-    ] {
+    for case in CODES {
+        let (code, number, name) = *case;
         assert!(rt; code.code() == number);
         assert!(rt; code as u32 == number);
         assert!(rt; code.name() == name);

@@ -80,7 +80,7 @@ pub(crate) fn ended_in(
 }
 
 // It ends so.
-pub(crate) fn answers_so(
+fn answers_so(
     rt: &impl Abort,
     alloc: Global,
     tables: Tables<'_>,
@@ -91,6 +91,19 @@ pub(crate) fn answers_so(
     let found = ended(alloc, tables, ask)?;
     assert!(rt; found.status == status);
     assert!(rt; found.text.as_slice() == text);
+    Ok(())
+}
+
+// Each of these ends so.
+pub(crate) fn all_answer_so(
+    rt: &impl Abort,
+    alloc: Global,
+    cases: &[(Tables<'_>, Ask<'_>, Status, &[u8])],
+) -> Result<(), Fail> {
+    for case in cases {
+        let (tables, ask, status, text) = *case;
+        answers_so(rt, alloc, tables, ask, status, text)?;
+    }
     Ok(())
 }
 

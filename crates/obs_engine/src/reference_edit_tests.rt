@@ -2,7 +2,7 @@
 // case answers as a session that begins with it.
 
 use crate::Status;
-use crate::reference_cases::{Ask, NO_BRANCHES, Tables, answers_anew, answers_so, certifies};
+use crate::reference_cases::{Ask, NO_BRANCHES, Tables, all_answer_so, answers_anew, certifies};
 use crate::worked::{NO_CANDIDATES, NO_METERS, NO_SWITCHES};
 use std::test::Fail;
 
@@ -51,49 +51,48 @@ const DEAD_AND_PLAIN: Tables<'static> = Tables {
     candidates: CANDIDATES,
 };
 
+const EDITS: &[(Tables<'static>, Ask<'static>, Status, &[u8])] = &[
+    (
+        SWITCHED,
+        Ask::Session(b"close S1\ntree\n"),
+        Status::Done,
+        b"ok\t1\t1\ntree\ta\npair\tmeter\tg1\tangle\nend\n",
+    ),
+    (
+        SWITCHED,
+        Ask::Session(b"status\nclose S1\ncritical\nopen S1\ncert\nlose g2\nregain g2\n"),
+        Status::Done,
+        b"count\tbuses\t2\ncount\tenergised\t2\ncount\tbranches\t0\ncount\tmeters\t2\ncount\tneeded\t2\ncount\trank\t2\nverdict\tobservable\nend\nok\t1\t1\nend\nok\t2\t2\ntree\ta\npair\tmeter\tg1\tangle\ntree\tb\npair\tmeter\tg2\tangle\nend\nok\t1\t2\nok\t2\t2\n",
+    ),
+    (
+        THREE,
+        Ask::Session(b"close S1\ntree\nopen S1\ntree\nlose g3\nbound\nregain g3\n"),
+        Status::Done,
+        b"ok\t2\t2\ntree\ta\npair\tmeter\tg1\tangle\ntree\tc\npair\tmeter\tg3\tangle\nend\nok\t3\t3\ntree\ta\npair\tmeter\tg1\tangle\ntree\tb\npair\tmeter\tg2\tangle\ntree\tc\npair\tmeter\tg3\tangle\nend\nok\t2\t3\nbound\tc\t0\t0\nend\nok\t3\t3\n",
+    ),
+    (
+        TWO,
+        Ask::Session(b"restore L1\ntree\nislands\ntrip L1\ntree\n"),
+        Status::Done,
+        b"ok\t2\t2\ntree\ta\npair\tmeter\tg1\tangle\npair\tmeter\tg2\tangle\nend\nisland\ta\ta\nisland\ta\tb\nend\nok\t2\t2\ntree\ta\npair\tmeter\tg1\tangle\ntree\tb\npair\tmeter\tg2\tangle\nend\n",
+    ),
+    (
+        MARKED_AND_PLAIN,
+        Ask::Session(b"status\nrestore L1\nstatus\n"),
+        Status::Done,
+        b"count\tbuses\t2\ncount\tenergised\t2\ncount\tbranches\t0\ncount\tmeters\t1\ncount\tneeded\t1\ncount\trank\t1\nverdict\tobservable\nend\nok\t2\t2\ncount\tbuses\t2\ncount\tenergised\t2\ncount\tbranches\t1\ncount\tmeters\t2\ncount\tneeded\t2\ncount\trank\t2\nverdict\tobservable\nend\n",
+    ),
+    (
+        DEAD_AND_PLAIN,
+        Ask::Session(b"status\nrestore L1\ntree\ntrip L1\nstatus\n"),
+        Status::Done,
+        b"count\tbuses\t2\ncount\tenergised\t1\ncount\tbranches\t0\ncount\tmeters\t0\ncount\tneeded\t0\ncount\trank\t0\nverdict\tobservable\nend\nok\t2\t2\ntree\ta\npair\tmeter\tg1\tangle\npair\tmeter\tg2\tangle\nend\nok\t0\t0\ncount\tbuses\t2\ncount\tenergised\t1\ncount\tbranches\t0\ncount\tmeters\t0\ncount\tneeded\t0\ncount\trank\t0\nverdict\tobservable\nend\n",
+    ),
+];
+
 #[test]
 fn edits_merge_reference_vertices(rt: HostRuntime) -> Result<(), Fail> {
-    for (tables, ask, status, text) in [
-        (
-            SWITCHED,
-            Ask::Session(b"close S1\ntree\n"),
-            Status::Done,
-            b"ok\t1\t1\ntree\ta\npair\tmeter\tg1\tangle\nend\n".as_slice(),
-        ),
-        (
-            SWITCHED,
-            Ask::Session(b"status\nclose S1\ncritical\nopen S1\ncert\nlose g2\nregain g2\n"),
-            Status::Done,
-            b"count\tbuses\t2\ncount\tenergised\t2\ncount\tbranches\t0\ncount\tmeters\t2\ncount\tneeded\t2\ncount\trank\t2\nverdict\tobservable\nend\nok\t1\t1\nend\nok\t2\t2\ntree\ta\npair\tmeter\tg1\tangle\ntree\tb\npair\tmeter\tg2\tangle\nend\nok\t1\t2\nok\t2\t2\n",
-        ),
-        (
-            THREE,
-            Ask::Session(b"close S1\ntree\nopen S1\ntree\nlose g3\nbound\nregain g3\n"),
-            Status::Done,
-            b"ok\t2\t2\ntree\ta\npair\tmeter\tg1\tangle\ntree\tc\npair\tmeter\tg3\tangle\nend\nok\t3\t3\ntree\ta\npair\tmeter\tg1\tangle\ntree\tb\npair\tmeter\tg2\tangle\ntree\tc\npair\tmeter\tg3\tangle\nend\nok\t2\t3\nbound\tc\t0\t0\nend\nok\t3\t3\n",
-        ),
-        (
-            TWO,
-            Ask::Session(b"restore L1\ntree\nislands\ntrip L1\ntree\n"),
-            Status::Done,
-            b"ok\t2\t2\ntree\ta\npair\tmeter\tg1\tangle\npair\tmeter\tg2\tangle\nend\nisland\ta\ta\nisland\ta\tb\nend\nok\t2\t2\ntree\ta\npair\tmeter\tg1\tangle\ntree\tb\npair\tmeter\tg2\tangle\nend\n",
-        ),
-        (
-            MARKED_AND_PLAIN,
-            Ask::Session(b"status\nrestore L1\nstatus\n"),
-            Status::Done,
-            b"count\tbuses\t2\ncount\tenergised\t2\ncount\tbranches\t0\ncount\tmeters\t1\ncount\tneeded\t1\ncount\trank\t1\nverdict\tobservable\nend\nok\t2\t2\ncount\tbuses\t2\ncount\tenergised\t2\ncount\tbranches\t1\ncount\tmeters\t2\ncount\tneeded\t2\ncount\trank\t2\nverdict\tobservable\nend\n",
-        ),
-        (
-            DEAD_AND_PLAIN,
-            Ask::Session(b"status\nrestore L1\ntree\ntrip L1\nstatus\n"),
-            Status::Done,
-            b"count\tbuses\t2\ncount\tenergised\t1\ncount\tbranches\t0\ncount\tmeters\t0\ncount\tneeded\t0\ncount\trank\t0\nverdict\tobservable\nend\nok\t2\t2\ntree\ta\npair\tmeter\tg1\tangle\npair\tmeter\tg2\tangle\nend\nok\t0\t0\ncount\tbuses\t2\ncount\tenergised\t1\ncount\tbranches\t0\ncount\tmeters\t0\ncount\tneeded\t0\ncount\trank\t0\nverdict\tobservable\nend\n",
-        ),
-    ] {
-        answers_so(&rt, rt.alloc(), tables, ask, status, text)?;
-    }
-    Ok(())
+    all_answer_so(&rt, rt.alloc(), EDITS)
 }
 
 // The switches of these with the one closed.
@@ -106,86 +105,91 @@ const RESTORED: &[u8] = b"branch,from,to,inservice\nL1,a,b,1\n";
 const CANDIDATES: &[u8] =
     b"candidate,kind,at,price\nc1,angle,a,2\nc2,flow,L1,1\nc3,angle,b,1\nc4,injection,b,4\n";
 
+const PRESENT: &[(Tables<'static>, &[u8], Tables<'static>)] = &[
+    (
+        SWITCHED,
+        b"close S1\n",
+        Tables {
+            switches: CLOSED,
+            ..SWITCHED
+        },
+    ),
+    (SWITCHED, b"close S1\nopen S1\n", SWITCHED),
+    (
+        THREE,
+        b"close S1\n",
+        Tables {
+            switches: CLOSED,
+            ..THREE
+        },
+    ),
+    (THREE, b"lose g2\nclose S1\nregain g2\nopen S1\n", THREE),
+    (
+        TWO,
+        b"restore L1\n",
+        Tables {
+            branches: RESTORED,
+            ..TWO
+        },
+    ),
+    (TWO, b"restore L1\nlose g1\ntrip L1\nregain g1\n", TWO),
+    (
+        MARKED_AND_PLAIN,
+        b"restore L1\n",
+        Tables {
+            branches: RESTORED,
+            ..MARKED_AND_PLAIN
+        },
+    ),
+    (MARKED_AND_PLAIN, b"restore L1\ntrip L1\n", MARKED_AND_PLAIN),
+    (
+        DEAD_AND_PLAIN,
+        b"restore L1\n",
+        Tables {
+            branches: RESTORED,
+            ..DEAD_AND_PLAIN
+        },
+    ),
+    (
+        DEAD_AND_PLAIN,
+        b"lose g2\nrestore L1\nregain g2\ntrip L1\n",
+        DEAD_AND_PLAIN,
+    ),
+];
+
 #[test]
 fn present_cases_are_answered_as_at_first(rt: HostRuntime) -> Result<(), Fail> {
-    for (tables, edits, now) in [
-        (
-            SWITCHED,
-            b"close S1\n".as_slice(),
-            Tables {
-                switches: CLOSED,
-                ..SWITCHED
-            },
-        ),
-        (SWITCHED, b"close S1\nopen S1\n", SWITCHED),
-        (
-            THREE,
-            b"close S1\n",
-            Tables {
-                switches: CLOSED,
-                ..THREE
-            },
-        ),
-        (THREE, b"lose g2\nclose S1\nregain g2\nopen S1\n", THREE),
-        (
-            TWO,
-            b"restore L1\n",
-            Tables {
-                branches: RESTORED,
-                ..TWO
-            },
-        ),
-        (TWO, b"restore L1\nlose g1\ntrip L1\nregain g1\n", TWO),
-        (
-            MARKED_AND_PLAIN,
-            b"restore L1\n",
-            Tables {
-                branches: RESTORED,
-                ..MARKED_AND_PLAIN
-            },
-        ),
-        (MARKED_AND_PLAIN, b"restore L1\ntrip L1\n", MARKED_AND_PLAIN),
-        (
-            DEAD_AND_PLAIN,
-            b"restore L1\n",
-            Tables {
-                branches: RESTORED,
-                ..DEAD_AND_PLAIN
-            },
-        ),
-        (
-            DEAD_AND_PLAIN,
-            b"lose g2\nrestore L1\nregain g2\ntrip L1\n",
-            DEAD_AND_PLAIN,
-        ),
-    ] {
+    for case in PRESENT {
+        let (tables, edits, now) = *case;
         answers_anew(&rt, rt.alloc(), tables, edits, now)?;
     }
     Ok(())
 }
 
+const PRINTED: &[Tables<'static>] = &[
+    SWITCHED,
+    THREE,
+    MARKED_AND_PLAIN,
+    DEAD_AND_PLAIN,
+    Tables {
+        branches: RESTORED,
+        ..TWO
+    },
+    Tables {
+        branches: RESTORED,
+        ..DEAD_AND_PLAIN
+    },
+    Tables {
+        meters: NO_METERS,
+        branches: RESTORED,
+        ..TWO
+    },
+];
+
 #[test]
 fn printed_certificates_hold(rt: HostRuntime) -> Result<(), Fail> {
-    for tables in [
-        SWITCHED,
-        THREE,
-        MARKED_AND_PLAIN,
-        DEAD_AND_PLAIN,
-        Tables {
-            branches: RESTORED,
-            ..TWO
-        },
-        Tables {
-            branches: RESTORED,
-            ..DEAD_AND_PLAIN
-        },
-        Tables {
-            meters: NO_METERS,
-            branches: RESTORED,
-            ..TWO
-        },
-    ] {
-        certifies(&rt, rt.alloc(), tables)?;
+    for tables in PRINTED {
+        certifies(&rt, rt.alloc(), *tables)?;
     }
     Ok(())
 }

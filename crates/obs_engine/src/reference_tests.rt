@@ -1,7 +1,7 @@
 // Reference vertices and angle branches: worked cases, with the answers that the definitions give.
 
 use crate::Status;
-use crate::reference_cases::{Ask, NO_BRANCHES, Tables, answers_so};
+use crate::reference_cases::{Ask, NO_BRANCHES, Tables, all_answer_so};
 use crate::worked::{NO_CANDIDATES, NO_METERS, NO_SWITCHES};
 use std::test::Fail;
 
@@ -32,109 +32,108 @@ const NAMED_ANGLE: Tables<'static> = Tables {
     candidates: NO_CANDIDATES,
 };
 
-#[test]
-fn an_angle_meter_completes_a_tree(rt: HostRuntime) -> Result<(), Fail> {
-    for (tables, ask, status, text) in [
-        (
-            FLOW_AND_ANGLE,
-            Ask::Report,
-            Status::Done,
-            b"count\tbuses\t2\ncount\tenergised\t2\ncount\tbranches\t1\ncount\tmeters\t2\ncount\tneeded\t2\ncount\trank\t2\nverdict\tobservable\ntree\ta\npair\tmeter\tf1\tL1\npair\tmeter\tg1\tangle\nisland\ta\ta\nisland\ta\tb\ncritical\tf1\ncritical\tg1\nend\n".as_slice(),
+const TREES: &[(Tables<'static>, Ask<'static>, Status, &[u8])] = &[
+    (
+        FLOW_AND_ANGLE,
+        Ask::Report,
+        Status::Done,
+        b"count\tbuses\t2\ncount\tenergised\t2\ncount\tbranches\t1\ncount\tmeters\t2\ncount\tneeded\t2\ncount\trank\t2\nverdict\tobservable\ntree\ta\npair\tmeter\tf1\tL1\npair\tmeter\tg1\tangle\nisland\ta\ta\nisland\ta\tb\ncritical\tf1\ncritical\tg1\nend\n",
+    ),
+    (
+        FLOW_AND_ANGLE,
+        Ask::Verify(b"tree\ta\npair\tmeter\tf1\tL1\npair\tmeter\tg1\tangle\nend\n"),
+        Status::Done,
+        b"valid\t1\n",
+    ),
+    (
+        FLOW_AND_ANGLE,
+        Ask::Verify(b"tree\ta\npair\tmeter\tf1\tL1\npair\tmeter\tg1\tL1\nend\n"),
+        Status::Short,
+        b"flaw\t1\t1\tUnknownName\n",
+    ),
+    (
+        FLOW_AND_ANGLE,
+        Ask::Verify(b"tree\ta\npair\tmeter\tf1\tangle\npair\tmeter\tg1\tangle\nend\n"),
+        Status::Short,
+        b"flaw\t1\t1\tUnknownName\n",
+    ),
+    (
+        FLOW_AND_ANGLE,
+        Ask::Verify(b"tree\ta\npair\tmeter\tf1\tL1\nend\n"),
+        Status::Short,
+        b"flaw\t1\t7\tWrongLength\n",
+    ),
+    (
+        FLOW_AND_ANGLE,
+        Ask::Verify(
+            b"tree\ta\npair\tmeter\tf1\tL1\npair\tmeter\tg1\tangle\npair\tmeter\tg1\tangle\nend\n",
         ),
-        (
-            FLOW_AND_ANGLE,
-            Ask::Verify(b"tree\ta\npair\tmeter\tf1\tL1\npair\tmeter\tg1\tangle\nend\n"),
-            Status::Done,
-            b"valid\t1\n",
-        ),
-        (
-            FLOW_AND_ANGLE,
-            Ask::Verify(b"tree\ta\npair\tmeter\tf1\tL1\npair\tmeter\tg1\tL1\nend\n"),
-            Status::Short,
-            b"flaw\t1\t1\tUnknownName\n",
-        ),
-        (
-            FLOW_AND_ANGLE,
-            Ask::Verify(b"tree\ta\npair\tmeter\tf1\tangle\npair\tmeter\tg1\tangle\nend\n"),
-            Status::Short,
-            b"flaw\t1\t1\tUnknownName\n",
-        ),
-        (
-            FLOW_AND_ANGLE,
-            Ask::Verify(b"tree\ta\npair\tmeter\tf1\tL1\nend\n"),
-            Status::Short,
-            b"flaw\t1\t7\tWrongLength\n",
-        ),
-        (
-            FLOW_AND_ANGLE,
-            Ask::Verify(
-                b"tree\ta\npair\tmeter\tf1\tL1\npair\tmeter\tg1\tangle\npair\tmeter\tg1\tangle\nend\n",
-            ),
-            Status::Short,
-            b"flaw\t1\t5\tTwice\n",
-        ),
-        (
-            FLOW_AND_ANGLE,
-            Ask::Verify(b"bound\ta\t1\t1\ninside\tmeter\tf1\nend\n"),
-            Status::Short,
-            b"flaw\t1\t10\tNotBelow\n",
-        ),
-        (
-            FLOW_ALONE,
-            Ask::Report,
-            Status::Short,
-            b"count\tbuses\t2\ncount\tenergised\t2\ncount\tbranches\t1\ncount\tmeters\t1\ncount\tneeded\t2\ncount\trank\t1\nverdict\tshort\nbound\ta\t0\t1\nisland\ta\ta\nisland\ta\tb\ncritical\tf1\nend\n",
-        ),
-        (
-            FLOW_ALONE,
-            Ask::Place,
-            Status::Done,
+        Status::Short,
+        b"flaw\t1\t5\tTwice\n",
+    ),
+    (
+        FLOW_AND_ANGLE,
+        Ask::Verify(b"bound\ta\t1\t1\ninside\tmeter\tf1\nend\n"),
+        Status::Short,
+        b"flaw\t1\t10\tNotBelow\n",
+    ),
+    (
+        FLOW_ALONE,
+        Ask::Report,
+        Status::Short,
+        b"count\tbuses\t2\ncount\tenergised\t2\ncount\tbranches\t1\ncount\tmeters\t1\ncount\tneeded\t2\ncount\trank\t1\nverdict\tshort\nbound\ta\t0\t1\nisland\ta\ta\nisland\ta\tb\ncritical\tf1\nend\n",
+    ),
+    (
+        FLOW_ALONE,
+        Ask::Place,
+        Status::Done,
+        b"cost\t4\nchosen\tc2\npair\tmeter\tf1\tL1\npair\tcandidate\tc2\tangle\nlayer\t0\t4\t0\t1\nend\n",
+    ),
+    (
+        FLOW_ALONE,
+        Ask::Verify(b"bound\ta\t0\t1\nend\n"),
+        Status::Done,
+        b"valid\t1\n",
+    ),
+    (
+        FLOW_ALONE,
+        Ask::VerifyWith(
             b"cost\t4\nchosen\tc2\npair\tmeter\tf1\tL1\npair\tcandidate\tc2\tangle\nlayer\t0\t4\t0\t1\nend\n",
         ),
-        (
-            FLOW_ALONE,
-            Ask::Verify(b"bound\ta\t0\t1\nend\n"),
-            Status::Done,
-            b"valid\t1\n",
+        Status::Done,
+        b"valid\t1\n",
+    ),
+    (
+        FLOW_ALONE,
+        Ask::VerifyWith(
+            b"cost\t7\nchosen\tc1\npair\tmeter\tf1\tL1\npair\tcandidate\tc1\tangle\nlayer\t0\t7\t0\t1\nend\n",
         ),
-        (
-            FLOW_ALONE,
-            Ask::VerifyWith(
-                b"cost\t4\nchosen\tc2\npair\tmeter\tf1\tL1\npair\tcandidate\tc2\tangle\nlayer\t0\t4\t0\t1\nend\n",
-            ),
-            Status::Done,
-            b"valid\t1\n",
-        ),
-        (
-            FLOW_ALONE,
-            Ask::VerifyWith(
-                b"cost\t7\nchosen\tc1\npair\tmeter\tf1\tL1\npair\tcandidate\tc1\tangle\nlayer\t0\t7\t0\t1\nend\n",
-            ),
-            Status::Short,
-            b"flaw\t1\t9\tWrongOutside\n",
-        ),
-        (
-            FLOW_ALONE,
-            Ask::VerifyWith(b"tree\ta\npair\tmeter\tf1\tL1\npair\tcandidate\tc2\tangle\nend\n"),
-            Status::Short,
-            b"flaw\t1\t3\tNotInside\n",
-        ),
-        (
-            NAMED_ANGLE,
-            Ask::Session(b"tree\n"),
-            Status::Done,
-            b"tree\ta\npair\tmeter\tf1\tangle\npair\tmeter\tg1\tangle\nend\n",
-        ),
-        (
-            NAMED_ANGLE,
-            Ask::Verify(b"tree\ta\npair\tmeter\tf1\tangle\npair\tmeter\tg1\tangle\nend\n"),
-            Status::Done,
-            b"valid\t1\n",
-        ),
-    ] {
-        answers_so(&rt, rt.alloc(), tables, ask, status, text)?;
-    }
-    Ok(())
+        Status::Short,
+        b"flaw\t1\t9\tWrongOutside\n",
+    ),
+    (
+        FLOW_ALONE,
+        Ask::VerifyWith(b"tree\ta\npair\tmeter\tf1\tL1\npair\tcandidate\tc2\tangle\nend\n"),
+        Status::Short,
+        b"flaw\t1\t3\tNotInside\n",
+    ),
+    (
+        NAMED_ANGLE,
+        Ask::Session(b"tree\n"),
+        Status::Done,
+        b"tree\ta\npair\tmeter\tf1\tangle\npair\tmeter\tg1\tangle\nend\n",
+    ),
+    (
+        NAMED_ANGLE,
+        Ask::Verify(b"tree\ta\npair\tmeter\tf1\tangle\npair\tmeter\tg1\tangle\nend\n"),
+        Status::Done,
+        b"valid\t1\n",
+    ),
+];
+
+#[test]
+fn an_angle_meter_completes_a_tree(rt: HostRuntime) -> Result<(), Fail> {
+    all_answer_so(&rt, rt.alloc(), TREES)
 }
 
 // A marked bus alone.
@@ -200,56 +199,55 @@ const LAST_BUS: Tables<'static> = Tables {
     candidates: NO_CANDIDATES,
 };
 
+const MARKED: &[(Tables<'static>, Ask<'static>, Status, &[u8])] = &[
+    (
+        COLUMN_FIRST,
+        Ask::Report,
+        Status::Short,
+        b"count\tbuses\t1\ncount\tenergised\t1\ncount\tbranches\t0\ncount\tmeters\t0\ncount\tneeded\t1\ncount\trank\t0\nverdict\tshort\nbound\ta\t0\t0\nisland\ta\ta\nend\n",
+    ),
+    (
+        COLUMN_QUOTED,
+        Ask::Report,
+        Status::Done,
+        b"count\tbuses\t2\ncount\tenergised\t1\ncount\tbranches\t0\ncount\tmeters\t0\ncount\tneeded\t0\ncount\trank\t0\nverdict\tobservable\ntree\tb\nisland\tb\tb\nend\n",
+    ),
+    (
+        DEAD,
+        Ask::Report,
+        Status::Done,
+        b"count\tbuses\t2\ncount\tenergised\t1\ncount\tbranches\t0\ncount\tmeters\t0\ncount\tneeded\t0\ncount\trank\t0\nverdict\tobservable\ntree\ta\nisland\ta\ta\nend\n",
+    ),
+    (
+        ALONE,
+        Ask::Report,
+        Status::Done,
+        b"count\tbuses\t1\ncount\tenergised\t1\ncount\tbranches\t0\ncount\tmeters\t1\ncount\tneeded\t1\ncount\trank\t1\nverdict\tobservable\ntree\ta\npair\tmeter\tg1\tangle\nisland\ta\ta\ncritical\tg1\nend\n",
+    ),
+    (
+        OUT_OF_SERVICE,
+        Ask::Report,
+        Status::Short,
+        b"count\tbuses\t1\ncount\tenergised\t1\ncount\tbranches\t0\ncount\tmeters\t0\ncount\tneeded\t1\ncount\trank\t0\nverdict\tshort\nbound\ta\t0\t0\nisland\ta\ta\nend\n",
+    ),
+    (
+        SECOND_NODE,
+        Ask::Report,
+        Status::Done,
+        b"count\tbuses\t1\ncount\tenergised\t1\ncount\tbranches\t0\ncount\tmeters\t1\ncount\tneeded\t1\ncount\trank\t1\nverdict\tobservable\ntree\ta\npair\tmeter\tg1\tangle\nisland\ta\ta\ncritical\tg1\nend\n",
+    ),
+    (
+        LAST_BUS,
+        Ask::Report,
+        Status::Short,
+        b"count\tbuses\t3\ncount\tenergised\t3\ncount\tbranches\t2\ncount\tmeters\t2\ncount\tneeded\t3\ncount\trank\t2\nverdict\tshort\nbound\ta\t0\t2\nisland\ta\ta\nisland\ta\tb\nisland\ta\tc\ncritical\tf1\ncritical\tf2\nend\n",
+    ),
+];
+
 // Whichever node of whichever bus has the mark, it counts for the component, where that has a source.
 #[test]
 fn marked_components_need_one_more(rt: HostRuntime) -> Result<(), Fail> {
-    for (tables, ask, status, text) in [
-        (
-            COLUMN_FIRST,
-            Ask::Report,
-            Status::Short,
-            b"count\tbuses\t1\ncount\tenergised\t1\ncount\tbranches\t0\ncount\tmeters\t0\ncount\tneeded\t1\ncount\trank\t0\nverdict\tshort\nbound\ta\t0\t0\nisland\ta\ta\nend\n".as_slice(),
-        ),
-        (
-            COLUMN_QUOTED,
-            Ask::Report,
-            Status::Done,
-            b"count\tbuses\t2\ncount\tenergised\t1\ncount\tbranches\t0\ncount\tmeters\t0\ncount\tneeded\t0\ncount\trank\t0\nverdict\tobservable\ntree\tb\nisland\tb\tb\nend\n",
-        ),
-        (
-            DEAD,
-            Ask::Report,
-            Status::Done,
-            b"count\tbuses\t2\ncount\tenergised\t1\ncount\tbranches\t0\ncount\tmeters\t0\ncount\tneeded\t0\ncount\trank\t0\nverdict\tobservable\ntree\ta\nisland\ta\ta\nend\n",
-        ),
-        (
-            ALONE,
-            Ask::Report,
-            Status::Done,
-            b"count\tbuses\t1\ncount\tenergised\t1\ncount\tbranches\t0\ncount\tmeters\t1\ncount\tneeded\t1\ncount\trank\t1\nverdict\tobservable\ntree\ta\npair\tmeter\tg1\tangle\nisland\ta\ta\ncritical\tg1\nend\n",
-        ),
-        (
-            OUT_OF_SERVICE,
-            Ask::Report,
-            Status::Short,
-            b"count\tbuses\t1\ncount\tenergised\t1\ncount\tbranches\t0\ncount\tmeters\t0\ncount\tneeded\t1\ncount\trank\t0\nverdict\tshort\nbound\ta\t0\t0\nisland\ta\ta\nend\n",
-        ),
-        (
-            SECOND_NODE,
-            Ask::Report,
-            Status::Done,
-            b"count\tbuses\t1\ncount\tenergised\t1\ncount\tbranches\t0\ncount\tmeters\t1\ncount\tneeded\t1\ncount\trank\t1\nverdict\tobservable\ntree\ta\npair\tmeter\tg1\tangle\nisland\ta\ta\ncritical\tg1\nend\n",
-        ),
-        (
-            LAST_BUS,
-            Ask::Report,
-            Status::Short,
-            b"count\tbuses\t3\ncount\tenergised\t3\ncount\tbranches\t2\ncount\tmeters\t2\ncount\tneeded\t3\ncount\trank\t2\nverdict\tshort\nbound\ta\t0\t2\nisland\ta\ta\nisland\ta\tb\nisland\ta\tc\ncritical\tf1\ncritical\tf2\nend\n",
-        ),
-    ] {
-        answers_so(&rt, rt.alloc(), tables, ask, status, text)?;
-    }
-    Ok(())
+    all_answer_so(&rt, rt.alloc(), MARKED)
 }
 
 // Two injections and an angle meter at one bus.
@@ -324,71 +322,70 @@ const NOT_ENOUGH: Tables<'static> = Tables {
     candidates: b"candidate,kind,at,price\nc1,angle,a,1\nc2,angle,a,2\n",
 };
 
+const MEASURED: &[(Tables<'static>, Ask<'static>, Status, &[u8])] = &[
+    (
+        INJECTIONS,
+        Ask::Report,
+        Status::Done,
+        b"count\tbuses\t2\ncount\tenergised\t2\ncount\tbranches\t1\ncount\tmeters\t3\ncount\tneeded\t2\ncount\trank\t2\nverdict\tobservable\ntree\ta\npair\tmeter\ti1\tL1\npair\tmeter\tg1\tangle\nisland\ta\ta\nisland\ta\tb\ncritical\tg1\nend\n",
+    ),
+    (
+        FAR_APART,
+        Ask::Report,
+        Status::Short,
+        b"count\tbuses\t3\ncount\tenergised\t3\ncount\tbranches\t2\ncount\tmeters\t2\ncount\tneeded\t3\ncount\trank\t2\nverdict\tshort\nbound\ta\t0\t2\nisland\ta\ta\nisland\tb\tb\nisland\ta\tc\ncritical\tg1\ncritical\tg2\nend\n",
+    ),
+    (
+        UNMEASURED,
+        Ask::Report,
+        Status::Short,
+        b"count\tbuses\t2\ncount\tenergised\t2\ncount\tbranches\t1\ncount\tmeters\t1\ncount\tneeded\t2\ncount\trank\t1\nverdict\tshort\nbound\ta\t0\t1\nisland\ta\ta\nisland\tb\tb\ncritical\tg1\nend\n",
+    ),
+    (
+        OFFERED,
+        Ask::Report,
+        Status::Short,
+        b"count\tbuses\t2\ncount\tenergised\t2\ncount\tbranches\t1\ncount\tmeters\t1\ncount\tneeded\t2\ncount\trank\t1\nverdict\tshort\nbound\ta\t0\t1\nisland\ta\ta\nisland\ta\tb\ncritical\ti1\nend\n",
+    ),
+    (
+        OFFERED,
+        Ask::Place,
+        Status::Done,
+        b"cost\t3\nchosen\tc1\npair\tmeter\ti1\tL1\npair\tcandidate\tc1\tangle\nlayer\t0\t3\t0\t1\nend\n",
+    ),
+    (
+        AT_ONE_BUS,
+        Ask::Session(b"critical\ntree\nlose g1\ncritical\n"),
+        Status::Done,
+        b"critical\tf1\nend\ntree\ta\npair\tmeter\tg1\tangle\npair\tmeter\tf1\tL1\nend\nok\t2\t2\ncritical\tg2\ncritical\tf1\nend\n",
+    ),
+    (
+        AT_ONE_BUS,
+        Ask::Verify(b"tree\ta\npair\tmeter\tg1\tangle\npair\tmeter\tg2\tangle\nend\n"),
+        Status::Short,
+        b"flaw\t1\t6\tCycle\n",
+    ),
+    (
+        JOINED,
+        Ask::Session(b"critical\ntree\n"),
+        Status::Done,
+        b"end\ntree\ta\npair\tmeter\tf1\tL1\npair\tmeter\tg1\tangle\nend\n",
+    ),
+    (
+        BEHIND_METERS,
+        Ask::Place,
+        Status::Done,
+        b"cost\t11\nchosen\tc2\nchosen\tc3\npair\tcandidate\tc2\tL1\npair\tcandidate\tc3\tangle\nlayer\t0\t5\t0\t0\nlayer\t5\t6\t0\t1\nend\n",
+    ),
+    (
+        NOT_ENOUGH,
+        Ask::Place,
+        Status::Short,
+        b"shortfall\t1\t0\ninside\tcandidate\tc1\ninside\tcandidate\tc2\nend\n",
+    ),
+];
+
 #[test]
 fn angle_meters_measure_against_the_reference(rt: HostRuntime) -> Result<(), Fail> {
-    for (tables, ask, status, text) in [
-        (
-            INJECTIONS,
-            Ask::Report,
-            Status::Done,
-            b"count\tbuses\t2\ncount\tenergised\t2\ncount\tbranches\t1\ncount\tmeters\t3\ncount\tneeded\t2\ncount\trank\t2\nverdict\tobservable\ntree\ta\npair\tmeter\ti1\tL1\npair\tmeter\tg1\tangle\nisland\ta\ta\nisland\ta\tb\ncritical\tg1\nend\n".as_slice(),
-        ),
-        (
-            FAR_APART,
-            Ask::Report,
-            Status::Short,
-            b"count\tbuses\t3\ncount\tenergised\t3\ncount\tbranches\t2\ncount\tmeters\t2\ncount\tneeded\t3\ncount\trank\t2\nverdict\tshort\nbound\ta\t0\t2\nisland\ta\ta\nisland\tb\tb\nisland\ta\tc\ncritical\tg1\ncritical\tg2\nend\n",
-        ),
-        (
-            UNMEASURED,
-            Ask::Report,
-            Status::Short,
-            b"count\tbuses\t2\ncount\tenergised\t2\ncount\tbranches\t1\ncount\tmeters\t1\ncount\tneeded\t2\ncount\trank\t1\nverdict\tshort\nbound\ta\t0\t1\nisland\ta\ta\nisland\tb\tb\ncritical\tg1\nend\n",
-        ),
-        (
-            OFFERED,
-            Ask::Report,
-            Status::Short,
-            b"count\tbuses\t2\ncount\tenergised\t2\ncount\tbranches\t1\ncount\tmeters\t1\ncount\tneeded\t2\ncount\trank\t1\nverdict\tshort\nbound\ta\t0\t1\nisland\ta\ta\nisland\ta\tb\ncritical\ti1\nend\n",
-        ),
-        (
-            OFFERED,
-            Ask::Place,
-            Status::Done,
-            b"cost\t3\nchosen\tc1\npair\tmeter\ti1\tL1\npair\tcandidate\tc1\tangle\nlayer\t0\t3\t0\t1\nend\n",
-        ),
-        (
-            AT_ONE_BUS,
-            Ask::Session(b"critical\ntree\nlose g1\ncritical\n"),
-            Status::Done,
-            b"critical\tf1\nend\ntree\ta\npair\tmeter\tg1\tangle\npair\tmeter\tf1\tL1\nend\nok\t2\t2\ncritical\tg2\ncritical\tf1\nend\n",
-        ),
-        (
-            AT_ONE_BUS,
-            Ask::Verify(b"tree\ta\npair\tmeter\tg1\tangle\npair\tmeter\tg2\tangle\nend\n"),
-            Status::Short,
-            b"flaw\t1\t6\tCycle\n",
-        ),
-        (
-            JOINED,
-            Ask::Session(b"critical\ntree\n"),
-            Status::Done,
-            b"end\ntree\ta\npair\tmeter\tf1\tL1\npair\tmeter\tg1\tangle\nend\n",
-        ),
-        (
-            BEHIND_METERS,
-            Ask::Place,
-            Status::Done,
-            b"cost\t11\nchosen\tc2\nchosen\tc3\npair\tcandidate\tc2\tL1\npair\tcandidate\tc3\tangle\nlayer\t0\t5\t0\t0\nlayer\t5\t6\t0\t1\nend\n",
-        ),
-        (
-            NOT_ENOUGH,
-            Ask::Place,
-            Status::Short,
-            b"shortfall\t1\t0\ninside\tcandidate\tc1\ninside\tcandidate\tc2\nend\n",
-        ),
-    ] {
-        answers_so(&rt, rt.alloc(), tables, ask, status, text)?;
-    }
-    Ok(())
+    all_answer_so(&rt, rt.alloc(), MEASURED)
 }

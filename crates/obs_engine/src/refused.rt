@@ -48,6 +48,7 @@ pub(crate) fn refuse_files<W: Sink>(output: &mut W, why: CaseError) -> Status
         ⊎ (result ≡ Status.WriteFault) ⊎ (result ≡ Status.NoMemory) }
     ensures read { result ≡ Status.ReadFault → why ≡ CaseError.Read }
     ensures unanswered { why ≡ CaseError.Read → result ≡ Status.ReadFault }
+    ensures starved { why ≡ CaseError.NoMemory → result ≡ Status.NoMemory }
     ensures write { result ≡ Status.WriteFault → Rose (W.faults output.old) (W.faults output.new) }
     ensures quiet { result ≢ Status.WriteFault → W.faults output.new ≡ W.faults output.old }
     ensures memory { result ≡ Status.NoMemory → W.written output.new ≡ W.written output.old }

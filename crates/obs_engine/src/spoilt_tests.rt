@@ -43,8 +43,33 @@ fn with_spoilt(
     Ok(all)
 }
 
-// Each front of a file, and the file with each of its bytes exchanged for five others, is answered with a fault line and its
-// status, or with neither.
+// A spoilt file is answered with a fault line and its status, or with neither.
+fn is_answered(
+    rt: &impl Abort,
+    alloc: Global,
+    row: Row<'_>,
+    which: usize,
+    at: usize,
+    other: Option<u8>,
+) -> Result<(), Fail> {
+    let files = with_spoilt(alloc, row, which, at, other)?;
+    let found = outcome(alloc, row, files, 64, QUIET)?;
+    let refused = found.text.as_slice().starts_with(b"fault\t");
+    assert!(rt; refused == (found.status == Status::InputFault));
+    assert!(rt; refused || found.status == Status::Done || found.status == Status::Short);
+    Ok(())
+}
+
+const OTHERS: &[Option<u8>] = &[
+    None,
+    Some(b'\t'),
+    Some(b'"'),
+    Some(b'\n'),
+    Some(0),
+    Some(255),
+];
+
+// Each front of a file, and the file with each of its bytes exchanged for five others.
 fn is_answered_where_spoilt(
     rt: &impl Abort,
     alloc: Global,
@@ -53,22 +78,8 @@ fn is_answered_where_spoilt(
     length: usize,
 ) -> Result<(), Fail> {
     for at in 0..length {
-        for other in [
-            None,
-            Some(b'\t'),
-            Some(b'"'),
-            Some(b'\n'),
-            Some(0),
-            Some(255),
-        ] {
-            let files = with_spoilt(alloc, row, which, at, other)?;
-            let found = outcome(alloc, row, files, 64, QUIET)?;
-            let refused = found.text.as_slice().starts_with(b"fault\t");
-            assert!(rt; refused == (found.status == Status::InputFault), "at {at}");
-            assert!(rt;
-                refused || found.status == Status::Done || found.status == Status::Short,
-                "at {at}"
-            );
+        for other in OTHERS {
+            is_answered(rt, alloc, row, which, at, *other)?;
         }
     }
     Ok(())

@@ -1,8 +1,6 @@
-// What no contract says: that calls succeed, and the printed text of worked cases.
-use crate::worked::{NO_SWITCHES, many_nodes, too_long};
+// Runs over the forms in memory, and how they end.
 use crate::{Status, run};
 use obs_io::{Entry, MemFiles, MemSink, MemSource};
-use obs_text::Digits;
 use std::alloc::Global;
 use std::process::Abort;
 use std::test::Fail;
@@ -10,7 +8,7 @@ use std::test::Fail;
 // How many bytes the output takes at once.
 const MOVED: usize = 5;
 
-fn texts(alloc: Global, words: &[&str]) -> Result<Vec<String>, Fail> {
+pub(crate) fn texts(alloc: Global, words: &[&str]) -> Result<Vec<String>, Fail> {
     let mut all = Vec::new(alloc);
     for word in words {
         all.push(String::from_str(alloc, word)?)?;
@@ -70,6 +68,57 @@ pub(crate) fn taking(input: &[u8], taken: usize) -> Outside<'_> {
     }
 }
 
+fn source(alloc: Global, outside: Outside<'_>) -> Result<MemSource, Fail> {
+    let bytes = Vec::from_slice(alloc, outside.input)?;
+    let fails = Vec::from_slice(alloc, outside.take_fails)?;
+    Ok(MemSource::new(bytes, outside.taken.max(1), fails))
+}
+
+fn sink(alloc: Global, outside: Outside<'_>) -> Result<MemSink, Fail> {
+    let fails = Vec::from_slice(alloc, outside.write_fails)?;
+    let sink = MemSink::with_room(alloc, outside.room, outside.written.max(1), fails);
+    Ok(sink.ok().ok_or("no room")?)
+}
+
+// What a run wrote, with its status.
+fn kept(alloc: Global, status: Status, text: &[u8]) -> Result<Ended, Fail> {
+    let text = Vec::from_slice(alloc, text)?;
+    Ok(Ended { status, text })
+}
+
+// A run is begun piece by piece: each of these calls owns one value, and has one place where it ends early.
+fn run_with_output(
+    alloc: Global,
+    words: &[String],
+    files: &mut MemFiles,
+    input: &mut MemSource,
+    outside: Outside<'_>,
+) -> Result<Ended, Fail> {
+    let mut output = sink(alloc, outside)?;
+    let status = run(alloc, words, files, input, &mut output);
+    kept(alloc, status, output.written())
+}
+
+fn run_with_input(
+    alloc: Global,
+    words: &[String],
+    files: &mut MemFiles,
+    outside: Outside<'_>,
+) -> Result<Ended, Fail> {
+    let mut input = source(alloc, outside)?;
+    run_with_output(alloc, words, files, &mut input, outside)
+}
+
+fn run_with_words(
+    alloc: Global,
+    words: &[&str],
+    files: &mut MemFiles,
+    outside: Outside<'_>,
+) -> Result<Ended, Fail> {
+    let words = texts(alloc, words)?;
+    run_with_input(alloc, &words, files, outside)
+}
+
 // A run over these files in memory.
 pub(crate) fn outcome_over(
     alloc: Global,
@@ -77,21 +126,9 @@ pub(crate) fn outcome_over(
     entries: Vec<Entry>,
     outside: Outside<'_>,
 ) -> Result<Ended, Fail> {
-    let words = texts(alloc, words)?;
     let fails = Vec::from_slice(alloc, outside.read_fails)?;
     let mut files = MemFiles::new(entries, outside.read.max(1), fails);
-    let input = Vec::from_slice(alloc, outside.input)?;
-    let fails = Vec::from_slice(alloc, outside.take_fails)?;
-    let mut input = MemSource::new(input, outside.taken.max(1), fails);
-    let fails = Vec::from_slice(alloc, outside.write_fails)?;
-    let mut output = MemSink::with_room(alloc, outside.room, outside.written.max(1), fails)
-        .ok()
-        .ok_or("no room")?;
-    let status = run(alloc, &words, &mut files, &mut input, &mut output);
-    Ok(Ended {
-        status,
-        text: Vec::from_slice(alloc, output.written())?,
-    })
+    run_with_words(alloc, words, &mut files, outside)
 }
 
 // A run whose files are those of the words behind the first one.
@@ -119,31 +156,66 @@ pub(crate) fn answers(
     Ok(())
 }
 
-// How many reads a run makes, of which each has failed in turn. After a failed one nothing is written.
+// Whether a run fails where this read does. Then nothing is written.
+fn read_fails(
+    rt: &impl Abort,
+    alloc: Global,
+    words: &[&str],
+    files: &[&[u8]],
+    call: u64,
+) -> Result<bool, Fail> {
+    let failing = Outside {
+        read_fails: &[call],
+        ..QUIET
+    };
+    let found = outcome(alloc, words, files, failing)?;
+    let fails = found.status == Status::ReadFault;
+    assert!(rt; !fails || found.text.is_empty());
+    Ok(fails)
+}
+
+// How many reads a run makes, of which each has failed in turn.
 pub(crate) fn failing_reads(
     rt: &impl Abort,
     alloc: Global,
     words: &[&str],
     files: &[&[u8]],
 ) -> Result<u64, Fail> {
-    let mut calls = 0;
     for call in 0..1000 {
-        let failing = Outside {
-            read_fails: &[call],
-            ..QUIET
-        };
-        let found = outcome(alloc, words, files, failing)?;
-        if found.status != Status::ReadFault {
-            break;
+        if !read_fails(rt, alloc, words, files, call)? {
+            return Ok(call);
         }
-        assert!(rt; found.text.is_empty(), "at {call}");
-        calls = call.saturating_add(1);
     }
-    Ok(calls)
+    Ok(1000)
 }
 
-// How many writes a run makes, of which each has failed in turn. After a failed one a front of this text is written, and no
-// more of it than the calls before could take: nothing where the first one failed.
+// A front of a text that isn't all of it, and no more than so many bytes.
+pub(crate) fn is_front(text: &[u8], whole: &[u8], most: usize) -> bool {
+    text.len() < whole.len() && text.len() <= most && whole.starts_with(text)
+}
+
+// Whether a run fails where this write does. Then a front of the text is written, and no more of it than the calls before could
+// take: nothing where the first one failed.
+fn write_fails(
+    rt: &impl Abort,
+    alloc: Global,
+    words: &[&str],
+    files: &[&[u8]],
+    text: &[u8],
+    call: u64,
+) -> Result<bool, Fail> {
+    let failing = Outside {
+        write_fails: &[call],
+        ..QUIET
+    };
+    let found = outcome(alloc, words, files, failing)?;
+    let fails = found.status == Status::WriteFault;
+    let most = (call as usize).saturating_mul(MOVED);
+    assert!(rt; !fails || is_front(&found.text, text, most));
+    Ok(fails)
+}
+
+// How many writes a run makes, of which each has failed in turn.
 pub(crate) fn failing_writes(
     rt: &impl Abort,
     alloc: Global,
@@ -151,248 +223,10 @@ pub(crate) fn failing_writes(
     files: &[&[u8]],
     text: &[u8],
 ) -> Result<u64, Fail> {
-    let mut calls = 0;
     for call in 0..1000 {
-        let failing = Outside {
-            write_fails: &[call],
-            ..QUIET
-        };
-        let found = outcome(alloc, words, files, failing)?;
-        if found.status != Status::WriteFault {
-            break;
+        if !write_fails(rt, alloc, words, files, text, call)? {
+            return Ok(call);
         }
-        let most = (call as usize).saturating_mul(MOVED);
-        assert!(rt; found.text.len() <= most, "at {call}");
-        assert!(rt; found.text.len() < text.len(), "at {call}");
-        assert!(rt; text.starts_with(&found.text), "at {call}");
-        calls = call.saturating_add(1);
     }
-    Ok(calls)
-}
-
-const TOPOLOGY: [&str; 3] = ["topology", "n", "s"];
-
-// Three nodes, of which two are one bus.
-const NODES: &[u8] = b"node,source\na,0\nb,0\nc,0\n";
-
-const SWITCHES: &[u8] = b"switch,from,to,closed\nS1,a,b,1\nS2,b,c,0\n";
-
-// Two tables, and what is printed of them.
-#[derive(Clone, Copy)]
-struct Row {
-    nodes: &'static [u8],
-    switches: &'static [u8],
-    text: &'static [u8],
-}
-
-fn shows(rt: &impl Abort, alloc: Global, status: Status, row: Row) -> Result<(), Fail> {
-    let files = [row.nodes, row.switches];
-    answers(rt, alloc, &TOPOLOGY, &files, status, row.text)
-}
-
-#[test]
-fn topology_names_the_bus_of_each_node(rt: HostRuntime) -> Result<(), Fail> {
-    let rows = [
-        Row {
-            nodes: NODES,
-            switches: SWITCHES,
-            text: b"node\ta\ta\nnode\tb\ta\nnode\tc\tc\ncount\tbuses\t2\nend\n",
-        },
-        // A bus is named by its first node in the order of the table.
-        Row {
-            nodes: b"node,source\nz,0\nm,0\na,0\nk,0\n",
-            switches: b"switch,from,to,closed\nS1,a,m,1\nS2,k,a,1\nS3,z,z,1\n",
-            text: b"node\tz\tz\nnode\tm\tm\nnode\ta\tm\nnode\tk\tm\ncount\tbuses\t2\nend\n",
-        },
-        // A byte order mark, columns in another order, one that isn't needed, and other line ends.
-        Row {
-            nodes: b"\xEF\xBB\xBFsource,node,zone\r\n1,a,x\r\n0,\"b\",y\r\n",
-            switches: NO_SWITCHES,
-            text: b"node\ta\ta\nnode\tb\tb\ncount\tbuses\t2\nend\n",
-        },
-    ];
-    for row in rows {
-        shows(&rt, rt.alloc(), Status::Done, row)?;
-    }
-    Ok(())
-}
-
-#[test]
-fn the_first_fault_is_printed(rt: HostRuntime) -> Result<(), Fail> {
-    let rows = [
-        Row {
-            nodes: b"node,source\na,0\na,0\n",
-            switches: NO_SWITCHES,
-            text: b"fault\tnodes\t2\t9\tNameTwice\n",
-        },
-        Row {
-            nodes: b"node,source,node\n",
-            switches: NO_SWITCHES,
-            text: b"fault\tnodes\t0\t3\tColumnTwice\n",
-        },
-        Row {
-            nodes: b"node,source\na,2\n",
-            switches: NO_SWITCHES,
-            text: b"fault\tnodes\t1\t6\tBadFlag\n",
-        },
-        Row {
-            nodes: b"",
-            switches: NO_SWITCHES,
-            text: b"fault\tnodes\t0\t1\tNoHeader\n",
-        },
-        Row {
-            nodes: b"node,source\na,1\n",
-            switches: b"switch,from,to,closed\nS1,a,z,7\n",
-            text: b"fault\tswitches\t1\t6\tBadFlag\n",
-        },
-    ];
-    for row in rows {
-        shows(&rt, rt.alloc(), Status::InputFault, row)?;
-    }
-    Ok(())
-}
-
-// A run over a node table of so many rows, and no switches.
-fn outcome_of_rows(alloc: Global, rows: u32) -> Result<Ended, Fail> {
-    let nodes = many_nodes(alloc, rows)?;
-    outcome(alloc, &TOPOLOGY, &[nodes.as_slice(), NO_SWITCHES], QUIET)
-}
-
-#[test]
-fn a_table_has_many_rows(rt: HostRuntime) -> Result<(), Fail> {
-    let some = outcome_of_rows(rt.alloc(), 300)?;
-    assert!(rt; some.status == Status::Done);
-    assert!(rt; some.text.starts_with(b"node\tn0\tn0\nnode\tn1\tn1\n"));
-    assert!(rt;
-        some.text
-            .ends_with(b"node\tn299\tn299\ncount\tbuses\t300\nend\n")
-    );
-    Ok(())
-}
-
-// A switch table of so many rows, each between the first node and another one or itself.
-fn many_switches(alloc: Global, rows: u32) -> Result<Vec<u8>, Fail> {
-    let mut digits = Digits::new();
-    let mut bytes = Vec::from_slice(alloc, b"switch,from,to,closed\n")?;
-    for row in 0..rows {
-        bytes.extend_from_slice(b"s")?;
-        bytes.extend_from_slice(digits.text(u64::from(row)))?;
-        bytes.extend_from_slice(b",n0,n")?;
-        bytes.extend_from_slice(digits.text(u64::from(row)))?;
-        bytes.extend_from_slice(b",1\n")?;
-    }
-    Ok(bytes)
-}
-
-#[test]
-fn full_tables_have_buses(rt: HostRuntime) -> Result<(), Fail> {
-    let nodes = many_nodes(rt.alloc(), 20000)?;
-    let switches = many_switches(rt.alloc(), 20000)?;
-    let files = [nodes.as_slice(), switches.as_slice()];
-    let full = outcome(rt.alloc(), &TOPOLOGY, &files, QUIET)?;
-    assert!(rt; full.status == Status::Done);
-    assert!(rt;
-        full.text
-            .ends_with(b"node\tn19999\tn0\ncount\tbuses\t1\nend\n")
-    );
-    Ok(())
-}
-
-#[test]
-fn a_table_has_at_most_20000_rows(rt: HostRuntime) -> Result<(), Fail> {
-    let many = outcome_of_rows(rt.alloc(), 20001)?;
-    assert!(rt; many.status == Status::InputFault);
-    assert!(rt; many.text.as_slice() == b"fault\tnodes\t20001\t12\tTooMany\n".as_slice());
-    Ok(())
-}
-
-// Pieces of seven bytes are read, with one read more at the end of each file.
-#[test]
-fn each_read_may_fail(rt: HostRuntime) -> Result<(), Fail> {
-    let reads = failing_reads(&rt, rt.alloc(), &TOPOLOGY, &[NODES, SWITCHES])?;
-    assert!(rt; reads == 12);
-    Ok(())
-}
-
-// Pieces of five bytes are written.
-#[test]
-fn each_write_may_fail(rt: HostRuntime) -> Result<(), Fail> {
-    let files = [NODES, SWITCHES];
-    let text = b"node\ta\ta\nnode\tb\ta\nnode\tc\tc\ncount\tbuses\t2\nend\n";
-    let writes = failing_writes(&rt, rt.alloc(), &TOPOLOGY, &files, text)?;
-    assert!(rt; writes == 10);
-    Ok(())
-}
-
-#[test]
-fn an_absent_file_is_a_read_fault(rt: HostRuntime) -> Result<(), Fail> {
-    answers(&rt, rt.alloc(), &TOPOLOGY, &[NODES], Status::ReadFault, b"")
-}
-
-// No file of switches is held.
-#[test]
-fn nodes_are_judged_before_switches_are_read(rt: HostRuntime) -> Result<(), Fail> {
-    let nodes = too_long(rt.alloc())?;
-    let text = b"fault\tnodes\t0\t14\tTooLong\n";
-    let status = Status::InputFault;
-    answers(&rt, rt.alloc(), &TOPOLOGY, &[&nodes], status, text)
-}
-
-// The file of switches would be too long.
-#[test]
-fn nodes_are_read_before_switches(rt: HostRuntime) -> Result<(), Fail> {
-    let mut entries = Vec::new(rt.alloc());
-    entries.push(Entry {
-        word: 2,
-        bytes: too_long(rt.alloc())?,
-    })?;
-    let found = outcome_over(rt.alloc(), &TOPOLOGY, entries, QUIET)?;
-    assert!(rt; found.status == Status::ReadFault);
-    assert!(rt; found.text.is_empty());
-    Ok(())
-}
-
-fn usage() -> &'static [u8] {
-    b"usage: obs topology N S | report FORM | place FORM CAND | session FORM | verify FORM CERT | trial N SEED \
-| outages FORM | pairs FORM | stations FORM\n"
-}
-
-#[test]
-fn other_words_get_the_usage_line(rt: HostRuntime) -> Result<(), Fail> {
-    let forms = [
-        ["report", "tables", "n"].as_slice(),
-        &["trial", "0", "5"],
-        &["topology", "n"],
-        &["topology", "n", "s", "b"],
-        &["Topology", "n", "s"],
-        &["report", "cdf", "c"],
-        &["report", "tables", "n", "s", "b", "m", "c"],
-        &["session", "tables", "n", "s", "b", "m", "c"],
-        &["session", "cdf", "c", "m", "with"],
-        &["session", "cdf", "c", "m", "With", "k"],
-        &["verify", "cdf", "c", "m"],
-        &["verify", "cdf", "c", "m", "with", "k"],
-        &["verify", "cdf", "c", "m", "k", "cert", "more"],
-        &["outages", "cdf", "c", "m", "k"],
-        &["pairs", "cdf", "c"],
-        &["stations", "cdf", "c", "m", "with", "k"],
-        &["station", "cdf", "c", "m"],
-        &[],
-    ];
-    for words in forms {
-        answers(&rt, rt.alloc(), words, &[], Status::Usage, usage())?;
-    }
-    Ok(())
-}
-
-#[test]
-fn a_usage_line_may_be_unwritten(rt: HostRuntime) -> Result<(), Fail> {
-    let failing = Outside {
-        write_fails: &[0],
-        ..QUIET
-    };
-    let stuck = outcome(rt.alloc(), &["help"], &[], failing)?;
-    assert!(rt; stuck.status == Status::WriteFault);
-    assert!(rt; stuck.text.is_empty());
-    Ok(())
+    Ok(1000)
 }

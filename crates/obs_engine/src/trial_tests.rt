@@ -14,13 +14,13 @@ fn trial(alloc: Global, rows: &str, seed: &str) -> Result<Ended, Fail> {
 }
 
 // The number behind these bytes, which one line of a text begins with.
-fn number_behind(text: &[u8], front: &[u8]) -> Result<u64, Fail> {
+fn number_behind(text: &[u8], front: &[u8]) -> Option<u64> {
     for line in lines(text) {
         if let Some(rest) = line.strip_prefix(front) {
-            return Ok(whole(rest).ok_or("no number")?);
+            return whole(rest);
         }
     }
-    Err(Fail::from("no line"))
+    None
 }
 
 // One node has nothing to be measured.
@@ -41,7 +41,7 @@ fn two_rows_are_a_ring(rt: HostRuntime) -> Result<(), Fail> {
     assert!(rt; found.status == Status::Done);
     assert!(rt; found.text.starts_with(front));
     assert!(rt; found.text.ends_with(b"\nend\n"));
-    assert!(rt; number_behind(&found.text, b"searches\t")? <= 8);
+    assert!(rt; number_behind(&found.text, b"searches\t").is_some_and(|count| count <= 8));
     Ok(())
 }
 
@@ -86,43 +86,74 @@ fn session(alloc: Global, grid: &Grid) -> Result<Ended, Fail> {
     outcome(alloc, &SESSION, &files, taking(&grid.input, 4096))
 }
 
-// How many of a session's lines say a lower rank than at first. Each second line says that one again.
-fn count_dips(rt: &impl Abort, text: &[u8], rank: u64, edits: u64) -> Result<u64, Fail> {
+// The rank that an ok line says.
+fn rank_of(line: &[u8]) -> Option<u64> {
+    let rest = line.strip_prefix(b"ok\t".as_slice())?;
+    let end = rest.iter().position(|byte| *byte == b'\t')?;
+    whole(rest.get(..end)?)
+}
+
+// How many of a session's lines say a lower rank than at first, where each second line says that one again.
+fn count_dips(text: &[u8], rank: u64, edits: u64) -> Option<u64> {
     let mut dips = 0_u64;
     let mut count = 0_u64;
     for line in lines(text) {
-        let rest = line.strip_prefix(b"ok\t".as_slice()).ok_or("no ok line")?;
-        let end = rest.iter().position(|byte| *byte == b'\t').ok_or("no tab")?;
-        let now = whole(rest.get(..end).ok_or("no rank")?).ok_or("no number")?;
-        if count % 2 == 1 {
-            assert!(rt; now == rank);
-        } else if now < rank {
+        let now = rank_of(line)?;
+        if count % 2 == 1 && now != rank {
+            return None;
+        }
+        if now < rank {
             dips = dips.wrapping_add(1);
         }
         count = count.wrapping_add(1);
     }
-    assert!(rt; count == edits);
-    Ok(dips)
+    (count == edits).then_some(dips)
 }
 
-// A trial is what the session over its tables comes to. Thirty rows have 1,740 meters.
+// The counts of a trial of thirty rows, which have 1,740 meters.
+fn is_counted(text: &[u8]) -> bool {
+    number_behind(text, b"count\tbuses\t") == Some(900)
+        && number_behind(text, b"count\tbranches\t") == Some(1740)
+        && number_behind(text, b"count\tmeters\t") == Some(1740)
+        && number_behind(text, b"edits\t") == Some(3480)
+}
+
+fn has_searches(text: &[u8]) -> bool {
+    match (
+        number_behind(text, b"dips\t"),
+        number_behind(text, b"searches\t"),
+    ) {
+        (Some(dips), Some(searches)) => dips <= searches && searches <= 3480,
+        _ => false,
+    }
+}
+
+// Whether the lines of a session have the dips that a trial says.
+fn has_dips(answered: &[u8], text: &[u8]) -> bool {
+    match (
+        number_behind(text, b"count\trank\t"),
+        number_behind(text, b"dips\t"),
+    ) {
+        (Some(rank), Some(dips)) => count_dips(answered, rank, 3480) == Some(dips),
+        _ => false,
+    }
+}
+
+fn is_a_session(rt: &impl Abort, alloc: Global, trial: &Ended) -> Result<(), Fail> {
+    let grid = make_grid(alloc, 30, 1, 0)?;
+    let answered = session(alloc, &grid)?;
+    assert!(rt; answered.status == trial.status);
+    assert!(rt; has_dips(&answered.text, &trial.text));
+    Ok(())
+}
+
+// A trial is what the session over its tables comes to, and the same again.
 #[test]
 fn a_trial_is_a_session(rt: HostRuntime) -> Result<(), Fail> {
     let found = trial(rt.alloc(), "30", "1")?;
-    let text = found.text.as_slice();
-    assert!(rt; number_behind(text, b"count\tbuses\t")? == 900);
-    assert!(rt; number_behind(text, b"count\tbranches\t")? == 1740);
-    assert!(rt; number_behind(text, b"count\tmeters\t")? == 1740);
-    assert!(rt; number_behind(text, b"edits\t")? == 3480);
-    let searches = number_behind(text, b"searches\t")?;
-    let dips = number_behind(text, b"dips\t")?;
-    assert!(rt; dips <= searches && searches <= 3480);
+    assert!(rt; is_counted(&found.text) && has_searches(&found.text));
+    is_a_session(&rt, rt.alloc(), &found)?;
     let again = trial(rt.alloc(), "30", "1")?;
-    assert!(rt; again.text.as_slice() == text);
-    let grid = make_grid(rt.alloc(), 30, 1, 0)?;
-    let answered = session(rt.alloc(), &grid)?;
-    let rank = number_behind(text, b"count\trank\t")?;
-    assert!(rt; answered.status == found.status);
-    assert!(rt; count_dips(&rt, &answered.text, rank, 3480)? == dips);
+    assert!(rt; again.text.as_slice() == found.text.as_slice());
     Ok(())
 }

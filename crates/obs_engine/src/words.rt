@@ -2,6 +2,7 @@
 ghost use Rattle.std.specs.Prelude.{◌≡◌, ◌<◌, ◌≤◌, [], map, string_bytes, Some, IfSome, length, slice_index, slice_index_or};
 ghost use Rattle.obs_text.specs.Numbers.{whole_of};
 ghost use Rattle.obs_engine.specs.Forms.{HasRows};
+ghost use Rattle.obs_engine.specs.Stays.{offers};
 ghost use Rattle.obs_engine.specs.Words.{behind_case, candidates_at, case_commands, case_form_of, certificate_at, command_word, first_parts, first_word, fits, form_of, form_with, has_with, is_offered, is_word, parts_of, study_word, takes_certificate, trial_form, word_count, words_of};
 
 use obs_text::whole;
@@ -94,6 +95,16 @@ impl Form {
         match self {
             Form::Case(CaseCommand::Place, _) => true,
             _ => self.has_with(),
+        }
+    }
+
+    /// Whether the words are a session's, and then whether with candidates.
+    pub(crate) fn offers(self) -> Option<bool>
+        ensures offers { result ≡ offers (Some self) }
+    {
+        match self {
+            Form::Case(CaseCommand::Session { offered }, _) => Some(offered),
+            _ => None,
         }
     }
 

@@ -1,0 +1,124 @@
+// A session that stays between calls.
+ghost use Rattle.std.specs.Prelude.{◌≡◌, ◌<◌, ◌≤◌, None, drop, length, take};
+ghost use Rattle.obs_engine.specs.Codes.{code_of};
+ghost use Rattle.obs_c.specs.Stays.{IsAnswered, IsBegun};
+
+use crate::lengths::are_lengths;
+use crate::slot::Slot;
+use crate::words::{WordsFault, words_of};
+use obs_engine::{Status, answer_one, begin_session};
+use obs_io::{BlockFiles, MemSink};
+use std::alloc::Global;
+
+// The number that is answered where the blocks aren't words and contents.
+const MALFORMED: u8 = 8;
+
+// The number that is answered where a session has begun already, and where none has whose line is to be answered.
+const OUT_OF_TURN: u8 = 9;
+
+// Copies bytes into a block, as many as there is room for, says how many, and answers the number of their status, or 5
+// where the block is too short.
+fn deliver(bytes: &[u8], status: Status, text: &mut [u8], written: &mut usize) -> u8
+    ensures whole { length bytes.now ≤ length text.old
+        → (result ≡ code_of status) × (take written.new text.new ≡ bytes.now) }
+    ensures part { length text.old < length bytes.now
+        → (result ≡ code_of Status.WriteFault) × (take written.new text.new ≡ take (length text.old) bytes.now) }
+    ensures within { written.new ≤ length text.old }
+    ensures rest { drop written.new text.new ≡ drop written.new text.old }
+{
+    let count = bytes.len().min(text.len());
+    text[..count].copy_from_slice(&bytes[..count]);
+    *written = count;
+    if count < bytes.len() {
+        return Status::WriteFault.code();
+    }
+    status.code()
+}
+
+/// Begins a session, which stays. The words, the contents and the lengths are those of `obs_run`, with the words of a
+/// session. The answer is 0 where it began, and nothing is written; else what `obs_run` answers to these words and
+/// files, or 9 where a session stays already, which is left as it is.
+#[unsafe(no_mangle)]
+pub extern "C" fn obs_session_begin(
+    alloc: Global,
+    slot: &mut Slot,
+    words: &[u8],
+    contents: &[u8],
+    lengths: &[usize],
+    text: &mut [u8],
+    written: &mut usize,
+) -> u8
+    ensures begun { IsBegun words.now contents.now lengths.now (length text.old)
+        slot.old.handle.value slot.new.handle.value result (take written.new text.new) }
+
+    // Behind what was written the block is as it was.
+    ensures within { written.new ≤ length text.old }
+    ensures rest { drop written.new text.new ≡ drop written.new text.old }
+{
+    *written = 0;
+    if let Some(session) = slot.take(alloc) {
+        slot.put(session);
+        return OUT_OF_TURN;
+    }
+    let list = match words_of(alloc, words) {
+        Ok(list) => list,
+        Err(WordsFault::Malformed) => return MALFORMED,
+        Err(WordsFault::NoMemory) => return Status::NoMemory.code(),
+    };
+    if !are_lengths(list.len(), contents, lengths) {
+        return MALFORMED;
+    }
+    let Ok(mut output) = MemSink::with_room(alloc, text.len(), usize::MAX, Vec::new(alloc)) else {
+        return Status::NoMemory.code();
+    };
+    let mut files = BlockFiles::new(contents, lengths);
+    match begin_session(alloc, &list, &mut files, &mut output) {
+        Ok(session) => {
+            let Ok(session) = Box::new(alloc, session) else {
+                return Status::NoMemory.code();
+            };
+            slot.put(session);
+            Status::Done.code()
+        }
+        Err(status) => deliver(output.written(), status, text, written),
+    }
+}
+
+/// Does what one line of a session says, and writes its answer. The line has no line end. The answer is 0 or 1, the
+/// verdict on the case behind the line, or 5 where the text is too short; 6 where there is no memory, or 9 where no
+/// session stays, and nothing is done.
+#[unsafe(no_mangle)]
+pub extern "C" fn obs_session_line(
+    alloc: Global,
+    slot: &mut Slot,
+    line: &[u8],
+    text: &mut [u8],
+    written: &mut usize,
+) -> u8
+    ensures answered { IsAnswered line.now (length text.old)
+        slot.old.handle.value slot.new.handle.value result (take written.new text.new) }
+
+    // Behind what was written the block is as it was.
+    ensures within { written.new ≤ length text.old }
+    ensures rest { drop written.new text.new ≡ drop written.new text.old }
+{
+    *written = 0;
+    let Some(mut session) = slot.take(alloc) else {
+        return OUT_OF_TURN;
+    };
+    let Ok(mut output) = MemSink::with_room(alloc, text.len(), usize::MAX, Vec::new(alloc)) else {
+        slot.put(session);
+        return Status::NoMemory.code();
+    };
+    let status = answer_one(&mut output, &mut session, line);
+    slot.put(session);
+    deliver(output.written(), status, text, written)
+}
+
+/// Ends a session, and gives back its memory. Nothing stays, also where none had begun.
+#[unsafe(no_mangle)]
+pub extern "C" fn obs_session_end(alloc: Global, slot: &mut Slot)
+    ensures none { slot.new.handle.value ≡ None }
+{
+    let _session = slot.take(alloc);
+}

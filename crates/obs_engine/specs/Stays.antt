@@ -1,0 +1,95 @@
+-- A session that stays between calls: how it is begun, what one line does, and what lines do one after another.
+use Rattle.std.specs.Prelude.{ℕ, ◌≡◌, ◌≤◌, ◌⊎◌, All, Bool, List, [], ◌∷◌, ◌++◌, length, Option, None, Some, Result, Ok, Err}
+use Rattle.obs_case.specs.Tables.{Tables}
+use Rattle.obs_report.specs.Lines.{line_feed}
+use Rattle.obs_script.specs.Gathered.{content_of}
+use Rattle.obs_text.specs.Laws.{HasNoFeed}
+use Rattle.obs_edit.specs.Sessions.{Session as Kept}
+use Rattle.obs_engine.specs.declared.status.Status.{Status}
+use Rattle.obs_engine.specs.declared.status.Status.TheVariants.{ReadFault, NoMemory}
+use Rattle.obs_engine.specs.declared.words.CaseCommand.TheVariants.{Session}
+use Rattle.obs_engine.specs.declared.words.Form.{Form}
+use Rattle.obs_engine.specs.declared.words.Form.TheVariants.{Case}
+use Rattle.obs_engine.specs.Asks.{report_status}
+use Rattle.obs_engine.specs.Files.{case_in_files}
+use Rattle.obs_engine.specs.Lines.{line_case, line_text}
+use Rattle.obs_engine.specs.Replies.{EndsWith, Reply, usage_reply}
+use Rattle.obs_engine.specs.Sessions.{most_input_bytes}
+use Rattle.obs_engine.specs.Stated.{IsStated}
+
+-- whether words of a form are a session's, and then whether with candidates
+abbrev pub offers : Option Form → Option Bool
+offers (Some (Case (Session offered) from)) = Some offered
+offers form = None
+
+-- the words are a session's, with candidates or without, and this is the case that its files are
+abbrev pub IsBegun : Option Form → (ℕ → List ℕ) → Bool → Tables → Type 0
+IsBegun (Some form) file offered t = (offers (Some form) ≡ Some offered) × (case_in_files form file ≡ Ok t)
+IsBegun None file offered t = ⊥
+
+-- no session begins: the reply to words that are no session's, or to files that are no case
+abbrev pub IsNotBegun : Option Form → (ℕ → List ℕ) → Reply → Type 0
+IsNotBegun (Some form) file reply =
+    ((offers (Some form) ≡ None) × (reply ≡ usage_reply))
+    ⊎ ((offered : Bool) × (offers (Some form) ≡ Some offered) × (case_in_files form file ≡ Err reply))
+IsNotBegun None file reply = reply ≡ usage_reply
+
+-- how beginning a session ends: it has begun; or it gets the reply that is stated where none begins; or a file couldn't be read or
+-- there was no memory, and nothing is written
+abbrev pub Begins : Option Form → (ℕ → List ℕ) → Result Kept Status → Option (List ℕ) → Option (List ℕ) → Type 0
+Begins form file (Ok s) before after = IsBegun form file s.offered s.tables
+Begins form file (Err status) before after =
+    ((reply : Reply) × IsNotBegun form file reply × EndsWith reply status before after)
+    ⊎ (((status ≡ ReadFault) ⊎ (status ≡ NoMemory)) × (after ≡ before))
+
+-- the reply to one line of this content: its answer, and the status is that of the present case behind it
+abbrev pub line_reply : Bool → Tables → List ℕ → Reply
+line_reply offered t line = record {
+  status = report_status (line_case offered t line);
+  text = line_text offered t line;
+}
+
+-- the replies to some lines, one after another
+abbrev pub line_replies : Bool → Tables → List (List ℕ) → List Reply
+line_replies offered t [] = []
+line_replies offered t (line ∷ lines) = line_reply offered t line ∷ line_replies offered (line_case offered t line) lines
+
+-- replies as one: their texts one behind another, with the status of the last, and this status where there is none
+abbrev pub as_one : Status → List Reply → Reply
+as_one status [] = record { status = status; text = [] }
+as_one status (reply ∷ replies) = record {
+  status = (as_one reply.status replies).status;
+  text = reply.text ++ (as_one reply.status replies).text;
+}
+
+-- the content of a line: no byte of it ends a line
+pub record IsContent (line : List ℕ) : Type 0 where
+  pub feed : HasNoFeed line
+  pub return : content_of line ≡ line
+
+-- the input of some lines, each ended by a line feed
+abbrev pub input_of : List (List ℕ) → List ℕ
+input_of [] = []
+input_of (line ∷ lines) = line ++ (line_feed ∷ input_of lines)
+
+-- a session that stays answers what `run` answers: the replies to its lines, as one, are the reply that is stated for the same words and
+-- files and the input of these lines
+abbrev pub AnswersAsRun : Type 0
+AnswersAsRun =
+    (form : Option Form) (file : ℕ → List ℕ) (offered : Bool) (t : Tables) (lines : List (List ℕ))
+    → IsBegun form file offered t → All IsContent lines → length (input_of lines) ≤ most_input_bytes
+    → IsStated form (record { file = file; input = input_of lines }) (as_one (report_status t) (line_replies offered t lines))
+
+-- where words are a session's, or have no form, and none begins, `run` has the same reply, whatever the input
+abbrev pub RefusesAsRun : Type 0
+RefusesAsRun =
+    (form : Option Form) (file : ℕ → List ℕ) (input : List ℕ) (reply : Reply)
+    → (form ≡ None) ⊎ ((offered : Bool) × (offers form ≡ Some offered))
+    → IsNotBegun form file reply → IsStated form (record { file = file; input = input }) reply
+
+-- a line that is said again changes nothing more, and has the same reply
+abbrev pub CanBeSaidAgain : Type 0
+CanBeSaidAgain =
+    (offered : Bool) (t : Tables) (line : List ℕ)
+    → (line_case offered (line_case offered t line) line ≡ line_case offered t line)
+    × (line_reply offered (line_case offered t line) line ≡ line_reply offered t line)
