@@ -13,37 +13,36 @@ fn has_node(case: &Case, name: &[u8], source: bool, absolute: bool) -> bool {
     }
 }
 
+const MARKED: &[(&[u8], bool, bool)] = &[
+    (b"node,source,absolute\na,1,1\nb,0,0\n", true, false),
+    (b"node,source,absolute\na,1,0\nb,0,1\n", false, true),
+    (
+        b"\xEF\xBB\xBFabsolute,node,source\n1,a,1\n1,b,0\n",
+        true,
+        true,
+    ),
+    (
+        b"node,absolute,zone,source\na,0,1,1\nb,1,0,0\n",
+        false,
+        true,
+    ),
+    (
+        b"node,source,\"absolute\"\r\na,1,\"1\"\r\nb,0,\"0\"\r\n",
+        true,
+        false,
+    ),
+    (b"node,source\na,1\nb,0\n", false, false),
+    (b"node,source\na,1,1\nb,0,1,1\n", false, false),
+    (b"node,source, absolute\na,1,1\nb,0,2\n", false, false),
+    (b"node,source,Absolute\na,1,1\nb,0,\n", false, false),
+    (b"node,source,absolutely\na,1,1\nb,0,1\n", false, false),
+];
+
 // In each table the node a is a source, and the node b isn't.
 #[test]
 fn nodes_are_marked_under_the_column_absolute(rt: HostRuntime) {
-    for (bytes, a, b) in [
-        (
-            b"node,source,absolute\na,1,1\nb,0,0\n".as_slice(),
-            true,
-            false,
-        ),
-        (b"node,source,absolute\na,1,0\nb,0,1\n", false, true),
-        (
-            b"\xEF\xBB\xBFabsolute,node,source\n1,a,1\n1,b,0\n",
-            true,
-            true,
-        ),
-        (
-            b"node,absolute,zone,source\na,0,1,1\nb,1,0,0\n",
-            false,
-            true,
-        ),
-        (
-            b"node,source,\"absolute\"\r\na,1,\"1\"\r\nb,0,\"0\"\r\n",
-            true,
-            false,
-        ),
-        (b"node,source\na,1\nb,0\n", false, false),
-        (b"node,source\na,1,1\nb,0,1,1\n", false, false),
-        (b"node,source, absolute\na,1,1\nb,0,2\n", false, false),
-        (b"node,source,Absolute\na,1,1\nb,0,\n", false, false),
-        (b"node,source,absolutely\na,1,1\nb,0,1\n", false, false),
-    ] {
+    for case in MARKED {
+        let (bytes, a, b) = *case;
         let mut case = Case::new(rt.alloc());
         assert_eq!(rt;
             read_table(rt.alloc(), &mut case, Table::Nodes, bytes),
@@ -55,44 +54,47 @@ fn nodes_are_marked_under_the_column_absolute(rt: HostRuntime) {
     }
 }
 
+const FAULTS: &[(&[u8], u32, RowFault)] = &[
+    (
+        b"node,source,absolute,absolute\na,1,1,1\n",
+        0,
+        RowFault::ColumnTwice,
+    ),
+    (
+        b"absolute,node,source,absolute\na,1\n",
+        0,
+        RowFault::ColumnTwice,
+    ),
+    (
+        b"node,absolute,absolute\na,1,1\n",
+        0,
+        RowFault::ColumnMissing,
+    ),
+    (b"absolute\n1\n", 0, RowFault::ColumnMissing),
+    (b"node,source,absolute\na,1\n", 1, RowFault::ShortRow),
+    (b"node,source,absolute\na,1,1\n,2\n", 2, RowFault::ShortRow),
+    (b"absolute,node,source\n1,a\n", 1, RowFault::ShortRow),
+    (b"node,source,absolute\na,1,\n", 1, RowFault::BadFlag),
+    (b"node,source,absolute\na,1,2\n", 1, RowFault::BadFlag),
+    (b"node,source,absolute\na,1, 1\n", 1, RowFault::BadFlag),
+    (b"node,source,absolute\na,2,1\n", 1, RowFault::BadFlag),
+    (b"node,source,absolute\n,1,2\n", 1, RowFault::BadName),
+    (
+        b"node,source,absolute\na,1,0\na,0,true\n",
+        2,
+        RowFault::BadFlag,
+    ),
+    (
+        b"node,source,absolute\na,1,0\na,0,1\n",
+        2,
+        RowFault::NameTwice,
+    ),
+];
+
 #[test]
 fn faults_of_the_column_absolute(rt: HostRuntime) {
-    for (bytes, row, code) in [
-        (
-            b"node,source,absolute,absolute\na,1,1,1\n".as_slice(),
-            0,
-            RowFault::ColumnTwice,
-        ),
-        (
-            b"absolute,node,source,absolute\na,1\n",
-            0,
-            RowFault::ColumnTwice,
-        ),
-        (
-            b"node,absolute,absolute\na,1,1\n",
-            0,
-            RowFault::ColumnMissing,
-        ),
-        (b"absolute\n1\n", 0, RowFault::ColumnMissing),
-        (b"node,source,absolute\na,1\n", 1, RowFault::ShortRow),
-        (b"node,source,absolute\na,1,1\n,2\n", 2, RowFault::ShortRow),
-        (b"absolute,node,source\n1,a\n", 1, RowFault::ShortRow),
-        (b"node,source,absolute\na,1,\n", 1, RowFault::BadFlag),
-        (b"node,source,absolute\na,1,2\n", 1, RowFault::BadFlag),
-        (b"node,source,absolute\na,1, 1\n", 1, RowFault::BadFlag),
-        (b"node,source,absolute\na,2,1\n", 1, RowFault::BadFlag),
-        (b"node,source,absolute\n,1,2\n", 1, RowFault::BadName),
-        (
-            b"node,source,absolute\na,1,0\na,0,true\n",
-            2,
-            RowFault::BadFlag,
-        ),
-        (
-            b"node,source,absolute\na,1,0\na,0,1\n",
-            2,
-            RowFault::NameTwice,
-        ),
-    ] {
+    for case in FAULTS {
+        let (bytes, row, code) = *case;
         assert_eq!(rt;
             fault_in(rt.alloc(), Table::Nodes, bytes),
             Some((Table::Nodes, row, code))
@@ -100,27 +102,30 @@ fn faults_of_the_column_absolute(rt: HostRuntime) {
     }
 }
 
+const PASSED: &[(Table, &[u8])] = &[
+    (
+        Table::Switches,
+        b"absolute,switch,from,to,closed,absolute\n7,S1,a,b,1\n",
+    ),
+    (
+        Table::Branches,
+        b"branch,from,to,inservice,absolute\nL1,a,b,1,x\nL2,b,c,1\nL3,c,d,1\n",
+    ),
+    (
+        Table::Meters,
+        b"meter,kind,at,inservice,absolute,absolute\ni1,angle,a,1\n",
+    ),
+    (
+        Table::Candidates,
+        b"candidate,kind,at,price,absolute\nc1,angle,a,7,2\n",
+    ),
+];
+
 // The other tables have no such column: theirs is passed over.
 #[test]
 fn only_nodes_have_the_column_absolute(rt: HostRuntime) {
-    for (table, bytes) in [
-        (
-            Table::Switches,
-            b"absolute,switch,from,to,closed,absolute\n7,S1,a,b,1\n".as_slice(),
-        ),
-        (
-            Table::Branches,
-            b"branch,from,to,inservice,absolute\nL1,a,b,1,x\nL2,b,c,1\nL3,c,d,1\n",
-        ),
-        (
-            Table::Meters,
-            b"meter,kind,at,inservice,absolute,absolute\ni1,angle,a,1\n",
-        ),
-        (
-            Table::Candidates,
-            b"candidate,kind,at,price,absolute\nc1,angle,a,7,2\n",
-        ),
-    ] {
+    for case in PASSED {
+        let (table, bytes) = *case;
         assert!(rt; fault_in(rt.alloc(), table, bytes).is_none());
     }
 }
@@ -152,35 +157,38 @@ fn angles_stand_at_nodes(rt: HostRuntime) {
     assert!(rt; has_node(&case, b"a", true, true) && has_node(&case, b"b", false, false));
 }
 
+const ANGLE_FAULTS: &[(Table, &[u8], RowFault)] = &[
+    (
+        Table::Meters,
+        b"meter,kind,at,inservice\ng1,angle,L1,1\n",
+        RowFault::UnknownPlace,
+    ),
+    (
+        Table::Meters,
+        b"meter,kind,at,inservice\ng1,Angle,a,1\n",
+        RowFault::BadKind,
+    ),
+    (
+        Table::Meters,
+        b"meter,kind,at,inservice\ng1,angle ,a,1\n",
+        RowFault::BadKind,
+    ),
+    (
+        Table::Candidates,
+        b"candidate,kind,at,price\nc1,angle,L1,7\n",
+        RowFault::UnknownPlace,
+    ),
+    (
+        Table::Candidates,
+        b"candidate,kind,at,price\nc1,angles,a,7\n",
+        RowFault::BadKind,
+    ),
+];
+
 #[test]
 fn faults_of_angles(rt: HostRuntime) {
-    for (table, bytes, code) in [
-        (
-            Table::Meters,
-            b"meter,kind,at,inservice\ng1,angle,L1,1\n".as_slice(),
-            RowFault::UnknownPlace,
-        ),
-        (
-            Table::Meters,
-            b"meter,kind,at,inservice\ng1,Angle,a,1\n",
-            RowFault::BadKind,
-        ),
-        (
-            Table::Meters,
-            b"meter,kind,at,inservice\ng1,angle ,a,1\n",
-            RowFault::BadKind,
-        ),
-        (
-            Table::Candidates,
-            b"candidate,kind,at,price\nc1,angle,L1,7\n",
-            RowFault::UnknownPlace,
-        ),
-        (
-            Table::Candidates,
-            b"candidate,kind,at,price\nc1,angles,a,7\n",
-            RowFault::BadKind,
-        ),
-    ] {
+    for case in ANGLE_FAULTS {
+        let (table, bytes, code) = *case;
         assert_eq!(rt; fault_in(rt.alloc(), table, bytes), Some((table, 1, code)));
     }
 }

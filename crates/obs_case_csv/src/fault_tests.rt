@@ -45,208 +45,214 @@ pub(crate) fn fault_in(
     }
 }
 
+const FAULTS: &[(Table, &[u8], u32, RowFault)] = &[
+    (Table::Nodes, b"", 0, RowFault::NoHeader),
+    (Table::Nodes, b"node\na\n", 0, RowFault::ColumnMissing),
+    (Table::Nodes, b"node,node\na\n", 0, RowFault::ColumnMissing),
+    (
+        Table::Nodes,
+        b"node,source,node\n",
+        0,
+        RowFault::ColumnTwice,
+    ),
+    (
+        Table::Nodes,
+        b"source,zone,node\n1,x\n",
+        1,
+        RowFault::ShortRow,
+    ),
+    (
+        Table::Nodes,
+        b"node,source\na,1\n,1\n",
+        2,
+        RowFault::BadName,
+    ),
+    (
+        Table::Nodes,
+        b"node,source\na,1\n\"b\nb\",1\n",
+        2,
+        RowFault::BadName,
+    ),
+    (Table::Nodes, b"node,source\na,2\n", 1, RowFault::BadFlag),
+    (Table::Nodes, b"node,source\na, 1\n", 1, RowFault::BadFlag),
+    (
+        Table::Nodes,
+        b"node,source\na,1\na,0\n",
+        2,
+        RowFault::NameTwice,
+    ),
+    (
+        Table::Switches,
+        b"switch,from,to,closed\nS1,a,z,7\n",
+        1,
+        RowFault::BadFlag,
+    ),
+    (
+        Table::Switches,
+        b"switch,from,to,closed\nS1,a,z,1\n",
+        1,
+        RowFault::UnknownNode,
+    ),
+    (
+        Table::Switches,
+        b"switch,from,to,closed\nS1,a,b,1\nS1,z,b,1\n",
+        2,
+        RowFault::NameTwice,
+    ),
+    (
+        Table::Branches,
+        b"branch,from,to,inservice\nL1,z,b,1\n",
+        1,
+        RowFault::UnknownNode,
+    ),
+    (
+        Table::Meters,
+        b"meter,kind,at,inservice\nf1,Flow,L1,1\n",
+        1,
+        RowFault::BadKind,
+    ),
+    (
+        Table::Meters,
+        b"meter,kind,at,inservice\nf1,flow,L9,1\n",
+        1,
+        RowFault::UnknownPlace,
+    ),
+    (
+        Table::Meters,
+        b"meter,kind,at,inservice\nz1,zero,L1,1\n",
+        1,
+        RowFault::UnknownPlace,
+    ),
+    (
+        Table::Candidates,
+        b"candidate,kind,at,price\np,flow,L1,1000000001\n",
+        1,
+        RowFault::BadPrice,
+    ),
+    (
+        Table::Candidates,
+        b"candidate,kind,at,price\np,flow,L1,00000000000000000001\n",
+        1,
+        RowFault::BadPrice,
+    ),
+    (
+        Table::Candidates,
+        b"candidate,kind,at,price\np,flow,a,5\n",
+        1,
+        RowFault::UnknownPlace,
+    ),
+];
+
 #[test]
 fn each_fault_comes_where_it_is(rt: HostRuntime) {
-    for (table, bytes, row, code) in [
-        (Table::Nodes, b"".as_slice(), 0, RowFault::NoHeader),
-        (Table::Nodes, b"node\na\n", 0, RowFault::ColumnMissing),
-        (Table::Nodes, b"node,node\na\n", 0, RowFault::ColumnMissing),
-        (
-            Table::Nodes,
-            b"node,source,node\n",
-            0,
-            RowFault::ColumnTwice,
-        ),
-        (
-            Table::Nodes,
-            b"source,zone,node\n1,x\n",
-            1,
-            RowFault::ShortRow,
-        ),
-        (
-            Table::Nodes,
-            b"node,source\na,1\n,1\n",
-            2,
-            RowFault::BadName,
-        ),
-        (
-            Table::Nodes,
-            b"node,source\na,1\n\"b\nb\",1\n",
-            2,
-            RowFault::BadName,
-        ),
-        (Table::Nodes, b"node,source\na,2\n", 1, RowFault::BadFlag),
-        (Table::Nodes, b"node,source\na, 1\n", 1, RowFault::BadFlag),
-        (
-            Table::Nodes,
-            b"node,source\na,1\na,0\n",
-            2,
-            RowFault::NameTwice,
-        ),
-        (
-            Table::Switches,
-            b"switch,from,to,closed\nS1,a,z,7\n",
-            1,
-            RowFault::BadFlag,
-        ),
-        (
-            Table::Switches,
-            b"switch,from,to,closed\nS1,a,z,1\n",
-            1,
-            RowFault::UnknownNode,
-        ),
-        (
-            Table::Switches,
-            b"switch,from,to,closed\nS1,a,b,1\nS1,z,b,1\n",
-            2,
-            RowFault::NameTwice,
-        ),
-        (
-            Table::Branches,
-            b"branch,from,to,inservice\nL1,z,b,1\n",
-            1,
-            RowFault::UnknownNode,
-        ),
-        (
-            Table::Meters,
-            b"meter,kind,at,inservice\nf1,Flow,L1,1\n",
-            1,
-            RowFault::BadKind,
-        ),
-        (
-            Table::Meters,
-            b"meter,kind,at,inservice\nf1,flow,L9,1\n",
-            1,
-            RowFault::UnknownPlace,
-        ),
-        (
-            Table::Meters,
-            b"meter,kind,at,inservice\nz1,zero,L1,1\n",
-            1,
-            RowFault::UnknownPlace,
-        ),
-        (
-            Table::Candidates,
-            b"candidate,kind,at,price\np,flow,L1,1000000001\n",
-            1,
-            RowFault::BadPrice,
-        ),
-        (
-            Table::Candidates,
-            b"candidate,kind,at,price\np,flow,L1,00000000000000000001\n",
-            1,
-            RowFault::BadPrice,
-        ),
-        (
-            Table::Candidates,
-            b"candidate,kind,at,price\np,flow,a,5\n",
-            1,
-            RowFault::UnknownPlace,
-        ),
-    ] {
+    for case in FAULTS {
+        let (table, bytes, row, code) = *case;
         assert_eq!(rt;
             fault_in(rt.alloc(), table, bytes),
             Some((table, row, code))
         );
     }
 }
+
+const TABLE_FAULTS: &[(Table, &[u8], u32, RowFault)] = &[
+    (
+        Table::Switches,
+        b"switch,from,to,closed\n,a,b,1\n",
+        1,
+        RowFault::BadName,
+    ),
+    (
+        Table::Branches,
+        b"branch,from,to,inservice\n\x7f,a,b,1\n",
+        1,
+        RowFault::BadName,
+    ),
+    (
+        Table::Meters,
+        b"meter,kind,at,inservice\n,flow,L1,1\n",
+        1,
+        RowFault::BadName,
+    ),
+    (
+        Table::Candidates,
+        b"candidate,kind,at,price\n,flow,L1,1\n",
+        1,
+        RowFault::BadName,
+    ),
+    (
+        Table::Branches,
+        b"branch,from,to,inservice\nL1,a,b,\n",
+        1,
+        RowFault::BadFlag,
+    ),
+    (
+        Table::Meters,
+        b"meter,kind,at,inservice\nf1,flow,L1,yes\n",
+        1,
+        RowFault::BadFlag,
+    ),
+    (
+        Table::Candidates,
+        b"candidate,kind,at,price\np,,L1,1\n",
+        1,
+        RowFault::BadKind,
+    ),
+    (
+        Table::Branches,
+        b"branch,from,to,inservice\nL1,a,b,1\nL1,b,c,1\n",
+        2,
+        RowFault::NameTwice,
+    ),
+    (
+        Table::Meters,
+        b"meter,kind,at,inservice\nf1,flow,L1,1\nf1,flow,L2,1\n",
+        2,
+        RowFault::NameTwice,
+    ),
+    (
+        Table::Candidates,
+        b"candidate,kind,at,price\np,flow,L1,1\np,flow,L2,1\n",
+        2,
+        RowFault::NameTwice,
+    ),
+    (
+        Table::Switches,
+        b"switch,from,to,closed\nS1,a,b\n",
+        1,
+        RowFault::ShortRow,
+    ),
+    (
+        Table::Meters,
+        b"meter,kind,at,inservice\nf1,flow\n",
+        1,
+        RowFault::ShortRow,
+    ),
+    (
+        Table::Branches,
+        b"branch,from,to,from,inservice\nL1,a,b,c,1\n",
+        0,
+        RowFault::ColumnTwice,
+    ),
+    (
+        Table::Candidates,
+        b"candidate,kind,at\np,flow,L1\n",
+        0,
+        RowFault::ColumnMissing,
+    ),
+    (Table::Candidates, b"", 0, RowFault::NoHeader),
+    (
+        Table::Meters,
+        b"meter,kind,at,inservice\ni1,injection,z,1\n",
+        1,
+        RowFault::UnknownPlace,
+    ),
+];
 
 // The fault of a table is met in its one row, or in its second after a good one.
 #[test]
 fn each_fault_of_a_row_comes_for_each_table(rt: HostRuntime) {
-    for (table, bytes, row, code) in [
-        (
-            Table::Switches,
-            b"switch,from,to,closed\n,a,b,1\n".as_slice(),
-            1,
-            RowFault::BadName,
-        ),
-        (
-            Table::Branches,
-            b"branch,from,to,inservice\n\x7f,a,b,1\n",
-            1,
-            RowFault::BadName,
-        ),
-        (
-            Table::Meters,
-            b"meter,kind,at,inservice\n,flow,L1,1\n",
-            1,
-            RowFault::BadName,
-        ),
-        (
-            Table::Candidates,
-            b"candidate,kind,at,price\n,flow,L1,1\n",
-            1,
-            RowFault::BadName,
-        ),
-        (
-            Table::Branches,
-            b"branch,from,to,inservice\nL1,a,b,\n",
-            1,
-            RowFault::BadFlag,
-        ),
-        (
-            Table::Meters,
-            b"meter,kind,at,inservice\nf1,flow,L1,yes\n",
-            1,
-            RowFault::BadFlag,
-        ),
-        (
-            Table::Candidates,
-            b"candidate,kind,at,price\np,,L1,1\n",
-            1,
-            RowFault::BadKind,
-        ),
-        (
-            Table::Branches,
-            b"branch,from,to,inservice\nL1,a,b,1\nL1,b,c,1\n",
-            2,
-            RowFault::NameTwice,
-        ),
-        (
-            Table::Meters,
-            b"meter,kind,at,inservice\nf1,flow,L1,1\nf1,flow,L2,1\n",
-            2,
-            RowFault::NameTwice,
-        ),
-        (
-            Table::Candidates,
-            b"candidate,kind,at,price\np,flow,L1,1\np,flow,L2,1\n",
-            2,
-            RowFault::NameTwice,
-        ),
-        (
-            Table::Switches,
-            b"switch,from,to,closed\nS1,a,b\n",
-            1,
-            RowFault::ShortRow,
-        ),
-        (
-            Table::Meters,
-            b"meter,kind,at,inservice\nf1,flow\n",
-            1,
-            RowFault::ShortRow,
-        ),
-        (
-            Table::Branches,
-            b"branch,from,to,from,inservice\nL1,a,b,c,1\n",
-            0,
-            RowFault::ColumnTwice,
-        ),
-        (
-            Table::Candidates,
-            b"candidate,kind,at\np,flow,L1\n",
-            0,
-            RowFault::ColumnMissing,
-        ),
-        (Table::Candidates, b"", 0, RowFault::NoHeader),
-        (
-            Table::Meters,
-            b"meter,kind,at,inservice\ni1,injection,z,1\n",
-            1,
-            RowFault::UnknownPlace,
-        ),
-    ] {
+    for case in TABLE_FAULTS {
+        let (table, bytes, row, code) = *case;
         assert_eq!(rt;
             fault_in(rt.alloc(), table, bytes),
             Some((table, row, code))
@@ -254,26 +260,29 @@ fn each_fault_of_a_row_comes_for_each_table(rt: HostRuntime) {
     }
 }
 
+const NAMED: &[(Table, u32, RowFault, &[u8], u32, &[u8])] = &[
+    (
+        Table::Nodes,
+        0,
+        RowFault::NoHeader,
+        b"nodes",
+        1,
+        b"NoHeader",
+    ),
+    (
+        Table::Candidates,
+        20_001,
+        RowFault::TooMany,
+        b"candidates",
+        12,
+        b"TooMany",
+    ),
+];
+
 #[test]
 fn faults_become_input_faults(rt: HostRuntime) {
-    for (table, row, code, part, number, name) in [
-        (
-            Table::Nodes,
-            0,
-            RowFault::NoHeader,
-            b"nodes".as_slice(),
-            1,
-            b"NoHeader".as_slice(),
-        ),
-        (
-            Table::Candidates,
-            20_001,
-            RowFault::TooMany,
-            b"candidates",
-            12,
-            b"TooMany",
-        ),
-    ] {
+    for case in NAMED {
+        let (table, row, code, part, number, name) = *case;
         let fault = InputFault::from(TableFault { table, row, code });
         assert!(rt; fault.part == part && fault.name == name);
         assert!(rt; fault.place == row && fault.code == number);

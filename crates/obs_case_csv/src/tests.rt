@@ -6,20 +6,23 @@ use std::process::Abort;
 
 const SWITCHES: &[u8] = b"switch,from,to,closed\n";
 
+const TABLES: &[(&[u8], usize, &[u8])] = &[
+    (b"node,source\na,1\nb,0\n", 2, b"b"),
+    (
+        b"\xEF\xBB\xBFsource,node,zone\r\n1,a,x\r\n0,\"b\",y\r\n",
+        2,
+        b"b",
+    ),
+    (b"node,source\n\"a,b\",1\n\"c\"\"d\",0", 2, b"c\"d"),
+    (b"node,source,note\na,1,\"two\nlines\"\n\n\nb,0\n", 2, b"b"),
+    (b"node,source\na,1,more,and more\nb,0\n", 2, b"b"),
+    (b"node,source\n", 0, b"node"),
+];
+
 #[test]
 fn rows_are_what_the_reader_gives(rt: HostRuntime) {
-    for (bytes, count, last) in [
-        (b"node,source\na,1\nb,0\n".as_slice(), 2, b"b".as_slice()),
-        (
-            b"\xEF\xBB\xBFsource,node,zone\r\n1,a,x\r\n0,\"b\",y\r\n",
-            2,
-            b"b",
-        ),
-        (b"node,source\n\"a,b\",1\n\"c\"\"d\",0", 2, b"c\"d"),
-        (b"node,source,note\na,1,\"two\nlines\"\n\n\nb,0\n", 2, b"b"),
-        (b"node,source\na,1,more,and more\nb,0\n", 2, b"b"),
-        (b"node,source\n", 0, b"node"),
-    ] {
+    for case in TABLES {
+        let (bytes, count, last) = *case;
         let mut case = Case::new(rt.alloc());
         assert_eq!(rt;
             read_table(rt.alloc(), &mut case, Table::Nodes, bytes),
@@ -58,8 +61,7 @@ fn tables_that_are_not_given_are_empty(rt: HostRuntime) {
 }
 
 fn append(rt: &impl Abort, text: &mut Vec<u8>, bytes: &[u8]) {
-    text.extend_from_slice(bytes)
-        .expect(rt, "there is memory for the text");
+    assert!(rt; text.extend_from_slice(bytes).is_ok());
 }
 
 // A table's text with this header and rows that begin with numbers from 0 on.

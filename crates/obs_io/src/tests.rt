@@ -5,6 +5,7 @@ use crate::{
 };
 use std::alloc::Global;
 use std::io::{Cursor, Read, Write};
+use std::process::Abort;
 use std::test::Fail;
 use std::{fs, io};
 
@@ -12,32 +13,69 @@ fn listed(alloc: Global, calls: &[u64]) -> Result<Vec<u64>, Fail> {
     Ok(Vec::from_slice(alloc, calls)?)
 }
 
-#[test]
-fn files_in_memory_are_read_whole(rt: HostRuntime) -> Result<(), Fail> {
-    let mut entries = Vec::new(rt.alloc());
-    for (word, bytes) in [(1, b"north".as_slice()), (2, b""), (1, b"south")] {
-        entries.push(Entry {
-            word,
-            bytes: Vec::from_slice(rt.alloc(), bytes)?,
+fn entries(alloc: Global, files: &[(usize, &[u8])]) -> Result<Vec<Entry>, Fail> {
+    let mut all = Vec::new(alloc);
+    for (word, bytes) in files {
+        all.push(Entry {
+            word: *word,
+            bytes: Vec::from_slice(alloc, bytes)?,
         })?;
     }
-    let mut files = MemFiles::new(entries, 2, listed(rt.alloc(), &[5])?);
-    let first = read_all(rt.alloc(), &mut files, 1, 5)
-        .ok()
-        .ok_or("no first file")?;
-    assert_eq!(rt; first.as_slice(), b"north".as_slice());
-    let second = read_all(rt.alloc(), &mut files, 2, 5)
-        .ok()
-        .ok_or("no second file")?;
-    assert!(rt; second.is_empty());
+    Ok(all)
+}
+
+// Whether reading a file of at most so many bytes ends so.
+fn is_read(
+    alloc: Global,
+    files: &mut impl Files,
+    word: usize,
+    limit: u64,
+    end: Result<&[u8], ReadEnd>,
+) -> bool {
+    if word >= 16 || limit > 16_777_216 {
+        return false;
+    }
+    match (read_all(alloc, files, word, limit), end) {
+        (Ok(found), Ok(bytes)) => found.as_slice() == bytes,
+        (Err(found), Err(why)) => found == why,
+        _ => false,
+    }
+}
+
+// An input gives these pieces, call by call, and fails where there is none.
+fn comes(rt: &impl Abort, input: &mut impl Source, pieces: &[Option<&[u8]>]) {
+    for piece in pieces {
+        let mut into = [0; 5];
+        let right = match (input.take(&mut into), piece) {
+            (Ok(count), Some(bytes)) => count == bytes.len() && into.starts_with(bytes),
+            (Err(_), None) => true,
+            _ => false,
+        };
+        assert!(rt; right);
+    }
+}
+
+// Each of these bytes is written whole, or fails.
+fn goes(rt: &impl Abort, output: &mut impl Sink, writes: &[(&[u8], bool)]) {
+    for (bytes, well) in writes {
+        assert!(rt; write_all(output, bytes).is_ok() == *well);
+    }
+}
+
+#[test]
+fn files_in_memory_are_read_whole(rt: HostRuntime) -> Result<(), Fail> {
+    let held = entries(rt.alloc(), &[(1, b"north"), (2, b""), (1, b"south")])?;
+    let mut files = MemFiles::new(held, 2, listed(rt.alloc(), &[5])?);
     let ends = [
-        (1, ReadEnd::Failed),
-        (1, ReadEnd::TooLong),
-        (3, ReadEnd::Failed),
+        (1, 5, Ok(b"north".as_slice())),
+        (2, 5, Ok(b"")),
+        (1, 4, Err(ReadEnd::Failed)),
+        (1, 4, Err(ReadEnd::TooLong)),
+        (3, 4, Err(ReadEnd::Failed)),
     ];
-    for (word, end) in ends {
+    for (word, limit, end) in ends {
         assert!(rt;
-            read_all(rt.alloc(), &mut files, word, 4).err() == Some(end),
+            is_read(rt.alloc(), &mut files, word, limit, end),
             "at {word}"
         );
     }
@@ -48,13 +86,8 @@ fn files_in_memory_are_read_whole(rt: HostRuntime) -> Result<(), Fail> {
 fn input_in_memory_comes_in_pieces(rt: HostRuntime) -> Result<(), Fail> {
     let bytes = Vec::from_slice(rt.alloc(), b"status")?;
     let mut input = MemSource::new(bytes, 4, listed(rt.alloc(), &[1])?);
-    let mut into = [0; 8];
-    assert_eq!(rt; input.take(&mut into), Ok(4));
-    assert_eq!(rt; &into[..4], b"stat".as_slice());
-    assert_eq!(rt; input.take(&mut into), Err(Failed));
-    assert_eq!(rt; input.take(&mut into), Ok(2));
-    assert_eq!(rt; &into[..2], b"us".as_slice());
-    assert_eq!(rt; input.take(&mut into), Ok(0));
+    let pieces = [Some(b"stat".as_slice()), None, Some(b"us"), Some(b"")];
+    comes(&rt, &mut input, &pieces);
     Ok(())
 }
 
@@ -64,11 +97,10 @@ fn output_in_memory_goes_in_pieces(rt: HostRuntime) -> Result<(), Fail> {
     let mut output = MemSink::with_room(rt.alloc(), 8, 3, fail)
         .ok()
         .ok_or("no sink")?;
-    assert_eq!(rt; output.put(b"nodes"), Ok(3));
-    assert_eq!(rt; write_all(&mut output, b"es"), Ok(()));
-    assert_eq!(rt; write_all(&mut output, b"abcd"), Err(Failed));
-    assert_eq!(rt; output.written(), b"nodesabc".as_slice());
-    assert_eq!(rt; output.put(b"d"), Err(Failed));
+    assert!(rt; output.put(b"nodes") == Ok(3));
+    goes(&rt, &mut output, &[(b"es", true), (b"abcd", false)]);
+    assert!(rt; output.written() == b"nodesabc".as_slice());
+    goes(&rt, &mut output, &[(b"d", false)]);
     Ok(())
 }
 
@@ -77,55 +109,59 @@ const PATH: &str = "obs_io_pieces.txt";
 // Longer than what is asked for at once.
 const LONG: usize = 150_000;
 
-#[test]
-fn a_real_file_is_read_whole(rt: HostRuntime) -> Result<(), Fail> {
-    let mut bytes = Vec::new(rt.alloc());
+fn long_bytes(alloc: Global) -> Result<Vec<u8>, Fail> {
+    let mut bytes = Vec::new(alloc);
     for at in 0..LONG {
         bytes.push((at % 251) as u8)?;
     }
-    fs::write(&rt, PATH, bytes.as_slice())?;
-    let mut words = Vec::new(rt.alloc());
+    Ok(bytes)
+}
+
+fn two_paths(alloc: Global) -> Result<Vec<String>, Fail> {
+    let mut words = Vec::new(alloc);
     for word in [PATH, "no_such_file.txt"] {
-        words.push(String::from_str(rt.alloc(), word)?)?;
+        words.push(String::from_str(alloc, word)?)?;
     }
-    let mut files = DirFiles::new(&rt, &words);
-    let found = read_all(rt.alloc(), &mut files, 0, 16_777_216);
-    let short = read_all(rt.alloc(), &mut files, 0, 149_999);
-    let absent = read_all(rt.alloc(), &mut files, 1, 16_777_216);
-    fs::remove_file(&rt, PATH)?;
-    assert!(rt; found.ok().ok_or("not read")?.as_slice() == bytes.as_slice());
-    assert!(rt; short.err() == Some(ReadEnd::TooLong));
-    assert!(rt; absent.err() == Some(ReadEnd::Failed));
+    Ok(words)
+}
+
+// Whether the first of two files has these bytes, and the second isn't there.
+fn are_read(alloc: Global, files: &mut impl Files, bytes: &[u8]) -> bool {
     let mut into = [0; 4];
-    assert_eq!(rt; files.part(9, 0, &mut into), Err(Failed));
+    is_read(alloc, files, 0, 16_777_216, Ok(bytes))
+        && is_read(alloc, files, 0, 149_999, Err(ReadEnd::TooLong))
+        && is_read(alloc, files, 1, 16_777_216, Err(ReadEnd::Failed))
+        && files.part(9, 0, &mut into).is_err()
+}
+
+#[test]
+fn a_real_file_is_read_whole(rt: HostRuntime) -> Result<(), Fail> {
+    let words = two_paths(rt.alloc())?;
+    let bytes = long_bytes(rt.alloc())?;
+    fs::write(&rt, PATH, bytes.as_slice())?;
+    let read = are_read(rt.alloc(), &mut DirFiles::new(&rt, &words), &bytes);
+    fs::remove_file(&rt, PATH)?;
+    assert!(rt; read);
     Ok(())
 }
 
 #[test]
-fn a_reader_and_a_writer_stand_under_the_traits(rt: HostRuntime) -> Result<(), Fail> {
+fn a_reader_and_a_writer_stand_under_the_traits(rt: HostRuntime) {
     let mut input = FromRead::new(b"close S1\n".as_slice());
-    let mut into = [0; 5];
-    assert_eq!(rt; input.take(&mut into), Ok(5));
-    assert_eq!(rt; &into, b"close");
+    comes(&rt, &mut input, &[Some(b"close".as_slice())]);
     let mut buffer = [0; 6];
     let mut output = ToWrite::new(Cursor::new(buffer.as_mut_slice()));
-    assert_eq!(rt; write_all(&mut output, b"end\n"), Ok(()));
-    assert_eq!(rt; write_all(&mut output, b"more"), Err(Failed));
-    Ok(())
+    goes(&rt, &mut output, &[(b"end\n", true), (b"more", false)]);
 }
 
 #[test]
 fn a_word_that_is_not_held_fails(rt: HostRuntime) -> Result<(), Fail> {
-    let mut entries = Vec::new(rt.alloc());
-    entries.push(Entry {
-        word: 2,
-        bytes: Vec::from_slice(rt.alloc(), b"north")?,
-    })?;
-    let mut files = MemFiles::new(entries, 8, Vec::new(rt.alloc()));
+    let held = entries(rt.alloc(), &[(2, b"north")])?;
+    let mut files = MemFiles::new(held, 8, Vec::new(rt.alloc()));
     let mut into = [0; 8];
-    assert_eq!(rt; files.part(1, 0, &mut into), Err(Failed));
-    assert_eq!(rt; files.part(3, 16_777_216, &mut into), Err(Failed));
-    assert_eq!(rt; files.part(2, 0, &mut into), Ok(5));
+    assert!(rt; files.part(1, 0, &mut into).is_err());
+    assert!(rt; files.part(3, 16_777_216, &mut into).is_err());
+    assert!(rt; files.part(2, 0, &mut into) == Ok(5));
     Ok(())
 }
 
@@ -150,20 +186,20 @@ impl Read for Unreadable<'_> {
 
 // What a source gives is no end of its bytes where its reader failed before: the reader is asked anew.
 #[test]
-fn a_reader_that_failed_is_asked_anew(rt: HostRuntime) -> Result<(), Fail> {
+fn a_reader_that_failed_is_asked_anew(rt: HostRuntime) {
     let mut input = FromRead::new(Unreadable {
         bytes: b"close S1\n",
         fail: &[1, 2],
         calls: 0,
     });
-    let mut into = [0; 5];
-    assert_eq!(rt; input.take(&mut into), Ok(5));
-    assert_eq!(rt; input.take(&mut into), Err(Failed));
-    assert_eq!(rt; input.take(&mut into), Err(Failed));
-    assert_eq!(rt; input.take(&mut into), Ok(4));
-    assert_eq!(rt; &into[..4], b" S1\n".as_slice());
-    assert_eq!(rt; input.take(&mut into), Ok(0));
-    Ok(())
+    let pieces = [
+        Some(b"close".as_slice()),
+        None,
+        None,
+        Some(b" S1\n"),
+        Some(b""),
+    ];
+    comes(&rt, &mut input, &pieces);
 }
 
 // Takes all bytes, and can't flush them.
@@ -183,7 +219,6 @@ impl Write for Unflushed {
 #[test]
 fn a_writer_that_cannot_flush_fails(rt: HostRuntime) {
     let mut output = ToWrite::new(Unflushed);
-    assert_eq!(rt; output.put(b"end\n"), Err(Failed));
-    assert_eq!(rt; write_all(&mut output, b"end\n"), Err(Failed));
-    assert_eq!(rt; write_all(&mut output, b""), Ok(()));
+    assert!(rt; output.put(b"end\n") == Err(Failed));
+    goes(&rt, &mut output, &[(b"end\n", false), (b"", true)]);
 }
