@@ -103,7 +103,15 @@ struct Walked {
     tail_there: usize,
 }
 
-// Walks from both ends in turn, until the two meet or one of the queues ends.
+// How many branches the walk from an end has looked at, when it has followed one vertex more.
+fn looked_at(g: &Graph, looked: usize, v: u32) -> usize
+    requires vertex { v < g.now.vertices }
+{
+    looked.saturating_add(g.branches_at(v).len())
+}
+
+// Walks from both ends, until the two meet or one of the queues ends: on from the end from which fewer branches were
+// looked at.
 fn spread(
     g: &Graph,
     rows: u32,
@@ -128,12 +136,16 @@ fn spread(
     let mut met = false;
     let (mut head, mut tail) = (0, 0);
     let (mut head_there, mut tail_there) = (0, 0);
+    let (mut looked, mut looked_there) = (0, 0);
     push(one, one, labels, queue, &mut tail);
     push(there, there, labels, queue_there, &mut tail_there);
     while !met && head < tail && head_there < tail_there {
-        if head <= head_there {
+        let next = looked_at(g, looked, queue[head]);
+        let next_there = looked_at(g, looked_there, queue_there[head_there]);
+        if next <= next_there {
             met = follow(g, rows, e, one, head, labels, queue, &mut tail);
             head += 1;
+            looked = next;
         } else {
             met = follow(
                 g,
@@ -146,6 +158,7 @@ fn spread(
                 &mut tail_there,
             );
             head_there += 1;
+            looked_there = next_there;
         }
     }
     Walked {

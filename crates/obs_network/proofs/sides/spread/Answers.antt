@@ -14,11 +14,11 @@ loop-met-init c =
 pub follow-met-requires-clause-followed : goal.follow-met-requires-clause-followed
 follow-met-requires-clause-followed c = c.loop-met.invariant.followed c.loop-met-test.true
 
-pub loop-met-smaller-then-head-head_there : goal.loop-met-smaller-then-head-head_there
-loop-met-smaller-then-head-head_there c = omega (arith, c.loop-met.invariant.here.few, c.loop-met.auto.queue, c.requires.places, c.if-head-tail.true)
+pub loop-met-smaller-then-next-next_there : goal.loop-met-smaller-then-next-next_there
+loop-met-smaller-then-next-next_there c = omega (arith, c.loop-met.invariant.here.few, c.loop-met.auto.queue, c.requires.places, c.if-head-tail.true)
 
-pub loop-met-preserved-then-head-head_there : goal.loop-met-preserved-then-head-head_there
-loop-met-preserved-then-head-head_there c =
+pub loop-met-preserved-then-next-next_there : goal.loop-met-preserved-then-next-next_there
+loop-met-preserved-then-next-next_there c =
     let g = c.args.g.now in
     let l = c.loop-met in
     let f = c.follow-met in
@@ -26,8 +26,8 @@ loop-met-preserved-then-head-head_there c =
     AreWalked-step g.vertices (rows_but g.ends c.args.rows c.args.e) l.labels c.args.one c.args.there l.queue l.queue_there w l.invariant c.loop-met-test.true c.if-head-tail.true c.requires.apart
     f.new.labels f.new.queue f.new.tail f.result f.auto.labels f.ensures.queue f.ensures.followed f.ensures.met f.ensures.grown f.ensures.longer
 
-pub follow-met-requires-else-head-head_there-clause-followed : goal.follow-met-requires-else-head-head_there-clause-followed
-follow-met-requires-else-head-head_there-clause-followed c = c.loop-met.invariant.followed_there c.loop-met-test.true
+pub follow-met-requires-else-next-next_there-clause-followed : goal.follow-met-requires-else-next-next_there-clause-followed
+follow-met-requires-else-next-next_there-clause-followed c = c.loop-met.invariant.followed_there c.loop-met-test.true
 
 pub loop-met-smaller : goal.loop-met-smaller
 loop-met-smaller c = omega (arith, c.loop-met.invariant.there.few, c.loop-met.auto.queue_there, c.requires.places_there, c.if-head_there-tail_there.true)
@@ -37,7 +37,7 @@ loop-met-preserved c =
     let g = c.args.g.now in
     let held = rows_but g.ends c.args.rows c.args.e in
     let l = c.loop-met in
-    let f = c.follow-met-else-head-head_there in
+    let f = c.follow-met-else-next-next_there in
     let w : Walked = record { met = l.met; head = l.head; tail = l.tail; head_there = l.head_there; tail_there = l.tail_there } in
     let back : Walked = record { met = l.met; head = l.head_there; tail = l.tail_there; head_there = l.head; tail_there = l.tail } in
     let after : Walked = record { met = f.result; head = l.head_there + 1; tail = f.new.tail; head_there = l.head; tail_there = l.tail } in
