@@ -31,6 +31,9 @@ pub mod PartedNeeds
 pub mod StillTouched
 pub mod FewLost
 pub mod LoneChange
+pub mod FollowedItems
+pub mod FollowedLoops
+pub mod FollowedCase
 pub mod FollowedRows
 pub mod FoundSides
 pub mod Spreading

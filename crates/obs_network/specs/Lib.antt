@@ -11,3 +11,4 @@ pub mod Kept
 pub mod Observable
 pub mod Plain
 pub mod Edited
+pub mod Following

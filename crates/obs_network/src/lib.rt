@@ -4,6 +4,7 @@
 mod alone;
 mod angles;
 mod components;
+mod following;
 pub mod laws;
 mod live;
 mod live_meters;

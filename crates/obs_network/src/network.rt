@@ -8,6 +8,7 @@ ghost use Rattle.obs_network.specs.Network.{case_live, live_branch_count, networ
 
 use crate::alone::{change_row, changes_alone, live_ends_at};
 use crate::components::Components;
+use crate::following::{follow_items, follow_lists};
 use crate::live::count_present;
 use crate::live_meters::LiveMeters;
 use crate::located::{component_of_branch, component_of_touch};
@@ -209,19 +210,21 @@ impl Network {
         ensures whole { self.new ≡ network_of case.now }
         ensures alone { AreSameBut at self.old self.new }
     {
-        let _nodes = case.nodes();
-        let ends = live_ends_at(case, at, &self.buses);
-        change_row(at, ends, &mut self.kept, &mut self.graph);
-        refill_items(
-            case,
-            &self.buses,
+        let rows = case.branches().len() as u32;
+        let before = self.graph.ends(at);
+        let after = live_ends_at(case, at, &self.buses);
+        change_row(at, after, &mut self.kept, &mut self.graph);
+        follow_items(&self.graph, rows, before, after, &mut self.meters);
+        follow_items(&self.graph, rows, before, after, &mut self.offered);
+        follow_lists(
+            &self.components,
             &self.graph,
-            &mut self.touches,
-            &mut self.meters,
-            &mut self.offered,
+            &self.meters,
+            at,
+            before,
+            after,
+            &mut self.live_meters,
         );
-        self.live_meters
-            .refill(&self.components, &self.graph, &self.meters);
     }
 
     /// Makes the network that of the case after the flag of one branch was set, where it was that of the case before.
@@ -275,8 +278,7 @@ impl Network {
     /// the angle branch of each item.
     pub fn graph(&self) -> &Graph
         ensures graph { result.now ≡ self.now.graph }
-        ensures vertices { result.now.vertices
-            ≡ self.now.buses.count + length self.now.components.first_buses }
+        ensures vertices { result.now.vertices ≡ self.now.buses.count + length self.now.components.first_buses }
     {
         &self.graph
     }
@@ -322,8 +324,7 @@ impl Network {
         component_of_branch(&self.components, &self.graph, e)
     }
 
-    /// The component in which all lies that an item touches, and None where it touches nothing. The
-    /// items are the meters and then the candidates, so a meter is the item of its number.
+    /// The component in which all lies that an item touches, and None where it touches nothing. A meter is the item of its number.
     pub fn component_of_item(&self, m: u32) -> Option<u32>
         requires item { m < length self.now.offered.touches }
         ensures component { result ≡ component_of_item self.now m }
@@ -332,8 +333,7 @@ impl Network {
         component_of_touch(&self.components, &self.graph, self.offered.kind(m))
     }
 
-    /// The live meters of a component, rising: those that touch one of its branches. All components
-    /// together take time linear in them and in the meters.
+    /// The live meters of a component, rising. All components together take time linear in them and in the meters.
     pub fn live_meters(&self, c: u32) -> &[u32]
         requires component { c < length self.now.components.first_buses }
         ensures meters { result.now ≡ live_meters_of self.now c }

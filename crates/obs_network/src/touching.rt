@@ -17,8 +17,8 @@ fn count_below(rising: &[u32], bound: u32) -> usize
     rising.partition_point(|e| *e < bound)
 }
 
-// The rows at a bus: all branches there, where there are only rows, else those that stand below the others.
-fn rows_at(bus: u32, graph: &Graph, rows: u32) -> Touch
+/// The rows at a bus: all branches there, where there are only rows, else those that stand below the others.
+pub(crate) fn rows_at(bus: u32, graph: &Graph, rows: u32) -> Touch
     requires bus { bus < graph.now.vertices }
     requires rows { rows ≤ length graph.now.ends }
     ensures touch { result ≡ rows_at (take rows graph.now.ends) bus }

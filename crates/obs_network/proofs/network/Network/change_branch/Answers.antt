@@ -1,95 +1,114 @@
-use Rattle.std.proofs.Common.{◌∙◌, ◌≤◌, length, sym, ap, subst, arith}
+use Rattle.std.proofs.Common.{◌∙◌, ◌<◌, ◌≤◌, length, sym, ap, subst, take, arith}
 use Rattle.obs_graph.specs.Graph.{Graph}
 use Rattle.obs_graph.proofs.Stored.{written_back}
+use Rattle.obs_meter.specs.Held.{Meters}
 use Rattle.obs_network.specs.contracts.network.Network.{the_view}
 use Rattle.obs_network.specs.Network.{Components, Network, Rows}
 use Rattle.obs_network.specs.Edited.{AreSameBut}
+use Rattle.obs_network.proofs.FollowedCase.{follows, listed_far}
 use Rattle.obs_network.proofs.Items.{meters-in_range, offered-in_range}
-use Rattle.obs_network.proofs.LoneChange.{branch_edited, ends_after, graph_lone, lone}
+use Rattle.obs_network.proofs.LoneChange.{branch_edited, ends_after, lone}
 use Rattle.obs_network.proofs.OfCase.{case_branches-are, case_bus_count-le, case_component_count-le, length-case_first_buses, length-case_meters}
 use Rattle.obs_network.proofs.Whole.{items_are, network_is, rows_are, shape_is}
 use Rattle.obs_network.proofs.network.Network.change_branch.Goals as goal
 
+pub ends-before-requires : goal.ends-before-requires
+ends-before-requires c =
+    let alone = lone c.args.self.now c.args.at c.args.case.now c.branches.ensures.valid c.requires.branch c.requires.before c.requires.alone in
+    record { e = subst (λ (n : Network). c.args.at < length n.graph.ends) (sym c.self.view_is) alone.low }
+
 pub change_row-requires-clause-row : goal.change_row-requires-clause-row
 change_row-requires-clause-row c =
-    let alone = lone c.args.self.now c.args.at c.args.case.now c.nodes-nodes.ensures.valid c.requires.branch c.requires.before c.requires.alone in
+    let alone = lone c.args.self.now c.args.at c.args.case.now c.branches.ensures.valid c.requires.branch c.requires.before c.requires.alone in
     omega (arith, alone.low, ap (λ (n : Network). length n.graph.ends) c.self.view_is)
 
 pub change_row-requires-clause-branches : goal.change_row-requires-clause-branches
 change_row-requires-clause-branches c =
     let t = c.args.case.now in
     let n = c.args.self.now in
-    let alone = lone n c.args.at t c.nodes-nodes.ensures.valid c.requires.branch c.requires.before c.requires.alone in
+    let alone = lone n c.args.at t c.branches.ensures.valid c.requires.branch c.requires.before c.requires.alone in
     rw (
-      ends_after (the_view c.self.inside) n c.args.at t c.live_ends_at-ends.result c.self.view_is alone c.live_ends_at-ends.ensures.ends,
+      ends_after (the_view c.self.inside) n c.args.at t c.live_ends_at-after.result c.self.view_is alone c.live_ends_at-after.ensures.ends,
       ap (λ (x : Network). x.graph.vertices) c.self.view_is ∙ sym alone.same.vertices,
-    ) (case_branches-are t c.nodes-nodes.ensures.valid)
+    ) (case_branches-are t c.branches.ensures.valid)
 
 pub change_row-requires-clause-vertices : goal.change_row-requires-clause-vertices
 change_row-requires-clause-vertices c =
     let left = branch_edited c.args.self.now c.args.at c.args.case.now c.requires.before in
     subst (λ (n : Network). n.graph.vertices ≤ n.graph.most_vertices) (sym c.self.view_is) left.room
 
-pub refill_items-requires-clause-vertices : goal.refill_items-requires-clause-vertices
-refill_items-requires-clause-vertices c = (graph_lone (the_view c.self.inside) c.args.self.now c.args.at c.args.case.now c.nodes-nodes.ensures.valid c.requires.branch c.requires.before c.requires.alone c.self.view_is c.live_ends_at-ends.result c.live_ends_at-ends.ensures.ends c.change_row.new.graph c.change_row.ensures.graph).0
+pub follow_items-requires-clause-rows : goal.follow_items-requires-clause-rows
+follow_items-requires-clause-rows c = (follows (the_view c.self.inside) c.args.self.now c.args.at c.args.case.now c.branches.ensures.valid c.requires.branch c.requires.before c.requires.alone c.self.view_is c.ends-before.result c.ends-before.ensures.ends c.live_ends_at-after.result c.live_ends_at-after.ensures.ends (length c.branches.result.now) (ap (λ l. length l) c.branches.ensures.rows) c.change_row.new.graph c.change_row.ensures.graph).few
 
-pub refill_items-requires-clause-ends : goal.refill_items-requires-clause-ends
-refill_items-requires-clause-ends c = (graph_lone (the_view c.self.inside) c.args.self.now c.args.at c.args.case.now c.nodes-nodes.ensures.valid c.requires.branch c.requires.before c.requires.alone c.self.view_is c.live_ends_at-ends.result c.live_ends_at-ends.ensures.ends c.change_row.new.graph c.change_row.ensures.graph).1
+pub follow_items-requires-clause-after : goal.follow_items-requires-clause-after
+follow_items-requires-clause-after c = (follows (the_view c.self.inside) c.args.self.now c.args.at c.args.case.now c.branches.ensures.valid c.requires.branch c.requires.before c.requires.alone c.self.view_is c.ends-before.result c.ends-before.ensures.ends c.live_ends_at-after.result c.live_ends_at-after.ensures.ends (length c.branches.result.now) (ap (λ l. length l) c.branches.ensures.rows) c.change_row.new.graph c.change_row.ensures.graph).after_low
 
-pub refill-requires-clause-in_range : goal.refill-requires-clause-in_range
-refill-requires-clause-in_range c =
-    let of = graph_lone (the_view c.self.inside) c.args.self.now c.args.at c.args.case.now c.nodes-nodes.ensures.valid c.requires.branch c.requires.before c.requires.alone c.self.view_is c.live_ends_at-ends.result c.live_ends_at-ends.ensures.ends c.change_row.new.graph c.change_row.ensures.graph in
-    rw c.refill_items.ensures.meters (meters-in_range c.args.case.now c.nodes-nodes.ensures.valid c.change_row.new.graph of.0 of.1)
+pub follow_items-requires-2-clause-rows : goal.follow_items-requires-2-clause-rows
+follow_items-requires-2-clause-rows c = (follows (the_view c.self.inside) c.args.self.now c.args.at c.args.case.now c.branches.ensures.valid c.requires.branch c.requires.before c.requires.alone c.self.view_is c.ends-before.result c.ends-before.ensures.ends c.live_ends_at-after.result c.live_ends_at-after.ensures.ends (length c.branches.result.now) (ap (λ l. length l) c.branches.ensures.rows) c.change_row.new.graph c.change_row.ensures.graph).few
 
-pub refill-requires-clause-meters : goal.refill-requires-clause-meters
-refill-requires-clause-meters c =
+pub follow_items-requires-2-clause-after : goal.follow_items-requires-2-clause-after
+follow_items-requires-2-clause-after c = (follows (the_view c.self.inside) c.args.self.now c.args.at c.args.case.now c.branches.ensures.valid c.requires.branch c.requires.before c.requires.alone c.self.view_is c.ends-before.result c.ends-before.ensures.ends c.live_ends_at-after.result c.live_ends_at-after.ensures.ends (length c.branches.result.now) (ap (λ l. length l) c.branches.ensures.rows) c.change_row.new.graph c.change_row.ensures.graph).after_low
+
+pub follow_lists-requires-clause-in_range : goal.follow_lists-requires-clause-in_range
+follow_lists-requires-clause-in_range c =
+    let of = follows (the_view c.self.inside) c.args.self.now c.args.at c.args.case.now c.branches.ensures.valid c.requires.branch c.requires.before c.requires.alone c.self.view_is c.ends-before.result c.ends-before.ensures.ends c.live_ends_at-after.result c.live_ends_at-after.ensures.ends (length c.branches.result.now) (ap (λ l. length l) c.branches.ensures.rows) c.change_row.new.graph c.change_row.ensures.graph in
+    rw (of.meters c.follow_items.new.items c.follow_items.ensures.items) (meters-in_range c.args.case.now c.branches.ensures.valid c.change_row.new.graph of.vertices of.ends)
+
+pub follow_lists-requires-clause-most_meters : goal.follow_lists-requires-clause-most_meters
+follow_lists-requires-clause-most_meters c =
+    let of = follows (the_view c.self.inside) c.args.self.now c.args.at c.args.case.now c.branches.ensures.valid c.requires.branch c.requires.before c.requires.alone c.self.view_is c.ends-before.result c.ends-before.ensures.ends c.live_ends_at-after.result c.live_ends_at-after.ensures.ends (length c.branches.result.now) (ap (λ l. length l) c.branches.ensures.rows) c.change_row.new.graph c.change_row.ensures.graph in
     let left = branch_edited c.args.self.now c.args.at c.args.case.now c.requires.before in
     let meters = ap (λ (n : Network). n.rows.meters) c.self.view_is ∙ ap (λ (r : Rows). r.meters) left.rows in
-    omega (arith, meters, c.self.invariant.listed_meters, ap length c.refill_items.ensures.meters, length-case_meters c.args.case.now)
+    omega (arith, meters, c.self.invariant.listed_meters, ap length (of.meters c.follow_items.new.items c.follow_items.ensures.items), length-case_meters c.args.case.now)
 
-pub refill-requires-clause-components : goal.refill-requires-clause-components
-refill-requires-clause-components c =
+pub follow_lists-requires-clause-most_components : goal.follow_lists-requires-clause-most_components
+follow_lists-requires-clause-most_components c =
     let t = c.args.case.now in
     let left = branch_edited c.args.self.now c.args.at t c.requires.before in
-    let alone = lone c.args.self.now c.args.at t c.nodes-nodes.ensures.valid c.requires.branch c.requires.before c.requires.alone in
+    let alone = lone c.args.self.now c.args.at t c.branches.ensures.valid c.requires.branch c.requires.before c.requires.alone in
     let nodes = ap (λ (n : Network). n.rows.nodes) c.self.view_is ∙ ap (λ (r : Rows). r.nodes) left.rows in
     let firsts = ap (λ (n : Network). length n.components.first_buses) c.self.view_is ∙ ap (λ (x : Components). length x.first_buses) (sym alone.same.components) in
     omega (arith, nodes, firsts, c.self.invariant.listed_components, length-case_first_buses t, case_component_count-le t, case_bus_count-le t)
 
+pub follow_lists-requires-clause-far : goal.follow_lists-requires-clause-far
+follow_lists-requires-clause-far c =
+    let of = follows (the_view c.self.inside) c.args.self.now c.args.at c.args.case.now c.branches.ensures.valid c.requires.branch c.requires.before c.requires.alone c.self.view_is c.ends-before.result c.ends-before.ensures.ends c.live_ends_at-after.result c.live_ends_at-after.ensures.ends (length c.branches.result.now) (ap (λ l. length l) c.branches.ensures.rows) c.change_row.new.graph c.change_row.ensures.graph in
+    let s = c.self.inside in
+    let g = c.change_row.new.graph in
+    listed_far s.components s.graph g s.meters c.follow_items.new.items (take (length c.branches.result.now) g.ends) c.args.at c.ends-before.result c.live_ends_at-after.result s.live_meters.lists of.was
+    (ap (λ (x : Graph). x.ends) c.change_row.ensures.graph) (ap (λ (x : Meters). x.touches) c.follow_items.ensures.items) c.self.invariant.lists
+
 pub invariant_of-self : goal.invariant_of-self
 invariant_of-self c =
     let t = c.args.case.now in
-    let valid = c.nodes-nodes.ensures.valid in
+    let valid = c.branches.ensures.valid in
     let s = c.self.inside in
     let v = c.self.invariant in
-    let of = graph_lone (the_view c.self.inside) c.args.self.now c.args.at c.args.case.now c.nodes-nodes.ensures.valid c.requires.branch c.requires.before c.requires.alone c.self.view_is c.live_ends_at-ends.result c.live_ends_at-ends.ensures.ends c.change_row.new.graph c.change_row.ensures.graph in
+    let of = follows (the_view c.self.inside) c.args.self.now c.args.at c.args.case.now c.branches.ensures.valid c.requires.branch c.requires.before c.requires.alone c.self.view_is c.ends-before.result c.ends-before.ensures.ends c.live_ends_at-after.result c.live_ends_at-after.ensures.ends (length c.branches.result.now) (ap (λ l. length l) c.branches.ensures.rows) c.change_row.new.graph c.change_row.ensures.graph in
     let row = c.change_row.ensures in
-    let items = c.refill_items.ensures in
-    let listed = c.refill.ensures in
+    let most_meters = ap (λ (x : Meters). x.most) c.follow_items.ensures.items in
+    let most_offered = ap (λ (x : Meters). x.most) c.follow_items-2.ensures.items in
+    let listed = c.follow_lists.ensures in
     let most_branches = ap (λ (g : Graph). g.most_branches) row.graph in
     let keeps = c.change_row.auto.kept in
-    let touches = c.refill_items.auto.touches in
-    rw (
-      written_back s.kept.len c.change_row.new.kept s.kept.items (omega arith) (omega arith),
-      written_back s.touches.len c.refill_items.new.touches s.touches.items (omega arith) (omega arith),
-    )
+    rw (written_back s.kept.len c.change_row.new.kept s.kept.items (omega arith) (omega arith))
     record {
       buses_room = v.buses_room;
       vertices_room = ap (λ (g : Graph). g.most_vertices) row.graph ∙ v.vertices_room;
-      branches_room = omega (arith, v.branches_room, most_branches, items.most_offered);
-      kept_len = omega (arith, v.kept_len, keeps, items.most_offered);
+      branches_room = omega (arith, v.branches_room, most_branches, most_offered);
+      kept_len = omega (arith, v.kept_len, keeps, most_offered);
       kept_ends = row.kept;
-      touches_len = omega (arith, v.touches_len, touches, items.most_offered);
-      fewer = omega (arith, v.fewer, items.most_meters, items.most_offered);
+      touches_len = omega (arith, v.touches_len, most_offered);
+      fewer = omega (arith, v.fewer, most_meters, most_offered);
       search_room = v.search_room;
       sides_room = v.sides_room;
       vertices = ap (λ (g : Graph). g.vertices) row.graph ∙ v.vertices;
       of_buses = v.of_buses;
-      meters_in_range = rw items.meters (meters-in_range t valid c.change_row.new.graph of.0 of.1);
-      offered_in_range = rw items.offered (offered-in_range t valid c.change_row.new.graph of.0 of.1);
-      listed_meters = omega (arith, v.listed_meters, listed.most_meters, items.most_meters);
+      meters_in_range = rw (of.meters c.follow_items.new.items c.follow_items.ensures.items) (meters-in_range t valid c.change_row.new.graph of.vertices of.ends);
+      offered_in_range = rw (of.offered c.follow_items-2.new.items c.follow_items-2.ensures.items) (offered-in_range t valid c.change_row.new.graph of.vertices of.ends);
+      listed_meters = omega (arith, v.listed_meters, listed.most_meters, most_meters);
       listed_components = omega (arith, v.listed_components, listed.most_components);
-      listed_count = listed.components;
+      listed_count = listed.components ∙ v.listed_count;
       lists = listed.lists;
     }
 
@@ -101,9 +120,10 @@ whole c =
     let v = c.self.invariant in
     let is = c.self.view_is in
     let left = branch_edited n c.args.at t c.requires.before in
-    let alone = lone n c.args.at t c.nodes-nodes.ensures.valid c.requires.branch c.requires.before c.requires.alone in
-    let of = graph_lone (the_view c.self.inside) c.args.self.now c.args.at c.args.case.now c.nodes-nodes.ensures.valid c.requires.branch c.requires.before c.requires.alone c.self.view_is c.live_ends_at-ends.result c.live_ends_at-ends.ensures.ends c.change_row.new.graph c.change_row.ensures.graph in
-    let items = c.refill_items.ensures in
+    let alone = lone n c.args.at t c.branches.ensures.valid c.requires.branch c.requires.before c.requires.alone in
+    let of = follows (the_view c.self.inside) c.args.self.now c.args.at c.args.case.now c.branches.ensures.valid c.requires.branch c.requires.before c.requires.alone c.self.view_is c.ends-before.result c.ends-before.ensures.ends c.live_ends_at-after.result c.live_ends_at-after.ensures.ends (length c.branches.result.now) (ap (λ l. length l) c.branches.ensures.rows) c.change_row.new.graph c.change_row.ensures.graph in
+    let items_most = ap (λ (x : Meters). x.most) c.follow_items.ensures.items in
+    let offered_most = ap (λ (x : Meters). x.most) c.follow_items-2.ensures.items in
     let rows = ap (λ (x : Network). x.rows) is ∙ left.rows in
     let nodes = ap (λ (r : Rows). r.nodes) rows in
     let branches = ap (λ (r : Rows). r.branches) rows in
@@ -112,12 +132,12 @@ whole c =
     let most_vertices = ap (λ (g : Graph). g.most_vertices) c.change_row.ensures.graph in
     let most_branches = ap (λ (g : Graph). g.most_branches) c.change_row.ensures.graph in
     network_is _ _
-    (rows_are _ _ nodes (ap (λ (r : Rows). r.switches) rows) branches (items.most_meters ∙ meters) (omega (arith, items.most_meters, items.most_offered, candidates)))
+    (rows_are _ _ nodes (ap (λ (r : Rows). r.switches) rows) branches (items_most ∙ meters) (omega (arith, items_most, offered_most, candidates)))
     (ap (λ (x : Network). x.buses) is ∙ left.buses)
     (ap (λ (x : Network). x.components) is ∙ sym alone.same.components)
-    (shape_is _ _ of.0 of.1 (omega (arith, most_vertices, v.vertices_room, nodes)) (omega (arith, most_branches, v.branches_room, branches, v.fewer, meters, candidates)))
-    (items_are _ _ items.meters (items.most_meters ∙ meters))
-    (items_are _ _ items.offered (items.most_offered ∙ omega (arith, v.fewer, meters, candidates)))
+    (shape_is _ _ of.vertices of.ends (omega (arith, most_vertices, v.vertices_room, nodes)) (omega (arith, most_branches, v.branches_room, branches, v.fewer, meters, candidates)))
+    (items_are _ _ (of.meters c.follow_items.new.items c.follow_items.ensures.items) (items_most ∙ meters))
+    (items_are _ _ (of.offered c.follow_items-2.new.items c.follow_items-2.ensures.items) (offered_most ∙ omega (arith, v.fewer, meters, candidates)))
     (ap (λ (x : Network). x.needed) is ∙ sym alone.same.needed)
 
 pub returns-clause-whole : goal.returns-clause-whole
@@ -125,5 +145,5 @@ returns-clause-whole c = whole c
 
 pub returns-clause-alone : goal.returns-clause-alone
 returns-clause-alone c =
-    let alone = lone c.args.self.now c.args.at c.args.case.now c.nodes-nodes.ensures.valid c.requires.branch c.requires.before c.requires.alone in
+    let alone = lone c.args.self.now c.args.at c.args.case.now c.branches.ensures.valid c.requires.branch c.requires.before c.requires.alone in
     subst (λ (x : Network). AreSameBut c.args.at c.args.self.now x) (sym (whole c)) alone.same
