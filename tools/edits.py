@@ -1,10 +1,11 @@
 #!/usr/bin/env python3
 """Makes sessions to measure the program with, over tables that tools/shapes.py made.
 
-Usage: tools/edits.py TABLES FOLDER
+Usage: tools/edits.py TABLES FOLDER [doubled]
 
 Writes into FOLDER the tables of TABLES with a second node for each bus behind a closed switch, to which every other branch goes. There
-are to be at most 10,000 nodes. Meters and candidates stay as they are. Beside the tables it writes the lines of sessions: mixed.txt has
+are to be at most 10,000 nodes. With the word doubled each of these switches has another one beside it, as where two paths lead through a
+station, so that most edits of a switch leave the buses as they are. Meters and candidates stay as they are. Beside the tables it writes the lines of sessions: mixed.txt has
 20,000 edits of switches, branches and meters with an ask at each 200th, meters.txt 20,000 edits of meters, branches.txt 20,000 of
 branches, switches.txt 20,000 of switches, and comments.txt 16 MiB of comments. Few rows are out at once, as in a control room: an outage
 is followed by others, and is ended after some. The lines are the same at each run.
@@ -52,7 +53,8 @@ def main():
     nodes, branches, meters = rows(tables, "nodes.csv"), rows(tables, "branches.csv"), rows(tables, "meters.csv")
     head = ",".join(["node", "source", "absolute"][: len(nodes[0])])
     write(folder, "nodes.csv", [head] + [f"{','.join(row)}\n{row[0]}q{',0' * (len(row) - 1)}" for row in nodes])
-    write(folder, "switches.csv", ["switch,from,to,closed"] + [f"s{row[0]},{row[0]},{row[0]}q,1" for row in nodes])
+    beside = [f"t{row[0]},{row[0]},{row[0]}q,1" for row in nodes if "doubled" in sys.argv[3:]]
+    write(folder, "switches.csv", ["switch,from,to,closed"] + [f"s{row[0]},{row[0]},{row[0]}q,1" for row in nodes] + beside)
     far = [f"{e},{a}{'q' if k % 2 else ''},{b}{'q' if k % 3 else ''},{i}" for k, (e, a, b, i) in enumerate(branches)]
     write(folder, "branches.csv", ["branch,from,to,inservice"] + far)
     write(folder, "meters.csv", ["meter,kind,at,inservice"] + [",".join(row) for row in meters])

@@ -21,20 +21,16 @@ use Rattle.obs_network.proofs.Edited.{branch_is}
 use Rattle.obs_network.proofs.Fronts.{rows_are_first}
 use Rattle.obs_network.proofs.MergedRows.{with_service}
 use Rattle.obs_network.proofs.OfCase.{IsBranch, case_live-branches, case_position_count-le, case_vertex_count-le, length-case_branches, length-case_live, length-case_rows}
-use Rattle.obs_network.proofs.OfLaws.{rows-with_branch}
+use Rattle.obs_network.proofs.OfLaws.{changed_at-twice, rows-with_branch}
 use Rattle.obs_network.proofs.Outed.{at_map, some_of}
 use Rattle.obs_network.proofs.Spared.{branches_but_one, case_live-without, components_stay, energised_stay, joined_by_rows, row_is_live, set_none}
 use Rattle.obs_network.proofs.SparedItems.{same_but_one}
 
 -- a flag that is set twice is set once
-twice : (rows : List Branch) (at : ℕ) (b c : Bool) → with_service c at (with_service b at rows) ≡ with_service c at rows
-unfolding changed_at
-twice [] at b c = refl
-twice (row ∷ rows) zero b c = refl
-twice (row ∷ rows) (suc at) b c = ap (λ xs. row ∷ xs) (twice rows at b c)
-
 pub set_twice : (t : Tables) (at : ℕ) (b c : Bool) → with_branch_inservice (with_branch_inservice t at b) at c ≡ with_branch_inservice t at c
-set_twice t at b c = ap (λ (rows : List Branch). record t { branches = rows }) (twice t.branches at b c)
+set_twice t at b c =
+    ap (λ (rows : List Branch). record t { branches = rows })
+    (changed_at-twice (λ (row : Branch). record row { inservice = b }) (λ (row : Branch). record row { inservice = c }) (λ row. refl) at t.branches)
 
 -- the tables before were valid
 pub valid_before : (t : Tables) (at : ℕ) (b : Bool) → IsValid (with_branch_inservice t at b) → IsValid t

@@ -13,6 +13,7 @@ mod marks;
 mod memory;
 mod network;
 mod rebuild;
+mod refreshing;
 mod room;
 mod sides;
 mod switched;
