@@ -1,19 +1,18 @@
 -- A switch that is opened or closed: the network stays where its nodes are one bus without it, and so where there are as many buses.
-use Rattle.std.proofs.Common.{◌⊎◌, inl, inr, ◌≡◌, ℕ, zero, suc, ◌+◌, ◌<◌, ◌≤◌, Bool, true, false, not, List, [], ◌∷◌, ◌++◌, length, get_or, refl, sym, ap, ◌∙◌, subst, arith}
+use Rattle.std.proofs.Common.{◌⊎◌, inl, inr, ◌≡◌, ℕ, zero, suc, ◌+◌, ◌<◌, Bool, true, false, not, List, [], ◌∷◌, ◌++◌, length, get_or, refl, sym, ap, ◌∙◌, subst, arith}
 use Rattle.std.specs.Prelude.{if◌then◌else◌}
 use Rattle.std.proofs.lemmas.Bool.{cases_Bool, cases_eq, true≢false}
 use Rattle.std.proofs.lemmas.List.{map-append}
-use Rattle.obs_graph.specs.declared.Ends.{Ends}
 use Rattle.obs_graph.specs.Joined.{count_below, rank}
 use Rattle.obs_graph.specs.Positions.{present}
 use Rattle.obs_graph.proofs.Counts.{count_below-no, count_below-yes}
 use Rattle.obs_graph.proofs.Forests.{among_back, among_front, rank-among}
 use Rattle.obs_graph.proofs.Ranks.{is_moved, rank-add_new, rank_is}
 use Rattle.obs_switch.specs.declared.link.Link.{Link}
-use Rattle.obs_switch.specs.Buses.{bus_count, bus_of, buses_of, ends_of_link, ends_of_links, first_node, is_first_node}
+use Rattle.obs_switch.specs.Buses.{bus_count, buses_of, ends_of_link, ends_of_links, first_node, is_first_node}
 use Rattle.obs_switch.proofs.FirstNodes.{buses_of-at, same_first-from_same_bus}
 use Rattle.obs_case.specs.declared.rows.Switch.{Switch}
-use Rattle.obs_case.specs.Flags.{changed_at, with_closed}
+use Rattle.obs_case.specs.Flags.{with_closed}
 use Rattle.obs_case.specs.Tables.{IsValid, Tables}
 use Rattle.obs_case.proofs.ValidLemmas.{valid-with_closed}
 use Rattle.obs_network.specs.Switched.{case_bus_count, case_buses}
@@ -119,11 +118,11 @@ module _ (t : Tables) (v : IsValid t) (at : ℕ) where
       elim (one_more (length t.nodes) t.switches at d v.switch_ends) [
         | inl same ↦ both same
         | inr one ↦ elim (cases_eq (first_node opened l.from) (first_node opened l.to)) [
-            | inl joined ↦ over_joined l one joined
-            | inr apart ↦
-                let fewer = fewer_buses (length t.nodes) opened closed one.before l one.behind one.from one.to one.without one.with_it apart in
-                absurd (omega (arith, fewer, count))
-          ]
+          | inl joined ↦ over_joined l one joined
+          | inr apart ↦
+              let fewer = fewer_buses (length t.nodes) opened closed one.before l one.behind one.from one.to one.without one.with_it apart in
+              absurd (omega (arith, fewer, count))
+        ]
       ]
 
   one_bus : (d : Switch) → let l = link_at t.switches at d in (OneMore (length t.nodes) l opened closed → first_node opened l.from ≡ first_node opened l.to) → network_of (set_to false) ≡ network_of (set_to true)
@@ -184,9 +183,9 @@ switch_edited n at after v before =
     let c = before.closed in
     let from : (b : Bool) → t ≡ with_closed t at b → IsLeft n at after =
     λ b is.
-        let valid : IsValid t = subst IsValid (set_twice t at c b ∙ sym is) (valid-with_closed (with_closed t at c) (subst IsValid before.edited v) at b) in
-        let left = left_as t valid at b c in
-        subst (λ (u : Tables). IsLeft n at u) (sym before.edited) (subst (λ (m : Network). IsLeft m at (with_closed t at c)) (sym (before.network ∙ ap network_of is)) left) in
+    let valid : IsValid t = subst IsValid (set_twice t at c b ∙ sym is) (valid-with_closed (with_closed t at c) (subst IsValid before.edited v) at b) in
+    let left = left_as t valid at b c in
+    subst (λ (u : Tables). IsLeft n at u) (sym before.edited) (subst (λ (m : Network). IsLeft m at (with_closed t at c)) (sym (before.network ∙ ap network_of is)) left) in
     elim (as_it_is t at) [ inl e ↦ from false e | inr e ↦ from true e ]
 
 -- the switch as it is read, and the buses of its nodes

@@ -1,9 +1,9 @@
 -- Where the branches of items stand, and what is left where no node is absolute.
-use Rattle.std.proofs.Common.{◌≡◌, ℕ, zero, suc, ◌+◌, ◌-◌, ◌<◌, ◌≤◌, Bool, true, false, not, ◌&&◌, Option, Some, None, List, [], ◌∷◌, ◌++◌, length, map, filter, take, get_or, refl, sym, ap, ◌∙◌, subst, arith, inl, inr, length-append}
-use Rattle.std.specs.Prelude.{All, IsSome, cond, if◌then◌else◌, slice_index, slice_index_or, ◌==◌}
+use Rattle.std.proofs.Common.{◌≡◌, ℕ, zero, suc, ◌+◌, ◌-◌, ◌<◌, ◌≤◌, Bool, true, false, not, ◌&&◌, Option, Some, None, List, [], ◌∷◌, ◌++◌, length, map, filter, take, get_or, refl, sym, ap, ◌∙◌, subst, arith, inl, inr}
+use Rattle.std.specs.Prelude.{All, if◌then◌else◌, slice_index, slice_index_or, ◌==◌}
 use Rattle.std.specs.List.{list_any, range_with_len}
 use Rattle.std.proofs.lemmas.Bool.{cases_Bool, cases_lt, cond-false}
-use Rattle.std.proofs.lemmas.List.{get_or-append_right, get_or-map, get_or_append_left, get_or_past, length-map, map-append, take_all}
+use Rattle.std.proofs.lemmas.List.{get_or-append_right, get_or_append_left, get_or_past, length-map, map-append, take_all}
 use Rattle.std.proofs.lemmas.List.Elements.{All-head, All-tail}
 use Rattle.std.proofs.lemmas.List.FromFn.{get_or-map-range_with_len, length-map-range_with_len}
 use Rattle.obs_graph.specs.declared.Ends.{Ends}
@@ -24,13 +24,13 @@ use Rattle.obs_meter.specs.declared.Touch.TheVariants.{Nothing, Star}
 use Rattle.obs_meter.specs.Touches.{touch_at, touched}
 use Rattle.obs_meter.proofs.Touched.{touched-present}
 use Rattle.obs_network.specs.Switched.{case_buses}
-use Rattle.obs_network.specs.Components.{is_absolute_node, is_marked, marked_nodes}
-use Rattle.obs_network.specs.Angles.{bus_angle, has_angle, item_angle, takes_angles}
+use Rattle.obs_network.specs.Components.{is_absolute_node, is_marked}
+use Rattle.obs_network.specs.Angles.{has_angle, item_angle, takes_angles}
 use Rattle.obs_network.specs.Touching.{candidate_touch, candidate_touches, meter_touch, meter_touches, touch_of}
-use Rattle.obs_network.specs.Network.{case_absolute, case_angles, case_branches, case_component_count, case_components, case_energised, case_item_count, case_live, case_need, case_offered, case_rows, case_sizes}
+use Rattle.obs_network.specs.Network.{case_absolute, case_angles, case_branches, case_component_count, case_components, case_energised, case_live, case_need, case_offered, case_rows, case_sizes}
 use Rattle.obs_network.specs.Plain.{HasNoAbsolute, other_touches_in_order, touches_in_order, without_angles}
-use Rattle.obs_network.proofs.Items.{IsItemAt, item_at, length-angle_flags}
-use Rattle.obs_network.proofs.OfCase.{length-candidate_touches, length-case_offered, length-case_rows, length-meter_touches}
+use Rattle.obs_network.proofs.Items.{item_at, length-angle_flags}
+use Rattle.obs_network.proofs.OfCase.{length-case_offered, length-case_rows, length-meter_touches}
 
 itself_is : (o : Option Ends) (e p : ℕ) → In p (itself_of o e) → p ≡ e
 itself_is None e p i = absurd i

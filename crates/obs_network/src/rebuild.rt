@@ -61,7 +61,12 @@ pub(crate) enum Known {
 
 /// The same, where the buses aren't known to be those of the case already. Answers true only where the number of buses
 /// tells, and stayed.
-pub(crate) fn relabel_unless(case: &Case, known: Known, links: &mut [Link], buses: &mut Buses) -> bool
+pub(crate) fn relabel_unless(
+    case: &Case,
+    known: Known,
+    links: &mut [Link],
+    buses: &mut Buses,
+) -> bool
     requires links { length case.now.switches ≤ length links.old }
     requires room { length case.now.nodes ≤ buses.old.most_nodes }
     requires kept { known ≡ TheBuses →

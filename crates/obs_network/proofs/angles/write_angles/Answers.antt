@@ -1,4 +1,4 @@
-use Rattle.std.proofs.Common.{◌≡◌, ◌∙◌, ◌++◌, ap, length, take, refl, sym, arith}
+use Rattle.std.proofs.Common.{◌∙◌, ◌++◌, ap, length, refl, sym, arith}
 use Rattle.std.proofs.lemmas.List.{take_all}
 use Rattle.obs_network.specs.Network.{case_angles}
 use Rattle.obs_network.proofs.OfCase.{candidates-at_nodes, length-case_buses, length-case_components, meters-at_nodes}

@@ -1,4 +1,4 @@
-use Rattle.std.proofs.Common.{◌≡◌, ap, ◌∙◌, length, take, refl, arith}
+use Rattle.std.proofs.Common.{ap, ◌∙◌, length, refl, arith}
 use Rattle.obs_meter.specs.Held.{Meters}
 use Rattle.obs_network.specs.Network.{case_meters, case_offered}
 use Rattle.obs_network.proofs.OfCase.{candidates-at_nodes, length-case_branches, length-case_buses, meters-at_nodes}

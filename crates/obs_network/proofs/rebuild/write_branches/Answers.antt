@@ -1,6 +1,5 @@
-use Rattle.std.proofs.Common.{◌≡◌, ◌∙◌, ◌+◌, ◌++◌, List, Option, take, ap, length, refl, arith}
+use Rattle.std.proofs.Common.{◌≡◌, ◌∙◌, ◌+◌, ◌++◌, take, ap, length, refl, arith}
 use Rattle.std.proofs.Math.Seq.{take-append-add}
-use Rattle.obs_graph.specs.declared.Ends.{Ends}
 use Rattle.obs_network.specs.Network.{case_angles, case_branches, case_rows}
 use Rattle.obs_network.proofs.OfCase.{case_live-ends, length-case_live, length-case_rows}
 use Rattle.obs_network.proofs.rebuild.write_branches.Goals as goal

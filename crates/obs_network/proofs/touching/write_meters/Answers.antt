@@ -1,6 +1,4 @@
 use Rattle.std.proofs.Common.{take, arith}
-use Rattle.obs_case.specs.declared.rows.Meter.{Meter}
-use Rattle.obs_network.specs.Touching.{meter_touch}
 use Rattle.obs_network.proofs.Fronts.{meters_written}
 use Rattle.obs_network.proofs.touching.write_meters.Goals as goal
 

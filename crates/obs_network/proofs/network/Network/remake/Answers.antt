@@ -123,9 +123,9 @@ returns-then-relabel_unless c =
     let switches = ap (λ (r : Rows). r.switches) rows in
     let nodes = ap (λ (r : Rows). r.nodes) rows in
     let whole = network_is _ (network_of t)
-        (rows_are _ _ nodes (omega (arith, wrote_links, links, switches)) (ap (λ (r : Rows). r.branches) rows) (ap (λ (r : Rows). r.meters) rows) (ap (λ (r : Rows). r.candidates) rows))
-        (labelled_is _ _ of.buses of.count (of.room ∙ (v.buses_room ∙ nodes)))
-        (ap (λ (n : Network). n.components) is) (ap (λ (n : Network). n.graph) is) (ap (λ (n : Network). n.meters) is) (ap (λ (n : Network). n.offered) is) (ap (λ (n : Network). n.needed) is) in
+    (rows_are _ _ nodes (omega (arith, wrote_links, links, switches)) (ap (λ (r : Rows). r.branches) rows) (ap (λ (r : Rows). r.meters) rows) (ap (λ (r : Rows). r.candidates) rows))
+    (labelled_is _ _ of.buses of.count (of.room ∙ (v.buses_room ∙ nodes)))
+    (ap (λ (n : Network). n.components) is) (ap (λ (n : Network). n.graph) is) (ap (λ (n : Network). n.meters) is) (ap (λ (n : Network). n.offered) is) (ap (λ (n : Network). n.needed) is) in
     record { whole = whole; same = λ yes. whole ∙ sym same }
 
 pub invariant_of-self-2 : goal.invariant_of-self-2
