@@ -136,54 +136,55 @@ offered-with_meter t at inservice l =
     ∙ ap (λ xs. xs ++ candidates) (touches-changed rows buses inservice 0 t.meters at)
     ∙ sym (set-append_left touches candidates at touch (omega (arith, l, length-meter_touches rows buses 0 t.meters)))
 
+-- the nodes of a switch, as a link
+abbrev pub link_at : List Switch → ℕ → Switch → Link
+link_at rows at d = record { from = (get_or rows at d).from; to = (get_or rows at d).to }
+
 -- one switch more is closed: the links with it, and those without it
-record OneMore (nodes : ℕ) (opened closed : List Link) : Type 0 where
-  before : List Link
-  link : Link
-  behind : List Link
-  from : link.from < nodes
-  to : link.to < nodes
-  without : opened ≡ before ++ behind
-  with_it : closed ≡ before ++ link ∷ behind
+pub record OneMore (nodes : ℕ) (link : Link) (opened closed : List Link) : Type 0 where
+  pub before : List Link
+  pub behind : List Link
+  pub from : link.from < nodes
+  pub to : link.to < nodes
+  pub without : opened ≡ before ++ behind
+  pub with_it : closed ≡ before ++ link ∷ behind
 
 -- the closed switches with one that is set so
-abbrev links_of : Bool → ℕ → List Switch → List Link
+abbrev pub links_of : Bool → ℕ → List Switch → List Link
 links_of closed at rows = closed_links (changed_at (λ (row : Switch). record row { closed = closed }) at rows)
 
 -- a switch that is closed is one link more, where there is such a row
-one_more : (nodes : ℕ) (rows : List Switch) (at : ℕ) → All (λ row. (row.from < nodes) × (row.to < nodes)) rows
-    → (links_of false at rows ≡ links_of true at rows) ⊎ OneMore nodes (links_of false at rows) (links_of true at rows)
+pub one_more : (nodes : ℕ) (rows : List Switch) (at : ℕ) (d : Switch) → All (λ row. (row.from < nodes) × (row.to < nodes)) rows
+    → (links_of false at rows ≡ links_of true at rows) ⊎ OneMore nodes (link_at rows at d) (links_of false at rows) (links_of true at rows)
 unfolding changed_at
-one_more nodes [] at all = inl refl
-one_more nodes (s ∷ rows) zero all =
+one_more nodes [] at d all = inl refl
+one_more nodes (s ∷ rows) zero d all =
     let low = All-head (λ (row : Switch). (row.from < nodes) × (row.to < nodes)) s rows all in
     inr record {
       before = [];
-      link = record { from = s.from; to = s.to };
       behind = closed_links rows;
       from = low.0;
       to = low.1;
       without = refl;
       with_it = refl;
     }
-one_more nodes (s ∷ rows) (suc at) all =
-    let rest = one_more nodes rows at (All-tail (λ (row : Switch). (row.from < nodes) × (row.to < nodes)) s rows all) in
-    let link : Link = record { from = s.from; to = s.to } in
+one_more nodes (s ∷ rows) (suc at) d all =
+    let rest = one_more nodes rows at d (All-tail (λ (row : Switch). (row.from < nodes) × (row.to < nodes)) s rows all) in
+    let head : Link = record { from = s.from; to = s.to } in
     elim (cases_Bool s.closed) [
-      | inl e ↦ rw e (with_link nodes link (links_of false at rows) (links_of true at rows) rest)
+      | inl e ↦ rw e (with_head nodes head (link_at rows at d) (links_of false at rows) (links_of true at rows) rest)
       | inr e ↦ rw e rest
     ]
   where
-    with_link : (nodes : ℕ) (link : Link) (opened closed : List Link) → (opened ≡ closed) ⊎ OneMore nodes opened closed → (link ∷ opened ≡ link ∷ closed) ⊎ OneMore nodes (link ∷ opened) (link ∷ closed)
-    with_link nodes link opened closed (inl e) = inl (ap (λ l. link ∷ l) e)
-    with_link nodes link opened closed (inr one) = inr record {
-      before = link ∷ one.before;
-      link = one.link;
+    with_head : (nodes : ℕ) (head link : Link) (opened closed : List Link) → (opened ≡ closed) ⊎ OneMore nodes link opened closed → (head ∷ opened ≡ head ∷ closed) ⊎ OneMore nodes link (head ∷ opened) (head ∷ closed)
+    with_head nodes head link opened closed (inl e) = inl (ap (λ l. head ∷ l) e)
+    with_head nodes head link opened closed (inr one) = inr record {
+      before = head ∷ one.before;
       behind = one.behind;
       from = one.from;
       to = one.to;
-      without = ap (λ l. link ∷ l) one.without;
-      with_it = ap (λ l. link ∷ l) one.with_it;
+      without = ap (λ l. head ∷ l) one.without;
+      with_it = ap (λ l. head ∷ l) one.with_it;
     }
 
 -- what one link more does, where the lists have other names
@@ -194,10 +195,10 @@ module _ (n : ℕ) (o c xs : List Link) (l : Link) (ys : List Link) (from : l.fr
   merging : (first_node o l.from ≡ first_node o l.to → ⊥) → IsMerging (bus_count n o) (bus_count n c) (bus_of o l.from) (bus_of o l.to) (bus_under n o c)
   merging apart = rw (without, with_it) (merges-one_more n xs l ys from to (rw without at apart))
 
-  same_buses : first_node o l.from ≡ first_node o l.to → buses_of n c ≡ buses_of n o
+  pub same_buses : first_node o l.from ≡ first_node o l.to → buses_of n c ≡ buses_of n o
   same_buses joined = rw (without, with_it) (buses_of-one_more n xs l ys from to (rw without at joined))
 
-  same_count : first_node o l.from ≡ first_node o l.to → bus_count n c ≡ bus_count n o
+  pub same_count : first_node o l.from ≡ first_node o l.to → bus_count n c ≡ bus_count n o
   same_count joined = rw (without, with_it) (bus_count-one_more n xs l ys from to (rw without at joined))
 
 -- the same rows, over buses of new names
@@ -218,8 +219,10 @@ pub switched : (t : Tables) → IsValid t → (at : ℕ)
 unfolding item_sites
 switched t v at =
     let n = length t.nodes in
+    let none : Switch = record { name = []; from = 0; to = 0; closed = false } in
     let o = links_of false at t.switches in
     let c = links_of true at t.switches in
+    let l = link_at t.switches at none in
     let opened = with_closed t at false in
     let closed = with_closed t at true in
     let valid = valid-with_closed t v at false in
@@ -228,8 +231,7 @@ switched t v at =
     λ buses count. kept_by_live opened closed valid valid_closed refl refl refl buses count (live_stay opened closed refl buses) in
     ⊎_elim
     (λ (same : o ≡ c). inl (kept (ap (buses_of n) (sym same)) (ap (bus_count n) (sym same))))
-    (λ (one : OneMore n o c).
-    let l = one.link in
+    (λ (one : OneMore n l o c).
     ⊎_elim
     (λ (joined : first_node o l.from ≡ first_node o l.to).
     inl (kept (same_buses n o c one.before l one.behind one.from one.to one.without one.with_it joined)
@@ -241,7 +243,7 @@ switched t v at =
     let merging_buses = merging n o c one.before l one.behind one.from one.to one.without one.with_it apart in
     inr (merged_buses opened closed valid valid_closed name (bus_of o l.from) (bus_of o l.to) merging_buses nodes refl refl))
     (cases_eq (first_node o l.from) (first_node o l.to)))
-    (one_more n t.switches at v.switch_ends)
+    (one_more n t.switches at none v.switch_ends)
   where
     merged_buses : (t after : Tables) → IsValid t → IsValid after → (name : ℕ → ℕ) (one other : ℕ) → IsMerging (case_bus_count t) (case_bus_count after) one other name
         → ((u : ℕ) → u < length t.nodes → get_or (case_buses after) u 0 ≡ name (get_or (case_buses t) u 0))

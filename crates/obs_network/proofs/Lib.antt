@@ -20,6 +20,7 @@ pub mod MergedRows
 pub mod MergedVertices
 pub mod RenamedEnds
 pub mod RefreshedMeter
+pub mod OneSwitch
 pub mod Outed
 pub mod Spared
 pub mod SparedItems

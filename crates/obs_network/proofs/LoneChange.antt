@@ -1,5 +1,5 @@
 -- A branch that comes or goes alone: the network after is that before with this branch changed.
-use Rattle.std.proofs.Common.{◌≡◌, ℕ, zero, suc, ◌<◌, ◌≤◌, Bool, true, false, Option, Some, None, List, [], ◌∷◌, length, get_or, set, refl, sym, ap, ◌∙◌, subst, arith, inl, inr}
+use Rattle.std.proofs.Common.{◌≡◌, ℕ, ◌<◌, ◌≤◌, Bool, true, false, Option, Some, None, List, length, get_or, set, refl, sym, ap, ◌∙◌, subst, arith, inl, inr}
 use Rattle.std.specs.Prelude.{IfSome, slice_index, slice_index_or, take}
 use Rattle.std.proofs.lemmas.Bool.{cond-true}
 use Rattle.std.proofs.lemmas.List.{get_or_append_left, length-set, set-get_or, set-set}
@@ -8,7 +8,7 @@ use Rattle.obs_graph.specs.declared.Ends.{Ends}
 use Rattle.obs_graph.specs.Graph.{Graph}
 use Rattle.obs_graph.proofs.Present.{none_some, some_one}
 use Rattle.obs_case.specs.declared.rows.Branch.{Branch}
-use Rattle.obs_case.specs.Flags.{changed_at, with_branch_inservice}
+use Rattle.obs_case.specs.Flags.{with_branch_inservice}
 use Rattle.obs_case.specs.Tables.{IsValid, Tables}
 use Rattle.obs_case.proofs.RowLemmas.{length-changed}
 use Rattle.obs_case.proofs.ValidLemmas.{valid-with_branch_inservice}
@@ -19,22 +19,17 @@ use Rattle.obs_network.specs.Edited.{AreSameBut, ChangesAlone, IsBeforeBranch}
 use Rattle.obs_network.specs.Parted.{StaysJoined, without}
 use Rattle.obs_network.proofs.Edited.{branch_is}
 use Rattle.obs_network.proofs.Fronts.{rows_are_first}
-use Rattle.obs_network.proofs.MergedRows.{with_service}
 use Rattle.obs_network.proofs.OfCase.{IsBranch, case_live-branches, case_position_count-le, case_vertex_count-le, length-case_branches, length-case_live, length-case_rows}
-use Rattle.obs_network.proofs.OfLaws.{rows-with_branch}
+use Rattle.obs_network.proofs.OfLaws.{changed_at-twice, rows-with_branch}
 use Rattle.obs_network.proofs.Outed.{at_map, some_of}
 use Rattle.obs_network.proofs.Spared.{branches_but_one, case_live-without, components_stay, energised_stay, joined_by_rows, row_is_live, set_none}
 use Rattle.obs_network.proofs.SparedItems.{same_but_one}
 
 -- a flag that is set twice is set once
-twice : (rows : List Branch) (at : ℕ) (b c : Bool) → with_service c at (with_service b at rows) ≡ with_service c at rows
-unfolding changed_at
-twice [] at b c = refl
-twice (row ∷ rows) zero b c = refl
-twice (row ∷ rows) (suc at) b c = ap (λ xs. row ∷ xs) (twice rows at b c)
-
 pub set_twice : (t : Tables) (at : ℕ) (b c : Bool) → with_branch_inservice (with_branch_inservice t at b) at c ≡ with_branch_inservice t at c
-set_twice t at b c = ap (λ (rows : List Branch). record t { branches = rows }) (twice t.branches at b c)
+set_twice t at b c =
+    ap (λ (rows : List Branch). record t { branches = rows })
+    (changed_at-twice (λ (row : Branch). record row { inservice = b }) (λ (row : Branch). record row { inservice = c }) (λ row. refl) at t.branches)
 
 -- the tables before were valid
 pub valid_before : (t : Tables) (at : ℕ) (b : Bool) → IsValid (with_branch_inservice t at b) → IsValid t

@@ -62,6 +62,20 @@ length-changed_at change i [] = refl
 length-changed_at change zero (x ∷ xs) = refl
 length-changed_at change (suc i) (x ∷ xs) = ap suc (length-changed_at change i xs)
 
+-- the changed item
+pub item-changed_at : {A : Type 0} (change : A → A) (i : ℕ) (xs : List A) (d : A) → i < length xs → get_or (changed_at change i xs) i d ≡ change (get_or xs i d)
+unfolding changed_at
+item-changed_at change i [] d l = absurd (omega (arith, l))
+item-changed_at change zero (x ∷ xs) d l = refl
+item-changed_at change (suc i) (x ∷ xs) d l = item-changed_at change i xs d (omega (arith, l))
+
+-- an item that is set twice is set once
+pub changed_at-twice : {A : Type 0} (one other : A → A) → ((x : A) → other (one x) ≡ other x) → (i : ℕ) (xs : List A) → changed_at other i (changed_at one i xs) ≡ changed_at other i xs
+unfolding changed_at
+changed_at-twice one other last i [] = refl
+changed_at-twice one other last zero (x ∷ xs) = ap (λ y. y ∷ xs) (last x)
+changed_at-twice one other last (suc i) (x ∷ xs) = ap (λ ys. x ∷ ys) (changed_at-twice one other last i xs)
+
 -- a new flag leaves the numbers of rows
 pub rows-with_closed : (t : Tables) (at : ℕ) (closed : Bool) → rows_of (with_closed t at closed) ≡ rows_of t
 rows-with_closed t at closed =

@@ -2,13 +2,15 @@
 use Rattle.std.specs.Prelude.{ℕ, ◌≡◌, ◌≢◌, ◌↔◌, ◌<◌, All, IsSome, Bool, false, true, Option, Some, None, List, [], ◌∷◌, length, slice_index, slice_index_or, slice_set}
 use Rattle.obs_graph.specs.declared.Ends.{Ends}
 use Rattle.obs_graph.specs.Joined.{AreMergedBy, renamed_one}
-use Rattle.obs_case.specs.Flags.{with_branch_inservice, with_meter_inservice}
+use Rattle.obs_case.specs.Flags.{with_branch_inservice, with_closed, with_meter_inservice}
 use Rattle.obs_case.specs.Tables.{Tables}
 use Rattle.obs_matroid.specs.Lists.{In}
 use Rattle.obs_meter.specs.Touches.{touch_at}
 use Rattle.obs_network.specs.Switched.{case_bus_count, case_buses}
 use Rattle.obs_network.specs.Angles.{reference_of}
 use Rattle.obs_network.specs.Network.{Components, Network, case_branches, case_components, case_vertex_count, network_of}
+use Rattle.obs_network.specs.declared.rebuild.Known.{Known}
+use Rattle.obs_network.specs.declared.rebuild.Known.TheVariants.{Nothing, TheBuses, ByCount}
 use Rattle.obs_network.specs.Parted.{AreJoinedWithout}
 
 -- all these positions have present branches
@@ -73,6 +75,20 @@ pub record IsBeforeBranch (n : Network) (at : ℕ) (after : Tables) : Type 0 whe
   pub inservice : Bool
   pub network : n ≡ network_of tables
   pub edited : after ≡ with_branch_inservice tables at inservice
+
+-- a network is that of the tables before the flag of this switch was set
+pub record IsBeforeSwitch (n : Network) (at : ℕ) (after : Tables) : Type 0 where
+  pub tables : Tables
+  pub closed : Bool
+  pub network : n ≡ network_of tables
+  pub edited : after ≡ with_closed tables at closed
+
+-- what is known of a network before it is made that of a case: nothing, that its buses are those of the case, or that it is the
+-- network of the case where this has as many buses
+abbrev pub IsKnown : Known → Network → Tables → Type 0
+IsKnown Nothing n t = Unit {0}
+IsKnown TheBuses n t = n.buses ≡ (network_of t).buses
+IsKnown ByCount n t = case_bus_count t ≡ n.buses.count → n ≡ network_of t
 
 -- two networks are the same but for one branch: they have the same vertices, components and needed number, and at every other
 -- position the same ends, which the same meters touch

@@ -12,6 +12,7 @@ mod marks;
 mod memory;
 mod network;
 mod rebuild;
+mod refreshing;
 mod room;
 mod sides;
 mod switched;

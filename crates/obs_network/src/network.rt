@@ -2,7 +2,7 @@
 ghost use Rattle.std.specs.Prelude.{◌≡◌, ◌+◌, ◌-◌, ◌<◌, All, IfOk, IfSome, IsTrue, None, length, slice_index, slice_index_or, take, false};
 ghost use Rattle.obs_meter.specs.Touches.{AreInRange};
 ghost use Rattle.obs_network.specs.Components.{need_of};
-ghost use Rattle.obs_network.specs.Edited.{AreSameBut, ChangesAlone, IsBeforeBranch, IsBeforeMeter};
+ghost use Rattle.obs_network.specs.Edited.{AreSameBut, ChangesAlone, IsBeforeBranch, IsBeforeMeter, IsKnown};
 ghost use Rattle.obs_network.specs.Located.{component_of_branch, component_of_item, live_meters_of};
 ghost use Rattle.obs_network.specs.Network.{case_live, live_branch_count, network_of, rows_of};
 
@@ -13,7 +13,7 @@ use crate::live_meters::LiveMeters;
 use crate::located::{component_of_branch, component_of_touch};
 use crate::memory::NoMemory;
 use crate::rebuild::{
-    change_item, find_components, find_live, refill_graph, refill_items, relabel_unless,
+    Known, change_item, find_components, find_live, refill_graph, refill_items, relabel_unless,
 };
 use crate::sides::Sides;
 use obs_case::Case;
@@ -134,14 +134,17 @@ impl Network {
         Ok(network)
     }
 
-    // Makes the network that of the case. Where the buses stay, they are those of the case already.
-    fn remake(&mut self, case: &Case, buses_stay: bool)
+    /// Makes the network that of the case. Answers true only where it was that already.
+    pub(crate) fn remake(&mut self, case: &Case, known: Known) -> bool
         requires rows { self.old.rows ≡ rows_of case.now }
-        requires buses { IsTrue buses_stay → self.old.buses ≡ (network_of case.now).buses }
+        requires known { IsKnown known self.old case.now }
         ensures whole { self.new ≡ network_of case.now }
+        ensures same { IsTrue result → self.new ≡ self.old }
     {
         let _nodes = case.nodes();
-        relabel_unless(case, buses_stay, &mut self.links, &mut self.buses);
+        if relabel_unless(case, known, &mut self.links, &mut self.buses) {
+            return true;
+        }
         find_live(case, &self.buses, &mut self.live);
         find_components(
             case,
@@ -170,14 +173,7 @@ impl Network {
         self.live_meters
             .refill(&self.components, &self.graph, &self.meters);
         self.needed = self.components.needed();
-    }
-
-    /// Makes the network that of a case with as many rows in each table. Takes no memory.
-    pub fn refresh(&mut self, case: &Case)
-        requires rows { self.old.rows ≡ rows_of case.now }
-        ensures whole { self.new ≡ network_of case.now }
-    {
-        self.remake(case, false);
+        false
     }
 
     // Whether nothing but a branch changes, of which the flag was set.
@@ -236,7 +232,7 @@ impl Network {
         if alone {
             self.change_branch(case, at);
         } else {
-            self.remake(case, true);
+            self.remake(case, Known::TheBuses);
         }
         alone
     }

@@ -2,6 +2,7 @@
 ghost use Rattle.std.specs.Prelude.{◌≡◌, ◌<◌, ◌≤◌, ◌+◌, IsTrue, length, slice_index_or, slice_set, take};
 ghost use Rattle.obs_case.specs.Tables.{most_rows};
 ghost use Rattle.obs_graph.specs.Search.{room_of};
+ghost use Rattle.obs_network.specs.declared.rebuild.Known.TheVariants.{TheBuses, ByCount};
 ghost use Rattle.obs_network.specs.Switched.{case_bus_count, case_buses, closed_links};
 ghost use Rattle.obs_network.specs.Network.{case_absolute, case_branches, case_components, case_energised, case_first_buses, case_live, case_meters, case_offered, case_sizes, case_vertex_count};
 
@@ -47,18 +48,45 @@ pub(crate) fn relabel(case: &Case, links: &mut [Link], buses: &mut Buses)
     buses.relabel(case.nodes().len() as u32, &links[..count]);
 }
 
-/// The same, where the buses aren't known to be those of the case already.
-pub(crate) fn relabel_unless(case: &Case, buses_stay: bool, links: &mut [Link], buses: &mut Buses)
+/// What is known of a network before it is made that of a case.
+#[derive(Clone, Copy)]
+pub(crate) enum Known {
+    /// Nothing.
+    Nothing,
+    /// Its buses are those of the case.
+    TheBuses,
+    /// It is the network of the case, where this has as many buses.
+    ByCount,
+}
+
+/// Makes the buses those of the case, where they aren't known to be. Answers true only where their number tells that the
+/// network is that of the case already.
+pub(crate) fn relabel_unless(
+    case: &Case,
+    known: Known,
+    links: &mut [Link],
+    buses: &mut Buses,
+) -> bool
     requires links { length case.now.switches ≤ length links.old }
     requires room { length case.now.nodes ≤ buses.old.most_nodes }
-    requires kept { IsTrue buses_stay →
+    requires kept { known ≡ TheBuses →
         (buses.old.buses ≡ case_buses case.now) × (buses.old.count ≡ case_bus_count case.now) }
     ensures buses { buses.new.buses ≡ case_buses case.now }
     ensures count { buses.new.count ≡ case_bus_count case.now }
     ensures room { buses.new.most_nodes ≡ buses.old.most_nodes }
+    ensures stay { IsTrue result → (known ≡ ByCount) × (case_bus_count case.now ≡ buses.old.count) }
 {
-    if !buses_stay {
-        relabel(case, links, buses);
+    match known {
+        Known::Nothing => {
+            relabel(case, links, buses);
+            false
+        }
+        Known::TheBuses => false,
+        Known::ByCount => {
+            let before = buses.count();
+            relabel(case, links, buses);
+            buses.count() == before
+        }
     }
 }
 

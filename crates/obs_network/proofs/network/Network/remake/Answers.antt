@@ -1,6 +1,8 @@
-use Rattle.std.proofs.Common.{◌∙◌, sym, ap, length, arith, refl}
+use Rattle.std.proofs.Common.{◌∙◌, sym, ap, length, subst, arith, refl}
 use Rattle.obs_switch.specs.Held.{Buses}
-use Rattle.obs_network.specs.Network.{Network, Rows, case_needed}
+use Rattle.obs_network.specs.declared.rebuild.Known.{Known}
+use Rattle.obs_network.specs.Edited.{IsKnown}
+use Rattle.obs_network.specs.Network.{Network, Rows, case_needed, network_of}
 use Rattle.obs_network.proofs.Items.{meters-in_range, offered-in_range}
 use Rattle.obs_network.proofs.OfCase.{case_bus_count-le, case_component_count-le, case_vertex_count-le, few_nodes, length-case_components, length-case_first_buses, length-case_meters}
 use Rattle.obs_network.proofs.Whole.{labelled_is, grouped_is, shape_is, items_are, rows_are, network_is}
@@ -8,8 +10,8 @@ use Rattle.obs_network.proofs.network.Network.remake.Goals as goal
 use Rattle.obs_graph.proofs.Stored.{written_back}
 
 pub relabel_unless-requires-clause-kept : goal.relabel_unless-requires-clause-kept
-relabel_unless-requires-clause-kept c = λ stay.
-    let same = ap (λ (n : Network). n.buses) c.self.view_is ∙ c.requires.buses stay in
+relabel_unless-requires-clause-kept c = λ known.
+    let same = ap (λ (n : Network). n.buses) c.self.view_is ∙ subst (λ (k : Known). IsKnown k c.args.self.now c.args.case.now) known c.requires.known in
     (ap (λ (b : Buses). b.buses) same, ap (λ (b : Buses). b.count) same)
 
 pub find_components-requires-clause-vertices : goal.find_components-requires-clause-vertices
@@ -76,8 +78,58 @@ needed-self-inside-requires c =
     let nodes = ap (λ (r : Rows). r.nodes) rows in
     record { few = omega (arith, nodes, c.find_components.ensures.room, few_nodes c.args.case.now c.nodes-nodes.ensures.valid) }
 
+-- where the number of buses tells that nothing changed
 pub invariant_of-self : goal.invariant_of-self
 invariant_of-self c =
+    let s = c.self.inside in
+    let v = c.self.invariant in
+    let links = c.relabel_unless.auto.links in
+    let of = c.relabel_unless.ensures in
+    let count = (of.stay c.if-relabel_unless.true).1 in
+    rw (written_back s.links.len c.relabel_unless.new.links s.links.items (omega arith) (omega arith))
+    record {
+      buses_room = of.room ∙ v.buses_room;
+      vertices_room = v.vertices_room;
+      branches_room = v.branches_room;
+      kept_len = v.kept_len;
+      kept_ends = v.kept_ends;
+      touches_len = v.touches_len;
+      fewer = v.fewer;
+      search_room = v.search_room;
+      sides_room = v.sides_room;
+      vertices = omega (arith, v.vertices, of.count, count);
+      of_buses = omega (arith, v.of_buses, of.count, count);
+      meters_in_range = v.meters_in_range;
+      offered_in_range = v.offered_in_range;
+      listed_meters = v.listed_meters;
+      listed_components = v.listed_components;
+      listed_count = v.listed_count;
+      lists = v.lists;
+    }
+
+pub returns-then-relabel_unless : goal.returns-then-relabel_unless
+returns-then-relabel_unless c =
+    let t = c.args.case.now in
+    let s = c.self.inside in
+    let v = c.self.invariant in
+    let of = c.relabel_unless.ensures in
+    let told = of.stay c.if-relabel_unless.true in
+    let view = c.self.view_is in
+    let same = subst (λ (k : Known). IsKnown k c.args.self.now t) told.0 c.requires.known (told.1 ∙ ap (λ (n : Network). n.buses.count) view) in
+    let is = view ∙ same in
+    let rows = ap (λ (n : Network). n.rows) is in
+    let links = c.relabel_unless.auto.links in
+    let wrote_links = ap length (written_back s.links.len c.relabel_unless.new.links s.links.items (omega arith) (omega arith)) in
+    let switches = ap (λ (r : Rows). r.switches) rows in
+    let nodes = ap (λ (r : Rows). r.nodes) rows in
+    let whole = network_is _ (network_of t)
+    (rows_are _ _ nodes (omega (arith, wrote_links, links, switches)) (ap (λ (r : Rows). r.branches) rows) (ap (λ (r : Rows). r.meters) rows) (ap (λ (r : Rows). r.candidates) rows))
+    (labelled_is _ _ of.buses of.count (of.room ∙ (v.buses_room ∙ nodes)))
+    (ap (λ (n : Network). n.components) is) (ap (λ (n : Network). n.graph) is) (ap (λ (n : Network). n.meters) is) (ap (λ (n : Network). n.offered) is) (ap (λ (n : Network). n.needed) is) in
+    record { whole = whole; same = λ yes. whole ∙ sym same }
+
+pub invariant_of-self-2 : goal.invariant_of-self-2
+invariant_of-self-2 c =
     let t = c.args.case.now in
     let valid = c.nodes-nodes.ensures.valid in
     let s = c.self.inside in
@@ -116,9 +168,9 @@ invariant_of-self c =
       lists = listed.lists;
     }
 
-pub returns : goal.returns
+pub returns-clause-whole : goal.returns-clause-whole
 unfolding case_needed
-returns c =
+returns-clause-whole c =
     let t = c.args.case.now in
     let s = c.self.inside in
     let v = c.self.invariant in
@@ -136,14 +188,12 @@ returns c =
     let wrote_links = ap length (written_back s.links.len c.relabel_unless.new.links s.links.items (omega arith) (omega arith)) in
     let wrote_live = ap length (written_back s.live.len c.find_live.new.live s.live.items (omega arith) (omega arith)) in
     let count = length-case_first_buses t in
-    record {
-      whole = network_is _ _
-          (rows_are _ _ (found.room ∙ nodes) (omega (arith, wrote_links, links, switches)) (omega (arith, wrote_live, live, branches)) (items.most_meters ∙ meters)
-          (omega (arith, items.most_meters, items.most_offered, candidates)))
-          (labelled_is _ _ c.relabel_unless.ensures.buses c.relabel_unless.ensures.count (c.relabel_unless.ensures.room ∙ (v.buses_room ∙ nodes)))
-          (grouped_is _ _ found.of_buses found.first_buses found.sizes found.energised found.absolute (found.room ∙ nodes))
-          (shape_is _ _ kept.vertices kept.ends (omega (arith, kept.most_vertices, found.most_vertices, v.vertices_room, nodes)) (omega (arith, kept.most_branches, found.most_branches, v.branches_room, branches, v.fewer, meters, candidates)))
-          (items_are _ _ items.meters (items.most_meters ∙ meters))
-          (items_are _ _ items.offered (items.most_offered ∙ omega (arith, v.fewer, meters, candidates)))
-          (c.needed-self-inside.ensures.needed ∙ rw (found.sizes, found.energised, found.absolute, found.first_buses, count) refl);
-    }
+    network_is _ _
+    (rows_are _ _ (found.room ∙ nodes) (omega (arith, wrote_links, links, switches)) (omega (arith, wrote_live, live, branches)) (items.most_meters ∙ meters)
+    (omega (arith, items.most_meters, items.most_offered, candidates)))
+    (labelled_is _ _ c.relabel_unless.ensures.buses c.relabel_unless.ensures.count (c.relabel_unless.ensures.room ∙ (v.buses_room ∙ nodes)))
+    (grouped_is _ _ found.of_buses found.first_buses found.sizes found.energised found.absolute (found.room ∙ nodes))
+    (shape_is _ _ kept.vertices kept.ends (omega (arith, kept.most_vertices, found.most_vertices, v.vertices_room, nodes)) (omega (arith, kept.most_branches, found.most_branches, v.branches_room, branches, v.fewer, meters, candidates)))
+    (items_are _ _ items.meters (items.most_meters ∙ meters))
+    (items_are _ _ items.offered (items.most_offered ∙ omega (arith, v.fewer, meters, candidates)))
+    (c.needed-self-inside.ensures.needed ∙ rw (found.sizes, found.energised, found.absolute, found.first_buses, count) refl)
