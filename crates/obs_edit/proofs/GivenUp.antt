@@ -103,6 +103,9 @@ module _ (t : Tables) (e : Edit) (n : Network) (a : Assignment) (h : IsBefore t 
   pub as_many : length (case_meters t) ≡ length (case_meters h.before)
   as_many = ap (λ (x : Tables). length (case_meters x)) h.same ∙ meters-edited h.before e
 
+  pub unchanged : (after : Network) → after ≡ network_of t → after ≡ n → network_of h.before ≡ network_of t
+  unchanged after net is = sym h.network ∙ (sym is ∙ net)
+
   pub same_but : (after : Network) → after ≡ network_of t → (at : ℕ) → AreSameBut at n after → AreSameBut at (network_of h.before) (network_of t)
   same_but after net at s = subst (λ (x : Network). AreSameBut at x (network_of t)) h.network (subst (λ (x : Network). AreSameBut at n x) net s)
 
@@ -133,7 +136,8 @@ module _ (t : Tables) (e : Edit) (n : Network) (a : Assignment) (h : IsBefore t 
     stands-alone surely = by e refl said
       where
         by : (x : Edit) → e ≡ x → IsSaidAlone x alone n after → StandsOver b (network_of t).graph (case_meters t)
-        by (edit.Switch at closed) is s = absurd (true≢false (sym surely ∙ s))
+        by (edit.Switch at closed) is s =
+            subst (λ (x : Network). StandsOver b x.graph x.meters.touches) (unchanged t e n a h after net (s surely)) stands
         by (edit.Branch at inservice) is s = stands-but at (network_of h.before) (network_of t) (same_but t e n a h after net at (s surely)) (as_many t e n a h) b whole stands (bare inservice is)
           where
             bare : (on : Bool) → e ≡ edit.Branch at on → (m : ℕ) → branch_at b m ≢ Some at

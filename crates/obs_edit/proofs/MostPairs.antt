@@ -1,7 +1,7 @@
 -- How many pairs there can be after an edit, and how many searches one of a meter takes.
 use Rattle.std.proofs.Common.{inl, inr, ◌≡◌, ℕ, ◌+◌, ◌-◌, ◌≤◌, Bool, true, false, None, ◌∷◌, length, get_or, refl, sym, ap, ◌∙◌, subst, arith}
 use Rattle.std.specs.Prelude.{IsTrue, nat_lt, if◌then◌else◌}
-use Rattle.std.proofs.lemmas.Bool.{cases_Bool, cases_eq, true≢false}
+use Rattle.std.proofs.lemmas.Bool.{cases_Bool, cases_eq}
 use Rattle.std.proofs.lemmas.Bool.Decides.{nat_tests}
 use Rattle.std.proofs.lemmas.List.{length-map}
 use Rattle.obs_graph.specs.Graph.{Graph}
@@ -26,7 +26,7 @@ use Rattle.obs_edit.specs.declared.edit.Edit.TheVariants as edit
 use Rattle.obs_edit.specs.Edits.{HasRow, TakesOne, edited}
 use Rattle.obs_edit.specs.Repairing.{AreLeft, IsBefore, IsSaidAlone, IsTaken, most_pairs}
 use Rattle.obs_edit.proofs.Absent.{absent-out}
-use Rattle.obs_edit.proofs.GivenUp.{as_many, same_but}
+use Rattle.obs_edit.proofs.GivenUp.{as_many, same_but, unchanged}
 use Rattle.obs_edit.proofs.Metered.{most-lost, most-regained}
 use Rattle.obs_edit.proofs.SameBut.{most-come, most-gone}
 
@@ -52,7 +52,8 @@ module _ (t : Tables) (e : Edit) (n : Network) (a : Assignment) (h : IsBefore t 
       ]
 
   bound_alone : IsTrue alone → (x : Edit) → e ≡ x → IsSaidAlone x alone n after → Most (most_pairs x true (length (pairs a)) (case_needed t))
-  bound_alone surely (edit.Switch at closed) is s = absurd (true≢false (sym surely ∙ s))
+  bound_alone surely (edit.Switch at closed) is s =
+      subst (λ (x : Network). IsMost x.graph.ends x.meters.touches (length (pairs a))) (unchanged t e n a h after net (s surely)) bound_before
   bound_alone surely (edit.Branch at false) is s =
       let same = h.same ∙ ap (edited h.before) is in
       most-gone at (network_of h.before) (network_of t) (same_but t e n a h after net at (s surely)) (as_many t e n a h) (length (pairs a))

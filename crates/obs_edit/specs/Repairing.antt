@@ -57,9 +57,10 @@ pub record AreLeft (edit : Edit) (a b : Assignment) : Type 0 where
   pub turns : b.turns ≡ a.turns
   pub left : (p : Pair) → In p (pairs b) ↔ (In p (pairs a) × (IsTaken edit p → ⊥))
 
--- what is said of an edit: whether nothing changed but its meter or its branch. Of a meter it is always said, of a switch never
+-- what is said of an edit: whether nothing changed but its meter or its branch, and of a switch whether nothing changed. Of a meter
+-- it is always said
 abbrev pub IsSaidAlone : Edit → Bool → Network → Network → Type 0
-IsSaidAlone (Switch at closed) alone n after = alone ≡ false
+IsSaidAlone (Switch at closed) alone n after = IsTrue alone → after ≡ n
 IsSaidAlone (Branch at inservice) alone n after = IsTrue alone → AreSameBut at n after
 IsSaidAlone (Meter at inservice) alone n after = alone ≡ true
 
@@ -71,9 +72,9 @@ pub record StoodBefore (t : Tables) (edit : Edit) (a : Assignment) : Type 0 wher
   pub stands : StandsOver a (network_of before).graph (network_of before).meters.touches
   pub whole : IsWhole a
 
--- whether an edit closes a switch or puts a row in service
+-- whether an edit puts a branch or a meter in service
 abbrev pub is_put : Edit → Bool
-is_put (Switch at closed) = closed
+is_put (Switch at closed) = false
 is_put (Branch at inservice) = inservice
 is_put (Meter at inservice) = inservice
 

@@ -71,7 +71,7 @@ fn give_up(case: &Case, network: &Network, edit: Edit, a: &mut Assignment)
 }
 
 /// Makes the network that of the case after an edit. Says whether nothing changed but the meter or the branch of the
-/// edit.
+/// edit, and of a switch whether nothing changed.
 fn follow(case: &Case, edit: Edit, network: &mut Network) -> bool
     requires before { IsNetworkBefore network.old edit case.now }
     ensures network { network.new ≡ network_of case.now }
@@ -83,25 +83,23 @@ fn follow(case: &Case, edit: Edit, network: &mut Network) -> bool
             true
         }
         Edit::Branch { at, inservice: _ } => network.refresh_branch(case, at),
-        Edit::Switch { at: _, closed: _ } => {
-            network.refresh(case);
-            false
-        }
+        Edit::Switch { at, closed: _ } => network.refresh_switch(case, at),
     }
 }
 
-/// Whether the edit closes a switch or puts a row in service.
+/// Whether the edit puts a branch or a meter in service.
 fn is_put(edit: Edit) -> bool
     ensures put { result ≡ is_put edit }
 {
     match edit {
-        Edit::Switch { at: _, closed } => closed,
+        Edit::Switch { at: _, closed: _ } => false,
         Edit::Branch { at: _, inservice } => inservice,
         Edit::Meter { at: _, inservice } => inservice,
     }
 }
 
-/// How many pairs there can be at the most. A meter or a branch alone adds one or none.
+/// How many pairs there can be at the most. A meter or a branch alone adds one or none, and a switch that changes nothing
+/// none.
 fn most_pairs(edit: Edit, alone: bool, had: u32, needed: u32) -> u32
     ensures most { result ≡ most_pairs edit alone had needed }
 {
@@ -116,7 +114,7 @@ fn most_pairs(edit: Edit, alone: bool, had: u32, needed: u32) -> u32
 }
 
 /// Gives up the pairs that don't stand any more, and of the others at most one, whose branch closes a cycle where a
-/// switch was closed. Where a meter or a branch alone changed, all stand.
+/// switch was closed. Where nothing changed but the meter or the branch of the edit, all stand.
 fn keep_standing(case: &Case, network: &Network, edit: Edit, alone: bool, a: &mut Assignment)
     requires network { network.now ≡ network_of case.now }
     requires before { StoodBefore case.now edit a.old }

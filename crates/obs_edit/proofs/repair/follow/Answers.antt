@@ -1,6 +1,6 @@
 use Rattle.std.proofs.Common.{◌<◌, length, sym, ap, ◌∙◌, subst}
 use Rattle.obs_case.specs.Tables.{Tables}
-use Rattle.obs_network.specs.Network.{Network, Rows, rows_of}
+use Rattle.obs_network.specs.Network.{Rows}
 use Rattle.obs_edit.specs.declared.edit.Edit.{Edit}
 use Rattle.obs_edit.specs.Edits.{HasRow, edited}
 use Rattle.obs_edit.proofs.Flagged.{rows-edited}
@@ -28,7 +28,13 @@ refresh_branch-requires c =
       before = record { tables = b.before; inservice = c.in-Branch.inservice; network = b.network; edited = same };
     }
 
-pub refresh-requires : goal.refresh-requires
-refresh-requires c =
+pub refresh_switch-requires : goal.refresh_switch-requires
+refresh_switch-requires c =
     let b = c.requires.before in
-    record { rows = ap (λ (n : Network). n.rows) b.network ∙ sym (ap rows_of b.same ∙ rows-edited b.before c.args.edit) }
+    let is = c.in-Switch.is in
+    let low = subst (λ (e : Edit). HasRow b.before e) is b.row in
+    let same = b.same ∙ ap (edited b.before) is in
+    record {
+      switch = subst (λ n. c.in-Switch.at < n) (sym (ap (λ (t : Tables). length t.switches) b.same ∙ ap (λ (r : Rows). r.switches) (rows-edited b.before c.args.edit))) low;
+      before = record { tables = b.before; closed = c.in-Switch.closed; network = b.network; edited = same };
+    }
