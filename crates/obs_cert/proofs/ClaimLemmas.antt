@@ -12,7 +12,9 @@ use Rattle.obs_cert.specs.Claims.{BoundClaim, CostClaim, Layer, TreeClaim}
 use Rattle.obs_cert.specs.Flaws.{Listed, bound_clauses, bound_flaw, cost_flaw, costs_clauses, first_true, forest_clauses, layers_clauses, list_clauses, listed_layers, not_below, not_inside, not_touched, outside_of, paired_twice, rank_of_items, runs_on, shows, tree_flaw, twice, unknown_item, unknown_pair, wrong_rank, wrong_outside}
 use Rattle.obs_cert.specs.Marks.{AreBelow}
 use Rattle.obs_cert.specs.Numbered.{chosen_items, items_of, paired_items, pairs_of}
-use Rattle.obs_cert.specs.Ready.{IsReady}
+use Rattle.obs_cert.specs.Ready.{HasRoom, IsReady}
+use Rattle.obs_cert.specs.Joins.{AreJoined}
+use Rattle.obs_cert.specs.Stars.{AreStarRanks}
 use Rattle.std.proofs.lemmas.List.{length-map, with_items_is}
 use Rattle.std.specs.Vec.{with_items}
 use Rattle.obs_cert.specs.Claims.{Item}
@@ -20,7 +22,7 @@ use Rattle.obs_cert.specs.Flaws.{outside_of_plan, twice_in_plan, unknown_in_plan
 use Rattle.obs_cert.specs.Numbered.{item_of}
 use Rattle.obs_cert.proofs.OutsideLemmas.{outside_is}
 use Rattle.obs_cert.specs.Scopes.{OfItems, scope_of, has, is_below, is_meter_in, is_of_plan, named_component, named_need, names_component, price_at}
-use Rattle.obs_network.specs.Network.{case_needed}
+use Rattle.obs_network.specs.Network.{Rows, case_needed, rows_of}
 
 pub more_below : (stamp : ℕ) (marks : List ℕ) → AreBelow stamp marks → AreBelow (suc stamp) marks
 more_below stamp marks b x = let l = b x in omega (arith, l)
@@ -96,6 +98,68 @@ back : {Z : Type 0} (v : Vec ℕ Z) (ws : List ℕ) → length ws ≡ length v.i
 back v ws e = with_items_is v ws (omega (arith, e, v.ok.0))
 
 -- after marks were made in some of the arrays
+-- where a claim ends before it marks anything
+pub ready_later : (t : Tables) (stamp : ℕ) (w : Work) → IsReady t stamp w → IsReady t (suc stamp) w
+ready_later t stamp w r =
+    ready_more t stamp w w r refl refl refl refl refl refl refl (more_below stamp w.chosen.items r.chosen) (more_below stamp w.paired.items r.paired) (more_below stamp w.listed.items r.listed) (more_below stamp w.taken.items r.taken)
+
+-- after branches were joined and parted again
+pub room_joined : (rows : Rows) (w : Work) (ups moved : List ℕ) → HasRoom rows w → length ups ≡ length w.ups.items → length moved ≡ length w.moved.items
+    → HasRoom rows (record w { ups = with_items w.ups ups; moved = with_items w.moved moved })
+room_joined rows w ups moved m e f =
+    let p = ap length (back w.ups ups e) ∙ e in
+    let k = ap length (back w.moved moved f) ∙ f in
+    record {
+      chosen = m.chosen;
+      paired = m.paired;
+      listed = m.listed;
+      taken = m.taken;
+      ups = omega (arith, m.ups, p);
+      few = omega (arith, m.few, p);
+      moved = omega (arith, m.moved, p, k);
+      stars = omega (arith, m.stars, p);
+    }
+
+pub ready_joined : (t : Tables) (stamp : ℕ) (w : Work) (ups moved : List ℕ) → IsReady t stamp w → length ups ≡ length w.ups.items → length moved ≡ length w.moved.items
+    → AreJoined [] ups [] → IsReady t stamp (record w { ups = with_items w.ups ups; moved = with_items w.moved moved })
+ready_joined t stamp w ups moved r e f clear = record {
+  room = room_joined (rows_of t) w ups moved r.room e f;
+  chosen = r.chosen;
+  paired = r.paired;
+  listed = r.listed;
+  taken = r.taken;
+  clear = subst (λ us. AreJoined [] us []) (sym (back w.ups ups e)) clear;
+  known = r.known;
+}
+
+-- and ranks were kept
+pub ready_measured : (t : Tables) (stamp : ℕ) (w : Work) (stars ups moved : List ℕ) → IsReady t stamp w → length stars ≡ length w.stars.items → length ups ≡ length w.ups.items → length moved ≡ length w.moved.items
+    → AreJoined [] ups [] → AreStarRanks t stars → IsReady t stamp (record w { stars = with_items w.stars stars; ups = with_items w.ups ups; moved = with_items w.moved moved })
+ready_measured t stamp w stars ups moved r g e f clear known =
+    let m = r.room in
+    let s = back w.stars stars g in
+    let p = ap length (back w.ups ups e) ∙ e in
+    let k = ap length (back w.moved moved f) ∙ f in
+    let l = ap length s ∙ g in
+    record {
+      room = record {
+        chosen = m.chosen;
+        paired = m.paired;
+        listed = m.listed;
+        taken = m.taken;
+        ups = omega (arith, m.ups, p);
+        few = omega (arith, m.few, p);
+        moved = omega (arith, m.moved, p, k);
+        stars = omega (arith, m.stars, p, l);
+      };
+      chosen = r.chosen;
+      paired = r.paired;
+      listed = r.listed;
+      taken = r.taken;
+      clear = subst (λ us. AreJoined [] us []) (sym (back w.ups ups e)) clear;
+      known = subst (AreStarRanks t) (sym s) known;
+    }
+
 pub ready_pairs : (t : Tables) (stamp : ℕ) (w : Work) (paired taken : List ℕ) → IsReady t stamp w → length paired ≡ length w.paired.items → length taken ≡ length w.taken.items
     → AreBelow (suc stamp) paired → AreBelow (suc stamp) taken → IsReady t (suc stamp) (record w { paired = with_items w.paired paired; taken = with_items w.taken taken })
 ready_pairs t stamp w paired taken r e f a b =
@@ -103,6 +167,13 @@ ready_pairs t stamp w paired taken r e f a b =
     let k = back w.taken taken f in
     ready_more t stamp w (record w { paired = with_items w.paired paired; taken = with_items w.taken taken }) r refl (ap length p ∙ e) refl (ap length k ∙ f) refl refl refl
     (more_below stamp w.chosen.items r.chosen) (subst (AreBelow (suc stamp)) (sym p) a) (more_below stamp w.listed.items r.listed) (subst (AreBelow (suc stamp)) (sym k) b)
+
+pub ready_chosen : (t : Tables) (stamp : ℕ) (w : Work) (chosen : List ℕ) → IsReady t stamp w → length chosen ≡ length w.chosen.items
+    → AreBelow (suc stamp) chosen → IsReady t (suc stamp) (record w { chosen = with_items w.chosen chosen })
+ready_chosen t stamp w chosen r e a =
+    let p = back w.chosen chosen e in
+    ready_more t stamp w (record w { chosen = with_items w.chosen chosen }) r (ap length p ∙ e) refl refl refl refl refl refl
+    (subst (AreBelow (suc stamp)) (sym p) a) (more_below stamp w.paired.items r.paired) (more_below stamp w.listed.items r.listed) (more_below stamp w.taken.items r.taken)
 
 pub ready_listed : (t : Tables) (stamp : ℕ) (w : Work) (listed : List ℕ) → IsReady t stamp w → length listed ≡ length w.listed.items
     → AreBelow (suc stamp) listed → IsReady t (suc stamp) (record w { listed = with_items w.listed listed })

@@ -3,7 +3,7 @@ use Rattle.std.proofs.Common.{◌≡◌, ℕ, ◌+◌, ◌<◌, ◌≤◌, Bool,
 use Rattle.std.proofs.lemmas.Bool.{cases_Bool}
 use Rattle.obs_graph.specs.declared.Ends.{Ends}
 use Rattle.obs_matroid.proofs.Lists.{clash}
-use Rattle.obs_cert.proofs.JoinLemmas.{IsJoining}
+use Rattle.obs_cert.proofs.JoinLemmas.{IsJoining, joining_none}
 
 -- as many were seen as joined something, or more
 pub record IsPairing (ends : List (Option Ends)) (left all ups0 moved0 ups moved : List ℕ) (count : ℕ) (cycle : Bool) : Type 0 where
@@ -12,6 +12,15 @@ pub record IsPairing (ends : List (Option Ends)) (left all ups0 moved0 ups moved
   pub split : seen + length left ≡ length all
   pub none : cycle ≡ false → count ≡ seen
   pub some : cycle ≡ true → count < seen
+
+pub pairing_none : (ends : List (Option Ends)) (all ups moved : List ℕ) → IsPairing ends all all ups moved ups moved 0 false
+pairing_none ends all ups moved = record {
+  joining = joining_none ends all ups moved 0 (omega arith);
+  seen = 0;
+  split = omega arith;
+  none = λ _. refl;
+  some = λ e. absurd (clash e refl);
+}
 
 module _ (ends : List (Option Ends)) (p : ℕ) (left all ups0 moved0 ups moved : List ℕ) (count : ℕ) (cycle : Bool) (so_far : IsPairing ends (p ∷ left) all ups0 moved0 ups moved count cycle) where
   le : count ≤ so_far.seen

@@ -57,7 +57,7 @@ fn tree(
 }
 
 // The numbers that a bound states: a rank, and a number outside, both of them together below a need.
-#[derive(Clone, Copy, Debug)]
+#[derive(Clone, Copy)]
 struct Stated {
     rank: u64,
     outside: u64,

@@ -21,7 +21,7 @@ use obs_case::Case;
 
 /// What is known of the items that were listed so far:
 /// whether one is idle, and what the dearest of the candidates costs.
-#[derive(Clone, Copy, Debug)]
+#[derive(Clone, Copy)]
 pub(crate) struct Seen {
     pub idle: bool,
     pub dearest: Option<u64>,

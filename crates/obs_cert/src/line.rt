@@ -8,14 +8,14 @@ use crate::words::{Words, split_words};
 use obs_text::{name_of, whole};
 
 /// A meter or a candidate, by its name.
-#[derive(Clone, Copy, Debug, PartialEq, Eq)]
+#[derive(Clone, Copy)]
 pub enum Item<'a> {
     Meter(&'a [u8]),
     Candidate(&'a [u8]),
 }
 
 /// What a line says. Names are parts of the line.
-#[derive(Clone, Copy, Debug, PartialEq, Eq)]
+#[derive(Clone, Copy)]
 pub enum Line<'a> {
     /// Starts a tree claim on the component.
     Tree(&'a [u8]),

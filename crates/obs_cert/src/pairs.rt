@@ -64,7 +64,7 @@ pub(crate) fn has_branch_twice(case: &Case, pairs: Pairs<'_>, marks: &mut [u32],
 }
 
 /// The rank of the pairs' branches, and whether it isn't their number.
-#[derive(Clone, Copy, Debug)]
+#[derive(Clone, Copy)]
 pub(crate) struct Forest {
     pub rank: u32,
     pub cycle: bool,

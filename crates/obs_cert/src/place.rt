@@ -7,7 +7,7 @@ use crate::fault::CertCode;
 use crate::line::{Line, read_line};
 
 /// What the lines so far leave open.
-#[derive(Clone, Copy, Debug, PartialEq, Eq)]
+#[derive(Clone, Copy)]
 pub(crate) enum Place {
     /// Before the first line.
     Start,

@@ -15,7 +15,7 @@ use obs_graph::Graph;
 use obs_meter::Meters;
 
 /// Which items a claim may speak of.
-#[derive(Clone, Copy, Debug)]
+#[derive(Clone, Copy)]
 pub(crate) enum Scope<'a> {
     /// The live meters of a component.
     Component(u32),
@@ -144,7 +144,7 @@ fn names(present: &Present<'_>, node: u32) -> bool
 }
 
 /// A component by its name: its number, what it needs, and whether the name is that of an energised one.
-#[derive(Clone, Copy, Debug)]
+#[derive(Clone, Copy)]
 pub(crate) struct Named {
     pub component: u32,
     pub need: u32,

@@ -22,7 +22,7 @@ pub(crate) fn next_line(bytes: &[u8]) -> Option<(Line<'_>, &[u8])>
 }
 
 /// Which items of a claim are walked over.
-#[derive(Clone, Copy, Debug, PartialEq, Eq)]
+#[derive(Clone, Copy)]
 pub(crate) enum Sort {
     /// Those of one list.
     Inside,
@@ -58,7 +58,7 @@ fn item_on<'a>(sort: Sort, line: &Line<'a>) -> Option<Item<'a>>
 }
 
 /// A pair and its branch's name.
-#[derive(Clone, Copy, Debug)]
+#[derive(Clone, Copy)]
 pub(crate) struct PairLine<'a> {
     pub item: Item<'a>,
     pub branch: &'a [u8],
@@ -218,7 +218,7 @@ pub(crate) fn walk_pairs(bytes: &[u8]) -> Pairs<'_>
 }
 
 /// The numbers of a layer, and the bytes behind its line.
-#[derive(Clone, Copy, Debug)]
+#[derive(Clone, Copy)]
 pub(crate) struct LayerLines<'a> {
     pub from: u64,
     pub to: u64,
@@ -300,7 +300,7 @@ pub(crate) fn walk_layers(bytes: &[u8]) -> Layers<'_>
 }
 
 /// What a claim's first line says, and the bytes behind it.
-#[derive(Clone, Copy, Debug)]
+#[derive(Clone, Copy)]
 pub(crate) enum ClaimLines<'a> {
     Tree(&'a [u8], &'a [u8]),
     Bound(&'a [u8], u64, u64, &'a [u8]),

@@ -6,7 +6,7 @@ ghost use Rattle.obs_cert.specs.Words.{line_of_words, words_of};
 const TAB: u8 = 0x09;
 
 /// One to five words.
-#[derive(Clone, Copy, Debug)]
+#[derive(Clone, Copy)]
 pub(crate) enum Words<'a> {
     One(&'a [u8]),
     Two(&'a [u8], &'a [u8]),

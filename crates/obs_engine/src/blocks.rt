@@ -6,7 +6,7 @@ use obs_script::Ask;
 
 /// A part of an answer: the counts and the verdict, the claims on the components (trees, bounds, or both), the islands,
 /// the critical meters, or the placement with its pairs.
-#[derive(Clone, Copy, Debug, PartialEq, Eq)]
+#[derive(Clone, Copy)]
 pub(crate) enum Block {
     Counts,
     Trees,

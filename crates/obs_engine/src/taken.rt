@@ -12,7 +12,7 @@ pub(crate) struct Taken {
 }
 
 /// Why nothing was taken from files.
-#[derive(Clone, Copy, Debug)]
+#[derive(Clone, Copy)]
 pub(crate) enum CaseError {
     /// They have this fault, which is the first one.
     Refused(InputFault),

@@ -19,7 +19,7 @@ use std::sync::ledger::{Blank, Ledger};
 
 /// What a session is begun for:
 /// the answer to one ask, the answers to the lines of the input, or the trial of a generated case.
-#[derive(Clone, Copy, Debug, PartialEq, Eq)]
+#[derive(Clone, Copy)]
 pub(crate) enum Task {
     Answer(Ask),
     Lines,

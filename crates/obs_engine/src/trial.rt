@@ -19,7 +19,7 @@ use obs_report::{print_counts, print_totals, print_trial};
 use std::sync::ledger::Ledger;
 
 // After how many losses the rank was lower than at first, and how many searches the edits took.
-#[derive(Clone, Copy, Debug, PartialEq, Eq)]
+#[derive(Clone, Copy)]
 struct Turns {
     dips: u32,
     searches: u32,

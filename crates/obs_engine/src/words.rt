@@ -9,7 +9,7 @@ use obs_text::whole;
 
 /// In which form a case is given:
 /// four tables, or a file in the IEEE Common Data Format or of MATPOWER and a table of meters.
-#[derive(Clone, Copy, Debug, PartialEq, Eq)]
+#[derive(Clone, Copy)]
 pub(crate) enum CaseForm {
     Csv,
     Cdf,
@@ -18,7 +18,7 @@ pub(crate) enum CaseForm {
 
 /// What a study says of a case: what the outage of one branch, the loss of two meters, or that of a station's meters
 /// does.
-#[derive(Clone, Copy, Debug, PartialEq, Eq)]
+#[derive(Clone, Copy)]
 pub(crate) enum Study {
     Outages,
     Pairs,
@@ -27,7 +27,7 @@ pub(crate) enum Study {
 
 /// What is asked of a case. Candidates that are offered to a session or beside a certificate stand behind the word
 /// `with`.
-#[derive(Clone, Copy, Debug, PartialEq, Eq)]
+#[derive(Clone, Copy)]
 pub(crate) enum CaseCommand {
     Report,
     Place,
@@ -39,7 +39,7 @@ pub(crate) enum CaseCommand {
 }
 
 /// What the words ask for.
-#[derive(Clone, Copy, Debug, PartialEq, Eq)]
+#[derive(Clone, Copy)]
 pub(crate) enum Form {
     Topology,
     /// Something is asked of a case of this form.

@@ -7,7 +7,7 @@ use Rattle.obs_cert.specs.Scopes.{is_meter_in, scope_of}
 use Rattle.obs_cert.specs.Walked.{parts_in}
 use Rattle.obs_network.specs.Located.{live_meters_of}
 use Rattle.obs_network.specs.Network.{Network}
-use Rattle.obs_cert.proofs.ClaimLemmas.{bound_rest}
+use Rattle.obs_cert.proofs.ClaimLemmas.{bound_rest, ready_later}
 use Rattle.obs_cert.proofs.ComponentLemmas.{rows_few, scope_few, scope_same}
 use Rattle.obs_cert.proofs.OutsideLemmas.{meters_of_items}
 use Rattle.obs_cert.proofs.claims.bound.Goals as goal
@@ -34,3 +34,15 @@ returns-clause-flaw c =
     c.list.ensures.flaw (is_meter_in t k) (many (goal.at.returns-clause-flaw c).After-live_meters) (meters_of_items t k) e
     ∙ bound_rest t (record { component = c.args.name.now; rank = c.args.numbers.0; outside = c.args.numbers.1; inside = inside }) k c.in-Some.named.need n.component n.need
     (sym n.known) (rw (sym c.walk_items.ensures.items) (sym (c.if-has_unknown.ensures.unknown ∙ ap (λ (x : Tables). unknown_item x c.walk_items.result) c.case-case.ensures.case))) (sym n.names ∙ not-false c.in-Some.named.energised c.if-not-named.false) e
+
+pub returns-in_default-clause-ready : goal.returns-in_default-clause-ready
+returns-in_default-clause-ready c = ready_later c.args.present.now c.args.stamp c.args.work.now c.requires.ready
+
+pub returns-then-has_unknown-clause-ready : goal.returns-then-has_unknown-clause-ready
+returns-then-has_unknown-clause-ready c = ready_later c.args.present.now c.args.stamp c.args.work.now c.requires.ready
+
+pub returns-then-not-named-clause-ready : goal.returns-then-not-named-clause-ready
+returns-then-not-named-clause-ready c = ready_later c.args.present.now c.args.stamp c.args.work.now c.requires.ready
+
+pub returns-then-has_outside-clause-ready : goal.returns-then-has_outside-clause-ready
+returns-then-has_outside-clause-ready c = ready_later c.args.present.now c.args.stamp c.args.work.now c.requires.ready

@@ -1,11 +1,13 @@
-use Rattle.std.proofs.Common.{◌≡◌, ℕ, Bool, false, length, sym, ◌∙◌, arith}
+use Rattle.std.proofs.Common.{◌≡◌, ℕ, Bool, false, length, sym, ap, ◌∙◌, arith}
+use Rattle.std.specs.Vec.{with_items}
 use Rattle.obs_cert.specs.Flaws.{not_inside, outside_of, rank_of_items}
 use Rattle.obs_cert.specs.Numbered.{items_of}
+use Rattle.obs_cert.specs.Ready.{IsReady}
 use Rattle.obs_cert.specs.Scopes.{OfItems, scope_of}
 use Rattle.obs_cert.specs.Walked.{parts_in}
-use Rattle.obs_cert.proofs.ClaimLemmas.{bound_high, bound_right, bound_wrong, outside_counted}
+use Rattle.obs_cert.proofs.ClaimLemmas.{bound_high, bound_right, bound_wrong, outside_counted, ready_measured}
 use Rattle.obs_cert.proofs.claims.numbers.Goals as goal
-use Rattle.obs_cert.proofs.claims.numbers.Goals.{After-from-2}
+use Rattle.obs_cert.proofs.claims.numbers.Goals.{After-from-2, After-measure_listed-rank}
 
 rank_is : (c : After-from-2) → rank_of_items c.args.present.now (items_of c.args.present.now (parts_in c.args.rest.now).inside) ≡ c.args.stated.rank
 rank_is c = sym c.measure_listed-rank.ensures.rank ∙ sym c.from.ensures ∙ c.if-from-stated.false
@@ -40,3 +42,25 @@ returns-clause-flaw c test is of inside =
     let few = c.from-3.type_inv in
     bound_right c.args.present.now test (items_of c.args.present.now (parts_in c.args.rest.now).inside) c.args.stated.rank c.args.stated.outside c.args.stated.need (rank_is at)
     (outside_is at test is of inside ∙ c.if-from-stated-2.false) (grind (arith, s, f, h, few))
+
+ready : (c : After-measure_listed-rank) (stamp : ℕ) → IsReady c.args.present.now stamp c.args.work.now → IsReady c.args.present.now stamp (record c.args.work.now {
+  stars = with_items c.args.work.now.stars c.measure_listed-rank.new.stars;
+  ups = with_items c.args.work.now.ups c.measure_listed-rank.new.ups;
+  moved = with_items c.args.work.now.moved c.measure_listed-rank.new.moved;
+})
+ready c stamp r =
+    let j = c.measure_listed-rank in
+    ready_measured c.args.present.now stamp c.args.work.now j.new.stars j.new.ups j.new.moved r
+    (j.auto.stars ∙ ap length c.deref_mut.ensures.value) (j.auto.ups ∙ ap length c.deref_mut-2.ensures.value) (j.auto.moved ∙ ap length c.deref_mut-3.ensures.value) j.ensures.clear j.ensures.kept
+
+pub returns-then-from-stated-clause-ready : goal.returns-then-from-stated-clause-ready
+returns-then-from-stated-clause-ready c = ready (goal.at.returns-then-from-stated-clause-ready c).After-measure_listed-rank
+
+pub returns-then-from-stated-2-clause-ready : goal.returns-then-from-stated-2-clause-ready
+returns-then-from-stated-2-clause-ready c = ready (goal.at.returns-then-from-stated-2-clause-ready c).After-measure_listed-rank
+
+pub returns-then-saturating_add-from-clause-ready : goal.returns-then-saturating_add-from-clause-ready
+returns-then-saturating_add-from-clause-ready c = ready (goal.at.returns-then-saturating_add-from-clause-ready c).After-measure_listed-rank
+
+pub returns-clause-ready : goal.returns-clause-ready
+returns-clause-ready c = ready (goal.at.returns-clause-ready c).After-measure_listed-rank

@@ -5,7 +5,7 @@ use Rattle.obs_cert.specs.Flaws.{first_true, forest_clauses, not_inside, paired_
 use Rattle.obs_cert.specs.Numbered.{items_of, paired_items, pairs_of}
 use Rattle.obs_cert.specs.Scopes.{is_meter_in}
 use Rattle.obs_cert.specs.Walked.{parts_in}
-use Rattle.obs_cert.proofs.ClaimLemmas.{forest_end, ready_pairs, tree_rest, tree_twice}
+use Rattle.obs_cert.proofs.ClaimLemmas.{forest_end, ready_later, ready_pairs, tree_rest, tree_twice}
 use Rattle.obs_cert.proofs.claims.tree.Goals as goal
 
 pub returns-clause-flaw : goal.returns-clause-flaw
@@ -42,3 +42,18 @@ returns-then-has_pair_twice-clause-ready c =
     let p = c.has_pair_twice in
     ready_pairs c.args.present.now c.args.stamp c.args.work.now p.new.paired p.new.taken c.requires.ready
     (p.auto.paired ∙ ap length c.deref_mut.ensures.value) (p.auto.taken ∙ ap length c.deref_mut-2.ensures.value) p.ensures.below_items p.ensures.below_branches
+
+pub returns-in_default-clause-ready : goal.returns-in_default-clause-ready
+returns-in_default-clause-ready c = ready_later c.args.present.now c.args.stamp c.args.work.now c.requires.ready
+
+pub returns-then-has_unknown_pair-clause-ready : goal.returns-then-has_unknown_pair-clause-ready
+returns-then-has_unknown_pair-clause-ready c = ready_later c.args.present.now c.args.stamp c.args.work.now c.requires.ready
+
+pub returns-then-not-named-clause-ready : goal.returns-then-not-named-clause-ready
+returns-then-not-named-clause-ready c = ready_later c.args.present.now c.args.stamp c.args.work.now c.requires.ready
+
+pub returns-then-has_outside-clause-ready : goal.returns-then-has_outside-clause-ready
+returns-then-has_outside-clause-ready c = ready_later c.args.present.now c.args.stamp c.args.work.now c.requires.ready
+
+pub returns-then-has_untouched-clause-ready : goal.returns-then-has_untouched-clause-ready
+returns-then-has_untouched-clause-ready c = ready_later c.args.present.now c.args.stamp c.args.work.now c.requires.ready

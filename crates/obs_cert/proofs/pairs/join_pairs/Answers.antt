@@ -1,11 +1,26 @@
-use Rattle.std.proofs.Common.{◌≡◌, ◌∷◌, ◌+◌, [], List, sym, subst, inl, inr}
+use Rattle.std.proofs.Common.{◌≡◌, ◌∷◌, ◌+◌, [], List, sym, subst, inl, inr, arith}
 use Rattle.obs_matroid.specs.Assignments.{branches}
 use Rattle.obs_cert.specs.Claims.{Pair}
 use Rattle.obs_cert.specs.Numbered.{pairs_of}
 use Rattle.obs_cert.proofs.JoinLemmas.{IsJoining, joining_some}
-use Rattle.obs_cert.proofs.PairLemmas.{IsPairing, pairing_grows, pairing_stays}
+use Rattle.obs_cert.proofs.PairLemmas.{IsPairing, pairing_grows, pairing_none, pairing_stays}
 use Rattle.obs_cert.proofs.pairs.join_pairs.Goals as goal
 use Rattle.obs_cert.proofs.pairs.join_pairs.Goals.{After-join_one-joined}
+
+pub loop-pair-init : goal.loop-pair-init
+loop-pair-init c = rw c.into_iter-pair-iterator.ensures.into_iter_gives (pairing_none c.args.g.now.ends (branches (pairs_of c.args.case.now c.args.pairs)) c.args.ups.now c.args.moved.now)
+
+pub join_one-joined-requires-clause-joined : goal.join_one-joined-requires-clause-joined
+join_one-joined-requires-clause-joined c = let q = c.loop-pair.invariant.joining.joined [] c.requires.clear in (q.0, q.1)
+
+pub join_one-joined-requires-clause-vertices : goal.join_one-joined-requires-clause-vertices
+join_one-joined-requires-clause-vertices c = let i = c.loop-pair.invariant.joining in omega (arith, i.ups_len, c.requires.vertices)
+
+pub join_one-joined-requires-clause-room : goal.join_one-joined-requires-clause-room
+join_one-joined-requires-clause-room c = let i = c.loop-pair.invariant.joining in omega (arith, i.ups_len, i.moved_len, c.requires.room)
+
+pub join_one-joined-requires-clause-count : goal.join_one-joined-requires-clause-count
+join_one-joined-requires-clause-count c = c.loop-pair.invariant.joining.fits
 
 before : (c : After-join_one-joined) → IsPairing c.args.g.now.ends (c.branch_of.result ∷ branches (pairs_of c.args.case.now c.next.new.self)) (branches (pairs_of c.args.case.now c.args.pairs))
     c.args.ups.now c.args.moved.now c.loop-pair.ups c.loop-pair.moved c.loop-pair.count c.loop-pair.cycle

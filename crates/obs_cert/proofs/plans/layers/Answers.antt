@@ -1,10 +1,10 @@
-use Rattle.std.proofs.Common.{sym, ap, ◌∙◌}
+use Rattle.std.proofs.Common.{length, sym, ap, ◌∙◌}
 use Rattle.std.specs.List.{list_any}
 use Rattle.obs_case.specs.Tables.{Tables}
 use Rattle.obs_cert.specs.Flaws.{Listed, costs_clauses, first_true, listed_layers, wrong_outside}
 use Rattle.obs_cert.specs.Scopes.{is_below}
 use Rattle.obs_cert.specs.Walked.{cost_of, parts_in}
-use Rattle.obs_cert.proofs.ClaimLemmas.{layers_outside, layers_rest}
+use Rattle.obs_cert.proofs.ClaimLemmas.{layers_outside, layers_rest, ready_joined}
 use Rattle.obs_cert.proofs.plans.layers.Goals as goal
 
 pub returns-then-has_wrong_outside-clause-flaw : goal.returns-then-has_wrong_outside-clause-flaw
@@ -18,3 +18,18 @@ returns-clause-flaw c =
     ∙ ap (λ (x : Tables). first_true (costs_clauses x (cost_of c.args.number (parts_in c.args.rest.now)))) c.case-case.ensures.case
     ∙ layers_rest c.args.present.now (cost_of c.args.number (parts_in c.args.rest.now))
     (rw (sym c.walk_layers.ensures.layers) (sym c.if-has_wrong_rank.ensures.rank)) (rw (sym c.walk_layers-2.ensures.layers) (sym (c.if-has_wrong_outside.ensures.outside ∙ ap (λ (x : Tables). list_any (λ (l : Listed). wrong_outside x (is_below x l.layer.to) l.list l.layer.outside) (listed_layers x c.walk_layers-2.result)) c.case-case.ensures.case)))
+
+pub returns-then-has_wrong_rank-clause-ready : goal.returns-then-has_wrong_rank-clause-ready
+returns-then-has_wrong_rank-clause-ready c stamp r =
+    let j = c.has_wrong_rank in
+    ready_joined c.args.present.now stamp c.args.work.now j.new.ups j.new.moved r (j.auto.ups ∙ ap length c.deref_mut.ensures.value) (j.auto.moved ∙ ap length c.deref_mut-2.ensures.value) j.ensures.clear
+
+pub returns-then-has_wrong_outside-clause-ready : goal.returns-then-has_wrong_outside-clause-ready
+returns-then-has_wrong_outside-clause-ready c stamp r =
+    let j = c.has_wrong_rank in
+    ready_joined c.args.present.now stamp c.args.work.now j.new.ups j.new.moved r (j.auto.ups ∙ ap length c.deref_mut.ensures.value) (j.auto.moved ∙ ap length c.deref_mut-2.ensures.value) j.ensures.clear
+
+pub returns-clause-ready : goal.returns-clause-ready
+returns-clause-ready c stamp r =
+    let j = c.has_wrong_rank in
+    ready_joined c.args.present.now stamp c.args.work.now j.new.ups j.new.moved r (j.auto.ups ∙ ap length c.deref_mut.ensures.value) (j.auto.moved ∙ ap length c.deref_mut-2.ensures.value) j.ensures.clear

@@ -7,7 +7,7 @@ use Rattle.obs_cert.specs.Numbered.{chosen_items, items_of, pairs_of}
 use Rattle.obs_cert.specs.Walked.{cost_of, parts_in}
 use Rattle.obs_network.specs.Network.{Network, case_needed, network_of}
 use Rattle.obs_cert.specs.Flaws.{first_true, forest_clauses}
-use Rattle.obs_cert.proofs.ClaimLemmas.{plan_layers, plan_outside, plan_rest, plan_touched, plan_twice, ready_plan, three_same}
+use Rattle.obs_cert.proofs.ClaimLemmas.{plan_layers, plan_outside, plan_rest, plan_touched, plan_twice, ready_chosen, ready_later, ready_plan, three_same}
 use Rattle.obs_cert.proofs.plans.plan.Goals as goal
 use Rattle.obs_cert.proofs.plans.plan.Goals.{After-has_unknown_name, After-has_outside_item, After-has_untouched, After-either}
 
@@ -43,6 +43,11 @@ ready c =
     ready_plan c.args.present.now c.args.stamp c.args.work.now a.new.marks b.new.paired d.new.marks b.new.taken c.requires.ready
     (a.auto.marks ∙ ap length c.deref_mut.ensures.value) (b.auto.paired ∙ ap length c.deref_mut-2.ensures.value) (d.auto.marks ∙ ap length c.deref_mut-4.ensures.value) (b.auto.taken ∙ ap length c.deref_mut-3.ensures.value)
     a.ensures.below b.ensures.below_items d.ensures.below b.ensures.below_branches
+
+chosen_ready : (c : After-has_outside_item) → IsReady c.args.present.now (suc c.args.stamp) (record c.args.work.now { chosen = with_items c.args.work.now.chosen c.has_twice-chosen_twice.new.marks })
+chosen_ready c =
+    let a = c.has_twice-chosen_twice in
+    ready_chosen c.args.present.now c.args.stamp c.args.work.now a.new.marks c.requires.ready (a.auto.marks ∙ ap length c.deref_mut.ensures.value) a.ensures.below
 
 need_is : (t : Tables) (n : Network) (k : ℕ) → n ≡ network_of t → k ≡ n.needed → case_needed t ≡ k
 need_is t n k is same = sym (same ∙ ap (λ (m : Network). m.needed) is)
@@ -110,3 +115,15 @@ returns-clause-flaw c =
 
 pub returns-clause-ready : goal.returns-clause-ready
 returns-clause-ready c = c.layers.ensures.ready (suc c.args.stamp) (c.forest.ensures.ready (suc c.args.stamp) (ready (goal.at.returns-clause-ready c).After-either))
+
+pub returns-then-has_unknown_name-clause-ready : goal.returns-then-has_unknown_name-clause-ready
+returns-then-has_unknown_name-clause-ready c = ready_later c.args.present.now c.args.stamp c.args.work.now c.requires.ready
+
+pub returns-then-has_outside_item-clause-ready : goal.returns-then-has_outside_item-clause-ready
+returns-then-has_outside_item-clause-ready c = chosen_ready (goal.at.returns-then-has_outside_item-clause-ready c).After-has_outside_item
+
+pub returns-then-has_untouched-clause-ready : goal.returns-then-has_untouched-clause-ready
+returns-then-has_untouched-clause-ready c = chosen_ready (goal.at.returns-then-has_untouched-clause-ready c).After-has_outside_item
+
+pub returns-then-either-clause-ready : goal.returns-then-either-clause-ready
+returns-then-either-clause-ready c = ready (goal.at.returns-then-either-clause-ready c).After-either

@@ -14,6 +14,9 @@ bounds-stars-v c =
     let fit = vertices_fit c.args.present.now (network_of c.args.present.now) (network_of c.args.present.now).graph (length c.args.ups.now) refl refl c.requires.vertices in
     omega (arith, c.requires.vertex, fit, c.requires.stars)
 
+pub join_all-count-requires-clause-joined : goal.join_all-count-requires-clause-joined
+join_all-count-requires-clause-joined c = ([], c.requires.clear)
+
 pub join_all-count-requires-clause-vertices : goal.join_all-count-requires-clause-vertices
 join_all-count-requires-clause-vertices c =
     vertices_fit c.args.present.now c.network-network.result.now c.graph-graph.result.now (length c.args.ups.now) c.network-network.ensures.network c.graph-graph.ensures.graph c.requires.vertices

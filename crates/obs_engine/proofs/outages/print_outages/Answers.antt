@@ -1,6 +1,6 @@
-use Rattle.std.proofs.Common.{◌++◌, get_or}
+use Rattle.std.proofs.Common.{◌++◌, [], get_or, refl}
 use Rattle.obs_outage.specs.declared.outages.Outage.{Outage}
-use Rattle.obs_report.proofs.Printing.{finished, then_printed}
+use Rattle.obs_report.proofs.Printing.{finished, nothing_printed, then_printed}
 use Rattle.obs_engine.specs.OutageReply.{outage_line}
 use Rattle.obs_engine.proofs.Studied.{lines_all, lines_more}
 use Rattle.obs_engine.proofs.outages.print_outages.Goals as goal
@@ -8,6 +8,9 @@ use Rattle.obs_engine.proofs.outages.print_outages.Goals as goal
 -- what an index gives past the end
 abbrev none : Outage
 none = record { branch = 0; rank = 0; needed = 0 }
+
+pub loop-k-init : goal.loop-k-init
+loop-k-init g c = ([], nothing_printed _, refl)
 
 pub loop-k-preserved : goal.loop-k-preserved
 loop-k-preserved g c =

@@ -1,6 +1,6 @@
-use Rattle.std.proofs.Common.{◌++◌, get_or}
+use Rattle.std.proofs.Common.{◌++◌, [], get_or, refl}
 use Rattle.obs_station.specs.declared.losses.Loss.{Loss}
-use Rattle.obs_report.proofs.Printing.{finished, then_printed}
+use Rattle.obs_report.proofs.Printing.{finished, nothing_printed, then_printed}
 use Rattle.obs_engine.specs.StationReply.{loss_line}
 use Rattle.obs_engine.proofs.Studied.{lines_all, lines_more}
 use Rattle.obs_engine.proofs.stations.print_losses.Goals as goal
@@ -8,6 +8,9 @@ use Rattle.obs_engine.proofs.stations.print_losses.Goals as goal
 -- what an index gives past the end
 abbrev none : Loss
 none = record { node = 0; lost = 0; rank = 0 }
+
+pub loop-k-init : goal.loop-k-init
+loop-k-init g c = ([], nothing_printed _, refl)
 
 pub loop-k-preserved : goal.loop-k-preserved
 loop-k-preserved g c =
