@@ -15,7 +15,13 @@ const SWITCHED: Tables<'static> = Tables {
     candidates: NO_CANDIDATES,
 };
 
-// The same before a third such bus.
+// Two closed switches between the two.
+const TWICE: Tables<'static> = Tables {
+    switches: b"switch,from,to,closed\nS1,a,b,1\nS2,b,a,1\n",
+    ..SWITCHED
+};
+
+// One switch, before a third such bus.
 const THREE: Tables<'static> = Tables {
     nodes: b"node,source,absolute\na,1,1\nb,1,1\nc,1,1\n",
     switches: b"switch,from,to,closed\nS1,a,b,0\n",
@@ -63,6 +69,12 @@ const EDITS: &[(Tables<'static>, Ask<'static>, Status, &[u8])] = &[
         Ask::Session(b"status\nclose S1\ncritical\nopen S1\ncert\nlose g2\nregain g2\n"),
         Status::Done,
         b"count\tbuses\t2\ncount\tenergised\t2\ncount\tbranches\t0\ncount\tmeters\t2\ncount\tneeded\t2\ncount\trank\t2\nverdict\tobservable\nend\nok\t1\t1\nend\nok\t2\t2\ntree\ta\npair\tmeter\tg1\tangle\ntree\tb\npair\tmeter\tg2\tangle\nend\nok\t1\t2\nok\t2\t2\n",
+    ),
+    (
+        TWICE,
+        Ask::Session(b"open S1\ntree\nclose S1\nopen S2\ntree\nopen S1\nclose S2\n"),
+        Status::Done,
+        b"ok\t1\t1\ntree\ta\npair\tmeter\tg1\tangle\nend\nok\t1\t1\nok\t1\t1\ntree\ta\npair\tmeter\tg1\tangle\nend\nok\t2\t2\nok\t1\t1\n",
     ),
     (
         THREE,
