@@ -1,6 +1,6 @@
 -- Longest assignments have as many pairs as one another in each component.
-use Rattle.std.proofs.Common.{◌≡◌, ℕ, ◌≤◌, Bool, true, false, not, inl, inr, Option, List, ◌++◌, length, filter, sym, ap, ◌∙◌, subst, arith, length-append}
-use Rattle.std.specs.Prelude.{◌==◌, slice_index_or}
+use Rattle.std.proofs.Common.{◌≡◌, ℕ, ◌≤◌, Bool, not, inl, inr, Option, List, ◌++◌, length, filter, sym, ap, ◌∙◌, subst, arith, length-append}
+use Rattle.std.specs.Prelude.{◌==◌}
 use Rattle.std.proofs.lemmas.Bool.{eq-eqb, eqb-true}
 use Rattle.obs_graph.specs.declared.Ends.{Ends}
 use Rattle.obs_case.specs.Tables.{IsValid, Tables}

@@ -1,5 +1,5 @@
 -- The other side of a row, where it has no source: what the outage takes from the rank, by the pairs of the component and those of the listed side.
-use Rattle.std.proofs.Common.{◌≡◌, ℕ, suc, ◌+◌, ◌<◌, ◌≤◌, Bool, true, false, cond, eqb, not, ◌⊎◌, inl, inr, Option, Some, None, List, [], ◌∷◌, length, filter, get_or, refl, sym, ap, ◌∙◌, subst, arith}
+use Rattle.std.proofs.Common.{◌≡◌, ℕ, suc, ◌+◌, ◌<◌, Bool, true, false, cond, not, ◌⊎◌, inl, inr, Option, Some, None, List, [], ◌∷◌, length, filter, get_or, refl, sym, ap, ◌∙◌, subst, arith}
 use Rattle.std.specs.Prelude.{◌==◌, ◌↔◌, IsSome, IsTrue, count_by, is_some, slice_index, slice_index_or, sum_by}
 use Rattle.std.proofs.lemmas.Bool.{cases_Bool, cases_eq, eq-eqb, ne_eqb, or_left, or_right}
 use Rattle.obs_graph.specs.declared.Ends.{Ends}
@@ -10,7 +10,7 @@ use Rattle.obs_graph.proofs.Present.{some_one}
 use Rattle.obs_case.specs.Tables.{IsValid, Tables}
 use Rattle.obs_matroid.specs.Lists.{In, IsDistinct}
 use Rattle.obs_matroid.specs.Assignments.{Pair, branches}
-use Rattle.obs_matroid.proofs.Lists.{cases_In, clash}
+use Rattle.obs_matroid.proofs.Lists.{clash}
 use Rattle.obs_matroid.proofs.Pairs.{In-branches, In-branches_from}
 use Rattle.obs_matroid.proofs.Slots.{slot_from}
 use Rattle.obs_meter.specs.declared.Touch.TheVariants.{Nothing}
@@ -30,7 +30,7 @@ use Rattle.obs_network.proofs.FewLost.{On}
 use Rattle.obs_network.proofs.InComponents.{placed}
 use Rattle.obs_network.proofs.NeededCount.{live_ends_of}
 use Rattle.obs_network.proofs.Outed.{some_of}
-use Rattle.obs_network.proofs.PartedNeeds.{Fed, Found, ends_apart, found, in_component, low, of_sides, other_fed, sides_are, some_fed}
+use Rattle.obs_network.proofs.PartedNeeds.{Fed, Found, ends_apart, found, in_component, of_sides, other_fed, sides_are, some_fed}
 use Rattle.obs_network.proofs.SideLists.{in_side, side_in, side_low}
 use Rattle.obs_network.proofs.Vertices.{case_vertex_component-bus}
 use Rattle.obs_kept.specs.Kept.{AreLongest}

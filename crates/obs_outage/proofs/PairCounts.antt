@@ -1,14 +1,13 @@
 -- The pairs of each component counted one branch further, and what the counts are.
-use Rattle.std.proofs.Common.{◌≡◌, ℕ, suc, ◌+◌, ◌<◌, ◌≤◌, Bool, true, false, cond, eqb, inl, inr, Option, Some, None, List, length, filter, get_or, set, refl, sym, ap, ◌∙◌, subst, arith, add-one, get_or-set_same, get_or-set_other}
-use Rattle.std.specs.Prelude.{◌==◌, is_some, slice_index, slice_index_or}
+use Rattle.std.proofs.Common.{◌≡◌, ℕ, suc, ◌+◌, ◌<◌, Bool, true, false, inl, inr, Option, Some, None, List, length, get_or, set, refl, sym, ap, ◌∙◌, arith, add-one, get_or-set_same, get_or-set_other}
+use Rattle.std.specs.Prelude.{◌==◌, is_some, slice_index_or}
 use Rattle.std.specs.List.{range_with_len}
-use Rattle.std.proofs.lemmas.Bool.{cases_Bool, cases_eq, cond-false, cond-true, eq-eqb, eqb-true, ne_eqb}
+use Rattle.std.proofs.lemmas.Bool.{cases_Bool, cases_eq, cond-false, cond-true, eq-eqb, ne_eqb}
 use Rattle.obs_graph.specs.declared.Ends.{Ends}
-use Rattle.obs_graph.specs.Joined.{count_below}
 use Rattle.obs_graph.proofs.Counts.{count_below-no, count_below-yes}
 use Rattle.obs_graph.proofs.Present.{some_is_in}
 use Rattle.obs_case.specs.Tables.{IsValid, Tables}
-use Rattle.obs_matroid.specs.Lists.{In, IsDistinct}
+use Rattle.obs_matroid.specs.Lists.{In}
 use Rattle.obs_matroid.specs.Assignments.{branches}
 use Rattle.obs_matroid.proofs.Lists.{clash}
 use Rattle.obs_matroid.proofs.Pairs.{In-branches_from}
@@ -20,8 +19,8 @@ use Rattle.obs_meter.proofs.Touched.{touched-present}
 use Rattle.obs_assign.specs.Assignment.{Assignment, pairs}
 use Rattle.obs_assign.proofs.Slotted.{distinct_branches}
 use Rattle.obs_assign.proofs.Standing.{IsAssignmentAt-standing}
-use Rattle.obs_network.specs.Located.{component_of_branch, ends_component}
-use Rattle.obs_network.specs.Network.{Network, case_branches, case_components, case_meters, network_of}
+use Rattle.obs_network.specs.Located.{component_of_branch}
+use Rattle.obs_network.specs.Network.{Network, case_branches, case_meters, network_of}
 use Rattle.obs_network.specs.Observable.{branch_component}
 use Rattle.obs_network.proofs.Marked.{length-passing}
 use Rattle.obs_network.proofs.Outed.{some_of}

@@ -1,6 +1,6 @@
 -- What the outage of a row takes from the rank, where a side of it has no source: the pairs whose branch goes.
-use Rattle.std.proofs.Common.{◌≡◌, ◌≢◌, ℕ, suc, ◌+◌, ◌<◌, ◌≤◌, Bool, true, false, not, eqb, ◌⊎◌, inl, inr, Option, Some, None, List, [], ◌∷◌, ◌++◌, length, filter, get_or, refl, sym, ap, ◌∙◌, subst, arith, length-append}
-use Rattle.std.specs.Prelude.{IsSome, is_some, slice_index, slice_index_or}
+use Rattle.std.proofs.Common.{◌≡◌, ℕ, suc, ◌+◌, ◌<◌, ◌≤◌, Bool, true, false, not, eqb, ◌⊎◌, inl, inr, Option, Some, None, List, [], ◌∷◌, ◌++◌, length, filter, get_or, refl, sym, ap, ◌∙◌, subst, arith, length-append}
+use Rattle.std.specs.Prelude.{IsSome, is_some, slice_index_or}
 use Rattle.std.proofs.lemmas.Bool.{and_parts, cases_Bool, cases_eq, eq-eqb, eqb-true, ne_eqb}
 use Rattle.obs_graph.specs.declared.Ends.{Ends}
 use Rattle.obs_graph.specs.Joined.{Leads, first_joined}
@@ -24,12 +24,12 @@ use Rattle.obs_meter.proofs.Instance.{IsMatroid-graph}
 use Rattle.obs_meter.proofs.Touched.{touched-hub, touched-present}
 use Rattle.obs_assign.proofs.Slotted.{distinct_branches}
 use Rattle.obs_network.specs.Switched.{case_bus_count}
-use Rattle.obs_network.specs.Network.{case_branches, case_components, case_live, case_meters, case_rows, case_vertex_count}
+use Rattle.obs_network.specs.Network.{case_branches, case_live, case_meters, case_rows, case_vertex_count}
 use Rattle.obs_network.specs.Observable.{case_rank}
 use Rattle.obs_network.specs.Parted.{IsParted}
 use Rattle.obs_network.proofs.Bridged.{fed_along, fed_lit, lit_fed, side_loose}
-use Rattle.obs_network.proofs.FewLost.{Goes, On, goes, stay_assigned}
-use Rattle.obs_network.proofs.InComponents.{live_ends-same, row_is_live}
+use Rattle.obs_network.proofs.FewLost.{On, goes, stay_assigned}
+use Rattle.obs_network.proofs.InComponents.{row_is_live}
 use Rattle.obs_network.proofs.NeededCount.{is_fixed, is_lit, live_ends_of}
 use Rattle.obs_network.proofs.OfCase.{case_branches-are, length-case_components}
 use Rattle.obs_network.proofs.Outed.{present_before, some_of}

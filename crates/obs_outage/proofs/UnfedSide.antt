@@ -1,5 +1,5 @@
 -- A side without a source that a walk listed: what is counted at its buses is what the outage takes from the rank.
-use Rattle.std.proofs.Common.{◌≡◌, ℕ, ◌+◌, ◌-◌, ◌<◌, ◌≤◌, ◌^◌, Bool, true, false, not, ◌⊎◌, inl, inr, Option, Some, None, List, length, filter, get_or, refl, sym, ap, ◌∙◌, subst, arith}
+use Rattle.std.proofs.Common.{◌≡◌, ℕ, ◌+◌, ◌<◌, ◌^◌, Bool, true, not, ◌⊎◌, inl, inr, Option, Some, None, List, length, get_or, refl, sym, ap, ◌∙◌, subst, arith}
 use Rattle.std.specs.Prelude.{◌==◌, IfSome, IsSome, count_by, is_some, slice_index_or, sum_by}
 use Rattle.std.specs.Cmp.Derive.{one_truth}
 use Rattle.std.proofs.lemmas.Bool.{cases_Bool, cases_eq, or_left, or_right, eq-eqb}
@@ -26,7 +26,7 @@ use Rattle.obs_meter.proofs.Touched.{touched-hub, touched-present}
 use Rattle.obs_assign.specs.Assignment.{Assignment, IsWhole, branch_at, pairs}
 use Rattle.obs_assign.proofs.Slotted.{distinct_branches, length-pairs_of, slots_apart}
 use Rattle.obs_assign.proofs.Standing.{IsAssignmentAt-standing}
-use Rattle.obs_network.specs.Network.{Network, case_branches, case_meters, case_vertex_count, network_of}
+use Rattle.obs_network.specs.Network.{Network, case_branches, case_meters, network_of}
 use Rattle.obs_network.specs.Observable.{case_rank}
 use Rattle.obs_network.specs.Parted.{HasSource, IsParted}
 use Rattle.obs_network.proofs.OfCase.{case_position_count-le, few_branches, few_candidates, few_meters, length-case_branches, length-case_meters}

@@ -1,5 +1,4 @@
-use Rattle.std.proofs.Common.{◌≡◌, ◌+◌, ◌-◌, ◌<◌, Option, List, length, refl, sym, ap, ◌∙◌, arith}
-use Rattle.obs_graph.specs.declared.Ends.{Ends}
+use Rattle.std.proofs.Common.{◌≡◌, ◌<◌, length, refl, ap, ◌∙◌, arith}
 use Rattle.obs_graph.specs.Graph.{Graph}
 use Rattle.obs_matroid.proofs.Contained.{All-from_In}
 use Rattle.obs_network.specs.Network.{Network, case_branches}

@@ -1,4 +1,4 @@
-use Rattle.std.proofs.Common.{◌<◌, length, arith}
+use Rattle.std.proofs.Common.{arith}
 use Rattle.obs_outage.proofs.Losing.{few_of, low_of}
 use Rattle.obs_outage.proofs.dead.count_lost.Goals as goal
 

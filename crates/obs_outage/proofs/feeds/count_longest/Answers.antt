@@ -1,4 +1,4 @@
-use Rattle.std.proofs.Common.{◌≡◌, length, ap, arith}
+use Rattle.std.proofs.Common.{length, ap, arith}
 use Rattle.obs_network.specs.Network.{Network}
 use Rattle.obs_outage.proofs.PairCounts.{counts_are}
 use Rattle.obs_outage.proofs.feeds.count_longest.Goals as goal
