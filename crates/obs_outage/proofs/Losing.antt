@@ -18,7 +18,7 @@ use Rattle.obs_outage.specs.Feeds.{sources_at}
 use Rattle.obs_outage.specs.Lost.{counts_at, ends_in, has_first, lost_pairs}
 use Rattle.obs_outage.proofs.Parting.{count_by-cons, sum_by-agree, sum_of_places}
 
-count_by-length : (p : ℕ → Bool) (xs : List ℕ) → count_by p xs ≡ length (filter p xs)
+pub count_by-length : (p : ℕ → Bool) (xs : List ℕ) → count_by p xs ≡ length (filter p xs)
 count_by-length p [] = refl
 count_by-length p (x ∷ xs) =
     let rest = count_by-length p xs in
@@ -33,7 +33,7 @@ count_by-length p (x ∷ xs) =
           omega (arith, count_by-cons p x xs, rest, up, long)
     ]
 
-count_by-same : (p q : ℕ → Bool) (xs ys : List ℕ) → IsDistinct xs → IsDistinct ys → ((k : ℕ) → In k xs → p k ≡ true → In k ys × (q k ≡ true)) → ((k : ℕ) → In k ys → q k ≡ true → In k xs × (p k ≡ true))
+pub count_by-same : (p q : ℕ → Bool) (xs ys : List ℕ) → IsDistinct xs → IsDistinct ys → ((k : ℕ) → In k xs → p k ≡ true → In k ys × (q k ≡ true)) → ((k : ℕ) → In k ys → q k ≡ true → In k xs × (p k ≡ true))
     → count_by p xs ≡ count_by q ys
 count_by-same p q xs ys dx dy to from =
     let few = length-within (filter p xs) (filter q ys) (IsDistinct-filter p xs dx) (λ k i. let f = In-filter_from p k xs i in let u = to k f.0 f.1 in In-filter q k ys u.0 u.1) in

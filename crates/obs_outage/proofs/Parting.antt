@@ -165,7 +165,7 @@ module _ (t : Tables) (v : IsValid t) (e c : ℕ) (side : List ℕ) (p : IsParte
           | inr r ↦ (r.1.0, r.1.1, is_in_from side (bus_at t r.1.0) r.1.2)
         ]
 
-    none_beside : here ≡ all → HasSourceBeside t c side → ⊥
+    pub none_beside : here ≡ all → HasSourceBeside t c side → ⊥
     none_beside same s =
         elim compared [
           | inl r ↦ s.3 (is_in_from side (bus_at t s.0) (r.1 s.0 s.1 (eq-eqb (component_at t s.0) c s.2)))

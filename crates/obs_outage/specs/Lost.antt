@@ -11,7 +11,7 @@ use Rattle.obs_meter.specs.declared.Touch.TheVariants.{Nothing}
 use Rattle.obs_meter.specs.Touches.{hub_of}
 use Rattle.obs_assign.specs.Assignment.{Assignment, branch_at}
 use Rattle.obs_network.specs.Network.{Network}
-use Rattle.obs_network.specs.Parted.{HasSource, IsParted}
+use Rattle.obs_network.specs.Parted.{HasSource, HasSourceBeside, IsParted}
 
 -- whether a branch has an end at one of some buses
 abbrev pub ends_in : List (Option Ends) → List ℕ → ℕ → Bool
@@ -35,6 +35,15 @@ abbrev pub IsConfined : Network → Assignment → ℕ → List ℕ → Type 0
 IsConfined n a e side =
     (m : ℕ) (h : Hub) → branch_at a m ≡ Some e → hub_of n.graph.ends (slice_index_or n.meters.touches m Nothing) ≡ Some h → In h.vertex side
 
+-- where a meter has the row, it touches no other branch or those at a bus beyond the side
+abbrev pub IsConfinedBeside : Network → Assignment → ℕ → List ℕ → Type 0
+IsConfinedBeside n a e side =
+    (m : ℕ) (h : Hub) → branch_at a m ≡ Some e → hub_of n.graph.ends (slice_index_or n.meters.touches m Nothing) ≡ Some h → In h.vertex side → ⊥
+
 -- a row parts its component, which isn't absolute, and the listed side has no source
 abbrev pub IsUnfed : Tables → ℕ → List ℕ → Type 0
 IsUnfed t e side = (c : ℕ) × IsParted t e c side × (HasSource t side → ⊥)
+
+-- the same where the other side has none
+abbrev pub IsUnfedBeside : Tables → ℕ → List ℕ → Type 0
+IsUnfedBeside t e side = (c : ℕ) × IsParted t e c side × (HasSourceBeside t c side → ⊥)

@@ -1,9 +1,9 @@
 // What the outage of a row takes where a side of it has no source: the pairs whose branch has an end there.
-ghost use Rattle.std.specs.Prelude.{◌≡◌, ◌<◌, ◌^◌, All, IsTrue, length, count_by, sum_by};
+ghost use Rattle.std.specs.Prelude.{◌≡◌, ◌<◌, ◌^◌, All, IsTrue, false, length, count_by, sum_by};
 ghost use Rattle.obs_graph.specs.Positions.{branches_at};
 ghost use Rattle.obs_matroid.specs.Lists.{In};
 ghost use Rattle.obs_assign.specs.Assignment.{IsWhole};
-ghost use Rattle.obs_outage.specs.Lost.{IsConfined, counts_at, has_first};
+ghost use Rattle.obs_outage.specs.Lost.{IsConfined, IsConfinedBeside, counts_at, has_first};
 
 use obs_assign::Assignment;
 use obs_graph::{Ends, Graph};
@@ -63,6 +63,7 @@ pub(crate) fn count_lost(g: &Graph, pairs: &Assignment, e: u32, side: &[u32]) ->
 // Whether a bus is one of some buses.
 fn is_one_of(buses: &[u32], v: u32) -> bool
     ensures one { IsTrue result → In v buses.now }
+    ensures none { result ≡ false → In v buses.now → ⊥ }
 {
     for b in buses {
         if *b == v {
@@ -83,6 +84,28 @@ pub(crate) fn is_confined(network: &Network, pairs: &Assignment, e: u32, side: &
     match pairs.meter_of(e) {
         Some(m) => match network.meters().hub(network.graph(), m) {
             Some(hub) => is_one_of(side, hub.vertex),
+            None => true,
+        },
+        None => true,
+    }
+}
+
+/// The same where the side beyond goes: the meter touches no other branch or those at a bus there.
+pub(crate) fn is_confined_beside(
+    network: &Network,
+    pairs: &Assignment,
+    e: u32,
+    side: &[u32],
+) -> bool
+    requires branch { e < length pairs.now.forest.held }
+    requires whole { IsWhole pairs.now }
+    requires meters { length pairs.now.slots ≡ length network.now.meters.touches }
+    requires one_each { length pairs.now.forest.held ≡ length network.now.graph.ends }
+    ensures confined { IsTrue result → IsConfinedBeside network.now pairs.now e side.now }
+{
+    match pairs.meter_of(e) {
+        Some(m) => match network.meters().hub(network.graph(), m) {
+            Some(hub) => !is_one_of(side, hub.vertex),
             None => true,
         },
         None => true,

@@ -5,7 +5,7 @@ use Rattle.obs_matroid.proofs.Contained.{All-from_In}
 use Rattle.obs_network.specs.Network.{Network}
 use Rattle.obs_network.proofs.OfCase.{case_bus_count-le, few_nodes, length-case_branches}
 use Rattle.obs_network.proofs.PartedNeeds.{found, short_side}
-use Rattle.obs_outage.proofs.Parting.{component_low, fall_by, few_buses, no_source, parted_by, side_buses}
+use Rattle.obs_outage.proofs.Parting.{component_low, fall_by, few_buses, no_source, none_beside, parted_by, side_buses}
 use Rattle.obs_outage.proofs.Restored.{row_low}
 use Rattle.obs_outage.proofs.bridges.fall_without.Goals as goal
 
@@ -85,4 +85,5 @@ returns c =
       fall = fall_by t v e k side p c.args.feeds.now c.requires.feeds c.size.result c.from-sources.result (length side) c.sources_of-here.result c.fall-less.result size fed refl sum
           c.fall-less.ensures.listed c.fall-less.ensures.other c.fall-less.ensures.both;
       unfed = λ is. (k, p, no_source t v e k side p c.args.feeds.now c.requires.feeds (sym sum ∙ eqb-true c.sources_of-here.result 0 is));
+      beside = λ is. (k, p, none_beside t v e k side p c.args.feeds.now c.requires.feeds (sym sum ∙ eqb-true c.sources_of-here.result c.from-sources.result is ∙ fed));
     }
