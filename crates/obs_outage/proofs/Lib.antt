@@ -12,3 +12,10 @@ pub mod Putting
 pub mod Flagging
 pub mod Sparing
 pub mod SparedBy
+pub mod SideForests
+pub mod Unfed
+pub mod Losing
+pub mod UnfedSide
+pub mod ByComponent
+pub mod OtherSide
+pub mod PairCounts

@@ -77,7 +77,7 @@ more_pass p q (x ∷ xs) h =
     ]
 
 -- as many numbers have a place in a list as have each of its places, which are different
-sum_of_places : (place : ℕ → ℕ) (sources side : List ℕ) → IsDistinct side → sum_by (sources_at place sources) side ≡ count_by (λ u. is_in side (place u)) sources
+pub sum_of_places : (place : ℕ → ℕ) (sources side : List ℕ) → IsDistinct side → sum_by (sources_at place sources) side ≡ count_by (λ u. is_in side (place u)) sources
 sum_of_places place sources [] d = sym (count_by-none (λ u. false) sources (λ u i. refl))
 sum_of_places place sources (b ∷ side) d =
     let rest = sum_of_places place sources side d.1 in
@@ -92,7 +92,7 @@ sum_of_places place sources (b ∷ side) d =
     ]) in
     omega (arith, rest, both, sum_by-cons (sources_at place sources) b side)
 
-sum_by-agree : (f g : ℕ → ℕ) (xs : List ℕ) → ((x : ℕ) → In x xs → f x ≡ g x) → sum_by f xs ≡ sum_by g xs
+pub sum_by-agree : (f g : ℕ → ℕ) (xs : List ℕ) → ((x : ℕ) → In x xs → f x ≡ g x) → sum_by f xs ≡ sum_by g xs
 sum_by-agree f g [] h = refl
 sum_by-agree f g (x ∷ xs) h =
     omega (arith, sum_by-cons f x xs, sum_by-cons g x xs, h x (inl refl), sum_by-agree f g xs (λ y i. h y (inr i)))
@@ -147,7 +147,7 @@ module _ (t : Tables) (v : IsValid t) (e c : ℕ) (side : List ℕ) (p : IsParte
     compared : Compared
     compared = more_pass listed within sources lies_within
 
-    no_source : here ≡ 0 → HasSource t side → ⊥
+    pub no_source : here ≡ 0 → HasSource t side → ⊥
     no_source zero s =
         let more = more_pass (λ u. false) listed sources (λ u i h. absurd (true≢false (sym h))) in
         let none = count_by-none (λ u. false) sources (λ u i. refl) in
@@ -165,7 +165,7 @@ module _ (t : Tables) (v : IsValid t) (e c : ℕ) (side : List ℕ) (p : IsParte
           | inr r ↦ (r.1.0, r.1.1, is_in_from side (bus_at t r.1.0) r.1.2)
         ]
 
-    none_beside : here ≡ all → HasSourceBeside t c side → ⊥
+    pub none_beside : here ≡ all → HasSourceBeside t c side → ⊥
     none_beside same s =
         elim compared [
           | inl r ↦ s.3 (is_in_from side (bus_at t s.0) (r.1 s.0 s.1 (eq-eqb (component_at t s.0) c s.2)))

@@ -5,3 +5,4 @@ pub mod Spared
 pub mod Sparing
 pub mod Costly
 pub mod Entry
+pub mod Lost

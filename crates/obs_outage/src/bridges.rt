@@ -1,16 +1,18 @@
 // The entry of a row that parts the buses of its component, where no pairs need be counted.
-ghost use Rattle.std.specs.Prelude.{◌≡◌, ◌≢◌, ◌-◌, ◌<◌, ◌≤◌, ◌^◌, All, IfSome, length, slice_index, sum_by};
+ghost use Rattle.std.specs.Prelude.{◌≡◌, ◌≢◌, ◌-◌, ◌<◌, ◌≤◌, ◌^◌, All, IfSome, length, slice_index, sum_by, true};
 ghost use Rattle.obs_matroid.specs.Lists.{In};
 ghost use Rattle.obs_kept.specs.Kept.{AreLongest};
-ghost use Rattle.obs_network.specs.Network.{case_rows, network_of};
+ghost use Rattle.obs_network.specs.Network.{case_needed, case_rows, network_of};
 ghost use Rattle.obs_network.specs.Parted.{IsSide};
 ghost use Rattle.obs_outage.specs.Costly.{AreCostly};
 ghost use Rattle.obs_outage.specs.Feeds.{AreFeeds, IsFall};
-ghost use Rattle.obs_outage.specs.Outages.{outage_of, outage_rows};
+ghost use Rattle.obs_outage.specs.Lost.{IsConfined, IsConfinedBeside, IsUnfed, IsUnfedBeside};
+ghost use Rattle.obs_outage.specs.Outages.{outage_case, outage_of, outage_rows};
 ghost use Rattle.obs_outage.specs.Spared.{AreSpared};
 ghost use Rattle.obs_outage.specs.Sparing.{HasFlags};
 
 use crate::Outage;
+use crate::dead::{count_lost, is_confined, is_confined_beside};
 use crate::entry::known_entry;
 use crate::feeds::Feeds;
 use crate::spared::Spared;
@@ -48,13 +50,22 @@ fn fall(size: u32, sources: u64, buses: u32, here: u64) -> u32
     }
 }
 
-/// By how much the needed number falls without a row that parts its component, where this isn't absolute.
-fn fall_without(case: &Case, e: u32, network: &Network, feeds: &Feeds, side: &[u32]) -> Option<u32>
+/// By how much the needed number falls without a row that parts its component, where this isn't absolute; and whether the
+/// listed side has no source, and whether the other has none.
+fn fall_without(
+    case: &Case,
+    e: u32,
+    network: &Network,
+    feeds: &Feeds,
+    side: &[u32],
+) -> Option<(u32, bool, bool)>
     requires network { network.now ≡ network_of case.now }
     requires feeds { AreFeeds case.now feeds.now }
     requires row { In e (outage_rows case.now) }
     requires side { IsSide (case_rows case.now) e side.now }
-    ensures fall { IfSome result (IsFall case.now e) }
+    ensures fall { IfSome result (λ r. IsFall case.now e r.0) }
+    ensures unfed { IfSome result (λ r. r.1 ≡ true → IsUnfed case.now e side.now) }
+    ensures beside { IfSome result (λ r. r.2 ≡ true → IsUnfedBeside case.now e side.now) }
 {
     let _nodes = case.nodes();
     let c = network.component_of_branch(e)?;
@@ -63,11 +74,69 @@ fn fall_without(case: &Case, e: u32, network: &Network, feeds: &Feeds, side: &[u
     }
     let here = sources_of(feeds.of_buses(), side);
     let sources = u64::from(feeds.of_component(c));
-    Some(fall(network.size(c), sources, side.len() as u32, here))
+    let less = fall(network.size(c), sources, side.len() as u32, here);
+    Some((less, here == 0, here == sources))
 }
 
-/// The entry of a row that parts its component, where this isn't absolute: an observable case stays observable, and else it
-/// can be known where no other branch goes. Nothing is made or searched.
+/// The entry of a row where the listed side has no source: the pairs that it loses are gone.
+fn unfed_entry(
+    case: &Case,
+    e: u32,
+    network: &Network,
+    pairs: &Assignment,
+    side: &[u32],
+    needed: u32,
+) -> Outage
+    requires network { network.now ≡ network_of case.now }
+    requires longest { AreLongest case.now pairs.now }
+    requires unfed { IsUnfed case.now e side.now }
+    requires confined { IsConfined network.now pairs.now e side.now }
+    requires needed { needed ≡ case_needed (outage_case case.now e) }
+    ensures entry { result ≡ outage_of case.now e }
+{
+    let _nodes = case.nodes();
+    let lost = count_lost(network.graph(), pairs, e, side) as u32;
+    Outage {
+        branch: e,
+        rank: pairs.length() - lost,
+        needed,
+    }
+}
+
+/// The entry of a row where the other side has no source: the pairs of the component are gone that the listed side hasn't.
+fn beside_entry(
+    case: &Case,
+    e: u32,
+    network: &Network,
+    pairs: &Assignment,
+    feeds: &Feeds,
+    side: &[u32],
+    needed: u32,
+) -> Option<Outage>
+    requires network { network.now ≡ network_of case.now }
+    requires longest { AreLongest case.now pairs.now }
+    requires feeds { AreFeeds case.now feeds.now }
+    requires row { In e (outage_rows case.now) }
+    requires unfed { IsUnfedBeside case.now e side.now }
+    requires confined { IsConfinedBeside network.now pairs.now e side.now }
+    requires needed { needed ≡ case_needed (outage_case case.now e) }
+    ensures entry { IfSome result (λ o. o ≡ outage_of case.now e) }
+{
+    let _nodes = case.nodes();
+    let c = network.component_of_branch(e)?;
+    let here = count_lost(network.graph(), pairs, e, side);
+    let row = u64::from(pairs.forest().holds(e));
+    let own = u64::from(feeds.pairs_of_component(c));
+    let left = u64::from(pairs.length()) + here - own - row;
+    Some(Outage {
+        branch: e,
+        rank: left as u32,
+        needed,
+    })
+}
+
+/// The entry of a row that parts its component, where this isn't absolute: an observable case stays observable; else
+/// the pairs that go are counted where a side has no source, or it can be known where no other branch goes. Nothing is made or searched.
 pub(crate) fn parted_entry(
     case: &Case,
     e: u32,
@@ -88,7 +157,7 @@ pub(crate) fn parted_entry(
     ensures entry { IfSome result (λ o. o ≡ outage_of case.now e) }
 {
     let _nodes = case.nodes();
-    let fall = fall_without(case, e, network, feeds, side)?;
+    let (fall, unfed, beside) = fall_without(case, e, network, feeds, side)?;
     let before = network.needed();
     let needed = before - fall;
     if pairs.length() == before {
@@ -97,6 +166,12 @@ pub(crate) fn parted_entry(
             rank: needed,
             needed,
         });
+    }
+    if unfed && is_confined(network, pairs, e, side) {
+        return Some(unfed_entry(case, e, network, pairs, side, needed));
+    }
+    if beside && is_confined_beside(network, pairs, e, side) {
+        return beside_entry(case, e, network, pairs, feeds, side, needed);
     }
     if fall == 1 {
         return known_entry(pairs, spared, e, needed);

@@ -3,6 +3,7 @@
 
 mod bridges;
 mod costly;
+mod dead;
 mod entry;
 mod feeds;
 pub mod laws;

@@ -35,7 +35,7 @@ pub struct Outages {
     sides: Sides,
     // branches that a longest assignment can miss
     spared: Spared,
-    // the sources of the case that was handed last
+    // the sources of the case that was handed last, and the pairs of its components
     feeds: Feeds,
     // the first `count` of these are listed
     entries: Vec<Outage>,
@@ -64,6 +64,7 @@ impl Model for Outages {
       costly : AreCostly o.kept.network o.spared.costly;
       fed_buses : length o.feeds.of_buses ≡ o.kept.network.rows.nodes;
       fed_components : length o.feeds.of_components ≡ o.kept.network.rows.nodes;
+      fed_pairs : length o.feeds.pairs ≡ o.kept.network.rows.nodes;
       entries : length o.entries.items ≡ o.kept.network.rows.branches;
       listed : o.count ≤ length o.entries.items;
     } };
@@ -149,7 +150,7 @@ impl Outages {
         ensures longest { AreLongest case.old self.new.pairs }
         ensures found { self.new.found ≡ self.old.found }
     {
-        self.feeds.count(case, &self.kept.network);
+        self.feeds.count(case, &self.kept.network, &self.kept.pairs);
         entry_of(
             case,
             e,
@@ -170,7 +171,7 @@ impl Outages {
         ensures network { self.new.network ≡ self.old.network }
         ensures longest { AreLongest case.old self.new.pairs }
     {
-        self.feeds.count(case, &self.kept.network);
+        self.feeds.count(case, &self.kept.network, &self.kept.pairs);
         self.count = list_outages(
             case,
             &mut self.kept,

@@ -1,10 +1,11 @@
 use Rattle.std.proofs.Common.{◌<◌, ℕ, List, length, refl, sym, ap, ◌∙◌, arith}
 use Rattle.std.specs.Prelude.{slice_index, sum_by}
+use Rattle.std.proofs.lemmas.Bool.{eqb-true}
 use Rattle.obs_matroid.proofs.Contained.{All-from_In}
 use Rattle.obs_network.specs.Network.{Network}
 use Rattle.obs_network.proofs.OfCase.{case_bus_count-le, few_nodes, length-case_branches}
 use Rattle.obs_network.proofs.PartedNeeds.{found, short_side}
-use Rattle.obs_outage.proofs.Parting.{component_low, fall_by, few_buses, parted_by, side_buses}
+use Rattle.obs_outage.proofs.Parting.{component_low, fall_by, few_buses, no_source, none_beside, parted_by, side_buses}
 use Rattle.obs_outage.proofs.Restored.{row_low}
 use Rattle.obs_outage.proofs.bridges.fall_without.Goals as goal
 
@@ -58,8 +59,8 @@ overflow_cast-side c =
     let p = parted_by t c.args.network.now e k side c.requires.network (row_low t e c.requires.row) (sym c.in_ok-c.ensures.component) (sym c.absolute.ensures.absolute ∙ c.if-absolute.false) c.requires.side in
     omega (arith, few_buses t v e k side p, case_bus_count-le t, few_nodes t v)
 
-pub fall-requires : goal.fall-requires
-fall-requires c =
+pub fall-less-requires : goal.fall-less-requires
+fall-less-requires c =
     let t = c.args.case.now in
     let v = c.nodes-nodes.ensures.valid in
     let e = c.args.e in
@@ -81,6 +82,8 @@ returns c =
     let fed = c.from-sources.ensures ∙ c.of_component.ensures.count in
     let sum = c.sources_of-here.ensures.sum ∙ ap (λ (xs : List ℕ). sum_by (slice_index xs) side) c.of_buses.ensures.counts in
     record {
-      fall = fall_by t v e k side p c.args.feeds.now c.requires.feeds c.size.result c.from-sources.result (length side) c.sources_of-here.result c.fall.result size fed refl sum
-          c.fall.ensures.listed c.fall.ensures.other c.fall.ensures.both;
+      fall = fall_by t v e k side p c.args.feeds.now c.requires.feeds c.size.result c.from-sources.result (length side) c.sources_of-here.result c.fall-less.result size fed refl sum
+          c.fall-less.ensures.listed c.fall-less.ensures.other c.fall-less.ensures.both;
+      unfed = λ is. (k, p, no_source t v e k side p c.args.feeds.now c.requires.feeds (sym sum ∙ eqb-true c.sources_of-here.result 0 is));
+      beside = λ is. (k, p, none_beside t v e k side p c.args.feeds.now c.requires.feeds (sym sum ∙ eqb-true c.sources_of-here.result c.from-sources.result is ∙ fed));
     }

@@ -16,6 +16,44 @@ returns-then-length-before c =
     let less = ap (λ n. n - k) before in
     record { entry = observable_entry t c.nodes-nodes.ensures.valid c.args.e k c.in_ok-fall.ensures.fall c.args.pairs.now c.requires.longest full _ refl less less }
 
+pub is_confined-requires-clause-branch : goal.is_confined-requires-clause-branch
+is_confined-requires-clause-branch c =
+    let low = row_low c.args.case.now c.args.e c.requires.row in
+    let many = length-case_branches c.args.case.now in
+    let same = c.requires.longest.stands.forest.positions in
+    omega (arith, low, many, same)
+
+pub is_confined-requires-clause-meters : goal.is_confined-requires-clause-meters
+is_confined-requires-clause-meters c =
+    let same = c.requires.longest.stands.meters in
+    let net = ap (λ (x : Network). length x.meters.touches) c.requires.network in
+    omega (arith, same, net)
+
+pub is_confined-requires-clause-one_each : goal.is_confined-requires-clause-one_each
+is_confined-requires-clause-one_each c =
+    let same = c.requires.longest.stands.forest.positions in
+    let net = ap (λ (x : Network). length x.graph.ends) c.requires.network in
+    omega (arith, same, net)
+
+pub is_confined_beside-requires-clause-branch : goal.is_confined_beside-requires-clause-branch
+is_confined_beside-requires-clause-branch c =
+    let low = row_low c.args.case.now c.args.e c.requires.row in
+    let many = length-case_branches c.args.case.now in
+    let same = c.requires.longest.stands.forest.positions in
+    omega (arith, low, many, same)
+
+pub is_confined_beside-requires-clause-meters : goal.is_confined_beside-requires-clause-meters
+is_confined_beside-requires-clause-meters c =
+    let same = c.requires.longest.stands.meters in
+    let net = ap (λ (x : Network). length x.meters.touches) c.requires.network in
+    omega (arith, same, net)
+
+pub is_confined_beside-requires-clause-one_each : goal.is_confined_beside-requires-clause-one_each
+is_confined_beside-requires-clause-one_each c =
+    let same = c.requires.longest.stands.forest.positions in
+    let net = ap (λ (x : Network). length x.graph.ends) c.requires.network in
+    omega (arith, same, net)
+
 pub known_entry-requires-clause-branch : goal.known_entry-requires-clause-branch
 known_entry-requires-clause-branch c =
     let low = row_low c.args.case.now c.args.e c.requires.row in

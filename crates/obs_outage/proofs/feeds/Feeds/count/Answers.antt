@@ -29,3 +29,10 @@ count_by_component-requires-clause-room c =
     let room = ap (λ (f : Feeds). length f.of_components) c.self.view_is ∙ c.requires.components in
     let t = c.args.case.now in
     omega (arith, net, room, length-case_first_buses t, case_component_count-le t, case_bus_count-le t)
+
+pub count_longest-requires-clause-room : goal.count_longest-requires-clause-room
+count_longest-requires-clause-room c =
+    let net = ap (λ (x : Network). length x.components.first_buses) c.requires.network in
+    let room = ap (λ (f : Feeds). length f.pairs) c.self.view_is ∙ c.requires.pairs in
+    let t = c.args.case.now in
+    omega (arith, net, room, length-case_first_buses t, case_component_count-le t, case_bus_count-le t)

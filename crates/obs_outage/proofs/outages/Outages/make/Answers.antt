@@ -19,6 +19,7 @@ invariant_of-result g c =
       costly = c.find.ensures.costly;
       fed_buses = c.in_ok-feeds.ensures.buses ∙ sym nodes;
       fed_components = c.in_ok-feeds.ensures.components ∙ sym nodes;
+      fed_pairs = c.in_ok-feeds.ensures.pairs ∙ sym nodes;
       entries = (let many = ap (λ (x : Network). x.rows.branches) net in let len = c.in_ok-entries.ensures.len in omega (arith, many, len, rows));
       listed = omega arith;
     }
