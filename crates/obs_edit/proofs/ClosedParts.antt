@@ -1,5 +1,5 @@
 -- The parts that a closed set leaves: what the branches of its own pairs join.
-use Rattle.std.proofs.Common.{inl, inr, ◌≡◌, ℕ, ◌+◌, ◌≤◌, Bool, true, false, not, ◌||◌, Option, Some, None, List, length, get_or, refl, sym, ap, ◌∙◌, subst, ◌↔◌, arith}
+use Rattle.std.proofs.Common.{inl, inr, ◌≡◌, ℕ, ◌+◌, ◌≤◌, Bool, true, false, not, ◌||◌, Option, Some, None, List, length, get_or, refl, sym, ap, ◌∙◌, subst, arith}
 use Rattle.std.specs.Prelude.{Contains, filter, slice_index_or}
 use Rattle.std.proofs.lemmas.Bool.{cases_Bool, not_from_false, or_cases, or_from, or_left}
 use Rattle.std.proofs.lemmas.List.{length-map}
@@ -31,14 +31,9 @@ use Rattle.obs_exchange.specs.Closed.{own_branches}
 use Rattle.obs_exchange.specs.Found.{HasClosed}
 use Rattle.obs_exchange.specs.Laws.{IsThawed}
 use Rattle.obs_network.proofs.KeptForests.{InRange-ends_of}
-use Rattle.obs_edit.specs.Parts.{AreBounding, is_between}
+use Rattle.obs_edit.specs.Parts.{AreBounding, HoldsOwn, is_between}
 use Rattle.obs_edit.proofs.Bounding.{between-from, is_joined_at}
 use Rattle.obs_edit.proofs.Retained.{assigns-within}
-
--- what is held are just the branches of the pairs whose meter was reached
-abbrev pub HoldsOwn : List (Option Ends) → Assignment → List Bool → List (Option Ends) → Type 0
-HoldsOwn ends a reached held =
-    (e : ℕ) (x : Ends) → (slice_index_or held e None ≡ Some x) ↔ ((slice_index_or ends e None ≡ Some x) × (m : ℕ) × (has_flag reached m ≡ true) × (branch_at a m ≡ Some e))
 
 module _ (g : Graph) (touches : List Touch) (a : Assignment) (reached : List Bool) (held : List (Option Ends)) (ok : AreBranches g.vertices g.ends) (whole : IsWhole a) (stands : StandsOver a g touches)
     (thawed : IsThawed a) (closed : HasClosed g.ends touches All a a reached) (holds : HoldsOwn g.ends a reached held) where
