@@ -39,8 +39,9 @@ fn hold_own(g: &Graph, ms: &Meters, a: &Assignment, flags: &[bool], held: &mut [
     empty(held);
     for m in 0..ms.count() {
         if flags[m as usize] {
-            if let Some(e) = a.branch_of(m) {
-                held[e as usize] = g.ends(e);
+            match a.branch_of(m) {
+                Some(e) => held[e as usize] = g.ends(e),
+                None => {}
             }
         }
     }
@@ -84,10 +85,12 @@ impl Parts {
     {
         let positions = position_count(case);
         let vertices = vertex_room(case);
+        let search = Search::make(alloc, vertices)?;
+        let held = vec![in alloc; None; positions as usize]?;
         Ok(Parts {
             known: false,
-            search: Search::make(alloc, vertices)?,
-            held: vec![in alloc; None; positions as usize]?,
+            search,
+            held,
         })
     }
 
