@@ -26,3 +26,6 @@ pub mod Sets
 pub mod Bounding
 pub mod KeptParts
 pub mod ClosedParts
+pub mod HeldPairs
+pub mod Limited
+pub mod PartRoom
