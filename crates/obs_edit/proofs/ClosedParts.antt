@@ -1,20 +1,19 @@
 -- The parts that a closed set leaves: what the branches of its own pairs join.
-use Rattle.std.proofs.Common.{inl, inr, ◌≡◌, ℕ, ◌+◌, ◌≤◌, Bool, true, false, not, ◌||◌, Option, Some, None, List, length, get_or, refl, sym, ap, ◌∙◌, subst, arith}
-use Rattle.std.specs.Prelude.{Contains, filter, slice_index_or}
+use Rattle.std.proofs.Common.{inl, inr, ◌≡◌, ℕ, ◌+◌, ◌≤◌, Bool, true, false, not, ◌||◌, Option, Some, None, List, length, refl, sym, ap, ◌∙◌, arith}
+use Rattle.std.specs.Prelude.{Contains, filter}
 use Rattle.std.proofs.lemmas.Bool.{cases_Bool, not_from_false, or_cases, or_from, or_left}
 use Rattle.std.proofs.lemmas.List.{length-map}
 use Rattle.obs_graph.specs.declared.Ends.{Ends}
 use Rattle.obs_graph.specs.Graph.{Graph}
-use Rattle.obs_graph.specs.Joined.{first_joined, is_joined, rank}
+use Rattle.obs_graph.specs.Joined.{rank}
 use Rattle.obs_graph.specs.Positions.{AreBranches, ends_of, present}
 use Rattle.obs_graph.specs.Search.{IsRooted, State}
 use Rattle.obs_graph.proofs.AtPositions.{contains-ends_of, ends_of-contains, rank-from_IsForestAt}
-use Rattle.obs_graph.proofs.Chains.{first_joined-contains}
 use Rattle.obs_graph.proofs.Forests.{rank-among, same_first-among}
 use Rattle.obs_graph.proofs.IsJoined.{same-from_true, true-from_same}
 use Rattle.obs_graph.proofs.Present.{contains_present, present_contains}
 use Rattle.obs_matroid.specs.Lists.{In}
-use Rattle.obs_matroid.specs.Assignments.{Pair, branches, items, part}
+use Rattle.obs_matroid.specs.Assignments.{Pair, items, part}
 use Rattle.obs_matroid.proofs.Contained.{Contains-from_In, In-from_Contains}
 use Rattle.obs_matroid.proofs.Lists.{In-filter_from, IsDistinct-filter, clash, length-split, length-within}
 use Rattle.obs_matroid.proofs.Pairs.{In-branches, In-branches_from, In-items, In-part, In-part_from, IsDistinct-part}
@@ -32,7 +31,7 @@ use Rattle.obs_exchange.specs.Found.{HasClosed}
 use Rattle.obs_exchange.specs.Laws.{IsThawed}
 use Rattle.obs_network.proofs.KeptForests.{InRange-ends_of}
 use Rattle.obs_edit.specs.Parts.{AreBounding, HoldsOwn, is_between}
-use Rattle.obs_edit.proofs.Bounding.{between-from, is_joined_at}
+use Rattle.obs_edit.proofs.Bounding.{between-from}
 use Rattle.obs_edit.proofs.Retained.{assigns-within}
 
 module _ (g : Graph) (touches : List Touch) (a : Assignment) (reached : List Bool) (held : List (Option Ends)) (ok : AreBranches g.vertices g.ends) (whole : IsWhole a) (stands : StandsOver a g touches)
@@ -51,11 +50,10 @@ module _ (g : Graph) (touches : List Touch) (a : Assignment) (reached : List Boo
   held_own x c =
       let p = present_contains held x c in
       let h = (holds p.0 x).0 p.1 in
-      let m = h.1 in
-      let q : Pair = (m.0, p.0) in
-      let i : In q (pairs a) = slot_at a.slots m.0 p.0 m.2 in
+      let q : Pair = (h.1, p.0) in
+      let i : In q (pairs a) = slot_at a.slots h.1 p.0 h.3 in
       contains-ends_of g.ends own_list p.0 x
-      (Contains-from_In p.0 own_list (In-branches (part own (pairs a)) q (In-part own (pairs a) q i (or_left (has_flag reached m.0) (is_frozen a m.0) m.1)))) h.0
+      (Contains-from_In p.0 own_list (In-branches (part own (pairs a)) q (In-part own (pairs a) q i (or_left (has_flag reached h.1) (is_frozen a h.1) h.2)))) h.0
 
   own_held : (x : Ends) → Contains (ends_of g.ends own_list) x → Contains (present held) x
   own_held x c =

@@ -5,14 +5,14 @@ use Rattle.std.specs.List.{list_all, list_any, range_with_len}
 use Rattle.std.proofs.lemmas.Bool.{and_cases, and_parts, cases_eq, eq-eqb}
 use Rattle.obs_graph.specs.declared.Ends.{Ends}
 use Rattle.obs_graph.specs.Graph.{Graph}
-use Rattle.obs_graph.specs.Joined.{first_joined, is_joined, rank}
+use Rattle.obs_graph.specs.Joined.{first_joined, is_joined}
 use Rattle.obs_graph.specs.Positions.{AreBranches}
 use Rattle.obs_case.specs.Flags.{with_meter_inservice}
 use Rattle.obs_case.specs.Tables.{IsValid, Tables}
 use Rattle.obs_matroid.specs.Lists.{In}
 use Rattle.obs_matroid.proofs.Lists.{In-filter, In-filter_from, IsDistinct-filter, clash, length-filter_le, length-within}
 use Rattle.obs_meter.specs.declared.Touch.{Touch}
-use Rattle.obs_meter.specs.Spanned.{both_ends, ends_at}
+use Rattle.obs_meter.specs.Spanned.{both_ends}
 use Rattle.obs_meter.specs.Touches.{every_item, touch_at}
 use Rattle.obs_meter.proofs.Assigned.{every_item-distinct}
 use Rattle.obs_meter.proofs.Instance.{in_range}

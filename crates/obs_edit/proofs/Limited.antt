@@ -28,7 +28,7 @@ module _ (e : Edit) (alone between : Bool) (n : Network) (first : List ℕ) (had
 
   pub limit-between : (at : ℕ) → e ≡ edit.Meter at false → between ≡ true → BoundsNetwork n first (had - 1)
   limit-between at is yes_between =
-      let said = subst (λ (x : Edit). IsSaidBetween x between (network_of h.before) first) is h.between in
+      let said = subst (λ (x : Edit). IsSaidBetween x between (network_of h.before) first) is h.said_between in
       subst (λ (x : Network). BoundsNetwork x first (had - 1)) (sym (network_by (edit.Meter at false) is))
       (bounds-lost_between h.before h.valid at first had (said yes_between) h.bound).1
 
@@ -44,7 +44,7 @@ module _ (e : Edit) (alone between : Bool) (n : Network) (first : List ℕ) (had
 
   pub limit-branch : (at : ℕ) (inservice : Bool) → e ≡ edit.Branch at inservice → alone ≡ true → is_inside first n.graph.ends at ≡ true → BoundsNetwork n first had
   limit-branch at inservice is surely inside =
-      let said = subst (λ (x : Edit). IsSaidAlone x alone (network_of h.before) n) is h.alone in
+      let said = subst (λ (x : Edit). IsSaidAlone x alone (network_of h.before) n) is h.said_alone in
       bounds-but at (network_of h.before) n (said surely) many ok first had inside h.bound
     where
       many : length n.meters.touches ≡ length (network_of h.before).meters.touches

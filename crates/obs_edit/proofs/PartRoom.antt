@@ -63,7 +63,7 @@ module _ (t : Tables) (e : Edit) (n : Network) (a : Assignment) (h : IsBefore t 
     valid = h.valid;
     valid_after = subst IsValid h.same valid;
     network = net_edited;
-    alone = subst (λ (x : Network). IsSaidAlone e alone x after) h.network said;
-    between = subst (λ (x : Network). IsSaidBetween e between x p.first) h.network parted;
+    said_alone = subst (λ (x : Network). IsSaidAlone e alone x after) h.network said;
+    said_between = subst (λ (x : Network). IsSaidBetween e between x p.first) h.network parted;
     bound = subst (λ (x : Network). BoundsNetwork x p.first had) h.network (subst (λ k. BoundsNetwork n p.first k) (sym is) bound);
   }

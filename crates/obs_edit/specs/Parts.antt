@@ -77,6 +77,6 @@ pub record AreBoundBefore (edit : Edit) (alone between : Bool) (n : Network) (fi
   pub valid : IsValid before
   pub valid_after : IsValid (edited before edit)
   pub network : n ≡ network_of (edited before edit)
-  pub alone : IsSaidAlone edit alone (network_of before) n
-  pub between : IsSaidBetween edit between (network_of before) first
+  pub said_alone : IsSaidAlone edit alone (network_of before) n
+  pub said_between : IsSaidBetween edit between (network_of before) first
   pub bound : BoundsNetwork (network_of before) first had
