@@ -44,11 +44,10 @@ module _ (ends : List (Option Ends)) (a : Assignment) (flags : List Bool) where
   HoldsBelow-more k held p o flag pair is low there h e x = elim (cases_eq e p) [
     | inl y ↦ (
         let here : get_or (set held p o) e None ≡ get_or ends e None =
-          ap (λ j. get_or (set held p o) j None) y ∙ (get_or-set_same held p o None there ∙ (is ∙ (get_or_default ends p o None low ∙ ap (λ j. get_or ends j None) (sym y)))) in
+        ap (λ j. get_or (set held p o) j None) y ∙ (get_or-set_same held p o None there ∙ (is ∙ (get_or_default ends p o None low ∙ ap (λ j. get_or ends j None) (sym y)))) in
         ((λ i. (sym here ∙ i, k, omega arith, flag, pair ∙ ap Some (sym y))), λ w. here ∙ w.0))
     | inr n ↦ (
-        let other : get_or (set held p o) e None ≡ get_or held e None = get_or-set_other held p e o None n in
-        (
+        let other : get_or (set held p o) e None ≡ get_or held e None = get_or-set_other held p e o None n in (
           (λ i. let w = (h e x).0 (sym other ∙ i) in (w.0, w.1, below w.2, w.3, w.4)),
           λ w. elim (cases_eq w.1 k) [
             | inl z ↦ absurd (n (some_same (sym (subst (λ j. branch_at a j ≡ Some e) z w.4) ∙ pair)))

@@ -123,7 +123,11 @@ pub(crate) fn settle(
         return;
     }
     match limit {
-        Some(most) => { if a.length() < most { parts.forget(); } }
+        Some(most) => {
+            if a.length() < most {
+                parts.forget();
+            }
+        }
         None => parts.forget(),
     }
 }

@@ -20,19 +20,19 @@ loop-m-preserved c =
           let one_each = c.requires.one_each in
           let was = l.invariant.1 in (
             subst (λ (xs : List (Option Ends)). HoldsBelow ends a flags (l.m + 1) xs) (sym w.held-is)
-            (HoldsBelow-more ends a flags l.m l.held w.in-Some.e w.ends.result w.if-flags-m.true pair w.ends.ensures.ends low (omega (arith, low, one_each, was)) l.invariant.0),
+                (HoldsBelow-more ends a flags l.m l.held w.in-Some.e w.ends.result w.if-flags-m.true pair w.ends.ensures.ends low (omega (arith, low, one_each, was)) l.invariant.0),
             many,
           )
       | then-flags-m+in-None w ↦ (
-          subst (λ (xs : List (Option Ends)). HoldsBelow ends a flags (l.m + 1) xs) (sym w.held-is)
-          (HoldsBelow-skip ends a flags l.m l.held (λ e flag pair. none_some e (w.in-None.ensures.branch ∙ pair)) l.invariant.0),
-          many,
-        )
+        subst (λ (xs : List (Option Ends)). HoldsBelow ends a flags (l.m + 1) xs) (sym w.held-is)
+            (HoldsBelow-skip ends a flags l.m l.held (λ e flag pair. none_some e (w.in-None.ensures.branch ∙ pair)) l.invariant.0),
+        many,
+      )
       | else-flags-m w ↦ (
-          subst (λ (xs : List (Option Ends)). HoldsBelow ends a flags (l.m + 1) xs) (sym w.held-is)
-          (HoldsBelow-skip ends a flags l.m l.held (λ e flag pair. clash flag w.if-flags-m.false) l.invariant.0),
-          many,
-        )
+        subst (λ (xs : List (Option Ends)). HoldsBelow ends a flags (l.m + 1) xs) (sym w.held-is)
+            (HoldsBelow-skip ends a flags l.m l.held (λ e flag pair. clash flag w.if-flags-m.false) l.invariant.0),
+        many,
+      )
     ]
 
 pub returns-clause-held : goal.returns-clause-held
