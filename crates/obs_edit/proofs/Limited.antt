@@ -1,19 +1,16 @@
 -- How many pairs the parts bound after an edit.
-use Rattle.std.proofs.Common.{◌⊎◌, inl, inr, ◌≡◌, ℕ, ◌+◌, ◌-◌, ◌≤◌, Bool, true, false, Option, Some, None, List, length, refl, sym, ap, ◌∙◌, subst, arith}
+use Rattle.std.proofs.Common.{◌⊎◌, inl, inr, ◌≡◌, ℕ, ◌+◌, ◌-◌, Bool, true, false, Option, Some, List, length, sym, ap, ◌∙◌, subst}
 use Rattle.std.specs.Prelude.{IfSome}
 use Rattle.obs_graph.specs.Positions.{AreBranches}
-use Rattle.obs_case.specs.Flags.{with_branch_inservice, with_meter_inservice}
-use Rattle.obs_case.specs.Tables.{IsValid, Tables}
 use Rattle.obs_exchange.specs.Longest.{IsMost}
-use Rattle.obs_network.specs.Edited.{AreSameBut}
-use Rattle.obs_network.specs.Network.{Network, case_branches, case_meters, case_vertex_count, network_of}
+use Rattle.obs_network.specs.Network.{Network, network_of}
 use Rattle.obs_network.proofs.OfCase.{case_branches-are}
 use Rattle.obs_edit.specs.declared.edit.Edit.{Edit}
 use Rattle.obs_edit.specs.declared.edit.Edit.TheVariants as edit
 use Rattle.obs_edit.specs.Edits.{edited}
 use Rattle.obs_edit.specs.Parts.{AreBoundBefore, BoundsNetwork, IsSaidBetween, is_inside, is_within}
 use Rattle.obs_edit.specs.Repairing.{IsSaidAlone}
-use Rattle.obs_edit.proofs.Bounding.{bounds-more, most-bounded}
+use Rattle.obs_edit.proofs.Bounding.{most-bounded}
 use Rattle.obs_edit.proofs.Flagged.{meters-edited}
 use Rattle.obs_edit.proofs.KeptParts.{bounds-but, bounds-lost, bounds-lost_between, bounds-regained, bounds-regained_within}
 

@@ -1,8 +1,8 @@
 -- The room of parts, and the place of an edit in the network.
-use Rattle.std.proofs.Common.{◌≡◌, ℕ, ◌+◌, ◌*◌, ◌<◌, ◌≤◌, Bool, length, sym, ap, ◌∙◌, subst, arith}
+use Rattle.std.proofs.Common.{◌≡◌, ℕ, ◌*◌, ◌≤◌, Bool, length, sym, ap, ◌∙◌, subst, arith}
 use Rattle.obs_case.specs.Tables.{IsValid, Tables}
 use Rattle.obs_assign.specs.Assignment.{Assignment, pairs}
-use Rattle.obs_network.specs.Network.{Network, Rows, case_branches, case_meters, case_position_count, case_vertex_room, network_of, rows_of}
+use Rattle.obs_network.specs.Network.{Network, Rows, case_meters, case_position_count, case_vertex_room, network_of}
 use Rattle.obs_network.proofs.OfCase.{case_vertex_count-le, length-case_branches, length-case_meters}
 use Rattle.obs_edit.specs.declared.edit.Edit.{Edit}
 use Rattle.obs_edit.specs.declared.edit.Edit.TheVariants as edit

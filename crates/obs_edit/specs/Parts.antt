@@ -11,7 +11,7 @@ use Rattle.obs_assign.specs.Assignment.{Assignment, branch_at, has_flag}
 use Rattle.obs_network.specs.Network.{Network, case_position_count, case_vertex_room, network_of}
 use Rattle.obs_edit.specs.declared.edit.Edit.{Edit}
 use Rattle.obs_edit.specs.declared.edit.Edit.TheVariants.{Switch, Branch, Meter}
-use Rattle.obs_edit.specs.Edits.{HasRow, edited}
+use Rattle.obs_edit.specs.Edits.{edited}
 use Rattle.obs_edit.specs.Repairing.{IsSaidAlone}
 
 -- parts of the vertices: whether they bound the pairs, of each vertex the first of its part, and for how many positions of

@@ -1,4 +1,4 @@
-use Rattle.std.proofs.Common.{true, subst, ◌≤◌, length}
+use Rattle.std.proofs.Common.{subst, ◌≤◌, length}
 use Rattle.std.specs.Prelude.{MatchBool}
 use Rattle.obs_assign.specs.Assignment.{pairs}
 use Rattle.obs_exchange.specs.declared.Sources.TheVariants.{All}

@@ -1,4 +1,4 @@
-use Rattle.std.proofs.Common.{◌≡◌, ◌+◌, ◌∙◌, Some, List, Option, length, sym, subst, arith}
+use Rattle.std.proofs.Common.{◌+◌, ◌∙◌, List, Option, sym, subst, arith}
 use Rattle.obs_graph.specs.declared.Ends.{Ends}
 use Rattle.obs_matroid.proofs.Lists.{clash}
 use Rattle.obs_assign.proofs.Slotted.{none_some}

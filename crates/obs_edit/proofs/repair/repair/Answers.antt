@@ -1,4 +1,4 @@
-use Rattle.std.proofs.Common.{refl, sym, subst, arith, ◌∙◌}
+use Rattle.std.proofs.Common.{refl, sym, subst, arith}
 use Rattle.obs_graph.specs.Positions.{AreBranches}
 use Rattle.obs_assign.specs.Assignment.{Assignment, StandsOver}
 use Rattle.obs_exchange.specs.Longest.{IsLongest}
