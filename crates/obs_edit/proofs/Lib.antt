@@ -23,3 +23,9 @@ pub mod GivenUp
 pub mod MostPairs
 pub mod CameBack
 pub mod Sets
+pub mod Bounding
+pub mod KeptParts
+pub mod ClosedParts
+pub mod HeldPairs
+pub mod Limited
+pub mod PartRoom

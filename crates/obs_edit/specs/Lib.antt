@@ -6,3 +6,4 @@ pub mod Placements
 pub mod Repairing
 pub mod Sessions
 pub mod Laws
+pub mod Parts

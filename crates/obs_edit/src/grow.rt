@@ -1,7 +1,10 @@
 // The searches of a repair.
 ghost use Rattle.std.specs.Prelude.{◌≡◌, ◌+◌, ◌-◌, ◌≤◌, ℕ, true, length};
 ghost use Rattle.obs_meter.specs.Sizes.{HasRoomFor};
+ghost use Rattle.obs_meter.specs.Touches.{AreInRange};
 ghost use Rattle.obs_assign.specs.Assignment.{HasRoomOf, StandsOver, pairs};
+ghost use Rattle.obs_exchange.specs.declared.Sources.TheVariants.{All};
+ghost use Rattle.obs_exchange.specs.Found.{HasClosed};
 ghost use Rattle.obs_exchange.specs.Laws.{IsThawed};
 ghost use Rattle.obs_exchange.specs.Lengthened.{HasLengthened};
 ghost use Rattle.obs_exchange.specs.Longest.{IsLongest, IsMost};
@@ -10,7 +13,9 @@ ghost use Rattle.obs_edit.specs.Repairing.{IsBack, IsMeterBack};
 
 use crate::edit::Edit;
 use obs_assign::{Assignment, Steps};
-use obs_exchange::{Found, Sources, Work, regrow, search};
+use obs_exchange::{Found, Lengthened, Sources, Work, lengthen, search};
+use obs_graph::Graph;
+use obs_meter::Meters;
 use obs_network::Network;
 use std::sync::ledger::Ledger;
 
@@ -64,8 +69,36 @@ fn search_back<L: Ledger>(
     1
 }
 
+/// Makes the pairs longest, of which no assignment has more than `most`, by searches from all sources. What the last one
+/// reached stays in `work`, where it ended closed.
+fn search_all<L: Ledger>(
+    g: &Graph,
+    ms: &Meters,
+    most: u32,
+    a: &mut Assignment,
+    work: &mut Work,
+    steps: &mut Steps<L>,
+) -> Lengthened
+    requires stands { StandsOver a.old g.now ms.now.touches }
+    requires thawed { IsThawed a.old }
+    requires in_range { AreInRange g.now ms.now.touches }
+    requires room { HasRoomFor work.old.sizes g.now ms.now.touches }
+    requires most { IsMost g.now.ends ms.now.touches most }
+    ensures longest { IsLongest g.now ms.now.touches a.new }
+    ensures lengthened { HasLengthened a.old a.new result.searches }
+    ensures closed { result.closed ≡ true → HasClosed g.now.ends ms.now.touches All a.new a.new work.new.reached }
+    ensures bound { result.searches ≤ most - length (pairs a.old) }
+    ensures ticks { steps.new ≡ steps.old + result.searches }
+    ensures same_room { HasRoomOf a.old a.new }
+    ensures same_sizes { work.new.sizes ≡ work.old.sizes }
+{
+    let _ = g.vertices();
+    lengthen(g, ms, a, most, work, steps)
+}
+
 /// Makes the pairs longest, of which no assignment has more than `most`. Where a meter came back no pair but one of its own
-/// can be missing, so that one search from it is enough. Says how many searches it took.
+/// can be missing, so that one search from it is enough. Says how many searches it took, and whether one from all sources
+/// ended closed.
 pub(crate) fn grow<L: Ledger>(
     network: &Network,
     edit: Edit,
@@ -73,21 +106,26 @@ pub(crate) fn grow<L: Ledger>(
     a: &mut Assignment,
     work: &mut Work,
     steps: &mut Steps<L>,
-) -> u32
+) -> Lengthened
     requires stands { StandsOver a.old network.now.graph network.now.meters.touches }
     requires thawed { IsThawed a.old }
     requires room { HasRoomFor work.old.sizes network.now.graph network.now.meters.touches }
     requires most { IsMost network.now.graph.ends network.now.meters.touches most }
     requires back { (m : ℕ) → edit ≡ Meter m true → IsBack network.now.graph network.now.meters.touches m a.old }
     ensures longest { IsLongest network.now.graph network.now.meters.touches a.new }
-    ensures lengthened { HasLengthened a.old a.new result }
-    ensures bound { result ≤ most - length (pairs a.old) }
-    ensures ticks { steps.new ≡ steps.old + result }
+    ensures lengthened { HasLengthened a.old a.new result.searches }
+    ensures closed { result.closed ≡ true
+        → HasClosed network.now.graph.ends network.now.meters.touches All a.new a.new work.new.reached }
+    ensures bound { result.searches ≤ most - length (pairs a.old) }
+    ensures ticks { steps.new ≡ steps.old + result.searches }
     ensures same_room { HasRoomOf a.old a.new }
     ensures same_sizes { work.new.sizes ≡ work.old.sizes }
 {
     match back(edit) {
-        Some(m) => search_back(network, m, most, a, work, steps),
-        None => regrow(network.graph(), network.meters(), a, most, work, steps).searches,
+        Some(m) => Lengthened {
+            searches: search_back(network, m, most, a, work, steps),
+            closed: false,
+        },
+        None => search_all(network.graph(), network.meters(), most, a, work, steps),
     }
 }

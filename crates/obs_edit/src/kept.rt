@@ -1,9 +1,11 @@
-// The kept pairs, and the arrays of their searches.
-ghost use Rattle.std.specs.Prelude.{◌≡◌, IfOk};
+// The kept pairs, the arrays of their searches, and the parts that bound them.
+ghost use Rattle.std.specs.Prelude.{◌≡◌, IfOk, false};
 ghost use Rattle.obs_network.specs.Network.{network_of};
+ghost use Rattle.obs_edit.specs.Parts.{HasRoomForParts};
 ghost use Rattle.obs_edit.specs.Sessions.{AreLongest, HasRoom};
 
 use crate::memory::NoMemory;
+use crate::parts::Parts;
 use obs_assign::{Assignment, Steps};
 use obs_case::Case;
 use obs_exchange::{Work, lengthen};
@@ -11,29 +13,37 @@ use obs_network::{Network, position_count, vertex_room};
 use std::alloc::Global;
 use std::sync::ledger::Ledger;
 
-/// The kept pairs, and the arrays of their searches.
+/// The kept pairs, the arrays of their searches, and the parts that bound how many there can be.
 pub(crate) struct Held {
     pub(crate) pairs: Assignment,
     pub(crate) work: Work,
+    pub(crate) parts: Parts,
 }
 
 // Written out: so a caller's proof sees one call, and not the drop of each field.
 impl Drop for Held {
     fn drop(self) {
-        let Held { pairs: _, work: _ } = self;
+        let Held {
+            pairs: _,
+            work: _,
+            parts: _,
+        } = self;
     }
 }
 
-/// No pair, with room for every case with as many rows as this one.
+/// No pair and no parts, with room for every case with as many rows as this one.
 pub(crate) fn make_held(alloc: Global, case: &Case) -> Result<Held, NoMemory>
     ensures room { IfOk result (λ held. HasRoom case.now held.pairs held.work) }
+    ensures parts_room { IfOk result (λ held. HasRoomForParts case.now held.parts) }
+    ensures unknown { IfOk result (λ held. held.parts.known ≡ false) }
 {
     let meters = case.meters().len() as u32;
     let positions = position_count(case);
     let vertices = vertex_room(case);
     let pairs = Assignment::make(alloc, meters, positions, vertices)?;
     let work = Work::make(alloc, meters, positions, vertices)?;
-    Ok(Held { pairs, work })
+    let parts = Parts::make(alloc, case)?;
+    Ok(Held { pairs, work, parts })
 }
 
 /// Makes the pairs a longest assignment of the meters of a network.

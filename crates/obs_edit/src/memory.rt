@@ -7,6 +7,14 @@ use std::alloc::AllocError;
 #[derive(Clone, Copy, Debug, PartialEq, Eq)]
 pub struct NoMemory;
 
+impl From<obs_graph::NoMemory> for NoMemory {
+    ghost from_gives = { λ _ e. e ≡ e };
+
+    fn from(_: obs_graph::NoMemory) -> Self {
+        NoMemory
+    }
+}
+
 impl From<obs_network::NoMemory> for NoMemory {
     ghost from_gives = { λ _ e. e ≡ e };
 

@@ -3,13 +3,17 @@ ghost use Rattle.std.specs.Prelude.{◌≡◌, ◌≢◌, ◌+◌, ◌≤◌, �
 ghost use Rattle.obs_assign.specs.Assignment.{HasRoomOf, IsWhole, StandsOver, branch_at, pairs as pairs_at};
 ghost use Rattle.obs_exchange.specs.Laws.{IsThawed};
 ghost use Rattle.obs_network.specs.Network.{case_meters, case_vertex_room, network_of};
+ghost use Rattle.obs_network.specs.Observable.{case_rank};
 ghost use Rattle.obs_edit.specs.declared.edit.Edit.TheVariants.{Meter};
 ghost use Rattle.obs_edit.specs.Edits.{HasRow, IsRepaired, TakesOne, edited};
+ghost use Rattle.obs_edit.specs.Parts.{BoundsWhereKnown, HasRoomForParts};
 ghost use Rattle.obs_edit.specs.Repairing.{AreKept, AreLeft, HasPlace, IsBefore, IsMeterTaken, IsNetworkBefore, IsSaidAlone, StoodBefore, is_put, most_pairs};
 ghost use Rattle.obs_edit.specs.Sessions.{AreLongest, HasRoom};
 
 use crate::edit::Edit;
 use crate::grow::grow;
+use crate::limit::{is_between, least, limit, settle};
+use crate::parts::Parts;
 use obs_assign::{Assignment, Steps};
 use obs_case::Case;
 use obs_exchange::Work;
@@ -136,17 +140,21 @@ fn keep_standing(case: &Case, network: &Network, edit: Edit, alone: bool, a: &mu
     }
 }
 
-/// Has the network follow an edit, and makes the pairs longest for it. Says how many searches it took.
+/// Has the network follow an edit, and makes the pairs longest for it. No search is made where there are as many as the parts
+/// bound. Says how many searches it took.
 pub(crate) fn repair<L: Ledger>(
     case: &Case,
     edit: Edit,
     network: &mut Network,
     a: &mut Assignment,
     work: &mut Work,
+    parts: &mut Parts,
     steps: &mut Steps<L>,
 ) -> u32
     requires before { IsBefore case.now edit network.old a.old }
     requires room { HasRoom case.now a.old work.old }
+    requires parts_room { HasRoomForParts case.now parts.old }
+    requires bounded { BoundsWhereKnown network.old parts.old (length (pairs_at a.old)) }
     ensures network { network.new ≡ network_of case.now }
     ensures longest { AreLongest case.now a.new }
     ensures repaired { IsRepaired case.now a.old a.new (length (pairs_at a.new)) result }
@@ -155,14 +163,20 @@ pub(crate) fn repair<L: Ledger>(
         → branch_at a.old at ≡ None → (result ≡ 0) × (a.new.turns ≡ a.old.turns) }
     ensures ticks { steps.new ≡ steps.old + result }
     ensures room { HasRoom case.now a.new work.new }
+    ensures parts_room { HasRoomForParts case.now parts.new }
+    ensures bounded { BoundsWhereKnown network.new parts.new (case_rank case.now) }
 {
     let _nodes = case.nodes();
     let had = a.length();
+    let between = is_between(edit, network, parts);
     give_up(case, network, edit, a);
     let alone = follow(case, edit, network);
     keep_standing(case, network, edit, alone, a);
     let _ = network.graph();
     let _ = network.meters();
+    let bound = limit(edit, alone, between, had, network, parts);
     let most = most_pairs(edit, alone, had, network.needed());
-    grow(network, edit, most, a, work, steps)
+    let grown = grow(network, edit, least(most, bound), a, work, steps);
+    settle(network, a, work.reached(), grown.closed, bound, parts);
+    grown.searches
 }

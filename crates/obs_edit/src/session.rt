@@ -47,6 +47,8 @@ pub struct Session {
 impl Model for Session {
     ghost use Rattle.std.specs.Prelude.{◌≡◌, take};
     ghost use Rattle.obs_network.specs.Network.{network_of};
+    ghost use Rattle.obs_network.specs.Observable.{case_rank};
+    ghost use Rattle.obs_edit.specs.Parts.{BoundsWhereKnown, HasRoomForParts};
     ghost use Rattle.obs_edit.specs.Sessions.{AreAnswers, AreLongest, HasRoom, HasRoomToAnswer, IsPlacing, Session};
 
     ghost Value = { Session };
@@ -62,6 +64,8 @@ impl Model for Session {
       network : s.network ≡ network_of s.case;
       longest : AreLongest s.case s.held.pairs;
       room : HasRoom s.case s.held.pairs s.held.work;
+      parts_room : HasRoomForParts s.case s.held.parts;
+      bounded : BoundsWhereKnown s.network s.held.parts (case_rank s.case);
       answer_room : HasRoomToAnswer s.case s.answers.marks.items s.answers.critical
           s.answers.islands s.answers.inside.items s.answers.measured.listed;
       answers : AreAnswers s.case s.held.pairs s.answers.marks.items s.answers.critical s.answers.islands
@@ -207,6 +211,7 @@ impl Session {
             &mut self.network,
             &mut self.held.pairs,
             &mut self.held.work,
+            &mut self.held.parts,
             steps,
         );
         self.applied(searches)

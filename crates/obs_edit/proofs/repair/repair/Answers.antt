@@ -1,11 +1,18 @@
-use Rattle.std.proofs.Common.{refl, sym, subst}
+use Rattle.std.proofs.Common.{refl, sym, subst, arith}
+use Rattle.obs_graph.specs.Positions.{AreBranches}
 use Rattle.obs_assign.specs.Assignment.{Assignment, StandsOver}
+use Rattle.obs_exchange.specs.Longest.{IsLongest}
 use Rattle.obs_network.specs.Network.{Network, network_of}
+use Rattle.obs_network.proofs.OfCase.{case_branches-are}
 use Rattle.obs_edit.specs.declared.edit.Edit.{Edit}
 use Rattle.obs_edit.specs.Repairing.{AreLeft, IsBack, IsBefore, IsSaidAlone}
+use Rattle.obs_edit.specs.Parts.{BoundsWhereKnown}
+use Rattle.obs_edit.proofs.Answered.{rank_of_longest}
 use Rattle.obs_edit.proofs.CameBack.{is_back}
 use Rattle.obs_edit.proofs.GivenUp.{kept-left, stands-alone}
 use Rattle.obs_edit.proofs.MostPairs.{bound_now, no_search_bare, one_search}
+use Rattle.obs_edit.proofs.Limited.{most-least}
+use Rattle.obs_edit.proofs.PartRoom.{bound_before, place_after, place_before, positions_after, room_after, room_before}
 use Rattle.obs_edit.proofs.Repaired.{IsRepaired-by}
 use Rattle.obs_edit.proofs.repair.repair.Goals as goal
 
@@ -17,14 +24,35 @@ keep_standing-requires-clause-alone g c =
     (subst (λ (x : Network). StandsOver c.give_up.new.a x.graph x.meters.touches) h.network c.give_up.ensures.stands)
     c.follow-alone.result c.follow-alone.new.network c.follow-alone.ensures.network c.follow-alone.ensures.alone
 
-pub grow-requires-clause-most : goal.grow-requires-clause-most
-grow-requires-clause-most g c =
-    let n = c.follow-alone.new.network in
-    bound_now c.args.case.now c.args.edit c.args.network.now c.args.a.now c.requires.before c.nodes-nodes.ensures.valid c.follow-alone.result n c.follow-alone.ensures.network c.follow-alone.ensures.alone
-    n.graph n.meters c.length-had.result c.needed.result c.most_pairs-most.result refl refl c.length-had.ensures.length c.needed.ensures.needed c.most_pairs-most.ensures.most
+pub is_between-between-requires : goal.is_between-between-requires
+is_between-between-requires g c =
+    let h = c.requires.before in record {
+      place = place_before c.args.case.now c.args.edit c.args.network.now c.args.a.now h (network_of c.args.case.now) refl c.args.parts.now c.requires.parts_room;
+      room = room_before c.args.case.now c.args.edit c.args.network.now c.args.a.now h (network_of c.args.case.now) refl c.args.parts.now c.requires.parts_room;
+    }
 
-pub grow-requires-clause-back : goal.grow-requires-clause-back
-grow-requires-clause-back g c m is =
+pub limit-bound-requires : goal.limit-bound-requires
+limit-bound-requires g c =
+    let h = c.requires.before in
+    let n = c.follow-alone.new.network in
+    let net = c.follow-alone.ensures.network in record {
+      before = λ known. bound_before c.args.case.now c.args.edit c.args.network.now c.args.a.now h n net c.args.parts.now c.requires.parts_room
+          c.nodes-nodes.ensures.valid c.follow-alone.result c.is_between-between.result c.length-had.result c.follow-alone.ensures.alone c.is_between-between.ensures.between c.length-had.ensures.length (c.requires.bounded known);
+      place = place_after c.args.case.now c.args.edit c.args.network.now c.args.a.now h n net c.args.parts.now c.requires.parts_room;
+      room = room_after c.args.case.now c.args.edit c.args.network.now c.args.a.now h n net c.args.parts.now c.requires.parts_room;
+    }
+
+pub grow-grown-requires-clause-most : goal.grow-grown-requires-clause-most
+grow-grown-requires-clause-most g c =
+    let n = c.follow-alone.new.network in
+    let ok = subst (λ (x : Network). AreBranches x.graph.vertices x.graph.ends) (sym c.follow-alone.ensures.network) (case_branches-are c.args.case.now c.nodes-nodes.ensures.valid) in
+    most-least n c.args.parts.now.first c.most_pairs-most.result c.least.result c.limit-bound.result ok
+    (bound_now c.args.case.now c.args.edit c.args.network.now c.args.a.now c.requires.before c.nodes-nodes.ensures.valid c.follow-alone.result n c.follow-alone.ensures.network c.follow-alone.ensures.alone
+    n.graph n.meters c.length-had.result c.needed.result c.most_pairs-most.result refl refl c.length-had.ensures.length c.needed.ensures.needed c.most_pairs-most.ensures.most)
+    c.limit-bound.ensures.limit c.least.ensures.one
+
+pub grow-grown-requires-clause-back : goal.grow-grown-requires-clause-back
+grow-grown-requires-clause-back g c m is =
     let t = c.args.case.now in
     let n = c.follow-alone.new.network in
     let b = c.give_up.new.a in
@@ -38,17 +66,30 @@ grow-requires-clause-back g c m is =
 
 pub returns-clause-repaired : goal.returns-clause-repaired
 returns-clause-repaired g c =
-    IsRepaired-by c.args.case.now c.args.a.now c.keep_standing.new.a c.grow.new.a c.grow.result
-    (kept-left c.args.case.now c.args.edit c.args.network.now c.args.a.now c.requires.before c.give_up.new.a c.give_up.ensures.left c.keep_standing.new.a c.keep_standing.ensures.kept) c.grow.ensures.lengthened
+    IsRepaired-by c.args.case.now c.args.a.now c.keep_standing.new.a c.grow-grown.new.a c.grow-grown.result.searches
+    (kept-left c.args.case.now c.args.edit c.args.network.now c.args.a.now c.requires.before c.give_up.new.a c.give_up.ensures.left c.keep_standing.new.a c.keep_standing.ensures.kept) c.grow-grown.ensures.lengthened
 
 pub returns-clause-meter : goal.returns-clause-meter
 returns-clause-meter g c =
-    one_search c.args.edit c.args.a.now c.give_up.new.a c.give_up.ensures.left c.keep_standing.new.a c.grow.new.a c.grow.result c.length-had.result c.needed.result c.most_pairs-most.result
-    c.follow-alone.result c.keep_standing.ensures.same c.length-had.ensures.length c.most_pairs-most.ensures.most c.grow.ensures.bound c.grow.ensures.lengthened
+    one_search c.args.edit c.args.a.now c.give_up.new.a c.give_up.ensures.left c.keep_standing.new.a c.grow-grown.new.a c.grow-grown.result.searches c.length-had.result c.needed.result c.most_pairs-most.result
+    c.follow-alone.result c.keep_standing.ensures.same c.length-had.ensures.length c.most_pairs-most.ensures.most (let some = c.grow-grown.ensures.bound in let few = c.least.ensures.within in omega (arith, some, few)) c.grow-grown.ensures.lengthened
     (λ at inservice is. subst (λ (x : Edit). IsSaidAlone x c.follow-alone.result c.args.network.now c.follow-alone.new.network) is c.follow-alone.ensures.alone)
 
 pub returns-clause-without_pair : goal.returns-clause-without_pair
 returns-clause-without_pair g c at is none =
-    no_search_bare c.args.edit c.args.a.now c.give_up.new.a c.give_up.ensures.left c.keep_standing.new.a c.grow.new.a c.grow.result c.length-had.result c.needed.result c.most_pairs-most.result
-    c.follow-alone.result c.keep_standing.ensures.same c.length-had.ensures.length c.most_pairs-most.ensures.most c.grow.ensures.bound c.grow.ensures.lengthened
+    no_search_bare c.args.edit c.args.a.now c.give_up.new.a c.give_up.ensures.left c.keep_standing.new.a c.grow-grown.new.a c.grow-grown.result.searches c.length-had.result c.needed.result c.most_pairs-most.result
+    c.follow-alone.result c.keep_standing.ensures.same c.length-had.ensures.length c.most_pairs-most.ensures.most (let some = c.grow-grown.ensures.bound in let few = c.least.ensures.within in omega (arith, some, few)) c.grow-grown.ensures.lengthened
     at is (subst (λ (x : Edit). IsSaidAlone x c.follow-alone.result c.args.network.now c.follow-alone.new.network) is c.follow-alone.ensures.alone) none
+
+pub settle-requires-clause-room : goal.settle-requires-clause-room
+settle-requires-clause-room g c =
+    room_after c.args.case.now c.args.edit c.args.network.now c.args.a.now c.requires.before c.follow-alone.new.network c.follow-alone.ensures.network c.args.parts.now c.requires.parts_room
+
+pub settle-requires-clause-positions : goal.settle-requires-clause-positions
+settle-requires-clause-positions g c =
+    positions_after c.args.case.now c.args.edit c.args.network.now c.args.a.now c.requires.before c.follow-alone.new.network c.follow-alone.ensures.network c.args.parts.now c.requires.parts_room
+
+pub returns-clause-bounded : goal.returns-clause-bounded
+returns-clause-bounded g c =
+    subst (λ k. BoundsWhereKnown c.follow-alone.new.network c.settle.new.parts k)
+    (rank_of_longest c.args.case.now c.nodes-nodes.ensures.valid c.grow-grown.new.a (subst (λ (x : Network). IsLongest x.graph x.meters.touches c.grow-grown.new.a) c.follow-alone.ensures.network c.grow-grown.ensures.longest)) c.settle.ensures.bounded

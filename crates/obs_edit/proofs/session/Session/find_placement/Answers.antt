@@ -18,6 +18,8 @@ invariant_of-self g c =
       network = was.network;
       longest = was.longest;
       room = was.room;
+      parts_room = was.parts_room;
+      bounded = was.bounded;
       answer_room = was.answer_room;
       answers = record { first = was.answers.first; marks = was.answers.marks; critical = was.answers.critical; islands = was.answers.islands; bound = was.answers.bound };
       placing = placing_found c.self.inside.case c.self.inside.network c.self.inside.placing c.place.new.placing c.self.inside.offered c.self.inside.answers.hand.placed was.placing was.network

@@ -5,7 +5,10 @@ use Rattle.obs_assign.specs.Assignment.{StandsOver}
 use Rattle.obs_network.specs.Network.{case_meters, network_of}
 use Rattle.obs_edit.specs.declared.hand.AtHand.{AtHand}
 use Rattle.obs_edit.specs.Edits.{HasRow, edited}
+use Rattle.obs_edit.specs.Parts.{BoundsWhereKnown, HasRoomForParts}
 use Rattle.obs_edit.specs.Sessions.{HasRoom, HasRoomToAnswer, Session}
+use Rattle.obs_edit.proofs.Answered.{rank_of_longest}
+use Rattle.obs_edit.proofs.PartRoom.{parts_room-edited}
 use Rattle.obs_edit.proofs.Sets.{answer_room-edited, no_answers, placing-edited, repaired-same, room-edited, takes_none}
 use Rattle.obs_edit.proofs.session.Session.set.Goals as goal
 
@@ -38,11 +41,21 @@ pub repair-searches-requires-clause-room : goal.repair-searches-requires-clause-
 repair-searches-requires-clause-room g c =
     subst (λ (t : Tables). HasRoom t c.self.inside.held.pairs c.self.inside.held.work) (sym c.set_flag.ensures.edited) (room-edited c.self.inside.case c.args.edit c.self.inside.held.pairs c.self.inside.held.work c.self.invariant.room)
 
+pub repair-searches-requires-clause-parts_room : goal.repair-searches-requires-clause-parts_room
+repair-searches-requires-clause-parts_room g c =
+    subst (λ (t : Tables). HasRoomForParts t c.self.inside.held.parts) (sym c.set_flag.ensures.edited) (parts_room-edited c.self.inside.case c.args.edit c.self.inside.held.parts c.self.invariant.parts_room)
+
+pub repair-searches-requires-clause-bounded : goal.repair-searches-requires-clause-bounded
+repair-searches-requires-clause-bounded g c =
+    subst (λ k. BoundsWhereKnown c.self.inside.network c.self.inside.held.parts k) (sym (rank_of_longest c.self.inside.case c.nodes-nodes.ensures.valid c.self.inside.held.pairs c.self.invariant.longest)) c.self.invariant.bounded
+
 pub invariant_of-self : goal.invariant_of-self
 invariant_of-self g c = record {
   network = c.repair-searches.ensures.network;
   longest = c.repair-searches.ensures.longest;
   room = c.repair-searches.ensures.room;
+  parts_room = c.repair-searches.ensures.parts_room;
+  bounded = c.repair-searches.ensures.bounded;
   answer_room = subst (λ (t : Tables). HasRoomToAnswer t c.self.inside.answers.marks.items c.self.inside.answers.critical c.self.inside.answers.islands c.self.inside.answers.inside.items c.self.inside.answers.measured.listed) (sym c.set_flag.ensures.edited)
       (answer_room-edited c.self.inside.case c.args.edit c.self.inside.answers.marks.items c.self.inside.answers.critical c.self.inside.answers.islands c.self.inside.answers.inside.items c.self.inside.answers.measured.listed c.self.invariant.answer_room);
   answers = no_answers c.set_flag.new.case c.repair-searches.new.a c.self.inside.answers.marks.items c.self.inside.answers.critical c.self.inside.answers.islands
