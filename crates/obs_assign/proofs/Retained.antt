@@ -1,23 +1,24 @@
 -- What is retained of the pairs, by the arrays of a search.
-use Rattle.std.proofs.Common.{◌≡◌, ◌<◌, ◌≤◌, ℕ, List, Option, Some, None, length, get_or, take, sym, ap, ◌∙◌, subst, arith}
+use Rattle.std.proofs.Common.{◌≡◌, ◌<◌, ◌≤◌, ℕ, List, Option, Some, None, length, get_or, take, refl, sym, ap, ◌∙◌, subst, arith}
 use Rattle.std.specs.Prelude.{All}
 use Rattle.std.proofs.lemmas.List.{get_or-take, length-take}
 use Rattle.obs_graph.specs.declared.Ends.{Ends}
 use Rattle.obs_graph.specs.declared.search.Up.{Up}
 use Rattle.obs_graph.specs.Positions.{AreBranches, IsForestAt}
-use Rattle.obs_graph.specs.Search.{AreWaysUp, IsRooted, IsWayUp, Reaches, State}
+use Rattle.obs_graph.specs.Search.{AreWaysUp, IsPart, IsRooted, IsWayUp, Reaches, State}
 use Rattle.obs_graph.proofs.Present.{some_is_in}
 use Rattle.obs_matroid.specs.Assignments.{branches}
 use Rattle.obs_matroid.specs.Slots.{pairs_of}
-use Rattle.obs_matroid.proofs.Contained.{All-from_In}
+use Rattle.obs_matroid.proofs.Contained.{All-from_In, Contains-from_In, In-from_Contains}
 use Rattle.obs_meter.specs.declared.Touch.{Touch}
 use Rattle.obs_forest.specs.Forest.{taken}
-use Rattle.obs_forest.proofs.Held.{taken-some}
+use Rattle.obs_forest.proofs.Fewer.{IsRooted-fewer}
+use Rattle.obs_forest.proofs.Held.{taken-at, taken-some}
 use Rattle.obs_assign.specs.Kept.{SlotsApart}
 use Rattle.obs_assign.specs.Retain.{AreChosen, touched_slot}
 use Rattle.obs_assign.specs.Still.{AreRetained}
 use Rattle.obs_assign.proofs.Choosing.{up_low}
-use Rattle.obs_assign.proofs.Slotted.{branch_slot}
+use Rattle.obs_assign.proofs.Slotted.{branch_slot, slot_branch}
 use Rattle.obs_assign.proofs.Retaining.{AreRetained-made, IsForestAt-retained, touched_from}
 
 pub low_positions : (ends : List (Option Ends)) (touches : List Touch) (before kept : List (Option ℕ)) → ((m : ℕ) → get_or kept m None ≡ touched_slot ends touches m (get_or before m None))
@@ -25,13 +26,33 @@ pub low_positions : (ends : List (Option Ends)) (touches : List Touch) (before k
 low_positions ends touches before kept is low = All-from_In (λ p. p < length ends) (branches (pairs_of kept))
     (λ p i. let s = branch_slot kept p i in low s.0 p (touched_from ends touches s.0 p (get_or before s.0 None) (sym (is s.0) ∙ s.1)).0)
 
-pub record IsRetained (ends : List (Option Ends)) (touches : List Touch) (before new : List (Option ℕ)) : Type 0 where
+pub record IsRetained (n : ℕ) (ends : List (Option Ends)) (touches : List Touch) (before new : List (Option ℕ)) (s : State) : Type 0 where
   pub forest : IsForestAt ends (branches (pairs_of new))
   pub retained : AreRetained ends touches (pairs_of before) (pairs_of new)
+  pub rooted : IsRooted n (taken ends (branches (pairs_of new))) s
+
+-- a search along the branches of the kept pairs is one along those that lead up
+module _ (n : ℕ) (ends : List (Option Ends)) (kept new : List (Option ℕ)) (s : State) (chosen : AreChosen (take n s.ups) kept new) where
+  held_kept : IsPart (taken ends (branches (pairs_of new))) (taken ends (branches (pairs_of kept)))
+  held_kept p e is =
+      let at = taken-some ends (branches (pairs_of new)) p e is in
+      let m = branch_slot new p (In-from_Contains p (branches (pairs_of new)) at.1) in
+      taken-at ends (branches (pairs_of kept)) p (Contains-from_In p (branches (pairs_of kept)) (slot_branch kept m.0 p ((chosen m.0 p).0 m.1).0)) ∙ at.0
+
+  up_held : (v : ℕ) (x : Up) → v < n → get_or s.ups v None ≡ Some x → (e : Ends) → get_or (taken ends (branches (pairs_of kept))) x.branch None ≡ Some e
+      → get_or (taken ends (branches (pairs_of new))) x.branch None ≡ Some e
+  up_held v x l is e held =
+      let at = taken-some ends (branches (pairs_of kept)) x.branch e held in
+      let m = branch_slot kept x.branch (In-from_Contains x.branch (branches (pairs_of kept)) at.1) in
+      let new_at = (chosen m.0 x.branch).1 (m.1, (v, x, get_or-take n s.ups v None l ∙ is, refl)) in
+      taken-at ends (branches (pairs_of new)) x.branch (Contains-from_In x.branch (branches (pairs_of new)) (slot_branch new m.0 x.branch new_at)) ∙ at.0
+
+  IsRooted-chosen : IsRooted n (taken ends (branches (pairs_of kept))) s → IsRooted n (taken ends (branches (pairs_of new))) s
+  IsRooted-chosen rooted = IsRooted-fewer n (taken ends (branches (pairs_of kept))) (taken ends (branches (pairs_of new))) s held_kept rooted up_held
 
 pub IsRetained-made : (n : ℕ) (ends : List (Option Ends)) (touches : List Touch) (before kept new : List (Option ℕ)) (ups : List (Option Up)) (s : State) (k : ℕ) → k ≡ n → (L : List ℕ) → AreBranches n ends
     → ((m : ℕ) → get_or kept m None ≡ touched_slot ends touches m (get_or before m None)) → SlotsApart before → L ≡ branches (pairs_of kept) → ups ≡ s.ups → IsRooted n (taken ends L) s
-    → AreChosen (take k ups) kept new → IsRetained ends touches before new
+    → AreChosen (take k ups) kept new → IsRetained n ends touches before new s
 IsRetained-made n ends touches before kept new ups s k k_is L ok kept_is apart L_is ups_is rooted chosen =
     let held = taken ends (branches (pairs_of kept)) in
     let root : IsRooted n held s = subst (λ (l : List ℕ). IsRooted n (taken ends l) s) L_is rooted in
@@ -42,6 +63,7 @@ IsRetained-made n ends touches before kept new ups s k k_is L ok kept_is apart L
     record {
       forest = IsForestAt-retained n ends touches before kept new first s.depths ok few kept_is apart ways chosen_n;
       retained = AreRetained-made n ends touches before kept new first s.depths ok few kept_is apart ways chosen_n;
+      rooted = IsRooted-chosen n ends kept new s chosen_n root;
     }
 
 reach_of : (n : ℕ) (held : List (Option Ends)) (depths : List ℕ) (v : ℕ) (o : Option Up) (x : Up) → IsWayUp n held depths v o → o ≡ Some x → Reaches held v x.vertex x.branch

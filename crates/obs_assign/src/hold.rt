@@ -1,6 +1,7 @@
 // The pairs, listed by their branches, and held in a forest again.
 ghost use Rattle.std.specs.Prelude.{◌≡◌, ◌<◌, ◌≤◌, ◌^◌, ℕ, Some, None, false, length, replicate, slice_index_or, slice_set, take};
 ghost use Rattle.obs_graph.specs.Positions.{IsForestAt};
+ghost use Rattle.obs_graph.specs.Search.{room_of, IsRooted};
 ghost use Rattle.obs_matroid.specs.Assignments.{branches};
 ghost use Rattle.obs_matroid.specs.Slots.{pairs_of};
 ghost use Rattle.obs_forest.specs.Forest.{taken};
@@ -8,6 +9,7 @@ ghost use Rattle.obs_assign.specs.Kept.{IsInverse, IsListed, SlotsApart};
 
 use obs_forest::Forest;
 use obs_graph::Graph;
+use obs_graph::search::Search;
 
 /// Empties all slots.
 pub fn empty(slots: &mut [Option<u32>])
@@ -45,12 +47,13 @@ pub fn list_pairs(slots: &[Option<u32>], owners: &mut [Option<u32>], list: &mut 
     count
 }
 
-/// Holds the branches of the pairs, and no others. Says how many they are.
+/// Holds the branches of the pairs, and no others, where a search has found their pieces. Says how many they are.
 pub fn hold_pairs(
     g: &Graph,
     slots: &[Option<u32>],
     owners: &mut [Option<u32>],
     list: &mut [u32],
+    found: &mut Search,
     forest: &mut Forest,
 ) -> u32
     requires few { length slots.now < 2 ^ 32 }
@@ -59,6 +62,8 @@ pub fn hold_pairs(
     requires vertices { g.now.vertices ≤ forest.old.most_vertices }
     requires branches { length g.now.ends ≤ forest.old.most_branches }
     requires forest { IsForestAt g.now.ends (branches (pairs_of slots.now)) }
+    requires rooted { IsRooted g.now.vertices (taken g.now.ends (branches (pairs_of slots.now))) found.old }
+    requires found { room_of found.old ≡ forest.old.most_vertices }
     ensures count { result ≡ length (pairs_of slots.now) }
     ensures inverse { IsInverse slots.now owners.new }
     ensures listed { IsListed slots.now (take result list.new) }
@@ -66,8 +71,9 @@ pub fn hold_pairs(
       vertices = g.now.vertices;
       held = taken g.now.ends (branches (pairs_of slots.now));
     } }
+    ensures found { room_of found.new ≡ room_of found.old }
 {
     let count = list_pairs(slots, owners, list);
-    forest.refill(g, &list[..count]);
+    forest.refill_found(g, &list[..count], found);
     count as u32
 }

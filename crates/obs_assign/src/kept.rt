@@ -208,7 +208,7 @@ impl Kept {
         requires positions { length g.now.ends ≡ length self.old.forest.held }
         requires vertices { g.now.vertices ≤ self.old.forest.most_vertices }
         requires remaining { length g.now.ends ≤ length remaining.old }
-        requires room { g.now.vertices ≤ room_of search.old }
+        requires room { room_of search.old ≡ self.old.forest.most_vertices }
         ensures retained { AreRetained g.now.ends ms.now.touches (pairs_of self.old.slots) (pairs_of self.new.slots) }
         ensures forest { IsForestAt g.now.ends (branches (pairs_of self.new.slots)) }
         ensures meters { length self.new.slots ≡ length self.old.slots }

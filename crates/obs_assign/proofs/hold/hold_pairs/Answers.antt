@@ -1,4 +1,6 @@
 use Rattle.std.proofs.Common.{ℕ, List, sym, subst, arith}
+use Rattle.obs_graph.specs.Search.{IsRooted}
+use Rattle.obs_forest.specs.Forest.{taken}
 use Rattle.obs_assign.specs.Kept.{IsListed}
 use Rattle.obs_assign.proofs.Listed.{IsListed-all}
 use Rattle.obs_assign.proofs.Slotted.{branch_low, slots_apart}
@@ -14,3 +16,7 @@ pub returns-clause-listed : goal.returns-clause-listed
 returns-clause-listed c =
     let slots = c.args.slots.now in
     subst (λ (l : List ℕ). IsListed slots l) (sym c.list_pairs-count.ensures.list) (IsListed-all c.args.g.now.ends slots c.requires.forest)
+
+pub refill_found-requires-clause-rooted : goal.refill_found-requires-clause-rooted
+refill_found-requires-clause-rooted c =
+    subst (λ (l : List ℕ). IsRooted c.args.g.now.vertices (taken c.args.g.now.ends l) c.args.found.now) (sym c.list_pairs-count.ensures.list) c.requires.rooted

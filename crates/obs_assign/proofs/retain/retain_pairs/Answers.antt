@@ -30,7 +30,7 @@ choose-requires-clause-ups c = λ v x h.
     omega arith
 
 -- what the slots are that were chosen
-made : (c : After-choose) → SlotsApart (take c.count.result c.args.slots.now) → IsRetained c.args.g.now.ends c.args.ms.now.touches (take c.count.result c.args.slots.now) c.choose.new.slots
+made : (c : After-choose) → SlotsApart (take c.count.result c.args.slots.now) → IsRetained c.args.g.now.vertices c.args.g.now.ends c.args.ms.now.touches (take c.count.result c.args.slots.now) c.choose.new.slots c.search_along.new.search
 made c apart =
     let g = c.args.g.now in
     IsRetained-made g.vertices g.ends c.args.ms.now.touches (take c.count.result c.args.slots.now) c.keep_touched.new.slots c.choose.new.slots c.ups.result.now c.search_along.new.search c.vertices.result
@@ -48,6 +48,10 @@ cut_back c =
 pub hold_pairs-requires-clause-forest : goal.hold_pairs-requires-clause-forest
 hold_pairs-requires-clause-forest c =
     (made (goal.at.hold_pairs-requires-clause-forest c).After-choose (apart (goal.at.hold_pairs-requires-clause-forest c).After-count)).forest
+
+pub hold_pairs-requires-clause-rooted : goal.hold_pairs-requires-clause-rooted
+hold_pairs-requires-clause-rooted c =
+    (made (goal.at.hold_pairs-requires-clause-rooted c).After-choose (apart (goal.at.hold_pairs-requires-clause-rooted c).After-count)).rooted
 
 pub returns-clause-retained : goal.returns-clause-retained
 returns-clause-retained c =
