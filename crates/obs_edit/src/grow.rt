@@ -1,7 +1,6 @@
 // The searches of a repair.
 ghost use Rattle.std.specs.Prelude.{◌≡◌, ◌+◌, ◌-◌, ◌≤◌, ℕ, true, length};
 ghost use Rattle.obs_meter.specs.Sizes.{HasRoomFor};
-ghost use Rattle.obs_meter.specs.Touches.{AreInRange};
 ghost use Rattle.obs_assign.specs.Assignment.{HasRoomOf, StandsOver, pairs};
 ghost use Rattle.obs_exchange.specs.declared.Sources.TheVariants.{All};
 ghost use Rattle.obs_exchange.specs.Found.{HasClosed};
@@ -13,9 +12,7 @@ ghost use Rattle.obs_edit.specs.Repairing.{IsBack, IsMeterBack};
 
 use crate::edit::Edit;
 use obs_assign::{Assignment, Steps};
-use obs_exchange::{Found, Lengthened, Sources, Work, lengthen, search};
-use obs_graph::Graph;
-use obs_meter::Meters;
+use obs_exchange::{Found, Lengthened, Sources, Work, regrow, search};
 use obs_network::Network;
 use std::sync::ledger::Ledger;
 
@@ -69,33 +66,6 @@ fn search_back<L: Ledger>(
     1
 }
 
-/// Makes the pairs longest, of which no assignment has more than `most`, by searches from all sources. What the last one
-/// reached stays in `work`, where it ended closed.
-fn search_all<L: Ledger>(
-    g: &Graph,
-    ms: &Meters,
-    most: u32,
-    a: &mut Assignment,
-    work: &mut Work,
-    steps: &mut Steps<L>,
-) -> Lengthened
-    requires stands { StandsOver a.old g.now ms.now.touches }
-    requires thawed { IsThawed a.old }
-    requires in_range { AreInRange g.now ms.now.touches }
-    requires room { HasRoomFor work.old.sizes g.now ms.now.touches }
-    requires most { IsMost g.now.ends ms.now.touches most }
-    ensures longest { IsLongest g.now ms.now.touches a.new }
-    ensures lengthened { HasLengthened a.old a.new result.searches }
-    ensures closed { result.closed ≡ true → HasClosed g.now.ends ms.now.touches All a.new a.new work.new.reached }
-    ensures bound { result.searches ≤ most - length (pairs a.old) }
-    ensures ticks { steps.new ≡ steps.old + result.searches }
-    ensures same_room { HasRoomOf a.old a.new }
-    ensures same_sizes { work.new.sizes ≡ work.old.sizes }
-{
-    let _ = g.vertices();
-    lengthen(g, ms, a, most, work, steps)
-}
-
 /// Makes the pairs longest, of which no assignment has more than `most`. Where a meter came back no pair but one of its own
 /// can be missing, so that one search from it is enough. Says how many searches it took, and whether one from all sources
 /// ended closed.
@@ -126,6 +96,6 @@ pub(crate) fn grow<L: Ledger>(
             searches: search_back(network, m, most, a, work, steps),
             closed: false,
         },
-        None => search_all(network.graph(), network.meters(), most, a, work, steps),
+        None => regrow(network.graph(), network.meters(), a, most, work, steps),
     }
 }

@@ -142,6 +142,7 @@ impl Parts {
         requires closed { HasClosed g.now.ends ms.now.touches All a.now a.now reached.now }
         requires room { g.now.vertices ≤ length self.old.first }
         requires positions { length g.now.ends ≡ self.old.positions }
+        ensures known { self.new.known ≡ true }
         ensures bound { AreBounding g.now.vertices g.now.ends ms.now.touches self.new.first (length (pairs a.now)) }
         ensures vertices { length self.new.first ≡ length self.old.first }
         ensures same_positions { self.new.positions ≡ self.old.positions }

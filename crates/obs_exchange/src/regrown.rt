@@ -1,5 +1,5 @@
 // Pairs of which there are as many as there can be.
-ghost use Rattle.std.specs.Prelude.{◌≡◌, ◌+◌, ◌-◌, ◌≤◌, length};
+ghost use Rattle.std.specs.Prelude.{◌≡◌, ◌+◌, ◌-◌, ◌≤◌, true, length};
 ghost use Rattle.obs_meter.specs.Sizes.{HasRoomFor};
 ghost use Rattle.obs_meter.specs.Touches.{AreInRange};
 ghost use Rattle.obs_assign.specs.Assignment.{Fits, HasRoomOf, StandsOver, pairs};
@@ -16,7 +16,7 @@ use obs_meter::Meters;
 use std::sync::ledger::Ledger;
 
 /// As `lengthen`, up to a number of pairs that no assignment exceeds, with nothing frozen: then there are as many pairs
-/// as there can be.
+/// as there can be. What the last search reached stays in `work`, where it ended closed.
 pub fn regrow<L: Ledger>(
     g: &Graph,
     ms: &Meters,
@@ -32,6 +32,7 @@ pub fn regrow<L: Ledger>(
     requires most { IsMost g.now.ends ms.now.touches most }
     ensures longest { IsLongest g.now ms.now.touches a.new }
     ensures lengthened { HasLengthened a.old a.new result.searches }
+    ensures closed { result.closed ≡ true → HasClosed g.now.ends ms.now.touches All a.new a.new work.new.reached }
     ensures bound { result.searches ≤ most - length (pairs a.old) }
     ensures ticks { steps.new ≡ steps.old + result.searches }
     ensures same_room { HasRoomOf a.old a.new }
