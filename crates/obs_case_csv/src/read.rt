@@ -4,14 +4,15 @@ ghost use Rattle.csv.specs.Records.{fields_of};
 ghost use Rattle.obs_case.specs.Tables.{most_rows, no_rows};
 ghost use Rattle.obs_case_csv.specs.Columns.{ArePlaces};
 ghost use Rattle.obs_case_csv.specs.Fields.{Record};
-ghost use Rattle.obs_case_csv.specs.Read.{Ends, EndsAll, HoldsFirstRows, UnlessNoMemory, fault_at, fault_in, rows_in, tables_in};
+ghost use Rattle.obs_case_csv.specs.Read.{Ends, EndsAll, HoldsFirstRows, UnlessNoMemory, fault_at, fault_in, most_records, rows_in, table_records, tables_in};
+ghost use Rattle.obs_case_csv.specs.Records.{Gives};
 ghost use Rattle.obs_case_csv.specs.Rows.{names_in, next_row, row_fault, with_record};
 
 use crate::columns::{Places, fields_at, places_in};
 use crate::faults::{RowFault, Table, TableEnd, TableFault};
 use crate::records::{next_row, open};
 use crate::rows::{RowEnd, add_row};
-use csv::ByteRecord;
+use csv::{ByteRecord, Reader};
 use obs_case::{Case, MOST_ROWS};
 use std::alloc::Global;
 
@@ -55,6 +56,38 @@ fn read_row(
     }
 }
 
+// Reads the records of these bytes, of which the reader has given none, into a case. What is let go at
+// the end is the caller's: so nothing is where this returns early.
+fn read_records(
+    reader: &mut Reader<&[u8]>,
+    row: &mut ByteRecord,
+    case: &mut Case,
+    table: Table,
+    bytes: &[u8],
+) -> Result<(), TableEnd>
+    requires gives { Gives reader.old most_records (table_records bytes.now) }
+    requires empty { names_in table case.old ≡ [] }
+    ensures accepted { OnOk result (fault_in table case.old bytes.now ≡ None) }
+    ensures refused { IfErr result (Ends (fault_in table case.old bytes.now)) }
+    ensures rows { UnlessNoMemory result (case.new ≡ rows_in table case.old bytes.now) }
+    ensures first_rows { HoldsFirstRows table bytes.now case.old case.new }
+{
+    if !next_row(reader, row)? {
+        return Err(fault(table, 0, RowFault::NoHeader));
+    }
+    let places = match places_in(table, row) {
+        Ok(places) => places,
+        Err(code) => return Err(fault(table, 0, code)),
+    };
+    for number in 1..LAST_ROW + 2 {
+        if !next_row(reader, row)? {
+            return Ok(());
+        }
+        read_row(case, table, &places, row, number)?;
+    }
+    Ok(())
+}
+
 /// Reads a table into a case, over the tables that are there. After a fault the case holds the rows
 /// before the faulty one, and after want of memory some of the first rows.
 pub fn read_table(
@@ -71,20 +104,7 @@ pub fn read_table(
 {
     let mut reader = open(alloc, bytes);
     let mut row = ByteRecord::new(alloc);
-    if !next_row(&mut reader, &mut row)? {
-        return Err(fault(table, 0, RowFault::NoHeader));
-    }
-    let places = match places_in(table, &row) {
-        Ok(places) => places,
-        Err(code) => return Err(fault(table, 0, code)),
-    };
-    for number in 1..LAST_ROW + 2 {
-        if !next_row(&mut reader, &mut row)? {
-            return Ok(());
-        }
-        read_row(case, table, &places, &row, number)?;
-    }
-    Ok(())
+    read_records(&mut reader, &mut row, case, table, bytes)
 }
 
 // Reads the five tables in their order into a case without rows, up to the first fault.

@@ -3,7 +3,7 @@ use Rattle.obs_case_csv.specs.Fields.{Record}
 use Rattle.obs_case_csv.specs.Read.{most_records}
 use Rattle.obs_case_csv.specs.Records.{Gives}
 use Rattle.obs_case_csv.proofs.ReadLemmas.{IsReading}
-use Rattle.obs_case_csv.proofs.read.read_table.Given as goal
+use Rattle.obs_case_csv.proofs.read.read_records.Given as goal
 
 abbrev pub invariant-loop-number : goal.invariant-loop-number
 invariant-loop-number l = record {

@@ -5,33 +5,33 @@ use Rattle.obs_case_csv.specs.Read.{HoldsFirstRows, fault_of_records, most_recor
 use Rattle.obs_case_csv.specs.Records.{Gives}
 use Rattle.obs_case_csv.proofs.ReadLemmas.{IsReading, faulty_header, reading-all, reading-ends, reading-first_rows, reading-next, reading-starts, reading-stays}
 use Rattle.obs_case_csv.proofs.RecordLemmas.{gives-none}
-use Rattle.obs_case_csv.proofs.read.read_table.Goals as goal
+use Rattle.obs_case_csv.proofs.read.read_records.Goals as goal
 
 pub returns-then-not-branch-clause-refused : goal.returns-then-not-branch-clause-refused
 returns-then-not-branch-clause-refused c =
-    let none = rw c.if-not-branch.true at (c.in_ok-next_row.ensures.row 20001 (table_records c.args.bytes.now) c.open-reader.ensures.gives) in
+    let none = rw c.if-not-branch.true at (c.in_ok-next_row.ensures.row 20001 (table_records c.args.bytes.now) c.requires.gives) in
     rw c.fault.ensures.fault (ap (fault_of_records c.args.table c.args.case.now) none)
 
 pub returns-then-not-branch-clause-rows : goal.returns-then-not-branch-clause-rows
 returns-then-not-branch-clause-rows c =
-    let none = rw c.if-not-branch.true at (c.in_ok-next_row.ensures.row 20001 (table_records c.args.bytes.now) c.open-reader.ensures.gives) in
+    let none = rw c.if-not-branch.true at (c.in_ok-next_row.ensures.row 20001 (table_records c.args.bytes.now) c.requires.gives) in
     rw c.fault.ensures.fault (sym (ap (rows_of_records c.args.table c.args.case.now) none))
 
 pub returns-in-Err-clause-refused : goal.returns-in-Err-clause-refused
 returns-in-Err-clause-refused c =
-    let first = rw c.if-not-branch.false at (c.in_ok-next_row.ensures.row 20001 (table_records c.args.bytes.now) c.open-reader.ensures.gives) in
+    let first = rw c.if-not-branch.false at (c.in_ok-next_row.ensures.row 20001 (table_records c.args.bytes.now) c.requires.gives) in
     let header = faulty_header c.args.table c.args.case.now (fields_of c.next_row.new.row) first.0 c.in-Err.code c.in-Err.ensures.refused in
     rw c.fault-in-Err.ensures.fault (ap (fault_of_records c.args.table c.args.case.now) first.1 ∙ header.0)
 
 pub returns-in-Err-clause-rows : goal.returns-in-Err-clause-rows
 returns-in-Err-clause-rows c =
-    let first = rw c.if-not-branch.false at (c.in_ok-next_row.ensures.row 20001 (table_records c.args.bytes.now) c.open-reader.ensures.gives) in
+    let first = rw c.if-not-branch.false at (c.in_ok-next_row.ensures.row 20001 (table_records c.args.bytes.now) c.requires.gives) in
     let header = faulty_header c.args.table c.args.case.now (fields_of c.next_row.new.row) first.0 c.in-Err.code c.in-Err.ensures.refused in
     rw c.fault-in-Err.ensures.fault (sym (ap (rows_of_records c.args.table c.args.case.now) first.1 ∙ header.1))
 
 pub loop-number-init : goal.loop-number-init
 loop-number-init c =
-    let first = rw c.if-not-branch.false at (c.in_ok-next_row.ensures.row 20001 (table_records c.args.bytes.now) c.open-reader.ensures.gives) in
+    let first = rw c.if-not-branch.false at (c.in_ok-next_row.ensures.row 20001 (table_records c.args.bytes.now) c.requires.gives) in
     record {
       unread = first.0;
       gives = first.2;
