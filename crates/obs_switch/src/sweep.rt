@@ -41,7 +41,7 @@ fn level(labels: &mut [u32], links: &[Link], from: u32, to: u32) -> bool
     let at_from = lower(labels, links, from, low);
     let at_to = lower(labels, links, to, low);
     let at_label = lower(labels, links, high, low);
-    at_from || at_to || at_label
+    at_from | at_to | at_label
 }
 
 // Levels the ends of each link, from the first link to the last, and says whether a label changed.

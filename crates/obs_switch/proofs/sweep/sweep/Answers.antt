@@ -4,3 +4,9 @@ use Rattle.obs_switch.proofs.sweep.sweep.Goals as goal
 
 pub level-requires-clause-one_bus : goal.level-requires-clause-one_bus
 level-requires-clause-one_bus c = first_node-link c.args.links.now c.loop-link.link-index _ (omega arith)
+
+pub level-requires-clause-labels : goal.level-requires-clause-labels
+level-requires-clause-labels c = c.loop-link.invariant.lowered.labels
+
+pub returns-clause-lowered : goal.returns-clause-lowered
+returns-clause-lowered c = c.loop-link.invariant.lowered
