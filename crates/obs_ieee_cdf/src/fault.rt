@@ -7,7 +7,7 @@ use obs_case_csv::TableFault;
 use obs_text::InputFault;
 
 /// The first fault of a file in the IEEE Common Data Format. The number is the line, from 1.
-#[derive(Clone, Copy, Debug, PartialEq, Eq)]
+#[derive(Clone, Copy, PartialEq, Eq)]
 pub enum CdfFault {
     /// No line begins with `BUS DATA`.
     NoBusSection,
@@ -93,7 +93,7 @@ impl From<CdfFault> for InputFault {
 }
 
 /// Why a file with its tables is no case.
-#[derive(Clone, Copy, Debug, PartialEq, Eq)]
+#[derive(Clone, Copy, PartialEq, Eq)]
 pub enum CdfEnd {
     Cdf(CdfFault),
     Table(TableFault),

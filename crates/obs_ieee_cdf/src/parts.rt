@@ -2,7 +2,7 @@
 use crate::fault::CdfFault;
 
 /// Where a file has its bus lines and its branch lines.
-#[derive(Clone, Copy, Debug)]
+#[derive(Clone, Copy)]
 pub struct Sections<'a> {
     /// The bus lines. Nothing where there is no bus section; all that follows its heading where the
     /// section isn't ended.

@@ -7,7 +7,7 @@ use obs_case_csv::TableFault;
 use obs_text::InputFault;
 
 /// The first fault of a MATPOWER file. The number is the line, from 1.
-#[derive(Clone, Copy, Debug, PartialEq, Eq)]
+#[derive(Clone, Copy, PartialEq, Eq)]
 pub enum MatFault {
     /// No line starts the bus table.
     NoBusTable,
@@ -103,7 +103,7 @@ impl From<MatFault> for InputFault {
 }
 
 /// Why a file with its tables is no case.
-#[derive(Clone, Copy, Debug, PartialEq, Eq)]
+#[derive(Clone, Copy, PartialEq, Eq)]
 pub enum MatEnd {
     Mat(MatFault),
     Table(TableFault),

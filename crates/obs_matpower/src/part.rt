@@ -2,14 +2,14 @@
 use crate::fault::MatFault;
 
 /// The tables that are read.
-#[derive(Clone, Copy, Debug, PartialEq, Eq)]
+#[derive(Clone, Copy, PartialEq, Eq)]
 pub enum MatTable {
     Bus,
     Branch,
 }
 
 /// Where a file has a table.
-#[derive(Clone, Copy, Debug)]
+#[derive(Clone, Copy)]
 pub struct MatPart<'a> {
     /// What stands after the table's `[`, up to its `]`. Nothing where there is no table; all that
     /// follows where the table isn't ended.

@@ -11,7 +11,7 @@ const LINE_FEED: u8 = b'\n';
 const SEMICOLON: u8 = b';';
 
 /// A row of a table.
-#[derive(Clone, Copy, Debug)]
+#[derive(Clone, Copy)]
 pub struct MatRow<'a> {
     /// The number of its line, from 1.
     pub line: u32,
@@ -20,7 +20,7 @@ pub struct MatRow<'a> {
 }
 
 /// The rows of a table, in order.
-#[derive(Clone, Copy, Debug)]
+#[derive(Clone, Copy)]
 pub struct Rows<'a> {
     // What is left of the line, without its comment.
     pub(crate) code: &'a [u8],

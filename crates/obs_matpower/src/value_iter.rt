@@ -4,7 +4,7 @@ ghost use Rattle.std.specs.List.{after_first, before_first};
 ghost use Rattle.obs_matpower.specs.Rows.{is_separator};
 
 /// The values of a row, in order.
-#[derive(Clone, Copy, Debug)]
+#[derive(Clone, Copy)]
 pub struct Values<'a> {
     pub(crate) rest: &'a [u8],
 }

@@ -3,7 +3,7 @@
 
 /// What an item touches: nothing, one branch, by its position, all branches at one vertex, or the first so many of
 /// these, by position.
-#[derive(Clone, Copy, Debug, PartialEq, Eq)]
+#[derive(Clone, Copy, PartialEq, Eq)]
 pub enum Touch {
     Nothing,
     Edge(u32),
@@ -12,7 +12,7 @@ pub enum Touch {
 }
 
 /// The first so many branches at a vertex.
-#[derive(Clone, Copy, Debug, PartialEq, Eq)]
+#[derive(Clone, Copy, PartialEq, Eq)]
 pub struct Hub {
     pub vertex: u32,
     pub count: usize,

@@ -6,7 +6,7 @@ use obs_rankcut::Bound;
 /// price is below `to`, and its list are those of them that aren't critical among them: the first `upto` entries of a
 /// plan's `inside`. `rank` is the rank of the branches that the listed ones touch, and `outside` is the number of the
 /// other items.
-#[derive(Clone, Copy, Debug, PartialEq, Eq)]
+#[derive(Clone, Copy, PartialEq, Eq)]
 pub struct Layer {
     pub from: u64,
     pub to: u64,
@@ -18,7 +18,7 @@ pub struct Layer {
 /// The positions of the chosen candidates, rising, and what they cost. There is a layer for each different price above
 /// 0 of theirs, by rising price; `inside` has the lists of the layers one after the other, where each adds only
 /// what is new.
-#[derive(Clone, Copy, Debug)]
+#[derive(Clone, Copy)]
 pub struct Plan<'a> {
     pub chosen: &'a [u32],
     pub cost: u64,
@@ -27,7 +27,7 @@ pub struct Plan<'a> {
 }
 
 /// The cheapest candidates that complete the meters, or the bound that shows that all candidates together don't.
-#[derive(Clone, Copy, Debug)]
+#[derive(Clone, Copy)]
 pub enum Placement<'a> {
     Cheapest(Plan<'a>),
     Shortfall(Bound<'a>),

@@ -1,7 +1,7 @@
 // What a line says.
 
 /// What can be asked of a session.
-#[derive(Clone, Copy, Debug, PartialEq, Eq)]
+#[derive(Clone, Copy, PartialEq, Eq)]
 pub enum Ask {
     Status,
     Tree,
@@ -14,7 +14,7 @@ pub enum Ask {
 }
 
 /// What a line says. A name is a part of the line, and may be one that no table has.
-#[derive(Clone, Copy, Debug, PartialEq, Eq)]
+#[derive(Clone, Copy, PartialEq, Eq)]
 pub enum Command<'a> {
     OpenSwitch(&'a [u8]),
     CloseSwitch(&'a [u8]),

@@ -4,7 +4,7 @@ ghost use Rattle.obs_script.specs.Faults.{line_fault_code, line_fault_name};
 
 /// Why a line is no command, whatever the tables hold. Where several hold, `LineTooLong` is
 /// answered before `UnknownCommand`, this before `WordMissing`, and this before `BadName`.
-#[derive(Clone, Copy, Debug, PartialEq, Eq)]
+#[derive(Clone, Copy, PartialEq, Eq)]
 pub enum LineFault {
     /// The line is none of the eight asks, and its first word is none of the six edits.
     UnknownCommand = 1,
