@@ -13,7 +13,7 @@ pub enum Edit {
 }
 
 /// What a line is for a session: an edit of a row, or an ask.
-#[derive(Clone, Copy, Debug, PartialEq, Eq)]
+#[derive(Clone, Copy, PartialEq, Eq)]
 pub enum Meant {
     Edits(Edit),
     Asks(Ask),
@@ -28,7 +28,7 @@ pub struct Applied {
 }
 
 /// What a line was: an edit, which is done, or an ask, which isn't answered yet.
-#[derive(Clone, Copy, Debug, PartialEq, Eq)]
+#[derive(Clone, Copy, PartialEq, Eq)]
 pub enum Done {
     Edited(Applied),
     Asked(Ask),

@@ -2,14 +2,14 @@
 #![tactic(auto)]
 
 /// From which meters a search begins: all live ones without a pair, or one.
-#[derive(Clone, Copy, PartialEq, Eq)]
+#[derive(Clone, Copy)]
 pub enum Sources {
     All,
     One(u32),
 }
 
 /// What a search found: one pair more, for this meter, or a closed set.
-#[derive(Clone, Copy, PartialEq, Eq)]
+#[derive(Clone, Copy)]
 pub enum Found {
     Grown(u32),
     Closed,

@@ -9,7 +9,7 @@ use obs_assign::{Assignment, Move};
 /// are only added to make no branch free, and lead no path to a source from which none led. A meter before `next` had a
 /// pair or touched no free branch. The last path began at `searched`, and none at the sources that were searched from
 /// before it. Nothing rests on this: a source that is passed over here is searched from after the others.
-#[derive(Clone, Copy, Debug, PartialEq, Eq)]
+#[derive(Clone, Copy)]
 pub(crate) struct Pass {
     next: u32,
     searched: u32,
@@ -19,7 +19,7 @@ pub(crate) struct Pass {
 
 /// Where a search begins: the first meter that it tries for a free branch, the first that it searches from, and whether
 /// the branches at the vertices are counted anew.
-#[derive(Clone, Copy, Debug, PartialEq, Eq)]
+#[derive(Clone, Copy)]
 pub(crate) struct Start {
     pub tried: u32,
     pub searched: u32,

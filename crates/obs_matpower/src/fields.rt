@@ -16,7 +16,7 @@ const POINT: u8 = b'.';
 const ZERO: u8 = b'0';
 
 // The type of a bus: a load, or one with a source, or one that is cut off from all others.
-#[derive(Clone, Copy, PartialEq, Eq)]
+#[derive(Clone, Copy)]
 pub(crate) enum BusType {
     Load,
     Source,

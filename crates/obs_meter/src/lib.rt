@@ -12,7 +12,7 @@ pub enum Touch {
 }
 
 /// The first so many branches at a vertex.
-#[derive(Clone, Copy, PartialEq, Eq)]
+#[derive(Clone, Copy)]
 pub struct Hub {
     pub vertex: u32,
     pub count: usize,
