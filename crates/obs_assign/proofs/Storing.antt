@@ -1,5 +1,5 @@
 -- The arrays of kept pairs after a change of their slots.
-use Rattle.std.proofs.Common.{◌≡◌, ◌≢◌, ℕ, ◌+◌, ◌-◌, ◌<◌, ◌≤◌, ◌^◌, Option, Some, None, List, [], length, replicate, get_or, set, take, sym, ap, ◌∙◌, subst, ◌↔◌, arith, length-set}
+use Rattle.std.proofs.Common.{◌≡◌, ◌≢◌, ℕ, ◌+◌, ◌-◌, ◌<◌, ◌≤◌, ◌^◌, Option, Some, None, List, [], length, replicate, get_or, set, take, refl, sym, ap, ◌∙◌, subst, ◌↔◌, arith, length-set}
 use Rattle.std.proofs.lemmas.List.{get_or-take, length-replicate, length-take-le, take-replicate}
 use Rattle.std.proofs.Math.Seq.{take-set-lt}
 use Rattle.obs_graph.specs.declared.Ends.{Ends}
@@ -22,7 +22,7 @@ use Rattle.obs_assign.proofs.Listed.{IsAdded, IsAdded-made, IsListed-same, taken
 use Rattle.obs_assign.proofs.Losing.{IsLosable, IsLost, IsLost-made, losable}
 use Rattle.obs_assign.proofs.Over.{IsOver-made, over_forest, over_listed, over_stands}
 use Rattle.obs_assign.proofs.Pinning.{inverse-swapped, same_branches, take-pinned}
-use Rattle.obs_assign.proofs.Slotted.{HoldsPairs-taken, branch_low, distinct-from_apart, length-pairs_of, none_some, slot_low, some_same}
+use Rattle.obs_assign.proofs.Slotted.{HoldsPairs-taken, IsForestAt-nil, branch_low, distinct-from_apart, length-pairs_of, none_some, slot_low, some_same}
 
 -- what the arrays are the value of
 abbrev pub stored : ℕ → List (Option ℕ) → Forest → Kept
@@ -231,3 +231,18 @@ stored-cleared now g meters after slots forest count owners list is kept low roo
       exactly = λ e. ((λ i. absurd i), (λ i. subst (λ (A : List Pair). In e (branches A)) none i));
     }) in
     record { kept = s.kept; is = s.is }
+
+-- no pair over no meter
+pub IsKept-none : (slots : List (Option ℕ)) (forest : Forest) (n : ℕ) (owners : List (Option ℕ)) (list : List ℕ) → forest.held ≡ [] → forest.most_branches ≡ n → length slots < 2 ^ 32
+    → owners ≡ replicate n None → length list ≡ length slots → IsKept (stored 0 slots forest) 0 0 owners list
+IsKept-none slots forest n owners list none room few empty list_len = record {
+  few = few;
+  meters_low = omega arith;
+  holds = rw none (record { forest = IsForestAt-nil []; exactly = λ p. ((λ h. absurd cc), (λ i. absurd i)) });
+  positions = omega (arith, ap (λ (h : List (Option Ends)). length h) none);
+  count_is = refl;
+  inverse = λ m e. ((λ h. absurd (none_some e h)), (λ h. absurd (none_some m (sym (empty_slot n e) ∙ (ap (λ (o : List (Option ℕ)). get_or o e None) (sym empty) ∙ h)))));
+  owners_len = ap (λ (o : List (Option ℕ)). length o) empty ∙ (length-replicate {A = Option ℕ} n None ∙ sym room);
+  list_len = list_len;
+  listed = record { different = tt; exactly = λ e. ((λ i. absurd i), (λ i. absurd i)) };
+}
