@@ -83,7 +83,7 @@ fn follow_behind(graph: &Graph, rows: u32, change: Change, first: u32, items: &m
     requires before { IfSome change.before (λ x. (x.a < graph.now.vertices) × (x.b < graph.now.vertices)) }
     requires after { IfSome change.after (λ x. (x.a < graph.now.vertices) × (x.b < graph.now.vertices)) }
     ensures items { AreFollowed (followed (take rows graph.now.ends) change.before change.after) items.old items.new
-      first (length items.old.touches) }
+        first (length items.old.touches) }
 {
     for m in first..items.count() {
         let touch = items.kind(m);
@@ -162,7 +162,7 @@ fn follow_meters(
     requires far { AreListedFar (take rows graph.now.ends) change components.now graph.now meters.old live_meters.old.lists }
     ensures meters { meters.new ≡ followed_items (take rows graph.now.ends) change meters.old }
     ensures offered { AreFollowed (followed (take rows graph.now.ends) change.before change.after) offered.old offered.new
-      0 (length meters.old.touches) }
+        0 (length meters.old.touches) }
     ensures lists { 0 < result → live_meters.new.lists ≡ lists_of components.now graph.now meters.new }
     ensures components { live_meters.new.components ≡ live_meters.old.components }
     ensures most_meters { live_meters.new.most_meters ≡ live_meters.old.most_meters }
@@ -174,7 +174,16 @@ fn follow_meters(
         if is_near(touch, change) {
             let now = followed(graph, rows, change, touch);
             left = left_behind(touch, change.at, left);
-            set_meter(components, graph, m, now, left, meters, offered, live_meters);
+            set_meter(
+                components,
+                graph,
+                m,
+                now,
+                left,
+                meters,
+                offered,
+                live_meters,
+            );
         }
     }
     left
@@ -211,7 +220,15 @@ pub(crate) fn follow_items(
     ensures most_components { live_meters.new.most_components ≡ live_meters.old.most_components }
 {
     let first = meters.count();
-    let left = follow_meters(components, graph, rows, change, meters, offered, live_meters);
+    let left = follow_meters(
+        components,
+        graph,
+        rows,
+        change,
+        meters,
+        offered,
+        live_meters,
+    );
     follow_behind(graph, rows, change, first, offered);
     if left == 0 {
         live_meters.refill(components, graph, meters);

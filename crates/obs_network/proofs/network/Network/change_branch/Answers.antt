@@ -9,8 +9,9 @@ use Rattle.std.proofs.lemmas.List.{length-map}
 use Rattle.obs_network.specs.Following.{followed}
 use Rattle.obs_network.proofs.FollowedCase.{IsFollowed, follows, listed_far}
 use Rattle.obs_network.proofs.Items.{meters-in_range, offered-in_range}
-use Rattle.obs_network.proofs.LoneChange.{branch_edited, ends_after, lone}
-use Rattle.obs_network.proofs.OfCase.{case_branches-are, case_bus_count-le, case_component_count-le, length-case_first_buses, length-case_meters}
+use Rattle.obs_network.specs.Switched.{case_bus_count}
+use Rattle.obs_network.proofs.LoneChange.{branch_edited, live_is_branch, lone}
+use Rattle.obs_network.proofs.OfCase.{case_bus_count-le, case_component_count-le, length-case_first_buses, length-case_meters, more_vertices}
 use Rattle.obs_network.proofs.Whole.{items_are, network_is, rows_are, shape_is}
 use Rattle.obs_network.proofs.network.Network.change_branch.Goals as goal
 use Rattle.obs_network.proofs.network.Network.change_branch.Goals.{After-follow_items}
@@ -25,20 +26,14 @@ change_row-requires-clause-row c =
     let alone = lone c.args.self.now c.args.at c.args.case.now c.branches.ensures.valid c.requires.branch c.requires.before c.requires.alone in
     omega (arith, alone.low, ap (λ (n : Network). length n.graph.ends) c.self.view_is)
 
-pub change_row-requires-clause-branches : goal.change_row-requires-clause-branches
-change_row-requires-clause-branches c =
+pub change_row-requires-clause-ends : goal.change_row-requires-clause-ends
+change_row-requires-clause-ends c =
     let t = c.args.case.now in
     let n = c.args.self.now in
     let alone = lone n c.args.at t c.branches.ensures.valid c.requires.branch c.requires.before c.requires.alone in
-    rw (
-      ends_after (the_view c.self.inside) n c.args.at t c.live_ends_at-after.result c.self.view_is alone c.live_ends_at-after.ensures.ends,
-      ap (λ (x : Network). x.graph.vertices) c.self.view_is ∙ sym alone.same.vertices,
-    ) (case_branches-are t c.branches.ensures.valid)
-
-pub change_row-requires-clause-vertices : goal.change_row-requires-clause-vertices
-change_row-requires-clause-vertices c =
-    let left = branch_edited c.args.self.now c.args.at c.args.case.now c.requires.before in
-    subst (λ (n : Network). n.graph.vertices ≤ n.graph.most_vertices) (sym c.self.view_is) left.room
+    let vertices = ap (λ (x : Network). x.graph.vertices) c.self.view_is ∙ sym alone.same.vertices in
+    more_vertices (case_bus_count t) c.self.inside.graph.vertices c.live_ends_at-after.result (omega (arith, vertices))
+    (live_is_branch t c.branches.ensures.valid c.args.at c.requires.branch c.live_ends_at-after.result c.live_ends_at-after.ensures.ends)
 
 -- the graph with the branch changed, and the items that follow
 of_row : (c : goal.After-follow_items-arg-5-1) → IsFollowed (the_view c.self.inside) (record { at = c.args.at; before = c.ends-before.result; after = c.live_ends_at-after.result }) c.args.case.now (length c.branches.result.now) c.change_row.new.graph
