@@ -1,5 +1,5 @@
 -- The arrays of a graph.
-use Rattle.std.proofs.Common.{◌≡◌, ℕ, suc, ◌*◌, ◌^◌, ◌<◌, ◌≤◌, Option, List, [], ◌++◌, length, get_or, take, drop, sym, ap, ◌∙◌, arith}
+use Rattle.std.proofs.Common.{◌≡◌, ℕ, suc, ◌*◌, ◌^◌, ◌<◌, ◌≤◌, Option, List, [], ◌++◌, length, get_or, take, drop, refl, sym, ap, ◌∙◌, arith}
 use Rattle.std.proofs.lemmas.List.{length-take, drop_all, append-nil, take_all}
 use Rattle.obs_graph.specs.declared.Ends.{Ends}
 use Rattle.obs_graph.specs.Positions.{part_start}
@@ -28,7 +28,7 @@ IsStored-none ends itself starts at few below len room own zeros =
       itself_is = own;
       room = room;
       starts_is = λ v l. zeros v l ∙ sym (nothing_starts v);
-      parts = λ v l. absurd (omega arith);
+      parts = λ v l. rw (nothing_starts v) refl;
     }
 
 -- a whole slice of a `Vec` that was written through

@@ -21,8 +21,8 @@ abbrev pub itself_of : Option Ends → ℕ → List ℕ
 itself_of None e = []
 itself_of (Some x) e = e ∷ []
 
--- the arrays of a graph: the first positions of ends are its branches, and at has the parts of the
--- vertices
+-- the arrays of a graph: the first positions of ends are its branches, and at has the parts of all
+-- vertices that there is room for
 pub record IsStored (vertices positions : ℕ) (ends : List (Option Ends)) (itself starts at : List ℕ) : Type 0 where
   pub few : length ends < 2 ^ 32
   pub held : positions ≤ length ends
@@ -32,4 +32,4 @@ pub record IsStored (vertices positions : ℕ) (ends : List (Option Ends)) (itse
   pub itself_is : (k : ℕ) → k < length ends → slice_index itself k ≡ k
   pub room : 2 * length ends ≤ length at
   pub starts_is : AreStarts (length starts) (take positions ends) starts
-  pub parts : AreParts vertices (take positions ends) at
+  pub parts : AreParts (length starts) (take positions ends) at

@@ -1,11 +1,11 @@
 // A graph made whole from the list of its branches.
-ghost use Rattle.std.specs.Prelude.{◌≡◌, ◌<◌, ◌≤◌, ◌≢◌, [], length, IfOk, IfSome, slice_index_or};
+ghost use Rattle.std.specs.Prelude.{◌≡◌, ◌<◌, ◌≤◌, ◌≢◌, [], length, IfOk, IfSome, slice_index_or, slice_set};
 ghost use Rattle.obs_graph.specs.Positions.{AreBranches, branches_at};
 ghost use Rattle.obs_graph.specs.Graph.{itself_of};
 
 use crate::Ends;
 use crate::memory::NoMemory;
-use crate::parts::{number, part, store};
+use crate::parts::{lay_out, number, part, store};
 use std::alloc::Global;
 use std::marker::Model;
 
@@ -90,6 +90,25 @@ impl Graph {
         store(ends, &mut self.ends, &mut self.starts, &mut self.at);
         self.vertices = vertices;
         self.positions = ends.len();
+    }
+
+    /// Gives one position these ends, or none. The other positions stay as they are.
+    pub fn set(&mut self, e: u32, ends: Option<Ends>)
+        requires position { e < length self.old.ends }
+        requires ends { IfSome ends (λ x. (x.a < self.old.vertices) × (x.b < self.old.vertices) × (x.a ≢ x.b)) }
+        ensures whole { self.new ≡ record self.old { ends = slice_set self.old.ends e ends } }
+    {
+        self.ends[e as usize] = ends;
+        lay_out(&self.ends[..self.positions], &mut self.starts, &mut self.at);
+    }
+
+    /// Has so many vertices. No branch has an end at one that comes.
+    pub fn widen(&mut self, vertices: u32)
+        requires more { self.old.vertices ≤ vertices }
+        requires room { vertices ≤ self.old.most_vertices }
+        ensures whole { self.new ≡ record self.old { vertices = vertices } }
+    {
+        self.vertices = vertices;
     }
 
     /// The number of vertices. Each present branch has two different ones as its ends.

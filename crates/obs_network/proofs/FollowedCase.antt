@@ -1,7 +1,7 @@
 -- What the items of a case touch, and where its meters are listed, after a branch came or went alone.
 use Rattle.std.proofs.Common.{◌≡◌, ℕ, ◌<◌, ◌≤◌, Bool, false, Option, Some, None, List, ◌++◌, length, map, take, get_or, set, refl, sym, ap, ◌∙◌, subst, arith}
 use Rattle.std.specs.Prelude.{IfSome, slice_index_or}
-use Rattle.std.proofs.Math.Seq.{take-set-lt}
+use Rattle.std.proofs.Math.Seq.{take-append_seam, take-set-lt}
 use Rattle.std.proofs.lemmas.List.{get_or-map, get_or_append_left, get_or_default, length-map, map-append}
 use Rattle.obs_graph.specs.declared.Ends.{Ends}
 use Rattle.obs_graph.specs.Graph.{Graph}
@@ -12,15 +12,18 @@ use Rattle.obs_case.proofs.RowLemmas.{length-changed}
 use Rattle.obs_meter.specs.declared.Touch.{Touch}
 use Rattle.obs_meter.specs.declared.Touch.TheVariants.{Nothing}
 use Rattle.obs_meter.specs.Held.{Meters}
+use Rattle.obs_meter.specs.Touches.{AreInRange}
 use Rattle.obs_network.specs.Edited.{ChangesAlone, IsBeforeBranch}
-use Rattle.obs_network.specs.Following.{AreListedFar, followed, is_near}
+use Rattle.obs_network.specs.declared.following.Change.{Change}
+use Rattle.obs_network.specs.Following.{AreListedFar, followed, followed_items, is_near}
 use Rattle.obs_network.specs.Kept.{list_of, lists_of}
 use Rattle.obs_network.specs.Located.{touch_component}
 use Rattle.obs_network.specs.Switched.{case_bus_count, case_buses}
 use Rattle.obs_network.specs.Network.{Components, Network, case_angles, case_branches, case_live, case_meters, case_offered, case_rows, case_vertex_count, network_of}
 use Rattle.obs_network.specs.Touching.{candidate_touches, meter_touches}
-use Rattle.obs_network.proofs.FollowedItems.{candidates_followed, component_far, followed_far, meters_followed, near-followed}
+use Rattle.obs_network.proofs.FollowedItems.{candidates_followed, component_far, followed_far, meters_followed}
 use Rattle.obs_network.proofs.Fronts.{rows_are_first}
+use Rattle.obs_network.proofs.Items.{meters-in_range}
 use Rattle.obs_network.proofs.LoneChange.{graph_after, live_in_range, lone}
 use Rattle.obs_network.proofs.OfCase.{length-case_branches, length-case_rows}
 use Rattle.obs_network.proofs.RefreshedMeter.{length-lists_of}
@@ -89,73 +92,74 @@ items_lone n at after v low before alone o is =
     let base = are_items t at before.inservice o (omega (arith, low_put, len)) (subst (λ (m : Network). set m.graph.ends at o ≡ case_branches put) before.network of_put) in
     subst (λ (u : Tables). AreItemsOf n at o u) (sym before.edited) (subst (λ (m : Network). AreItemsOf m at o put) (sym before.network) base)
 
--- as the network's parts have it: what items touch, once they followed
-meters_lone : (s n : Network) (at : ℕ) (after : Tables) (o before : Option Ends) → s ≡ n → AreItemsOf n at o after → before ≡ get_or s.graph.ends at None
-    → (rows : List (Option Ends)) → rows ≡ case_rows after → (i : Meters) → i ≡ record s.meters { touches = map (followed rows before o) s.meters.touches } → i.touches ≡ case_meters after
-meters_lone s n at after o before is items was rows is_rows i e =
-    ap (λ (x : Meters). x.touches) e
-    ∙ ap (λ l. map (followed l before o) s.meters.touches) is_rows
-    ∙ ap (λ x. map (followed (case_rows after) x o) s.meters.touches) was
-    ∙ ap (λ (x : Network). map (followed (case_rows after) (get_or x.graph.ends at None) o) x.meters.touches) is
-    ∙ items.meters
+-- the meters stand first among what is offered
+offered_first : (n : Network) (at : ℕ) (after : Tables) → IsBeforeBranch n at after → take (length n.meters.touches) n.offered.touches ≡ n.meters.touches
+unfolding case_meters case_offered
+offered_first n at after before =
+    let t = before.tables in
+    subst (λ (m : Network). take (length m.meters.touches) m.offered.touches ≡ m.meters.touches) (sym before.network)
+    (take-append_seam (meter_touches (case_rows t) (case_buses t) 0 t.meters) (candidate_touches (case_rows t) (case_buses t) (length t.meters) t.candidates))
 
-offered_lone : (s n : Network) (at : ℕ) (after : Tables) (o before : Option Ends) → s ≡ n → AreItemsOf n at o after → before ≡ get_or s.graph.ends at None
-    → (rows : List (Option Ends)) → rows ≡ case_rows after → (i : Meters) → i ≡ record s.offered { touches = map (followed rows before o) s.offered.touches } → i.touches ≡ case_offered after
-offered_lone s n at after o before is items was rows is_rows i e =
-    ap (λ (x : Meters). x.touches) e
-    ∙ ap (λ l. map (followed l before o) s.offered.touches) is_rows
-    ∙ ap (λ x. map (followed (case_rows after) x o) s.offered.touches) was
-    ∙ ap (λ (x : Network). map (followed (case_rows after) (get_or x.graph.ends at None) o) x.offered.touches) is
-    ∙ items.offered
-
--- the list of a meter that touches nothing near the row stays
-pub listed_far : (components : Components) (graph now : Graph) (meters after : Meters) (rows : List (Option Ends)) (at : ℕ) (before o : Option Ends) (lists : List ℕ)
-    → before ≡ get_or graph.ends at None → now.ends ≡ set graph.ends at o → after.touches ≡ map (followed rows before o) meters.touches → lists ≡ lists_of components graph meters
-    → AreListedFar at before o components now after lists
-listed_far components graph now meters after rows at before o lists was ends touches is = λ m low far.
+-- a meter that touches nothing near the row stands in its list
+pub listed_far : (components : Components) (graph now : Graph) (meters : Meters) (rows : List (Option Ends)) (change : Change) (lists : List ℕ)
+    → change.before ≡ get_or graph.ends change.at None → now.ends ≡ set graph.ends change.at change.after → lists ≡ lists_of components graph meters
+    → AreListedFar rows change components now meters lists
+listed_far components graph now meters rows change lists was ends is = λ m low far.
     let list : List (Option Ends) → Touch → ℕ = λ l t. list_of (length components.first_buses) (touch_component components.of_buses l t) in
+    let follow : Touch → Touch = followed rows change.before change.after in
     let touch = get_or meters.touches m Nothing in
     let there : m < length meters.touches = omega (arith, low, ap (λ (l : List ℕ). length l) is, length-lists_of components graph meters) in
-    let same : get_or after.touches m Nothing ≡ followed rows before o touch = ap (λ l. get_or l m Nothing) touches ∙ get_or-map (followed rows before o) meters.touches m Nothing Nothing there in
-    let away : is_near at before o touch ≡ false = sym (near-followed rows at before o touch) ∙ ap (is_near at before o) (sym same) ∙ far in
-    let still : get_or after.touches m Nothing ≡ touch = same ∙ followed_far rows at before o touch away in
+    let still : follow touch ≡ touch = followed_far rows change.at change.before change.after touch far in
     let lies : list now.ends touch ≡ list graph.ends touch =
-    ap (λ l. list l touch) ends ∙ ap (list_of (length components.first_buses)) (component_far components.of_buses graph.ends at o touch (ap (λ x. is_near at x o touch) (sym was) ∙ away)) in
-    let all : m < length after.touches = omega (arith, there, ap (λ (l : List Touch). length l) touches, length-map meters.touches (followed rows before o)) in
-    ap (λ l. get_or l m 0) is ∙ get_or-map (list graph.ends) meters.touches m Nothing 0 there ∙ sym lies ∙ ap (list now.ends) (sym still) ∙ sym (get_or-map (list now.ends) after.touches m Nothing 0 all)
+    ap (λ l. list l touch) ends ∙ ap (list_of (length components.first_buses)) (component_far components.of_buses graph.ends change.at change.after touch (ap (λ x. is_near change.at x change.after touch) (sym was) ∙ far)) in
+    let all : m < length (map follow meters.touches) = omega (arith, there, length-map meters.touches follow) in
+    ap (λ l. get_or l m 0) is ∙ get_or-map (list graph.ends) meters.touches m Nothing 0 there ∙ sym lies
+    ∙ ap (list now.ends) (sym (get_or-map follow meters.touches m Nothing Nothing there ∙ still)) ∙ sym (get_or-map (list now.ends) (map follow meters.touches) m Nothing 0 all)
 
 -- ends that are below a number are below a greater one
 within : (n m : ℕ) (o : Option Ends) → n ≤ m → IfSome o (λ x. (x.a < n) × (x.b < n)) → IfSome o (λ x. (x.a < m) × (x.b < m))
 within n m None le i = tt
 within n m (Some x) le i = (omega (arith, le, i.0), omega (arith, le, i.1))
 
--- the graph with the row changed, and what the items follow
-pub record IsFollowed (s n : Network) (at : ℕ) (after : Tables) (before o : Option Ends) (rows : ℕ) (g : Graph) : Type 0 where
+-- the graph with the row changed, and what the items touch once they followed
+pub record IsFollowed (s : Network) (change : Change) (after : Tables) (rows : ℕ) (g : Graph) : Type 0 where
   pub vertices : g.vertices ≡ case_vertex_count after
   pub ends : g.ends ≡ case_branches after
   pub few : rows ≤ length g.ends
-  pub was : before ≡ get_or s.graph.ends at None
-  pub after_low : IfSome o (λ x. (x.a < g.vertices) × (x.b < g.vertices))
-  pub meters : (i : Meters) → i ≡ record s.meters { touches = map (followed (take rows g.ends) before o) s.meters.touches } → i.touches ≡ case_meters after
-  pub offered : (i : Meters) → i ≡ record s.offered { touches = map (followed (take rows g.ends) before o) s.offered.touches } → i.touches ≡ case_offered after
+  pub was : change.before ≡ get_or s.graph.ends change.at None
+  pub after_low : IfSome change.after (λ x. (x.a < g.vertices) × (x.b < g.vertices))
+  pub first : take (length s.meters.touches) s.offered.touches ≡ s.meters.touches
+  pub meters : (followed_items (take rows g.ends) change s.meters).touches ≡ case_meters after
+  pub offered : (followed_items (take rows g.ends) change s.offered).touches ≡ case_offered after
+  pub in_range : AreInRange g (followed_items (take rows g.ends) change s.meters).touches
 
-pub follows : (s n : Network) (at : ℕ) (after : Tables) → IsValid after → at < length after.branches → IsBeforeBranch n at after
-    → ChangesAlone n.components (take (length after.branches) n.graph.ends) at (slice_index_or (case_live after) at None)
-    → s ≡ n → (before : Option Ends) → before ≡ get_or s.graph.ends at before → (o : Option Ends) → o ≡ slice_index_or (case_live after) at None
-    → (rows : ℕ) → rows ≡ length after.branches → (g : Graph) → g ≡ record s.graph { ends = set s.graph.ends at o } → IsFollowed s n at after before o rows g
-follows s n at after v low edited alone is before is_before o is_o rows is_rows g is_g =
+pub follows : (s n : Network) (change : Change) (after : Tables) → IsValid after → change.at < length after.branches → IsBeforeBranch n change.at after
+    → ChangesAlone n.components (take (length after.branches) n.graph.ends) change.at (slice_index_or (case_live after) change.at None)
+    → s ≡ n → change.before ≡ get_or s.graph.ends change.at change.before → change.after ≡ slice_index_or (case_live after) change.at None
+    → (rows : ℕ) → rows ≡ length after.branches → (g : Graph) → g ≡ record s.graph { ends = set s.graph.ends change.at change.after } → IsFollowed s change after rows g
+follows s n change after v low edited alone is is_before is_after rows is_rows g is_g =
+    let at = change.at in
+    let o = change.after in
     let lone_one = lone n at after v low edited alone in
-    let of = graph_after s n at after o is lone_one is_o g is_g in
+    let of = graph_after s n at after o is lone_one is_after g is_g in
     let here : at < length s.graph.ends = subst (λ (x : Network). at < length x.graph.ends) (sym is) lone_one.low in
-    let was = is_before ∙ get_or_default s.graph.ends at before None here in
+    let was = is_before ∙ get_or_default s.graph.ends at change.before None here in
     let first = rows_are_first after g.ends rows of.1 is_rows in
-    let items = items_lone n at after v low edited alone o is_o in
+    let items = items_lone n at after v low edited alone o is_after in
+    let now : List Touch → List Touch = λ l. map (followed (take rows g.ends) change.before o) l in
+    let same : (l : List Touch) → now l ≡ map (followed (case_rows after) (get_or n.graph.ends at None) o) l = λ l.
+    ap (λ r. map (followed r change.before o) l) first
+    ∙ ap (λ x. map (followed (case_rows after) x o) l) (was ∙ ap (λ (x : Network). get_or x.graph.ends at None) is) in
+    let meters : now s.meters.touches ≡ case_meters after = ap (λ (x : Network). now x.meters.touches) is ∙ same n.meters.touches ∙ items.meters in
+    let offered : now s.offered.touches ≡ case_offered after = ap (λ (x : Network). now x.offered.touches) is ∙ same n.offered.touches ∙ items.offered in
     record {
       vertices = of.0;
       ends = of.1;
       few = omega (arith, is_rows, ap (λ (l : List (Option Ends)). length l) of.1, length-case_branches after);
       was = was;
-      after_low = within (case_bus_count after) g.vertices o (omega (arith, of.0)) (live_in_range after v at (case_bus_count after) low refl o is_o);
-      meters = λ i e. meters_lone s n at after o before is items was (take rows g.ends) first i e;
-      offered = λ i e. offered_lone s n at after o before is items was (take rows g.ends) first i e;
+      after_low = within (case_bus_count after) g.vertices o (omega (arith, of.0)) (live_in_range after v at (case_bus_count after) low refl o is_after);
+      first = subst (λ (x : Network). take (length x.meters.touches) x.offered.touches ≡ x.meters.touches) (sym is) (offered_first n at after edited);
+      meters = meters;
+      offered = offered;
+      in_range = subst (λ (l : List Touch). AreInRange g l) (sym meters) (meters-in_range after v g of.0 of.1);
     }

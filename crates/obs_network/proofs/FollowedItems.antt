@@ -54,13 +54,6 @@ followed_far rows at before after (Edge p) e = refl
 followed_far rows at before after (Star v) e = refl
 followed_far rows at before after (Front v count) e = rw e refl
 
--- what is near stays near
-pub near-followed : (rows : List (Option Ends)) (at : ℕ) (before after : Option Ends) (touch : Touch) → is_near at before after (followed rows before after touch) ≡ is_near at before after touch
-near-followed rows at before after Nothing = refl
-near-followed rows at before after (Edge p) = refl
-near-followed rows at before after (Star v) = refl
-near-followed rows at before after (Front v count) = elim (cases_Bool (is_end before after v)) [ inl e ↦ rw e e | inr e ↦ rw e e ]
-
 -- rows, and the same with one changed
 module _ (rows : List (Option Ends)) (at : ℕ) (after : Option Ends) where
   abbrev now : List (Option Ends)

@@ -14,12 +14,12 @@ use Rattle.obs_case.proofs.RowLemmas.{length-changed}
 use Rattle.obs_case.proofs.ValidLemmas.{valid-with_branch_inservice}
 use Rattle.obs_network.specs.Switched.{case_bus_count}
 use Rattle.obs_network.specs.Components.{if_energised}
-use Rattle.obs_network.specs.Network.{Network, Rows, case_angles, case_branches, case_components, case_energised, case_live, case_position_room, case_rows, case_vertex_count, network_of, rows_of}
+use Rattle.obs_network.specs.Network.{Network, Rows, case_angles, case_branches, case_components, case_energised, case_live, case_rows, case_vertex_count, network_of, rows_of}
 use Rattle.obs_network.specs.Edited.{AreSameBut, ChangesAlone, IsBeforeBranch}
 use Rattle.obs_network.specs.Parted.{StaysJoined, without}
 use Rattle.obs_network.proofs.Edited.{branch_is}
 use Rattle.obs_network.proofs.Fronts.{rows_are_first}
-use Rattle.obs_network.proofs.OfCase.{IsBranch, case_live-branches, case_position_count-le, case_vertex_count-le, length-case_branches, length-case_live, length-case_rows}
+use Rattle.obs_network.proofs.OfCase.{IsBranch, case_live-branches, case_vertex_count-le, length-case_branches, length-case_live, length-case_rows}
 use Rattle.obs_network.proofs.OfLaws.{changed_at-twice, rows-with_branch}
 use Rattle.obs_network.proofs.Outed.{at_map, some_of}
 use Rattle.obs_network.proofs.Spared.{branches_but_one, case_live-without, components_stay, energised_stay, joined_by_rows, row_is_live, set_none}
@@ -72,13 +72,14 @@ branch_edited n at after before =
     } in
     subst (λ (u : Tables). IsLeft n u) (sym before.edited) (subst (λ (m : Network). IsLeft m put) (sym before.network) base)
 
--- the ends of a live branch are buses
+-- the ends of a live branch are two different buses
+pub live_is_branch : (t : Tables) → IsValid t → (at : ℕ) → at < length t.branches → (o : Option Ends) → o ≡ slice_index_or (case_live t) at None → IsBranch (case_bus_count t) o
+live_is_branch t v at low o is =
+    subst (IsBranch (case_bus_count t)) (sym is) (All-get_or (IsBranch (case_bus_count t)) (case_live t) at None (omega (arith, low, length-case_live t)) (case_live-branches t v))
+
 pub live_in_range : (t : Tables) → IsValid t → (at count : ℕ) → at < length t.branches → count ≡ case_bus_count t → (o : Option Ends) → o ≡ slice_index_or (case_live t) at None
     → IfSome o (λ x. (x.a < count) × (x.b < count))
-live_in_range t v at count low same o is =
-    let n = case_bus_count t in
-    let one = All-get_or (IsBranch n) (case_live t) at None (omega (arith, low, length-case_live t)) (case_live-branches t v) in
-    two o (subst (IsBranch n) (sym is) one)
+live_in_range t v at count low same o is = two o (live_is_branch t v at low o is)
   where
     two : (o : Option Ends) → IsBranch (case_bus_count t) o → IfSome o (λ x. (x.a < count) × (x.b < count))
     two None b = tt
@@ -87,12 +88,8 @@ live_in_range t v at count low same o is =
 -- the network after is that before, with this branch changed
 pub record IsAlone (n : Network) (at : ℕ) (after : Tables) : Type 0 where
   pub low : at < length n.graph.ends
-  pub few : length n.graph.ends ≤ n.graph.most_branches
   pub ends : set n.graph.ends at (slice_index_or (case_live after) at None) ≡ case_branches after
   pub same : AreSameBut at n (network_of after)
-
-few_branches : (t : Tables) → length (case_branches t) ≤ case_position_room t
-few_branches t = omega (arith, length-case_branches t, case_position_count-le t)
 
 in_branches : (t : Tables) (at : ℕ) → at < length t.branches → at < length (case_branches t)
 in_branches t at low = omega (arith, low, length-case_branches t)
@@ -112,7 +109,6 @@ stayed : (t : Tables) (at : ℕ) (x : Ends) → at < length t.branches → slice
     → IsAlone (network_of t) at t
 stayed t at x low is on = record {
   low = in_branches t at low;
-  few = few_branches t;
   ends = ap (set (case_branches t) at) (is ∙ sym (lit t at x low is on)) ∙ set-get_or (case_branches t) at None;
   same = same_itself at (network_of t);
 }
@@ -121,7 +117,6 @@ stayed t at x low is on = record {
 went : (t : Tables) → IsValid t → (at : ℕ) → at < length t.branches → StaysJoined t at → slice_index_or (case_live (without t at)) at None ≡ None → IsAlone (network_of t) at (without t at)
 went t v at low stays none = record {
   low = in_branches t at low;
-  few = few_branches t;
   ends = ap (set (case_branches t) at) none ∙ sym (branches_but_one t v at stays low);
   same = same_but_one t v at low stays;
 }
@@ -139,7 +134,6 @@ came t v at x low is alone =
     let same = same_but_one t v at low stays in
     record {
       low = subst (λ (l : List (Option Ends)). at < length l) (sym gone) (omega (arith, in_branches t at low, length-set (case_branches t) at None));
-      few = few_branches (without t at);
       ends = ap (λ l. set l at (slice_index_or (case_live t) at None)) gone
           ∙ set-set (case_branches t) at None (slice_index_or (case_live t) at None)
           ∙ ap (set (case_branches t) at) (is ∙ sym (lit t at x low is on))
@@ -199,9 +193,3 @@ graph_after s n at after o is alone is_o g is_g = (
   ap (λ (x : Graph). x.vertices) is_g ∙ ap (λ (x : Network). x.graph.vertices) is ∙ sym alone.same.vertices,
   ap (λ (x : Graph). x.ends) is_g ∙ ends_after s n at after o is alone is_o,
 )
-
-pub graph_lone : (s n : Network) (at : ℕ) (after : Tables) → IsValid after → at < length after.branches → IsBeforeBranch n at after
-    → ChangesAlone n.components (take (length after.branches) n.graph.ends) at (slice_index_or (case_live after) at None) → s ≡ n
-    → (o : Option Ends) → o ≡ slice_index_or (case_live after) at None → (g : Graph) → g ≡ record s.graph { ends = set s.graph.ends at o }
-    → (g.vertices ≡ case_vertex_count after) × (g.ends ≡ case_branches after)
-graph_lone s n at after v low before alone is o is_o g is_g = graph_after s n at after o is (lone n at after v low before alone) is_o g is_g

@@ -1,10 +1,10 @@
 -- What loops over buses and nodes find.
-use Rattle.std.proofs.Common.{◌≡◌, ℕ, zero, suc, ◌+◌, ◌<◌, ◌||◌, Bool, true, false, List, [], ◌∷◌, ◌++◌, length, map, filter, take, get_or, set, refl, sym, ap, ◌∙◌, inl, inr, arith, add-one, length-append}
+use Rattle.std.proofs.Common.{◌≡◌, ℕ, zero, suc, ◌+◌, ◌<◌, ◌≤◌, ◌||◌, Bool, true, false, Option, None, List, [], ◌∷◌, ◌++◌, length, map, filter, take, get_or, set, refl, sym, ap, ◌∙◌, inl, inr, arith, add-one, length-append}
 use Rattle.std.specs.List.{range_with_len}
 use Rattle.std.specs.Prelude.{cond, count_by, sum_by, ◌==◌}
 use Rattle.std.proofs.lemmas.Bool.{cases_Bool, cases_eq, eq-eqb, ne_eqb}
 use Rattle.std.proofs.lemmas.Grind.{same_number_lists}
-use Rattle.std.proofs.lemmas.List.{ext_get_or, get_or_append_left, take_more_set}
+use Rattle.std.proofs.lemmas.List.{ext_get_or, get_or-map, get_or_append_left, length-map, take_all, take_more_set}
 use Rattle.std.proofs.lemmas.List.Sums.{sum_by-append}
 use Rattle.std.proofs.lemmas.List.FromFn.{filter_of_map_range_with_len_more, get_or-map-range_with_len, length-map-range_with_len}
 use Rattle.obs_matroid.specs.Lists.{In}
@@ -16,7 +16,8 @@ use Rattle.obs_graph.proofs.First.{first_joined-le, first_joined-first_joined}
 use Rattle.obs_switch.proofs.FirstNodes.{count_below-passed}
 use Rattle.obs_graph.specs.declared.Ends.{Ends}
 use Rattle.obs_case.specs.declared.rows.Node.{Node}
-use Rattle.obs_network.specs.Components.{component_count, component_of, components_of, first_bus, first_buses_of, is_first_bus, is_marked, marked_of, sizes_of}
+use Rattle.obs_network.specs.Components.{component_count, component_of, components_of, first_bus, first_buses_of, if_energised, is_first_bus, is_marked, marked_of, sizes_of}
+use Rattle.obs_network.specs.Kept.{AreAllKept}
 use Rattle.obs_network.proofs.Numbered.{components_of-at}
 
 map_same : (xs : List ℕ) → map (λ x. x) xs ≡ xs
@@ -120,3 +121,13 @@ length-first_buses_of n live = length-passing (is_first_bus live) n
 pub first_bus_at : (n : ℕ) (live : List Ends) (b : ℕ) → b < n → get_or (first_buses_of n live) (component_of live b) 0 ≡ first_bus live b
 first_bus_at n live b l =
     passing_at (is_first_bus live) n (first_bus live b) (omega (arith, first_joined-le live b)) (eq-eqb (first_bus live (first_bus live b)) (first_bus live b) (first_joined-first_joined live b))
+
+-- where all live branches are of energised components, what is kept is what is live
+pub AllKept-all : (numbers : List ℕ) (energised : List Bool) (live kept : List (Option Ends)) (i : ℕ) → length live ≤ i → length live ≡ length kept → take i kept ≡ map (if_energised numbers energised) (take i live)
+    → AreAllKept numbers energised live i → kept ≡ live
+AllKept-all numbers energised live kept i le len written h =
+    let f = if_energised numbers energised in
+    let same : map f live ≡ live =
+    ext_get_or None (map f live) live (length-map live f)
+    (λ k l. let low : k < length live = omega (arith, l, length-map live f) in get_or-map f live k None None low ∙ h k (omega (arith, low, le))) in
+    sym (take_all i kept (omega (arith, le, len))) ∙ written ∙ ap (map f) (take_all i live le) ∙ same

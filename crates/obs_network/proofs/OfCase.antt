@@ -91,7 +91,7 @@ kept_branch n components energised (Some e) b =
     elim (cases_Bool (slice_index_or energised (slice_index components e.a) false)) [ inl t ↦ rw t b | inr t ↦ rw t tt ]
 
 -- a branch that fits a number of vertices fits more of them
-more_vertices : (n m : ℕ) (o : Option Ends) → n ≤ m → IsBranch n o → IsBranch m o
+pub more_vertices : (n m : ℕ) (o : Option Ends) → n ≤ m → IsBranch n o → IsBranch m o
 more_vertices n m None l b = tt
 more_vertices n m (Some e) l b = (omega (arith, b.0, l), omega (arith, b.1, l), b.2)
 

@@ -1,5 +1,5 @@
 -- What items touch where one row of the graph changed: `before` are the ends that it had, and `after` those that it has.
-use Rattle.std.specs.Prelude.{ℕ, ◌≡◌, ◌<◌, ◌==◌, ◌||◌, Bool, false, if◌then◌else◌, Option, List, length, slice_index, slice_index_or}
+use Rattle.std.specs.Prelude.{ℕ, ◌≡◌, ◌<◌, ◌≤◌, ◌==◌, ◌||◌, Bool, false, if◌then◌else◌, Option, List, length, map, slice_index, slice_index_or}
 use Rattle.obs_graph.specs.declared.Ends.{Ends}
 use Rattle.obs_graph.specs.Graph.{Graph}
 use Rattle.obs_graph.specs.Positions.{has_end}
@@ -8,7 +8,8 @@ use Rattle.obs_meter.specs.declared.Touch.TheVariants.{Nothing, Edge, Star, Fron
 use Rattle.obs_meter.specs.Held.{Meters}
 use Rattle.obs_network.specs.Touching.{rows_at}
 use Rattle.obs_network.specs.Network.{Components}
-use Rattle.obs_network.specs.Kept.{lists_of}
+use Rattle.obs_network.specs.Kept.{Listed, lists_of}
+use Rattle.obs_network.specs.declared.following.Change.{Change}
 
 -- whether a vertex was an end of the row, or is one
 abbrev pub is_end : Option Ends → Option Ends → ℕ → Bool
@@ -35,8 +36,37 @@ is_near at before after (Edge e) = e == at
 is_near at before after (Star v) = is_end before after v
 is_near at before after (Front v count) = is_end before after v
 
--- the list of each meter that touches nothing near the row is that of what it touches
-abbrev pub AreListedFar : ℕ → Option Ends → Option Ends → Components → Graph → Meters → List ℕ → Type 0
-AreListedFar at before after components graph meters lists =
-    (m : ℕ) → m < length lists → is_near at before after (slice_index_or meters.touches m Nothing) ≡ false
-    → slice_index lists m ≡ slice_index (lists_of components graph meters) m
+-- the items touch what they do now
+abbrev pub followed_items : List (Option Ends) → Change → Meters → Meters
+followed_items rows change items = record items { touches = map (followed rows change.before change.after) items.touches }
+
+-- each meter that touches nothing near the row stands in the list of what it touches
+abbrev pub AreListedFar : List (Option Ends) → Change → Components → Graph → Meters → List ℕ → Type 0
+AreListedFar rows change components graph meters lists =
+    (m : ℕ) → m < length lists → is_near change.at change.before change.after (slice_index_or meters.touches m Nothing) ≡ false
+    → slice_index lists m ≡ slice_index (lists_of components graph (followed_items rows change meters)) m
+
+-- the items from `first` on and below `end` follow, and the others touch what they did
+pub record AreFollowed (follow : Touch → Touch) (before after : Meters) (first end : ℕ) : Type 0 where
+  pub most : after.most ≡ before.most
+  pub len : length after.touches ≡ length before.touches
+  pub below : (k : ℕ) → k < first → slice_index_or after.touches k Nothing ≡ slice_index_or before.touches k Nothing
+  pub done : (k : ℕ) → first ≤ k → k < end → slice_index_or after.touches k Nothing ≡ follow (slice_index_or before.touches k Nothing)
+  pub rest : (k : ℕ) → end ≤ k → slice_index_or after.touches k Nothing ≡ slice_index_or before.touches k Nothing
+
+-- the meters below `end` stand in the lists that are wanted, and so do those that aren't near
+pub record AreMoved (near : ℕ → Bool) (wanted lists : List ℕ) (end : ℕ) : Type 0 where
+  pub done : (k : ℕ) → k < end → slice_index lists k ≡ slice_index wanted k
+  pub far : (k : ℕ) → k < length lists → near k ≡ false → slice_index lists k ≡ slice_index wanted k
+
+-- the meters below `end` follow, also among what is offered, and stand in the lists that are wanted, where some are left that
+-- may change theirs one by one
+pub record AreFollowedMeters (follow : Touch → Touch) (near : ℕ → Bool) (wanted : List ℕ) (before_meters before_offered : Meters) (before : Listed)
+    (meters offered : Meters) (listed : Listed) (left end : ℕ) : Type 0 where
+  pub meters_follow : AreFollowed follow before_meters meters 0 end
+  pub offered_follow : AreFollowed follow before_offered offered 0 end
+  pub moved : 0 < left → AreMoved near wanted listed.lists end
+  pub len : length listed.lists ≡ length wanted
+  pub components : listed.components ≡ before.components
+  pub most_meters : listed.most_meters ≡ before.most_meters
+  pub most_components : listed.most_components ≡ before.most_components

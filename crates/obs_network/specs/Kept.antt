@@ -1,5 +1,5 @@
 -- What the arrays of a network hold.
-use Rattle.std.specs.Prelude.{ℕ, suc, ◌+◌, ◌-◌, ◌*◌, ◌≡◌, ◌<◌, ◌≤◌, ◌^◌, All, Bool, if◌then◌else◌, Option, Some, None, List, length, map, slice_index, take}
+use Rattle.std.specs.Prelude.{ℕ, suc, ◌+◌, ◌-◌, ◌*◌, ◌≡◌, ◌<◌, ◌≤◌, ◌^◌, All, Bool, if◌then◌else◌, Option, Some, None, List, length, map, slice_index, slice_index_or, take}
 use Rattle.obs_graph.specs.declared.Ends.{Ends}
 use Rattle.obs_graph.specs.Search.{State, room_of}
 use Rattle.obs_graph.specs.Graph.{Graph}
@@ -12,6 +12,7 @@ use Rattle.obs_meter.specs.Held.{Meters}
 use Rattle.obs_meter.specs.Touches.{AreInRange}
 use Rattle.obs_network.specs.declared.marks.Flag.{Flag}
 use Rattle.obs_network.specs.declared.marks.Flag.TheVariants.{Source, Absolute}
+use Rattle.obs_network.specs.Components.{if_energised}
 use Rattle.obs_network.specs.Network.{Components}
 use Rattle.obs_network.specs.Located.{touch_component}
 use Rattle.obs_network.specs.Sides.{Sides}
@@ -24,6 +25,11 @@ flag_of Absolute row = row.absolute
 -- the pairs that a component of a size needs
 abbrev pub need_by : ℕ → Bool → ℕ
 need_by size absolute = if absolute then size else size - 1
+
+-- the live branches below `end` are of energised components
+abbrev pub AreAllKept : List ℕ → List Bool → List (Option Ends) → ℕ → Type 0
+AreAllKept numbers energised live end =
+    (k : ℕ) → k < end → if_energised numbers energised (slice_index_or live k None) ≡ slice_index_or live k None
 
 -- the arrays of components, of which the first entries are in use
 pub record AreGrouped (buses count : ℕ) (numbers first_buses sizes : List ℕ) (energised absolute : List Bool) : Type 0 where

@@ -1,6 +1,5 @@
 // A branch that comes or goes alone: nothing else of the network changes but what its items touch.
-ghost use Rattle.std.specs.Prelude.{◌≡◌, ◌<◌, ◌≤◌, IfSome, IsTrue, None, false, length, slice_index, slice_index_or, slice_set, take, true};
-ghost use Rattle.obs_graph.specs.Positions.{AreBranches};
+ghost use Rattle.std.specs.Prelude.{◌≡◌, ◌≢◌, ◌<◌, ◌≤◌, IfSome, IsTrue, None, false, length, slice_index, slice_index_or, slice_set, take, true};
 ghost use Rattle.obs_network.specs.Switched.{case_buses};
 ghost use Rattle.obs_network.specs.Network.{case_live};
 ghost use Rattle.obs_network.specs.Edited.{ChangesAlone};
@@ -60,14 +59,10 @@ pub(crate) fn change_row(at: u32, ends: Option<Ends>, kept: &mut [Option<Ends>],
     requires row { at < length graph.old.ends }
     requires kept { take (length graph.old.ends) kept.old ≡ graph.old.ends }
     requires few { length graph.old.ends ≤ length kept.old }
-    requires branches { AreBranches graph.old.vertices (slice_set graph.old.ends at ends) }
-    requires room { length graph.old.ends ≤ graph.old.most_branches }
-    requires vertices { graph.old.vertices ≤ graph.old.most_vertices }
+    requires ends { IfSome ends (λ x. (x.a < graph.old.vertices) × (x.b < graph.old.vertices) × (x.a ≢ x.b)) }
     ensures graph { graph.new ≡ record graph.old { ends = slice_set graph.old.ends at ends } }
     ensures kept { take (length graph.new.ends) kept.new ≡ graph.new.ends }
 {
     kept[at as usize] = ends;
-    let vertices = graph.vertices();
-    let positions = graph.positions() as usize;
-    graph.refill(vertices, &kept[..positions]);
+    graph.set(at, ends);
 }

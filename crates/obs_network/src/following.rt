@@ -1,10 +1,11 @@
-// What items touch, and the lists of live meters, where one row of the graph changed: `before` are the ends that it had, and
-// `after` those that it has. Only items that touch the row itself, or branches at one of these ends, are looked at again.
-ghost use Rattle.std.specs.Prelude.{◌≡◌, ◌+◌, ◌<◌, ◌≤◌, IfSome, count_by, length, map, slice_index_or, slice_set, take};
+// What items touch, and the lists of live meters, where one row of the graph changed. Only items that touch the row itself, or
+// branches at an end that it had or has, are looked at again.
+ghost use Rattle.std.specs.Prelude.{◌≡◌, ◌+◌, ◌<◌, ◌≤◌, IfSome, length, slice_index_or, slice_set, take};
 ghost use Rattle.obs_graph.specs.Positions.{has_end};
-ghost use Rattle.obs_meter.specs.Touches.{AreInRange};
-ghost use Rattle.obs_network.specs.Following.{AreListedFar, followed, is_end, is_near, is_row};
-ghost use Rattle.obs_network.specs.Kept.{lists_of};
+ghost use Rattle.obs_meter.specs.Touches.{AreInRange, IsInRange};
+ghost use Rattle.obs_network.specs.Following.{AreFollowed, AreListedFar, followed, followed_items, is_end, is_near, is_row};
+ghost use Rattle.obs_network.specs.Kept.{list_of, lists_of};
+ghost use Rattle.obs_network.specs.Located.{touch_component};
 
 use crate::components::Components;
 use crate::live_meters::LiveMeters;
@@ -12,8 +13,16 @@ use crate::touching::rows_at;
 use obs_graph::{Ends, Graph};
 use obs_meter::{Meters, Touch};
 
-// At most so many meters change their lists one by one.
-const MOST_MOVED: usize = 8;
+// So many meters on the row itself, and all lists are made anew. Fewer change theirs one by one.
+const MANY: u32 = 9;
+
+/// A row that changed: its position, the ends that it had, and those that it has.
+#[derive(Clone, Copy)]
+pub(crate) struct Change {
+    pub(crate) at: u32,
+    pub(crate) before: Option<Ends>,
+    pub(crate) after: Option<Ends>,
+}
 
 // Whether a branch is present and has an end at the vertex.
 fn has_end(ends: Option<Ends>, v: u32) -> bool
@@ -32,53 +41,6 @@ fn is_end(before: Option<Ends>, after: Option<Ends>, v: u32) -> bool
     has_end(before, v) || has_end(after, v)
 }
 
-// Makes one item touch the rows that are there now, where it touches rows at one of the ends.
-fn follow_item(
-    graph: &Graph,
-    rows: u32,
-    before: Option<Ends>,
-    after: Option<Ends>,
-    items: &mut Meters,
-    m: u32,
-)
-    requires rows { rows ≤ length graph.now.ends }
-    requires before { IfSome before (λ x. (x.a < graph.now.vertices) × (x.b < graph.now.vertices)) }
-    requires after { IfSome after (λ x. (x.a < graph.now.vertices) × (x.b < graph.now.vertices)) }
-    requires item { m < length items.old.touches }
-    ensures item { items.new ≡ record items.old {
-      touches = slice_set items.old.touches m
-          (followed (take rows graph.now.ends) before after (slice_index_or items.old.touches m Touch.Nothing));
-    } }
-{
-    match items.kind(m) {
-        Touch::Front { at, count: _ } if is_end(before, after, at) => {
-            items.set(m, rows_at(at, graph, rows));
-        }
-        _ => {}
-    }
-}
-
-/// Makes the items touch what they do now.
-pub(crate) fn follow_items(
-    graph: &Graph,
-    rows: u32,
-    before: Option<Ends>,
-    after: Option<Ends>,
-    items: &mut Meters,
-)
-    requires rows { rows ≤ length graph.now.ends }
-    requires before { IfSome before (λ x. (x.a < graph.now.vertices) × (x.b < graph.now.vertices)) }
-    requires after { IfSome after (λ x. (x.a < graph.now.vertices) × (x.b < graph.now.vertices)) }
-    ensures items { items.new ≡ record items.old {
-      touches =
-          map (followed (take rows graph.now.ends) before after) items.old.touches;
-    } }
-{
-    for m in 0..items.count() {
-        follow_item(graph, rows, before, after, items, m);
-    }
-}
-
 // Whether this is the row by its position.
 fn is_row(touch: Touch, at: u32) -> bool
     ensures value { result ≡ is_row at touch }
@@ -89,85 +51,186 @@ fn is_row(touch: Touch, at: u32) -> bool
     }
 }
 
-// How many items touch the row by its position.
-fn count_at(touches: &[Touch], at: u32) -> usize
-    ensures count { result ≡ count_by (is_row at) touches.now }
-{
-    let mut count = 0;
-    for touch in touches {
-        if is_row(*touch, at) {
-            count += 1;
-        }
-    }
-    count
-}
-
 // Whether what is touched so may be the row: it by its position, or branches at one of the ends.
-fn is_near(touch: Touch, at: u32, before: Option<Ends>, after: Option<Ends>) -> bool
-    ensures value { result ≡ is_near at before after touch }
+fn is_near(touch: Touch, change: Change) -> bool
+    ensures value { result ≡ is_near change.at change.before change.after touch }
 {
     match touch {
-        Touch::Star(v) => is_end(before, after, v),
-        Touch::Front { at: v, count: _ } => is_end(before, after, v),
-        _ => is_row(touch, at),
+        Touch::Star(v) => is_end(change.before, change.after, v),
+        Touch::Front { at: v, count: _ } => is_end(change.before, change.after, v),
+        _ => is_row(touch, change.at),
     }
 }
 
-// Puts each meter near the row into its list. The others stand in theirs.
-fn move_near(
-    components: &Components,
-    graph: &Graph,
-    meters: &Meters,
-    at: u32,
-    before: Option<Ends>,
-    after: Option<Ends>,
-    live_meters: &mut LiveMeters,
-)
-    requires vertices { graph.now.vertices
-        ≡ length components.now.of_buses + length components.now.first_buses }
-    requires in_range { AreInRange graph.now meters.now.touches }
-    requires components { live_meters.old.components ≡ length components.now.first_buses }
-    requires one_each { length live_meters.old.lists ≡ length meters.now.touches }
-    requires far { AreListedFar at before after components.now graph.now meters.now live_meters.old.lists }
-    ensures lists { live_meters.new.lists ≡ lists_of components.now graph.now meters.now }
-    ensures components { live_meters.new.components ≡ live_meters.old.components }
-    ensures most_meters { live_meters.new.most_meters ≡ live_meters.old.most_meters }
-    ensures most_components { live_meters.new.most_components ≡ live_meters.old.most_components }
+// What is touched now, where this was touched: at one of the ends, the rows that are there now.
+fn followed(graph: &Graph, rows: u32, change: Change, touch: Touch) -> Touch
+    requires rows { rows ≤ length graph.now.ends }
+    requires before { IfSome change.before (λ x. (x.a < graph.now.vertices) × (x.b < graph.now.vertices)) }
+    requires after { IfSome change.after (λ x. (x.a < graph.now.vertices) × (x.b < graph.now.vertices)) }
+    ensures touch { result ≡ followed (take rows graph.now.ends) change.before change.after touch }
 {
-    for m in 0..meters.count() {
-        let touch = meters.kind(m);
-        if is_near(touch, at, before, after) {
-            live_meters.set(components, graph, m, touch);
+    match touch {
+        Touch::Front { at, count: _ } if is_end(change.before, change.after, at) => {
+            rows_at(at, graph, rows)
+        }
+        _ => touch,
+    }
+}
+
+// Makes the items from the number `first` on touch what they do now. Those before stay.
+fn follow_behind(graph: &Graph, rows: u32, change: Change, first: u32, items: &mut Meters)
+    requires rows { rows ≤ length graph.now.ends }
+    requires before { IfSome change.before (λ x. (x.a < graph.now.vertices) × (x.b < graph.now.vertices)) }
+    requires after { IfSome change.after (λ x. (x.a < graph.now.vertices) × (x.b < graph.now.vertices)) }
+    ensures items { AreFollowed (followed (take rows graph.now.ends) change.before change.after) items.old items.new
+        first (length items.old.touches) }
+{
+    for m in first..items.count() {
+        let touch = items.kind(m);
+        if is_near(touch, change) {
+            items.set(m, followed(graph, rows, change, touch));
         }
     }
 }
 
-/// Puts each meter into the list of what it touches now. Where many touch the row, all lists are made anew.
-pub(crate) fn follow_lists(
+// How many more meters on the row may come, and lists still change one by one.
+fn left_behind(touch: Touch, at: u32, left: u32) -> u32
+    ensures fewer { result ≤ left }
+{
+    if is_row(touch, at) {
+        left.saturating_sub(1)
+    } else {
+        left
+    }
+}
+
+// Makes one meter touch this, and puts it into its list, where lists still change one by one.
+fn set_meter(
     components: &Components,
     graph: &Graph,
-    meters: &Meters,
-    at: u32,
-    before: Option<Ends>,
-    after: Option<Ends>,
+    m: u32,
+    touch: Touch,
+    left: u32,
+    meters: &mut Meters,
+    offered: &mut Meters,
     live_meters: &mut LiveMeters,
 )
     requires vertices { graph.now.vertices
         ≡ length components.now.of_buses + length components.now.first_buses }
-    requires in_range { AreInRange graph.now meters.now.touches }
+    requires in_range { IsInRange graph.now touch }
     requires components { live_meters.old.components ≡ length components.now.first_buses }
-    requires most_components { length components.now.first_buses ≤ live_meters.old.most_components }
-    requires most_meters { length meters.now.touches ≤ live_meters.old.most_meters }
-    requires one_each { length live_meters.old.lists ≡ length meters.now.touches }
-    requires far { AreListedFar at before after components.now graph.now meters.now live_meters.old.lists }
-    ensures lists { live_meters.new.lists ≡ lists_of components.now graph.now meters.now }
+    requires meter { m < length meters.old.touches }
+    requires item { m < length offered.old.touches }
+    requires list { m < length live_meters.old.lists }
+    ensures meters { meters.new ≡ record meters.old { touches = slice_set meters.old.touches m touch } }
+    ensures offered { offered.new ≡ record offered.old { touches = slice_set offered.old.touches m touch } }
+    ensures lists { 0 < left → live_meters.new.lists ≡ slice_set live_meters.old.lists m
+        (list_of (length components.now.first_buses)
+        (touch_component components.now.of_buses graph.now.ends touch)) }
+    ensures one_each { length live_meters.new.lists ≡ length live_meters.old.lists }
     ensures components { live_meters.new.components ≡ live_meters.old.components }
     ensures most_meters { live_meters.new.most_meters ≡ live_meters.old.most_meters }
     ensures most_components { live_meters.new.most_components ≡ live_meters.old.most_components }
 {
-    if count_at(meters.touches(), at) <= MOST_MOVED {
-        move_near(components, graph, meters, at, before, after, live_meters);
-    } else {
+    meters.set(m, touch);
+    offered.set(m, touch);
+    if left > 0 {
+        live_meters.set(components, graph, m, touch);
+    }
+}
+
+// Makes the meters touch what they do now, also where they are offered. Each stands in its list then, where the answer is not
+// zero.
+fn follow_meters(
+    components: &Components,
+    graph: &Graph,
+    rows: u32,
+    change: Change,
+    meters: &mut Meters,
+    offered: &mut Meters,
+    live_meters: &mut LiveMeters,
+) -> u32
+    requires vertices { graph.now.vertices
+        ≡ length components.now.of_buses + length components.now.first_buses }
+    requires rows { rows ≤ length graph.now.ends }
+    requires before { IfSome change.before (λ x. (x.a < graph.now.vertices) × (x.b < graph.now.vertices)) }
+    requires after { IfSome change.after (λ x. (x.a < graph.now.vertices) × (x.b < graph.now.vertices)) }
+    requires in_range { AreInRange graph.now (followed_items (take rows graph.now.ends) change meters.old).touches }
+    requires offered { take (length meters.old.touches) offered.old.touches ≡ meters.old.touches }
+    requires components { live_meters.old.components ≡ length components.now.first_buses }
+    requires one_each { length live_meters.old.lists ≡ length meters.old.touches }
+    requires far { AreListedFar (take rows graph.now.ends) change components.now graph.now meters.old live_meters.old.lists }
+    ensures meters { meters.new ≡ followed_items (take rows graph.now.ends) change meters.old }
+    ensures offered { AreFollowed (followed (take rows graph.now.ends) change.before change.after) offered.old offered.new
+        0 (length meters.old.touches) }
+    ensures lists { 0 < result → live_meters.new.lists ≡ lists_of components.now graph.now meters.new }
+    ensures components { live_meters.new.components ≡ live_meters.old.components }
+    ensures most_meters { live_meters.new.most_meters ≡ live_meters.old.most_meters }
+    ensures most_components { live_meters.new.most_components ≡ live_meters.old.most_components }
+{
+    let mut left = MANY;
+    for m in 0..meters.count() {
+        let touch = meters.kind(m);
+        if is_near(touch, change) {
+            let now = followed(graph, rows, change, touch);
+            left = left_behind(touch, change.at, left);
+            set_meter(
+                components,
+                graph,
+                m,
+                now,
+                left,
+                meters,
+                offered,
+                live_meters,
+            );
+        }
+    }
+    left
+}
+
+/// Makes the meters, and these with the candidates behind them, touch what they do now, and puts each meter into the list of
+/// what it touches. Where many touch the row itself, all lists are made anew.
+pub(crate) fn follow_items(
+    components: &Components,
+    graph: &Graph,
+    rows: u32,
+    change: Change,
+    meters: &mut Meters,
+    offered: &mut Meters,
+    live_meters: &mut LiveMeters,
+)
+    requires vertices { graph.now.vertices
+        ≡ length components.now.of_buses + length components.now.first_buses }
+    requires rows { rows ≤ length graph.now.ends }
+    requires before { IfSome change.before (λ x. (x.a < graph.now.vertices) × (x.b < graph.now.vertices)) }
+    requires after { IfSome change.after (λ x. (x.a < graph.now.vertices) × (x.b < graph.now.vertices)) }
+    requires in_range { AreInRange graph.now (followed_items (take rows graph.now.ends) change meters.old).touches }
+    requires offered { take (length meters.old.touches) offered.old.touches ≡ meters.old.touches }
+    requires components { live_meters.old.components ≡ length components.now.first_buses }
+    requires most_components { length components.now.first_buses ≤ live_meters.old.most_components }
+    requires most_meters { length meters.old.touches ≤ live_meters.old.most_meters }
+    requires one_each { length live_meters.old.lists ≡ length meters.old.touches }
+    requires far { AreListedFar (take rows graph.now.ends) change components.now graph.now meters.old live_meters.old.lists }
+    ensures meters { meters.new ≡ followed_items (take rows graph.now.ends) change meters.old }
+    ensures offered { offered.new ≡ followed_items (take rows graph.now.ends) change offered.old }
+    ensures lists { live_meters.new.lists ≡ lists_of components.now graph.now meters.new }
+    ensures components { live_meters.new.components ≡ live_meters.old.components }
+    ensures most_meters { live_meters.new.most_meters ≡ live_meters.old.most_meters }
+    ensures most_components { live_meters.new.most_components ≡ live_meters.old.most_components }
+{
+    let first = meters.count();
+    let left = follow_meters(
+        components,
+        graph,
+        rows,
+        change,
+        meters,
+        offered,
+        live_meters,
+    );
+    follow_behind(graph, rows, change, first, offered);
+    if left == 0 {
         live_meters.refill(components, graph, meters);
     }
 }

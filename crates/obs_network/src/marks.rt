@@ -1,5 +1,5 @@
 // What is known of each component, and of all, by one pass over the buses, the nodes or the components.
-ghost use Rattle.std.specs.Prelude.{◌≡◌, ◌≢◌, ◌<◌, ◌≤◌, ◌^◌, ℕ, All, length, slice_index, take, IfSome};
+ghost use Rattle.std.specs.Prelude.{◌≡◌, ◌≢◌, ◌<◌, ◌≤◌, ◌^◌, ℕ, All, IfSome, IsSome, IsTrue, length, slice_index, take};
 ghost use Rattle.obs_graph.specs.Positions.{present};
 ghost use Rattle.obs_case.specs.Tables.{most_rows};
 ghost use Rattle.obs_graph.specs.Joined.{first_joined};
@@ -140,19 +140,31 @@ fn if_energised(branch: Option<Ends>, numbers: &[u32], energised: &[bool]) -> Op
     }
 }
 
-/// Writes the live branches of energised components, each at its position.
+// Whether nothing of a branch is lost where this is kept of it.
+fn is_whole(branch: Option<Ends>, kept: Option<Ends>) -> bool
+    ensures whole { IsTrue result → IsSome branch → IsSome kept }
+{
+    kept.is_some() || branch.is_none()
+}
+
+/// Writes the live branches of energised components, each at its position. Answers true only where these are all that are live.
 pub(crate) fn write_energised(
     live: &[Option<Ends>],
     numbers: &[u32],
     energised: &[bool],
     kept: &mut [Option<Ends>],
-)
+) -> bool
     requires room { length live.now ≡ length kept.old }
     requires ends { All (λ o. IfSome o (λ e. e.a < length numbers.now)) live.now }
     requires below { All (λ c. c < length energised.now) numbers.now }
     ensures kept { kept.new ≡ energised_branches numbers.now energised.now live.now }
+    ensures all { IsTrue result → kept.new ≡ live.now }
 {
+    let mut all = true;
     for i in 0..live.len() {
-        kept[i] = if_energised(live[i], numbers, energised);
+        let branch = if_energised(live[i], numbers, energised);
+        kept[i] = branch;
+        all = all && is_whole(live[i], branch);
     }
+    all
 }

@@ -8,7 +8,7 @@ ghost use Rattle.obs_network.specs.Network.{case_live, live_branch_count, networ
 
 use crate::alone::{change_row, changes_alone, live_ends_at};
 use crate::components::Components;
-use crate::following::{follow_items, follow_lists};
+use crate::following::{Change, follow_items};
 use crate::live::count_present;
 use crate::live_meters::LiveMeters;
 use crate::located::{component_of_branch, component_of_touch};
@@ -210,15 +210,13 @@ impl Network {
         let before = self.graph.ends(at);
         let after = live_ends_at(case, at, &self.buses);
         change_row(at, after, &mut self.kept, &mut self.graph);
-        follow_items(&self.graph, rows, before, after, &mut self.meters);
-        follow_items(&self.graph, rows, before, after, &mut self.offered);
-        follow_lists(
+        follow_items(
             &self.components,
             &self.graph,
-            &self.meters,
-            at,
-            before,
-            after,
+            rows,
+            Change { at, before, after },
+            &mut self.meters,
+            &mut self.offered,
             &mut self.live_meters,
         );
     }

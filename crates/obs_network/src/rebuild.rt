@@ -1,6 +1,7 @@
 // The parts of the network of a case, made anew one after another.
 ghost use Rattle.std.specs.Prelude.{◌≡◌, ◌<◌, ◌≤◌, ◌+◌, IsTrue, length, slice_index_or, slice_set, take};
 ghost use Rattle.obs_case.specs.Tables.{most_rows};
+ghost use Rattle.obs_graph.specs.Positions.{AreBranches};
 ghost use Rattle.obs_graph.specs.Search.{room_of};
 ghost use Rattle.obs_network.specs.declared.rebuild.Known.TheVariants.{TheBuses, ByCount};
 ghost use Rattle.obs_network.specs.Switched.{case_bus_count, case_buses, closed_links};
@@ -59,8 +60,8 @@ pub(crate) enum Known {
     ByCount,
 }
 
-/// The same, where the buses aren't known to be those of the case already. Answers true only where the number of buses
-/// tells, and stayed.
+/// Makes the buses those of the case, but where it is known that they are. Answers true only where as many buses as before tell
+/// that the network is that of the case already.
 pub(crate) fn relabel_unless(
     case: &Case,
     known: Known,
@@ -121,8 +122,7 @@ pub(crate) fn find_components(
     ensures energised { components.new.energised ≡ case_energised case.now }
     ensures absolute { components.new.absolute ≡ case_absolute case.now }
     ensures room { components.new.most_buses ≡ components.old.most_buses }
-    ensures most_vertices { graph.new.most_vertices ≡ graph.old.most_vertices }
-    ensures most_branches { graph.new.most_branches ≡ graph.old.most_branches }
+    ensures graph { graph.new ≡ record graph.old { vertices = case_bus_count case.now; ends = live.now } }
     ensures search_room { room_of search.new ≡ room_of search.old }
 {
     let nodes = case.nodes();
@@ -132,15 +132,30 @@ pub(crate) fn find_components(
     components.refill(&search.pieces()[..count as usize], live, nodes, buses);
 }
 
-// Writes the branches of the case by position, and says how many positions there are: the rows of the branch table, and
-// behind them the angle branches.
+// What was written of the branches of the case.
+#[derive(Clone, Copy)]
+struct Written {
+    // how many positions there are: the rows of the branch table, and behind them the angle branches
+    positions: usize,
+    // whether they are known to be the live ones, at the rows alone
+    whole: bool,
+}
+
+// Whether all that is live is kept, and no angle branch stands behind it.
+fn are_live(all: bool, angles: usize) -> bool
+    ensures live { IsTrue result → IsTrue all × (angles ≡ 0) }
+{
+    all && angles == 0
+}
+
+// Writes the branches of the case by position.
 fn write_branches(
     case: &Case,
     buses: &Buses,
     components: &Components,
     live: &[Option<Ends>],
     kept: &mut [Option<Ends>],
-) -> usize
+) -> Written
     requires few { components.now.most_buses ≤ most_rows }
     requires buses { buses.now.buses ≡ case_buses case.now }
     requires count { buses.now.count ≡ case_bus_count case.now }
@@ -150,18 +165,40 @@ fn write_branches(
     requires live { live.now ≡ case_live case.now }
     requires kept { length kept.old
         ≡ length live.now + (length case.now.meters + length case.now.candidates) }
-    ensures branches { take result kept.new ≡ case_branches case.now }
-    ensures few { result ≤ length kept.new }
+    ensures branches { take result.positions kept.new ≡ case_branches case.now }
+    ensures whole { IsTrue result.whole → live.now ≡ case_branches case.now }
+    ensures few { result.positions ≤ length kept.new }
     ensures kept { length kept.new ≡ length kept.old }
 {
     let _nodes = case.nodes();
     let (rows, items) = kept.split_at_mut(live.len());
-    write_energised(live, components.numbers(), components.marks(), rows);
-    live.len() + write_angles(case, buses, components, items)
+    let all = write_energised(live, components.numbers(), components.marks(), rows);
+    let angles = write_angles(case, buses, components, items);
+    let whole = are_live(all, angles);
+    Written {
+        positions: live.len() + angles,
+        whole,
+    }
+}
+
+// Makes the graph exactly this list of branches. Where it has them already, and no more vertices, only vertices come.
+fn fill_graph(has_them: bool, vertices: u32, branches: &[Option<Ends>], graph: &mut Graph)
+    requires has_them { IsTrue has_them → graph.old.ends ≡ branches.now }
+    requires more { IsTrue has_them → graph.old.vertices ≤ vertices }
+    requires vertices { vertices ≤ graph.old.most_vertices }
+    requires few { length branches.now ≤ graph.old.most_branches }
+    requires branches { AreBranches vertices branches.now }
+    ensures whole { graph.new ≡ record graph.old { vertices = vertices; ends = branches.now } }
+{
+    if has_them {
+        graph.widen(vertices);
+    } else {
+        graph.refill(vertices, branches);
+    }
 }
 
 /// Makes the graph that of the case: over its buses and reference vertices, with the live branches of energised components and
-/// the angle branches.
+/// the angle branches. Before it has all live branches, over the buses.
 pub(crate) fn refill_graph(
     case: &Case,
     buses: &Buses,
@@ -180,6 +217,8 @@ pub(crate) fn refill_graph(
     requires live { live.now ≡ case_live case.now }
     requires kept { length kept.old
         ≡ length live.now + (length case.now.meters + length case.now.candidates) }
+    requires ends { graph.old.ends ≡ live.now }
+    requires bus_vertices { graph.old.vertices ≡ case_bus_count case.now }
     requires vertices { case_vertex_count case.now ≤ graph.old.most_vertices }
     requires branches { length kept.old ≤ graph.old.most_branches }
     ensures ends { graph.new.ends ≡ case_branches case.now }
@@ -190,9 +229,9 @@ pub(crate) fn refill_graph(
     ensures kept_ends { take (length graph.new.ends) kept.new ≡ graph.new.ends }
 {
     let _nodes = case.nodes();
-    let positions = write_branches(case, buses, components, live, kept);
+    let written = write_branches(case, buses, components, live, kept);
     let vertices = buses.count() + components.count();
-    graph.refill(vertices, &kept[..positions]);
+    fill_graph(written.whole, vertices, &kept[..written.positions], graph);
 }
 
 /// Makes the items those of the case: its meters, and these with the candidates behind them. The graph is that of the

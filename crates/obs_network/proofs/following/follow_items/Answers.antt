@@ -1,16 +1,19 @@
-use Rattle.std.proofs.Common.{take, arith}
-use Rattle.obs_network.specs.Following.{followed}
-use Rattle.obs_network.proofs.FollowedLoops.{Followed-all, Followed-more}
+use Rattle.std.proofs.Common.{take, subst, sym}
+use Rattle.obs_meter.specs.Held.{Meters}
+use Rattle.obs_network.specs.Following.{AreFollowed, followed}
+use Rattle.obs_network.proofs.FollowedLoops.{Followed-then}
 use Rattle.obs_network.proofs.following.follow_items.Goals as goal
 
-pub loop-m-preserved : goal.loop-m-preserved
-loop-m-preserved c =
-    let e = c.count-m-end.ensures.count in
-    let l = c.loop-m-test.true in
-    Followed-more (followed (take c.args.rows c.args.graph.now.ends) c.args.before c.args.after) c.args.items.now c.loop-m.items c.follow_item.new.items c.loop-m.m (omega (arith, e, l)) c.loop-m.invariant c.follow_item.ensures.item
+pub returns-then-left-eq0-clause-offered : goal.returns-then-left-eq0-clause-offered
+returns-then-left-eq0-clause-offered c =
+    let a = c.args in
+    let follow = followed (take a.rows a.graph.now.ends) a.change.before a.change.after in
+    Followed-then follow a.offered.now c.follow_meters-left.new.offered c.follow_behind.new.items c.count-first.result
+    (subst (λ n. AreFollowed follow a.offered.now c.follow_meters-left.new.offered 0 n) (sym c.count-first.ensures.count) c.follow_meters-left.ensures.offered) c.follow_behind.ensures.items
 
-pub returns : goal.returns
-returns c =
-    let e = c.count-m-end.ensures.count in
-    let f = c.loop-m-test.false in
-    record { items = Followed-all (followed (take c.args.rows c.args.graph.now.ends) c.args.before c.args.after) c.args.items.now c.loop-m.items c.loop-m.m (omega (arith, e, f)) c.loop-m.invariant }
+pub returns-else-left-eq0-clause-offered : goal.returns-else-left-eq0-clause-offered
+returns-else-left-eq0-clause-offered c =
+    let a = c.args in
+    let follow = followed (take a.rows a.graph.now.ends) a.change.before a.change.after in
+    Followed-then follow a.offered.now c.follow_meters-left.new.offered c.follow_behind.new.items c.count-first.result
+    (subst (λ n. AreFollowed follow a.offered.now c.follow_meters-left.new.offered 0 n) (sym c.count-first.ensures.count) c.follow_meters-left.ensures.offered) c.follow_behind.ensures.items

@@ -1,5 +1,6 @@
-use Rattle.std.proofs.Common.{◌≡◌, ◌∙◌, refl, ap, length, take, arith}
+use Rattle.std.proofs.Common.{◌≡◌, ◌∙◌, ℕ, refl, ap, length, take, arith}
 use Rattle.std.proofs.lemmas.List.{length-take-le}
+use Rattle.obs_graph.specs.Graph.{Graph}
 use Rattle.obs_network.specs.Switched.{case_bus_count}
 use Rattle.obs_network.specs.Network.{case_absolute, case_component_count, case_components, case_energised, case_first_buses, case_sizes}
 use Rattle.obs_network.proofs.OfCase.{case_live-branches, length-case_buses}
@@ -44,3 +45,9 @@ pub returns-clause-absolute : goal.returns-clause-absolute
 unfolding case_absolute case_component_count case_components
 returns-clause-absolute c =
     c.refill-2.ensures.absolute ∙ rw (c.refill-2.ensures.of_buses, c.nodes-nodes.ensures.rows, c.requires.buses, firsts c, c.requires.live) refl
+
+pub returns-clause-graph : goal.returns-clause-graph
+returns-clause-graph c =
+    let g = c.args.graph.now in
+    c.refill.ensures.whole
+    ∙ ap (λ (n : ℕ). let x : Graph = record { vertices = n; ends = c.args.live.now; most_vertices = g.most_vertices; most_branches = g.most_branches } in x) (c.count-count.ensures.count ∙ c.requires.count)

@@ -1,4 +1,4 @@
-use Rattle.std.proofs.Common.{◌≡◌, ℕ, List, ◌+◌, take, ap, ◌∙◌, length, arith}
+use Rattle.std.proofs.Common.{◌≡◌, ℕ, List, ◌+◌, take, sym, ap, ◌∙◌, length, arith}
 use Rattle.std.proofs.lemmas.List.{length-take-le}
 use Rattle.obs_case.specs.Tables.{Tables}
 use Rattle.obs_graph.specs.Graph.{Graph}
@@ -17,22 +17,25 @@ overflow_add-vertices c =
     let all = vertices t c.count.result c.count-2.result _ _ c.count.ensures.count c.count-2.ensures.count c.requires.count c.requires.first_buses in
     omega (arith, all, case_bus_count-le t, case_component_count-le t, few_nodes t c.nodes-nodes.ensures.valid)
 
-pub refill-requires-clause-vertices : goal.refill-requires-clause-vertices
-refill-requires-clause-vertices c =
+pub fill_graph-requires-clause-vertices : goal.fill_graph-requires-clause-vertices
+fill_graph-requires-clause-vertices c =
     let all = vertices c.args.case.now c.count.result c.count-2.result _ _ c.count.ensures.count c.count-2.ensures.count c.requires.count c.requires.first_buses in
     omega (arith, all, c.requires.vertices)
 
-pub refill-requires-clause-branches : goal.refill-requires-clause-branches
-refill-requires-clause-branches c =
+pub fill_graph-requires-clause-branches : goal.fill_graph-requires-clause-branches
+fill_graph-requires-clause-branches c =
     let all = vertices c.args.case.now c.count.result c.count-2.result _ _ c.count.ensures.count c.count-2.ensures.count c.requires.count c.requires.first_buses in
-    rw (all, c.write_branches-positions.ensures.branches) (case_branches-are c.args.case.now c.nodes-nodes.ensures.valid)
+    rw (all, c.write_branches-written.ensures.branches) (case_branches-are c.args.case.now c.nodes-nodes.ensures.valid)
 
 pub returns-clause-vertices : goal.returns-clause-vertices
 returns-clause-vertices c =
-    ap (λ (g : Graph). g.vertices) c.refill.ensures.whole
+    ap (λ (g : Graph). g.vertices) c.fill_graph.ensures.whole
     ∙ vertices c.args.case.now c.count.result c.count-2.result _ _ c.count.ensures.count c.count-2.ensures.count c.requires.count c.requires.first_buses
 
 pub returns-clause-kept_ends : goal.returns-clause-kept_ends
 returns-clause-kept_ends c =
-    let kept = c.write_branches-positions.new.kept in
-    rw (ap (λ (g : Graph). g.ends) c.refill.ensures.whole) (ap (λ n. take n kept) (length-take-le c.write_branches-positions.result kept c.write_branches-positions.ensures.few))
+    let kept = c.write_branches-written.new.kept in
+    rw (ap (λ (g : Graph). g.ends) c.fill_graph.ensures.whole) (ap (λ n. take n kept) (length-take-le c.write_branches-written.result.positions kept c.write_branches-written.ensures.few))
+
+pub fill_graph-requires-clause-has_them : goal.fill_graph-requires-clause-has_them
+fill_graph-requires-clause-has_them c = λ yes. c.requires.ends ∙ c.write_branches-written.ensures.whole yes ∙ sym c.write_branches-written.ensures.branches

@@ -5,12 +5,16 @@ use Rattle.obs_meter.specs.Held.{Meters}
 use Rattle.obs_network.specs.contracts.network.Network.{the_view}
 use Rattle.obs_network.specs.Network.{Components, Network, Rows}
 use Rattle.obs_network.specs.Edited.{AreSameBut}
-use Rattle.obs_network.proofs.FollowedCase.{follows, listed_far}
+use Rattle.std.proofs.lemmas.List.{length-map}
+use Rattle.obs_network.specs.Following.{followed}
+use Rattle.obs_network.proofs.FollowedCase.{IsFollowed, follows, listed_far}
 use Rattle.obs_network.proofs.Items.{meters-in_range, offered-in_range}
-use Rattle.obs_network.proofs.LoneChange.{branch_edited, ends_after, lone}
-use Rattle.obs_network.proofs.OfCase.{case_branches-are, case_bus_count-le, case_component_count-le, length-case_first_buses, length-case_meters}
+use Rattle.obs_network.specs.Switched.{case_bus_count}
+use Rattle.obs_network.proofs.LoneChange.{branch_edited, live_is_branch, lone}
+use Rattle.obs_network.proofs.OfCase.{case_bus_count-le, case_component_count-le, length-case_first_buses, length-case_meters, more_vertices}
 use Rattle.obs_network.proofs.Whole.{items_are, network_is, rows_are, shape_is}
 use Rattle.obs_network.proofs.network.Network.change_branch.Goals as goal
+use Rattle.obs_network.proofs.network.Network.change_branch.Goals.{After-follow_items}
 
 pub ends-before-requires : goal.ends-before-requires
 ends-before-requires c =
@@ -22,47 +26,48 @@ change_row-requires-clause-row c =
     let alone = lone c.args.self.now c.args.at c.args.case.now c.branches.ensures.valid c.requires.branch c.requires.before c.requires.alone in
     omega (arith, alone.low, ap (λ (n : Network). length n.graph.ends) c.self.view_is)
 
-pub change_row-requires-clause-branches : goal.change_row-requires-clause-branches
-change_row-requires-clause-branches c =
+pub change_row-requires-clause-ends : goal.change_row-requires-clause-ends
+change_row-requires-clause-ends c =
     let t = c.args.case.now in
     let n = c.args.self.now in
     let alone = lone n c.args.at t c.branches.ensures.valid c.requires.branch c.requires.before c.requires.alone in
-    rw (
-      ends_after (the_view c.self.inside) n c.args.at t c.live_ends_at-after.result c.self.view_is alone c.live_ends_at-after.ensures.ends,
-      ap (λ (x : Network). x.graph.vertices) c.self.view_is ∙ sym alone.same.vertices,
-    ) (case_branches-are t c.branches.ensures.valid)
+    let vertices = ap (λ (x : Network). x.graph.vertices) c.self.view_is ∙ sym alone.same.vertices in
+    more_vertices (case_bus_count t) c.self.inside.graph.vertices c.live_ends_at-after.result (omega (arith, vertices))
+    (live_is_branch t c.branches.ensures.valid c.args.at c.requires.branch c.live_ends_at-after.result c.live_ends_at-after.ensures.ends)
 
-pub change_row-requires-clause-vertices : goal.change_row-requires-clause-vertices
-change_row-requires-clause-vertices c =
-    let left = branch_edited c.args.self.now c.args.at c.args.case.now c.requires.before in
-    subst (λ (n : Network). n.graph.vertices ≤ n.graph.most_vertices) (sym c.self.view_is) left.room
+-- the graph with the branch changed, and the items that follow
+of_row : (c : goal.After-follow_items-arg-5-1) → IsFollowed (the_view c.self.inside) (record { at = c.args.at; before = c.ends-before.result; after = c.live_ends_at-after.result }) c.args.case.now (length c.branches.result.now) c.change_row.new.graph
+of_row c =
+    follows (the_view c.self.inside) c.args.self.now (record { at = c.args.at; before = c.ends-before.result; after = c.live_ends_at-after.result }) c.args.case.now c.branches.ensures.valid c.requires.branch c.requires.before c.requires.alone c.self.view_is
+    c.ends-before.ensures.ends c.live_ends_at-after.ensures.ends (length c.branches.result.now) (ap (λ l. length l) c.branches.ensures.rows) c.change_row.new.graph c.change_row.ensures.graph
+
+of_items : (c : After-follow_items) → IsFollowed (the_view c.self.inside) (record { at = c.args.at; before = c.ends-before.result; after = c.live_ends_at-after.result }) c.args.case.now (length c.branches.result.now) c.change_row.new.graph
+of_items c =
+    follows (the_view c.self.inside) c.args.self.now (record { at = c.args.at; before = c.ends-before.result; after = c.live_ends_at-after.result }) c.args.case.now c.branches.ensures.valid c.requires.branch c.requires.before c.requires.alone c.self.view_is
+    c.ends-before.ensures.ends c.live_ends_at-after.ensures.ends (length c.branches.result.now) (ap (λ l. length l) c.branches.ensures.rows) c.change_row.new.graph c.change_row.ensures.graph
 
 pub follow_items-requires-clause-rows : goal.follow_items-requires-clause-rows
-follow_items-requires-clause-rows c = (follows (the_view c.self.inside) c.args.self.now c.args.at c.args.case.now c.branches.ensures.valid c.requires.branch c.requires.before c.requires.alone c.self.view_is c.ends-before.result c.ends-before.ensures.ends c.live_ends_at-after.result c.live_ends_at-after.ensures.ends (length c.branches.result.now) (ap (λ l. length l) c.branches.ensures.rows) c.change_row.new.graph c.change_row.ensures.graph).few
+follow_items-requires-clause-rows c = (of_row c).few
 
 pub follow_items-requires-clause-after : goal.follow_items-requires-clause-after
-follow_items-requires-clause-after c = (follows (the_view c.self.inside) c.args.self.now c.args.at c.args.case.now c.branches.ensures.valid c.requires.branch c.requires.before c.requires.alone c.self.view_is c.ends-before.result c.ends-before.ensures.ends c.live_ends_at-after.result c.live_ends_at-after.ensures.ends (length c.branches.result.now) (ap (λ l. length l) c.branches.ensures.rows) c.change_row.new.graph c.change_row.ensures.graph).after_low
+follow_items-requires-clause-after c = (of_row c).after_low
 
-pub follow_items-requires-2-clause-rows : goal.follow_items-requires-2-clause-rows
-follow_items-requires-2-clause-rows c = (follows (the_view c.self.inside) c.args.self.now c.args.at c.args.case.now c.branches.ensures.valid c.requires.branch c.requires.before c.requires.alone c.self.view_is c.ends-before.result c.ends-before.ensures.ends c.live_ends_at-after.result c.live_ends_at-after.ensures.ends (length c.branches.result.now) (ap (λ l. length l) c.branches.ensures.rows) c.change_row.new.graph c.change_row.ensures.graph).few
+pub follow_items-requires-clause-in_range : goal.follow_items-requires-clause-in_range
+follow_items-requires-clause-in_range c = (of_row c).in_range
 
-pub follow_items-requires-2-clause-after : goal.follow_items-requires-2-clause-after
-follow_items-requires-2-clause-after c = (follows (the_view c.self.inside) c.args.self.now c.args.at c.args.case.now c.branches.ensures.valid c.requires.branch c.requires.before c.requires.alone c.self.view_is c.ends-before.result c.ends-before.ensures.ends c.live_ends_at-after.result c.live_ends_at-after.ensures.ends (length c.branches.result.now) (ap (λ l. length l) c.branches.ensures.rows) c.change_row.new.graph c.change_row.ensures.graph).after_low
+pub follow_items-requires-clause-offered : goal.follow_items-requires-clause-offered
+follow_items-requires-clause-offered c = (of_row c).first
 
-pub follow_lists-requires-clause-in_range : goal.follow_lists-requires-clause-in_range
-follow_lists-requires-clause-in_range c =
-    let of = follows (the_view c.self.inside) c.args.self.now c.args.at c.args.case.now c.branches.ensures.valid c.requires.branch c.requires.before c.requires.alone c.self.view_is c.ends-before.result c.ends-before.ensures.ends c.live_ends_at-after.result c.live_ends_at-after.ensures.ends (length c.branches.result.now) (ap (λ l. length l) c.branches.ensures.rows) c.change_row.new.graph c.change_row.ensures.graph in
-    rw (of.meters c.follow_items.new.items c.follow_items.ensures.items) (meters-in_range c.args.case.now c.branches.ensures.valid c.change_row.new.graph of.vertices of.ends)
-
-pub follow_lists-requires-clause-most_meters : goal.follow_lists-requires-clause-most_meters
-follow_lists-requires-clause-most_meters c =
-    let of = follows (the_view c.self.inside) c.args.self.now c.args.at c.args.case.now c.branches.ensures.valid c.requires.branch c.requires.before c.requires.alone c.self.view_is c.ends-before.result c.ends-before.ensures.ends c.live_ends_at-after.result c.live_ends_at-after.ensures.ends (length c.branches.result.now) (ap (λ l. length l) c.branches.ensures.rows) c.change_row.new.graph c.change_row.ensures.graph in
+pub follow_items-requires-clause-most_meters : goal.follow_items-requires-clause-most_meters
+follow_items-requires-clause-most_meters c =
+    let s = c.self.inside in
     let left = branch_edited c.args.self.now c.args.at c.args.case.now c.requires.before in
     let meters = ap (λ (n : Network). n.rows.meters) c.self.view_is ∙ ap (λ (r : Rows). r.meters) left.rows in
-    omega (arith, meters, c.self.invariant.listed_meters, ap length (of.meters c.follow_items.new.items c.follow_items.ensures.items), length-case_meters c.args.case.now)
+    let follow = followed (take (length c.branches.result.now) c.change_row.new.graph.ends) c.ends-before.result c.live_ends_at-after.result in
+    omega (arith, meters, c.self.invariant.listed_meters, length-map s.meters.touches follow, ap length (of_row c).meters, length-case_meters c.args.case.now)
 
-pub follow_lists-requires-clause-most_components : goal.follow_lists-requires-clause-most_components
-follow_lists-requires-clause-most_components c =
+pub follow_items-requires-clause-most_components : goal.follow_items-requires-clause-most_components
+follow_items-requires-clause-most_components c =
     let t = c.args.case.now in
     let left = branch_edited c.args.self.now c.args.at t c.requires.before in
     let alone = lone c.args.self.now c.args.at t c.branches.ensures.valid c.requires.branch c.requires.before c.requires.alone in
@@ -70,13 +75,12 @@ follow_lists-requires-clause-most_components c =
     let firsts = ap (λ (n : Network). length n.components.first_buses) c.self.view_is ∙ ap (λ (x : Components). length x.first_buses) (sym alone.same.components) in
     omega (arith, nodes, firsts, c.self.invariant.listed_components, length-case_first_buses t, case_component_count-le t, case_bus_count-le t)
 
-pub follow_lists-requires-clause-far : goal.follow_lists-requires-clause-far
-follow_lists-requires-clause-far c =
-    let of = follows (the_view c.self.inside) c.args.self.now c.args.at c.args.case.now c.branches.ensures.valid c.requires.branch c.requires.before c.requires.alone c.self.view_is c.ends-before.result c.ends-before.ensures.ends c.live_ends_at-after.result c.live_ends_at-after.ensures.ends (length c.branches.result.now) (ap (λ l. length l) c.branches.ensures.rows) c.change_row.new.graph c.change_row.ensures.graph in
+pub follow_items-requires-clause-far : goal.follow_items-requires-clause-far
+follow_items-requires-clause-far c =
     let s = c.self.inside in
     let g = c.change_row.new.graph in
-    listed_far s.components s.graph g s.meters c.follow_items.new.items (take (length c.branches.result.now) g.ends) c.args.at c.ends-before.result c.live_ends_at-after.result s.live_meters.lists of.was
-    (ap (λ (x : Graph). x.ends) c.change_row.ensures.graph) (ap (λ (x : Meters). x.touches) c.follow_items.ensures.items) c.self.invariant.lists
+    listed_far s.components s.graph g s.meters (take (length c.branches.result.now) g.ends) (record { at = c.args.at; before = c.ends-before.result; after = c.live_ends_at-after.result }) s.live_meters.lists (of_row c).was
+    (ap (λ (x : Graph). x.ends) c.change_row.ensures.graph) c.self.invariant.lists
 
 pub invariant_of-self : goal.invariant_of-self
 invariant_of-self c =
@@ -84,11 +88,11 @@ invariant_of-self c =
     let valid = c.branches.ensures.valid in
     let s = c.self.inside in
     let v = c.self.invariant in
-    let of = follows (the_view c.self.inside) c.args.self.now c.args.at c.args.case.now c.branches.ensures.valid c.requires.branch c.requires.before c.requires.alone c.self.view_is c.ends-before.result c.ends-before.ensures.ends c.live_ends_at-after.result c.live_ends_at-after.ensures.ends (length c.branches.result.now) (ap (λ l. length l) c.branches.ensures.rows) c.change_row.new.graph c.change_row.ensures.graph in
+    let of = of_items c in
     let row = c.change_row.ensures in
-    let most_meters = ap (λ (x : Meters). x.most) c.follow_items.ensures.items in
-    let most_offered = ap (λ (x : Meters). x.most) c.follow_items-2.ensures.items in
-    let listed = c.follow_lists.ensures in
+    let items = c.follow_items.ensures in
+    let most_meters = ap (λ (x : Meters). x.most) items.meters in
+    let most_offered = ap (λ (x : Meters). x.most) items.offered in
     let most_branches = ap (λ (g : Graph). g.most_branches) row.graph in
     let keeps = c.change_row.auto.kept in
     rw (written_back s.kept.len c.change_row.new.kept s.kept.items (omega arith) (omega arith))
@@ -104,12 +108,12 @@ invariant_of-self c =
       sides_room = v.sides_room;
       vertices = ap (λ (g : Graph). g.vertices) row.graph ∙ v.vertices;
       of_buses = v.of_buses;
-      meters_in_range = rw (of.meters c.follow_items.new.items c.follow_items.ensures.items) (meters-in_range t valid c.change_row.new.graph of.vertices of.ends);
-      offered_in_range = rw (of.offered c.follow_items-2.new.items c.follow_items-2.ensures.items) (offered-in_range t valid c.change_row.new.graph of.vertices of.ends);
-      listed_meters = omega (arith, v.listed_meters, listed.most_meters, most_meters);
-      listed_components = omega (arith, v.listed_components, listed.most_components);
-      listed_count = listed.components ∙ v.listed_count;
-      lists = listed.lists;
+      meters_in_range = rw (ap (λ (x : Meters). x.touches) items.meters ∙ of.meters) (meters-in_range t valid c.change_row.new.graph of.vertices of.ends);
+      offered_in_range = rw (ap (λ (x : Meters). x.touches) items.offered ∙ of.offered) (offered-in_range t valid c.change_row.new.graph of.vertices of.ends);
+      listed_meters = omega (arith, v.listed_meters, items.most_meters, most_meters);
+      listed_components = omega (arith, v.listed_components, items.most_components);
+      listed_count = items.components ∙ v.listed_count;
+      lists = items.lists;
     }
 
 -- the network is that of the case
@@ -121,9 +125,9 @@ whole c =
     let is = c.self.view_is in
     let left = branch_edited n c.args.at t c.requires.before in
     let alone = lone n c.args.at t c.branches.ensures.valid c.requires.branch c.requires.before c.requires.alone in
-    let of = follows (the_view c.self.inside) c.args.self.now c.args.at c.args.case.now c.branches.ensures.valid c.requires.branch c.requires.before c.requires.alone c.self.view_is c.ends-before.result c.ends-before.ensures.ends c.live_ends_at-after.result c.live_ends_at-after.ensures.ends (length c.branches.result.now) (ap (λ l. length l) c.branches.ensures.rows) c.change_row.new.graph c.change_row.ensures.graph in
-    let items_most = ap (λ (x : Meters). x.most) c.follow_items.ensures.items in
-    let offered_most = ap (λ (x : Meters). x.most) c.follow_items-2.ensures.items in
+    let of = of_items c in
+    let items_most = ap (λ (x : Meters). x.most) c.follow_items.ensures.meters in
+    let offered_most = ap (λ (x : Meters). x.most) c.follow_items.ensures.offered in
     let rows = ap (λ (x : Network). x.rows) is ∙ left.rows in
     let nodes = ap (λ (r : Rows). r.nodes) rows in
     let branches = ap (λ (r : Rows). r.branches) rows in
@@ -136,8 +140,8 @@ whole c =
     (ap (λ (x : Network). x.buses) is ∙ left.buses)
     (ap (λ (x : Network). x.components) is ∙ sym alone.same.components)
     (shape_is _ _ of.vertices of.ends (omega (arith, most_vertices, v.vertices_room, nodes)) (omega (arith, most_branches, v.branches_room, branches, v.fewer, meters, candidates)))
-    (items_are _ _ (of.meters c.follow_items.new.items c.follow_items.ensures.items) (items_most ∙ meters))
-    (items_are _ _ (of.offered c.follow_items-2.new.items c.follow_items-2.ensures.items) (offered_most ∙ omega (arith, v.fewer, meters, candidates)))
+    (items_are _ _ (ap (λ (x : Meters). x.touches) c.follow_items.ensures.meters ∙ of.meters) (items_most ∙ meters))
+    (items_are _ _ (ap (λ (x : Meters). x.touches) c.follow_items.ensures.offered ∙ of.offered) (offered_most ∙ omega (arith, v.fewer, meters, candidates)))
     (ap (λ (x : Network). x.needed) is ∙ sym alone.same.needed)
 
 pub returns-clause-whole : goal.returns-clause-whole

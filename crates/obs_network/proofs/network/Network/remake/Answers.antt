@@ -1,4 +1,5 @@
 use Rattle.std.proofs.Common.{◌∙◌, sym, ap, length, subst, arith, refl}
+use Rattle.obs_graph.specs.Graph.{Graph}
 use Rattle.obs_switch.specs.Held.{Buses}
 use Rattle.obs_network.specs.declared.rebuild.Known.{Known}
 use Rattle.obs_network.specs.Edited.{IsKnown}
@@ -45,7 +46,7 @@ refill_graph-requires-clause-vertices c =
     let rows = ap (λ (n : Network). n.rows) c.self.view_is ∙ c.requires.rows in
     let nodes = ap (λ (r : Rows). r.nodes) rows in
     let room = c.self.invariant.vertices_room in
-    omega (arith, nodes, room, c.find_components.ensures.most_vertices, case_vertex_count-le c.args.case.now)
+    omega (arith, nodes, room, ap (λ (g : Graph). g.most_vertices) c.find_components.ensures.graph, case_vertex_count-le c.args.case.now)
 
 pub refill-requires-clause-vertices : goal.refill-requires-clause-vertices
 refill-requires-clause-vertices c =
@@ -135,6 +136,8 @@ invariant_of-self-2 c =
     let s = c.self.inside in
     let v = c.self.invariant in
     let found = c.find_components.ensures in
+    let most_vertices = ap (λ (g : Graph). g.most_vertices) found.graph in
+    let most_branches = ap (λ (g : Graph). g.most_branches) found.graph in
     let kept = c.refill_graph.ensures in
     let items = c.refill_items.ensures in
     let links = c.relabel_unless.auto.links in
@@ -150,8 +153,8 @@ invariant_of-self-2 c =
     )
     record {
       buses_room = omega (arith, v.buses_room, c.relabel_unless.ensures.room, found.room);
-      vertices_room = omega (arith, v.vertices_room, found.most_vertices, found.room, kept.most_vertices);
-      branches_room = omega (arith, v.branches_room, found.most_branches, kept.most_branches, live, items.most_offered);
+      vertices_room = omega (arith, v.vertices_room, most_vertices, found.room, kept.most_vertices);
+      branches_room = omega (arith, v.branches_room, most_branches, kept.most_branches, live, items.most_offered);
       kept_len = omega (arith, v.kept_len, live, keeps, items.most_offered);
       kept_ends = kept.kept_ends;
       touches_len = omega (arith, v.touches_len, touches, items.most_offered);
@@ -175,6 +178,8 @@ returns-clause-whole c =
     let s = c.self.inside in
     let v = c.self.invariant in
     let found = c.find_components.ensures in
+    let most_vertices = ap (λ (g : Graph). g.most_vertices) found.graph in
+    let most_branches = ap (λ (g : Graph). g.most_branches) found.graph in
     let kept = c.refill_graph.ensures in
     let items = c.refill_items.ensures in
     let rows = ap (λ (n : Network). n.rows) c.self.view_is ∙ c.requires.rows in
@@ -193,7 +198,7 @@ returns-clause-whole c =
     (omega (arith, items.most_meters, items.most_offered, candidates)))
     (labelled_is _ _ c.relabel_unless.ensures.buses c.relabel_unless.ensures.count (c.relabel_unless.ensures.room ∙ (v.buses_room ∙ nodes)))
     (grouped_is _ _ found.of_buses found.first_buses found.sizes found.energised found.absolute (found.room ∙ nodes))
-    (shape_is _ _ kept.vertices kept.ends (omega (arith, kept.most_vertices, found.most_vertices, v.vertices_room, nodes)) (omega (arith, kept.most_branches, found.most_branches, v.branches_room, branches, v.fewer, meters, candidates)))
+    (shape_is _ _ kept.vertices kept.ends (omega (arith, kept.most_vertices, most_vertices, v.vertices_room, nodes)) (omega (arith, kept.most_branches, most_branches, v.branches_room, branches, v.fewer, meters, candidates)))
     (items_are _ _ items.meters (items.most_meters ∙ meters))
     (items_are _ _ items.offered (items.most_offered ∙ omega (arith, v.fewer, meters, candidates)))
     (c.needed-self-inside.ensures.needed ∙ rw (found.sizes, found.energised, found.absolute, found.first_buses, count) refl)

@@ -1,0 +1,51 @@
+use Rattle.std.proofs.Common.{◌∙◌, sym, ap, take, arith}
+use Rattle.obs_network.proofs.FollowedLoops.{Meters-all, Meters-far, Meters-in_range, Meters-listed, Meters-near, Meters-read}
+use Rattle.obs_network.proofs.following.follow_meters.Goals as goal
+use Rattle.obs_network.proofs.following.follow_meters.Goals.{then-is_near, else-is_near}
+
+pub set_meter-requires-clause-in_range : goal.set_meter-requires-clause-in_range
+set_meter-requires-clause-in_range c =
+    let a = c.args in
+    let l = c.loop-m in
+    let e = c.count-m-end.ensures.count in
+    let low = c.loop-m-test.true in
+    let rows = take a.rows a.graph.now.ends in
+    let read = Meters-read rows a.change a.components.now a.graph.now a.meters.now a.offered.now a.live_meters.now c.requires.offered l.meters l.offered l.live_meters l.left l.m (omega (arith, e, low)) l.invariant in
+    Meters-in_range rows a.change a.components.now a.graph.now a.meters.now a.offered.now a.live_meters.now c.requires.offered l.m c.kind-touch.result c.followed-now.result (omega (arith, e, low))
+    (c.kind-touch.ensures.kind ∙ read) c.followed-now.ensures.touch c.requires.in_range
+
+pub loop-m-preserved : goal.loop-m-preserved
+loop-m-preserved c =
+    let a = c.args in
+    let l = c.loop-m in
+    let e = c.count-m-end.ensures.count in
+    let low = c.loop-m-test.true in
+    let rows = take a.rows a.graph.now.ends in
+    elim c.if-is_near.branch [
+      | then-is_near w ↦
+          let set = w.set_meter.ensures in
+          rw (w.meters-is, w.offered-is, w.live_meters-is, w.left-is)
+          (Meters-near rows a.change a.components.now a.graph.now a.meters.now a.offered.now a.live_meters.now c.requires.offered l.meters l.offered l.live_meters l.left l.m (omega (arith, e, low)) l.invariant
+          c.kind-touch.result w.followed-now.result c.kind-touch.ensures.kind w.followed-now.ensures.touch w.left_behind-left.result w.left_behind-left.ensures.fewer
+          w.set_meter.new.meters w.set_meter.new.offered w.set_meter.new.live_meters set.meters set.offered set.lists set.one_each set.components set.most_meters set.most_components)
+      | else-is_near w ↦
+          rw (w.meters-is, w.offered-is, w.live_meters-is, w.left-is)
+          (Meters-far rows a.change a.components.now a.graph.now a.meters.now a.offered.now a.live_meters.now c.requires.offered l.meters l.offered l.live_meters l.left l.m (omega (arith, e, low)) l.invariant
+          c.kind-touch.result c.kind-touch.ensures.kind (sym c.is_near.ensures.value ∙ w.if-is_near.false))
+    ]
+
+pub returns-clause-meters : goal.returns-clause-meters
+returns-clause-meters c =
+    let a = c.args in
+    let l = c.loop-m in
+    let e = c.count-m-end.ensures.count in
+    let f = c.loop-m-test.false in
+    Meters-all (take a.rows a.graph.now.ends) a.change a.components.now a.graph.now a.meters.now a.offered.now a.live_meters.now c.requires.offered l.meters l.offered l.live_meters l.left l.m (omega (arith, e, f)) l.invariant
+
+pub returns-clause-lists : goal.returns-clause-lists
+returns-clause-lists c =
+    let a = c.args in
+    let l = c.loop-m in
+    let e = c.count-m-end.ensures.count in
+    let f = c.loop-m-test.false in
+    Meters-listed (take a.rows a.graph.now.ends) a.change a.components.now a.graph.now a.meters.now a.offered.now a.live_meters.now c.requires.offered l.meters l.offered l.live_meters l.left l.m (omega (arith, e, f)) l.invariant
