@@ -1,3 +1,4 @@
+use Rattle.obs_exchange.proofs.Trails.{Follows-same}
 use Rattle.std.proofs.Common.{true, ◌<◌, length, set, sym, ◌∙◌, arith}
 use Rattle.obs_exchange.proofs.Beginning.{source_thawed}
 use Rattle.obs_exchange.proofs.Queued.{IsSearching-source, flag-kept, source_room}
@@ -26,3 +27,45 @@ spread-requires c =
             (flag-kept trail.marks c.args.m (omega (arith, r.end, s.sound.sources_low, s.marks_len)));
       };
     })
+
+pub is_marked-requires : goal.is_marked-requires
+is_marked-requires c = record { m = let s = c.requires.running.searching in omega (arith, c.requires.end, s.sound.sources_low, s.marks_len) }
+
+pub returns-then-is_marked-clause-running : goal.returns-then-is_marked-clause-running
+returns-then-is_marked-clause-running c = c.requires.running
+
+pub returns-then-is_marked-clause-found : goal.returns-then-is_marked-clause-found
+returns-then-is_marked-clause-found c = c.requires.done
+
+pub returns-then-is_marked-clause-follows : goal.returns-then-is_marked-clause-follows
+returns-then-is_marked-clause-follows c = Follows-same c.args.trail.now
+
+pub returns-then-not-is_source-clause-running : goal.returns-then-not-is_source-clause-running
+returns-then-not-is_source-clause-running c = c.requires.running
+
+pub returns-then-not-is_source-clause-found : goal.returns-then-not-is_source-clause-found
+returns-then-not-is_source-clause-found c = c.requires.done
+
+pub returns-then-not-is_source-clause-follows : goal.returns-then-not-is_source-clause-follows
+returns-then-not-is_source-clause-follows c = Follows-same c.args.trail.now
+
+pub returns-then-is_marked-clause-marked : goal.returns-then-is_marked-clause-marked
+returns-then-is_marked-clause-marked c = λ s. sym c.is_marked.ensures.marked ∙ c.if-is_marked.true
+
+pub is_source-requires-clause-first : goal.is_source-requires-clause-first
+is_source-requires-clause-first c = c.requires.first
+
+pub is_source-requires-clause-end : goal.is_source-requires-clause-end
+is_source-requires-clause-end c = c.requires.end
+
+pub push-requires-clause-x : goal.push-requires-clause-x
+push-requires-clause-x c = let s = c.requires.running.searching in omega (arith, c.requires.end, s.sound.sources_low, s.marks_len)
+
+pub returns-clause-running : goal.returns-clause-running
+returns-clause-running c = c.spread.ensures.running
+
+pub returns-clause-found : goal.returns-clause-found
+returns-clause-found c = c.spread.ensures.found
+
+pub returns-clause-same_room : goal.returns-clause-same_room
+returns-clause-same_room c = c.spread.ensures.same_room

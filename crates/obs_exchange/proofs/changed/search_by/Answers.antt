@@ -1,7 +1,8 @@
-use Rattle.std.proofs.Common.{◌≡◌, ◌∙◌, List, get_or, set, sym, ap}
+use Rattle.obs_assign.specs.Assignment.{StandsOver}
+use Rattle.std.proofs.Common.{subst, ◌≡◌, ◌∙◌, List, get_or, set, sym, ap, length, arith}
 use Rattle.obs_meter.specs.declared.Touch.{Touch}
 use Rattle.obs_meter.specs.declared.Touch.TheVariants.{Nothing}
-use Rattle.obs_exchange.specs.Found.{Work}
+use Rattle.obs_exchange.specs.Found.{Work, IsFound}
 use Rattle.obs_exchange.proofs.Changing.{set_back}
 use Rattle.obs_exchange.proofs.changed.search_by.Goals as goal
 
@@ -13,3 +14,42 @@ returns-clause-copied g c =
     let own : c.kind.result ≡ get_or old m Nothing = c.kind.ensures.kind ∙ ap (λ (l : List Touch). get_or l m Nothing) (sym c.requires.copied) in
     ap (λ (w : Work). w.touches) c.change-2.ensures.changed
     ∙ (ap (λ (l : List Touch). set l m c.kind.result) there ∙ (ap (λ (t : Touch). set (set old m c.args.touch) m t) own ∙ set_back old m c.args.touch))
+
+pub change-requires : goal.change-requires
+change-requires g c = record { m = omega (arith, c.requires.m, ap length c.requires.copied) }
+
+pub kind-requires : goal.kind-requires
+kind-requires g c = record { item = c.requires.m }
+
+pub run-found-requires-clause-begins : goal.run-found-requires-clause-begins
+run-found-requires-clause-begins g c = c.requires.begins
+
+pub run-found-requires-clause-noted : goal.run-found-requires-clause-noted
+run-found-requires-clause-noted g c =
+    rw (ap (λ (w : Work). w.touches) c.change.ensures.changed ∙ ap (λ (l : List Touch). set l c.args.m c.args.touch) c.requires.copied, ap (λ (w : Work). w.noted) c.change.ensures.changed) c.requires.noted
+
+pub returns-clause-found : goal.returns-clause-found
+returns-clause-found g c =
+    rw (ap (λ (w : Work). w.reached) c.change-2.ensures.changed)
+    (subst (λ (X : List Touch). IsFound c.args.g.now.ends X c.args.from c.args.a.now c.run-found.new.a c.run-found.new.self.reached c.run-found.result) (ap (λ (w : Work). w.touches) c.change.ensures.changed ∙ ap (λ (l : List Touch). set l c.args.m c.args.touch) c.requires.copied) c.run-found.ensures.found)
+
+pub returns-clause-stands : goal.returns-clause-stands
+returns-clause-stands g c = subst (λ (X : List Touch). StandsOver c.run-found.new.a c.args.g.now X) (ap (λ (w : Work). w.touches) c.change.ensures.changed ∙ ap (λ (l : List Touch). set l c.args.m c.args.touch) c.requires.copied) c.run-found.ensures.stands
+
+pub returns-clause-listed : goal.returns-clause-listed
+returns-clause-listed g c = λ is. rw (ap (λ (w : Work). w.reached) c.change-2.ensures.changed, ap (λ (w : Work). w.listed) c.change-2.ensures.changed) (c.run-found.ensures.listed is)
+
+pub returns-clause-noted : goal.returns-clause-noted
+returns-clause-noted g c = ap (λ (w : Work). w.noted) c.change-2.ensures.changed ∙ c.run-found.ensures.noted ∙ ap (λ (w : Work). w.noted) c.change.ensures.changed
+
+pub returns-clause-same_sizes : goal.returns-clause-same_sizes
+returns-clause-same_sizes g c = ap (λ (w : Work). w.sizes) c.change-2.ensures.changed ∙ c.run-found.ensures.same_sizes ∙ ap (λ (w : Work). w.sizes) c.change.ensures.changed
+
+pub returns-clause-tick : goal.returns-clause-tick
+returns-clause-tick g c = c.run-found.ensures.tick
+
+pub returns-clause-whole : goal.returns-clause-whole
+returns-clause-whole g c = c.run-found.ensures.whole
+
+pub returns-clause-same_room : goal.returns-clause-same_room
+returns-clause-same_room g c = c.run-found.ensures.same_room

@@ -1,4 +1,5 @@
-use Rattle.std.proofs.Common.{arith}
+use Rattle.obs_exchange.proofs.Trails.{Follows-same, Follows-then}
+use Rattle.std.proofs.Common.{arith, refl, sym, ◌∙◌}
 use Rattle.obs_exchange.proofs.Closing.{tail_low}
 use Rattle.obs_exchange.proofs.visit.spread.Goals as goal
 
@@ -17,3 +18,33 @@ pub loop-trail-smaller : goal.loop-trail-smaller
 loop-trail-smaller c = let l = c.loop-trail in let v = c.visit.ensures in
     let t = tail_low c.args.over.now c.visit.new.trail v.visiting.searching in
     rw c.advance.ensures.advanced (omega (arith, t, v.visiting.below, v.stays.head))
+
+pub loop-trail-init : goal.loop-trail-init
+loop-trail-init c = record { running = c.requires.running; follows = Follows-same c.args.trail.now; same_room = refl }
+
+pub visit-requires-clause-starred : goal.visit-requires-clause-starred
+visit-requires-clause-starred c = c.loop-trail.invariant.running.starred
+
+pub visit-requires-clause-classes : goal.visit-requires-clause-classes
+visit-requires-clause-classes c = c.loop-trail.invariant.running.classes
+
+pub visit-requires-clause-visiting : goal.visit-requires-clause-visiting
+visit-requires-clause-visiting c = record { searching = c.loop-trail.invariant.running.searching; below = c.waits.ensures.waits.0 c.loop-trail-test.true; at_head = sym c.next-m.ensures.next }
+
+pub returns-in-Some-clause-running : goal.returns-in-Some-clause-running
+returns-in-Some-clause-running c = record { searching = c.in-Some.ensures.visiting.searching; starred = c.in-Some.ensures.starred; classes = c.in-Some.ensures.classes }
+
+pub returns-in-Some-clause-follows : goal.returns-in-Some-clause-follows
+returns-in-Some-clause-follows c = Follows-then c.args.trail.now c.loop-trail.trail c.visit.new.trail c.loop-trail.invariant.follows c.in-Some.ensures.stays.follows
+
+pub returns-in-Some-clause-same_room : goal.returns-in-Some-clause-same_room
+returns-in-Some-clause-same_room c = c.in-Some.ensures.same_room ∙ c.loop-trail.invariant.same_room
+
+pub returns-clause-running : goal.returns-clause-running
+returns-clause-running c = c.loop-trail.invariant.running
+
+pub returns-clause-follows : goal.returns-clause-follows
+returns-clause-follows c = c.loop-trail.invariant.follows
+
+pub returns-clause-same_room : goal.returns-clause-same_room
+returns-clause-same_room c = c.loop-trail.invariant.same_room

@@ -72,7 +72,7 @@ pub find-found-requires-clause-sound : goal.find-found-requires-clause-sound
 find-found-requires-clause-sound g c = c.new.ensures.sound
 
 pub find-found-requires-clause-noted : goal.find-found-requires-clause-noted
-find-found-requires-clause-noted g c = 
+find-found-requires-clause-noted g c =
     let n = c.new.ensures in
     let most = ap (λ (w : Work). w.sizes.meters) c.self.view_is in
     let is : c.new.result.touches ≡ searched c.args.copied c.args.self.now.touches c.args.ms.now.touches = n.touches ∙ c.picked-ms.ensures.touches ∙ ap (λ (w : Work). searched c.args.copied w.touches c.args.ms.now.touches) c.self.view_is in
@@ -82,7 +82,7 @@ find-found-requires-clause-noted g c =
     }
 
 pub find-found-requires-clause-meters : goal.find-found-requires-clause-meters
-find-found-requires-clause-meters g c = 
+find-found-requires-clause-meters g c =
     let most = ap (λ (w : Work). w.sizes.meters) c.self.view_is in
     let is : c.new.result.touches ≡ searched c.args.copied c.args.self.now.touches c.args.ms.now.touches = c.new.ensures.touches ∙ c.picked-ms.ensures.touches ∙ ap (λ (w : Work). searched c.args.copied w.touches c.args.ms.now.touches) c.self.view_is in
     omega (arith, ap length is, most, c.requires.room.meters)
@@ -106,14 +106,14 @@ pub find-found-requires-clause-numbers : goal.find-found-requires-clause-numbers
 find-found-requires-clause-numbers g c = subst (λ (xs : List ℕ). AreNumbers xs) (sym c.deref.ensures.value) c.self.invariant.6
 
 pub slice_bounds-next_tried-count : goal.slice_bounds-next_tried-count
-slice_bounds-next_tried-count g c = 
+slice_bounds-next_tried-count g c =
     let ins = c.self.inside in
     let f = c.find-found in
     let path : length f.new.path ≡ length ins.path.items = f.auto.path ∙ ap length c.deref_mut-2.ensures.value in
     omega (arith, ap length (c.deref-in-Ok.ensures.value ∙ written_back ins.path.len f.new.path ins.path.items path ins.path.ok.0), c.in-Ok.ensures.bound)
 
 pub slice_bounds-grow-count : goal.slice_bounds-grow-count
-slice_bounds-grow-count g c = 
+slice_bounds-grow-count g c =
     let ins = c.self.inside in
     let f = c.find-found in
     let path : length f.new.path ≡ length ins.path.items = f.auto.path ∙ ap length c.deref_mut-2.ensures.value in
@@ -123,7 +123,7 @@ pub grow-m-requires-clause-stands : goal.grow-m-requires-clause-stands
 grow-m-requires-clause-stands g c = subst (λ (X : List Touch). StandsOver c.args.a.now c.args.g.now X) (sym (c.picked-ms.ensures.touches ∙ ap (λ (w : Work). searched c.args.copied w.touches c.args.ms.now.touches) c.self.view_is)) c.requires.stands
 
 pub grow-m-requires-clause-can : goal.grow-m-requires-clause-can
-grow-m-requires-clause-can g c = 
+grow-m-requires-clause-can g c =
     let n = c.new.ensures in
     let ins = c.self.inside in
     let f = c.find-found in
