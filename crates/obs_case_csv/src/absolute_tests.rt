@@ -1,14 +1,15 @@
-use super::fault_tests::fault_in;
+use super::fault_tests::{fault_in, is_fault_of};
 use super::{RowFault, Table, read_table, read_tables};
 use obs_case::{Case, Kind};
+use std::alloc::Global;
 
 // Whether a node is there with these flags.
 fn has_node(case: &Case, name: &[u8], source: bool, absolute: bool) -> bool {
     match case.find_node(name) {
-        Some(at) => case
-            .nodes()
-            .get(at as usize)
-            .is_some_and(|node| node.source == source && node.absolute == absolute),
+        Some(at) => match case.nodes().get(at as usize) {
+            Some(node) => node.source == source && node.absolute == absolute,
+            None => false,
+        },
         None => false,
     }
 }
@@ -38,19 +39,20 @@ const MARKED: &[(&[u8], bool, bool)] = &[
     (b"node,source,absolutely\na,1,1\nb,0,1\n", false, false),
 ];
 
-// In each table the node a is a source, and the node b isn't.
+// Whether a table has two nodes, of which a is a source and b isn't, with these marks.
+fn has_marks(alloc: Global, bytes: &[u8], a: bool, b: bool) -> bool {
+    let mut case = Case::new(alloc);
+    read_table(alloc, &mut case, Table::Nodes, bytes).is_ok()
+        && case.nodes().len() == 2
+        && has_node(&case, b"a", true, a)
+        && has_node(&case, b"b", false, b)
+}
+
 #[test]
 fn nodes_are_marked_under_the_column_absolute(rt: HostRuntime) {
     for case in MARKED {
         let (bytes, a, b) = *case;
-        let mut case = Case::new(rt.alloc());
-        assert_eq!(rt;
-            read_table(rt.alloc(), &mut case, Table::Nodes, bytes),
-            Ok(())
-        );
-        assert_eq!(rt; case.nodes().len(), 2);
-        assert!(rt; has_node(&case, b"a", true, a));
-        assert!(rt; has_node(&case, b"b", false, b));
+        assert!(rt; has_marks(rt.alloc(), bytes, a, b));
     }
 }
 
@@ -95,10 +97,7 @@ const FAULTS: &[(&[u8], u32, RowFault)] = &[
 fn faults_of_the_column_absolute(rt: HostRuntime) {
     for case in FAULTS {
         let (bytes, row, code) = *case;
-        assert_eq!(rt;
-            fault_in(rt.alloc(), Table::Nodes, bytes),
-            Some((Table::Nodes, row, code))
-        );
+        assert!(rt; is_fault_of(rt.alloc(), Table::Nodes, bytes, row, code));
     }
 }
 
@@ -130,31 +129,44 @@ fn only_nodes_have_the_column_absolute(rt: HostRuntime) {
     }
 }
 
+// Whether a case has one meter, out of service, and it measures the angle at the second node.
+fn has_angle_meter(case: &Case) -> bool {
+    case.meters().len() == 1
+        && match case.meters().first() {
+            Some(meter) => meter.kind == Kind::Angle && meter.at == 1 && !meter.inservice,
+            None => false,
+        }
+}
+
+// Whether a case has one candidate, and it measures the angle at the second node.
+fn has_angle_candidate(case: &Case) -> bool {
+    case.candidates().len() == 1
+        && match case.candidates().first() {
+            Some(candidate) => candidate.kind == Kind::Angle && candidate.at == 1,
+            None => false,
+        }
+}
+
+fn are_angles_read(alloc: Global) -> bool {
+    let nodes = b"node,source,absolute\na,1,1\nb,0,0\n";
+    let switches = b"switch,from,to,closed\n";
+    let branches = b"branch,from,to,inservice\nL1,a,b,1\n";
+    let meters = b"meter,kind,at,inservice\ng1,angle,b,0\n";
+    let candidates = b"candidate,kind,at,price\nc1,angle,b,4\n".as_slice();
+    match read_tables(alloc, nodes, switches, branches, meters, Some(candidates)) {
+        Ok(case) => {
+            has_angle_meter(&case)
+                && has_angle_candidate(&case)
+                && has_node(&case, b"a", true, true)
+                && has_node(&case, b"b", false, false)
+        }
+        Err(_) => false,
+    }
+}
+
 #[test]
 fn angles_stand_at_nodes(rt: HostRuntime) {
-    let read = read_tables(
-        rt.alloc(),
-        b"node,source,absolute\na,1,1\nb,0,0\n",
-        b"switch,from,to,closed\n",
-        b"branch,from,to,inservice\nL1,a,b,1\n",
-        b"meter,kind,at,inservice\ng1,angle,b,0\n",
-        Some(b"candidate,kind,at,price\nc1,angle,b,4\n"),
-    );
-    let Ok(case) = read else {
-        assert!(rt; false, "the tables are a case");
-        return;
-    };
-    assert_eq!(rt; case.meters().len(), 1);
-    assert!(rt;
-        case.meters().iter().all(|meter| meter.kind == Kind::Angle
-            && meter.at == 1
-            && !meter.inservice)
-    );
-    assert_eq!(rt; case.candidates().len(), 1);
-    assert!(rt;
-        case.candidates().iter().all(|candidate| candidate.kind == Kind::Angle && candidate.at == 1)
-    );
-    assert!(rt; has_node(&case, b"a", true, true) && has_node(&case, b"b", false, false));
+    assert!(rt; are_angles_read(rt.alloc()));
 }
 
 const ANGLE_FAULTS: &[(Table, &[u8], RowFault)] = &[
@@ -189,6 +201,6 @@ const ANGLE_FAULTS: &[(Table, &[u8], RowFault)] = &[
 fn faults_of_angles(rt: HostRuntime) {
     for case in ANGLE_FAULTS {
         let (table, bytes, code) = *case;
-        assert_eq!(rt; fault_in(rt.alloc(), table, bytes), Some((table, 1, code)));
+        assert!(rt; is_fault_of(rt.alloc(), table, bytes, 1, code));
     }
 }

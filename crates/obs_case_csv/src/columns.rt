@@ -154,6 +154,16 @@ pub(crate) fn places_in(table: Table, header: &ByteRecord) -> Result<Places, Row
     }
 }
 
+// The field at the place of the column that a table may have; `0` at no place.
+fn further_at<'a>(row: &'a ByteRecord, place: Option<usize>) -> Option<&'a [u8]>
+    ensures field { option_map (λ f. f.now) result ≡ field_or_0 (fields_of row.now) place }
+{
+    match place {
+        Some(place) => row.get(place),
+        None => Some(b"0".as_slice()),
+    }
+}
+
 // The fields of a record at these places; None where one is missing.
 pub(crate) fn fields_at<'a>(row: &'a ByteRecord, places: &Places) -> Option<Fields<'a>>
     ensures short { is_none result ≡ lacks_field (fields_of row.now) places.now }
@@ -163,13 +173,20 @@ pub(crate) fn fields_at<'a>(row: &'a ByteRecord, places: &Places) -> Option<Fiel
     ensures fourth { IfSome result (λ f. field_at (fields_of row.now) places.now.fourth ≡ Some f.fourth.now) }
     ensures further { IfSome result (λ f. field_or_0 (fields_of row.now) places.now.further ≡ Some f.further.now) }
 {
-    let own = row.get(places.own)?;
-    let second = row.get(places.second)?;
-    let third = row.get(places.third)?;
-    let fourth = row.get(places.fourth)?;
-    let further = match places.further {
-        Some(place) => row.get(place)?,
-        None => b"0".as_slice(),
+    let Some(own) = row.get(places.own) else {
+        return None;
+    };
+    let Some(second) = row.get(places.second) else {
+        return None;
+    };
+    let Some(third) = row.get(places.third) else {
+        return None;
+    };
+    let Some(fourth) = row.get(places.fourth) else {
+        return None;
+    };
+    let Some(further) = further_at(row, places.further) else {
+        return None;
     };
     Some(Fields {
         own,

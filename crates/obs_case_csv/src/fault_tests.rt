@@ -45,6 +45,20 @@ pub(crate) fn fault_in(
     }
 }
 
+// Whether this is the fault of a table among the others.
+pub(crate) fn is_fault_of(
+    alloc: Global,
+    table: Table,
+    bytes: &[u8],
+    row: u32,
+    code: RowFault,
+) -> bool {
+    match fault_in(alloc, table, bytes) {
+        Some(found) => found.0 == table && found.1 == row && found.2 == code,
+        None => false,
+    }
+}
+
 const FAULTS: &[(Table, &[u8], u32, RowFault)] = &[
     (Table::Nodes, b"", 0, RowFault::NoHeader),
     (Table::Nodes, b"node\na\n", 0, RowFault::ColumnMissing),
@@ -147,10 +161,7 @@ const FAULTS: &[(Table, &[u8], u32, RowFault)] = &[
 fn each_fault_comes_where_it_is(rt: HostRuntime) {
     for case in FAULTS {
         let (table, bytes, row, code) = *case;
-        assert_eq!(rt;
-            fault_in(rt.alloc(), table, bytes),
-            Some((table, row, code))
-        );
+        assert!(rt; is_fault_of(rt.alloc(), table, bytes, row, code));
     }
 }
 
@@ -253,10 +264,7 @@ const TABLE_FAULTS: &[(Table, &[u8], u32, RowFault)] = &[
 fn each_fault_of_a_row_comes_for_each_table(rt: HostRuntime) {
     for case in TABLE_FAULTS {
         let (table, bytes, row, code) = *case;
-        assert_eq!(rt;
-            fault_in(rt.alloc(), table, bytes),
-            Some((table, row, code))
-        );
+        assert!(rt; is_fault_of(rt.alloc(), table, bytes, row, code));
     }
 }
 
@@ -291,34 +299,35 @@ fn faults_become_input_faults(rt: HostRuntime) {
     assert!(rt; TableEnd::NoMemory.fault().is_none());
 }
 
+// Whether the first fault of these tables, among others that have faults too, is this one.
+fn is_first(
+    alloc: Global,
+    nodes: &[u8],
+    switches: &[u8],
+    table: Table,
+    row: u32,
+    code: RowFault,
+) -> bool {
+    match read_tables(alloc, nodes, switches, b"", b"meter\n", Some(b"")) {
+        Err(end) => end == TableEnd::Fault(TableFault { table, row, code }),
+        Ok(_) => false,
+    }
+}
+
 #[test]
 fn the_first_table_with_a_fault_is_named(rt: HostRuntime) {
-    let nodes = b"node,source\na,1\na,1\n";
-    let switches = b"switch,from,to\n";
-    let end = read_tables(rt.alloc(), nodes, switches, b"", b"meter\n", Some(b""));
-    let at = match end {
-        Err(TableEnd::Fault(fault)) => Some(fault),
-        _ => None,
-    };
-    assert_eq!(rt;
-        at,
-        Some(TableFault {
-            table: Table::Nodes,
-            row: 2,
-            code: RowFault::NameTwice
-        })
-    );
-    let end = read_tables(rt.alloc(), NODES, switches, b"", b"meter\n", Some(b""));
-    let at = match end {
-        Err(TableEnd::Fault(fault)) => Some(fault),
-        _ => None,
-    };
-    assert_eq!(rt;
-        at,
-        Some(TableFault {
-            table: Table::Switches,
-            row: 0,
-            code: RowFault::ColumnMissing
-        })
+    let nodes = b"node,source\na,1\na,1\n".as_slice();
+    let switches = b"switch,from,to\n".as_slice();
+    let alloc = rt.alloc();
+    assert!(rt; is_first(alloc, nodes, switches, Table::Nodes, 2, RowFault::NameTwice));
+    assert!(rt;
+        is_first(
+            alloc,
+            NODES,
+            switches,
+            Table::Switches,
+            0,
+            RowFault::ColumnMissing
+        )
     );
 }

@@ -19,45 +19,53 @@ const TABLES: &[(&[u8], usize, &[u8])] = &[
     (b"node,source\n", 0, b"node"),
 ];
 
+// Whether a table of nodes has so many rows, and a row of that name where it has any.
+fn has_rows(alloc: Global, bytes: &[u8], count: usize, last: &[u8]) -> bool {
+    let mut case = Case::new(alloc);
+    read_table(alloc, &mut case, Table::Nodes, bytes).is_ok()
+        && case.nodes().len() == count
+        && case.find_node(last).is_some() == (count > 0)
+}
+
 #[test]
 fn rows_are_what_the_reader_gives(rt: HostRuntime) {
     for case in TABLES {
         let (bytes, count, last) = *case;
-        let mut case = Case::new(rt.alloc());
-        assert_eq!(rt;
-            read_table(rt.alloc(), &mut case, Table::Nodes, bytes),
-            Ok(())
-        );
-        assert_eq!(rt; case.nodes().len(), count);
-        assert_eq!(rt; case.find_node(last).is_some(), count > 0);
+        assert!(rt; has_rows(rt.alloc(), bytes, count, last));
+    }
+}
+
+// Whether a case has one node, one meter and nothing else.
+fn has_one_meter(case: &Case) -> bool {
+    case.nodes().len() == 1
+        && case.meters().len() == 1
+        && case.switches().is_empty()
+        && case.branches().is_empty()
+        && case.candidates().is_empty()
+}
+
+// Whether a case's first meter has this name, and measures the injection at the first node.
+fn has_injection(case: &Case, name: &[u8]) -> bool {
+    case.find_meter(name) == Some(0)
+        && match case.meters().first() {
+            Some(meter) => meter.kind == Kind::Injection && meter.at == 0,
+            None => false,
+        }
+}
+
+fn is_read_without_candidates(alloc: Global) -> bool {
+    let nodes = b"node,source\na,1\n";
+    let branches = b"branch,from,to,inservice\n";
+    let meters = b"meter,kind,at,inservice\ni1,injection,a,1\n";
+    match read_tables(alloc, nodes, SWITCHES, branches, meters, None) {
+        Ok(case) => has_one_meter(&case) && has_injection(&case, b"i1"),
+        Err(_) => false,
     }
 }
 
 #[test]
 fn tables_that_are_not_given_are_empty(rt: HostRuntime) {
-    let meters = b"meter,kind,at,inservice\ni1,injection,a,1\n";
-    let read = read_tables(
-        rt.alloc(),
-        b"node,source\na,1\n",
-        SWITCHES,
-        b"branch,from,to,inservice\n",
-        meters,
-        None,
-    );
-    let Ok(case) = read else {
-        assert!(rt; false, "the tables are a case");
-        return;
-    };
-    assert_eq!(rt; case.nodes().len(), 1);
-    assert_eq!(rt; case.meters().len(), 1);
-    assert_eq!(rt; case.find_meter(b"i1"), Some(0));
-    assert!(rt;
-        case.meters()
-            .iter()
-            .all(|meter| meter.kind == Kind::Injection && meter.at == 0)
-    );
-    assert!(rt; case.switches().is_empty() && case.branches().is_empty());
-    assert!(rt; case.candidates().is_empty());
+    assert!(rt; is_read_without_candidates(rt.alloc()));
 }
 
 fn append(rt: &impl Abort, text: &mut Vec<u8>, bytes: &[u8]) {

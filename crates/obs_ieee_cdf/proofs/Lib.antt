@@ -1,3 +1,4 @@
+pub mod EndLemmas
 pub mod CaseLemmas
 pub mod EndedLemmas
 pub mod FileLemmas

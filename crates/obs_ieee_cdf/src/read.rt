@@ -51,6 +51,26 @@ pub fn add_tables(
     }
 }
 
+// Fills an empty case with a file and its tables.
+fn fill_case(
+    alloc: Global,
+    case: &mut Case,
+    cdf: &[u8],
+    meters: &[u8],
+    candidates: Option<&[u8]>,
+) -> Result<(), CdfEnd>
+    requires empty { case.old ≡ no_rows }
+    requires few { length cdf.now ≤ most_file_bytes }
+    ensures read { OnOk result
+        (case_in cdf.now meters.now (option_map (λ bytes. bytes.now) candidates.entry) ≡ Ok case.new) }
+    ensures refused { IfErr result
+        (EndsCase (case_in cdf.now meters.now (option_map (λ bytes. bytes.now) candidates.entry))) }
+{
+    add_file(case, cdf)?;
+    add_tables(alloc, case, meters, candidates)?;
+    Ok(())
+}
+
 /// The case that a file in the IEEE Common Data Format is, with a table of meters and, where it is
 /// given, a table of candidates. Nodes are named by their numbers, branches `L1`, `L2`, and so on.
 /// There are no switches. Refuses with the first fault from the top of the file, then with those of
@@ -68,7 +88,6 @@ pub fn read_cdf(
         (EndsCase (case_in cdf.now meters.now (option_map (λ bytes. bytes.now) candidates.entry))) }
 {
     let mut case = Case::new(alloc);
-    add_file(&mut case, cdf)?;
-    add_tables(alloc, &mut case, meters, candidates)?;
+    fill_case(alloc, &mut case, cdf, meters, candidates)?;
     Ok(case)
 }

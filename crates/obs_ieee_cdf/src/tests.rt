@@ -1,7 +1,7 @@
 // Files that are read, the first fault of those that are no case, and what is borrowed from a file.
 ghost use Rattle.std.specs.Prelude.{◌≤◌, length};
 
-use crate::{CdfEnd, CdfFault, branch_fields, bus_fields, read_cdf, sections};
+use crate::{CdfEnd, CdfFault, Sections, branch_fields, bus_fields, read_cdf, sections};
 use obs_case::Case;
 use obs_case_csv::{RowFault, Table, TableFault};
 use obs_text::{InputFault, MOST_FILE_BYTES};
@@ -92,15 +92,29 @@ fn read(alloc: Global, cdf: &[u8], meters: &[u8]) -> Result<Case, CdfEnd> {
     read_cdf(alloc, front(cdf, MOST_FILE_BYTES), meters, Some(candidates))
 }
 
+// How a file ends with these tables.
+fn end_with(alloc: Global, cdf: &[u8], meters: &[u8], candidates: Option<&[u8]>) -> Option<CdfEnd> {
+    read_cdf(alloc, front(cdf, MOST_FILE_BYTES), meters, candidates).err()
+}
+
 // How a file ends whose meters are fine.
 fn end_of(alloc: Global, cdf: &[u8]) -> Option<CdfEnd> {
-    read_cdf(
-        alloc,
-        front(cdf, MOST_FILE_BYTES),
-        b"meter,kind,at,inservice\n",
-        None,
-    )
-    .err()
+    end_with(alloc, cdf, b"meter,kind,at,inservice\n", None)
+}
+
+// These parts of a file, joined.
+fn joined(alloc: Global, parts: &[&[u8]]) -> Result<Vec<u8>, Fail> {
+    let mut file = Vec::new(alloc);
+    for part in parts {
+        file.extend_from_slice(part)?;
+    }
+    Ok(file)
+}
+
+// How a file of these parts ends.
+fn end_of_parts(alloc: Global, parts: &[&[u8]]) -> Result<Option<CdfEnd>, Fail> {
+    let file = joined(alloc, parts)?;
+    Ok(end_of(alloc, file.as_slice()))
 }
 
 fn has_node(case: &Case, at: usize, name: &[u8], source: bool) -> bool {
@@ -130,29 +144,48 @@ fn has_sizes(case: &Case, nodes: usize, branches: usize, meters: usize) -> bool 
         && case.candidates().len() == 1
 }
 
-#[test]
-fn usual_case(rt: HostRuntime) -> Result<(), Fail> {
-    let case = read(rt.alloc(), ieee14(), METERS).ok().ok_or("no case")?;
-    assert!(rt; has_sizes(&case, 14, 20, 2));
-    assert!(rt; has_node(&case, 0, b"1", true));
-    assert!(rt; has_node(&case, 3, b"4", false));
-    assert!(rt; has_node(&case, 7, b"8", true));
-    assert!(rt; has_branch(&case, 0, b"L1", 0, 1));
-    assert!(rt; has_branch(&case, 9, b"L10", 4, 5));
-    assert!(rt; has_branch(&case, 19, b"L20", 12, 13));
-    Ok(())
+fn has_usual_nodes(case: &Case) -> bool {
+    has_node(case, 0, b"1", true) && has_node(case, 3, b"4", false) && has_node(case, 7, b"8", true)
+}
+
+fn has_usual_branches(case: &Case) -> bool {
+    has_branch(case, 0, b"L1", 0, 1)
+        && has_branch(case, 9, b"L10", 4, 5)
+        && has_branch(case, 19, b"L20", 12, 13)
+}
+
+fn is_usual_case(alloc: Global) -> bool {
+    match read(alloc, ieee14(), METERS) {
+        Ok(case) => {
+            has_sizes(&case, 14, 20, 2) && has_usual_nodes(&case) && has_usual_branches(&case)
+        }
+        Err(_) => false,
+    }
 }
 
 #[test]
-fn all_columns(rt: HostRuntime) -> Result<(), Fail> {
+fn usual_case(rt: HostRuntime) {
+    assert!(rt; is_usual_case(rt.alloc()));
+}
+
+fn has_full_rows(case: &Case) -> bool {
+    has_node(case, 0, b"1", true)
+        && has_node(case, 1, b"7", false)
+        && has_branch(case, 0, b"L1", 1, 0)
+        && has_branch(case, 1, b"L2", 1, 1)
+}
+
+fn is_full_case(alloc: Global) -> bool {
     let meters = b"inservice,at,kind,meter\n1,L2,flow,m\n";
-    let case = read(rt.alloc(), full(), meters).ok().ok_or("no case")?;
-    assert!(rt; has_sizes(&case, 2, 2, 1));
-    assert!(rt; has_node(&case, 0, b"1", true));
-    assert!(rt; has_node(&case, 1, b"7", false));
-    assert!(rt; has_branch(&case, 0, b"L1", 1, 0));
-    assert!(rt; has_branch(&case, 1, b"L2", 1, 1));
-    Ok(())
+    match read(alloc, full(), meters) {
+        Ok(case) => has_sizes(&case, 2, 2, 1) && has_full_rows(&case),
+        Err(_) => false,
+    }
+}
+
+#[test]
+fn all_columns(rt: HostRuntime) {
+    assert!(rt; is_full_case(rt.alloc()));
 }
 
 // What is met at the end of a file that is cut after so many bytes.
@@ -266,31 +299,21 @@ fn branch_case(i: u8) -> (&'static [u8], Option<CdfFault>) {
     }
 }
 
-// A file of these bus lines, branch lines and what follows them.
-fn file_of(alloc: Global, buses: &[u8], branches: &[u8]) -> Result<Vec<u8>, Fail> {
-    let mut cdf = Vec::from_slice(alloc, b"BUS DATA\n")?;
-    cdf.extend_from_slice(buses)?;
-    cdf.extend_from_slice(b"-999\nBRANCH DATA\n")?;
-    cdf.extend_from_slice(branches)?;
-    Ok(cdf)
-}
-
 #[test]
 fn branch_faults(rt: HostRuntime) -> Result<(), Fail> {
-    let buses = b"12345                    3\n   0                     0\n";
+    let head =
+        b"BUS DATA\n12345                    3\n   0                     0\n-999\nBRANCH DATA\n".as_slice();
     for i in 0..7u8 {
         let (branches, fault) = branch_case(i);
-        let cdf = file_of(rt.alloc(), buses, branches)?;
-        assert!(rt; end_of(rt.alloc(), cdf.as_slice()) == fault.map(CdfEnd::Cdf));
+        assert!(rt; end_of_parts(rt.alloc(), &[head, branches])? == fault.map(CdfEnd::Cdf));
     }
     Ok(())
 }
 
 #[test]
 fn a_number_again(rt: HostRuntime) -> Result<(), Fail> {
-    let mut cdf = Vec::from_slice(rt.alloc(), front(ieee14(), 65))?;
-    cdf.extend_from_slice(b"   1                     2\n-999\n")?;
-    assert!(rt; end_of(rt.alloc(), cdf.as_slice()) == Some(CdfEnd::Cdf(CdfFault::BusTwice(4))));
+    let parts = [front(ieee14(), 65), b"   1                     2\n-999\n"];
+    assert!(rt; end_of_parts(rt.alloc(), &parts)? == Some(CdfEnd::Cdf(CdfFault::BusTwice(4))));
     Ok(())
 }
 
@@ -304,21 +327,28 @@ fn last_case(i: u8) -> (&'static [u8], Option<CdfFault>) {
     }
 }
 
+// Adds a file with one bus, 20,000 branch lines and what follows them.
+fn add_full(file: &mut Vec<u8>, last: &[u8]) -> Result<(), Fail> {
+    file.extend_from_slice(b"BUS DATA\n   1                     3\n-999\nBRANCH DATA\n")?;
+    for _ in 0..20_000 {
+        file.extend_from_slice(b"   1    1\n")?;
+    }
+    file.extend_from_slice(last)?;
+    Ok(())
+}
+
+// How that file ends.
+fn end_of_full(alloc: Global, last: &[u8]) -> Result<Option<CdfEnd>, Fail> {
+    let mut file = Vec::new(alloc);
+    add_full(&mut file, last)?;
+    Ok(end_of(alloc, file.as_slice()))
+}
+
 #[test]
 fn a_branch_too_many(rt: HostRuntime) -> Result<(), Fail> {
-    let mut branches = Vec::new(rt.alloc());
-    for _ in 0..20_000 {
-        branches.extend_from_slice(b"   1    1\n")?;
-    }
     for i in 0..4u8 {
         let (last, fault) = last_case(i);
-        let mut cdf = file_of(
-            rt.alloc(),
-            b"   1                     3\n",
-            branches.as_slice(),
-        )?;
-        cdf.extend_from_slice(last)?;
-        assert!(rt; end_of(rt.alloc(), cdf.as_slice()) == fault.map(CdfEnd::Cdf));
+        assert!(rt; end_of_full(rt.alloc(), last)? == fault.map(CdfEnd::Cdf));
     }
     Ok(())
 }
@@ -330,62 +360,73 @@ fn table_end(table: Table, row: u32, code: RowFault) -> Option<CdfEnd> {
 
 #[test]
 fn faults_of_tables(rt: HostRuntime) {
-    let meters = b"meter,kind,at,inservice\nF1,flow,L21,1\n";
-    let end = read(rt.alloc(), ieee14(), meters).err();
+    let meters = b"meter,kind,at,inservice\nF1,flow,L21,1\n".as_slice();
+    let candidates = b"candidate,kind,at,price\nC1,zero,1,5\n".as_slice();
+    let end = end_with(rt.alloc(), ieee14(), meters, Some(candidates));
     assert!(rt; end == table_end(Table::Meters, 1, RowFault::UnknownPlace));
-    let end = read(rt.alloc(), front(ieee14(), 641), meters).err();
+    let end = end_with(rt.alloc(), front(ieee14(), 641), meters, Some(candidates));
     assert!(rt; end == Some(CdfEnd::Cdf(CdfFault::BranchSectionOpen)));
     let candidates = b"candidate,kind,at,price\nC1,zero,15,5\n".as_slice();
-    let end = read_cdf(
-        rt.alloc(),
-        front(ieee14(), MOST_FILE_BYTES),
-        METERS,
-        Some(candidates),
-    )
-    .err();
+    let end = end_with(rt.alloc(), ieee14(), METERS, Some(candidates));
     assert!(rt; end == table_end(Table::Candidates, 1, RowFault::UnknownPlace));
 }
 
+fn is_between(text: &[u8], front: &[u8], back: &[u8]) -> bool {
+    text.starts_with(front) && text.ends_with(back)
+}
+
+fn are_full(parts: &Sections) -> bool {
+    parts.buses_from == 4 && parts.branches_from == 11 && parts.end.is_none()
+}
+
+fn are_open(parts: &Sections) -> bool {
+    parts.buses.len() == 27
+        && parts.buses_from == 3
+        && parts.branches.is_empty()
+        && parts.branches_from == 0
+        && parts.end == Some(CdfFault::BusSectionOpen)
+}
+
 #[test]
-fn borrowed_parts(rt: HostRuntime) {
+fn borrowed_sections(rt: HostRuntime) {
     let parts = sections(front(full(), MOST_FILE_BYTES));
-    assert!(rt;
-        parts.buses.starts_with(b"   1 Bus 1     HV") && parts.buses.ends_with(b"\n   \r\n")
-    );
-    assert!(rt; parts.buses_from == 4);
-    assert!(rt;
-        parts.branches.starts_with(b"   7    1") && parts.branches.ends_with(b"0       0.0\r\n")
-    );
-    assert!(rt; parts.branches_from == 11 && parts.end.is_none());
-    let open = sections(front(ieee14(), 65));
-    assert!(rt; open.buses.len() == 27 && open.buses_from == 3);
-    assert!(rt; open.branches.is_empty() && open.branches_from == 0);
-    assert!(rt; open.end == Some(CdfFault::BusSectionOpen));
+    assert!(rt; is_between(parts.buses, b"   1 Bus 1     HV", b"\n   \r\n"));
+    assert!(rt; is_between(parts.branches, b"   7    1", b"0       0.0\r\n"));
+    assert!(rt; are_full(&parts));
+    assert!(rt; are_open(&sections(front(ieee14(), 65))));
+}
+
+#[test]
+fn borrowed_fields(rt: HostRuntime) {
     let bus = bus_fields(b"   1 Bus 1     HV  1  1  3");
     assert!(rt; bus.number == b"1".as_slice() && bus.kind == b"3".as_slice());
     let branch = branch_fields(b"   1    2  1  1 1 0");
     assert!(rt; branch.from == b"1".as_slice() && branch.to == b"2".as_slice());
-    let fault = CdfFault::BusTwice(4);
-    assert!(rt; fault.code() == 7 && fault.line() == 4 && fault.name() == b"BusTwice".as_slice());
+}
+
+// A fault, and its line, number and name.
+fn fault_case(i: u8) -> (CdfFault, u32, u32, &'static [u8]) {
+    match i {
+        0 => (CdfFault::NoBranchSection, 0, 3, b"NoBranchSection"),
+        1 => (CdfFault::BusTwice(4), 4, 7, b"BusTwice"),
+        _ => (CdfFault::TooMany(20_005), 20_005, 9, b"TooMany"),
+    }
 }
 
 #[test]
 fn faults_become_input_faults(rt: HostRuntime) {
-    for (fault, line, number, name) in [
-        (
-            CdfFault::NoBranchSection,
-            0,
-            3,
-            b"NoBranchSection".as_slice(),
-        ),
-        (CdfFault::BusTwice(4), 4, 7, b"BusTwice".as_slice()),
-        (CdfFault::TooMany(20_005), 20_005, 9, b"TooMany".as_slice()),
-    ] {
+    for i in 0..3u8 {
+        let (fault, line, number, name) = fault_case(i);
         let given = InputFault::from(fault);
         assert!(rt; given.part == b"cdf".as_slice() && given.name == name);
         assert!(rt; given.place == line && given.code == number);
+        assert!(rt; fault.line() == line && fault.code() == number && fault.name() == name);
         assert!(rt; CdfEnd::Cdf(fault).fault() == Some(given));
     }
+}
+
+#[test]
+fn ends_have_faults(rt: HostRuntime) {
     let table = TableFault {
         table: Table::Meters,
         row: 1,

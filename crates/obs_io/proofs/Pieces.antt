@@ -20,9 +20,11 @@ grown c old new into n front added piece =
     let same : new.items ≡ old.items ++ take n (drop (vec_len old) c) = added ∙ ap (λ t. old.items ++ t) bytes in
     let lengths : length new.items ≡ length old.items + length (take n (drop (vec_len old) c)) = ap length same ∙ length-append old.items (take n (drop (vec_len old) c)) in
     let to : vec_len new ≡ length new.items = new.ok.0 in
-    let count : vec_len new ≡ vec_len old + n = omega (arith, lengths, long, from, to) in
-    (same ∙ ap (λ t. t ++ take n (drop (vec_len old) c)) front.0 ∙ sym (take-add (vec_len old) n c) ∙ ap (λ k. take k c) (sym count),
-     count, omega (arith, count, front.1, within))
+    let count : vec_len new ≡ vec_len old + n = omega (arith, lengths, long, from, to) in (
+      same ∙ ap (λ t. t ++ take n (drop (vec_len old) c)) front.0 ∙ sym (take-add (vec_len old) n c) ∙ ap (λ k. take k c) (sym count),
+      count,
+      omega (arith, count, front.1, within),
+    )
 
 -- one piece more: a longer front
 pub front_grows : (content now : Option (List ℕ)) (old new : Vec ℕ Global) (n : ℕ) → now ≡ content → IsFront content old → AddsPart now old.items new.items n → IsFront content new

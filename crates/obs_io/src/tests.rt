@@ -74,10 +74,7 @@ fn files_in_memory_are_read_whole(rt: HostRuntime) -> Result<(), Fail> {
         (3, 4, Err(ReadEnd::Failed)),
     ];
     for (word, limit, end) in ends {
-        assert!(rt;
-            is_read(rt.alloc(), &mut files, word, limit, end),
-            "at {word}"
-        );
+        assert!(rt; is_read(rt.alloc(), &mut files, word, limit, end));
     }
     Ok(())
 }
@@ -109,20 +106,18 @@ const PATH: &str = "obs_io_pieces.txt";
 // Longer than what is asked for at once.
 const LONG: usize = 150_000;
 
-fn long_bytes(alloc: Global) -> Result<Vec<u8>, Fail> {
-    let mut bytes = Vec::new(alloc);
+fn add_long(bytes: &mut Vec<u8>) -> Result<(), Fail> {
     for at in 0..LONG {
         bytes.push((at % 251) as u8)?;
     }
-    Ok(bytes)
+    Ok(())
 }
 
-fn two_paths(alloc: Global) -> Result<Vec<String>, Fail> {
-    let mut words = Vec::new(alloc);
+fn add_paths(alloc: Global, words: &mut Vec<String>) -> Result<(), Fail> {
     for word in [PATH, "no_such_file.txt"] {
         words.push(String::from_str(alloc, word)?)?;
     }
-    Ok(words)
+    Ok(())
 }
 
 // Whether the first of two files has these bytes, and the second isn't there.
@@ -134,13 +129,21 @@ fn are_read(alloc: Global, files: &mut impl Files, bytes: &[u8]) -> bool {
         && files.part(9, 0, &mut into).is_err()
 }
 
+// The same of a file that is written for it.
+fn are_read_back(rt: &HostRuntime, words: &[String], bytes: &[u8]) -> Result<bool, Fail> {
+    fs::write(rt, PATH, bytes)?;
+    let read = are_read(rt.alloc(), &mut DirFiles::new(rt, words), bytes);
+    fs::remove_file(rt, PATH)?;
+    Ok(read)
+}
+
 #[test]
 fn a_real_file_is_read_whole(rt: HostRuntime) -> Result<(), Fail> {
-    let words = two_paths(rt.alloc())?;
-    let bytes = long_bytes(rt.alloc())?;
-    fs::write(&rt, PATH, bytes.as_slice())?;
-    let read = are_read(rt.alloc(), &mut DirFiles::new(&rt, &words), &bytes);
-    fs::remove_file(&rt, PATH)?;
+    let mut words = Vec::new(rt.alloc());
+    add_paths(rt.alloc(), &mut words)?;
+    let mut bytes = Vec::new(rt.alloc());
+    add_long(&mut bytes)?;
+    let read = are_read_back(&rt, &words, &bytes)?;
     assert!(rt; read);
     Ok(())
 }

@@ -1,5 +1,6 @@
 pub mod AddLemmas
 pub mod CaseLemmas
+pub mod EndLemmas
 pub mod FileLemmas
 pub mod FirstLemmas
 pub mod FoundLemmas

@@ -5,14 +5,19 @@ use crate::{MatEnd, MatFault, MatPart, MatRow, MatTable, rows, table, values};
 use obs_case_csv::{RowFault, Table, TableFault};
 use obs_text::{InputFault, MOST_FILE_BYTES};
 
+// Whether a table of a file has this text and starts on this line.
+fn is_part(bytes: &[u8], of: MatTable, text: &[u8], line: u32) -> bool {
+    let part = table(front(bytes, MOST_FILE_BYTES), of);
+    part.text == text && part.line == line && part.end.is_none()
+}
+
 #[test]
 fn borrowed_tables(rt: HostRuntime) {
-    let part = table(front(with_tabs(), MOST_FILE_BYTES), MatTable::Bus);
-    assert!(rt; part.line == 5 && part.end.is_none());
-    assert!(rt; part.text.starts_with(b"\r\n\t1") && part.text.ends_with(b"0;\r\n"));
+    let text = b"\r\n\t1\t3\t0\t0;\r\n\t2\t1\t0\t0;\t3,1,0,0\r\n\t4\t4\t0\t0;\r\n".as_slice();
+    assert!(rt; is_part(with_tabs(), MatTable::Bus, text, 5));
     let bytes = b"a\nmpc.branch=[ 1,2 % ]\n\n3\t;;4\r]\n".as_slice();
-    let part = table(front(bytes, MOST_FILE_BYTES), MatTable::Branch);
-    assert!(rt; part.text == b" 1,2 % ]\n\n3\t;;4\r".as_slice() && part.line == 2);
+    let text = b" 1,2 % ]\n\n3\t;;4\r".as_slice();
+    assert!(rt; is_part(bytes, MatTable::Branch, text, 2));
     let missing = table(front(bytes, MOST_FILE_BYTES), MatTable::Bus);
     assert!(rt; missing.text.is_empty() && missing.line == 0);
     assert!(rt; missing.end == Some(MatFault::NoBusTable));
@@ -25,23 +30,38 @@ fn is_row(row: Option<MatRow>, line: u32, bytes: &[u8]) -> bool {
     }
 }
 
-#[test]
-fn borrowed_rows(rt: HostRuntime) {
+// Whether a table whose text starts on line 2 has these rows, and no more.
+fn are_rows(text: &[u8], wanted: &[(u32, &[u8])]) -> bool {
     let part = MatPart {
-        text: b" 1,2 % ]\n\n3\t;;4\r",
+        text: front(text, MOST_FILE_BYTES),
         line: 2,
         end: None,
     };
     let mut all = rows(&part);
-    assert!(rt; is_row(all.next(), 2, b" 1,2 "));
-    assert!(rt; is_row(all.next(), 4, b"3\t"));
-    assert!(rt; is_row(all.next(), 4, b"4\r"));
-    assert!(rt; all.next().is_none());
-    let mut some = values(b", 1,2 \t3");
-    assert!(rt; some.next() == Some(b"1".as_slice()));
-    assert!(rt; some.next() == Some(b"2".as_slice()));
-    assert!(rt; some.next() == Some(b"3".as_slice()));
-    assert!(rt; some.next().is_none());
+    for (line, bytes) in wanted {
+        if !is_row(all.next(), *line, bytes) {
+            return false;
+        }
+    }
+    all.next().is_none()
+}
+
+// Whether a row has these values, and no more.
+fn are_values(row: &[u8], wanted: &[&[u8]]) -> bool {
+    let mut all = values(row);
+    for value in wanted {
+        if all.next() != Some(*value) {
+            return false;
+        }
+    }
+    all.next().is_none()
+}
+
+#[test]
+fn borrowed_rows(rt: HostRuntime) {
+    let wanted = [(2, b" 1,2 ".as_slice()), (4, b"3\t"), (4, b"4\r")];
+    assert!(rt; are_rows(b" 1,2 % ]\n\n3\t;;4\r", &wanted));
+    assert!(rt; are_values(b", 1,2 \t3", &[b"1".as_slice(), b"2", b"3"]));
 }
 
 // A fault, and its line, number and name.

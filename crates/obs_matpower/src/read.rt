@@ -1,5 +1,5 @@
 // Cases from bytes.
-ghost use Rattle.std.specs.Prelude.{◌≡◌, ◌≤◌, Ok, length, option_map, IfErr, IfOk};
+ghost use Rattle.std.specs.Prelude.{◌≡◌, ◌≤◌, Ok, length, option_map, IfErr, IfOk, OnOk};
 ghost use Rattle.obs_case.specs.Tables.{no_rows};
 ghost use Rattle.obs_matpower.specs.Read.{EndsCase, case_in, mat_of};
 ghost use Rattle.obs_matpower.specs.Reading.{Answers};
@@ -27,6 +27,26 @@ fn add_file(alloc: Global, case: &mut Case, matpower: &[u8]) -> Result<(), Stop>
     add_branches(case, &isolated, &branches)
 }
 
+// Fills an empty case with a file and its tables.
+fn fill_case(
+    alloc: Global,
+    case: &mut Case,
+    matpower: &[u8],
+    meters: &[u8],
+    candidates: Option<&[u8]>,
+) -> Result<(), MatEnd>
+    requires empty { case.old ≡ no_rows }
+    requires few { length matpower.now ≤ most_file_bytes }
+    ensures read { OnOk result
+        (case_in matpower.now meters.now (option_map (λ bytes. bytes.now) candidates.entry) ≡ Ok case.new) }
+    ensures refused { IfErr result
+        (EndsCase (case_in matpower.now meters.now (option_map (λ bytes. bytes.now) candidates.entry))) }
+{
+    add_file(alloc, case, matpower)?;
+    add_tables(alloc, case, meters, candidates)?;
+    Ok(())
+}
+
 /// The case that a MATPOWER case file of version 2 is, with a table of meters and, where it is
 /// given, a table of candidates. Nodes are named by their numbers, branches `L1`, `L2`, and so on.
 /// There are no switches. Refuses with the first fault of the bus table, then with that of the
@@ -44,7 +64,6 @@ pub fn read_matpower(
         (EndsCase (case_in matpower.now meters.now (option_map (λ bytes. bytes.now) candidates.entry))) }
 {
     let mut case = Case::new(alloc);
-    add_file(alloc, &mut case, matpower)?;
-    add_tables(alloc, &mut case, meters, candidates)?;
+    fill_case(alloc, &mut case, matpower, meters, candidates)?;
     Ok(case)
 }

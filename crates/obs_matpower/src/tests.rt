@@ -14,20 +14,28 @@ const NINTH: &[u8] = b" 1 2 0 0 0 0 0 0 0 0 1;\n";
 
 const METERS: &[u8] = b"meter,kind,at,inservice\nf1,flow,L1,1\nf2,flow,L2,1\n";
 
+// These parts of a file, joined.
+fn joined(alloc: Global, parts: &[&[u8]]) -> Result<Vec<u8>, Fail> {
+    let mut file = Vec::new(alloc);
+    for part in parts {
+        file.extend_from_slice(part)?;
+    }
+    Ok(file)
+}
+
 // Four buses, of which one is isolated, with these lines 5, 9 and 14.
 fn three(alloc: Global, fifth: &[u8], ninth: &[u8], last: &[u8]) -> Result<Vec<u8>, Fail> {
-    let mut file = Vec::from_slice(
+    joined(
         alloc,
-        b"function mpc = three\nmpc.version = '2';\nmpc.bus = [\n 1 3 0 0;\n",
-    )?;
-    file.extend_from_slice(fifth)?;
-    file.extend_from_slice(b" 4 4 0 0;\n];\nmpc.branch = [\n")?;
-    file.extend_from_slice(ninth)?;
-    file.extend_from_slice(
-        b" 2 3 0 0 0 0 0 0 0 0 1; % second\n 3 1 0 0 0 0 0 0 0 0 0;\n 3 4 0 0 0 0 0 0 0 0 1\n",
-    )?;
-    file.extend_from_slice(last)?;
-    Ok(file)
+        &[
+            b"function mpc = three\nmpc.version = '2';\nmpc.bus = [\n 1 3 0 0;\n".as_slice(),
+            fifth,
+            b" 4 4 0 0;\n];\nmpc.branch = [\n",
+            ninth,
+            b" 2 3 0 0 0 0 0 0 0 0 1; % second\n 3 1 0 0 0 0 0 0 0 0 0;\n 3 4 0 0 0 0 0 0 0 0 1\n",
+            last,
+        ],
+    )
 }
 
 // The same with tabs, carriage returns and comments.
@@ -49,20 +57,25 @@ pub(crate) fn front(bytes: &[u8], count: usize) -> &[u8]
     }
 }
 
-fn read(alloc: Global, matpower: &[u8]) -> Result<Case, MatEnd> {
-    let candidates = b"candidate,kind,at,price\nC1,zero,4,5\n".as_slice();
-    read_matpower(
-        alloc,
-        front(matpower, MOST_FILE_BYTES),
-        METERS,
-        Some(candidates),
-    )
+// How a file ends with these tables.
+fn end_with(
+    alloc: Global,
+    matpower: &[u8],
+    meters: &[u8],
+    candidates: Option<&[u8]>,
+) -> Option<MatEnd> {
+    read_matpower(alloc, front(matpower, MOST_FILE_BYTES), meters, candidates).err()
 }
 
 // How a file ends whose meters are fine.
 fn end_of(alloc: Global, matpower: &[u8]) -> Option<MatEnd> {
-    let meters = b"meter,kind,at,inservice\n".as_slice();
-    read_matpower(alloc, front(matpower, MOST_FILE_BYTES), meters, None).err()
+    end_with(alloc, matpower, b"meter,kind,at,inservice\n", None)
+}
+
+// How a file of these parts ends.
+fn end_of_parts(alloc: Global, parts: &[&[u8]]) -> Result<Option<MatEnd>, Fail> {
+    let file = joined(alloc, parts)?;
+    Ok(end_of(alloc, file.as_slice()))
 }
 
 fn has_node(case: &Case, at: usize, name: &[u8], source: bool) -> bool {
@@ -106,23 +119,26 @@ fn has_branches(case: &Case) -> bool {
         && has_branch(case, 3, b"L4", (2, 3), false)
 }
 
+// Whether a file is read as the worked case.
+fn is_worked_case(alloc: Global, matpower: &[u8]) -> bool {
+    let candidates = b"candidate,kind,at,price\nC1,zero,4,5\n".as_slice();
+    let file = front(matpower, MOST_FILE_BYTES);
+    match read_matpower(alloc, file, METERS, Some(candidates)) {
+        Ok(case) => has_sizes(&case) && has_nodes(&case) && has_branches(&case),
+        Err(_) => false,
+    }
+}
+
 #[test]
 fn worked_case(rt: HostRuntime) -> Result<(), Fail> {
     let file = three(rt.alloc(), FIFTH, NINTH, b"];\n")?;
-    let case = read(rt.alloc(), file.as_slice()).ok().ok_or("no case")?;
-    assert!(rt; has_sizes(&case));
-    assert!(rt; has_nodes(&case));
-    assert!(rt; has_branches(&case));
+    assert!(rt; is_worked_case(rt.alloc(), file.as_slice()));
     Ok(())
 }
 
 #[test]
-fn with_tabs_and_comments(rt: HostRuntime) -> Result<(), Fail> {
-    let case = read(rt.alloc(), with_tabs()).ok().ok_or("no case")?;
-    assert!(rt; has_sizes(&case));
-    assert!(rt; has_nodes(&case));
-    assert!(rt; has_branches(&case));
-    Ok(())
+fn with_tabs_and_comments(rt: HostRuntime) {
+    assert!(rt; is_worked_case(rt.alloc(), with_tabs()));
 }
 
 // Lines 5, 9 and 14 of the worked file, and its fault.
@@ -144,12 +160,22 @@ fn three_case(i: u8) -> (&'static [u8], &'static [u8], &'static [u8], MatFault) 
     }
 }
 
+fn end_of_three(
+    alloc: Global,
+    fifth: &[u8],
+    ninth: &[u8],
+    last: &[u8],
+) -> Result<Option<MatEnd>, Fail> {
+    let file = three(alloc, fifth, ninth, last)?;
+    Ok(end_of(alloc, file.as_slice()))
+}
+
 #[test]
 fn faults_of_the_worked_case(rt: HostRuntime) -> Result<(), Fail> {
     for i in 0..3u8 {
         let (fifth, ninth, last, fault) = three_case(i);
-        let file = three(rt.alloc(), fifth, ninth, last)?;
-        assert!(rt; end_of(rt.alloc(), file.as_slice()) == Some(MatEnd::Mat(fault)));
+        let end = end_of_three(rt.alloc(), fifth, ninth, last)?;
+        assert!(rt; end == Some(MatEnd::Mat(fault)));
     }
     Ok(())
 }
@@ -244,11 +270,13 @@ fn bus_case(i: u8) -> (&'static [u8], Option<MatFault>) {
 fn bus_rows(rt: HostRuntime) -> Result<(), Fail> {
     for i in 0..20u8 {
         let (buses, fault) = bus_case(i);
-        let mut file = Vec::from_slice(rt.alloc(), b"mpc.bus=[")?;
-        file.extend_from_slice(buses)?;
-        file.extend_from_slice(if buses.contains(&b'%') { b"\n]" } else { b"]" })?;
-        file.extend_from_slice(b"\nmpc.branch=[]")?;
-        assert!(rt; end_of(rt.alloc(), file.as_slice()) == fault.map(MatEnd::Mat));
+        let close = if buses.contains(&b'%') {
+            b"\n]".as_slice()
+        } else {
+            b"]"
+        };
+        let parts = [b"mpc.bus=[".as_slice(), buses, close, b"\nmpc.branch=[]"];
+        assert!(rt; end_of_parts(rt.alloc(), &parts)? == fault.map(MatEnd::Mat));
     }
     Ok(())
 }
@@ -277,28 +305,43 @@ fn branch_case(i: u8) -> (&'static [u8], Option<MatFault>) {
 fn branch_rows(rt: HostRuntime) -> Result<(), Fail> {
     for i in 0..11u8 {
         let (branches, fault) = branch_case(i);
-        let mut file = Vec::from_slice(rt.alloc(), b"mpc.bus=[1 3;7 1]\nmpc.branch=[")?;
-        file.extend_from_slice(branches)?;
-        file.extend_from_slice(b"]")?;
-        assert!(rt; end_of(rt.alloc(), file.as_slice()) == fault.map(MatEnd::Mat));
+        let parts = [
+            b"mpc.bus=[1 3;7 1]\nmpc.branch=[".as_slice(),
+            branches,
+            b"]",
+        ];
+        assert!(rt; end_of_parts(rt.alloc(), &parts)? == fault.map(MatEnd::Mat));
     }
     Ok(())
 }
 
-// A file with so many rows in each table, the first of which are on the lines 2 and `buses` + 4.
-fn large(alloc: Global, buses: u64, branches: u64) -> Result<Vec<u8>, Fail> {
-    let mut file = Vec::from_slice(alloc, b"mpc.bus = [\n")?;
+// Adds so many rows of a bus table.
+fn add_bus_rows(file: &mut Vec<u8>, buses: u64) -> Result<(), Fail> {
     let mut digits = Digits::new();
     for number in 0..buses {
         file.extend_from_slice(digits.text(number))?;
         file.extend_from_slice(b" 3\n")?;
     }
+    Ok(())
+}
+
+// Adds a file with so many rows in each table, the first of which are on the lines 2 and `buses` + 4.
+fn add_large(file: &mut Vec<u8>, buses: u64, branches: u64) -> Result<(), Fail> {
+    file.extend_from_slice(b"mpc.bus = [\n")?;
+    add_bus_rows(file, buses)?;
     file.extend_from_slice(b"]\nmpc.branch = [\n")?;
     for _ in 0..branches {
         file.extend_from_slice(b"1 1 0 0 0 0 0 0 0 0 1\n")?;
     }
     file.extend_from_slice(b"x]\n")?;
-    Ok(file)
+    Ok(())
+}
+
+// How that file ends.
+fn end_of_large(alloc: Global, buses: u64, branches: u64) -> Result<Option<MatEnd>, Fail> {
+    let mut file = Vec::new(alloc);
+    add_large(&mut file, buses, branches)?;
+    Ok(end_of(alloc, file.as_slice()))
 }
 
 #[test]
@@ -309,8 +352,7 @@ fn full_tables(rt: HostRuntime) -> Result<(), Fail> {
             1 => (20_001, 1, MatFault::TooMany(20_002)),
             _ => (2, 20_000, MatFault::TooMany(20_006)),
         };
-        let file = large(rt.alloc(), buses, branches)?;
-        assert!(rt; end_of(rt.alloc(), file.as_slice()) == Some(MatEnd::Mat(fault)));
+        assert!(rt; end_of_large(rt.alloc(), buses, branches)? == Some(MatEnd::Mat(fault)));
     }
     Ok(())
 }
@@ -327,13 +369,13 @@ fn table_end(table: Table) -> Option<MatEnd> {
 
 #[test]
 fn faults_of_tables(rt: HostRuntime) {
-    let file = front(with_tabs(), MOST_FILE_BYTES);
+    let file = with_tabs();
     let meters = b"meter,kind,at,inservice\nF1,flow,L5,1\n".as_slice();
     let candidates = b"candidate,kind,at,price\nC1,zero,5,5\n".as_slice();
-    let end = read_matpower(rt.alloc(), file, meters, Some(candidates)).err();
+    let end = end_with(rt.alloc(), file, meters, Some(candidates));
     assert!(rt; end == table_end(Table::Meters));
-    let end = read_matpower(rt.alloc(), file, METERS, Some(candidates)).err();
+    let end = end_with(rt.alloc(), file, METERS, Some(candidates));
     assert!(rt; end == table_end(Table::Candidates));
-    let end = read_matpower(rt.alloc(), front(file, 9), meters, None).err();
+    let end = end_with(rt.alloc(), front(file, 9), meters, None);
     assert!(rt; end == Some(MatEnd::Mat(MatFault::NoBusTable)));
 }
