@@ -3,6 +3,7 @@ pub mod Frozen
 pub mod Taking
 pub mod Deciding
 pub mod Aside
+pub mod Changed
 pub mod Counting
 pub mod Swapping
 pub mod Listed

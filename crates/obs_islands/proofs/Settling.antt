@@ -1,5 +1,5 @@
 -- Between two rounds.
-use Rattle.std.proofs.Common.{◌≡◌, ℕ, ◌<◌, List, length, get_or, ap, ◌∙◌, inl, inr, Bool, true, Option, arith}
+use Rattle.std.proofs.Common.{◌≡◌, ℕ, ◌<◌, List, length, get_or, refl, ap, ◌∙◌, inl, inr, Bool, true, Option, arith}
 use Rattle.std.specs.List.{list_any}
 use Rattle.std.proofs.lemmas.List.{length-map}
 use Rattle.obs_graph.specs.declared.Ends.{Ends}
@@ -28,6 +28,20 @@ pub record IsSettling (g : Graph) (ts us : List Touch) (first : Assignment) (sta
   pub holds : HoldsAll g ts us
   pub same_room : HasRoomOf first a
   pub same_sizes : w.sizes ≡ start.sizes
+
+-- at first all items are used
+pub Settling-begun : (g : Graph) (ts : List Touch) (a : Assignment) (w : Work) → StandsOver a g ts → AreInRange g ts → HasRoomFor w.sizes g ts → IsThawed a → IsSettling g ts ts a w a w
+Settling-begun g ts a w stands in_range room thawed = record {
+  stands = stands;
+  in_range = in_range;
+  room = room;
+  thawed = thawed;
+  one_each = refl;
+  used = λ m. inl refl;
+  holds = λ T spanned m i inside. i;
+  same_room = record { meters = refl; vertices = refl; branches = refl };
+  same_sizes = refl;
+}
 
 still_used : (ts us : List Touch) (ends : List (Option Ends)) (lowest : ℕ → ℕ) → IsUsedOf ts us → IsUsedOf ts (remaining ends lowest us)
 still_used ts us ends lowest used m = elim (kept_cases ends lowest (get_or us m Nothing)) [

@@ -5,4 +5,5 @@ pub mod Jumping
 pub mod OneMore
 pub mod Regrouping
 pub mod Moving
+pub mod Rebuilt
 pub mod Regrouped

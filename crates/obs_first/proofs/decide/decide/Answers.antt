@@ -1,13 +1,14 @@
-use Rattle.std.proofs.Common.{rules, ◌≡◌, ◌+◌, ◌<◌, ◌∙◌, Bool, true, List, get_or, length, set, sym, ap, subst, arith, take}
+use Rattle.std.proofs.Common.{◌≡◌, ◌+◌, ◌<◌, ◌∙◌, Bool, true, List, get_or, length, set, sym, ap, subst, arith, take}
 use Rattle.std.proofs.lemmas.List.{take_all}
 use Rattle.obs_matroid.specs.Lists.{In}
 use Rattle.obs_matroid.proofs.Contained.{In-get_or}
 use Rattle.obs_meter.specs.Touches.{touch_at}
+use Rattle.obs_exchange.proofs.Lengthening.{room_again, rooms}
 use Rattle.obs_first.specs.Deciding.{HasRefused}
 use Rattle.obs_first.proofs.Aside.{enough_at_last}
 use Rattle.obs_first.proofs.Counting.{Decided-full, count_same, count_taken, next_thawed}
 use Rattle.obs_first.proofs.Deciding.{AreRefused, Decided-none, Decided-taken, Trying-more, Trying-passed}
-use Rattle.obs_first.proofs.Frozen.{KeepsFrozen-on}
+use Rattle.obs_first.proofs.Frozen.{KeepsFrozen-on, frozen_same}
 use Rattle.obs_first.proofs.Swapping.{refused_passed}
 use Rattle.obs_first.proofs.decide.decide.Goals as goal
 
@@ -43,9 +44,9 @@ loop-e-preserved g c =
       trying = Trying-more c.args.g.now c.args.ms.now.touches c.args.a.now l.a b c.args.m c.args.rank (touch_at c.args.g.now.ends c.args.ms.now.touches c.args.m) l.e-index 0 l.invariant.trying (omega arith)
           (subst (λ e. HasRefused c.args.g.now.ends c.args.ms.now.touches l.a b c.args.m e c.args.rank) (ap (λ ys. get_or ys l.e-index 0) is) c.if-take_branch.ensures.taken.0)
           c.take_branch.ensures.keeps c.take_branch.ensures.stands c.take_branch.ensures.whole;
-      room = search rules;
-      same_room = search rules;
-      same_sizes = search rules;
+      room = room_again c.args.g.now c.args.ms.now.touches l.work.sizes c.take_branch.new.work.sizes c.take_branch.ensures.same_sizes l.invariant.room;
+      same_room = rooms c.args.a.now l.a b l.invariant.same_room c.take_branch.ensures.same_room;
+      same_sizes = c.take_branch.ensures.same_sizes ∙ l.invariant.same_sizes;
       noted = c.take_branch.ensures.noted;
       copied = c.take_branch.ensures.copied;
       under_way = c.if-take_branch.ensures.taken.1;
@@ -111,3 +112,63 @@ pub returns-clause-taken : goal.returns-clause-taken
 returns-clause-taken g c =
     let t = c.loop-e.invariant.trying in
     c.requires.taken ∙ sym (count_same c.args.a.now c.loop-e.a t.frozen t.keeps)
+
+pub take_branch-requires-clause-stands : goal.take_branch-requires-clause-stands
+take_branch-requires-clause-stands g c = c.loop-e.invariant.trying.stands
+
+pub take_branch-requires-clause-in_range : goal.take_branch-requires-clause-in_range
+take_branch-requires-clause-in_range g c = c.requires.in_range
+
+pub take_branch-requires-clause-room : goal.take_branch-requires-clause-room
+take_branch-requires-clause-room g c = c.loop-e.invariant.room
+
+pub take_branch-requires-clause-noted : goal.take_branch-requires-clause-noted
+take_branch-requires-clause-noted g c = c.loop-e.invariant.noted
+
+pub take_branch-requires-clause-copied : goal.take_branch-requires-clause-copied
+take_branch-requires-clause-copied g c = c.loop-e.invariant.copied
+
+pub take_branch-requires-clause-m : goal.take_branch-requires-clause-m
+take_branch-requires-clause-m g c = c.requires.m
+
+pub take_branch-requires-clause-thawed : goal.take_branch-requires-clause-thawed
+take_branch-requires-clause-thawed g c = frozen_same c.args.a.now c.loop-e.a c.loop-e.invariant.trying.frozen c.args.m ∙ next_thawed c.args.g.now c.args.ms.now.touches c.args.a.now c.args.m c.args.rank c.requires.decided
+
+pub take_branch-requires-clause-under_way : goal.take_branch-requires-clause-under_way
+take_branch-requires-clause-under_way g c = c.loop-e.invariant.under_way
+
+pub returns-then-take_branch-clause-stands : goal.returns-then-take_branch-clause-stands
+returns-then-take_branch-clause-stands g c = c.take_branch.ensures.stands
+
+pub returns-then-take_branch-clause-whole : goal.returns-then-take_branch-clause-whole
+returns-then-take_branch-clause-whole g c = c.take_branch.ensures.whole
+
+pub returns-then-take_branch-clause-same_room : goal.returns-then-take_branch-clause-same_room
+returns-then-take_branch-clause-same_room g c = rooms c.args.a.now c.loop-e.a c.take_branch.new.a c.loop-e.invariant.same_room c.take_branch.ensures.same_room
+
+pub returns-then-take_branch-clause-same_sizes : goal.returns-then-take_branch-clause-same_sizes
+returns-then-take_branch-clause-same_sizes g c = c.take_branch.ensures.same_sizes ∙ c.loop-e.invariant.same_sizes
+
+pub returns-then-take_branch-clause-noted : goal.returns-then-take_branch-clause-noted
+returns-then-take_branch-clause-noted g c = c.take_branch.ensures.noted
+
+pub returns-then-take_branch-clause-copied : goal.returns-then-take_branch-clause-copied
+returns-then-take_branch-clause-copied g c = c.take_branch.ensures.copied
+
+pub returns-clause-stands : goal.returns-clause-stands
+returns-clause-stands g c = c.loop-e.invariant.trying.stands
+
+pub returns-clause-whole : goal.returns-clause-whole
+returns-clause-whole g c = c.loop-e.invariant.trying.whole
+
+pub returns-clause-same_room : goal.returns-clause-same_room
+returns-clause-same_room g c = c.loop-e.invariant.same_room
+
+pub returns-clause-same_sizes : goal.returns-clause-same_sizes
+returns-clause-same_sizes g c = c.loop-e.invariant.same_sizes
+
+pub returns-clause-noted : goal.returns-clause-noted
+returns-clause-noted g c = c.loop-e.invariant.noted
+
+pub returns-clause-copied : goal.returns-clause-copied
+returns-clause-copied g c = c.loop-e.invariant.copied

@@ -1,7 +1,8 @@
-use Rattle.std.proofs.Common.{rules, ◌≡◌, ◌∙◌, ℕ, false, length, sym, ap, subst, arith}
+use Rattle.std.proofs.Common.{◌≡◌, ◌∙◌, ℕ, false, length, refl, sym, ap, subst, arith}
 use Rattle.obs_meter.specs.Assignments.{IsRhoAt}
 use Rattle.obs_meter.specs.Touches.{live_items}
-use Rattle.obs_assign.specs.Assignment.{Assignment, has_flag, pairs}
+use Rattle.obs_assign.specs.Assignment.{Assignment, HasRoomOf, StandsOver, has_flag, pairs}
+use Rattle.obs_exchange.proofs.Lengthening.{room_again}
 use Rattle.obs_assign.proofs.Keeping.{flags_clear}
 use Rattle.obs_first.proofs.Counting.{count_none}
 use Rattle.obs_first.proofs.Lawful.{Decided-all, Decided-begun}
@@ -19,10 +20,10 @@ loop-m-init g c =
           (sym c.thaw-rank.ensures.length) thawed;
       taken = sym (count_none new thawed);
       whole = c.thaw-rank.ensures.whole;
-      stands = search rules;
-      room = search rules;
-      same_room = search rules;
-      same_sizes = search rules;
+      stands = subst (λ (a : Assignment). StandsOver a c.args.g.now c.args.ms.now.touches) (sym c.thaw-rank.ensures.thawed) (record { forest = c.requires.stands.forest; meters = c.requires.stands.meters; touched = c.requires.stands.touched });
+      room = room_again c.args.g.now c.args.ms.now.touches c.args.work.now.sizes c.note_sources.new.self.sizes c.note_sources.ensures.same_sizes c.requires.room;
+      same_room = subst (λ (a : Assignment). HasRoomOf old a) (sym c.thaw-rank.ensures.thawed) (record { meters = refl; vertices = refl; branches = refl });
+      same_sizes = c.note_sources.ensures.same_sizes;
       noted = c.note_sources.ensures.noted;
       copied = c.note_sources.ensures.copied;
     }
@@ -35,3 +36,12 @@ returns-clause-first g c =
     let down = c.loop-m-test.false in
     ap (λ (a : Assignment). pairs a) c.thaw.ensures.thawed
     ∙ Decided-all c.args.g.now c.args.ms.now.touches l.a c.thaw-rank.result c.vertices.ensures.branches l.invariant.whole l.invariant.stands l.m (omega arith) l.invariant.decided
+
+pub note_sources-requires-clause-stands : goal.note_sources-requires-clause-stands
+note_sources-requires-clause-stands g c = subst (λ (a : Assignment). StandsOver a c.args.g.now c.args.ms.now.touches) (sym c.thaw-rank.ensures.thawed) (record { forest = c.requires.stands.forest; meters = c.requires.stands.meters; touched = c.requires.stands.touched })
+
+pub note_sources-requires-clause-in_range : goal.note_sources-requires-clause-in_range
+note_sources-requires-clause-in_range g c = c.requires.in_range
+
+pub note_sources-requires-clause-room : goal.note_sources-requires-clause-room
+note_sources-requires-clause-room g c = c.requires.room

@@ -1,13 +1,15 @@
 use Rattle.std.proofs.Common.{◌≡◌, ◌<◌, ◌∙◌, true, false, length, set, sym, ap, subst, inl, arith}
-use Rattle.obs_assign.specs.Assignment.{Assignment, IsWhole, StandsOver, branch_at, is_frozen}
+use Rattle.obs_assign.specs.Assignment.{Assignment, HasRoomOf, IsWhole, StandsOver, branch_at, is_frozen}
 use Rattle.obs_assign.specs.Spare.{IsSpare}
 use Rattle.obs_assign.proofs.Afterwards.{pin_kept, pin_taken}
 use Rattle.obs_exchange.specs.declared.Sources.TheVariants.{All}
 use Rattle.obs_exchange.specs.Found.{Work}
 use Rattle.obs_exchange.specs.Noting.{AreNoted, Noted}
+use Rattle.obs_exchange.proofs.Lengthening.{rooms}
 use Rattle.obs_exchange.proofs.Walking.{touched_there}
+use Rattle.obs_meter.specs.Sizes.{Sizes}
 use Rattle.obs_matroid.proofs.Lists.{clash}
-use Rattle.obs_first.specs.Deciding.{AreEnoughFor, HasRefused, IsUnderWay}
+use Rattle.obs_first.specs.Deciding.{AreEnoughFor, HasRefused, IsUnderWay, KeepsFrozen}
 use Rattle.obs_first.proofs.Aside.{HasRefused-kept, pinned_long}
 use Rattle.obs_first.proofs.Frozen.{frozen_same}
 use Rattle.obs_first.proofs.Taking.{AreNoted-pinned, HasRefused-joined}
@@ -81,3 +83,123 @@ returns-clause-noted g c =
     let second = ap (λ (v : Work). v.noted) c.note-2.ensures.noted in
     subst (λ (k : Noted). AreNoted ends touches All c.pin_for.new.self k) (sym (second ∙ ap (λ (k : Noted). record k { flags = set k.flags c.args.m false }) first))
     (AreNoted-pinned ends touches s c.pin_for.new.self c.args.m c.args.e c.in-Some.x n low c.pin_for.ensures.pinned c.note.ensures.low h)
+
+pub makes_way-requires-clause-stands : goal.makes_way-requires-clause-stands
+makes_way-requires-clause-stands g c = c.requires.stands
+
+pub makes_way-requires-clause-in_range : goal.makes_way-requires-clause-in_range
+makes_way-requires-clause-in_range g c = c.requires.in_range
+
+pub makes_way-requires-clause-room : goal.makes_way-requires-clause-room
+makes_way-requires-clause-room g c = c.requires.room
+
+pub makes_way-requires-clause-noted : goal.makes_way-requires-clause-noted
+makes_way-requires-clause-noted g c = c.requires.noted
+
+pub makes_way-requires-clause-copied : goal.makes_way-requires-clause-copied
+makes_way-requires-clause-copied g c = c.requires.copied
+
+pub makes_way-requires-clause-m : goal.makes_way-requires-clause-m
+makes_way-requires-clause-m g c = c.requires.m
+
+pub makes_way-requires-clause-thawed : goal.makes_way-requires-clause-thawed
+makes_way-requires-clause-thawed g c = c.requires.thawed
+
+pub makes_way-requires-clause-touched : goal.makes_way-requires-clause-touched
+makes_way-requires-clause-touched g c = c.requires.touched
+
+pub makes_way-requires-clause-under_way : goal.makes_way-requires-clause-under_way
+makes_way-requires-clause-under_way g c = c.requires.under_way
+
+pub spare-requires-clause-stands : goal.spare-requires-clause-stands
+spare-requires-clause-stands g c = c.makes_way.ensures.stands.forest
+
+pub spare-requires-clause-m : goal.spare-requires-clause-m
+spare-requires-clause-m g c = omega (arith, c.makes_way.ensures.stands.meters, c.requires.m)
+
+pub pin_for-requires-clause-stands : goal.pin_for-requires-clause-stands
+pin_for-requires-clause-stands g c = subst (λ (d : Assignment). StandsOver d c.args.g.now c.args.ms.now.touches) (sym c.spare.ensures.same) c.makes_way.ensures.stands
+
+pub pin_for-requires-clause-m : goal.pin_for-requires-clause-m
+pin_for-requires-clause-m g c = subst (λ (d : Assignment). c.args.m < length d.slots) (sym c.spare.ensures.same) (omega (arith, c.makes_way.ensures.stands.meters, c.requires.m))
+
+pub pin_for-requires-clause-touched : goal.pin_for-requires-clause-touched
+pin_for-requires-clause-touched g c = c.requires.touched
+
+pub pin_for-requires-clause-thawed : goal.pin_for-requires-clause-thawed
+pin_for-requires-clause-thawed g c = subst (λ (d : Assignment). is_frozen d c.args.m ≡ false) (sym c.spare.ensures.same) (frozen_same c.args.a.now c.makes_way.new.a c.makes_way.ensures.frozen c.args.m ∙ c.requires.thawed)
+
+pub pin_for-requires-clause-spare : goal.pin_for-requires-clause-spare
+pin_for-requires-clause-spare g c = subst (λ (d : Assignment). IsSpare c.args.g.now.ends d.slots d.frozen c.args.m c.args.e c.in-Some.x) (sym c.spare.ensures.same) c.in-Some.ensures.spare
+
+pub note-requires : goal.note-requires
+note-requires g c =
+    let same = ap (λ (d : Assignment). length d.slots) c.spare.ensures.same in
+    let sizes = ap (λ (z : Sizes). z.meters) c.makes_way.ensures.same_sizes in
+    record { m = omega (arith, c.pin_for.ensures.pinned.low, same, c.makes_way.ensures.stands.meters, sizes, c.requires.room.meters) }
+
+pub note-requires-2 : goal.note-requires-2
+note-requires-2 g c =
+    let sizes = ap (λ (v : Work). v.sizes.meters) c.note.ensures.noted in
+    let before = ap (λ (z : Sizes). z.meters) c.makes_way.ensures.same_sizes in
+    record { m = omega (arith, c.requires.m, sizes, before, c.requires.room.meters) }
+
+pub returns-then-not-makes_way-clause-taken : goal.returns-then-not-makes_way-clause-taken
+returns-then-not-makes_way-clause-taken g c = c.if-not-makes_way.ensures.way
+
+pub returns-then-not-makes_way-clause-keeps : goal.returns-then-not-makes_way-clause-keeps
+returns-then-not-makes_way-clause-keeps g c = c.makes_way.ensures.keeps
+
+pub returns-then-not-makes_way-clause-stands : goal.returns-then-not-makes_way-clause-stands
+returns-then-not-makes_way-clause-stands g c = c.makes_way.ensures.stands
+
+pub returns-then-not-makes_way-clause-whole : goal.returns-then-not-makes_way-clause-whole
+returns-then-not-makes_way-clause-whole g c = c.makes_way.ensures.whole
+
+pub returns-then-not-makes_way-clause-same_room : goal.returns-then-not-makes_way-clause-same_room
+returns-then-not-makes_way-clause-same_room g c = c.makes_way.ensures.same_room
+
+pub returns-then-not-makes_way-clause-same_sizes : goal.returns-then-not-makes_way-clause-same_sizes
+returns-then-not-makes_way-clause-same_sizes g c = c.makes_way.ensures.same_sizes
+
+pub returns-then-not-makes_way-clause-noted : goal.returns-then-not-makes_way-clause-noted
+returns-then-not-makes_way-clause-noted g c = c.makes_way.ensures.noted
+
+pub returns-then-not-makes_way-clause-copied : goal.returns-then-not-makes_way-clause-copied
+returns-then-not-makes_way-clause-copied g c = c.makes_way.ensures.copied
+
+pub returns-in_default-clause-keeps : goal.returns-in_default-clause-keeps
+returns-in_default-clause-keeps g c = subst (λ (d : Assignment). KeepsFrozen c.args.a.now d) (sym c.spare.ensures.same) c.makes_way.ensures.keeps
+
+pub returns-in_default-clause-stands : goal.returns-in_default-clause-stands
+returns-in_default-clause-stands g c = subst (λ (d : Assignment). StandsOver d c.args.g.now c.args.ms.now.touches) (sym c.spare.ensures.same) c.makes_way.ensures.stands
+
+pub returns-in_default-clause-whole : goal.returns-in_default-clause-whole
+returns-in_default-clause-whole g c = subst (λ (d : Assignment). IsWhole d) (sym c.spare.ensures.same) c.makes_way.ensures.whole
+
+pub returns-in_default-clause-same_room : goal.returns-in_default-clause-same_room
+returns-in_default-clause-same_room g c = subst (λ (d : Assignment). HasRoomOf c.args.a.now d) (sym c.spare.ensures.same) c.makes_way.ensures.same_room
+
+pub returns-in_default-clause-same_sizes : goal.returns-in_default-clause-same_sizes
+returns-in_default-clause-same_sizes g c = c.makes_way.ensures.same_sizes
+
+pub returns-in_default-clause-noted : goal.returns-in_default-clause-noted
+returns-in_default-clause-noted g c = subst (λ (d : Assignment). AreNoted c.args.g.now.ends c.args.ms.now.touches All d c.makes_way.new.work.noted) (sym c.spare.ensures.same) c.makes_way.ensures.noted
+
+pub returns-in_default-clause-copied : goal.returns-in_default-clause-copied
+returns-in_default-clause-copied g c = c.makes_way.ensures.copied
+
+pub returns-clause-stands : goal.returns-clause-stands
+returns-clause-stands g c = c.pin_for.ensures.stands
+
+pub returns-clause-whole : goal.returns-clause-whole
+returns-clause-whole g c = c.pin_for.ensures.whole
+
+pub returns-clause-same_room : goal.returns-clause-same_room
+returns-clause-same_room g c = rooms c.args.a.now c.makes_way.new.a c.pin_for.new.self c.makes_way.ensures.same_room (subst (λ (d : Assignment). HasRoomOf d c.pin_for.new.self) c.spare.ensures.same c.pin_for.ensures.same_room)
+
+pub returns-clause-same_sizes : goal.returns-clause-same_sizes
+returns-clause-same_sizes g c = ap (λ (v : Work). v.sizes) c.note-2.ensures.noted ∙ (ap (λ (v : Work). v.sizes) c.note.ensures.noted ∙ c.makes_way.ensures.same_sizes)
+
+pub returns-clause-copied : goal.returns-clause-copied
+returns-clause-copied g c = ap (λ (v : Work). v.touches) c.note-2.ensures.noted ∙ (ap (λ (v : Work). v.touches) c.note.ensures.noted ∙ c.makes_way.ensures.copied)

@@ -6,6 +6,8 @@ use Rattle.obs_meter.proofs.Lost.{length-losing}
 use Rattle.obs_assign.specs.Assignment.{Assignment}
 use Rattle.obs_exchange.specs.declared.Sources.TheVariants.{All}
 use Rattle.obs_exchange.specs.Found.{HasClosed}
+use Rattle.obs_exchange.specs.Longest.{IsLongest}
+use Rattle.obs_exchange.proofs.Lengthening.{room_again}
 use Rattle.obs_pairs.specs.Split.{is_half}
 use Rattle.obs_pairs.proofs.Splitting.{AreSpelt, Spelt-begun, Spelt-more, Spelt-settled, Splitting-more, Splitting-over}
 use Rattle.obs_pairs.proofs.split.split.Goals as goal
@@ -30,7 +32,10 @@ pub spell-requires-clause-reached : goal.spell-requires-clause-reached
 spell-requires-clause-reached g c =
     let touches = c.args.ms.now.touches in
     let places : length c.loop-bit.list ≡ length touches = c.loop-bit.invariant.splitting.spelt.places in
-    ap length c.reached.ensures.reached ∙ (c.reach_from.ensures.closed.flags ∙ (length-losing (is_half c.loop-bit.a c.loop-bit.step false) touches ∙ sym places))
+    let left = length-losing (is_half c.loop-bit.a c.loop-bit.step false) touches in
+    let flags = c.reach_from.ensures.closed.flags in
+    let same = ap length c.reached.ensures.reached in
+    omega (arith, same, flags, left, places)
 
 pub reach_from-requires-then-step-list-clause-count : goal.reach_from-requires-then-step-list-clause-count
 reach_from-requires-then-step-list-clause-count g c =
@@ -40,8 +45,11 @@ pub strike-requires-clause-reached : goal.strike-requires-clause-reached
 strike-requires-clause-reached g c =
     let touches = c.args.ms.now.touches in
     let places : length c.loop-bit.list ≡ length touches = c.loop-bit.invariant.splitting.spelt.places in
-    ap length c.reached-then-step-list.ensures.reached
-    ∙ (c.reach_from-then-step-list.ensures.closed.flags ∙ (length-losing (is_half c.reach_from.new.a c.loop-bit.step true) touches ∙ (sym places ∙ sym c.spell.auto.list)))
+    let left = length-losing (is_half c.reach_from.new.a c.loop-bit.step true) touches in
+    let flags = c.reach_from-then-step-list.ensures.closed.flags in
+    let same = ap length c.reached-then-step-list.ensures.reached in
+    let spelt = c.spell.auto.list in
+    omega (arith, same, flags, left, places, spelt)
 
 pub loop-bit-preserved : goal.loop-bit-preserved
 loop-bit-preserved g c =
@@ -108,3 +116,81 @@ returns-clause-settled g c =
     ] in
     Spelt-settled c.args.g.now touches c.args.a.now c.vertices.ensures.branches c.requires.longest c.args.waiting.now c.args.list.now c.requires.settled.opened l.list l.step full inv.splitting.spelt c.requires.settled
     c.finish.new.waiting c.finish.auto.waiting c.finish.ensures.waiting
+
+pub start-requires : goal.start-requires
+start-requires g c = record { waiting = c.requires.settled.flags ∙ sym c.requires.settled.places }
+
+pub reach_from-requires-clause-longest : goal.reach_from-requires-clause-longest
+reach_from-requires-clause-longest g c = subst (λ (a : Assignment). IsLongest c.args.g.now c.args.ms.now.touches a) (sym c.loop-bit.invariant.same) c.requires.longest
+
+pub reach_from-requires-clause-in_range : goal.reach_from-requires-clause-in_range
+reach_from-requires-clause-in_range g c = c.requires.in_range
+
+pub reach_from-requires-clause-room : goal.reach_from-requires-clause-room
+reach_from-requires-clause-room g c = room_again c.args.g.now c.args.ms.now.touches c.args.exchange.now.sizes c.loop-bit.exchange.sizes c.loop-bit.invariant.same_sizes c.requires.room
+
+pub reach_from-requires-clause-count : goal.reach_from-requires-clause-count
+reach_from-requires-clause-count g c = c.loop-bit.invariant.count
+
+pub reach_from-requires-clause-step : goal.reach_from-requires-clause-step
+reach_from-requires-clause-step g c = c.loop-bit.invariant.splitting.pos
+
+pub reach_from-requires-clause-low : goal.reach_from-requires-clause-low
+reach_from-requires-clause-low g c =
+    let places = c.loop-bit.invariant.splitting.spelt.places in
+    let few : length c.args.ms.now.touches < 4294967296 = subst (λ (n : ℕ). n < 4294967296) c.count.ensures.count c.count.type_inv in
+    let t = c.if-step-list.true in
+    omega (arith, t, places, few)
+
+pub spell-requires-clause-waiting : goal.spell-requires-clause-waiting
+spell-requires-clause-waiting g c = c.requires.settled.flags ∙ sym c.loop-bit.invariant.splitting.spelt.places
+
+pub spell-requires-clause-count : goal.spell-requires-clause-count
+spell-requires-clause-count g c =
+    let places = c.loop-bit.invariant.splitting.spelt.places in
+    let few : length c.args.ms.now.touches < 4294967296 = subst (λ (n : ℕ). n < 4294967296) c.count.ensures.count c.count.type_inv in
+    omega (arith, places, few)
+
+pub spell-requires-clause-step : goal.spell-requires-clause-step
+spell-requires-clause-step g c = c.if-step-list.true
+
+pub reach_from-requires-then-step-list-clause-longest : goal.reach_from-requires-then-step-list-clause-longest
+reach_from-requires-then-step-list-clause-longest g c = subst (λ (a : Assignment). IsLongest c.args.g.now c.args.ms.now.touches a) (sym (c.reach_from.ensures.same ∙ c.loop-bit.invariant.same)) c.requires.longest
+
+pub reach_from-requires-then-step-list-clause-in_range : goal.reach_from-requires-then-step-list-clause-in_range
+reach_from-requires-then-step-list-clause-in_range g c = c.requires.in_range
+
+pub reach_from-requires-then-step-list-clause-room : goal.reach_from-requires-then-step-list-clause-room
+reach_from-requires-then-step-list-clause-room g c = room_again c.args.g.now c.args.ms.now.touches c.args.exchange.now.sizes c.reach_from.new.exchange.sizes (c.reach_from.ensures.same_sizes ∙ c.loop-bit.invariant.same_sizes) c.requires.room
+
+pub reach_from-requires-then-step-list-clause-step : goal.reach_from-requires-then-step-list-clause-step
+reach_from-requires-then-step-list-clause-step g c = c.loop-bit.invariant.splitting.pos
+
+pub reach_from-requires-then-step-list-clause-low : goal.reach_from-requires-then-step-list-clause-low
+reach_from-requires-then-step-list-clause-low g c =
+    let places = c.loop-bit.invariant.splitting.spelt.places in
+    let few : length c.args.ms.now.touches < 4294967296 = subst (λ (n : ℕ). n < 4294967296) c.count.ensures.count c.count.type_inv in
+    let t = c.if-step-list.true in
+    omega (arith, t, places, few)
+
+pub strike-requires-clause-waiting : goal.strike-requires-clause-waiting
+strike-requires-clause-waiting g c = c.requires.settled.flags ∙ (sym c.loop-bit.invariant.splitting.spelt.places ∙ sym c.spell.auto.list)
+
+pub strike-requires-clause-count : goal.strike-requires-clause-count
+strike-requires-clause-count g c =
+    let places = c.loop-bit.invariant.splitting.spelt.places in
+    let few : length c.args.ms.now.touches < 4294967296 = subst (λ (n : ℕ). n < 4294967296) c.count.ensures.count c.count.type_inv in
+    let same = c.spell.auto.list in
+    omega (arith, places, few, same)
+
+pub finish-requires : goal.finish-requires
+finish-requires g c = record { waiting = c.requires.settled.flags ∙ sym c.loop-bit.invariant.splitting.spelt.places }
+
+pub restore-requires : goal.restore-requires
+restore-requires g c = record { count = c.loop-bit.invariant.count }
+
+pub returns-clause-same : goal.returns-clause-same
+returns-clause-same g c = c.loop-bit.invariant.same
+
+pub returns-clause-same_sizes : goal.returns-clause-same_sizes
+returns-clause-same_sizes g c = c.loop-bit.invariant.same_sizes

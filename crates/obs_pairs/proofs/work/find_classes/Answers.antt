@@ -1,6 +1,7 @@
 use Rattle.std.proofs.Common.{◌≡◌, ◌++◌, ℕ, List, length, drop, sym, ap, ◌∙◌, subst}
 use Rattle.std.specs.Prelude.{take}
 use Rattle.obs_graph.proofs.Stored.{written_back}
+use Rattle.obs_meter.specs.Held.{Meters}
 use Rattle.obs_meter.specs.Sizes.{HasRoomFor}
 use Rattle.obs_pairs.specs.PairWork.{PairWork}
 use Rattle.obs_pairs.specs.Partners.{classes_of}
@@ -43,3 +44,6 @@ returns-clause-classes g c =
     let new = c.list_classes.new.list in
     let back : take v.len (new ++ drop (length new) v.items) ≡ new = written_back v.len new v.items (c.list_classes.auto.list ∙ ap length c.deref_mut-2.ensures.value) v.ok.0 in
     ap (λ (k : ℕ). take k (take v.len (new ++ drop (length new) v.items))) c.count.ensures.count ∙ (ap (λ (xs : List ℕ). take (length touches) xs) back ∙ c.list_classes.ensures.classes)
+
+pub list_classes-requires-clause-left : goal.list_classes-requires-clause-left
+list_classes-requires-clause-left g c = ap (λ (m : Meters). m.touches) c.refill.ensures.whole ∙ c.touches.ensures.touches

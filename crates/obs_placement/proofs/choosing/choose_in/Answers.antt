@@ -1,8 +1,9 @@
-use Rattle.std.proofs.Common.{◌≡◌, ◌≤◌, length, take, drop, ap, ◌∙◌, arith}
+use Rattle.std.proofs.Common.{◌≡◌, ◌≤◌, length, take, drop, sym, ap, ◌∙◌, subst, arith}
 use Rattle.std.proofs.lemmas.List.{length-take-le}
+use Rattle.obs_meter.specs.Sizes.{Sizes}
 use Rattle.obs_placement.specs.Answer.{cost_of}
-use Rattle.obs_placement.specs.Holding.{Known}
-use Rattle.obs_placement.specs.Offer.{price_in}
+use Rattle.obs_placement.specs.Holding.{Known, Taking}
+use Rattle.obs_placement.specs.Offer.{HasRoomForOffer, price_in}
 use Rattle.obs_placement.specs.Taking.{since_at}
 use Rattle.obs_placement.proofs.Going.{IsUnderWay-begun}
 use Rattle.obs_placement.proofs.Listing.{chosen_list, front, only_chosen, rank_of_all, replicated, thawed_standing, unset_at}
@@ -49,3 +50,27 @@ returns-clause-chosen g c =
       standing = thawed_standing G T t.pairs t.known.since h.standing;
       only_chosen = only_chosen G T o.meters o.prices.now t.pairs t.known.since raised ok h.taken size;
     })
+
+pub put_in_order-requires-clause-offer : goal.put_in_order-requires-clause-offer
+put_in_order-requires-clause-offer g c = c.requires.offer
+
+pub begin-requires-clause-offer : goal.begin-requires-clause-offer
+begin-requires-clause-offer g c = c.requires.offer
+
+pub begin-requires-clause-room : goal.begin-requires-clause-room
+begin-requires-clause-room g c = c.requires.room
+
+pub take_all-requires-clause-offer : goal.take_all-requires-clause-offer
+take_all-requires-clause-offer g c = c.requires.offer
+
+pub take_all-requires-clause-room : goal.take_all-requires-clause-room
+take_all-requires-clause-room g c = subst (λ (s : Sizes). HasRoomForOffer s c.args.offer.now) (sym c.begin.ensures.same_sizes) c.requires.room
+
+pub take_all-requires-clause-order : goal.take_all-requires-clause-order
+take_all-requires-clause-order g c = c.put_in_order.ensures.order
+
+pub list_raised-requires-clause-offer : goal.list_raised-requires-clause-offer
+list_raised-requires-clause-offer g c = c.requires.offer
+
+pub returns-clause-same_sizes : goal.returns-clause-same_sizes
+returns-clause-same_sizes g c = ap (λ (t : Taking). t.sizes) c.thaw.ensures.thawed ∙ (c.take_all.ensures.same_sizes ∙ c.begin.ensures.same_sizes)

@@ -36,3 +36,34 @@ loop-m-preserved g c =
         h.4,
       )
     ]
+
+pub keep_item-requires-clause-offer : goal.keep_item-requires-clause-offer
+keep_item-requires-clause-offer g c = c.requires.offer
+
+pub keep_item-requires-clause-m : goal.keep_item-requires-clause-m
+keep_item-requires-clause-m g c = c.requires.low c.loop-m.m-index 0 c.loop-m-test.true
+
+pub keep_item-requires-clause-price : goal.keep_item-requires-clause-price
+keep_item-requires-clause-price g c = c.requires.price
+
+pub keep_item-requires-clause-unknown : goal.keep_item-requires-clause-unknown
+keep_item-requires-clause-unknown g c =
+    let x = get_or c.args.reached.now c.loop-m.m-index 0 in
+    let since = c.loop-m.known.since in
+    let low : x < length since = let a = c.requires.low c.loop-m.m-index 0 c.loop-m-test.true in let b = c.loop-m.invariant.2.count in omega (arith, a, b) in
+    get_or_default since x never 0 low ∙ (rw c.since.ensures.since at c.if-since-m.true)
+
+pub keep_item-requires-clause-beside : goal.keep_item-requires-clause-beside
+keep_item-requires-clause-beside g c = c.loop-m.invariant.2
+
+pub returns-clause-slots : goal.returns-clause-slots
+returns-clause-slots g c = c.loop-m.invariant.1
+
+pub returns-clause-beside : goal.returns-clause-beside
+returns-clause-beside g c = c.loop-m.invariant.2
+
+pub returns-clause-same_room : goal.returns-clause-same_room
+returns-clause-same_room g c = c.loop-m.invariant.3
+
+pub returns-clause-same_sizes : goal.returns-clause-same_sizes
+returns-clause-same_sizes g c = c.loop-m.invariant.4

@@ -13,3 +13,24 @@ returns-then-length-needed-clause-placed g c =
     (cheap_price o.meters o.prices.now c.requires.offer.cheap)
     (let t = c.if-length-needed.true in let l = c.length.ensures.length in let p = ap (λ (a : Assignment). length (pairs a)) c.pairs.ensures.pairs in let r = c.choose.ensures.chosen.longest in omega (arith, t, l, p, r))
     b.new.self.inside b.result.rank b.result.outside m.inside_is m.rank_is m.outside_is
+
+pub choose-requires-clause-offer : goal.choose-requires-clause-offer
+choose-requires-clause-offer g c = c.requires.offer
+
+pub choose-requires-clause-room : goal.choose-requires-clause-room
+choose-requires-clause-room g c = c.requires.room
+
+pub add_layers-requires-clause-offer : goal.add_layers-requires-clause-offer
+add_layers-requires-clause-offer g c = c.requires.offer
+
+pub add_layers-requires-clause-chosen : goal.add_layers-requires-clause-chosen
+add_layers-requires-clause-chosen g c = c.choose.ensures.chosen
+
+pub add_layers-requires-clause-room : goal.add_layers-requires-clause-room
+add_layers-requires-clause-room g c = c.requires.laying
+
+pub returns-then-length-needed-clause-chosen : goal.returns-then-length-needed-clause-chosen
+returns-then-length-needed-clause-chosen g c = c.choose.ensures.chosen
+
+pub returns-then-length-needed-clause-same_sizes : goal.returns-then-length-needed-clause-same_sizes
+returns-then-length-needed-clause-same_sizes g c = c.choose.ensures.same_sizes

@@ -1,6 +1,7 @@
-use Rattle.std.proofs.Common.{◌<◌, length, sym, ◌∙◌, arith, slice_index_or}
+use Rattle.std.proofs.Common.{◌<◌, length, refl, sym, ◌∙◌, subst, arith, slice_index_or}
+use Rattle.obs_meter.specs.Sizes.{Sizes}
 use Rattle.obs_meter.specs.Touches.{is_live}
-use Rattle.obs_placement.specs.Offer.{price_in}
+use Rattle.obs_placement.specs.Offer.{HasRoomForOffer, price_in}
 use Rattle.obs_placement.specs.Order.{item_at}
 use Rattle.obs_placement.proofs.Going.{AreTaken-ended, cheap_items, earlier_taken, idle_step, live_step}
 use Rattle.obs_placement.proofs.Listing.{cheap_price}
@@ -73,3 +74,15 @@ returns-clause-taken g c =
           l.k l.taking.pairs l.taking.known.since l.raised (let t = c.loop-k-test.false in let n = c.requires.order.count in omega (arith, t, n)) way;
       standing = way.standing;
     }
+
+pub take-requires-clause-offer : goal.take-requires-clause-offer
+take-requires-clause-offer g c = c.requires.offer
+
+pub take-requires-clause-room : goal.take-requires-clause-room
+take-requires-clause-room g c = subst (λ (s : Sizes). HasRoomForOffer s c.args.offer.now) (sym c.loop-k.invariant.1) c.requires.room
+
+pub loop-k-init : goal.loop-k-init
+loop-k-init g c = (c.requires.begun, refl)
+
+pub returns-clause-same_sizes : goal.returns-clause-same_sizes
+returns-clause-same_sizes g c = c.loop-k.invariant.1

@@ -1,8 +1,9 @@
-use Rattle.std.proofs.Common.{◌≡◌, ◌<◌, None, length, ap, sym, subst}
-use Rattle.obs_assign.specs.Assignment.{branch_at}
+use Rattle.std.proofs.Common.{◌≡◌, ◌∙◌, ◌<◌, None, length, ap, sym, subst}
+use Rattle.obs_assign.specs.Assignment.{Assignment, StandsOver, branch_at}
 use Rattle.obs_exchange.specs.declared.Sources.TheVariants.{One}
 use Rattle.obs_exchange.specs.Found.{HasClosed, HasGrown}
-use Rattle.obs_placement.specs.Holding.{Taking}
+use Rattle.obs_placement.specs.Holding.{StandsBeside, Taking}
+use Rattle.obs_placement.specs.Offer.{HasRoomForOffer}
 use Rattle.obs_placement.specs.Taking.{AreKept}
 use Rattle.obs_placement.proofs.Flagged.{listed_low}
 use Rattle.obs_placement.proofs.Takes.{takes_closed, takes_grown, takes_source}
@@ -33,3 +34,29 @@ returns-in-Closed-clause-taken g c =
     (c.search.ensures.listed c.in-Closed.is) (record { known = c.keep.new.known; pairs = c.keep.new.pairs; sizes = w.sizes })
     (subst (λ (t : Taking). AreKept w.listed c.args.price t.known.since c.keep.new.known.since) c.self.view_is (rw c.listed.ensures.listed at c.keep.ensures.marked))
     c.keep.ensures.slots c.keep.ensures.beside
+
+pub search-requires-clause-stands : goal.search-requires-clause-stands
+search-requires-clause-stands g c = subst (λ (t : Taking). StandsOver t.pairs c.args.offer.now.graph.now c.args.offer.now.items.now.touches) (sym c.self.view_is) c.requires.item.before.beside.standing.stands
+
+pub search-requires-clause-in_range : goal.search-requires-clause-in_range
+search-requires-clause-in_range g c = c.requires.offer.in_range
+
+pub search-requires-clause-room : goal.search-requires-clause-room
+search-requires-clause-room g c = subst (λ (t : Taking). HasRoomForOffer t.sizes c.args.offer.now) (sym c.self.view_is) c.requires.room
+
+pub keep-requires-clause-offer : goal.keep-requires-clause-offer
+keep-requires-clause-offer g c = c.requires.offer
+
+pub keep-requires-clause-price : goal.keep-requires-clause-price
+keep-requires-clause-price g c = c.requires.item.cheap
+
+pub keep-requires-clause-beside : goal.keep-requires-clause-beside
+keep-requires-clause-beside g c =
+    let before = subst (λ (t : Taking). StandsBeside c.args.offer.now t.pairs t.known) (sym c.self.view_is) c.requires.item.before.beside in
+    subst (λ (a : Assignment). StandsBeside c.args.offer.now a c.self.inside.known) (sym c.in-Closed.ensures.found.same) before
+
+pub returns-in-Grown-clause-same_sizes : goal.returns-in-Grown-clause-same_sizes
+returns-in-Grown-clause-same_sizes g c = c.search.ensures.same_sizes ∙ ap (λ (t : Taking). t.sizes) c.self.view_is
+
+pub returns-in-Closed-clause-same_sizes : goal.returns-in-Closed-clause-same_sizes
+returns-in-Closed-clause-same_sizes g c = c.search.ensures.same_sizes ∙ ap (λ (t : Taking). t.sizes) c.self.view_is
