@@ -63,3 +63,15 @@ pub returns-clause-is_forest : goal.returns-clause-is_forest
 returns-clause-is_forest c =
     let a = (goal.at.returns-clause-is_forest c).After-choose in
     rw (cut_back a) (made a (apart (goal.at.returns-clause-is_forest c).After-count)).forest
+
+pub returns-clause-count : goal.returns-clause-count
+returns-clause-count c = rw (cut_back (goal.at.returns-clause-count c).After-choose) c.hold_pairs.ensures.count
+
+pub returns-clause-inverse : goal.returns-clause-inverse
+returns-clause-inverse c = rw (cut_back (goal.at.returns-clause-inverse c).After-choose) c.hold_pairs.ensures.inverse
+
+pub returns-clause-listed : goal.returns-clause-listed
+returns-clause-listed c = rw (cut_back (goal.at.returns-clause-listed c).After-choose) c.hold_pairs.ensures.listed
+
+pub returns-clause-forest : goal.returns-clause-forest
+returns-clause-forest c = rw (cut_back (goal.at.returns-clause-forest c).After-choose) c.hold_pairs.ensures.forest

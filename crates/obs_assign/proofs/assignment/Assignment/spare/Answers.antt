@@ -1,17 +1,21 @@
 use Rattle.std.proofs.Common.{◌≡◌, ℕ, Bool, List, false, true, length, take, sym, ap, ◌∙◌, subst, arith}
-use Rattle.std.specs.Prelude.{MatchOption}
+use Rattle.std.specs.Prelude.{IfSome, IsSome, MatchOption}
 use Rattle.std.proofs.lemmas.List.{get_or-take, get_or_default}
 use Rattle.obs_matroid.specs.Assignments.{branches, part}
 use Rattle.obs_matroid.specs.Slots.{pairs_of}
 use Rattle.obs_assign.specs.Assignment.{Assignment, has_flag}
 use Rattle.obs_assign.specs.Kept.{seen}
-use Rattle.obs_assign.specs.Pins.{joins}
+use Rattle.obs_assign.specs.Pins.{MayPin, joins}
 use Rattle.obs_assign.specs.Spare.{IsSpare}
 use Rattle.obs_assign.proofs.Paths.{spare_from}
 use Rattle.obs_assign.proofs.assignment.Assignment.spare.Goals as goal
+use Rattle.obs_assign.proofs.assignment.Assignment.spare.Goals.{After-spare_for}
 
-pub returns-clause-may : goal.returns-clause-may
-returns-clause-may c =
+-- what is found, as the assignment sees it
+found : (c : After-spare_for)
+    → IfSome c.spare_for.result (λ x. IsSpare c.args.g.now.ends c.args.self.now.slots c.args.self.now.frozen c.args.m c.args.e x)
+    × ((IsSome c.spare_for.result → MayPin c.args.self.now c.args.g.now.ends c.args.m c.args.e) × (MayPin c.args.self.now c.args.g.now.ends c.args.m c.args.e → IsSome c.spare_for.result))
+found c =
     let ins = c.self.inside in
     let ends = c.args.g.now.ends in
     let m = c.args.m in
@@ -25,4 +29,10 @@ returns-clause-may c =
     get_or-take n ins.frozen.items m false (omega arith) ∙ (get_or_default ins.frozen.items m false c.index.result.now (omega (arith, low, now_len, inv.whole.meters, inv.frozen_len)) ∙ (sym c.index.ensures ∙ c.if-index.false)) in
     let P : ℕ → List Bool → Type 0 = λ k f. MatchOption spare (joins ends (branches (part (has_flag (take k f)) (pairs_of ins.kept.slots))) e ≡ true) (λ x. IsSpare ends ins.kept.slots (take k f) m e x) in
     let h : P n ins.frozen.items = subst (λ f. P n f) c.deref.ensures.value (subst (λ k. P k c.deref.result.now) (ap (λ l. length l) c.slots-meters.ensures.slots) c.spare_for.ensures.spare) in
-    (spare_from (seen ins.kept ins.frozen.items ins.turns) c.args.self.now ends m e spare c.self.view_is thawed h).1
+    spare_from (seen ins.kept ins.frozen.items ins.turns) c.args.self.now ends m e spare c.self.view_is thawed h
+
+pub returns-clause-spare : goal.returns-clause-spare
+returns-clause-spare c = (found (goal.at.returns-clause-spare c).After-spare_for).0
+
+pub returns-clause-may : goal.returns-clause-may
+returns-clause-may c = (found (goal.at.returns-clause-may c).After-spare_for).1

@@ -1,10 +1,13 @@
-use Rattle.std.proofs.Common.{◌≡◌, ◌<◌, ℕ, Option, None, Some, List, length, take, get_or, refl, sym, ap, ◌∙◌, subst, arith}
+use Rattle.std.proofs.Common.{◌≡◌, ◌<◌, ◌++◌, ℕ, Option, None, Some, List, length, take, drop, get_or, refl, sym, ap, ◌∙◌, subst, arith}
 use Rattle.std.proofs.lemmas.List.{length-take-le}
 use Rattle.obs_forest.proofs.Lent.{lent_back, lent_len}
+use Rattle.obs_matroid.specs.Slots.{pairs_of}
 use Rattle.obs_assign.specs.Kept.{Kept, SlotsApart}
+use Rattle.obs_assign.specs.Still.{AreRetained}
 use Rattle.obs_assign.proofs.Slotted.{branch_low, slots_apart}
-use Rattle.obs_assign.proofs.Storing.{IsStored-made}
+use Rattle.obs_assign.proofs.Storing.{IsStored, IsStored-made, stored}
 use Rattle.obs_assign.proofs.kept.Kept.retain.Goals as goal
+use Rattle.obs_assign.proofs.kept.Kept.retain.Goals.{After-retain_pairs-self-inside}
 
 pub retain_pairs-self-inside-requires-clause-low : goal.retain_pairs-self-inside-requires-clause-low
 retain_pairs-self-inside-requires-clause-low c =
@@ -25,17 +28,56 @@ retain_pairs-self-inside-requires-clause-apart c =
     subst (λ (s : List (Option ℕ)). SlotsApart (take (length c.args.ms.now.touches) s)) (sym c.deref_mut.ensures.value)
     (subst (λ (j : ℕ). SlotsApart (take j ins.slots.items)) n (slots_apart ins.forest.held (take ins.meters ins.slots.items) k.holds.forest))
 
-pub invariant_of-self : goal.invariant_of-self
-invariant_of-self c =
+-- the meters are those of the touches
+meters_are : (c : After-retain_pairs-self-inside) → length c.args.ms.now.touches ≡ c.self.inside.meters
+meters_are c =
+    let ins = c.self.inside in
+    omega (arith, c.requires.meters, ap (λ (x : Kept). length x.slots) c.self.view_is, length-take-le ins.meters ins.slots.items c.self.invariant.meters_low)
+
+-- the slots, as the vector has them
+slots_back : (c : After-retain_pairs-self-inside) → take c.self.inside.slots.len (c.retain_pairs-self-inside.new.slots ++ drop (length c.retain_pairs-self-inside.new.slots) c.self.inside.slots.items) ≡ c.retain_pairs-self-inside.new.slots
+slots_back c =
+    let slots = c.self.inside.slots in
+    let call = c.retain_pairs-self-inside in
+    lent_back slots.len call.new.slots slots.items call.auto.slots c.deref_mut.ensures.value slots.ok.0
+
+made : (c : After-retain_pairs-self-inside)
+    → IsStored c.args.self.now c.args.g.now (take c.self.inside.meters c.retain_pairs-self-inside.new.slots)
+    (stored c.self.inside.meters c.retain_pairs-self-inside.new.slots c.retain_pairs-self-inside.new.forest) c.self.inside.meters c.retain_pairs-self-inside.result
+    c.retain_pairs-self-inside.new.owners c.retain_pairs-self-inside.new.list
+made c =
     let ins = c.self.inside in
     let k = c.self.invariant in
     let call = c.retain_pairs-self-inside in
-    let n : length c.args.ms.now.touches ≡ ins.meters =
-    omega (arith, c.requires.meters, ap (λ (x : Kept). length x.slots) c.self.view_is, length-take-le ins.meters ins.slots.items k.meters_low) in
-    let back_slots = lent_back ins.slots.len call.new.slots ins.slots.items call.auto.slots c.deref_mut.ensures.value ins.slots.ok.0 in
-    let back_owners = lent_back ins.owners.len call.new.owners ins.owners.items call.auto.owners c.deref_mut-2.ensures.value ins.owners.ok.0 in
-    let back_list = lent_back ins.list.len call.new.list ins.list.items call.auto.list c.deref_mut-3.ensures.value ins.list.ok.0 in
-    rw (back_slots, back_owners, back_list) (IsStored-made c.args.self.now c.args.g.now ins.meters ins.slots.items call.new.slots (take ins.meters call.new.slots) ins.forest call.new.forest call.result call.new.owners call.new.list
+    let n = meters_are c in
+    IsStored-made c.args.self.now c.args.g.now ins.meters ins.slots.items call.new.slots (take ins.meters call.new.slots) ins.forest call.new.forest call.result call.new.owners call.new.list
     c.self.view_is k.few k.meters_low (omega (arith, c.requires.positions, ap (λ (x : Kept). length x.forest.held) c.self.view_is, k.positions)) refl
     (lent_len call.new.slots call.auto.slots c.deref_mut.ensures.value) (rw (sym n) call.ensures.is_forest) (rw (sym n) call.ensures.forest) (rw (sym n) call.ensures.count) (rw (sym n) call.ensures.inverse)
-    (lent_len call.new.owners call.auto.owners c.deref_mut-2.ensures.value ∙ k.owners_len) (lent_len call.new.list call.auto.list c.deref_mut-3.ensures.value ∙ k.list_len) (rw (sym n) call.ensures.listed)).kept
+    (lent_len call.new.owners call.auto.owners c.deref_mut-2.ensures.value ∙ k.owners_len) (lent_len call.new.list call.auto.list c.deref_mut-3.ensures.value ∙ k.list_len) (rw (sym n) call.ensures.listed)
+
+pub invariant_of-self : goal.invariant_of-self
+invariant_of-self c =
+    let a = (goal.at.invariant_of-self c).After-retain_pairs-self-inside in
+    let ins = c.self.inside in
+    let call = c.retain_pairs-self-inside in
+    let back_owners = lent_back ins.owners.len call.new.owners ins.owners.items call.auto.owners c.deref_mut-2.ensures.value ins.owners.ok.0 in
+    let back_list = lent_back ins.list.len call.new.list ins.list.items call.auto.list c.deref_mut-3.ensures.value ins.list.ok.0 in
+    rw (slots_back a, back_owners, back_list) (made a).kept
+
+pub returns-clause-retained : goal.returns-clause-retained
+returns-clause-retained c =
+    let a = (goal.at.returns-clause-retained c).After-retain_pairs-self-inside in
+    let ins = c.self.inside in
+    let call = c.retain_pairs-self-inside in
+    let P : ℕ → List (Option ℕ) → Type 0 = λ n s. AreRetained c.args.g.now.ends c.args.ms.now.touches (pairs_of s) (pairs_of (take n call.new.slots)) in
+    rw (slots_back a) (subst (λ (s : List (Option ℕ)). P ins.meters s) (ap (λ (k : Kept). k.slots) c.self.view_is)
+    (subst (λ (n : ℕ). P n (take n ins.slots.items)) (meters_are a) (subst (λ (s : List (Option ℕ)). P (length c.args.ms.now.touches) (take (length c.args.ms.now.touches) s)) c.deref_mut.ensures.value call.ensures.retained)))
+
+pub returns-clause-forest : goal.returns-clause-forest
+returns-clause-forest c =
+    let a = (goal.at.returns-clause-forest c).After-retain_pairs-self-inside in
+    let n = meters_are a in
+    rw (slots_back a) (rw (sym n) c.retain_pairs-self-inside.ensures.is_forest)
+
+pub returns-clause-held : goal.returns-clause-held
+returns-clause-held c = let a = (goal.at.returns-clause-held c).After-retain_pairs-self-inside in rw (slots_back a) (made a).is
