@@ -1,8 +1,7 @@
-use Rattle.std.proofs.Common.{◌∙◌, sym, ap, take, arith, false}
-use Rattle.obs_meter.specs.Held.{Meters}
-use Rattle.obs_network.specs.Following.{followed, is_near}
+use Rattle.std.proofs.Common.{◌∙◌, sym, ap, take, arith}
+use Rattle.obs_network.specs.Following.{followed}
 use Rattle.obs_network.proofs.FollowedItems.{followed_far}
-use Rattle.obs_network.proofs.FollowedLoops.{Followed-end, Followed-far, Followed-near}
+use Rattle.obs_network.proofs.FollowedLoops.{Followed-far, Followed-near}
 use Rattle.obs_network.proofs.following.follow_behind.Goals as goal
 use Rattle.obs_network.proofs.following.follow_behind.Goals.{then-is_near, else-is_near}
 

@@ -1,5 +1,4 @@
 use Rattle.std.proofs.Common.{take, subst, sym}
-use Rattle.obs_meter.specs.Held.{Meters}
 use Rattle.obs_network.specs.Following.{AreFollowed, followed}
 use Rattle.obs_network.proofs.FollowedLoops.{Followed-then}
 use Rattle.obs_network.proofs.following.follow_items.Goals as goal

@@ -1,4 +1,4 @@
-use Rattle.std.proofs.Common.{◌∙◌, sym, ap, take, arith}
+use Rattle.std.proofs.Common.{◌∙◌, sym, take, arith}
 use Rattle.obs_network.proofs.FollowedLoops.{Meters-all, Meters-far, Meters-in_range, Meters-listed, Meters-near, Meters-read}
 use Rattle.obs_network.proofs.following.follow_meters.Goals as goal
 use Rattle.obs_network.proofs.following.follow_meters.Goals.{then-is_near, else-is_near}
