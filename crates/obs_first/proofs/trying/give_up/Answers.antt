@@ -4,7 +4,7 @@ use Rattle.obs_assign.specs.Assignment.{Assignment, branch_at, has_flag, pairs}
 use Rattle.obs_exchange.specs.declared.Sources.TheVariants.{All}
 use Rattle.obs_exchange.specs.Found.{Work}
 use Rattle.obs_exchange.specs.Noting.{AreNoted, Noted}
-use Rattle.obs_exchange.proofs.Lengthening.{Closed-again, rooms}
+use Rattle.obs_exchange.proofs.Lengthening.{Closed-again, room_again, rooms}
 use Rattle.obs_first.proofs.Aside.{dropped_bare, enough_or_aside, length-dropped}
 use Rattle.obs_first.specs.Deciding.{KeepsFrozen}
 use Rattle.obs_first.proofs.Changed.{bare_over, dropped_frozen, dropped_keeps, dropped_noted, grown_noted_less, noted_without, stands_again}
@@ -125,3 +125,24 @@ returns-in-Closed-clause-copied g c = c.search_by.ensures.copied ∙ (ap (λ (w 
 
 pub returns-in-Closed-clause-same_sizes : goal.returns-in-Closed-clause-same_sizes
 returns-in-Closed-clause-same_sizes g c = c.search_by.ensures.same_sizes ∙ ap (λ (w : Work). w.sizes) c.note.ensures.noted
+
+pub drop_pair-requires-clause-stands : goal.drop_pair-requires-clause-stands
+drop_pair-requires-clause-stands g c = c.requires.stands.forest
+
+pub drop_pair-requires-clause-m : goal.drop_pair-requires-clause-m
+drop_pair-requires-clause-m g c = omega (arith, c.requires.stands.meters, c.requires.m)
+
+pub note-requires : goal.note-requires
+note-requires g c = record { m = omega (arith, c.requires.m, c.requires.room.meters) }
+
+pub search_by-requires-clause-in_range : goal.search_by-requires-clause-in_range
+search_by-requires-clause-in_range g c = c.requires.in_range
+
+pub search_by-requires-clause-room : goal.search_by-requires-clause-room
+search_by-requires-clause-room g c = room_again c.args.g.now c.args.ms.now.touches c.args.work.now.sizes c.note.new.self.sizes (ap (λ (w : Work). w.sizes) c.note.ensures.noted) c.requires.room
+
+pub search_by-requires-clause-copied : goal.search_by-requires-clause-copied
+search_by-requires-clause-copied g c = ap (λ (w : Work). w.touches) c.note.ensures.noted ∙ c.requires.copied
+
+pub search_by-requires-clause-m : goal.search_by-requires-clause-m
+search_by-requires-clause-m g c = c.requires.m

@@ -1,6 +1,7 @@
-use Rattle.std.proofs.Common.{Bool, List, sym, ◌∙◌, subst, arith}
+use Rattle.std.proofs.Common.{Bool, List, length, refl, sym, ap, ◌∙◌, subst, arith}
+use Rattle.obs_meter.specs.Held.{Meters}
 use Rattle.obs_assign.specs.Assignment.{has_flag}
-use Rattle.obs_exchange.proofs.Lengthening.{rooms}
+use Rattle.obs_exchange.proofs.Lengthening.{room_again, rooms}
 use Rattle.obs_pairs.specs.Settled.{LacksClass}
 use Rattle.obs_pairs.proofs.Settling.{Settled-all, Settled-more, Settled-over}
 use Rattle.obs_pairs.proofs.settle.settle_all.Goals as goal
@@ -43,3 +44,53 @@ returns-clause-keyed g c =
     let e = c.count-m-end.ensures.count in
     let f = c.loop-m-test.false in
     Settled-all c.args.g.now.vertices c.args.g.now.ends c.args.ms.now.touches c.vertices.ensures.branches c.loop-m.waiting c.loop-m.list c.loop-m.m c.loop-m.invariant.settled (omega (arith, e, f))
+
+pub loop-m-init : goal.loop-m-init
+loop-m-init g c = record {
+  settled = c.requires.settled;
+  longest = c.requires.longest;
+  left = refl;
+  same_room = record { meters = refl; vertices = refl; branches = refl };
+  same_sizes = refl;
+}
+
+pub search_without-requires-clause-longest : goal.search_without-requires-clause-longest
+search_without-requires-clause-longest g c = c.loop-m.invariant.longest
+
+pub search_without-requires-clause-in_range : goal.search_without-requires-clause-in_range
+search_without-requires-clause-in_range g c = c.requires.in_range
+
+pub search_without-requires-clause-room : goal.search_without-requires-clause-room
+search_without-requires-clause-room g c = room_again c.args.g.now c.args.ms.now.touches c.args.exchange.now.sizes c.loop-m.exchange.sizes c.loop-m.invariant.same_sizes c.requires.room
+
+pub search_without-requires-clause-left : goal.search_without-requires-clause-left
+search_without-requires-clause-left g c = ap (λ (m : Meters). m.touches) c.loop-m.invariant.left ∙ c.requires.left
+
+pub search_without-requires-clause-redundant : goal.search_without-requires-clause-redundant
+search_without-requires-clause-redundant g c = c.loop-m.invariant.settled.opened c.loop-m.m c.if-waiting-m.true
+
+pub settle-requires-clause-waiting : goal.settle-requires-clause-waiting
+settle-requires-clause-waiting g c =
+    let flags = c.search_without.ensures.flags in
+    let same = ap length c.reached.ensures.reached in
+    let places = c.loop-m.invariant.settled.flags in
+    omega (arith, flags, same, places)
+
+pub settle-requires-clause-list : goal.settle-requires-clause-list
+settle-requires-clause-list g c =
+    let flags = c.search_without.ensures.flags in
+    let same = ap length c.reached.ensures.reached in
+    let places = c.loop-m.invariant.settled.places in
+    omega (arith, flags, same, places)
+
+pub returns-clause-longest : goal.returns-clause-longest
+returns-clause-longest g c = c.loop-m.invariant.longest
+
+pub returns-clause-left : goal.returns-clause-left
+returns-clause-left g c = c.loop-m.invariant.left
+
+pub returns-clause-same_room : goal.returns-clause-same_room
+returns-clause-same_room g c = c.loop-m.invariant.same_room
+
+pub returns-clause-same_sizes : goal.returns-clause-same_sizes
+returns-clause-same_sizes g c = c.loop-m.invariant.same_sizes

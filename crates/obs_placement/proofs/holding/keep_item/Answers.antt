@@ -16,3 +16,39 @@ mark_front-requires-clause-flags g c =
       touched = AreTouchedByKnown-more graph touches before after still c.args.known.now.touched flags.touched;
       fronts = AreFrontsOfKnown-more graph touches before after still c.args.known.now.fronts flags.fronts;
     })
+
+pub set-requires : goal.set-requires
+set-requires g c = record { m = omega (arith, c.requires.m, c.requires.beside.count) }
+
+pub mark_front-requires-clause-offer : goal.mark_front-requires-clause-offer
+mark_front-requires-clause-offer g c = c.requires.offer
+
+pub mark_front-requires-clause-m : goal.mark_front-requires-clause-m
+mark_front-requires-clause-m g c = c.requires.m
+
+pub mark_touched-requires-clause-offer : goal.mark_touched-requires-clause-offer
+mark_touched-requires-clause-offer g c = c.requires.offer
+
+pub mark_touched-requires-clause-m : goal.mark_touched-requires-clause-m
+mark_touched-requires-clause-m g c = c.requires.m
+
+pub mark_touched-requires-clause-flags : goal.mark_touched-requires-clause-flags
+mark_touched-requires-clause-flags g c = c.mark_front.ensures.flags
+
+pub freeze-requires-clause-offer : goal.freeze-requires-clause-offer
+freeze-requires-clause-offer g c = c.requires.offer
+
+pub freeze-requires-clause-m : goal.freeze-requires-clause-m
+freeze-requires-clause-m g c = c.requires.m
+
+pub freeze-requires-clause-stands : goal.freeze-requires-clause-stands
+freeze-requires-clause-stands g c = c.requires.beside.standing.stands
+
+pub freeze-requires-clause-whole : goal.freeze-requires-clause-whole
+freeze-requires-clause-whole g c = c.requires.beside.standing.whole
+
+pub returns-clause-slots : goal.returns-clause-slots
+returns-clause-slots g c = c.freeze.ensures.slots
+
+pub returns-clause-same_room : goal.returns-clause-same_room
+returns-clause-same_room g c = c.freeze.ensures.same_room

@@ -12,3 +12,18 @@ returns-clause-rank c =
     c.rank_of.ensures.rank
     ∙ rank_of_marked g.vertices g.ends c.pass-passed.new.flags
     (flat_map (touch_at g.ends touches) (listed g.ends touches (marked c.args.marks.now) (marked c.args.scope.now))) c.pass-passed.ensures.flags
+
+pub pass-passed-requires-clause-in_range : goal.pass-passed-requires-clause-in_range
+pass-passed-requires-clause-in_range c = c.requires.in_range
+
+pub pass-passed-requires-clause-list : goal.pass-passed-requires-clause-list
+pass-passed-requires-clause-list c = c.requires.list
+
+pub returns-clause-bound : goal.returns-clause-bound
+returns-clause-bound c = c.pass-passed.ensures.bound
+
+pub returns-clause-listed : goal.returns-clause-listed
+returns-clause-listed c = c.pass-passed.ensures.listed
+
+pub returns-clause-outside : goal.returns-clause-outside
+returns-clause-outside c = c.pass-passed.ensures.outside
