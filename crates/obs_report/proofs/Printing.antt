@@ -97,6 +97,31 @@ passed_printed {E = E} x {a = a} {b = b} {held = held} {bytes = bytes} {p = p} {
       (found.0, subst q (omega (arith, ap length none)) found.1);
 }
 
+-- bytes are held
+pub stored_printed : {T E : Type 0} (x : T) {a : Option (List ℕ)} {held bytes : List ℕ} {f : ℕ} {p : ℕ → Type 0}
+    → PrintsAt {U = T} {E = E} {F = E} a a held (held ++ bytes) f f p p (Ok x) (Ok x) bytes
+stored_printed {E = E} x {a = a} {held = held} {bytes = bytes} {p = p} = record {
+  written = λ start front (sent, whole, wrote). (sent, ap (λ t. t ++ bytes) whole ∙ append_assoc sent held bytes, wrote);
+  later = omega arith;
+  cause = λ ok. tt;
+  quiet = λ ok. (refl, refl);
+  room = λ ok rest has. (refl, subst p (omega (arith, length-append held bytes)) has);
+}
+
+-- nothing is printed behind a failure
+pub failed_printed : {T E : Type 0} (e : E) {a : Option (List ℕ)} {held bytes : List ℕ} {f : ℕ} {p : ℕ → Type 0}
+    → PrintsAt {T = T} {U = T} {E = E} {F = E} a a held held f f p p (Err e) (Err e) bytes
+failed_printed {T = T} {E = E} e {a = a} {held = held} {bytes = bytes} {p = p} = record {
+  written = λ start front part. part_longer start a front bytes part;
+  later = omega arith;
+  cause = λ ok. absurd (no ok);
+  quiet = λ ok. absurd (no ok);
+  room = λ ok rest has. absurd (no ok);
+}
+  where
+    no : IsOk {T = T} {E = E} (Err e) → ⊥
+    no ok = absurd cc
+
 -- a piece behind pieces
 pub then_line : {T E : Type 0} {a b d : Option (List ℕ)} {h i j : List ℕ} {f k l : ℕ} {p q o : ℕ → Type 0} {r s t : Result T E} {one two text : List ℕ}
     → PrintsAt a b h i f k p q r s one → PrintsAt b d i j k l q o s t two → one ++ two ≡ text → PrintsAt a d h j f l p o r t text

@@ -48,3 +48,8 @@ module _ (t : Tables) (inside : List ℕ) (layers : List Layer) (k u : ℕ) (tex
             ∙ (append_assoc text piece (layers_text t inside l.upto (drop (suc k) layers)) ∙ (ap (λ r. text ++ layers_text t inside u r) (sym here) ∙ left.whole));
         counts = subst (λ i. AreCountsOf (length inside) l.upto (drop i layers)) step counts_here.2;
       }
+
+-- no layer is left
+pub layer_none : (t : Tables) (inside : List ℕ) (layers : List Layer) (k u : ℕ) (text : List ℕ) → length layers ≤ k → AreLeft t inside layers k u text → text ≡ layers_text t inside 0 layers
+layer_none t inside layers k u text l left =
+    sym (append-nil text) ∙ (ap (λ r. text ++ layers_text t inside u r) (sym (drop_of_length-le layers l)) ∙ left.whole)

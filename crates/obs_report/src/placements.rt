@@ -10,6 +10,7 @@ ghost use Rattle.obs_report.specs.Printed.{Appends, Prints};
 use crate::items::{print_list, print_pair};
 use crate::line_buffer::LineBuffer;
 use crate::names::candidate_name;
+use crate::totals::print_total;
 use obs_assign::Assignment;
 use obs_case::Case;
 use obs_io::{Failed, Sink};
@@ -22,8 +23,7 @@ fn print_cost<W: Sink>(lines: &mut LineBuffer, output: &mut W, cost: u64)
     ensures printed { Prints W.written W.faults W.has_room output.old output.new lines.old lines.new
         (cost_line cost) }
 {
-    let mut digits = Digits::new();
-    lines.line(output, &[b"cost", digits.text(cost)]);
+    print_total(lines, output, b"cost", cost);
 }
 
 // Prints the line of a chosen candidate.

@@ -7,8 +7,8 @@ use crate::line_buffer::LineBuffer;
 use obs_io::{Failed, Sink};
 use obs_text::Digits;
 
-// Prints the line of a word and a number.
-fn print_total<W: Sink>(lines: &mut LineBuffer, output: &mut W, what: &[u8], n: u64)
+/// Prints the line of a word and a number.
+pub(crate) fn print_total<W: Sink>(lines: &mut LineBuffer, output: &mut W, what: &[u8], n: u64)
     ensures printed { Prints W.written W.faults W.has_room output.old output.new lines.old lines.new
         (total_line what.now n) }
 {

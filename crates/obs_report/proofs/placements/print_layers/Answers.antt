@@ -1,14 +1,30 @@
-use Rattle.std.proofs.Common.{◌++◌, get_or}
+use Rattle.std.proofs.Common.{◌++◌, [], get_or, length, refl, subst}
 use Rattle.std.proofs.Math.Seq.{drop-cons}
 use Rattle.obs_placement.specs.declared.plans.Layer.{Layer}
-use Rattle.obs_report.specs.Placements.{layer_line, listed_between}
-use Rattle.obs_report.proofs.Printing.{then_printed}
-use Rattle.obs_report.proofs.Slotted.{layer_more}
+use Rattle.obs_report.specs.Placements.{AreCountsOf, layer_line, listed_between}
+use Rattle.obs_report.proofs.Printing.{nothing_printed, then_printed}
+use Rattle.obs_report.proofs.Slotted.{layer_more, layer_none}
 use Rattle.obs_report.proofs.placements.print_layers.Goals as goal
 
 -- what an index gives past the end
 abbrev none : Layer
 none = record { from = 0; to = 0; rank = 0; outside = 0; upto = 0 }
+
+pub loop-k-init : goal.loop-k-init
+loop-k-init g c = ([], nothing_printed _, record { whole = refl; counts = c.requires.counts })
+
+pub print_layer-requires-clause-inside : goal.print_layer-requires-clause-inside
+print_layer-requires-clause-inside g c = c.requires.inside
+
+pub print_layer-requires-clause-rising : goal.print_layer-requires-clause-rising
+print_layer-requires-clause-rising g c =
+    let l = c.loop-k in
+    (subst (AreCountsOf (length c.args.inside.now) l.upto) (drop-cons c.args.layers.now l.k none c.loop-k-test.true) l.invariant.2.counts).0
+
+pub print_layer-requires-clause-within : goal.print_layer-requires-clause-within
+print_layer-requires-clause-within g c =
+    let l = c.loop-k in
+    (subst (AreCountsOf (length c.args.inside.now) l.upto) (drop-cons c.args.layers.now l.k none c.loop-k-test.true) l.invariant.2.counts).1
 
 pub loop-k-preserved : goal.loop-k-preserved
 loop-k-preserved g c =
@@ -23,3 +39,9 @@ loop-k-preserved g c =
       then_printed inv.1 c.print_layer.ensures.printed,
       layer_more t inside layers k u inv.0 l (drop-cons layers k none c.loop-k-test.true) inv.2,
     )
+
+pub returns : goal.returns
+returns g c =
+    let inv = c.loop-k.invariant in
+    let done = layer_none c.args.case.now c.args.inside.now c.args.layers.now c.loop-k.k c.loop-k.upto inv.0 c.loop-k-test.false inv.2 in
+    record { printed = rw done at inv.1 }
