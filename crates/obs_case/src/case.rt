@@ -9,7 +9,7 @@ ghost use Rattle.obs_case.specs.Tables.{IsValid, branch_names, candidate_names, 
 use crate::limits::MOST_ROWS;
 use crate::name::Name;
 use crate::rows::{Branch, Candidate, Kind, Meter, Node, Switch};
-use crate::table::{AddFault, add, find, find_both, put, refusal};
+use crate::table::{AddFault, add, find, find_both, let_go, put, refusal};
 use indexmap::IndexSet;
 use std::alloc::Global;
 use std::marker::Model;
@@ -40,12 +40,17 @@ impl Model for Case {
 impl Drop for Case {
     fn drop(self) {
         let Case {
-            nodes: _,
-            switches: _,
-            branches: _,
-            meters: _,
-            candidates: _,
+            nodes,
+            switches,
+            branches,
+            meters,
+            candidates,
         } = self;
+        let_go(nodes);
+        let_go(switches);
+        let_go(branches);
+        let_go(meters);
+        let_go(candidates);
     }
 }
 
