@@ -1,26 +1,25 @@
 -- Pairs and greatest lengths where some meters are lost.
-use Rattle.std.proofs.Common.{◌≡◌, ◌↔◌, ℕ, suc, ◌+◌, ◌<◌, ◌≤◌, Bool, true, false, not, ◌&&◌, ◌||◌, eqb, cond, Option, Some, None, List, [], ◌∷◌, length, get_or, set, take, refl, sym, ap, ◌∙◌, subst, inl, inr, arith}
-use Rattle.std.specs.Prelude.{All, filter}
-use Rattle.std.specs.List.{list_any, range_with_len}
-use Rattle.std.proofs.Math.Seq.{take-length}
-use Rattle.std.proofs.lemmas.Bool.{and_from, and_parts, cases_Bool, cases_eq, eq-eqb, eqb-true, ne_eqb, not-true}
-use Rattle.std.proofs.lemmas.List.{get_or-set_other, get_or-set_same, get_or_past, length-set, set-get_or, set-set, take_all}
+use Rattle.std.proofs.Common.{◌≡◌, ℕ, ◌+◌, ◌<◌, ◌≤◌, Bool, true, false, not, ◌&&◌, ◌||◌, eqb, cond, Option, Some, None, List, [], ◌∷◌, length, get_or, set, take, refl, sym, ap, ◌∙◌, subst, inl, inr, arith}
+use Rattle.std.specs.Prelude.{filter}
+use Rattle.std.specs.List.{range_with_len}
+use Rattle.std.proofs.lemmas.Bool.{cases_Bool, cases_eq, eq-eqb, ne_eqb}
+use Rattle.std.proofs.lemmas.List.{get_or-set_other, get_or-set_same, length-set, set-get_or, set-set}
 use Rattle.std.proofs.lemmas.List.Folds.{list_any_more}
 use Rattle.obs_graph.specs.declared.Ends.{Ends}
 use Rattle.obs_graph.specs.Graph.{Graph}
-use Rattle.obs_matroid.specs.Lists.{In, without}
+use Rattle.obs_matroid.specs.Lists.{In}
 use Rattle.obs_matroid.specs.Assignments.{Pair}
 use Rattle.obs_matroid.specs.Slots.{pairs_of}
 use Rattle.obs_matroid.proofs.Comparing.{cases_Option}
-use Rattle.obs_matroid.proofs.Lists.{In-filter, In-filter_from, clash}
+use Rattle.obs_matroid.proofs.Lists.{In-filter_from, clash}
 use Rattle.obs_meter.specs.declared.Touch.{Touch}
 use Rattle.obs_meter.specs.declared.Touch.TheVariants.{Nothing}
 use Rattle.obs_meter.specs.Assignments.{IsAssignmentAt, IsRhoAt}
 use Rattle.obs_meter.specs.Held.{Meters}
 use Rattle.obs_meter.specs.Lost.{is_listed, left_of, losing}
-use Rattle.obs_meter.specs.Touches.{every_item, is_live, live_items}
-use Rattle.obs_meter.proofs.Assigned.{every-to_live, live-to_every}
-use Rattle.obs_meter.proofs.Lost.{assignment-lost, length-losing, live_items-losing, losing-again, losing-at, losing-but, losing-none, losing-one, losing-same, rho-left, rho-lost, touch-left, touch-lost}
+use Rattle.obs_meter.specs.Touches.{every_item, live_items}
+use Rattle.obs_meter.proofs.Assigned.{every-to_live}
+use Rattle.obs_meter.proofs.Lost.{assignment-lost, length-losing, live_items-losing, losing-again, losing-but, losing-none, losing-same, rho-lost, touch-left, touch-lost}
 use Rattle.obs_assign.specs.Assignment.{Assignment, HasRoomOf, IsWhole, StandsOver, branch_at, pairs}
 use Rattle.obs_assign.proofs.Moving.{length-put_bare}
 use Rattle.obs_assign.proofs.Slotted.{none_some}

@@ -1,10 +1,8 @@
-use Rattle.std.proofs.Common.{◌≡◌, ◌<◌, ℕ, Bool, List, None, cond, length, refl, ap, ◌∙◌, sym, arith}
+use Rattle.std.proofs.Common.{◌≡◌, ◌<◌, ℕ, List, None, cond, length, refl, ap, ◌∙◌, arith}
 use Rattle.std.specs.Prelude.{slice_index_or}
 use Rattle.std.proofs.lemmas.List.{take_all}
 use Rattle.std.proofs.lemmas.List.Elements.{All-get_or}
-use Rattle.obs_meter.specs.Held.{Meters}
 use Rattle.obs_meter.specs.Lost.{is_listed, losing}
-use Rattle.obs_meter.proofs.Lost.{length-losing}
 use Rattle.obs_assign.specs.Assignment.{branch_at}
 use Rattle.obs_exchange.proofs.Losing.{AreLost-more, AreLost-none, AreLost-same}
 use Rattle.obs_exchange.proofs.loss.lose.Goals as goal

@@ -1,4 +1,4 @@
-use Rattle.std.proofs.Common.{◌≡◌, ap, ◌∙◌, List}
+use Rattle.std.proofs.Common.{ap, ◌∙◌, List}
 use Rattle.obs_meter.specs.declared.Touch.{Touch}
 use Rattle.obs_meter.proofs.Lost.{losing-one}
 use Rattle.obs_exchange.proofs.loss.lose_one.Goals as goal

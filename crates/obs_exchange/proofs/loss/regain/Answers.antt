@@ -1,8 +1,7 @@
-use Rattle.std.proofs.Common.{◌≡◌, ◌<◌, ℕ, Bool, not, ◌&&◌, List, length, get_or, refl, ap, ◌∙◌, arith}
+use Rattle.std.proofs.Common.{◌<◌, ℕ, not, ◌&&◌, List, length, refl, ap, ◌∙◌, arith}
 use Rattle.std.specs.Prelude.{slice_index_or}
 use Rattle.std.proofs.lemmas.List.{take_all}
 use Rattle.std.proofs.lemmas.List.Elements.{All-get_or}
-use Rattle.obs_meter.specs.Held.{Meters}
 use Rattle.obs_meter.specs.Lost.{is_listed, losing}
 use Rattle.obs_exchange.proofs.Losing.{AreRegained-more, AreRegained-none}
 use Rattle.obs_exchange.proofs.loss.regain.Goals as goal
