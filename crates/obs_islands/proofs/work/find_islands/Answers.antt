@@ -3,7 +3,6 @@ use Rattle.obs_graph.proofs.Stored.{written_back}
 use Rattle.obs_meter.specs.declared.Touch.{Touch}
 use Rattle.obs_meter.specs.Held.{Meters}
 use Rattle.obs_meter.specs.Sizes.{HasRoomFor}
-use Rattle.obs_meter.specs.Touches.{AreInRange}
 use Rattle.obs_assign.specs.Assignment.{StandsOver}
 use Rattle.obs_exchange.proofs.Lengthening.{room_again}
 use Rattle.obs_islands.specs.Firsts.{islands_of}
@@ -41,11 +40,6 @@ pub find_firsts-requires-clause-stands : goal.find_firsts-requires-clause-stands
 find_firsts-requires-clause-stands g c =
     let same = ap (λ (m : Meters). m.touches) c.refill.ensures.whole ∙ c.touches.ensures.touches in
     subst (λ (ts : List Touch). StandsOver c.carry_over.new.pairs c.args.g.now ts) (sym same) c.carry_over.ensures.stands
-
-pub find_firsts-requires-clause-in_range : goal.find_firsts-requires-clause-in_range
-find_firsts-requires-clause-in_range g c =
-    let same = ap (λ (m : Meters). m.touches) c.refill.ensures.whole ∙ c.touches.ensures.touches in
-    subst (λ (ts : List Touch). AreInRange c.args.g.now ts) (sym same) c.requires.in_range
 
 pub find_firsts-requires-clause-room : goal.find_firsts-requires-clause-room
 find_firsts-requires-clause-room g c =
