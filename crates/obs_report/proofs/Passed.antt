@@ -1,5 +1,5 @@
 -- Lines for those items of a list that pass a test, one behind the other.
-use Rattle.std.proofs.Common.{◌≡◌, ◌∙◌, ℕ, ◌+◌, ◌-◌, ◌<◌, ◌≤◌, suc, Bool, List, [], ◌∷◌, ◌++◌, filter, refl, sym, ap, append_assoc, append-nil, inl, inr, arith}
+use Rattle.std.proofs.Common.{◌≡◌, ◌∙◌, ℕ, ◌+◌, ◌-◌, ◌<◌, ◌≤◌, suc, Bool, true, false, List, [], ◌∷◌, ◌++◌, filter, refl, sym, ap, append_assoc, append-nil, inl, inr, arith}
 use Rattle.std.specs.List.{flat_map, range_with_len}
 use Rattle.std.proofs.lemmas.Bool.{cases_Bool}
 
@@ -11,6 +11,13 @@ module _ {X : Type 0} (f : X → List ℕ) (p : X → Bool) where
         | inl e ↦ rw e (ap (λ t. t ++ flat_map f (filter p xs)) (append-nil (f x)))
         | inr e ↦ rw e refl
       ]
+
+  -- those of one item
+  pub passed : (x : X) → p x ≡ true → flat_map f (filter p (x ∷ [])) ≡ f x
+  passed x e = rw e (append-nil (f x))
+
+  pub passed_over : (x : X) → p x ≡ false → flat_map f (filter p (x ∷ [])) ≡ []
+  passed_over x e = rw e refl
 
 module _ (f : ℕ → List ℕ) (p : ℕ → Bool) where
   -- the lines of one number more of a row

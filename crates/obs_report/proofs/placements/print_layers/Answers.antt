@@ -36,7 +36,7 @@ loop-k-preserved g c =
     let u = c.loop-k.upto in
     let l = get_or layers k none in (
       inv.0 ++ (layer_line l ++ listed_between t inside u l.upto),
-      then_printed inv.1 c.print_layer.ensures.printed,
+      then_printed {two = layer_line l ++ listed_between t inside u l.upto} inv.1 c.print_layer.ensures.printed,
       layer_more t inside layers k u inv.0 l (drop-cons layers k none c.loop-k-test.true) inv.2,
     )
 

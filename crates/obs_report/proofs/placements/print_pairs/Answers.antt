@@ -19,6 +19,9 @@ print_pair-requires-clause-branch g c =
     let t = c.args.case.now in
     rw c.branch_of-branch.ensures.branch (held_branch t c.args.pairs.now (λ m e h. offered_branch t c.meters.ensures.valid m e (c.requires.pairs.touched m e h)) c.loop-m.m)
 
+pub print_pair-requires-clause-item : goal.print_pair-requires-clause-item
+print_pair-requires-clause-item g c = omega (arith, c.loop-m-test.true, ap length c.meters.ensures.rows, ap length c.candidates.ensures.rows)
+
 pub loop-m-preserved : goal.loop-m-preserved
 loop-m-preserved g c =
     let inv = c.loop-m.invariant in
