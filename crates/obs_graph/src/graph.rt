@@ -5,7 +5,8 @@ ghost use Rattle.obs_graph.specs.Graph.{itself_of};
 
 use crate::Ends;
 use crate::memory::NoMemory;
-use crate::parts::{lay_out, number, part, store};
+use crate::parts::{number, part, store};
+use crate::setting::{bring_in, take_away};
 use std::alloc::Global;
 use std::marker::Model;
 
@@ -98,8 +99,10 @@ impl Graph {
         requires ends { IfSome ends (λ x. (x.a < self.old.vertices) × (x.b < self.old.vertices) × (x.a ≢ x.b)) }
         ensures whole { self.new ≡ record self.old { ends = slice_set self.old.ends e ends } }
     {
+        let n = self.positions;
+        take_away(&self.ends[..n], &mut self.starts, &mut self.at, e);
         self.ends[e as usize] = ends;
-        lay_out(&self.ends[..self.positions], &mut self.starts, &mut self.at);
+        bring_in(&self.ends[..n], &mut self.starts, &mut self.at, e);
     }
 
     /// Has so many vertices. No branch has an end at one that comes.
