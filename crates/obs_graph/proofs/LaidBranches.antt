@@ -1,5 +1,5 @@
 -- The parts of a graph's vertices in a flat list, where a position is taken out or put in.
-use Rattle.std.proofs.Common.{◌≡◌, ℕ, zero, suc, ◌+◌, ◌-◌, ◌*◌, ◌<◌, ◌≤◌, true, false, eqb, ltb, ⊎_elim, Option, Some, None, List, [], ◌∷◌, ◌++◌, length, get_or, map, set, take, drop, refl, sym, ap, ◌∙◌, arith}
+use Rattle.std.proofs.Common.{◌≡◌, ℕ, zero, suc, ◌+◌, ◌-◌, ◌*◌, ◌<◌, ◌≤◌, true, eqb, ltb, ⊎_elim, Option, Some, None, List, ◌∷◌, ◌++◌, length, get_or, map, set, take, drop, refl, sym, ap, ◌∙◌, arith}
 use Rattle.std.specs.Prelude.{All}
 use Rattle.std.specs.List.{count_by, insert, remove, slice_range}
 use Rattle.std.proofs.Math.Seq.{take-add}
@@ -68,7 +68,7 @@ pub record IsBranchAt (n : ℕ) (bs : List (Option Ends)) (e : ℕ) (x : Ends) :
   pub apart : x.a ≡ x.b → ⊥
 
 pub branch_there : (n : ℕ) (bs : List (Option Ends)) (e : ℕ) (x : Ends) → AreBranches n bs → e < length bs → get_or bs e None ≡ Some x → IsBranchAt n bs e x
-branch_there n bs e x all here is = let b = branch_at n bs e x all here is in record { here = here; is = is; a_low = b.0; b_low = b.1; apart = b.2; }
+branch_there n bs e x all here is = let b = branch_at n bs e x all here is in record { here = here; is = is; a_low = b.0; b_low = b.1; apart = b.2 }
 
 module _ (n : ℕ) (bs : List (Option Ends)) (e : ℕ) (x : Ends) (b : IsBranchAt n bs e x) where
   abbrev low : ℕ → List ℕ

@@ -6,7 +6,7 @@ ghost use Rattle.obs_graph.specs.Graph.{itself_of};
 use crate::Ends;
 use crate::memory::NoMemory;
 use crate::parts::{number, part, store};
-use crate::setting::{bring_in, take_away};
+use crate::setting::set_branch;
 use std::alloc::Global;
 use std::marker::Model;
 
@@ -99,10 +99,14 @@ impl Graph {
         requires ends { IfSome ends (λ x. (x.a < self.old.vertices) × (x.b < self.old.vertices) × (x.a ≢ x.b)) }
         ensures whole { self.new ≡ record self.old { ends = slice_set self.old.ends e ends } }
     {
-        let n = self.positions;
-        take_away(&self.ends[..n], &mut self.starts, &mut self.at, e);
-        self.ends[e as usize] = ends;
-        bring_in(&self.ends[..n], &mut self.starts, &mut self.at, e);
+        set_branch(
+            self.positions,
+            &mut self.ends,
+            &mut self.starts,
+            &mut self.at,
+            e,
+            ends,
+        );
     }
 
     /// Has so many vertices. No branch has an end at one that comes.

@@ -1,5 +1,5 @@
 // One position is taken out of the parts of a flat list, and put into them, in place.
-ghost use Rattle.std.specs.Prelude.{◌≡◌, ◌+◌, ◌-◌, ◌*◌, ◌^◌, ◌<◌, ◌≤◌, ◌++◌, suc, length, map, take, drop, nat_lt, All, None, slice_index, slice_set, count_by};
+ghost use Rattle.std.specs.Prelude.{◌≡◌, ◌+◌, ◌-◌, ◌*◌, ◌^◌, ◌<◌, ◌≤◌, ◌≢◌, ◌++◌, suc, length, map, take, drop, nat_lt, All, IfSome, None, slice_index, slice_set, count_by};
 ghost use Rattle.std.specs.List.{insert, remove};
 ghost use Rattle.std.specs.List.Sorted.{IsNonDecreasing, IsPartitionedBy};
 ghost use Rattle.obs_graph.specs.Positions.{AreBranches, AreStarts, AreParts};
@@ -72,7 +72,7 @@ fn take_out(starts: &mut [usize], at: &mut [u32], v: u32, i: u32)
 }
 
 /// Takes a position out of the parts of its ends.
-pub(crate) fn take_away(branches: &[Option<Ends>], starts: &mut [usize], at: &mut [u32], e: u32)
+fn take_away(branches: &[Option<Ends>], starts: &mut [usize], at: &mut [u32], e: u32)
     requires e { e < length branches.now }
     requires branches { AreBranches (length starts.old - 1) branches.now }
     requires room { 2 * length branches.now ≤ length at.old }
@@ -88,7 +88,7 @@ pub(crate) fn take_away(branches: &[Option<Ends>], starts: &mut [usize], at: &mu
 }
 
 /// Puts a position that is in no part into the parts of its ends.
-pub(crate) fn bring_in(branches: &[Option<Ends>], starts: &mut [usize], at: &mut [u32], e: u32)
+fn bring_in(branches: &[Option<Ends>], starts: &mut [usize], at: &mut [u32], e: u32)
     requires e { e < length branches.now }
     requires branches { AreBranches (length starts.old - 1) branches.now }
     requires room { 2 * length branches.now ≤ length at.old }
@@ -101,4 +101,29 @@ pub(crate) fn bring_in(branches: &[Option<Ends>], starts: &mut [usize], at: &mut
         put_in(starts, at, ends.a, e);
         put_in(starts, at, ends.b, e);
     }
+}
+
+/// Gives one of the first branches these ends, or none.
+pub(crate) fn set_branch(
+    count: usize,
+    branches: &mut [Option<Ends>],
+    starts: &mut [usize],
+    at: &mut [u32],
+    e: u32,
+    ends: Option<Ends>,
+)
+    requires held { count ≤ length branches.old }
+    requires e { e < count }
+    requires branches { AreBranches (length starts.old - 1) (take count branches.old) }
+    requires ends { IfSome ends (λ x. (x.a < length starts.old - 1) × (x.b < length starts.old - 1) × (x.a ≢ x.b)) }
+    requires room { 2 * length branches.old ≤ length at.old }
+    requires starts { AreStarts (length starts.old) (take count branches.old) starts.old }
+    requires parts { AreParts (length starts.old - 1) (take count branches.old) at.old }
+    ensures set { branches.new ≡ slice_set branches.old e ends }
+    ensures starts { AreStarts (length starts.old) (take count branches.new) starts.new }
+    ensures parts { AreParts (length starts.old - 1) (take count branches.new) at.new }
+{
+    take_away(&branches[..count], starts, at, e);
+    branches[e as usize] = ends;
+    bring_in(&branches[..count], starts, at, e);
 }

@@ -1,6 +1,6 @@
 use Rattle.std.proofs.Common.{◌≡◌, ◌+◌, ltb, suc, set, take, get_or, ap, ◌∙◌, arith}
-use Rattle.std.specs.List.{copy_within, count_by, insert}
-use Rattle.obs_graph.specs.Placing.{part_of, place_of, total_of}
+use Rattle.std.specs.List.{copy_within, count_by}
+use Rattle.obs_graph.specs.Placing.{place_of, total_of}
 use Rattle.obs_graph.proofs.Shifted.{changed_from, place_low, shifted_up}
 use Rattle.obs_graph.proofs.setting.put_in.Goals as goal
 

@@ -1,5 +1,4 @@
-use Rattle.std.proofs.Common.{◌≡◌, ◌-◌, ◌*◌, ◌≤◌, set, None, length, refl, arith}
-use Rattle.obs_graph.specs.Positions.{branches_at}
+use Rattle.std.proofs.Common.{◌-◌, ◌*◌, ◌≤◌, set, None, length, refl, arith}
 use Rattle.obs_graph.proofs.LaidParts.{CanTake, IsLaid}
 use Rattle.obs_graph.proofs.LaidBranches.{branch_there, can_take_first, can_take_second, half_out, laid_all, laid_parts, laid_starts, take_first, take_second}
 use Rattle.obs_graph.proofs.setting.take_away.Goals as goal
