@@ -7,6 +7,10 @@ pub mod Exchange
 pub mod Glue
 pub mod IsJoined
 pub mod FlatParts
+pub mod LaidParts
+pub mod Shifted
+pub mod SetPositions
+pub mod LaidBranches
 pub mod Stored
 pub mod Shapes
 pub mod MergedBy

@@ -1,8 +1,10 @@
 -- The arrays of a graph.
-use Rattle.std.proofs.Common.{◌≡◌, ℕ, suc, ◌*◌, ◌^◌, ◌<◌, ◌≤◌, Option, List, [], ◌++◌, length, get_or, take, drop, refl, sym, ap, ◌∙◌, arith}
-use Rattle.std.proofs.lemmas.List.{length-take, drop_all, append-nil, take_all}
+use Rattle.std.proofs.Common.{◌≡◌, ◌≢◌, ℕ, suc, ◌-◌, ◌*◌, ◌^◌, ◌<◌, ◌≤◌, Option, IfSome, List, [], ◌++◌, length, get_or, set, take, drop, refl, sym, ap, ◌∙◌, subst, arith}
+use Rattle.std.proofs.Math.Seq.{take-set-lt}
+use Rattle.std.proofs.lemmas.List.{length-set, length-take, drop_all, append-nil, take_all}
+use Rattle.std.proofs.lemmas.List.Elements.{All-set}
 use Rattle.obs_graph.specs.declared.Ends.{Ends}
-use Rattle.obs_graph.specs.Positions.{part_start}
+use Rattle.obs_graph.specs.Positions.{AreBranches, AreParts, AreStarts, part_start}
 use Rattle.obs_graph.specs.Graph.{IsStored}
 use Rattle.obs_graph.proofs.FlatParts.{part_start-le}
 
@@ -29,6 +31,26 @@ IsStored-none ends itself starts at few below len room own zeros =
       room = room;
       starts_is = λ v l. zeros v l ∙ sym (nothing_starts v);
       parts = λ v l. rw (nothing_starts v) refl;
+    }
+
+-- a graph where one position has other ends
+pub IsStored-set : (vertices positions : ℕ) (ends new : List (Option Ends)) (itself starts at starts' at' : List ℕ) → IsStored vertices positions ends itself starts at
+    → (e : ℕ) (after : Option Ends) → e < positions → IfSome after (λ x. (x.a < vertices) × (x.b < vertices) × (x.a ≢ x.b)) → new ≡ set ends e after → length starts' ≡ length starts → length at' ≡ length at
+    → AreStarts (length starts) (take positions new) starts' → AreParts (length starts - 1) (take positions new) at' → IsStored vertices positions new itself starts' at'
+IsStored-set vertices positions ends new itself starts at starts' at' s e after low is_in is starts_len at_len begin parts =
+    let size : length new ≡ length ends = ap length is ∙ length-set ends e after in
+    let rows : take positions new ≡ set (take positions ends) e after = ap (take positions) is ∙ take-set-lt positions ends e after low in
+    let In : Option Ends → Type 0 = λ o. IfSome o (λ x. (x.a < vertices) × (x.b < vertices) × (x.a ≢ x.b)) in
+    record {
+      few = omega (arith, size, s.few);
+      held = omega (arith, size, s.held);
+      below = omega (arith, starts_len, s.below);
+      branches = subst (λ bs. AreBranches vertices bs) (sym rows) (All-set In (take positions ends) e after is_in s.branches);
+      itself_len = s.itself_len ∙ sym size;
+      itself_is = λ k l. s.itself_is k (omega (arith, size));
+      room = omega (arith, size, at_len, s.room);
+      starts_is = λ v l. begin v (omega (arith, starts_len));
+      parts = λ v l. parts v (omega (arith, starts_len));
     }
 
 -- a whole slice of a `Vec` that was written through

@@ -1,5 +1,5 @@
 -- What a graph is: a number of vertices, and branches at positions, some of them absent.
-use Rattle.std.specs.Prelude.{◌≡◌, ℕ, ◌*◌, ◌^◌, ◌<◌, ◌≤◌, Option, None, Some, List, [], ◌∷◌, length, take, slice_index}
+use Rattle.std.specs.Prelude.{◌≡◌, ℕ, ◌-◌, ◌*◌, ◌^◌, ◌<◌, ◌≤◌, Option, None, Some, List, [], ◌∷◌, length, take, slice_index}
 use Rattle.obs_graph.specs.declared.Ends.{Ends}
 use Rattle.obs_graph.specs.Positions.{AreBranches, AreStarts, AreParts}
 
@@ -32,4 +32,4 @@ pub record IsStored (vertices positions : ℕ) (ends : List (Option Ends)) (itse
   pub itself_is : (k : ℕ) → k < length ends → slice_index itself k ≡ k
   pub room : 2 * length ends ≤ length at
   pub starts_is : AreStarts (length starts) (take positions ends) starts
-  pub parts : AreParts (length starts) (take positions ends) at
+  pub parts : AreParts (length starts - 1) (take positions ends) at

@@ -1,4 +1,5 @@
 pub mod Joined
 pub mod Positions
+pub mod Placing
 pub mod Graph
 pub mod Search

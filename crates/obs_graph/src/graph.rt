@@ -5,7 +5,8 @@ ghost use Rattle.obs_graph.specs.Graph.{itself_of};
 
 use crate::Ends;
 use crate::memory::NoMemory;
-use crate::parts::{lay_out, number, part, store};
+use crate::parts::{number, part, store};
+use crate::setting::set_branch;
 use std::alloc::Global;
 use std::marker::Model;
 
@@ -98,8 +99,14 @@ impl Graph {
         requires ends { IfSome ends (λ x. (x.a < self.old.vertices) × (x.b < self.old.vertices) × (x.a ≢ x.b)) }
         ensures whole { self.new ≡ record self.old { ends = slice_set self.old.ends e ends } }
     {
-        self.ends[e as usize] = ends;
-        lay_out(&self.ends[..self.positions], &mut self.starts, &mut self.at);
+        set_branch(
+            self.positions,
+            &mut self.ends,
+            &mut self.starts,
+            &mut self.at,
+            e,
+            ends,
+        );
     }
 
     /// Has so many vertices. No branch has an end at one that comes.

@@ -14,6 +14,7 @@ mod memory;
 pub mod parts;
 mod rank;
 pub mod search;
+mod setting;
 
 pub use graph::Graph;
 pub use memory::NoMemory;
