@@ -21,4 +21,6 @@ pub use rows::{NAME_ROOM, branch_name};
 pub use section::sections;
 
 #[cfg(test)]
+mod part_tests;
+#[cfg(test)]
 mod tests;

@@ -5,7 +5,7 @@ use crate::fault::{CdfEnd, CdfFault};
 use obs_case_csv::TableEnd;
 
 /// Why reading a file stops before its end.
-#[derive(Clone, Copy, Debug, PartialEq, Eq)]
+#[derive(Clone, Copy)]
 pub(crate) enum Stop {
     Fault(CdfFault),
     NoMemory,
