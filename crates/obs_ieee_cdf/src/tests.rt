@@ -4,7 +4,7 @@ ghost use Rattle.std.specs.Prelude.{◌≤◌, length};
 use crate::{CdfEnd, CdfFault, read_cdf};
 use obs_case::Case;
 use obs_case_csv::{RowFault, Table, TableFault};
-use obs_text::{InputFault, MOST_FILE_BYTES};
+use obs_text::MOST_FILE_BYTES;
 use std::alloc::Global;
 use std::test::Fail;
 
