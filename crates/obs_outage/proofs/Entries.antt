@@ -1,5 +1,5 @@
 -- The outage list, entry by entry.
-use Rattle.std.proofs.Common.{inl, inr, ◌≡◌, ℕ, ◌+◌, ◌-◌, ◌<◌, ◌≤◌, true, false, List, [], ◌∷◌, ◌++◌, length, map, set, take, refl, sym, ap, ◌∙◌, subst, arith, append_assoc}
+use Rattle.std.proofs.Common.{inl, inr, ◌≡◌, ℕ, ◌+◌, ◌-◌, ◌<◌, ◌≤◌, true, false, List, [], ◌∷◌, ◌++◌, length, map, set, take, refl, sym, ap, ◌∙◌, subst, arith, append_assoc, append-nil}
 use Rattle.std.specs.Prelude.{filter}
 use Rattle.std.specs.List.{range_with_len}
 use Rattle.std.proofs.lemmas.List.{length-set, take_more_set}
@@ -53,6 +53,12 @@ listed t entries count e o h l p low is =
     ∙ ap (λ x. take count entries ++ x ∷ entries_from t (e + 1)) is
     ∙ ap (λ r. take count entries ++ map (outage_of t) r) (sym (later_listed (is_outage_row t) (length t.branches) e l p))
     ∙ h
+
+-- behind the last row all are listed
+pub all_listed : (t : Tables) (entries : List Outage) (count e : ℕ) → take count entries ++ entries_from t e ≡ outages_of t → length t.branches ≤ e → take count entries ≡ outages_of t
+all_listed t entries count e h l =
+    let none : length t.branches - e ≡ 0 = omega arith in
+    sym (append-nil (take count entries)) ∙ (ap (λ k. take count entries ++ map (outage_of t) (filter (is_outage_row t) (range_with_len e k))) (sym none) ∙ h)
 
 -- before the first row nothing is listed
 pub begun : (t : Tables) (entries : List Outage) → take 0 entries ++ entries_from t 0 ≡ outages_of t

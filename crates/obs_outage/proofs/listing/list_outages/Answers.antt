@@ -3,10 +3,15 @@ use Rattle.std.specs.Prelude.{is_some, slice_index_or}
 use Rattle.obs_case.specs.declared.rows.Branch.{Branch}
 use Rattle.obs_case.specs.Tables.{Tables}
 use Rattle.obs_matroid.specs.Lists.{In}
-use Rattle.obs_network.specs.Network.{Network}
+use Rattle.obs_network.specs.Network.{Network, network_of}
+use Rattle.obs_kept.specs.Kept.{AreLongest}
+use Rattle.obs_outage.specs.Costly.{AreCostly}
+use Rattle.obs_outage.specs.Feeds.{AreFeeds}
+use Rattle.obs_outage.specs.Spared.{AreSpared}
+use Rattle.obs_outage.specs.Sparing.{HasFlags}
 use Rattle.obs_network.proofs.OfCase.{length-case_branches}
 use Rattle.obs_outage.specs.Outages.{is_outage_row, outage_rows}
-use Rattle.obs_outage.proofs.Entries.{IsListing-listed, IsListing-over, begun, row_in}
+use Rattle.obs_outage.proofs.Entries.{IsListing-listed, IsListing-over, all_listed, begun, row_in}
 use Rattle.obs_outage.proofs.listing.list_outages.Goals as goal
 use Rattle.obs_outage.proofs.listing.list_outages.Goals.{else-is_present, then-is_present}
 
@@ -41,6 +46,39 @@ entry_of-requires-clause-row g c =
     let row = ap (λ (x : Network). is_some (slice_index_or x.graph.ends e None)) (c.loop-e.invariant.network ∙ c.requires.network) in
     subst (λ (x : Tables). In e (outage_rows x)) (sym c.loop-e.invariant.case) (row_in t e low (sym row ∙ sym c.is_present.ensures.present ∙ c.if-is_present.true))
 
+pub entry_of-requires-clause-network : goal.entry_of-requires-clause-network
+entry_of-requires-clause-network g c =
+    let inv = c.loop-e.invariant in
+    inv.network ∙ (c.requires.network ∙ ap network_of (sym inv.case))
+
+pub entry_of-requires-clause-longest : goal.entry_of-requires-clause-longest
+entry_of-requires-clause-longest g c =
+    let l = c.loop-e in
+    subst (λ (x : Tables). AreLongest x l.kept.pairs) (sym l.invariant.case) l.invariant.longest
+
+pub entry_of-requires-clause-room : goal.entry_of-requires-clause-room
+entry_of-requires-clause-room g c = c.loop-e.invariant.room
+
+pub entry_of-requires-clause-other : goal.entry_of-requires-clause-other
+entry_of-requires-clause-other g c = c.loop-e.invariant.other
+
+pub entry_of-requires-clause-sides : goal.entry_of-requires-clause-sides
+entry_of-requires-clause-sides g c =
+    let inv = c.loop-e.invariant in
+    inv.sides ∙ (c.requires.sides ∙ ap (λ (x : Network). x.graph.most_vertices) (sym inv.network))
+
+pub entry_of-requires-clause-flags : goal.entry_of-requires-clause-flags
+entry_of-requires-clause-flags g c = subst (λ (x : Network). HasFlags x c.args.spared.now) (sym c.loop-e.invariant.network) c.requires.flags
+
+pub entry_of-requires-clause-spared : goal.entry_of-requires-clause-spared
+entry_of-requires-clause-spared g c = subst (λ (x : Network). AreSpared x c.args.spared.now.flags) (sym c.loop-e.invariant.network) c.requires.spared
+
+pub entry_of-requires-clause-costly : goal.entry_of-requires-clause-costly
+entry_of-requires-clause-costly g c = subst (λ (x : Network). AreCostly x c.args.spared.now.costly) (sym c.loop-e.invariant.network) c.requires.costly
+
+pub entry_of-requires-clause-feeds : goal.entry_of-requires-clause-feeds
+entry_of-requires-clause-feeds g c = subst (λ (x : Tables). AreFeeds x c.args.feeds.now) (sym c.loop-e.invariant.case) c.requires.feeds
+
 pub loop-e-preserved : goal.loop-e-preserved
 loop-e-preserved g c =
     let t = c.args.case.now in
@@ -63,3 +101,24 @@ loop-e-preserved g c =
           (IsListing-over t n (length c.args.entries.now) most l.case l.kept l.other l.sides l.entries l.count l.e l.invariant low
           (sym row ∙ sym c.is_present.ensures.present ∙ w.if-is_present.false))
     ]
+
+pub returns : goal.returns
+returns g c =
+    let l = c.loop-e in
+    let inv = l.invariant in
+    let rows = ap (λ (xs : List Branch). length xs) c.branches.ensures.rows in
+    let past = c.loop-e-test.false in
+    let upto = l.auto.e-end in
+    let bound = inv.bound in
+    let long = inv.long in
+    let room = c.requires.entries in
+    record {
+      listed = all_listed c.args.case.now l.entries l.count l.e inv.lists (omega (arith, rows, past));
+      bound = omega (arith, bound, upto, rows, long, room);
+      case = inv.case;
+      network = inv.network;
+      longest = inv.longest;
+      room = inv.room;
+      other = inv.other;
+      sides = inv.sides;
+    }
