@@ -1,55 +1,30 @@
 // A failure at each call of each command over each form of a case.
 
 use crate::Status;
-use crate::tests::{Ended, Outside, QUIET, entries, is_front, outcome_over};
-use crate::worked::{BRANCH, CANDIDATE, CDF_FILE, MATPOWER_FILE, METER, NO_SWITCHES, NODES, OUT};
-use obs_io::Entry;
+use crate::scripts::{Run, ended, input_of, is_as_said, nth_run};
+use crate::tests::{Ended, Outside, QUIET, is_front};
 use std::alloc::Global;
 use std::process::Abort;
 use std::test::Fail;
 
-const TREE: &[u8] = b"tree\t1\npair\tmeter\tf1\tL1\nend\n";
-
-// A command over files, the first of which is that of the word behind the command, with an input, and how it ends.
-#[derive(Clone, Copy)]
-pub(crate) struct Row<'a> {
-    pub(crate) words: &'a [&'a str],
-    pub(crate) files: &'a [&'a [u8]],
-    pub(crate) input: &'a [u8],
-    pub(crate) status: Status,
-    pub(crate) text: &'a [u8],
-}
-
-// A run over these files in which all bytes move in pieces of this length.
-pub(crate) fn outcome(
-    alloc: Global,
-    row: Row<'_>,
-    entries: Vec<Entry>,
-    piece: usize,
-    failing: Outside<'_>,
-) -> Result<Ended, Fail> {
+// A run in which all bytes move in pieces of this length.
+fn outcome(alloc: Global, run: Run<'_>, piece: usize, failing: Outside<'_>) -> Result<Ended, Fail> {
     let outside = Outside {
-        input: row.input,
+        input: input_of(run),
         read: piece,
         taken: piece,
         written: piece,
         room: 10_000,
         ..failing
     };
-    outcome_over(alloc, row.words, entries, outside)
-}
-
-// The same over the files of the row.
-fn ended(alloc: Global, row: Row<'_>, piece: usize, failing: Outside<'_>) -> Result<Ended, Fail> {
-    let entries = entries(alloc, row.files)?;
-    outcome(alloc, row, entries, piece, failing)
+    ended(alloc, run, outside)
 }
 
 // Whether a run fails where this read does: then nothing is written.
 fn read_fails(
     rt: &impl Abort,
     alloc: Global,
-    row: Row<'_>,
+    run: Run<'_>,
     piece: usize,
     call: u64,
 ) -> Result<bool, Fail> {
@@ -57,16 +32,16 @@ fn read_fails(
         read_fails: &[call],
         ..QUIET
     };
-    let found = ended(alloc, row, piece, reads)?;
+    let found = outcome(alloc, run, piece, reads)?;
     let fails = found.status == Status::ReadFault;
     assert!(rt; !fails || found.text.is_empty());
     Ok(fails)
 }
 
 // Each read fails in turn.
-fn each_read_fails(rt: &impl Abort, alloc: Global, row: Row<'_>, piece: usize) -> Result<(), Fail> {
+fn each_read_fails(rt: &impl Abort, alloc: Global, run: Run<'_>, piece: usize) -> Result<(), Fail> {
     for call in 0..2000 {
-        if !read_fails(rt, alloc, row, piece, call)? {
+        if !read_fails(rt, alloc, run, piece, call)? {
             assert!(rt; call > 1);
             return Ok(());
         }
@@ -78,7 +53,7 @@ fn each_read_fails(rt: &impl Abort, alloc: Global, row: Row<'_>, piece: usize) -
 fn take_fails(
     rt: &impl Abort,
     alloc: Global,
-    row: Row<'_>,
+    run: Run<'_>,
     piece: usize,
     call: u64,
 ) -> Result<bool, Fail> {
@@ -86,17 +61,17 @@ fn take_fails(
         take_fails: &[call],
         ..QUIET
     };
-    let found = ended(alloc, row, piece, takes)?;
+    let found = outcome(alloc, run, piece, takes)?;
     let fails = found.status == Status::ReadFault;
-    assert!(rt; !fails || row.text.starts_with(&found.text));
+    assert!(rt; !fails || run.text.starts_with(&found.text));
     Ok(fails)
 }
 
 // Each take of the input fails in turn.
-fn each_take_fails(rt: &impl Abort, alloc: Global, row: Row<'_>, piece: usize) -> Result<(), Fail> {
+fn each_take_fails(rt: &impl Abort, alloc: Global, run: Run<'_>, piece: usize) -> Result<(), Fail> {
     for call in 0..2000 {
-        if !take_fails(rt, alloc, row, piece, call)? {
-            assert!(rt; row.input.is_empty() || call > 0);
+        if !take_fails(rt, alloc, run, piece, call)? {
+            assert!(rt; input_of(run).is_empty() || call > 0);
             return Ok(());
         }
     }
@@ -107,7 +82,7 @@ fn each_take_fails(rt: &impl Abort, alloc: Global, row: Row<'_>, piece: usize) -
 fn write_fails(
     rt: &impl Abort,
     alloc: Global,
-    row: Row<'_>,
+    run: Run<'_>,
     piece: usize,
     call: u64,
 ) -> Result<bool, Fail> {
@@ -115,10 +90,10 @@ fn write_fails(
         write_fails: &[call],
         ..QUIET
     };
-    let found = ended(alloc, row, piece, writes)?;
+    let found = outcome(alloc, run, piece, writes)?;
     let fails = found.status == Status::WriteFault;
     let most = (call as usize).saturating_mul(piece);
-    assert!(rt; !fails || is_front(&found.text, row.text, most));
+    assert!(rt; !fails || is_front(&found.text, run.text, most));
     Ok(fails)
 }
 
@@ -126,11 +101,11 @@ fn write_fails(
 fn each_write_fails(
     rt: &impl Abort,
     alloc: Global,
-    row: Row<'_>,
+    run: Run<'_>,
     piece: usize,
 ) -> Result<(), Fail> {
     for call in 0..2000 {
-        if !write_fails(rt, alloc, row, piece, call)? {
+        if !write_fails(rt, alloc, run, piece, call)? {
             assert!(rt; call > 0);
             return Ok(());
         }
@@ -138,207 +113,233 @@ fn each_write_fails(
     Ok(())
 }
 
-// No call fails.
-fn none_fails(rt: &impl Abort, alloc: Global, row: Row<'_>, piece: usize) -> Result<(), Fail> {
-    let found = ended(alloc, row, piece, QUIET)?;
-    assert!(rt; found.status == row.status);
-    assert!(rt; found.text.as_slice() == row.text);
+// Each call of a run fails in turn, and then none.
+fn each_fails(rt: &impl Abort, alloc: Global, run: Run<'_>, piece: usize) -> Result<(), Fail> {
+    each_read_fails(rt, alloc, run, piece)?;
+    each_take_fails(rt, alloc, run, piece)?;
+    each_write_fails(rt, alloc, run, piece)?;
+    assert!(rt; is_as_said(run, &outcome(alloc, run, piece, QUIET)?));
     Ok(())
 }
 
-// Each call of each row fails in turn, in pieces of several lengths, and then none.
-fn each_call_fails(rt: &impl Abort, alloc: Global, rows: &[Row<'_>]) -> Result<(), Fail> {
-    for row in rows {
+// So does each of the runs of a text, of which there are so many, in pieces of several lengths.
+fn each_call_fails(rt: &impl Abort, alloc: Global, runs: u32, text: &[u8]) -> Result<(), Fail> {
+    for number in 0..runs {
+        let run = nth_run(text, number).ok_or("no such run")?;
         for piece in [1, 5, 64] {
-            each_read_fails(rt, alloc, *row, piece)?;
-            each_take_fails(rt, alloc, *row, piece)?;
-            each_write_fails(rt, alloc, *row, piece)?;
-            none_fails(rt, alloc, *row, piece)?;
+            each_fails(rt, alloc, run, piece)?;
         }
     }
+    assert!(rt; nth_run(text, runs).is_none());
     Ok(())
 }
-
-// A row without words and files.
-pub(crate) fn ending<'a>(input: &'a [u8], status: Status, text: &'a [u8]) -> Row<'a> {
-    Row {
-        words: &[],
-        files: &[],
-        input,
-        status,
-        text,
-    }
-}
-
-pub(crate) const REPORT: &[u8] =
-    b"count\tbuses\t2\ncount\tenergised\t2\ncount\tbranches\t1\ncount\tmeters\t1\ncount\tneeded\t1\ncount\trank\t1\nverdict\tobservable\ntree\t1\npair\tmeter\tf1\tL1\nisland\t1\t1\nisland\t1\t2\ncritical\tf1\nend\n";
-
-pub(crate) const PLAN: &[u8] =
-    b"cost\t2\nchosen\tk1\npair\tcandidate\tk1\tL1\nlayer\t0\t2\t0\t0\nend\n";
-
-// Answers to a bound, the loss of the meter, and a bound.
-const BOUNDS: &[u8] = b"end\nok\t0\t1\nbound\t1\t0\t0\nend\n";
-
-// Answers to the loss of the meter and a placement.
-const LOSS: &[u8] =
-    b"ok\t0\t1\ncost\t2\nchosen\tk1\npair\tcandidate\tk1\tL1\nlayer\t0\t2\t0\t0\nend\n";
 
 #[test]
 fn each_call_of_a_report_may_fail(rt: HostRuntime) -> Result<(), Fail> {
-    let row = ending(b"", Status::Done, REPORT);
-    let rows = [
-        Row {
-            words: &["report", "tables", "n", "s", "b", "m"],
-            files: &[b"", NODES, NO_SWITCHES, BRANCH, METER],
-            ..row
-        },
-        Row {
-            words: &["report", "cdf", "c", "m"],
-            files: &[b"", CDF_FILE, METER],
-            ..row
-        },
-        Row {
-            words: &["report", "matpower", "c", "m"],
-            files: &[b"", MATPOWER_FILE, METER],
-            ..row
-        },
-    ];
-    each_call_fails(&rt, rt.alloc(), &rows)
+    each_call_fails(
+        &rt,
+        rt.alloc(),
+        3,
+        b"+ n
+node,source\n1,1\n2,0
++ s
+switch,from,to,closed
++ b
+branch,from,to,inservice\nL1,1,2,1
++ m
+meter,kind,at,inservice\nf1,flow,L1,1
+> 0 report tables n s b m
+count\tbuses\t2\ncount\tenergised\t2\ncount\tbranches\t1\ncount\tmeters\t1\ncount\tneeded\t1\ncount\trank\t1\nverdict\tobservable\ntree\t1\npair\tmeter\tf1\tL1\nisland\t1\t1\nisland\t1\t2\ncritical\tf1\nend
++ d
+BUS DATA FOLLOWS\n   1                     3\n   2                     0\n-999\nBRANCH DATA FOLLOWS\n   1    2\n-999
+> 0 report cdf d m
+count\tbuses\t2\ncount\tenergised\t2\ncount\tbranches\t1\ncount\tmeters\t1\ncount\tneeded\t1\ncount\trank\t1\nverdict\tobservable\ntree\t1\npair\tmeter\tf1\tL1\nisland\t1\t1\nisland\t1\t2\ncritical\tf1\nend
++ p
+mpc.bus = [\n1 3;\n2 1;\n];\nmpc.branch = [\n1 2 0 0 0 0 0 0 0 0 1;\n];
+> 0 report matpower p m
+count\tbuses\t2\ncount\tenergised\t2\ncount\tbranches\t1\ncount\tmeters\t1\ncount\tneeded\t1\ncount\trank\t1\nverdict\tobservable\ntree\t1\npair\tmeter\tf1\tL1\nisland\t1\t1\nisland\t1\t2\ncritical\tf1\nend
+",
+    )
 }
 
 #[test]
 fn each_call_of_a_placement_may_fail(rt: HostRuntime) -> Result<(), Fail> {
-    let row = ending(b"", Status::Done, PLAN);
-    let rows = [
-        Row {
-            words: &["place", "tables", "n", "s", "b", "m", "k"],
-            files: &[b"", NODES, NO_SWITCHES, BRANCH, OUT, CANDIDATE],
-            ..row
-        },
-        Row {
-            words: &["place", "cdf", "c", "m", "k"],
-            files: &[b"", CDF_FILE, OUT, CANDIDATE],
-            ..row
-        },
-        Row {
-            words: &["place", "matpower", "c", "m", "k"],
-            files: &[b"", MATPOWER_FILE, OUT, CANDIDATE],
-            ..row
-        },
-    ];
-    each_call_fails(&rt, rt.alloc(), &rows)
+    each_call_fails(
+        &rt,
+        rt.alloc(),
+        3,
+        b"+ n
+node,source\n1,1\n2,0
++ s
+switch,from,to,closed
++ b
+branch,from,to,inservice\nL1,1,2,1
++ m
+meter,kind,at,inservice\nf1,flow,L1,0
++ k
+candidate,kind,at,price\nk1,flow,L1,2
+> 0 place tables n s b m k
+cost\t2\nchosen\tk1\npair\tcandidate\tk1\tL1\nlayer\t0\t2\t0\t0\nend
++ d
+BUS DATA FOLLOWS\n   1                     3\n   2                     0\n-999\nBRANCH DATA FOLLOWS\n   1    2\n-999
+> 0 place cdf d m k
+cost\t2\nchosen\tk1\npair\tcandidate\tk1\tL1\nlayer\t0\t2\t0\t0\nend
++ p
+mpc.bus = [\n1 3;\n2 1;\n];\nmpc.branch = [\n1 2 0 0 0 0 0 0 0 0 1;\n];
+> 0 place matpower p m k
+cost\t2\nchosen\tk1\npair\tcandidate\tk1\tL1\nlayer\t0\t2\t0\t0\nend
+",
+    )
 }
 
 #[test]
 fn each_call_of_a_session_may_fail(rt: HostRuntime) -> Result<(), Fail> {
-    let row = ending(b"bound\nlose f1\nbound\n", Status::Short, BOUNDS);
-    let rows = [
-        Row {
-            words: &["session", "tables", "n", "s", "b", "m"],
-            files: &[b"", NODES, NO_SWITCHES, BRANCH, METER],
-            ..row
-        },
-        Row {
-            words: &["session", "cdf", "c", "m"],
-            files: &[b"", CDF_FILE, METER],
-            ..row
-        },
-        Row {
-            words: &["session", "matpower", "c", "m"],
-            files: &[b"", MATPOWER_FILE, METER],
-            ..row
-        },
-    ];
-    each_call_fails(&rt, rt.alloc(), &rows)
+    each_call_fails(
+        &rt,
+        rt.alloc(),
+        3,
+        b"+ n
+node,source\n1,1\n2,0
++ s
+switch,from,to,closed
++ b
+branch,from,to,inservice\nL1,1,2,1
++ m
+meter,kind,at,inservice\nf1,flow,L1,1
++ input
+bound\nlose f1\nbound
+> 1 session tables n s b m
+end\nok\t0\t1\nbound\t1\t0\t0\nend
++ d
+BUS DATA FOLLOWS\n   1                     3\n   2                     0\n-999\nBRANCH DATA FOLLOWS\n   1    2\n-999
+> 1 session cdf d m
+end\nok\t0\t1\nbound\t1\t0\t0\nend
++ p
+mpc.bus = [\n1 3;\n2 1;\n];\nmpc.branch = [\n1 2 0 0 0 0 0 0 0 0 1;\n];
+> 1 session matpower p m
+end\nok\t0\t1\nbound\t1\t0\t0\nend
+",
+    )
 }
 
 #[test]
 fn each_call_of_a_session_with_candidates_may_fail(rt: HostRuntime) -> Result<(), Fail> {
-    let row = ending(b"lose f1\nplace", Status::Short, LOSS);
-    let rows = [
-        Row {
-            words: &["session", "tables", "n", "s", "b", "m", "with", "k"],
-            files: &[b"", NODES, NO_SWITCHES, BRANCH, METER, b"", CANDIDATE],
-            ..row
-        },
-        Row {
-            words: &["session", "cdf", "c", "m", "with", "k"],
-            files: &[b"", CDF_FILE, METER, b"", CANDIDATE],
-            ..row
-        },
-        Row {
-            words: &["session", "matpower", "c", "m", "with", "k"],
-            files: &[b"", MATPOWER_FILE, METER, b"", CANDIDATE],
-            ..row
-        },
-    ];
-    each_call_fails(&rt, rt.alloc(), &rows)
+    each_call_fails(
+        &rt,
+        rt.alloc(),
+        3,
+        b"+ n
+node,source\n1,1\n2,0
++ s
+switch,from,to,closed
++ b
+branch,from,to,inservice\nL1,1,2,1
++ m
+meter,kind,at,inservice\nf1,flow,L1,1
++ k
+candidate,kind,at,price\nk1,flow,L1,2
++ unended input
+lose f1\nplace
+> 1 session tables n s b m with k
+ok\t0\t1\ncost\t2\nchosen\tk1\npair\tcandidate\tk1\tL1\nlayer\t0\t2\t0\t0\nend
++ d
+BUS DATA FOLLOWS\n   1                     3\n   2                     0\n-999\nBRANCH DATA FOLLOWS\n   1    2\n-999
+> 1 session cdf d m with k
+ok\t0\t1\ncost\t2\nchosen\tk1\npair\tcandidate\tk1\tL1\nlayer\t0\t2\t0\t0\nend
++ p
+mpc.bus = [\n1 3;\n2 1;\n];\nmpc.branch = [\n1 2 0 0 0 0 0 0 0 0 1;\n];
+> 1 session matpower p m with k
+ok\t0\t1\ncost\t2\nchosen\tk1\npair\tcandidate\tk1\tL1\nlayer\t0\t2\t0\t0\nend
+",
+    )
 }
 
 #[test]
 fn each_call_of_a_verdict_may_fail(rt: HostRuntime) -> Result<(), Fail> {
-    let row = ending(b"", Status::Done, b"valid\t1\n");
-    let rows = [
-        Row {
-            words: &["verify", "tables", "n", "s", "b", "m", "t"],
-            files: &[b"", NODES, NO_SWITCHES, BRANCH, METER, TREE],
-            ..row
-        },
-        Row {
-            words: &["verify", "cdf", "c", "m", "t"],
-            files: &[b"", CDF_FILE, METER, TREE],
-            ..row
-        },
-        Row {
-            words: &["verify", "matpower", "c", "m", "t"],
-            files: &[b"", MATPOWER_FILE, METER, TREE],
-            ..row
-        },
-    ];
-    each_call_fails(&rt, rt.alloc(), &rows)
+    each_call_fails(
+        &rt,
+        rt.alloc(),
+        3,
+        b"+ n
+node,source\n1,1\n2,0
++ s
+switch,from,to,closed
++ b
+branch,from,to,inservice\nL1,1,2,1
++ m
+meter,kind,at,inservice\nf1,flow,L1,1
++ t
+tree\t1\npair\tmeter\tf1\tL1\nend
+> 0 verify tables n s b m t
+valid\t1
++ d
+BUS DATA FOLLOWS\n   1                     3\n   2                     0\n-999\nBRANCH DATA FOLLOWS\n   1    2\n-999
+> 0 verify cdf d m t
+valid\t1
++ p
+mpc.bus = [\n1 3;\n2 1;\n];\nmpc.branch = [\n1 2 0 0 0 0 0 0 0 0 1;\n];
+> 0 verify matpower p m t
+valid\t1
+",
+    )
 }
 
 #[test]
 fn each_call_of_a_verdict_with_candidates_may_fail(rt: HostRuntime) -> Result<(), Fail> {
-    let row = ending(b"", Status::Done, b"valid\t1\n");
-    let rows = [
-        Row {
-            words: &["verify", "tables", "n", "s", "b", "m", "with", "k", "t"],
-            files: &[b"", NODES, NO_SWITCHES, BRANCH, OUT, b"", CANDIDATE, PLAN],
-            ..row
-        },
-        Row {
-            words: &["verify", "cdf", "c", "m", "with", "k", "t"],
-            files: &[b"", CDF_FILE, OUT, b"", CANDIDATE, PLAN],
-            ..row
-        },
-        Row {
-            words: &["verify", "matpower", "c", "m", "with", "k", "t"],
-            files: &[b"", MATPOWER_FILE, OUT, b"", CANDIDATE, PLAN],
-            ..row
-        },
-    ];
-    each_call_fails(&rt, rt.alloc(), &rows)
+    each_call_fails(
+        &rt,
+        rt.alloc(),
+        3,
+        b"+ n
+node,source\n1,1\n2,0
++ s
+switch,from,to,closed
++ b
+branch,from,to,inservice\nL1,1,2,1
++ m
+meter,kind,at,inservice\nf1,flow,L1,0
++ k
+candidate,kind,at,price\nk1,flow,L1,2
++ t
+cost\t2\nchosen\tk1\npair\tcandidate\tk1\tL1\nlayer\t0\t2\t0\t0\nend
+> 0 verify tables n s b m with k t
+valid\t1
++ d
+BUS DATA FOLLOWS\n   1                     3\n   2                     0\n-999\nBRANCH DATA FOLLOWS\n   1    2\n-999
+> 0 verify cdf d m with k t
+valid\t1
++ p
+mpc.bus = [\n1 3;\n2 1;\n];\nmpc.branch = [\n1 2 0 0 0 0 0 0 0 0 1;\n];
+> 0 verify matpower p m with k t
+valid\t1
+",
+    )
 }
 
 #[test]
 fn each_call_of_a_study_may_fail(rt: HostRuntime) -> Result<(), Fail> {
-    let rows = [
-        Row {
-            words: &["outages", "tables", "n", "s", "b", "m"],
-            files: &[b"", NODES, NO_SWITCHES, BRANCH, METER],
-            ..ending(b"", Status::Done, b"outage\tL1\t0\t0\tobservable\nend\n")
-        },
-        Row {
-            words: &["pairs", "cdf", "c", "m"],
-            files: &[b"", CDF_FILE, METER],
-            ..ending(b"", Status::Done, b"end\n")
-        },
-        Row {
-            words: &["stations", "matpower", "c", "m"],
-            files: &[b"", MATPOWER_FILE, METER],
-            ..ending(b"", Status::Short, b"station\t1\t1\t0\t1\tshort\nend\n")
-        },
-    ];
-    each_call_fails(&rt, rt.alloc(), &rows)
+    each_call_fails(
+        &rt,
+        rt.alloc(),
+        3,
+        b"+ n
+node,source\n1,1\n2,0
++ s
+switch,from,to,closed
++ b
+branch,from,to,inservice\nL1,1,2,1
++ m
+meter,kind,at,inservice\nf1,flow,L1,1
+> 0 outages tables n s b m
+outage\tL1\t0\t0\tobservable\nend
++ d
+BUS DATA FOLLOWS\n   1                     3\n   2                     0\n-999\nBRANCH DATA FOLLOWS\n   1    2\n-999
+> 0 pairs cdf d m
+end
++ p
+mpc.bus = [\n1 3;\n2 1;\n];\nmpc.branch = [\n1 2 0 0 0 0 0 0 0 0 1;\n];
+> 1 stations matpower p m
+station\t1\t1\t0\t1\tshort\nend
+",
+    )
 }

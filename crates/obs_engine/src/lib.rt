@@ -49,6 +49,8 @@ mod refused;
 #[cfg(test)]
 mod report_tests;
 #[cfg(test)]
+mod scripts;
+#[cfg(test)]
 mod session_tests;
 #[cfg(test)]
 mod spoilt_tests;

@@ -79,34 +79,6 @@ pub(crate) fn ended_in(
     }
 }
 
-// It ends so.
-fn answers_so(
-    rt: &impl Abort,
-    alloc: Global,
-    tables: Tables<'_>,
-    ask: Ask<'_>,
-    status: Status,
-    text: &[u8],
-) -> Result<(), Fail> {
-    let found = ended(alloc, tables, ask)?;
-    assert!(rt; found.status == status);
-    assert!(rt; found.text.as_slice() == text);
-    Ok(())
-}
-
-// Each of these ends so.
-pub(crate) fn all_answer_so(
-    rt: &impl Abort,
-    alloc: Global,
-    cases: &[(Tables<'_>, Ask<'_>, Status, &[u8])],
-) -> Result<(), Fail> {
-    for case in cases {
-        let (tables, ask, status, text) = *case;
-        answers_so(rt, alloc, tables, ask, status, text)?;
-    }
-    Ok(())
-}
-
 // What the lines of a session print, and with them each answer to the present case.
 pub(crate) fn told(alloc: Global, tables: Tables<'_>, edits: &[u8]) -> Result<Ended, Fail> {
     let mut input = Vec::from_slice(alloc, edits)?;

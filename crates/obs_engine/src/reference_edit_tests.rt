@@ -1,8 +1,8 @@
 // Sessions over reference vertices and angle branches: what each edit of a worked case answers, and that each present
 // case answers as a session that begins with it.
 
-use crate::Status;
-use crate::reference_cases::{Ask, NO_BRANCHES, Tables, all_answer_so, answers_anew, certifies};
+use crate::reference_cases::{NO_BRANCHES, Tables, answers_anew, certifies};
+use crate::scripts::all_end_so;
 use crate::worked::{NO_CANDIDATES, NO_METERS, NO_SWITCHES};
 use std::test::Fail;
 
@@ -13,12 +13,6 @@ const SWITCHED: Tables<'static> = Tables {
     branches: NO_BRANCHES,
     meters: b"meter,kind,at,inservice\ng1,angle,a,1\ng2,angle,b,1\n",
     candidates: NO_CANDIDATES,
-};
-
-// Two closed switches between the two.
-const TWICE: Tables<'static> = Tables {
-    switches: b"switch,from,to,closed\nS1,a,b,1\nS2,b,a,1\n",
-    ..SWITCHED
 };
 
 // One switch, before a third such bus.
@@ -57,54 +51,80 @@ const DEAD_AND_PLAIN: Tables<'static> = Tables {
     candidates: CANDIDATES,
 };
 
-const EDITS: &[(Tables<'static>, Ask<'static>, Status, &[u8])] = &[
-    (
-        SWITCHED,
-        Ask::Session(b"close S1\ntree\n"),
-        Status::Done,
-        b"ok\t1\t1\ntree\ta\npair\tmeter\tg1\tangle\nend\n",
-    ),
-    (
-        SWITCHED,
-        Ask::Session(b"status\nclose S1\ncritical\nopen S1\ncert\nlose g2\nregain g2\n"),
-        Status::Done,
-        b"count\tbuses\t2\ncount\tenergised\t2\ncount\tbranches\t0\ncount\tmeters\t2\ncount\tneeded\t2\ncount\trank\t2\nverdict\tobservable\nend\nok\t1\t1\nend\nok\t2\t2\ntree\ta\npair\tmeter\tg1\tangle\ntree\tb\npair\tmeter\tg2\tangle\nend\nok\t1\t2\nok\t2\t2\n",
-    ),
-    (
-        TWICE,
-        Ask::Session(b"open S1\ntree\nclose S1\nopen S2\ntree\nopen S1\nclose S2\n"),
-        Status::Done,
-        b"ok\t1\t1\ntree\ta\npair\tmeter\tg1\tangle\nend\nok\t1\t1\nok\t1\t1\ntree\ta\npair\tmeter\tg1\tangle\nend\nok\t2\t2\nok\t1\t1\n",
-    ),
-    (
-        THREE,
-        Ask::Session(b"close S1\ntree\nopen S1\ntree\nlose g3\nbound\nregain g3\n"),
-        Status::Done,
-        b"ok\t2\t2\ntree\ta\npair\tmeter\tg1\tangle\ntree\tc\npair\tmeter\tg3\tangle\nend\nok\t3\t3\ntree\ta\npair\tmeter\tg1\tangle\ntree\tb\npair\tmeter\tg2\tangle\ntree\tc\npair\tmeter\tg3\tangle\nend\nok\t2\t3\nbound\tc\t0\t0\nend\nok\t3\t3\n",
-    ),
-    (
-        TWO,
-        Ask::Session(b"restore L1\ntree\nislands\ntrip L1\ntree\n"),
-        Status::Done,
-        b"ok\t2\t2\ntree\ta\npair\tmeter\tg1\tangle\npair\tmeter\tg2\tangle\nend\nisland\ta\ta\nisland\ta\tb\nend\nok\t2\t2\ntree\ta\npair\tmeter\tg1\tangle\ntree\tb\npair\tmeter\tg2\tangle\nend\n",
-    ),
-    (
-        MARKED_AND_PLAIN,
-        Ask::Session(b"status\nrestore L1\nstatus\n"),
-        Status::Done,
-        b"count\tbuses\t2\ncount\tenergised\t2\ncount\tbranches\t0\ncount\tmeters\t1\ncount\tneeded\t1\ncount\trank\t1\nverdict\tobservable\nend\nok\t2\t2\ncount\tbuses\t2\ncount\tenergised\t2\ncount\tbranches\t1\ncount\tmeters\t2\ncount\tneeded\t2\ncount\trank\t2\nverdict\tobservable\nend\n",
-    ),
-    (
-        DEAD_AND_PLAIN,
-        Ask::Session(b"status\nrestore L1\ntree\ntrip L1\nstatus\n"),
-        Status::Done,
-        b"count\tbuses\t2\ncount\tenergised\t1\ncount\tbranches\t0\ncount\tmeters\t0\ncount\tneeded\t0\ncount\trank\t0\nverdict\tobservable\nend\nok\t2\t2\ntree\ta\npair\tmeter\tg1\tangle\npair\tmeter\tg2\tangle\nend\nok\t0\t0\ncount\tbuses\t2\ncount\tenergised\t1\ncount\tbranches\t0\ncount\tmeters\t0\ncount\tneeded\t0\ncount\trank\t0\nverdict\tobservable\nend\n",
-    ),
-];
-
 #[test]
 fn edits_merge_reference_vertices(rt: HostRuntime) -> Result<(), Fail> {
-    all_answer_so(&rt, rt.alloc(), EDITS)
+    all_end_so(
+        &rt,
+        rt.alloc(),
+        7,
+        b"= A switch between two marked buses, each with an angle meter.
++ n
+node,source,absolute\na,1,1\nb,1,1
++ s
+switch,from,to,closed\nS1,a,b,0
++ b
+branch,from,to,inservice
++ m
+meter,kind,at,inservice\ng1,angle,a,1\ng2,angle,b,1
++ c
+candidate,kind,at,price
++ input
+close S1\ntree
+> 0 session tables n s b m with c
+ok\t1\t1\ntree\ta\npair\tmeter\tg1\tangle\nend
++ input
+status\nclose S1\ncritical\nopen S1\ncert\nlose g2\nregain g2
+> 0 session tables n s b m with c
+count\tbuses\t2\ncount\tenergised\t2\ncount\tbranches\t0\ncount\tmeters\t2\ncount\tneeded\t2\ncount\trank\t2\nverdict\tobservable\nend\nok\t1\t1\nend\nok\t2\t2\ntree\ta\npair\tmeter\tg1\tangle\ntree\tb\npair\tmeter\tg2\tangle\nend\nok\t1\t2\nok\t2\t2
+= Two closed switches between the two.
++ s
+switch,from,to,closed\nS1,a,b,1\nS2,b,a,1
++ input
+open S1\ntree\nclose S1\nopen S2\ntree\nopen S1\nclose S2
+> 0 session tables n s b m with c
+ok\t1\t1\ntree\ta\npair\tmeter\tg1\tangle\nend\nok\t1\t1\nok\t1\t1\ntree\ta\npair\tmeter\tg1\tangle\nend\nok\t2\t2\nok\t1\t1
+= One switch, before a third such bus.
++ n
+node,source,absolute\na,1,1\nb,1,1\nc,1,1
++ s
+switch,from,to,closed\nS1,a,b,0
++ m
+meter,kind,at,inservice\ng1,angle,a,1\ng2,angle,b,1\ng3,angle,c,1
++ input
+close S1\ntree\nopen S1\ntree\nlose g3\nbound\nregain g3
+> 0 session tables n s b m with c
+ok\t2\t2\ntree\ta\npair\tmeter\tg1\tangle\ntree\tc\npair\tmeter\tg3\tangle\nend\nok\t3\t3\ntree\ta\npair\tmeter\tg1\tangle\ntree\tb\npair\tmeter\tg2\tangle\ntree\tc\npair\tmeter\tg3\tangle\nend\nok\t2\t3\nbound\tc\t0\t0\nend\nok\t3\t3
+= A branch between two marked buses, each with an angle meter.
++ n
+node,source,absolute\na,1,1\nb,1,1
++ s
+switch,from,to,closed
++ b
+branch,from,to,inservice\nL1,a,b,0
++ m
+meter,kind,at,inservice\ng1,angle,a,1\ng2,angle,b,1
++ c
+candidate,kind,at,price\nc1,angle,a,2\nc2,flow,L1,1\nc3,angle,b,1\nc4,injection,b,4
++ input
+restore L1\ntree\nislands\ntrip L1\ntree
+> 0 session tables n s b m with c
+ok\t2\t2\ntree\ta\npair\tmeter\tg1\tangle\npair\tmeter\tg2\tangle\nend\nisland\ta\ta\nisland\ta\tb\nend\nok\t2\t2\ntree\ta\npair\tmeter\tg1\tangle\ntree\tb\npair\tmeter\tg2\tangle\nend
+= One of the two isn't marked.
++ n
+node,source,absolute\na,1,1\nb,1,0
++ input
+status\nrestore L1\nstatus
+> 0 session tables n s b m with c
+count\tbuses\t2\ncount\tenergised\t2\ncount\tbranches\t0\ncount\tmeters\t1\ncount\tneeded\t1\ncount\trank\t1\nverdict\tobservable\nend\nok\t2\t2\ncount\tbuses\t2\ncount\tenergised\t2\ncount\tbranches\t1\ncount\tmeters\t2\ncount\tneeded\t2\ncount\trank\t2\nverdict\tobservable\nend
+= And the marked one has no source.
++ n
+node,source,absolute\na,0,1\nb,1,0
++ input
+status\nrestore L1\ntree\ntrip L1\nstatus
+> 0 session tables n s b m with c
+count\tbuses\t2\ncount\tenergised\t1\ncount\tbranches\t0\ncount\tmeters\t0\ncount\tneeded\t0\ncount\trank\t0\nverdict\tobservable\nend\nok\t2\t2\ntree\ta\npair\tmeter\tg1\tangle\npair\tmeter\tg2\tangle\nend\nok\t0\t0\ncount\tbuses\t2\ncount\tenergised\t1\ncount\tbranches\t0\ncount\tmeters\t0\ncount\tneeded\t0\ncount\trank\t0\nverdict\tobservable\nend
+",
+    )
 }
 
 // The switches of these with the one closed.

@@ -27,38 +27,68 @@ fn sink(alloc: Global, room: usize) -> Result<MemSink, Fail> {
     )
 }
 
-// A session that began with these files, and wrote nothing.
-fn begun(rt: &impl Abort, alloc: Global, words: &[&str], files: &[&[u8]]) -> Result<Session, Fail> {
-    let words = texts(alloc, words)?;
-    let mut files = MemFiles::new(entries(alloc, files)?, 7, Vec::new(alloc));
+// Each of these calls owns one value, and has one place where it ends early.
+fn begun_with_words(
+    rt: &impl Abort,
+    alloc: Global,
+    words: &[String],
+    files: &mut MemFiles,
+) -> Result<Session, Fail> {
     let mut output = sink(alloc, 0)?;
-    let session = begin_session(alloc, &words, &mut files, &mut output);
+    let session = begin_session(alloc, words, files, &mut output);
     assert!(rt; output.written().is_empty());
-    Ok(session.ok().ok_or("no session")?)
+    match session {
+        Ok(session) => Ok(session),
+        Err(_) => Err(Fail::from("no session")),
+    }
 }
 
-// A line has this reply, and with less room for the text a front of it.
+fn begun_with_files(
+    rt: &impl Abort,
+    alloc: Global,
+    words: &[&str],
+    files: &mut MemFiles,
+) -> Result<Session, Fail> {
+    let words = texts(alloc, words)?;
+    begun_with_words(rt, alloc, &words, files)
+}
+
+fn held(alloc: Global, files: &[&[u8]]) -> Result<MemFiles, Fail> {
+    let entries = entries(alloc, files)?;
+    Ok(MemFiles::new(entries, 7, Vec::new(alloc)))
+}
+
+// A session that began with these files, and wrote nothing.
+fn begun(rt: &impl Abort, alloc: Global, words: &[&str], files: &[&[u8]]) -> Result<Session, Fail> {
+    let mut files = held(alloc, files)?;
+    begun_with_files(rt, alloc, words, &mut files)
+}
+
+// A line has this reply, and with less room than for its text a front of it.
+fn replies_in(
+    rt: &impl Abort,
+    alloc: Global,
+    session: &mut Session,
+    said: Said<'_>,
+    room: usize,
+) -> Result<(), Fail> {
+    let fits = said.text.len() <= room;
+    let mut output = sink(alloc, room)?;
+    let status = answer_one(&mut output, session, said.line);
+    assert!(rt; fits || status == Status::WriteFault);
+    assert!(rt; !fits || status == said.status);
+    assert!(rt; !fits || output.written() == said.text);
+    Ok(())
+}
+
 fn replies(
     rt: &impl Abort,
     alloc: Global,
     session: &mut Session,
     said: Said<'_>,
 ) -> Result<(), Fail> {
-    let mut short = sink(alloc, 3)?;
-    let status = answer_one(&mut short, session, said.line);
-    assert!(rt;
-        status
-            == if said.text.len() > 3 {
-                Status::WriteFault
-            } else {
-                said.status
-            }
-    );
-    let mut output = sink(alloc, 1000)?;
-    let status = answer_one(&mut output, session, said.line);
-    assert!(rt; status == said.status);
-    assert!(rt; output.written() == said.text);
-    Ok(())
+    replies_in(rt, alloc, session, said, 3)?;
+    replies_in(rt, alloc, session, said, 1000)
 }
 
 #[test]
@@ -115,32 +145,37 @@ fn path_with_candidates() -> [&'static [u8]; 7] {
 }
 
 // No session begins, and this is answered.
-fn refuses(
+fn refuses_over(
     rt: &impl Abort,
     alloc: Global,
-    words: &[&str],
-    files: &[&[u8]],
+    words: &[String],
+    files: &mut MemFiles,
     status: Status,
     text: &[u8],
 ) -> Result<(), Fail> {
-    let words = texts(alloc, words)?;
-    let mut files = MemFiles::new(entries(alloc, files)?, 7, Vec::new(alloc));
     let mut output = sink(alloc, 1000)?;
-    let found = begin_session(alloc, &words, &mut files, &mut output);
+    let found = begin_session(alloc, words, files, &mut output);
     assert!(rt; found.err() == Some(status));
     assert!(rt; output.written() == text);
     Ok(())
 }
 
+fn refuses(
+    rt: &impl Abort,
+    alloc: Global,
+    words: &[String],
+    files: &[&[u8]],
+    status: Status,
+    text: &[u8],
+) -> Result<(), Fail> {
+    let mut files = held(alloc, files)?;
+    refuses_over(rt, alloc, words, &mut files, status, text)
+}
+
 #[test]
 fn no_session_begins_with_a_fault(rt: HostRuntime) -> Result<(), Fail> {
     let files: [&[u8]; 5] = [b"", b"node,source\na,2\n", NO_SWITCHES, b"", NO_METERS];
-    refuses(
-        &rt,
-        rt.alloc(),
-        &SESSION,
-        &files,
-        Status::InputFault,
-        b"fault\tnodes\t1\t6\tBadFlag\n",
-    )
+    let words = texts(rt.alloc(), &SESSION)?;
+    let text = b"fault\tnodes\t1\t6\tBadFlag\n";
+    refuses(&rt, rt.alloc(), &words, &files, Status::InputFault, text)
 }

@@ -109,26 +109,26 @@ fn run_with_input(
     run_with_output(alloc, words, files, &mut input, outside)
 }
 
-fn run_with_words(
+// A run over these files in memory.
+pub(crate) fn outcome_of(
     alloc: Global,
-    words: &[&str],
-    files: &mut MemFiles,
+    words: &[String],
+    entries: Vec<Entry>,
     outside: Outside<'_>,
 ) -> Result<Ended, Fail> {
-    let words = texts(alloc, words)?;
-    run_with_input(alloc, &words, files, outside)
+    let fails = Vec::from_slice(alloc, outside.read_fails)?;
+    let mut files = MemFiles::new(entries, outside.read.max(1), fails);
+    run_with_input(alloc, words, &mut files, outside)
 }
 
-// A run over these files in memory.
 pub(crate) fn outcome_over(
     alloc: Global,
     words: &[&str],
     entries: Vec<Entry>,
     outside: Outside<'_>,
 ) -> Result<Ended, Fail> {
-    let fails = Vec::from_slice(alloc, outside.read_fails)?;
-    let mut files = MemFiles::new(entries, outside.read.max(1), fails);
-    run_with_words(alloc, words, &mut files, outside)
+    let words = texts(alloc, words)?;
+    outcome_of(alloc, &words, entries, outside)
 }
 
 // A run whose files are those of the words behind the first one.

@@ -1,13 +1,13 @@
 // What `topology` prints, and the faults of its tables.
 use crate::Status;
+use crate::scripts::{Run, all_end_so, ended, is_as_said};
 use crate::tests::{
     Ended, Outside, QUIET, answers, failing_reads, failing_writes, outcome, outcome_over,
 };
 use crate::worked::{NO_SWITCHES, many_nodes, too_long};
 use obs_io::Entry;
-use obs_text::Digits;
+use obs_text::{Digits, lines};
 use std::alloc::Global;
-use std::process::Abort;
 use std::test::Fail;
 
 const TOPOLOGY: [&str; 3] = ["topology", "n", "s"];
@@ -17,81 +17,67 @@ const NODES: &[u8] = b"node,source\na,0\nb,0\nc,0\n";
 
 const SWITCHES: &[u8] = b"switch,from,to,closed\nS1,a,b,1\nS2,b,c,0\n";
 
-// Two tables, and what is printed of them.
-#[derive(Clone, Copy)]
-struct Row {
-    nodes: &'static [u8],
-    switches: &'static [u8],
-    text: &'static [u8],
-}
-
-fn shows(rt: &impl Abort, alloc: Global, status: Status, row: Row) -> Result<(), Fail> {
-    let files = [row.nodes, row.switches];
-    answers(rt, alloc, &TOPOLOGY, &files, status, row.text)
-}
-
-const BUSES: &[Row] = &[
-    Row {
-        nodes: NODES,
-        switches: SWITCHES,
-        text: b"node\ta\ta\nnode\tb\ta\nnode\tc\tc\ncount\tbuses\t2\nend\n",
-    },
-    // A bus is named by its first node in the order of the table.
-    Row {
-        nodes: b"node,source\nz,0\nm,0\na,0\nk,0\n",
-        switches: b"switch,from,to,closed\nS1,a,m,1\nS2,k,a,1\nS3,z,z,1\n",
-        text: b"node\tz\tz\nnode\tm\tm\nnode\ta\tm\nnode\tk\tm\ncount\tbuses\t2\nend\n",
-    },
-    // A byte order mark, columns in another order, one that isn't needed, and other line ends.
-    Row {
-        nodes: b"\xEF\xBB\xBFsource,node,zone\r\n1,a,x\r\n0,\"b\",y\r\n",
-        switches: NO_SWITCHES,
-        text: b"node\ta\ta\nnode\tb\tb\ncount\tbuses\t2\nend\n",
-    },
-];
-
 #[test]
 fn topology_names_the_bus_of_each_node(rt: HostRuntime) -> Result<(), Fail> {
-    for row in BUSES {
-        shows(&rt, rt.alloc(), Status::Done, *row)?;
-    }
-    Ok(())
+    all_end_so(
+        &rt,
+        rt.alloc(),
+        3,
+        b"+ n
+node,source\na,0\nb,0\nc,0
++ s
+switch,from,to,closed\nS1,a,b,1\nS2,b,c,0
+> 0 topology n s
+node\ta\ta\nnode\tb\ta\nnode\tc\tc\ncount\tbuses\t2\nend
+= A bus is named by its first node in the order of the table.
++ n
+node,source\nz,0\nm,0\na,0\nk,0
++ s
+switch,from,to,closed\nS1,a,m,1\nS2,k,a,1\nS3,z,z,1
+> 0 topology n s
+node\tz\tz\nnode\tm\tm\nnode\ta\tm\nnode\tk\tm\ncount\tbuses\t2\nend
+= A byte order mark, columns in another order, one that isn't needed, and other line ends.
++ n
+\xEF\xBB\xBFsource,node,zone\r\n1,a,x\r\n0,\"b\",y\r
++ s
+switch,from,to,closed
+> 0 topology n s
+node\ta\ta\nnode\tb\tb\ncount\tbuses\t2\nend
+",
+    )
 }
-
-const FAULTS: &[Row] = &[
-    Row {
-        nodes: b"node,source\na,0\na,0\n",
-        switches: NO_SWITCHES,
-        text: b"fault\tnodes\t2\t9\tNameTwice\n",
-    },
-    Row {
-        nodes: b"node,source,node\n",
-        switches: NO_SWITCHES,
-        text: b"fault\tnodes\t0\t3\tColumnTwice\n",
-    },
-    Row {
-        nodes: b"node,source\na,2\n",
-        switches: NO_SWITCHES,
-        text: b"fault\tnodes\t1\t6\tBadFlag\n",
-    },
-    Row {
-        nodes: b"",
-        switches: NO_SWITCHES,
-        text: b"fault\tnodes\t0\t1\tNoHeader\n",
-    },
-    Row {
-        nodes: b"node,source\na,1\n",
-        switches: b"switch,from,to,closed\nS1,a,z,7\n",
-        text: b"fault\tswitches\t1\t6\tBadFlag\n",
-    },
-];
 
 #[test]
 fn the_first_fault_is_printed(rt: HostRuntime) -> Result<(), Fail> {
-    for row in FAULTS {
-        shows(&rt, rt.alloc(), Status::InputFault, *row)?;
-    }
-    Ok(())
+    all_end_so(
+        &rt,
+        rt.alloc(),
+        5,
+        b"+ n
+node,source\na,0\na,0
++ s
+switch,from,to,closed
+> 3 topology n s
+fault\tnodes\t2\t9\tNameTwice
++ n
+node,source,node
+> 3 topology n s
+fault\tnodes\t0\t3\tColumnTwice
++ n
+node,source\na,2
+> 3 topology n s
+fault\tnodes\t1\t6\tBadFlag
++ n
+> 3 topology n s
+fault\tnodes\t0\t1\tNoHeader
++ n
+node,source\na,1
++ s
+switch,from,to,closed\nS1,a,z,7
+> 3 topology n s
+fault\tswitches\t1\t6\tBadFlag
+",
+    )
 }
 
 // A run over a node table of so many rows, and no switches.
@@ -168,7 +154,15 @@ fn each_write_may_fail(rt: HostRuntime) -> Result<(), Fail> {
 
 #[test]
 fn an_absent_file_is_a_read_fault(rt: HostRuntime) -> Result<(), Fail> {
-    answers(&rt, rt.alloc(), &TOPOLOGY, &[NODES], Status::ReadFault, b"")
+    all_end_so(
+        &rt,
+        rt.alloc(),
+        1,
+        b"+ n
+node,source\na,0\nb,0\nc,0
+> 4 topology n s
+",
+    )
 }
 
 // No file of switches is held.
@@ -197,32 +191,43 @@ fn usage() -> &'static [u8] {
 | outages FORM | pairs FORM | stations FORM\n"
 }
 
-const FORMS: &[&[&str]] = &[
-    &["report", "tables", "n"],
-    &["trial", "0", "5"],
-    &["topology", "n"],
-    &["topology", "n", "s", "b"],
-    &["Topology", "n", "s"],
-    &["report", "cdf", "c"],
-    &["report", "tables", "n", "s", "b", "m", "c"],
-    &["session", "tables", "n", "s", "b", "m", "c"],
-    &["session", "cdf", "c", "m", "with"],
-    &["session", "cdf", "c", "m", "With", "k"],
-    &["verify", "cdf", "c", "m"],
-    &["verify", "cdf", "c", "m", "with", "k"],
-    &["verify", "cdf", "c", "m", "k", "cert", "more"],
-    &["outages", "cdf", "c", "m", "k"],
-    &["pairs", "cdf", "c"],
-    &["stations", "cdf", "c", "m", "with", "k"],
-    &["station", "cdf", "c", "m"],
-    &[],
-];
+// The last line has no word.
+fn other_words() -> &'static [u8] {
+    b"report tables n
+trial 0 5
+topology n
+topology n s b
+Topology n s
+report cdf c
+report tables n s b m c
+session tables n s b m c
+session cdf c m with
+session cdf c m With k
+verify cdf c m
+verify cdf c m with k
+verify cdf c m k cert more
+outages cdf c m k
+pairs cdf c
+stations cdf c m with k
+station cdf c m
+
+"
+}
 
 #[test]
 fn other_words_get_the_usage_line(rt: HostRuntime) -> Result<(), Fail> {
-    for words in FORMS {
-        answers(&rt, rt.alloc(), words, &[], Status::Usage, usage())?;
+    let mut count = 0_u32;
+    for words in lines(other_words()) {
+        let run = Run {
+            before: b"",
+            words,
+            status: b"2",
+            text: usage(),
+        };
+        assert!(rt; is_as_said(run, &ended(rt.alloc(), run, QUIET)?));
+        count = count.wrapping_add(1);
     }
+    assert!(rt; count == 18);
     Ok(())
 }
 

@@ -59,35 +59,8 @@ pub(crate) const TRIANGLE_BRANCHES: &[u8] =
 pub(crate) const TRIANGLE_METERS: &[u8] =
     b"meter,kind,at,inservice\nia,injection,a,1\nf1,flow,L1,1\n";
 
-// The files of the ring, without switches, and a last one.
-pub(crate) fn triangle(last: &'static [u8]) -> [&'static [u8]; 6] {
-    [
-        b"",
-        TRIANGLE_NODES,
-        NO_SWITCHES,
-        TRIANGLE_BRANCHES,
-        TRIANGLE_METERS,
-        last,
-    ]
-}
-
-// One network in the three forms of a case: two buses, a branch between them, and a flow meter on it.
-pub(crate) const NODES: &[u8] = b"node,source\n1,1\n2,0\n";
-
-pub(crate) const BRANCH: &[u8] = b"branch,from,to,inservice\nL1,1,2,1\n";
-
-pub(crate) const CDF_FILE: &[u8] =
-    b"BUS DATA FOLLOWS\n   1                     3\n   2                     0\n-999\nBRANCH DATA FOLLOWS\n   1    2\n-999\n";
-
-pub(crate) const MATPOWER_FILE: &[u8] =
-    b"mpc.bus = [\n1 3;\n2 1;\n];\nmpc.branch = [\n1 2 0 0 0 0 0 0 0 0 1;\n];\n";
-
+// A flow meter on the first branch.
 pub(crate) const METER: &[u8] = b"meter,kind,at,inservice\nf1,flow,L1,1\n";
-
-// The meter is out of service.
-pub(crate) const OUT: &[u8] = b"meter,kind,at,inservice\nf1,flow,L1,0\n";
-
-pub(crate) const CANDIDATE: &[u8] = b"candidate,kind,at,price\nk1,flow,L1,2\n";
 
 // A node table of so many rows with different names.
 pub(crate) fn many_nodes(alloc: Global, rows: u32) -> Result<Vec<u8>, Fail> {
