@@ -327,28 +327,23 @@ fn last_case(i: u8) -> (&'static [u8], Option<CdfFault>) {
     }
 }
 
-// Adds a file with one bus, 20,000 branch lines and what follows them.
-fn add_full(file: &mut Vec<u8>, last: &[u8]) -> Result<(), Fail> {
+// Adds the front of a file: one bus and 20,000 branch lines.
+fn add_full(file: &mut Vec<u8>) -> Result<(), Fail> {
     file.extend_from_slice(b"BUS DATA\n   1                     3\n-999\nBRANCH DATA\n")?;
     for _ in 0..20_000 {
         file.extend_from_slice(b"   1    1\n")?;
     }
-    file.extend_from_slice(last)?;
     Ok(())
-}
-
-// How that file ends.
-fn end_of_full(alloc: Global, last: &[u8]) -> Result<Option<CdfEnd>, Fail> {
-    let mut file = Vec::new(alloc);
-    add_full(&mut file, last)?;
-    Ok(end_of(alloc, file.as_slice()))
 }
 
 #[test]
 fn a_branch_too_many(rt: HostRuntime) -> Result<(), Fail> {
+    let mut file = Vec::new(rt.alloc());
+    add_full(&mut file)?;
     for i in 0..4u8 {
         let (last, fault) = last_case(i);
-        assert!(rt; end_of_full(rt.alloc(), last)? == fault.map(CdfEnd::Cdf));
+        let parts = [file.as_slice(), last];
+        assert!(rt; end_of_parts(rt.alloc(), &parts)? == fault.map(CdfEnd::Cdf));
     }
     Ok(())
 }
