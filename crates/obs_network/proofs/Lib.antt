@@ -39,3 +39,4 @@ pub mod FollowedRows
 pub mod FoundSides
 pub mod Spreading
 pub mod Walking
+pub mod WithoutBus
