@@ -40,3 +40,4 @@ pub mod FoundSides
 pub mod Spreading
 pub mod Walking
 pub mod WithoutBus
+pub mod Regrouped

@@ -1,4 +1,4 @@
-use Rattle.std.proofs.Common.{length, set, take, ap, ◌∙◌, arith}
+use Rattle.std.proofs.Common.{set, take, ap, ◌∙◌, arith}
 use Rattle.obs_graph.proofs.Stored.{written_back}
 use Rattle.obs_network.specs.Kept.{Listed}
 use Rattle.obs_network.proofs.live_meters.LiveMeters.set.Goals as goal
