@@ -1,11 +1,12 @@
 -- Where one row of a graph changed, items touch what they did but at its ends.
-use Rattle.std.proofs.Common.{◌≡◌, ℕ, zero, suc, ◌+◌, Bool, true, false, inl, inr, Option, Some, None, List, [], ◌∷◌, length, map, take, get_or, set, refl, sym, ap, ◌∙◌}
+use Rattle.std.proofs.Common.{◌≡◌, ℕ, suc, ◌+◌, Bool, true, false, inl, inr, Option, Some, None, List, [], ◌∷◌, length, map, take, get_or, set, refl, sym, ap, ◌∙◌}
 use Rattle.std.specs.Prelude.{◌||◌, if◌then◌else◌, nat_lt, slice_index}
 use Rattle.std.proofs.lemmas.Bool.{cases_Bool, eq-eqb, true≢false}
 use Rattle.std.proofs.lemmas.List.{get_or-set_other, length-set}
 use Rattle.obs_graph.specs.declared.Ends.{Ends}
 use Rattle.obs_graph.specs.Graph.{itself_of}
-use Rattle.obs_graph.specs.Positions.{branches_at, has_end, positions_from}
+use Rattle.obs_graph.specs.Positions.{branches_at, has_end}
+use Rattle.obs_graph.proofs.SetPositions.{branches_at-set}
 use Rattle.obs_case.specs.declared.rows.Candidate.{Candidate}
 use Rattle.obs_case.specs.declared.rows.Kind.{Kind}
 use Rattle.obs_case.specs.declared.rows.Kind.TheVariants.{Flow, Injection, Zero, Angle}
@@ -22,18 +23,11 @@ neither : (a b : Bool) → (a || b) ≡ false → (a ≡ false) × (b ≡ false)
 neither true b e = absurd (true≢false e)
 neither false b e = (refl, e)
 
--- an entry that fails the test, in the place of another that does, leaves the positions
-pub positions_from-set : {X : Type 0} (test : X → Bool) (i : ℕ) (xs : List X) (at : ℕ) (y d : X) → test (get_or xs at d) ≡ false → test y ≡ false → positions_from test i (set xs at y) ≡ positions_from test i xs
-positions_from-set test i [] zero y d was is = refl
-positions_from-set test i [] (suc at) y d was is = refl
-positions_from-set test i (x ∷ xs) zero y d was is = rw (was, is) refl
-positions_from-set test i (x ∷ xs) (suc at) y d was is = rw (positions_from-set test (suc i) xs at y d was is) refl
-
 -- the branches at a vertex that was no end of the changed one and is none
-pub branches_at-set : (ends : List (Option Ends)) (at : ℕ) (after : Option Ends) (v : ℕ) → is_end (get_or ends at None) after v ≡ false → branches_at (set ends at after) v ≡ branches_at ends v
-branches_at-set ends at after v e =
+branches_elsewhere : (ends : List (Option Ends)) (at : ℕ) (after : Option Ends) (v : ℕ) → is_end (get_or ends at None) after v ≡ false → branches_at (set ends at after) v ≡ branches_at ends v
+branches_elsewhere ends at after v e =
     let none = neither (has_end v (get_or ends at None)) (has_end v after) e in
-    positions_from-set (has_end v) 0 ends at after None none.0 none.1
+    branches_at-set ends at after v none.0 none.1
 
 -- what is not near the row lies where it did
 pub component_far : (components : List ℕ) (ends : List (Option Ends)) (at : ℕ) (after : Option Ends) (touch : Touch) → is_near at (get_or ends at None) after touch ≡ false
@@ -43,9 +37,9 @@ component_far components ends at after (Edge p) e =
     let other : p ≡ at → ⊥ = λ same. true≢false (sym (eq-eqb p at same) ∙ e) in
     ap (λ (o : Option Ends). if nat_lt 0 (length (itself_of o p)) then Some (vertex_component components (both_ends o).0) else None) (get_or-set_other ends at p after None other)
 component_far components ends at after (Star v) e =
-    ap (λ (l : List ℕ). if nat_lt 0 (length l) then Some (vertex_component components v) else None) (branches_at-set ends at after v e)
+    ap (λ (l : List ℕ). if nat_lt 0 (length l) then Some (vertex_component components v) else None) (branches_elsewhere ends at after v e)
 component_far components ends at after (Front v count) e =
-    ap (λ (l : List ℕ). if nat_lt 0 (length (take count l)) then Some (vertex_component components v) else None) (branches_at-set ends at after v e)
+    ap (λ (l : List ℕ). if nat_lt 0 (length (take count l)) then Some (vertex_component components v) else None) (branches_elsewhere ends at after v e)
 
 -- and is touched as it was
 pub followed_far : (rows : List (Option Ends)) (at : ℕ) (before after : Option Ends) (touch : Touch) → is_near at before after touch ≡ false → followed rows before after touch ≡ touch
@@ -66,7 +60,7 @@ module _ (rows : List (Option Ends)) (at : ℕ) (after : Option Ends) where
   at_bus v =
       elim (cases_Bool (is_end (get_or rows at None) after v)) [
         | inl e ↦ rw e refl
-        | inr e ↦ rw e (ap (λ (l : List ℕ). Front v (length l)) (branches_at-set rows at after v e))
+        | inr e ↦ rw e (ap (λ (l : List ℕ). Front v (length l)) (branches_elsewhere rows at after v e))
       ]
 
   of_kind : (buses : List ℕ) (m : ℕ) (kind : Kind) (u : ℕ) → touch_of now buses m kind u ≡ follow (touch_of rows buses m kind u)

@@ -26,6 +26,13 @@ one_other x u v w (inl (a, b)) (inr (c, d)) = sym d ∙ (a ∙ (sym c ∙ b))
 one_other x u v w (inr (a, b)) (inl (c, d)) = sym d ∙ (a ∙ (sym c ∙ b))
 one_other x u v w (inr (a, b)) (inr (c, d)) = sym d ∙ b
 
+-- the vertices of a queue have places in labels for all
+pub queued_below : (n most tail : ℕ) (queue : List ℕ) → tail ≤ length queue → ((k : ℕ) → k < tail → get_or queue k 0 < n) → n ≤ most → All (λ v. v < most) (take tail queue)
+queued_below n most tail queue few below room k d l =
+    let low : k < tail = omega (arith, l, length-take-le tail queue few) in
+    let is : get_or (take tail queue) k d ≡ get_or queue k 0 = get_or-take tail queue k d low ∙ get_or_default queue k d 0 (omega (arith, low, few)) in
+    omega (arith, is, below k low, room)
+
 -- what stands in the first part of a list, by its place
 pub place_in : (xs : List ℕ) (v : ℕ) → In v xs → (j : ℕ) × (j < length xs) × (get_or xs j 0 ≡ v)
 place_in xs v i = let c = Contains-from_In v xs i in let l = c.1 in (c.0, l, get_or_default xs c.0 0 v l ∙ c.2)

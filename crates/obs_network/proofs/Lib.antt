@@ -39,3 +39,5 @@ pub mod FollowedRows
 pub mod FoundSides
 pub mod Spreading
 pub mod Walking
+pub mod WithoutBus
+pub mod Regrouped

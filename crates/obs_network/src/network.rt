@@ -1,5 +1,5 @@
 // The network of a case.
-ghost use Rattle.std.specs.Prelude.{◌≡◌, ◌+◌, ◌-◌, ◌<◌, All, IfOk, IfSome, IsTrue, None, length, slice_index, slice_index_or, take, false};
+ghost use Rattle.std.specs.Prelude.{◌≡◌, ◌+◌, ◌-◌, ◌<◌, ◌^◌, All, IfOk, IfSome, IsTrue, None, length, slice_index, slice_index_or, take, false};
 ghost use Rattle.obs_meter.specs.Touches.{AreInRange};
 ghost use Rattle.obs_network.specs.Components.{need_of};
 ghost use Rattle.obs_network.specs.Edited.{AreSameBut, ChangesAlone, IsBeforeBranch, IsBeforeMeter, IsKnown};
@@ -100,29 +100,74 @@ impl Drop for Network {
     }
 }
 
+// Makes the arrays of a network as long as so many switches, branches and items need.
+fn lengthen(
+    switches: u32,
+    branches: u32,
+    offered: u32,
+    links: &mut Vec<Link>,
+    live: &mut Vec<Option<Ends>>,
+    kept: &mut Vec<Option<Ends>>,
+    touches: &mut Vec<Touch>,
+) -> Result<(), NoMemory>
+    requires few { branches + offered < 2 ^ 32 }
+    ensures links { IfOk result (λ _. length links.new.items ≡ switches) }
+    ensures live { IfOk result (λ _. length live.new.items ≡ branches) }
+    ensures kept { IfOk result (λ _. length kept.new.items ≡ branches + offered) }
+    ensures touches { IfOk result (λ _. length touches.new.items ≡ offered) }
+{
+    links.resize(switches as usize, Link { from: 0, to: 0 })?;
+    live.resize(branches as usize, None)?;
+    kept.resize((branches + offered) as usize, None)?;
+    touches.resize(offered as usize, Touch::Nothing)?;
+    Ok(())
+}
+
 impl Network {
     // Room for the network of a case, without a bus.
     fn with_room(alloc: Global, case: &Case) -> Result<Network, NoMemory>
         ensures rows { IfOk result (λ n. n.rows ≡ rows_of case.now) }
     {
         let nodes = case.nodes().len() as u32;
-        let branches = case.branches().len();
+        let branches = case.branches().len() as u32;
         let meters = case.meters().len() as u32;
         let offered = meters + case.candidates().len() as u32;
+        let switches = case.switches().len() as u32;
+        let buses = Buses::make(alloc, nodes, switches)?;
+        let components = Components::make(alloc, nodes)?;
+        let graph = Graph::make(alloc, 2 * nodes, branches + offered)?;
+        let search = Search::make(alloc, nodes)?;
+        let live_meters = LiveMeters::make(alloc, meters, nodes)?;
+        let sides = Sides::make(alloc, 2 * nodes)?;
+        let live_items = Meters::make(alloc, meters)?;
+        let items = Meters::make(alloc, offered)?;
+        let mut links = Vec::new(alloc);
+        let mut live = Vec::new(alloc);
+        let mut kept = Vec::new(alloc);
+        let mut touches = Vec::new(alloc);
+        lengthen(
+            switches,
+            branches,
+            offered,
+            &mut links,
+            &mut live,
+            &mut kept,
+            &mut touches,
+        )?;
         Ok(Network {
-            buses: Buses::make(alloc, nodes, case.switches().len() as u32)?,
-            components: Components::make(alloc, nodes)?,
-            graph: Graph::make(alloc, 2 * nodes, branches as u32 + offered)?,
-            meters: Meters::make(alloc, meters)?,
-            offered: Meters::make(alloc, offered)?,
+            buses,
+            components,
+            graph,
+            meters: live_items,
+            offered: items,
             needed: 0,
-            links: vec![in alloc; Link { from: 0, to: 0 }; case.switches().len()]?,
-            live: vec![in alloc; None; branches]?,
-            kept: vec![in alloc; None; branches + offered as usize]?,
-            touches: vec![in alloc; Touch::Nothing; offered as usize]?,
-            search: Search::make(alloc, nodes)?,
-            live_meters: LiveMeters::make(alloc, meters, nodes)?,
-            sides: Sides::make(alloc, 2 * nodes)?,
+            links,
+            live,
+            kept,
+            touches,
+            search,
+            live_meters,
+            sides,
         })
     }
 

@@ -49,3 +49,15 @@ returns-clause-lists c =
     let e = c.count-m-end.ensures.count in
     let f = c.loop-m-test.false in
     Meters-listed (take a.rows a.graph.now.ends) a.change a.components.now a.graph.now a.meters.now a.offered.now a.live_meters.now c.requires.offered l.meters l.offered l.live_meters l.left l.m (omega (arith, e, f)) l.invariant
+
+pub set_meter-requires-clause-components : goal.set_meter-requires-clause-components
+set_meter-requires-clause-components c = c.loop-m.invariant.components ∙ c.requires.components
+
+pub returns-clause-components : goal.returns-clause-components
+returns-clause-components c = c.loop-m.invariant.components
+
+pub returns-clause-most_meters : goal.returns-clause-most_meters
+returns-clause-most_meters c = c.loop-m.invariant.most_meters
+
+pub returns-clause-most_components : goal.returns-clause-most_components
+returns-clause-most_components c = c.loop-m.invariant.most_components

@@ -62,3 +62,18 @@ returns-clause-followed c f =
     let l = c.loop-p in
     Following-end g.vertices (rows_but g.ends c.args.rows c.args.e) c.args.end (get_or c.args.queue.now c.args.head 0) c.args.head c.branches_at-p-items.result.now c.args.labels.now c.args.tail.now l.labels l.queue l.tail l.p-index l.invariant
     g.ends (rows_but-IsPart g.ends c.args.rows c.args.e) c.branches_at-p-items.ensures.branches (omega arith)
+
+pub returns-then-p-rows-clause-queue : goal.returns-then-p-rows-clause-queue
+returns-then-p-rows-clause-queue c = c.loop-p.invariant.here
+
+pub returns-then-p-rows-clause-grown : goal.returns-then-p-rows-clause-grown
+returns-then-p-rows-clause-grown c = c.loop-p.invariant.grown
+
+pub come-requires-clause-vertex : goal.come-requires-clause-vertex
+come-requires-clause-vertex c = omega (arith, c.across.ensures.vertex, c.requires.room, c.loop-p.auto.labels)
+
+pub returns-clause-queue : goal.returns-clause-queue
+returns-clause-queue c = c.loop-p.invariant.here
+
+pub returns-clause-grown : goal.returns-clause-grown
+returns-clause-grown c = c.loop-p.invariant.grown

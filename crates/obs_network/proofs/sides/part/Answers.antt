@@ -1,7 +1,7 @@
 use Rattle.std.proofs.Common.{◌≡◌, Some, None, get_or, take, sym, ◌∙◌, arith}
 use Rattle.std.proofs.lemmas.List.{get_or-take, get_or_default}
 use Rattle.obs_network.specs.Sides.{rows_but}
-use Rattle.obs_network.proofs.FoundSides.{AreClear-after, leads_apart, walked_parts}
+use Rattle.obs_network.proofs.FoundSides.{AreClear-after, leads_apart, queued_below, walked_parts}
 use Rattle.obs_network.proofs.sides.part.Goals as goal
 
 pub returns-clause-clear : goal.returns-clause-clear
@@ -21,3 +21,23 @@ returns-clause-parted c =
     get_or-take c.args.rows g.ends c.args.e None c.requires.row ∙ (get_or_default g.ends c.args.e None (Some ends) (omega (arith, c.requires.row, c.requires.rows)) ∙ sym c.in-Some.ensures.ends) in
     walked_parts g.vertices (take c.args.rows g.ends) c.args.e s.new.labels c.end_with_fewer-one.result c.other-there.result s.new.queue s.new.queue_there s.result s.ensures.walked
     (leads_apart ends c.end_with_fewer-one.result c.other-there.result leads c.in-Some.ensures.in_range.2) ends is leads s.ensures.ended c.keep.result c.keep.new.queue c.keep.ensures.kept
+
+pub clear-requires : goal.clear-requires
+clear-requires c =
+    let s = c.spread-walked in
+    let here = s.ensures.walked.here in
+    record { places = queued_below c.args.g.now.vertices _ s.result.tail s.new.queue here.few here.below (omega (arith, c.requires.room, s.auto.labels)) }
+
+pub clear-requires-2 : goal.clear-requires-2
+clear-requires-2 c =
+    let s = c.spread-walked in
+    let there = s.ensures.walked.there in
+    record { places = queued_below c.args.g.now.vertices _ s.result.tail_there s.new.queue_there there.few there.below (omega (arith, c.requires.room, s.auto.labels, c.clear.auto.labels)) }
+
+pub keep-requires-clause-room : goal.keep-requires-clause-room
+keep-requires-clause-room c = c.spread-walked.ensures.walked.here.few
+
+pub keep-requires-clause-room_there : goal.keep-requires-clause-room_there
+keep-requires-clause-room_there c =
+    let s = c.spread-walked in
+    omega (arith, s.ensures.walked.there.few, s.auto.queue, s.auto.queue_there, c.requires.places, c.requires.places_there)

@@ -45,3 +45,30 @@ loop-met-preserved c =
     (AreWalked-step g.vertices held l.labels c.args.there c.args.one l.queue_there l.queue back (AreWalked-swap g.vertices held l.labels c.args.one c.args.there l.queue l.queue_there w l.invariant)
     c.loop-met-test.true c.if-head_there-tail_there.true (λ e. c.requires.apart (sym e))
     f.new.labels f.new.queue f.new.tail f.result f.auto.labels f.ensures.queue f.ensures.followed f.ensures.met f.ensures.grown f.ensures.longer)
+
+pub bounds-queue-head : goal.bounds-queue-head
+bounds-queue-head c = omega (arith, c.loop-met.invariant.here.few, c.if-head-tail.true)
+
+pub bounds-queue_there-head_there : goal.bounds-queue_there-head_there
+bounds-queue_there-head_there c = omega (arith, c.loop-met.invariant.there.few, c.if-head_there-tail_there.true)
+
+pub looked_at-next-requires : goal.looked_at-next-requires
+looked_at-next-requires c = record { vertex = c.loop-met.invariant.here.below c.loop-met.head c.if-head-tail.true }
+
+pub looked_at-next_there-requires : goal.looked_at-next_there-requires
+looked_at-next_there-requires c = record { vertex = c.loop-met.invariant.there.below c.loop-met.head_there c.if-head_there-tail_there.true }
+
+pub follow-met-requires-clause-queue : goal.follow-met-requires-clause-queue
+follow-met-requires-clause-queue c = c.loop-met.invariant.here
+
+pub follow-met-requires-else-next-next_there-clause-queue : goal.follow-met-requires-else-next-next_there-clause-queue
+follow-met-requires-else-next-next_there-clause-queue c = c.loop-met.invariant.there
+
+pub returns-else-head_there-tail_there-clause-walked : goal.returns-else-head_there-tail_there-clause-walked
+returns-else-head_there-tail_there-clause-walked c = c.loop-met.invariant
+
+pub returns-else-head-tail-clause-walked : goal.returns-else-head-tail-clause-walked
+returns-else-head-tail-clause-walked c = c.loop-met.invariant
+
+pub returns-after-loop-met-clause-walked : goal.returns-after-loop-met-clause-walked
+returns-after-loop-met-clause-walked c = c.loop-met.invariant

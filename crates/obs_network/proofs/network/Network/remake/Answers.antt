@@ -87,7 +87,7 @@ invariant_of-self c =
     let links = c.relabel_unless.auto.links in
     let of = c.relabel_unless.ensures in
     let count = (of.stay c.if-relabel_unless.true).1 in
-    rw (written_back s.links.len c.relabel_unless.new.links s.links.items (omega arith) (omega arith))
+    rw (written_back s.links.len c.relabel_unless.new.links s.links.items (c.relabel_unless.auto.links ∙ ap length c.deref_mut.ensures.value) s.links.ok.0)
     record {
       buses_room = of.room ∙ v.buses_room;
       vertices_room = v.vertices_room;
@@ -120,7 +120,7 @@ returns-then-relabel_unless c =
     let is = view ∙ same in
     let rows = ap (λ (n : Network). n.rows) is in
     let links = c.relabel_unless.auto.links in
-    let wrote_links = ap length (written_back s.links.len c.relabel_unless.new.links s.links.items (omega arith) (omega arith)) in
+    let wrote_links = ap length (written_back s.links.len c.relabel_unless.new.links s.links.items (c.relabel_unless.auto.links ∙ ap length c.deref_mut.ensures.value) s.links.ok.0) in
     let switches = ap (λ (r : Rows). r.switches) rows in
     let nodes = ap (λ (r : Rows). r.nodes) rows in
     let whole = network_is _ (network_of t)
@@ -146,10 +146,10 @@ invariant_of-self-2 c =
     let touches = c.refill_items.auto.touches in
     let listed = c.refill.ensures in
     rw (
-      written_back s.links.len c.relabel_unless.new.links s.links.items (omega arith) (omega arith),
-      written_back s.live.len c.find_live.new.live s.live.items (omega arith) (omega arith),
-      written_back s.kept.len c.refill_graph.new.kept s.kept.items (omega arith) (omega arith),
-      written_back s.touches.len c.refill_items.new.touches s.touches.items (omega arith) (omega arith),
+      written_back s.links.len c.relabel_unless.new.links s.links.items (c.relabel_unless.auto.links ∙ ap length c.deref_mut.ensures.value) s.links.ok.0,
+      written_back s.live.len c.find_live.new.live s.live.items (c.find_live.auto.live ∙ ap length c.deref_mut-2.ensures.value) s.live.ok.0,
+      written_back s.kept.len c.refill_graph.new.kept s.kept.items (c.refill_graph.auto.kept ∙ ap length c.deref_mut-3.ensures.value) s.kept.ok.0,
+      written_back s.touches.len c.refill_items.new.touches s.touches.items (c.refill_items.auto.touches ∙ ap length c.deref_mut-4.ensures.value) s.touches.ok.0,
     )
     record {
       buses_room = omega (arith, v.buses_room, c.relabel_unless.ensures.room, found.room);
@@ -190,8 +190,8 @@ returns-clause-whole c =
     let switches = ap (λ (r : Rows). r.switches) rows in
     let links = c.relabel_unless.auto.links in
     let live = c.find_live.auto.live in
-    let wrote_links = ap length (written_back s.links.len c.relabel_unless.new.links s.links.items (omega arith) (omega arith)) in
-    let wrote_live = ap length (written_back s.live.len c.find_live.new.live s.live.items (omega arith) (omega arith)) in
+    let wrote_links = ap length (written_back s.links.len c.relabel_unless.new.links s.links.items (c.relabel_unless.auto.links ∙ ap length c.deref_mut.ensures.value) s.links.ok.0) in
+    let wrote_live = ap length (written_back s.live.len c.find_live.new.live s.live.items (c.find_live.auto.live ∙ ap length c.deref_mut-2.ensures.value) s.live.ok.0) in
     let count = length-case_first_buses t in
     network_is _ _
     (rows_are _ _ (found.room ∙ nodes) (omega (arith, wrote_links, links, switches)) (omega (arith, wrote_live, live, branches)) (items.most_meters ∙ meters)
@@ -202,3 +202,51 @@ returns-clause-whole c =
     (items_are _ _ items.meters (items.most_meters ∙ meters))
     (items_are _ _ items.offered (items.most_offered ∙ omega (arith, v.fewer, meters, candidates)))
     (c.needed-self-inside.ensures.needed ∙ rw (found.sizes, found.energised, found.absolute, found.first_buses, count) refl)
+
+pub relabel_unless-requires-clause-links : goal.relabel_unless-requires-clause-links
+relabel_unless-requires-clause-links c =
+    let rows = ap (λ (n : Network). n.rows) c.self.view_is ∙ c.requires.rows in
+    omega (arith, ap (λ (r : Rows). r.switches) rows, ap length c.deref_mut.ensures.value)
+
+pub find_live-requires-clause-room : goal.find_live-requires-clause-room
+find_live-requires-clause-room c =
+    let rows = ap (λ (n : Network). n.rows) c.self.view_is ∙ c.requires.rows in
+    ap length c.deref_mut-2.ensures.value ∙ ap (λ (r : Rows). r.branches) rows
+
+pub find_components-requires-clause-live : goal.find_components-requires-clause-live
+find_components-requires-clause-live c =
+    let s = c.self.inside in
+    c.deref.ensures.value
+    ∙ (written_back s.live.len c.find_live.new.live s.live.items (c.find_live.auto.live ∙ ap length c.deref_mut-2.ensures.value) s.live.ok.0 ∙ c.find_live.ensures.live)
+
+pub find_components-requires-clause-branches : goal.find_components-requires-clause-branches
+find_components-requires-clause-branches c =
+    let s = c.self.inside in
+    let live = c.find_live.auto.live ∙ ap length c.deref_mut-2.ensures.value in
+    let whole = ap length (c.deref.ensures.value ∙ written_back s.live.len c.find_live.new.live s.live.items live s.live.ok.0) in
+    omega (arith, whole, live, c.self.invariant.branches_room)
+
+pub refill_graph-requires-clause-live : goal.refill_graph-requires-clause-live
+refill_graph-requires-clause-live c =
+    let s = c.self.inside in
+    c.deref-2.ensures.value
+    ∙ (written_back s.live.len c.find_live.new.live s.live.items (c.find_live.auto.live ∙ ap length c.deref_mut-2.ensures.value) s.live.ok.0 ∙ c.find_live.ensures.live)
+
+pub refill_graph-requires-clause-ends : goal.refill_graph-requires-clause-ends
+refill_graph-requires-clause-ends c = ap (λ (g : Graph). g.ends) c.find_components.ensures.graph ∙ (c.deref.ensures.value ∙ sym c.deref-2.ensures.value)
+
+pub refill_graph-requires-clause-branches : goal.refill_graph-requires-clause-branches
+refill_graph-requires-clause-branches c =
+    let v = c.self.invariant in
+    omega (arith, ap length c.deref_mut-3.ensures.value, v.kept_len, v.branches_room, ap (λ (g : Graph). g.most_branches) c.find_components.ensures.graph)
+
+pub refill_items-requires-clause-touches : goal.refill_items-requires-clause-touches
+refill_items-requires-clause-touches c =
+    let rows = ap (λ (n : Network). n.rows) c.self.view_is ∙ c.requires.rows in
+    let v = c.self.invariant in
+    omega (arith, ap length c.deref_mut-4.ensures.value, v.touches_len, v.fewer, ap (λ (r : Rows). r.meters) rows, ap (λ (r : Rows). r.candidates) rows)
+
+pub refill_items-requires-clause-offered : goal.refill_items-requires-clause-offered
+refill_items-requires-clause-offered c =
+    let rows = ap (λ (n : Network). n.rows) c.self.view_is ∙ c.requires.rows in
+    omega (arith, c.self.invariant.fewer, ap (λ (r : Rows). r.meters) rows, ap (λ (r : Rows). r.candidates) rows)
