@@ -71,13 +71,13 @@ returns c =
         buses = room-of_buses ∙ many-of_buses;
         components = room-of_components ∙ many-of_components;
         at_buses = λ b low.
-          ap (λ (xs : List ℕ). slice_index xs b) back-of_buses ∙ c.count_by_bus.ensures.counts b (subst (λ (k : ℕ). b < k) (sym many-of_buses) low)
-          ∙ ap (λ (x : Network). sources_at (λ u. slice_index x.buses.buses u) (source_nodes c.nodes-nodes.result.now) b) net
-          ∙ ap (λ (xs : List Node). sources_at (bus_at t) (source_nodes xs) b) rows;
+            ap (λ (xs : List ℕ). slice_index xs b) back-of_buses ∙ c.count_by_bus.ensures.counts b (subst (λ (k : ℕ). b < k) (sym many-of_buses) low)
+            ∙ ap (λ (x : Network). sources_at (λ u. slice_index x.buses.buses u) (source_nodes c.nodes-nodes.result.now) b) net
+            ∙ ap (λ (xs : List Node). sources_at (bus_at t) (source_nodes xs) b) rows;
         at_components = λ k low.
-          ap (λ (xs : List ℕ). slice_index xs k) back-of_components ∙ c.count_by_component.ensures.counts k (subst (λ (n : ℕ). k < n) (sym many-of_components) low)
-          ∙ ap (λ (x : Network). sources_at (λ u. slice_index x.components.of_buses (slice_index x.buses.buses u)) (source_nodes c.nodes-nodes.result.now) k) net
-          ∙ ap (λ (xs : List Node). sources_at (component_at t) (source_nodes xs) k) rows;
+            ap (λ (xs : List ℕ). slice_index xs k) back-of_components ∙ c.count_by_component.ensures.counts k (subst (λ (n : ℕ). k < n) (sym many-of_components) low)
+            ∙ ap (λ (x : Network). sources_at (λ u. slice_index x.components.of_buses (slice_index x.buses.buses u)) (source_nodes c.nodes-nodes.result.now) k) net
+            ∙ ap (λ (xs : List Node). sources_at (component_at t) (source_nodes xs) k) rows;
         pairs = room-pairs ∙ many-pairs;
         at_pairs = λ k low a longest. ap (λ (xs : List ℕ). slice_index xs k) back-pairs ∙ c.count_longest.ensures.counts k (subst (λ (n : ℕ). k < n) (sym many-pairs) low) a longest;
       };

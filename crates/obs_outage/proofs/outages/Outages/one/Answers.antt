@@ -83,7 +83,7 @@ returns g c =
     record {
       entry = after.entry;
       quiet = subst (λ (a : Assignment). AllStand c.args.case.now a c.args.e → (c.entry_of.new.steps ≡ c.args.steps.now) × (c.entry_of.new.kept.pairs.turns ≡ a.turns))
-        (ap (λ (o : Outages). o.pairs) c.self.view_is) after.quiet;
+          (ap (λ (o : Outages). o.pairs) c.self.view_is) after.quiet;
       case = after.case;
       network = after.network ∙ ap (λ (o : Outages). o.network) c.self.view_is;
       longest = after.longest;
