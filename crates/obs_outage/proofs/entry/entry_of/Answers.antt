@@ -223,3 +223,30 @@ outage_at-requires-clause-room g c = c.requires.room
 
 pub outage_at-requires-clause-other : goal.outage_at-requires-clause-other
 outage_at-requires-clause-other g c = c.requires.other
+
+pub returns-in-Some-parted_entry-clause-entry : goal.returns-in-Some-parted_entry-clause-entry
+returns-in-Some-parted_entry-clause-entry g c = c.in-Some-parted_entry.ensures.entry
+
+pub returns-in-Some-parted_entry-clause-case : goal.returns-in-Some-parted_entry-clause-case
+returns-in-Some-parted_entry-clause-case g c = refl
+
+pub returns-in-Some-parted_entry-clause-network : goal.returns-in-Some-parted_entry-clause-network
+returns-in-Some-parted_entry-clause-network g c = refl
+
+pub returns-in-Some-parted_entry-clause-longest : goal.returns-in-Some-parted_entry-clause-longest
+returns-in-Some-parted_entry-clause-longest g c = c.requires.longest
+
+pub returns-in-Some-parted_entry-clause-room : goal.returns-in-Some-parted_entry-clause-room
+returns-in-Some-parted_entry-clause-room g c = c.requires.room
+
+pub returns-in-Some-parted_entry-clause-other : goal.returns-in-Some-parted_entry-clause-other
+returns-in-Some-parted_entry-clause-other g c = c.requires.other
+
+pub returns-in-Some-parted_entry-clause-sides : goal.returns-in-Some-parted_entry-clause-sides
+returns-in-Some-parted_entry-clause-sides g c = c.walk-joined.ensures.room
+
+pub returns-in-Some-parted_entry-clause-quiet : goal.returns-in-Some-parted_entry-clause-quiet
+returns-in-Some-parted_entry-clause-quiet g c = λ _. (refl, refl)
+
+pub returns-in-Some-clause-quiet : goal.returns-in-Some-clause-quiet
+returns-in-Some-clause-quiet g c = λ _. (refl, refl)
