@@ -19,3 +19,4 @@ pub mod UnfedSide
 pub mod ByComponent
 pub mod OtherSide
 pub mod PairCounts
+pub mod Fitting

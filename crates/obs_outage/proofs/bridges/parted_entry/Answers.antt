@@ -89,3 +89,51 @@ returns-then-fall-eq1 c =
           known_is t c.nodes-nodes.ensures.valid e (fall.alone c.if-fall-eq1.true) (row_low t e c.requires.row) c.args.pairs.now c.requires.longest c.args.network.now c.requires.network
           c.args.spared.now c.requires.spared c.requires.costly (c.needed-before.result - c.in_ok-fall.fall) needed o told) c.known_entry.ensures.entry;
     }
+
+pub fall_without-requires-clause-network : goal.fall_without-requires-clause-network
+fall_without-requires-clause-network c = c.requires.network
+
+pub fall_without-requires-clause-feeds : goal.fall_without-requires-clause-feeds
+fall_without-requires-clause-feeds c = c.requires.feeds
+
+pub fall_without-requires-clause-row : goal.fall_without-requires-clause-row
+fall_without-requires-clause-row c = c.requires.row
+
+pub fall_without-requires-clause-side : goal.fall_without-requires-clause-side
+fall_without-requires-clause-side c = c.requires.side
+
+pub is_confined-requires-clause-whole : goal.is_confined-requires-clause-whole
+is_confined-requires-clause-whole c = c.requires.longest.whole
+
+pub is_confined_beside-requires-clause-whole : goal.is_confined_beside-requires-clause-whole
+is_confined_beside-requires-clause-whole c = c.requires.longest.whole
+
+pub unfed_entry-requires-clause-network : goal.unfed_entry-requires-clause-network
+unfed_entry-requires-clause-network c = c.requires.network
+
+pub unfed_entry-requires-clause-longest : goal.unfed_entry-requires-clause-longest
+unfed_entry-requires-clause-longest c = c.requires.longest
+
+pub beside_entry-requires-clause-network : goal.beside_entry-requires-clause-network
+beside_entry-requires-clause-network c = c.requires.network
+
+pub beside_entry-requires-clause-longest : goal.beside_entry-requires-clause-longest
+beside_entry-requires-clause-longest c = c.requires.longest
+
+pub beside_entry-requires-clause-feeds : goal.beside_entry-requires-clause-feeds
+beside_entry-requires-clause-feeds c = c.requires.feeds
+
+pub beside_entry-requires-clause-row : goal.beside_entry-requires-clause-row
+beside_entry-requires-clause-row c = c.requires.row
+
+pub unfed_entry-requires-clause-unfed : goal.unfed_entry-requires-clause-unfed
+unfed_entry-requires-clause-unfed c = c.in_ok-fall.ensures.unfed c.if-unfed.true
+
+pub unfed_entry-requires-clause-confined : goal.unfed_entry-requires-clause-confined
+unfed_entry-requires-clause-confined c = c.is_confined.ensures.confined c.if-is_confined.true
+
+pub beside_entry-requires-clause-unfed : goal.beside_entry-requires-clause-unfed
+beside_entry-requires-clause-unfed c = c.in_ok-fall.ensures.beside c.if-beside.true
+
+pub beside_entry-requires-clause-confined : goal.beside_entry-requires-clause-confined
+beside_entry-requires-clause-confined c = c.is_confined_beside.ensures.confined c.if-is_confined_beside.true

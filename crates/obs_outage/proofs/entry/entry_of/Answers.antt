@@ -1,4 +1,4 @@
-use Rattle.std.proofs.Common.{◌≡◌, ℕ, None, List, Option, length, sym, ap, ◌∙◌, subst, arith}
+use Rattle.std.proofs.Common.{◌≡◌, ℕ, None, List, Option, length, refl, sym, ap, ◌∙◌, subst, arith}
 use Rattle.std.specs.Prelude.{is_some, slice_index_or, take}
 use Rattle.obs_graph.specs.declared.Ends.{Ends}
 use Rattle.obs_graph.specs.Graph.{Graph}
@@ -106,3 +106,147 @@ parted_entry-requires-clause-side g c =
     ap (λ (xs : List (Option Ends)). take many xs) ends ∙ ap (λ k. take k (case_branches t)) rows ∙ rows_first t in
     let side = subst (λ (xs : List (Option Ends)). IsSide xs e c.walk-joined.new.self.found) first (c.walk-joined.ensures.parted c.if-joined.false) in
     subst (λ (xs : List ℕ). IsSide (case_rows t) e xs) (sym c.found.ensures.found) side
+
+pub returns-in-Some-clause-case : goal.returns-in-Some-clause-case
+returns-in-Some-clause-case g c = refl
+
+pub returns-in-Some-clause-network : goal.returns-in-Some-clause-network
+returns-in-Some-clause-network g c = refl
+
+pub returns-in-Some-clause-longest : goal.returns-in-Some-clause-longest
+returns-in-Some-clause-longest g c = c.requires.longest
+
+pub returns-in-Some-clause-room : goal.returns-in-Some-clause-room
+returns-in-Some-clause-room g c = c.requires.room
+
+pub returns-in-Some-clause-other : goal.returns-in-Some-clause-other
+returns-in-Some-clause-other g c = c.requires.other
+
+pub returns-in-Some-clause-sides : goal.returns-in-Some-clause-sides
+returns-in-Some-clause-sides g c = c.walk-joined.ensures.room
+
+pub returns-in-Some-meter_of-clause-entry : goal.returns-in-Some-meter_of-clause-entry
+returns-in-Some-meter_of-clause-entry g c = c.joined_outage.ensures.entry
+
+pub returns-in-Some-meter_of-clause-case : goal.returns-in-Some-meter_of-clause-case
+returns-in-Some-meter_of-clause-case g c = c.joined_outage.ensures.case
+
+pub returns-in-Some-meter_of-clause-longest : goal.returns-in-Some-meter_of-clause-longest
+returns-in-Some-meter_of-clause-longest g c = c.joined_outage.ensures.longest
+
+pub returns-in-Some-meter_of-clause-room : goal.returns-in-Some-meter_of-clause-room
+returns-in-Some-meter_of-clause-room g c = c.joined_outage.ensures.room
+
+pub returns-in-Some-meter_of-clause-other : goal.returns-in-Some-meter_of-clause-other
+returns-in-Some-meter_of-clause-other g c = c.joined_outage.ensures.other
+
+pub returns-in-Some-meter_of-clause-network : goal.returns-in-Some-meter_of-clause-network
+returns-in-Some-meter_of-clause-network g c = refl
+
+pub returns-in-Some-meter_of-clause-sides : goal.returns-in-Some-meter_of-clause-sides
+returns-in-Some-meter_of-clause-sides g c = c.walk-joined.ensures.room
+
+pub returns-clause-entry : goal.returns-clause-entry
+returns-clause-entry g c = c.outage_at.ensures.entry
+
+pub returns-clause-quiet : goal.returns-clause-quiet
+returns-clause-quiet g c = c.outage_at.ensures.quiet
+
+pub returns-clause-case : goal.returns-clause-case
+returns-clause-case g c = c.outage_at.ensures.case
+
+pub returns-clause-longest : goal.returns-clause-longest
+returns-clause-longest g c = c.outage_at.ensures.longest
+
+pub returns-clause-room : goal.returns-clause-room
+returns-clause-room g c = c.outage_at.ensures.room
+
+pub returns-clause-other : goal.returns-clause-other
+returns-clause-other g c = c.outage_at.ensures.other
+
+pub returns-clause-network : goal.returns-clause-network
+returns-clause-network g c = refl
+
+pub returns-clause-sides : goal.returns-clause-sides
+returns-clause-sides g c = c.walk-joined.ensures.room
+
+pub joined_outage-requires-clause-network : goal.joined_outage-requires-clause-network
+joined_outage-requires-clause-network g c = c.requires.network
+
+pub joined_outage-requires-clause-row : goal.joined_outage-requires-clause-row
+joined_outage-requires-clause-row g c = c.requires.row
+
+pub joined_outage-requires-clause-longest : goal.joined_outage-requires-clause-longest
+joined_outage-requires-clause-longest g c = c.requires.longest
+
+pub joined_outage-requires-clause-room : goal.joined_outage-requires-clause-room
+joined_outage-requires-clause-room g c = c.requires.room
+
+pub joined_outage-requires-clause-other : goal.joined_outage-requires-clause-other
+joined_outage-requires-clause-other g c = c.requires.other
+
+pub joined_outage-requires-clause-owner : goal.joined_outage-requires-clause-owner
+joined_outage-requires-clause-owner g c = c.in-Some-meter_of.ensures.meter
+
+pub parted_entry-requires-clause-network : goal.parted_entry-requires-clause-network
+parted_entry-requires-clause-network g c = c.requires.network
+
+pub parted_entry-requires-clause-row : goal.parted_entry-requires-clause-row
+parted_entry-requires-clause-row g c = c.requires.row
+
+pub parted_entry-requires-clause-longest : goal.parted_entry-requires-clause-longest
+parted_entry-requires-clause-longest g c = c.requires.longest
+
+pub parted_entry-requires-clause-spared : goal.parted_entry-requires-clause-spared
+parted_entry-requires-clause-spared g c = c.requires.spared
+
+pub parted_entry-requires-clause-flags : goal.parted_entry-requires-clause-flags
+parted_entry-requires-clause-flags g c = c.requires.flags
+
+pub parted_entry-requires-clause-costly : goal.parted_entry-requires-clause-costly
+parted_entry-requires-clause-costly g c = c.requires.costly
+
+pub parted_entry-requires-clause-feeds : goal.parted_entry-requires-clause-feeds
+parted_entry-requires-clause-feeds g c = c.requires.feeds
+
+pub outage_at-requires-clause-network : goal.outage_at-requires-clause-network
+outage_at-requires-clause-network g c = c.requires.network
+
+pub outage_at-requires-clause-row : goal.outage_at-requires-clause-row
+outage_at-requires-clause-row g c = c.requires.row
+
+pub outage_at-requires-clause-longest : goal.outage_at-requires-clause-longest
+outage_at-requires-clause-longest g c = c.requires.longest
+
+pub outage_at-requires-clause-room : goal.outage_at-requires-clause-room
+outage_at-requires-clause-room g c = c.requires.room
+
+pub outage_at-requires-clause-other : goal.outage_at-requires-clause-other
+outage_at-requires-clause-other g c = c.requires.other
+
+pub returns-in-Some-parted_entry-clause-entry : goal.returns-in-Some-parted_entry-clause-entry
+returns-in-Some-parted_entry-clause-entry g c = c.in-Some-parted_entry.ensures.entry
+
+pub returns-in-Some-parted_entry-clause-case : goal.returns-in-Some-parted_entry-clause-case
+returns-in-Some-parted_entry-clause-case g c = refl
+
+pub returns-in-Some-parted_entry-clause-network : goal.returns-in-Some-parted_entry-clause-network
+returns-in-Some-parted_entry-clause-network g c = refl
+
+pub returns-in-Some-parted_entry-clause-longest : goal.returns-in-Some-parted_entry-clause-longest
+returns-in-Some-parted_entry-clause-longest g c = c.requires.longest
+
+pub returns-in-Some-parted_entry-clause-room : goal.returns-in-Some-parted_entry-clause-room
+returns-in-Some-parted_entry-clause-room g c = c.requires.room
+
+pub returns-in-Some-parted_entry-clause-other : goal.returns-in-Some-parted_entry-clause-other
+returns-in-Some-parted_entry-clause-other g c = c.requires.other
+
+pub returns-in-Some-parted_entry-clause-sides : goal.returns-in-Some-parted_entry-clause-sides
+returns-in-Some-parted_entry-clause-sides g c = c.walk-joined.ensures.room
+
+pub returns-in-Some-parted_entry-clause-quiet : goal.returns-in-Some-parted_entry-clause-quiet
+returns-in-Some-parted_entry-clause-quiet g c = λ _. (refl, refl)
+
+pub returns-in-Some-clause-quiet : goal.returns-in-Some-clause-quiet
+returns-in-Some-clause-quiet g c = λ _. (refl, refl)

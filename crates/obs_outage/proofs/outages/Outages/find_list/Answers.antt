@@ -1,6 +1,11 @@
-use Rattle.std.proofs.Common.{◌≡◌, length, take, ap, ◌∙◌, List}
+use Rattle.std.proofs.Common.{◌≡◌, ◌≤◌, length, take, sym, ap, ◌∙◌, subst, List, arith}
 use Rattle.obs_graph.proofs.Stored.{written_back}
+use Rattle.obs_network.specs.Network.{Network}
+use Rattle.obs_kept.specs.Kept.{AreLongestOver}
+use Rattle.obs_outage.specs.Costly.{AreCostly}
 use Rattle.obs_outage.specs.Outages.{Outages}
+use Rattle.obs_outage.specs.Spared.{AreSpared}
+use Rattle.obs_outage.specs.Sparing.{HasFlags}
 use Rattle.obs_outage.specs.declared.outages.Outage.{Outage}
 use Rattle.obs_outage.proofs.outages.Outages.find_list.Goals as goal
 
@@ -16,4 +21,81 @@ returns g c =
       case = listed.case;
       network = listed.network ∙ ap (λ (o : Outages). o.network) c.self.view_is;
       longest = listed.longest;
+    }
+
+pub count-requires-clause-network : goal.count-requires-clause-network
+count-requires-clause-network g c = ap (λ (o : Outages). o.network) c.self.view_is ∙ c.requires.network
+
+pub count-requires-clause-longest : goal.count-requires-clause-longest
+count-requires-clause-longest g c =
+    subst (λ (x : Network). AreLongestOver x c.self.inside.kept.pairs) (ap (λ (o : Outages). o.network) c.self.view_is ∙ c.requires.network) c.self.invariant.longest
+
+pub count-requires-clause-buses : goal.count-requires-clause-buses
+count-requires-clause-buses g c = c.self.invariant.fed_buses ∙ ap (λ (x : Network). x.rows.nodes) (ap (λ (o : Outages). o.network) c.self.view_is ∙ c.requires.network)
+
+pub count-requires-clause-components : goal.count-requires-clause-components
+count-requires-clause-components g c = c.self.invariant.fed_components ∙ ap (λ (x : Network). x.rows.nodes) (ap (λ (o : Outages). o.network) c.self.view_is ∙ c.requires.network)
+
+pub count-requires-clause-pairs : goal.count-requires-clause-pairs
+count-requires-clause-pairs g c = c.self.invariant.fed_pairs ∙ ap (λ (x : Network). x.rows.nodes) (ap (λ (o : Outages). o.network) c.self.view_is ∙ c.requires.network)
+
+pub list_outages-self-inside-requires-clause-network : goal.list_outages-self-inside-requires-clause-network
+list_outages-self-inside-requires-clause-network g c = ap (λ (o : Outages). o.network) c.self.view_is ∙ c.requires.network
+
+pub list_outages-self-inside-requires-clause-longest : goal.list_outages-self-inside-requires-clause-longest
+list_outages-self-inside-requires-clause-longest g c =
+    subst (λ (x : Network). AreLongestOver x c.self.inside.kept.pairs) (ap (λ (o : Outages). o.network) c.self.view_is ∙ c.requires.network) c.self.invariant.longest
+
+pub list_outages-self-inside-requires-clause-room : goal.list_outages-self-inside-requires-clause-room
+list_outages-self-inside-requires-clause-room g c = c.self.invariant.room
+
+pub list_outages-self-inside-requires-clause-other : goal.list_outages-self-inside-requires-clause-other
+list_outages-self-inside-requires-clause-other g c = c.self.invariant.other
+
+pub list_outages-self-inside-requires-clause-sides : goal.list_outages-self-inside-requires-clause-sides
+list_outages-self-inside-requires-clause-sides g c = c.self.invariant.sides
+
+pub list_outages-self-inside-requires-clause-flags : goal.list_outages-self-inside-requires-clause-flags
+list_outages-self-inside-requires-clause-flags g c = c.self.invariant.flags
+
+pub list_outages-self-inside-requires-clause-spared : goal.list_outages-self-inside-requires-clause-spared
+list_outages-self-inside-requires-clause-spared g c = c.self.invariant.spared
+
+pub list_outages-self-inside-requires-clause-costly : goal.list_outages-self-inside-requires-clause-costly
+list_outages-self-inside-requires-clause-costly g c = c.self.invariant.costly
+
+pub list_outages-self-inside-requires-clause-feeds : goal.list_outages-self-inside-requires-clause-feeds
+list_outages-self-inside-requires-clause-feeds g c = c.count.ensures.counted
+
+pub list_outages-self-inside-requires-clause-entries : goal.list_outages-self-inside-requires-clause-entries
+list_outages-self-inside-requires-clause-entries g c =
+    let there = ap (λ (o : Outages). o.network) c.self.view_is ∙ c.requires.network in
+    let many : length c.deref_mut.result.now ≡ length c.args.case.now.branches =
+    ap (λ (xs : List Outage). length xs) c.deref_mut.ensures.value ∙ c.self.invariant.entries ∙ ap (λ (x : Network). x.rows.branches) there in
+    omega (arith, many)
+
+pub invariant_of-self : goal.invariant_of-self
+invariant_of-self g c =
+    let after = c.list_outages-self-inside.ensures in
+    let inv = c.self.invariant in
+    let back = sym after.network in
+    let nodes = ap (λ (x : Network). x.rows.nodes) back in
+    let there = ap (λ (o : Outages). o.network) c.self.view_is ∙ c.requires.network in
+    let entries = c.list_outages-self-inside.new.entries in
+    let here = c.self.inside.entries in
+    let same : length entries ≡ length here.items = c.list_outages-self-inside.auto.entries ∙ ap length c.deref_mut.ensures.value in
+    let written = written_back here.len entries here.items same here.ok.0 in
+    record {
+      longest = subst (λ (x : Network). AreLongestOver x c.list_outages-self-inside.new.kept.pairs) (sym (after.network ∙ there)) after.longest;
+      room = after.room;
+      other = after.other;
+      sides = after.sides ∙ inv.sides ∙ ap (λ (x : Network). x.graph.most_vertices) back;
+      flags = subst (λ (x : Network). HasFlags x c.self.inside.spared) back inv.flags;
+      spared = subst (λ (x : Network). AreSpared x c.self.inside.spared.flags) back inv.spared;
+      costly = subst (λ (x : Network). AreCostly x c.self.inside.spared.costly) back inv.costly;
+      fed_buses = c.count.ensures.buses ∙ inv.fed_buses ∙ nodes;
+      fed_components = c.count.ensures.components ∙ inv.fed_components ∙ nodes;
+      fed_pairs = c.count.ensures.pairs ∙ inv.fed_pairs ∙ nodes;
+      entries = ap (λ (xs : List Outage). length xs) written ∙ same ∙ inv.entries ∙ ap (λ (x : Network). x.rows.branches) back;
+      listed = subst (λ (xs : List Outage). c.list_outages-self-inside.result ≤ length xs) (sym written) after.bound;
     }

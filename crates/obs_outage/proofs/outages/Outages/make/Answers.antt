@@ -1,7 +1,8 @@
-use Rattle.std.proofs.Common.{List, length, sym, ap, ◌∙◌, subst, arith}
+use Rattle.std.proofs.Common.{List, length, refl, sym, ap, ◌∙◌, subst, arith}
 use Rattle.obs_case.specs.declared.rows.Branch.{Branch}
 use Rattle.obs_kept.specs.Kept.{AreLongestOver}
 use Rattle.obs_network.specs.Network.{Network}
+use Rattle.obs_outage.specs.Sparing.{HasFlags}
 use Rattle.obs_outage.proofs.outages.Outages.make.Goals as goal
 
 pub invariant_of-result : goal.invariant_of-result
@@ -23,3 +24,21 @@ invariant_of-result g c =
       entries = (let many = ap (λ (x : Network). x.rows.branches) net in let len = c.in_ok-entries.ensures.len in omega (arith, many, len, rows));
       listed = omega arith;
     }
+
+pub find-requires-clause-network : goal.find-requires-clause-network
+find-requires-clause-network g c = c.in_ok-kept.ensures.network
+
+pub find-requires-clause-longest : goal.find-requires-clause-longest
+find-requires-clause-longest g c = c.in_ok-kept.ensures.longest
+
+pub find-requires-clause-room : goal.find-requires-clause-room
+find-requires-clause-room g c = c.in_ok-kept.ensures.room
+
+pub find-requires-clause-flags : goal.find-requires-clause-flags
+find-requires-clause-flags g c = subst (λ (x : Network). HasFlags x c.in_ok-spared.spared) (sym c.in_ok-kept.ensures.network) c.in_ok-spared.ensures.room
+
+pub find-requires-clause-sides : goal.find-requires-clause-sides
+find-requires-clause-sides g c = c.in_ok-sides.ensures.room ∙ c.vertex_room.ensures.room ∙ sym (ap (λ (x : Network). x.graph.most_vertices) c.in_ok-kept.ensures.network)
+
+pub returns : goal.returns
+returns g c = record { network = c.find.ensures.network ∙ c.in_ok-kept.ensures.network; longest = c.find.ensures.longest; none_found = refl }

@@ -1,14 +1,19 @@
-use Rattle.std.proofs.Common.{◌≡◌, true, List, Bool, length, sym, ap, ◌∙◌, subst, arith}
+use Rattle.std.proofs.Common.{◌≡◌, ◌≤◌, ℕ, true, List, Option, Bool, length, refl, sym, ap, ◌∙◌, subst, arith}
+use Rattle.obs_graph.specs.declared.Ends.{Ends}
 use Rattle.obs_graph.specs.Graph.{Graph}
 use Rattle.obs_graph.proofs.Stored.{written_back}
 use Rattle.obs_case.specs.declared.rows.Branch.{Branch}
-use Rattle.obs_assign.specs.Assignment.{has_flag}
+use Rattle.obs_meter.specs.Touches.{AreInRange}
+use Rattle.obs_assign.specs.Assignment.{Assignment, has_flag}
 use Rattle.obs_exchange.specs.declared.Sources.TheVariants.{All}
 use Rattle.obs_exchange.specs.Found.{HasClosed}
 use Rattle.obs_network.specs.Network.{Network}
 use Rattle.obs_network.proofs.OfCase.{length-case_branches}
-use Rattle.obs_kept.specs.Kept.{AreLongestOver}
+use Rattle.obs_kept.specs.Kept.{AreLongest, AreLongestOver}
+use Rattle.obs_kept.proofs.OfNetwork.{room_network}
+use Rattle.obs_outage.specs.Sparing.{Spared}
 use Rattle.obs_outage.proofs.Costing.{closed_there, costly_network, longest_there}
+use Rattle.obs_outage.proofs.Fitting.{back_length, vertices_there}
 use Rattle.obs_outage.proofs.SparedBy.{flags_spared}
 use Rattle.obs_outage.proofs.spared.Spared.find.Goals as goal
 
@@ -66,3 +71,111 @@ returns-clause-costly g c = λ e f.
     costly_network c.args.kept.now.network c.graph-g.result.now c.meters-ms.result.now c.graph-g.ensures.graph c.meters-ms.ensures.meters c.vertices.ensures.branches c.args.kept.now.pairs c.close.new.a
     c.close.ensures.same (subst (λ (x : Network). AreLongestOver x c.args.kept.now.pairs) (sym c.requires.network) c.requires.longest) c.flag_costly.new.flags c.flag_costly.ensures.costly e
     (subst (λ (xs : List Bool). has_flag xs e ≡ true) back f)
+
+pub close-requires-clause-longest : goal.close-requires-clause-longest
+close-requires-clause-longest g c =
+    longest_there c.args.kept.now.network c.graph-g.result.now c.meters-ms.result.now c.graph-g.ensures.graph c.meters-ms.ensures.meters c.vertices.ensures.branches c.args.kept.now.pairs c.args.kept.now.pairs
+    refl (subst (λ (x : Network). AreLongestOver x c.args.kept.now.pairs) (sym c.requires.network) c.requires.longest)
+
+pub close-requires-clause-in_range : goal.close-requires-clause-in_range
+close-requires-clause-in_range g c = subst (λ (x : Graph). AreInRange x c.meters-ms.result.now.touches) (sym c.graph-g.ensures.graph) c.meters-ms.ensures.in_range
+
+pub close-requires-clause-room : goal.close-requires-clause-room
+close-requires-clause-room g c =
+    let k = c.args.kept.now in
+    room_network k.network c.args.case.now c.requires.network c.graph-g.result.now c.graph-g.ensures.graph c.meters-ms.result.now c.meters-ms.ensures.meters k.pairs k.work c.requires.room
+
+pub refill_touched-requires-clause-in_range : goal.refill_touched-requires-clause-in_range
+refill_touched-requires-clause-in_range g c = subst (λ (x : Graph). AreInRange x c.meters-ms.result.now.touches) (sym c.graph-g.ensures.graph) c.meters-ms.ensures.in_range
+
+pub refill_touched-requires-clause-marks : goal.refill_touched-requires-clause-marks
+refill_touched-requires-clause-marks g c = ap (λ (xs : List Bool). length xs) c.reached.ensures.reached ∙ c.close.ensures.closed.flags
+
+pub refill_touched-requires-clause-fronts : goal.refill_touched-requires-clause-fronts
+refill_touched-requires-clause-fronts g c =
+    let fronts = ap (λ (xs : List ℕ). length xs) c.deref_mut.ensures.value ∙ ap (λ (s : Spared). s.most_vertices) c.self.view_is ∙ c.requires.flags.vertices in
+    subst (λ (k : ℕ). c.graph-g.result.now.vertices ≤ k) (sym fronts) (vertices_there c.args.kept.now.network c.args.case.now c.requires.network c.graph-g.result.now c.graph-g.ensures.graph)
+
+pub refill_touched-requires-clause-one_each : goal.refill_touched-requires-clause-one_each
+refill_touched-requires-clause-one_each g c =
+    ap (λ (xs : List (Option Ends)). length xs) c.deref_mut-2.ensures.value ∙ c.self.invariant.part ∙ ap (λ (s : Spared). length s.flags) c.self.view_is ∙ c.requires.flags.branches
+    ∙ ap (λ (x : Graph). length x.ends) (sym c.graph-g.ensures.graph)
+
+pub refill_touched-requires-clause-vertices : goal.refill_touched-requires-clause-vertices
+refill_touched-requires-clause-vertices g c =
+    let most = c.self.invariant.vertices ∙ ap (λ (s : Spared). s.most_vertices) c.self.view_is ∙ c.requires.flags.vertices in
+    subst (λ (k : ℕ). c.graph-g.result.now.vertices ≤ k) (sym most) (vertices_there c.args.kept.now.network c.args.case.now c.requires.network c.graph-g.result.now c.graph-g.ensures.graph)
+
+pub refill_touched-requires-clause-branches : goal.refill_touched-requires-clause-branches
+refill_touched-requires-clause-branches g c =
+    let most = c.self.invariant.branches ∙ ap (λ (s : Spared). length s.flags) c.self.view_is ∙ c.requires.flags.branches ∙ ap (λ (x : Graph). length x.ends) (sym c.graph-g.ensures.graph) in
+    omega (arith, most)
+
+pub flag_rows-requires-clause-one_each : goal.flag_rows-requires-clause-one_each
+flag_rows-requires-clause-one_each g c =
+    let ends = c.refill_touched.ensures.one_each ∙ ap (λ (x : Graph). length x.ends) (c.graph-g.ensures.graph ∙ ap (λ (x : Network). x.graph) c.requires.network) in
+    ends ∙ c.requires.longest.stands.forest.positions ∙ ap (λ (a : Assignment). length a.forest.held) (sym c.close.ensures.same)
+
+pub flag_rows-requires-clause-flags : goal.flag_rows-requires-clause-flags
+flag_rows-requires-clause-flags g c =
+    let ends = c.refill_touched.ensures.one_each ∙ ap (λ (x : Graph). length x.ends) c.graph-g.ensures.graph in
+    ap (λ (xs : List Bool). length xs) c.deref_mut-3.ensures.value ∙ ap (λ (s : Spared). length s.flags) c.self.view_is ∙ c.requires.flags.branches ∙ sym ends
+
+pub flag_rows-requires-clause-room : goal.flag_rows-requires-clause-room
+flag_rows-requires-clause-room g c =
+    let there = vertices_there c.args.kept.now.network c.args.case.now c.requires.network c.graph-g.result.now c.graph-g.ensures.graph in
+    let most = c.requires.sides in
+    let same = c.refill_touched.ensures.vertices in
+    omega (arith, there, most, same)
+
+pub flag_costly-requires-clause-marks : goal.flag_costly-requires-clause-marks
+flag_costly-requires-clause-marks g c = ap (λ (xs : List Bool). length xs) c.reached-reached.ensures.reached ∙ c.close.ensures.closed.flags
+
+pub flag_costly-requires-clause-flags : goal.flag_costly-requires-clause-flags
+flag_costly-requires-clause-flags g c =
+    ap (λ (xs : List Bool). length xs) c.deref_mut-4.ensures.value ∙ ap (λ (s : Spared). length s.costly) c.self.view_is ∙ c.requires.flags.costly
+    ∙ ap (λ (x : Graph). length x.ends) (sym c.graph-g.ensures.graph)
+
+pub returns-clause-network : goal.returns-clause-network
+returns-clause-network g c = refl
+
+pub returns-clause-longest : goal.returns-clause-longest
+returns-clause-longest g c = subst (λ (a : Assignment). AreLongest c.args.case.now a) (sym c.close.ensures.same) c.requires.longest
+
+pub returns-clause-room : goal.returns-clause-room
+returns-clause-room g c =
+    let same = c.close.ensures.same in
+    let room = c.requires.room in
+    record {
+      pair_meters = ap (λ (a : Assignment). a.most_meters) same ∙ room.pair_meters;
+      pair_branches = ap (λ (a : Assignment). a.forest.most_branches) same ∙ room.pair_branches;
+      pair_vertices = ap (λ (a : Assignment). a.forest.most_vertices) same ∙ room.pair_vertices;
+      work = c.close.ensures.same_sizes ∙ room.work;
+    }
+
+pub returns-clause-flags : goal.returns-clause-flags
+returns-clause-flags g c =
+    let ins = c.self.inside in
+    let flags = back_length ins.flags.len c.flag_rows.new.flags ins.flags.items (c.flag_rows.auto.flags ∙ ap length c.deref_mut-3.ensures.value) ins.flags.ok.0 in
+    let costly = back_length ins.costly.len c.flag_costly.new.flags ins.costly.items (c.flag_costly.auto.flags ∙ ap length c.deref_mut-4.ensures.value) ins.costly.ok.0 in
+    let fronts = back_length ins.fronts.len c.refill_touched.new.fronts ins.fronts.items (c.refill_touched.auto.fronts ∙ ap length c.deref_mut.ensures.value) ins.fronts.ok.0 in
+    record {
+      branches = flags ∙ ap (λ (s : Spared). length s.flags) c.self.view_is ∙ c.requires.flags.branches;
+      costly = costly ∙ ap (λ (s : Spared). length s.costly) c.self.view_is ∙ c.requires.flags.costly;
+      vertices = fronts ∙ ap (λ (s : Spared). s.most_vertices) c.self.view_is ∙ c.requires.flags.vertices;
+    }
+
+pub returns-clause-sides : goal.returns-clause-sides
+returns-clause-sides g c = c.flag_rows.ensures.room
+
+pub invariant_of-self : goal.invariant_of-self
+invariant_of-self g c =
+    let ins = c.self.inside in
+    let flags = back_length ins.flags.len c.flag_rows.new.flags ins.flags.items (c.flag_rows.auto.flags ∙ ap length c.deref_mut-3.ensures.value) ins.flags.ok.0 in
+    let part = back_length ins.part.len c.refill_touched.new.part ins.part.items (c.refill_touched.auto.part ∙ ap length c.deref_mut-2.ensures.value) ins.part.ok.0 in
+    let fronts = back_length ins.fronts.len c.refill_touched.new.fronts ins.fronts.items (c.refill_touched.auto.fronts ∙ ap length c.deref_mut.ensures.value) ins.fronts.ok.0 in
+    record {
+      part = part ∙ c.self.invariant.part ∙ sym flags;
+      branches = c.refill_touched.ensures.most_branches ∙ c.self.invariant.branches ∙ sym flags;
+      vertices = c.refill_touched.ensures.most_vertices ∙ c.self.invariant.vertices ∙ sym fronts;
+    }
