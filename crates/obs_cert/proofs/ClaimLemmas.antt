@@ -120,6 +120,9 @@ room_joined rows w ups moved m e f =
       stars = omega (arith, m.stars, p);
     }
 
+pub clear_joined : (w : Work) (ups : List ℕ) → length ups ≡ length w.ups.items → AreJoined [] ups [] → AreJoined [] (with_items w.ups ups).items []
+clear_joined w ups e clear = subst (λ us. AreJoined [] us []) (sym (back w.ups ups e)) clear
+
 pub ready_joined : (t : Tables) (stamp : ℕ) (w : Work) (ups moved : List ℕ) → IsReady t stamp w → length ups ≡ length w.ups.items → length moved ≡ length w.moved.items
     → AreJoined [] ups [] → IsReady t stamp (record w { ups = with_items w.ups ups; moved = with_items w.moved moved })
 ready_joined t stamp w ups moved r e f clear = record {
@@ -128,7 +131,7 @@ ready_joined t stamp w ups moved r e f clear = record {
   paired = r.paired;
   listed = r.listed;
   taken = r.taken;
-  clear = subst (λ us. AreJoined [] us []) (sym (back w.ups ups e)) clear;
+  clear = clear_joined w ups e clear;
   known = r.known;
 }
 

@@ -1,7 +1,6 @@
 -- What an item touches at its hub: the rows of the branch table there.
-use Rattle.std.proofs.Common.{◌≡◌, ℕ, ◌<◌, Option, Some, None, List, length, get_or, sym, ap, ◌∙◌, subst, arith, inl, inr}
+use Rattle.std.proofs.Common.{◌≡◌, ℕ, ◌<◌, Some, None, length, get_or, sym, ap, ◌∙◌, subst, arith, inl, inr}
 use Rattle.std.specs.Prelude.{slice_index_or}
-use Rattle.obs_graph.specs.declared.Ends.{Ends}
 use Rattle.obs_graph.specs.Positions.{branches_at}
 use Rattle.obs_graph.proofs.AtVertex.{branches_at-front}
 use Rattle.obs_case.specs.declared.rows.Kind.{Kind}

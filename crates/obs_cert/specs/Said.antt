@@ -1,21 +1,10 @@
 -- What the program's words and lines say.
-use Rattle.std.specs.Prelude.{ℕ, List, [], ◌∷◌}
 use Rattle.obs_cert.specs.declared.line.Item as item
 use Rattle.obs_cert.specs.declared.line.Item.TheVariants.{Meter, Candidate}
 use Rattle.obs_cert.specs.declared.line.Line as line
 use Rattle.obs_cert.specs.declared.line.Line.TheVariants.{Tree, Bound, Cost, Shortfall, Pair, Chosen, Layer, Inside, End}
-use Rattle.obs_cert.specs.declared.words.Words.{Words}
-use Rattle.obs_cert.specs.declared.words.Words.TheVariants.{One, Two, Three, Four, Five}
 use Rattle.obs_cert.specs.Claims.{Item, meter, candidate}
 use Rattle.obs_cert.specs.Words.{Line, tree_line, bound_line, cost_line, shortfall_line, pair_line, chosen_line, layer_line, inside_line, end_line}
-
--- the words, as a list
-abbrev pub word_list : Words → List (List ℕ)
-word_list (One kind) = kind.now ∷ []
-word_list (Two kind a) = kind.now ∷ a.now ∷ []
-word_list (Three kind a b) = kind.now ∷ a.now ∷ b.now ∷ []
-word_list (Four kind a b c) = kind.now ∷ a.now ∷ b.now ∷ c.now ∷ []
-word_list (Five kind a b c d) = kind.now ∷ a.now ∷ b.now ∷ c.now ∷ d.now ∷ []
 
 -- the item that is named
 abbrev pub item_said : item.Item → Item

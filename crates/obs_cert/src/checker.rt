@@ -57,10 +57,19 @@ impl Checker {
         ensures network { IfOk result (λ c. c ≡ network_of case.now) }
     {
         let items = case.meters().len() + case.candidates().len();
+        let Ok(network) = Network::make(alloc, case) else {
+            return Err(NoMemory);
+        };
+        let Ok(work) = Work::make(alloc, case) else {
+            return Err(NoMemory);
+        };
+        let Ok(keys) = vec![in alloc; 0; items] else {
+            return Err(NoMemory);
+        };
         Ok(Checker {
-            network: Network::make(alloc, case)?,
-            work: Work::make(alloc, case)?,
-            keys: vec![in alloc; 0; items]?,
+            network,
+            work,
+            keys,
         })
     }
 

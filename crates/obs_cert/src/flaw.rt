@@ -61,7 +61,7 @@ impl FlawCode {
 }
 
 /// The first claim that fails, counted from 1, and its flaw.
-#[derive(Clone, Copy, Debug, PartialEq, Eq)]
+#[derive(Clone, Copy)]
 pub struct Flaw {
     pub claim: u32,
     pub code: FlawCode,

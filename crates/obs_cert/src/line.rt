@@ -1,10 +1,12 @@
 // The line of a certificate that words are.
 ghost use Rattle.std.specs.Prelude.{◌≡◌};
 ghost use Rattle.std.specs.Option.{option_map};
+ghost use Rattle.std.specs.Str.{bytes_eq};
+ghost use Rattle.obs_text.specs.Numbers.{whole_of};
 ghost use Rattle.obs_cert.specs.Said.{item_said, line_said};
-ghost use Rattle.obs_cert.specs.Words.{item_in, line_of, of_five, of_four, of_one, of_three, of_two};
+ghost use Rattle.obs_cert.specs.Words.{bound_of, item_in, line_of, name_in, of_five, of_four, of_one, of_three, of_two, pair_of};
 
-use crate::words::{Words, split_words};
+use crate::words::first_word;
 use obs_text::{name_of, whole};
 
 /// A meter or a candidate, by its name.
@@ -37,23 +39,30 @@ pub enum Line<'a> {
     End,
 }
 
+// Whether a word is this one.
+fn is(word: &[u8], kind: &'static [u8]) -> bool
+    ensures is { result ≡ bytes_eq word.now kind.now }
+{
+    word == kind
+}
+
 // The item that a sort and a name are.
 fn named_item<'a>(sort: &[u8], name: &'a [u8]) -> Option<Item<'a>>
     ensures item { option_map item_said result ≡ item_in sort.now name.now }
 {
-    if sort == b"meter".as_slice() {
-        name_of(name).map(Item::Meter)
-    } else if sort == b"candidate".as_slice() {
-        name_of(name).map(Item::Candidate)
-    } else {
-        None
+    if is(sort, b"meter") {
+        return name_of(name).map(Item::Meter);
     }
+    if is(sort, b"candidate") {
+        return name_of(name).map(Item::Candidate);
+    }
+    None
 }
 
 fn one(kind: &[u8]) -> Option<Line<'static>>
     ensures line { option_map line_said result ≡ of_one kind.now }
 {
-    if kind == b"end".as_slice() {
+    if is(kind, b"end") {
         Some(Line::End)
     } else {
         None
@@ -63,60 +72,125 @@ fn one(kind: &[u8]) -> Option<Line<'static>>
 fn two<'a>(kind: &[u8], a: &'a [u8]) -> Option<Line<'a>>
     ensures line { option_map line_said result ≡ of_two kind.now a.now }
 {
-    if kind == b"tree".as_slice() {
-        Some(Line::Tree(name_of(a)?))
-    } else if kind == b"cost".as_slice() {
-        Some(Line::Cost(whole(a)?))
-    } else if kind == b"chosen".as_slice() {
-        Some(Line::Chosen(name_of(a)?))
-    } else {
-        None
+    if is(kind, b"tree") {
+        return name_of(a).map(Line::Tree);
     }
+    if is(kind, b"cost") {
+        return match whole(a) {
+            None => None,
+            Some(number) => Some(Line::Cost(number)),
+        };
+    }
+    if is(kind, b"chosen") {
+        return name_of(a).map(Line::Chosen);
+    }
+    None
 }
 
 fn three<'a>(kind: &[u8], a: &[u8], b: &'a [u8]) -> Option<Line<'a>>
     ensures line { option_map line_said result ≡ of_three kind.now a.now b.now }
 {
-    if kind == b"inside".as_slice() {
-        Some(Line::Inside(named_item(a, b)?))
-    } else if kind == b"shortfall".as_slice() {
-        Some(Line::Shortfall(whole(a)?, whole(b)?))
-    } else {
-        None
+    if is(kind, b"inside") {
+        return named_item(a, b).map(Line::Inside);
+    }
+    if !is(kind, b"shortfall") {
+        return None;
+    }
+    match whole(a) {
+        None => None,
+        Some(rank) => match whole(b) {
+            None => None,
+            Some(outside) => Some(Line::Shortfall(rank, outside)),
+        },
+    }
+}
+
+// The pair line of an item and a branch.
+fn pair<'a>(sort: &[u8], name: &'a [u8], branch: &'a [u8]) -> Option<Line<'a>>
+    ensures line { option_map line_said result ≡ pair_of (item_in sort.now name.now) (name_in branch.now) }
+{
+    match named_item(sort, name) {
+        None => None,
+        Some(item) => match name_of(branch) {
+            None => None,
+            Some(branch) => Some(Line::Pair(item, branch)),
+        },
+    }
+}
+
+// The bound line of a component and two numbers.
+fn bound<'a>(component: &'a [u8], rank: &[u8], outside: &[u8]) -> Option<Line<'a>>
+    ensures line { option_map line_said result
+        ≡ bound_of (name_in component.now) (whole_of rank.now) (whole_of outside.now) }
+{
+    match name_of(component) {
+        None => None,
+        Some(component) => match whole(rank) {
+            None => None,
+            Some(rank) => match whole(outside) {
+                None => None,
+                Some(outside) => Some(Line::Bound(component, rank, outside)),
+            },
+        },
     }
 }
 
 fn four<'a>(kind: &[u8], a: &'a [u8], b: &'a [u8], c: &'a [u8]) -> Option<Line<'a>>
     ensures line { option_map line_said result ≡ of_four kind.now a.now b.now c.now }
 {
-    if kind == b"pair".as_slice() {
-        Some(Line::Pair(named_item(a, b)?, name_of(c)?))
-    } else if kind == b"bound".as_slice() {
-        Some(Line::Bound(name_of(a)?, whole(b)?, whole(c)?))
-    } else {
-        None
+    if is(kind, b"pair") {
+        return pair(a, b, c);
     }
+    if is(kind, b"bound") {
+        return bound(a, b, c);
+    }
+    None
 }
 
 fn five(kind: &[u8], a: &[u8], b: &[u8], c: &[u8], d: &[u8]) -> Option<Line<'static>>
     ensures line { option_map line_said result ≡ of_five kind.now a.now b.now c.now d.now }
 {
-    if kind == b"layer".as_slice() {
-        Some(Line::Layer(whole(a)?, whole(b)?, whole(c)?, whole(d)?))
-    } else {
-        None
+    if !is(kind, b"layer") {
+        return None;
     }
+    let Some(from) = whole(a) else {
+        return None;
+    };
+    let Some(to) = whole(b) else {
+        return None;
+    };
+    let Some(rank) = whole(c) else {
+        return None;
+    };
+    let Some(outside) = whole(d) else {
+        return None;
+    };
+    Some(Line::Layer(from, to, rank, outside))
 }
 
 /// The line that bytes are: words with one tab between them, that have one of the nine forms.
 pub(crate) fn read_line(bytes: &[u8]) -> Option<Line<'_>>
     ensures line { option_map line_said result ≡ line_of bytes.now }
 {
-    match split_words(bytes)? {
-        Words::One(kind) => one(kind),
-        Words::Two(kind, a) => two(kind, a),
-        Words::Three(kind, a, b) => three(kind, a, b),
-        Words::Four(kind, a, b, c) => four(kind, a, b, c),
-        Words::Five(kind, a, b, c, d) => five(kind, a, b, c, d),
+    let (kind, rest) = first_word(bytes);
+    let Some(rest) = rest else {
+        return one(kind);
+    };
+    let (a, rest) = first_word(rest);
+    let Some(rest) = rest else {
+        return two(kind, a);
+    };
+    let (b, rest) = first_word(rest);
+    let Some(rest) = rest else {
+        return three(kind, a, b);
+    };
+    let (c, rest) = first_word(rest);
+    let Some(rest) = rest else {
+        return four(kind, a, b, c);
+    };
+    let (d, rest) = first_word(rest);
+    match rest {
+        Some(_) => None,
+        None => five(kind, a, b, c, d),
     }
 }

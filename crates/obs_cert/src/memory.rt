@@ -1,24 +1,5 @@
 // The one error of the calls that allocate.
-ghost use Rattle.std.specs.Prelude.{◌≡◌};
-
-use std::alloc::AllocError;
 
 /// There is no memory.
 #[derive(Clone, Copy, Debug, PartialEq, Eq)]
 pub struct NoMemory;
-
-impl From<AllocError> for NoMemory {
-    ghost from_gives = { λ _ e. e ≡ e };
-
-    fn from(_: AllocError) -> Self {
-        NoMemory
-    }
-}
-
-impl From<obs_network::NoMemory> for NoMemory {
-    ghost from_gives = { λ _ e. e ≡ e };
-
-    fn from(_: obs_network::NoMemory) -> Self {
-        NoMemory
-    }
-}

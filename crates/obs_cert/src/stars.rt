@@ -23,10 +23,12 @@ fn only(items: Items<'_>) -> Option<Item<'_>>
     ensures only { IfSome result (λ x. items.entry ≡ item_said x ∷ []) }
 {
     let mut items = items;
-    let first = items.next()?;
     match items.next() {
-        None => Some(first),
-        Some(_) => None,
+        None => None,
+        Some(first) => match items.next() {
+            None => Some(first),
+            Some(_) => None,
+        },
     }
 }
 

@@ -16,9 +16,13 @@ pub(crate) fn next_line(bytes: &[u8]) -> Option<(Line<'_>, &[u8])>
     ensures end { IfNone result (lines_in bytes.now ≡ []) }
 {
     let mut all = lines(bytes);
-    let line = all.next()?;
-    let line = read_line(line)?;
-    Some((line, all.rest()))
+    match all.next() {
+        None => None,
+        Some(line) => match read_line(line) {
+            None => None,
+            Some(line) => Some((line, all.rest())),
+        },
+    }
 }
 
 /// Which items of a claim are walked over.
@@ -147,10 +151,14 @@ impl<'a> Iterator for Items<'a> {
     ghost remaining = { item_count (λ items. items) };
 
     fn next(&mut self) -> Option<Item<'a>> {
-        let (item, sort, rest) = next_item(self.sort, self.rest)?;
-        self.sort = sort;
-        self.rest = rest;
-        Some(item)
+        match next_item(self.sort, self.rest) {
+            None => None,
+            Some((item, sort, rest)) => {
+                self.sort = sort;
+                self.rest = rest;
+                Some(item)
+            }
+        }
     }
 }
 
@@ -204,9 +212,13 @@ impl<'a> Iterator for Pairs<'a> {
     ghost remaining = { item_count (λ pairs. pairs) };
 
     fn next(&mut self) -> Option<PairLine<'a>> {
-        let (pair, rest) = next_pair(self.rest)?;
-        self.rest = rest;
-        Some(pair)
+        match next_pair(self.rest) {
+            None => None,
+            Some((pair, rest)) => {
+                self.rest = rest;
+                Some(pair)
+            }
+        }
     }
 }
 
@@ -286,9 +298,13 @@ impl<'a> Iterator for Layers<'a> {
     ghost remaining = { item_count (λ layers. layers) };
 
     fn next(&mut self) -> Option<LayerLines<'a>> {
-        let (layer, rest) = next_layer(self.rest)?;
-        self.rest = rest;
-        Some(layer)
+        match next_layer(self.rest) {
+            None => None,
+            Some((layer, rest)) => {
+                self.rest = rest;
+                Some(layer)
+            }
+        }
     }
 }
 
@@ -363,9 +379,13 @@ impl<'a> Iterator for Claims<'a> {
     ghost remaining = { item_count (λ claims. claims) };
 
     fn next(&mut self) -> Option<ClaimLines<'a>> {
-        let (claim, rest) = next_claim(self.rest)?;
-        self.rest = rest;
-        Some(claim)
+        match next_claim(self.rest) {
+            None => None,
+            Some((claim, rest)) => {
+                self.rest = rest;
+                Some(claim)
+            }
+        }
     }
 }
 

@@ -48,14 +48,35 @@ impl Work {
         let vertices = vertex_room(case) as usize;
         let items = case.meters().len() + case.candidates().len() + 1;
         let branches = case.branches().len() + items;
+        let Ok(chosen) = vec![in alloc; 0; items] else {
+            return Err(NoMemory);
+        };
+        let Ok(paired) = vec![in alloc; 0; items] else {
+            return Err(NoMemory);
+        };
+        let Ok(listed) = vec![in alloc; 0; items] else {
+            return Err(NoMemory);
+        };
+        let Ok(taken) = vec![in alloc; 0; branches] else {
+            return Err(NoMemory);
+        };
+        let Ok(ups) = vec![in alloc; 0; vertices] else {
+            return Err(NoMemory);
+        };
+        let Ok(moved) = vec![in alloc; 0; vertices] else {
+            return Err(NoMemory);
+        };
+        let Ok(stars) = vec![in alloc; 0; vertices] else {
+            return Err(NoMemory);
+        };
         Ok(Work {
-            chosen: vec![in alloc; 0; items]?,
-            paired: vec![in alloc; 0; items]?,
-            listed: vec![in alloc; 0; items]?,
-            taken: vec![in alloc; 0; branches]?,
-            ups: vec![in alloc; 0; vertices]?,
-            moved: vec![in alloc; 0; vertices]?,
-            stars: vec![in alloc; 0; vertices]?,
+            chosen,
+            paired,
+            listed,
+            taken,
+            ups,
+            moved,
+            stars,
         })
     }
 

@@ -47,11 +47,23 @@ pub(crate) fn make_answers(alloc: Global, case: &Case) -> Result<Answers, NoMemo
     let meters = case.meters().len();
     let positions = position_count(case);
     let vertices = vertex_room(case);
+    let Ok(marks) = vec![in alloc; false; meters] else {
+        return Err(NoMemory);
+    };
+    let Ok(critical) = CriticalWork::make(alloc, meters as u32) else {
+        return Err(NoMemory);
+    };
+    let Ok(islands) = IslandWork::make(alloc, meters as u32, positions, vertices) else {
+        return Err(NoMemory);
+    };
+    let Ok(inside) = vec![in alloc; 0; meters] else {
+        return Err(NoMemory);
+    };
     Ok(Answers {
-        marks: vec![in alloc; false; meters]?,
-        critical: CriticalWork::make(alloc, meters as u32)?,
-        islands: IslandWork::make(alloc, meters as u32, positions, vertices)?,
-        inside: vec![in alloc; 0; meters]?,
+        marks,
+        critical,
+        islands,
+        inside,
         measured: Measured {
             listed: 0,
             rank: 0,

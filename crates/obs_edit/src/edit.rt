@@ -5,7 +5,7 @@ ghost use Rattle.obs_edit.specs.Lines.{refusal_code, refusal_name, refusal_of};
 use obs_script::{Ask, LineFault};
 
 /// One flag of one row, and what it is set to. A row is said by its position in its table.
-#[derive(Clone, Copy, Debug, PartialEq, Eq)]
+#[derive(Clone, Copy)]
 pub enum Edit {
     Switch { at: u32, closed: bool },
     Branch { at: u32, inservice: bool },
@@ -13,14 +13,14 @@ pub enum Edit {
 }
 
 /// What a line is for a session: an edit of a row, or an ask.
-#[derive(Clone, Copy, PartialEq, Eq)]
+#[derive(Clone, Copy)]
 pub enum Meant {
     Edits(Edit),
     Asks(Ask),
 }
 
 /// What an edit left: the rank and the needed number of the present case, and how many searches it took.
-#[derive(Clone, Copy, Debug, PartialEq, Eq)]
+#[derive(Clone, Copy)]
 pub struct Applied {
     pub rank: u32,
     pub needed: u32,
@@ -28,14 +28,14 @@ pub struct Applied {
 }
 
 /// What a line was: an edit, which is done, or an ask, which isn't answered yet.
-#[derive(Clone, Copy, PartialEq, Eq)]
+#[derive(Clone, Copy)]
 pub enum Done {
     Edited(Applied),
     Asked(Ask),
 }
 
 /// Why a line is refused. The first four are those of `read_line`.
-#[derive(Clone, Copy, Debug, PartialEq, Eq)]
+#[derive(Clone, Copy, PartialEq, Eq)]
 pub enum Refusal {
     /// The line is none of the eight asks, and its first word is none of the six edits.
     UnknownCommand = 1,

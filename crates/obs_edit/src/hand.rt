@@ -3,7 +3,7 @@ ghost use Rattle.std.specs.Prelude.{◌≡◌, false, None};
 
 /// Whether the kept pairs are the first ones, whether the critical meters are listed, whether the islands are found,
 /// for which component a bound is at hand, and whether a placement is.
-#[derive(Clone, Copy, Debug, PartialEq, Eq)]
+#[derive(Clone, Copy)]
 pub struct AtHand {
     pub first: bool,
     pub critical: bool,

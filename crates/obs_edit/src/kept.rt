@@ -40,9 +40,15 @@ pub(crate) fn make_held(alloc: Global, case: &Case) -> Result<Held, NoMemory>
     let meters = case.meters().len() as u32;
     let positions = position_count(case);
     let vertices = vertex_room(case);
-    let pairs = Assignment::make(alloc, meters, positions, vertices)?;
-    let work = Work::make(alloc, meters, positions, vertices)?;
-    let parts = Parts::make(alloc, case)?;
+    let Ok(pairs) = Assignment::make(alloc, meters, positions, vertices) else {
+        return Err(NoMemory);
+    };
+    let Ok(work) = Work::make(alloc, meters, positions, vertices) else {
+        return Err(NoMemory);
+    };
+    let Ok(parts) = Parts::make(alloc, case) else {
+        return Err(NoMemory);
+    };
     Ok(Held { pairs, work, parts })
 }
 

@@ -60,14 +60,15 @@ fn is_place(ask: Ask) -> bool
 pub(crate) fn meant(case: &Case, offered: bool, line: &[u8]) -> Result<Meant, Refusal>
     ensures meant { result ≡ meant_of case.now offered line.now }
 {
-    match read_line(line)? {
-        Command::OpenSwitch(name) => edit_switch(case, name, false),
-        Command::CloseSwitch(name) => edit_switch(case, name, true),
-        Command::TripBranch(name) => edit_branch(case, name, false),
-        Command::RestoreBranch(name) => edit_branch(case, name, true),
-        Command::LoseMeter(name) => edit_meter(case, name, false),
-        Command::RegainMeter(name) => edit_meter(case, name, true),
-        Command::Asked(ask) => {
+    match read_line(line) {
+        Err(fault) => Err(Refusal::from(fault)),
+        Ok(Command::OpenSwitch(name)) => edit_switch(case, name, false),
+        Ok(Command::CloseSwitch(name)) => edit_switch(case, name, true),
+        Ok(Command::TripBranch(name)) => edit_branch(case, name, false),
+        Ok(Command::RestoreBranch(name)) => edit_branch(case, name, true),
+        Ok(Command::LoseMeter(name)) => edit_meter(case, name, false),
+        Ok(Command::RegainMeter(name)) => edit_meter(case, name, true),
+        Ok(Command::Asked(ask)) => {
             if is_place(ask) && !offered {
                 Err(Refusal::NoCandidates)
             } else {

@@ -153,10 +153,19 @@ impl Pairing {
         ensures empty { IfOk result (λ p. p ≡
             new_paired (record { meters = most_offered; branches = most_branches; vertices = most_vertices })) }
     {
+        let Ok(items) = Meters::make(alloc, most_offered) else {
+            return Err(NoMemory);
+        };
+        let Ok(pairs) = Assignment::make(alloc, most_offered, most_branches, most_vertices) else {
+            return Err(NoMemory);
+        };
+        let Ok(exchange) = Work::make(alloc, most_offered, most_branches, most_vertices) else {
+            return Err(NoMemory);
+        };
         Ok(Pairing {
-            items: Meters::make(alloc, most_offered)?,
-            pairs: Assignment::make(alloc, most_offered, most_branches, most_vertices)?,
-            exchange: Work::make(alloc, most_offered, most_branches, most_vertices)?,
+            items,
+            pairs,
+            exchange,
         })
     }
 

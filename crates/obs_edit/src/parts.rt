@@ -85,8 +85,12 @@ impl Parts {
     {
         let positions = position_count(case);
         let vertices = vertex_room(case);
-        let search = Search::make(alloc, vertices)?;
-        let held = vec![in alloc; None; positions as usize]?;
+        let Ok(search) = Search::make(alloc, vertices) else {
+            return Err(NoMemory);
+        };
+        let Ok(held) = vec![in alloc; None; positions as usize] else {
+            return Err(NoMemory);
+        };
         Ok(Parts {
             known: false,
             search,

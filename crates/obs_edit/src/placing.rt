@@ -76,7 +76,9 @@ fn write_prices(candidates: &[Candidate], prices: &mut [u64])
 fn list_prices(alloc: Global, candidates: &[Candidate]) -> Result<Vec<u64>, NoMemory>
     ensures prices { IfOk result (λ prices. prices.items ≡ prices_of candidates.now) }
 {
-    let mut prices = vec![in alloc; 0; candidates.len()]?;
+    let Ok(mut prices) = vec![in alloc; 0; candidates.len()] else {
+        return Err(NoMemory);
+    };
     write_prices(candidates, &mut prices);
     Ok(prices)
 }
@@ -94,10 +96,19 @@ impl Placing {
             (record { meters = items; branches = positions; vertices = vertices }) (prices_of case.now.candidates)) }
     {
         let _nodes = case.nodes();
+        let Ok(prices) = list_prices(alloc, case.candidates()) else {
+            return Err(NoMemory);
+        };
+        let Ok(work) = PlaceWork::make(alloc, items, positions, vertices) else {
+            return Err(NoMemory);
+        };
+        let Ok(paired) = Pairing::make(alloc, items, positions, vertices) else {
+            return Err(NoMemory);
+        };
         Ok(Placing {
-            prices: list_prices(alloc, case.candidates())?,
-            work: PlaceWork::make(alloc, items, positions, vertices)?,
-            paired: Pairing::make(alloc, items, positions, vertices)?,
+            prices,
+            work,
+            paired,
         })
     }
 

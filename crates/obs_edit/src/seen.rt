@@ -18,7 +18,7 @@ use obs_rankcut::Bound;
 use std::sync::ledger::Ledger;
 
 /// An answer of a session: the present case, its network, and what was found.
-#[derive(Clone, Copy)]
+#[derive(Drop)]
 pub struct Seen<'a, T> {
     pub case: &'a Case,
     pub network: &'a Network,

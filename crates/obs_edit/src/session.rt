@@ -24,7 +24,7 @@ use std::marker::Model;
 use std::sync::ledger::Ledger;
 
 /// The rank of a case and its needed number: it is observable where the two are equal.
-#[derive(Clone, Copy, Debug, PartialEq, Eq)]
+#[derive(Clone, Copy)]
 pub struct State {
     pub rank: u32,
     pub needed: u32,
@@ -106,10 +106,18 @@ impl Session {
         ensures offered { IfOk result (λ s. s.offered ≡ offered) }
         ensures longest { IfOk result (λ s. AreLongest case s.pairs) }
     {
-        let placing = Placing::make(alloc, &case, offered)?;
-        let network = Network::make(alloc, &case)?;
-        let mut held = make_held(alloc, &case)?;
-        let answers = make_answers(alloc, &case)?;
+        let Ok(placing) = Placing::make(alloc, &case, offered) else {
+            return Err(NoMemory);
+        };
+        let Ok(network) = Network::make(alloc, &case) else {
+            return Err(NoMemory);
+        };
+        let Ok(mut held) = make_held(alloc, &case) else {
+            return Err(NoMemory);
+        };
+        let Ok(answers) = make_answers(alloc, &case) else {
+            return Err(NoMemory);
+        };
         fill(&case, &network, &mut held.pairs, &mut held.work, steps);
         Ok(Session {
             case,

@@ -57,3 +57,12 @@ returns-then-has_outside-clause-ready c = ready_later c.args.present.now c.args.
 
 pub returns-then-has_untouched-clause-ready : goal.returns-then-has_untouched-clause-ready
 returns-then-has_untouched-clause-ready c = ready_later c.args.present.now c.args.stamp c.args.work.now c.requires.ready
+
+pub forest-requires-clause-room : goal.forest-requires-clause-room
+forest-requires-clause-room c =
+    let p = c.has_pair_twice in
+    (ready_pairs c.args.present.now c.args.stamp c.args.work.now p.new.paired p.new.taken c.requires.ready
+    (p.auto.paired ∙ ap length c.deref_mut.ensures.value) (p.auto.taken ∙ ap length c.deref_mut-2.ensures.value) p.ensures.below_items p.ensures.below_branches).room
+
+pub forest-requires-clause-clear : goal.forest-requires-clause-clear
+forest-requires-clause-clear c = c.requires.ready.clear

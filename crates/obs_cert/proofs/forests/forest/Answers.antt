@@ -1,8 +1,9 @@
-use Rattle.std.proofs.Common.{ℕ, length, ap, ◌∙◌}
+use Rattle.std.proofs.Common.{[], ℕ, length, ap, ◌∙◌}
 use Rattle.std.specs.Vec.{with_items}
 use Rattle.obs_network.specs.Network.{rows_of}
+use Rattle.obs_cert.specs.Joins.{AreJoined}
 use Rattle.obs_cert.specs.Ready.{HasRoom, IsReady}
-use Rattle.obs_cert.proofs.ClaimLemmas.{ready_joined, room_joined}
+use Rattle.obs_cert.proofs.ClaimLemmas.{clear_joined, ready_joined, room_joined}
 use Rattle.obs_cert.proofs.forests.forest.Goals as goal
 use Rattle.obs_cert.proofs.forests.forest.Goals.{After-measure_pairs-forest}
 
@@ -17,6 +18,9 @@ ready : (c : After-measure_pairs-forest) (stamp : ℕ) → IsReady c.args.presen
 ready c stamp r =
     let j = c.measure_pairs-forest in
     ready_joined c.args.present.now stamp c.args.work.now j.new.ups j.new.moved r (j.auto.ups ∙ ap length c.deref_mut.ensures.value) (j.auto.moved ∙ ap length c.deref_mut-2.ensures.value) j.ensures.clear
+
+clear : (c : After-measure_pairs-forest) → AreJoined [] (with_items c.args.work.now.ups c.measure_pairs-forest.new.ups).items []
+clear c = let j = c.measure_pairs-forest in clear_joined c.args.work.now j.new.ups (j.auto.ups ∙ ap length c.deref_mut.ensures.value) j.ensures.clear
 
 pub returns-then-forest-clause-ready : goal.returns-then-forest-clause-ready
 returns-then-forest-clause-ready c = ready (goal.at.returns-then-forest-clause-ready c).After-measure_pairs-forest
@@ -35,3 +39,12 @@ returns-clause-ready c = ready (goal.at.returns-clause-ready c).After-measure_pa
 
 pub returns-clause-room : goal.returns-clause-room
 returns-clause-room c = room (goal.at.returns-clause-room c).After-measure_pairs-forest
+
+pub returns-then-forest-clause-clear : goal.returns-then-forest-clause-clear
+returns-then-forest-clause-clear c = clear (goal.at.returns-then-forest-clause-clear c).After-measure_pairs-forest
+
+pub returns-then-forest-need-clause-clear : goal.returns-then-forest-need-clause-clear
+returns-then-forest-need-clause-clear c = clear (goal.at.returns-then-forest-need-clause-clear c).After-measure_pairs-forest
+
+pub returns-clause-clear : goal.returns-clause-clear
+returns-clause-clear c = clear (goal.at.returns-clause-clear c).After-measure_pairs-forest

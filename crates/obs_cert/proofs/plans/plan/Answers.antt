@@ -127,3 +127,18 @@ returns-then-has_untouched-clause-ready c = chosen_ready (goal.at.returns-then-h
 
 pub returns-then-either-clause-ready : goal.returns-then-either-clause-ready
 returns-then-either-clause-ready c = ready (goal.at.returns-then-either-clause-ready c).After-either
+
+pub forest-requires-clause-room : goal.forest-requires-clause-room
+forest-requires-clause-room c = (ready (goal.at.forest-requires-clause-room c).After-either).room
+
+pub forest-requires-clause-clear : goal.forest-requires-clause-clear
+forest-requires-clause-clear c = (ready (goal.at.forest-requires-clause-clear c).After-either).clear
+
+pub layers-requires-clause-keys : goal.layers-requires-clause-keys
+layers-requires-clause-keys c = c.requires.keys
+
+pub layers-requires-clause-room : goal.layers-requires-clause-room
+layers-requires-clause-room c = c.forest.ensures.room
+
+pub layers-requires-clause-clear : goal.layers-requires-clause-clear
+layers-requires-clause-clear c = c.forest.ensures.clear

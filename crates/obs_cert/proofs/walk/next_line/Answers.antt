@@ -4,15 +4,15 @@ use Rattle.obs_cert.specs.Walked.{said_line, said_lines}
 use Rattle.obs_cert.specs.Words.{Line}
 use Rattle.obs_cert.proofs.walk.next_line.Goals as goal
 
-pub returns-in_err-line-clause-end : goal.returns-in_err-line-clause-end
-returns-in_err-line-clause-end c = rw (c.from_residual.ensures, sym c.lines-all.ensures.bytes) (ap said_lines c.in_err-line.ensures.steps.first.0)
+pub returns-in-None-clause-end : goal.returns-in-None-clause-end
+returns-in-None-clause-end c = rw (sym c.lines-all.ensures.bytes) (ap said_lines c.in-None.ensures.steps.first.0)
 
-pub returns-in_err-line-2-clause-end : goal.returns-in_err-line-2-clause-end
-returns-in_err-line-2-clause-end c =
-    rw (c.from_residual-in_err-line-2.ensures, sym c.lines-all.ensures.bytes)
-    (ap said_lines c.in_ok-line.ensures.steps.first ∙ ap (λ (o : Option Line). said_line o (said_lines (lines_of c.next.new.self))) (sym c.in_err-line-2.ensures.line))
+pub returns-in-None-read_line-clause-end : goal.returns-in-None-read_line-clause-end
+returns-in-None-read_line-clause-end c =
+    rw (sym c.lines-all.ensures.bytes)
+    (ap said_lines c.in-Some.ensures.steps.first ∙ ap (λ (o : Option Line). said_line o (said_lines (lines_of c.next.new.self))) (sym c.in-None-read_line.ensures.line))
 
-pub returns-clause-line : goal.returns-clause-line
-returns-clause-line c =
+pub returns-in-Some-read_line-clause-line : goal.returns-in-Some-read_line-clause-line
+returns-in-Some-read_line-clause-line c =
     rw (sym c.lines-all.ensures.bytes, c.rest.ensures.rest)
-    (ap said_lines c.in_ok-line.ensures.steps.first ∙ ap (λ (o : Option Line). said_line o (said_lines (lines_of c.next.new.self))) (sym c.in_ok-line-2.ensures.line))
+    (ap said_lines c.in-Some.ensures.steps.first ∙ ap (λ (o : Option Line). said_line o (said_lines (lines_of c.next.new.self))) (sym c.in-Some-read_line.ensures.line))

@@ -7,14 +7,14 @@ use Rattle.obs_assign.proofs.Slotted.{none_some}
 
 pub invariant_of-result : goal.invariant_of-result
 invariant_of-result g c =
-    let nothing = c.in_ok-answers.ensures.nothing in
+    let nothing = c.in-Ok-make_answers.ensures.nothing in
     record {
-      network = c.in_ok-network.ensures.whole;
+      network = c.in-Ok-make.ensures.whole;
       longest = c.fill.ensures.longest;
       room = c.fill.ensures.room;
-      parts_room = c.in_ok-held.ensures.parts_room;
-      bounded = λ is. clash is c.in_ok-held.ensures.unknown;
-      answer_room = c.in_ok-answers.ensures.room;
+      parts_room = c.in-Ok-make_held.ensures.parts_room;
+      bounded = λ is. clash is c.in-Ok-make_held.ensures.unknown;
+      answer_room = c.in-Ok-make_answers.ensures.room;
       answers = record {
         first = λ is. clash is (ap (λ (h : AtHand). h.first) nothing);
         marks = λ is. clash is (ap (λ (h : AtHand). h.critical) nothing);
@@ -22,5 +22,5 @@ invariant_of-result g c =
         islands = λ is. clash is (ap (λ (h : AtHand). h.islands) nothing);
         bound = λ k is. absurd (none_some k (sym (ap (λ (h : AtHand). h.bound) nothing) ∙ is));
       };
-      placing = placing_begun c.args.case c.args.offered c.in_ok-answers.answers.hand.placed c.in_ok-placing.placing (ap (λ (h : AtHand). h.placed) nothing) c.in_ok-placing.ensures.empty;
+      placing = placing_begun c.args.case c.args.offered c.in-Ok-make_answers.answers.hand.placed c.in-Ok.placing (ap (λ (h : AtHand). h.placed) nothing) c.in-Ok.ensures.empty;
     }
