@@ -4,7 +4,7 @@ use Rattle.obs_meter.specs.Sizes.{HasRoomFor, Sizes}
 use Rattle.obs_meter.specs.Touches.{AreInRange, IsInRange}
 use Rattle.std.proofs.lemmas.List.{length-set}
 use Rattle.std.proofs.lemmas.List.Elements.{All-set}
-use Rattle.std.proofs.Common.{subst, ◌≡◌, ◌≤◌, ◌∙◌, ℕ, List, get_or, set, sym, ap, length, arith}
+use Rattle.std.proofs.Common.{subst, ◌≡◌, ◌≤◌, ◌<◌, ◌∙◌, ℕ, List, get_or, set, sym, ap, length, arith}
 use Rattle.obs_meter.specs.declared.Touch.{Touch}
 use Rattle.obs_meter.specs.declared.Touch.TheVariants.{Nothing}
 use Rattle.obs_exchange.specs.Found.{Work, IsFound}
@@ -76,3 +76,10 @@ run-found-requires-clause-room g c =
       branches = r.branches;
       vertices = r.vertices;
     }))
+
+pub change-requires-2 : goal.change-requires-2
+change-requires-2 g c = record {
+  m = subst (λ (n : ℕ). c.args.m < n)
+      (sym (ap length (c.run-found.ensures.same_touches ∙ (ap (λ (w : Work). w.touches) c.change.ensures.changed ∙ ap (λ (l : List Touch). set l c.args.m c.args.touch) c.requires.copied)) ∙ length-set c.args.ms.now.touches c.args.m c.args.touch))
+      c.requires.m;
+}
