@@ -1,5 +1,4 @@
 use Rattle.obs_assign.specs.Assignment.{StandsOver}
-use Rattle.obs_graph.specs.Graph.{Graph}
 use Rattle.obs_meter.specs.Sizes.{HasRoomFor, Sizes}
 use Rattle.obs_meter.specs.Touches.{AreInRange, IsInRange}
 use Rattle.std.proofs.lemmas.List.{length-set}

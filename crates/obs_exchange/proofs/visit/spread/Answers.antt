@@ -1,5 +1,5 @@
 use Rattle.obs_exchange.proofs.Trails.{Follows-same, Follows-then}
-use Rattle.std.proofs.Common.{◌≡◌, ◌<◌, ℕ, true, inl, inr, arith, refl, sym, subst, ◌∙◌}
+use Rattle.std.proofs.Common.{◌≡◌, ℕ, true, inl, inr, arith, refl, sym, subst, ◌∙◌}
 use Rattle.std.proofs.lemmas.Bool.{cases_lt}
 use Rattle.obs_assign.specs.Assignment.{has_flag}
 use Rattle.obs_matroid.proofs.Lists.{clash}
