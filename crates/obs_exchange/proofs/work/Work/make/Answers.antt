@@ -1,4 +1,4 @@
-use Rattle.std.proofs.Common.{◌≡◌, false, length, ap, ◌∙◌, arith}
+use Rattle.std.proofs.Common.{◌≡◌, false, length, refl, ap, ◌∙◌, arith}
 use Rattle.std.proofs.lemmas.List.{length-replicate}
 use Rattle.obs_meter.specs.Held.{Meters}
 use Rattle.obs_exchange.specs.Noting.{Noted}
@@ -15,3 +15,10 @@ invariant_of-result c =
       omega (arith, noted, marks),
       omega (arith, copied, marks),
     )
+
+pub returns : goal.returns
+returns c =
+    let made = c.in_ok-make.ensures.room in
+    let marks = ap (λ (t : Trail). length t.marks) made.blank ∙ length-replicate c.args.most_meters false in
+    let walked = ap (λ (t : Trail). length t.walked) made.blank ∙ length-replicate c.args.most_branches false in
+    record { empty = rw (marks, walked, made.room, c.in_ok-make-2.ensures.made, ap (λ (m : Meters). m.touches) c.in_ok-make-3.ensures.empty) refl }
