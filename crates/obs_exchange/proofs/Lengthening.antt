@@ -1,5 +1,5 @@
 -- Searches, one after the other, until there are pairs enough or a closed set.
-use Rattle.std.proofs.Common.{◌≡◌, ◌≢◌, ℕ, zero, suc, ◌+◌, ◌-◌, ◌≤◌, Bool, true, false, None, List, [], length, sym, ap, ◌∙◌, subst, inl, inr, arith}
+use Rattle.std.proofs.Common.{◌≡◌, ◌≢◌, ℕ, zero, suc, ◌+◌, ◌-◌, ◌<◌, ◌≤◌, Bool, true, false, None, List, [], length, refl, sym, ap, ◌∙◌, subst, inl, inr, arith}
 use Rattle.std.proofs.lemmas.Bool.{cases_Bool}
 use Rattle.std.specs.Prelude.{MatchBool}
 use Rattle.obs_graph.specs.Positions.{AreBranches, ends_of}
@@ -17,7 +17,7 @@ use Rattle.obs_meter.specs.declared.Touch.{Touch}
 use Rattle.obs_meter.specs.Sizes.{HasRoomFor, Sizes}
 use Rattle.obs_assign.specs.Assignment.{Assignment, HasRoomOf, IsWhole, StandsOver, branch_at, has_flag, is_frozen, pairs}
 use Rattle.obs_exchange.specs.declared.Sources.TheVariants.{All}
-use Rattle.obs_exchange.specs.Found.{HasClosed}
+use Rattle.obs_exchange.specs.Found.{HasClosed, HasGrown}
 use Rattle.obs_exchange.specs.Laws.{HasClosedSet, IsThawed}
 use Rattle.obs_exchange.specs.Lengthened.{HasLengthened}
 use Rattle.obs_exchange.proofs.AtGraph.{IsAssignment-live}
@@ -41,6 +41,61 @@ pub record IsLengthening (g : Graph) (touches : List Touch) (a b : Assignment) (
   pub turns_found : b.turns ≤ a.turns + searches
   pub none : searches ≡ 0 → b ≡ a
   pub same_room : HasRoomOf a b
+
+-- no search yet
+pub IsLengthening-none : (g : Graph) (touches : List Touch) (a : Assignment) → StandsOver a g touches → IsLengthening g touches a a 0
+IsLengthening-none g touches a stands = record {
+  stands = stands;
+  keeps = λ m h. h;
+  frozen = refl;
+  frozen_pairs = λ m t. refl;
+  longer = omega arith;
+  turns_rise = omega arith;
+  turns_found = omega arith;
+  none = λ e. refl;
+  same_room = record { meters = refl; vertices = refl; branches = refl };
+}
+
+module _ (g : Graph) (touches : List Touch) (a b c : Assignment) (n : ℕ) (l : IsLengthening g touches a b n) where
+  -- one search more, which found a pair
+  pub IsLengthening-grown : (m : ℕ) → b.turns < 18446744073709551616 → HasGrown g.ends touches All b c m → StandsOver c g touches → HasRoomOf b c → IsLengthening g touches a c (n + 1)
+  IsLengthening-grown m low h stands room = record {
+    stands = stands;
+    keeps = λ k p. h.keeps k (l.keeps k p);
+    frozen = h.frozen ∙ l.frozen;
+    frozen_pairs = λ k t. h.frozen_pairs k (ap (λ (f : List Bool). has_flag f k) l.frozen ∙ t) ∙ l.frozen_pairs k t;
+    longer = omega (arith, h.longer, l.longer);
+    turns_rise = omega (arith, h.turns, l.turns_rise, low);
+    turns_found = omega (arith, h.turns, l.turns_found);
+    none = λ e. absurd (omega (arith, e));
+    same_room = rooms a b c l.same_room room;
+  }
+
+  -- one search more, which found none
+  pub HasLengthened-closed : (flags : List Bool) → HasClosed g.ends touches All b c flags → HasLengthened a c (n + 1)
+  HasLengthened-closed flags k = subst (λ (d : Assignment). HasLengthened a d (n + 1)) (sym k.same) (record {
+    keeps = l.keeps;
+    frozen = l.frozen;
+    frozen_pairs = l.frozen_pairs;
+    grown = omega (arith, l.longer);
+    all_but_one = omega (arith, l.longer);
+    turns_rise = l.turns_rise;
+    turns_found = omega (arith, l.turns_found, l.longer);
+    none = λ e. absurd (omega (arith, e));
+  })
+
+  -- pairs enough
+  pub HasLengthened-enough : HasLengthened a b n
+  HasLengthened-enough = record {
+    keeps = l.keeps;
+    frozen = l.frozen;
+    frozen_pairs = l.frozen_pairs;
+    grown = omega (arith, l.longer);
+    all_but_one = omega (arith, l.longer);
+    turns_rise = l.turns_rise;
+    turns_found = omega (arith, l.turns_found, l.longer);
+    none = l.none;
+  }
 
 -- a search that changed nothing left a closed set of what is there
 pub Closed-again : (g : Graph) (touches : List Touch) (b c : Assignment) (flags : List Bool) → HasClosed g.ends touches All b c flags → HasClosed g.ends touches All c c flags

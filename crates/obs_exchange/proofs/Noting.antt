@@ -1,9 +1,10 @@
 -- The noted meters, among which a search looks for its sources.
-use Rattle.std.proofs.Common.{◌≡◌, ℕ, ◌<◌, Bool, true, false, ◌||◌, Option, None, List, length, set, refl, sym, ap, ◌∙◌, inl, inr}
-use Rattle.std.proofs.lemmas.Bool.{cases_eq}
+use Rattle.std.proofs.Common.{◌≡◌, ℕ, ◌+◌, ◌<◌, ◌≤◌, Bool, true, false, ◌||◌, Option, None, List, length, set, refl, sym, ap, ◌∙◌, subst, inl, inr, arith}
+use Rattle.std.proofs.lemmas.Bool.{cases_eq, cases_lt}
 use Rattle.std.proofs.lemmas.List.{get_or-set_other, get_or-set_same}
 use Rattle.obs_graph.specs.declared.Ends.{Ends}
 use Rattle.obs_matroid.proofs.Comparing.{cases_Option}
+use Rattle.obs_matroid.proofs.Lists.{clash}
 use Rattle.obs_meter.specs.declared.Touch.{Touch}
 use Rattle.obs_assign.specs.Assignment.{Assignment, branch_at, has_flag}
 use Rattle.obs_assign.proofs.Slotted.{none_some}
@@ -11,7 +12,9 @@ use Rattle.obs_exchange.specs.declared.Sources.{Sources}
 use Rattle.obs_exchange.specs.declared.Sources.TheVariants.{All, One}
 use Rattle.obs_exchange.specs.Closed.{IsSource}
 use Rattle.obs_exchange.specs.Found.{HasGrown}
-use Rattle.obs_exchange.specs.Noting.{AreNoted, Noted, is_noted}
+use Rattle.obs_exchange.specs.Noting.{AreNoted, AreNotedIn, Noted, is_noted}
+use Rattle.obs_exchange.specs.Setting.{IsSourceIn, Setting}
+use Rattle.obs_exchange.specs.Trail.{Keeps}
 use Rattle.obs_exchange.proofs.Beginning.{source_bare}
 
 -- where all meters are noted, the sources are
@@ -53,3 +56,23 @@ AreNoted-more ends touches a b m n l less h k s = elim (cases_eq k m) [
 
     noted_self : (n : Noted) (m : ℕ) → m < length n.flags → is_noted (record n { flags = set n.flags m true }) m ≡ true
     noted_self n m l = ap (λ b. n.all || b) (get_or-set_same n.flags m true false l) ∙ or_true n.all
+
+module _ (over : Setting) (n : Noted) (noted : AreNotedIn over n) (first limit next : ℕ) where
+  -- there is no source before the first noted meter
+  pub marked_first : (marks : List Bool) → ((k : ℕ) → first ≤ k → k < next → k < limit → is_noted n k ≡ false)
+      → (k : ℕ) → first ≤ k → k < next → k < limit → IsSourceIn over k → has_flag marks k ≡ true
+  marked_first marks passed k low l lim s = clash (noted.noted k s) (passed k low l lim)
+
+  -- where the sources before m were marked, and m is where it is one, those before the next noted meter are
+  pub marked_next : (m : ℕ) (before after : List Bool) → Keeps before after
+      → ((k : ℕ) → first ≤ k → k < m → k < limit → IsSourceIn over k → has_flag before k ≡ true)
+      → (IsSourceIn over m → has_flag after m ≡ true)
+      → ((k : ℕ) → m + 1 ≤ k → k < next → k < limit → is_noted n k ≡ false)
+      → (k : ℕ) → first ≤ k → k < next → k < limit → IsSourceIn over k → has_flag after k ≡ true
+  marked_next m before after keeps old own passed k low l lim s = elim (cases_lt k m) [
+    | inl b ↦ keeps k (old k low b lim s)
+    | inr ge ↦ elim (cases_lt m k) [
+      | inl b ↦ clash (noted.noted k s) (passed k (omega (arith, b)) l lim)
+      | inr le ↦ let y : k ≡ m = omega (arith, ge, le) in subst (λ (j : ℕ). has_flag after j ≡ true) (sym y) (own (subst (λ (j : ℕ). IsSourceIn over j) y s))
+    ]
+  ]

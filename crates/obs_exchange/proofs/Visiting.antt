@@ -1,15 +1,16 @@
 -- The branches that a meter of the queue touches, one after the other.
-use Rattle.std.proofs.Common.{rules, ◌≡◌, ℕ, ◌<◌, ◌≤◌, Bool, true, List, length, get_or, set, take, sym, ◌∙◌, subst, inl, inr, arith, length-set, get_or-set_same, get_or-set_other}
-use Rattle.std.proofs.lemmas.Bool.{cases_eq}
+use Rattle.std.proofs.Common.{rules, ◌≡◌, ℕ, ◌+◌, ◌<◌, ◌≤◌, Bool, true, Option, None, Some, List, length, get_or, set, take, sym, ap, ◌∙◌, subst, inl, inr, arith, length-set, get_or-set_same, get_or-set_other}
+use Rattle.std.proofs.lemmas.Bool.{cases_eq, cases_lt}
 use Rattle.std.proofs.lemmas.List.{get_or_default}
 use Rattle.obs_graph.specs.Positions.{branches_at}
 use Rattle.obs_matroid.specs.Lists.{In}
 use Rattle.obs_matroid.proofs.Contained.{Contains-from_In}
 use Rattle.obs_meter.specs.declared.Hub.{Hub}
 use Rattle.obs_meter.proofs.Touched.{In-take_more}
+use Rattle.obs_assign.specs.declared.Move.{Move}
 use Rattle.obs_assign.specs.Assignment.{has_flag}
 use Rattle.obs_exchange.specs.Classes.{AreClasses}
-use Rattle.obs_exchange.specs.Searching.{AreStarred, AreWalkedOf, IsVisiting, IsWalked}
+use Rattle.obs_exchange.specs.Searching.{AreStarred, AreWalkedOf, HasOrigin, IsParent, IsSearching, IsVisiting, IsWalked, parent_of, place_of}
 use Rattle.obs_exchange.specs.Setting.{Setting, touched_in}
 use Rattle.obs_exchange.specs.Trail.{Keeps, Stays, Trail}
 use Rattle.obs_exchange.proofs.Queued.{flag-from, flag-kept}
@@ -64,3 +65,45 @@ IsVisiting-walk over trail m v e l w =
     let kept = flag-kept trail.walked e l in
     let from = flag-from trail.walked e in
     search (rules, len, kept, from)
+
+module _ (over : Setting) (trail : Trail) (m : ℕ) (v : IsVisiting over trail m) where
+  -- the meter at the head is marked
+  pub visited_marked : has_flag trail.marks m ≡ true
+  visited_marked = subst (λ (k : ℕ). has_flag trail.marks k ≡ true) v.at_head (v.searching.entries trail.head v.below).0
+
+  origin_next : (x : ℕ) (o : Option Move) → HasOrigin over trail x o → HasOrigin over (record trail { head = trail.head + 1 }) x o
+  origin_next x None h = h
+  origin_next x (Some p) h = record { marked = h.marked; before = h.before; near = omega (arith, h.near); touched = h.touched; needed = h.needed }
+
+  -- a meter whose place is the head's is the visited one
+  at_place : (x : ℕ) → has_flag trail.marks x ≡ true → place_of trail x ≡ trail.head → x ≡ m
+  at_place x t at = sym (v.searching.placed x t).1 ∙ (ap (λ (k : ℕ). get_or trail.queue k 0) at ∙ v.at_head)
+
+  -- where it has walked its branches, the search goes on at the next one
+  pub IsSearching-next : AreWalkedOf over trail.walked m → IsSearching over (record trail { head = trail.head + 1 })
+  IsSearching-next w = let s = v.searching in record {
+    sound = s.sound;
+    marks_len = s.marks_len;
+    parents_len = s.parents_len;
+    queue_len = s.queue_len;
+    walked_len = s.walked_len;
+    low = s.low;
+    thawed = s.thawed;
+    few = s.few;
+    head_le = omega (arith, v.below);
+    placed = s.placed;
+    entries = s.entries;
+    origins = λ x t. origin_next x (parent_of trail x) (s.origins x t);
+    in_order = s.in_order;
+    finished = λ y q t p. inl (elim (s.finished y q t p) [
+      | inl f ↦ f
+      | inr at ↦ let o : IsParent over trail y q = subst (λ (o : Option Move). HasOrigin over trail y o) p (s.origins y t) in
+          w q.branch (subst (λ (k : ℕ). In q.branch (touched_in over k)) (at_place q.meter o.marked at) o.touched)
+    ]);
+    walks = s.walks;
+    looked = λ k e l i. elim (cases_lt k trail.head) [
+      | inl b ↦ s.looked k e b i
+      | inr n ↦ let y : k ≡ trail.head = omega (arith, l, n) in
+          w e (subst (λ (j : ℕ). In e (touched_in over j)) (ap (λ (j : ℕ). get_or trail.queue j 0) y ∙ v.at_head) i)
+    ];
+  }

@@ -65,3 +65,14 @@ pub record Follows (before after : Trail) : Type 0 where
 pub record Stays (before after : Trail) : Type 0 where
   pub follows : Follows before after
   pub head : after.head ≡ before.head
+
+-- what the arrays of a search are seen as: the trail, the path's moves at the end of its array, and room for how many vertices
+pub record Scratch : Type 0 where
+  pub trail : Trail
+  pub path : List Move
+  pub vertices : ℕ
+
+-- arrays with room for so many, of which nothing was written
+pub record HasRoomOnly (s : Scratch) (meters branches vertices : ℕ) : Type 0 where
+  pub blank : s.trail ≡ new_trail meters branches
+  pub room : s.vertices ≡ vertices

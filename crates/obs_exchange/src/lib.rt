@@ -35,6 +35,7 @@ mod pass;
 mod queue;
 mod regrown;
 mod repeated;
+mod scratch;
 mod setting;
 mod stars;
 mod tops;

@@ -51,7 +51,7 @@ impl Pass {
     }
 
     /// The same pass, where the pairs are still those that it was noted at, or a new one.
-    pub(crate) fn resumed(self, a: &Assignment) -> Pass {
+    fn resumed(self, a: &Assignment) -> Pass {
         if self.turns == a.turns() && self.pairs == a.length() {
             self
         } else {
@@ -61,15 +61,17 @@ impl Pass {
 
     /// Where a search begins. A pass over all sources counts anew where it begins, and a search from one meter where the
     /// pairs are fewer than at the search before. Nothing rests on the counts.
-    pub(crate) fn start(self, from: Sources, pairs: u32, before: u32) -> Start
+    pub(crate) fn start(self, a: &Assignment, from: Sources, before: u32) -> Start
         ensures tried { first_of from ≤ result.tried }
         ensures searched { first_of from ≤ result.searched }
     {
+        let pass = self.resumed(a);
+        let pairs = a.length();
         match from {
             Sources::All => Start {
-                tried: self.next,
-                searched: self.searched,
-                anew: self.next == 0,
+                tried: pass.next,
+                searched: pass.searched,
+                anew: pass.next == 0,
             },
             Sources::One(m) => Start {
                 tried: m,

@@ -8,16 +8,14 @@ ghost use Rattle.obs_exchange.specs.declared.Sources.TheVariants.{All};
 ghost use Rattle.obs_exchange.specs.Found.{AreListed, CanBegin, IsFound, searched};
 ghost use Rattle.obs_exchange.specs.Noting.{AreNoted};
 
-use crate::find::{find, grow};
+use crate::find::grow;
 use crate::memory::NoMemory;
 use crate::noted::Noted;
 use crate::pass::{Pass, next_tried};
+use crate::scratch::Scratch;
 use crate::setting::Setting;
-use crate::stars::Stars;
-use crate::tops::number;
-use crate::trail::Trail;
 use crate::{Found, Sources};
-use obs_assign::{Assignment, Move, Steps};
+use obs_assign::{Assignment, Steps};
 use obs_graph::Graph;
 use obs_meter::{Meters, Touch};
 use std::alloc::Global;
@@ -30,16 +28,8 @@ pub struct Work {
     meters: usize,
     // how many the last closed search reached
     count: usize,
-    // what it reached and walked
-    trail: Trail,
-    // what it knows of the branches at each vertex
-    stars: Stars,
-    // where the vertex leads to, towards the top of its class
-    tops: Vec<u32>,
-    // the numbers of the vertices
-    numbers: Vec<u32>,
-    // the moves to a free branch, at the end
-    path: Vec<Move>,
+    // the arrays that it fills
+    scratch: Scratch,
     // how many pairs there were at the last search
     pairs: u32,
     // the meters among which it looks for sources
@@ -52,29 +42,26 @@ pub struct Work {
 
 impl Model for Work {
     ghost use Rattle.std.specs.Prelude.{◌≡◌, ◌≤◌, length, take};
-    ghost use Rattle.obs_exchange.specs.Blank.{AreNumbers};
     ghost use Rattle.obs_exchange.specs.Found.{Work};
 
     ghost Value = { Work };
 
     ghost view = { λ w.
         record {
-          reached = take w.meters w.trail.marks;
-          listed = take w.count w.trail.queue;
+          reached = take w.meters w.scratch.trail.marks;
+          listed = take w.count w.scratch.trail.queue;
           noted = w.noted;
           touches = w.copy.touches;
           sizes = record {
-            meters = length w.trail.marks;
-            branches = length w.trail.walked;
-            vertices = length w.stars;
+            meters = length w.scratch.trail.marks;
+            branches = length w.scratch.trail.walked;
+            vertices = w.scratch.vertices;
           };
         } };
 
     ghost invariant = { λ w.
-        (w.meters ≤ length w.trail.marks) × (w.count ≤ length w.trail.marks)
-        × (length w.noted.flags ≡ length w.trail.marks) × (length w.path.items ≡ length w.trail.marks)
-        × (length w.tops.items ≡ length w.stars) × (length w.numbers.items ≡ length w.stars)
-        × AreNumbers w.numbers.items × (w.copy.most ≡ length w.trail.marks) };
+        (w.meters ≤ length w.scratch.trail.marks) × (w.count ≤ length w.scratch.trail.marks)
+        × (length w.noted.flags ≡ length w.scratch.trail.marks) × (w.copy.most ≡ length w.scratch.trail.marks) };
 }
 
 // Written out: so a caller's proof sees one call, and not the drop of each field.
@@ -83,11 +70,7 @@ impl Drop for Work {
         let Work {
             meters: _,
             count: _,
-            trail: _,
-            stars: _,
-            tops: _,
-            numbers: _,
-            path: _,
+            scratch: _,
             pairs: _,
             noted: _,
             copy: _,
@@ -119,20 +102,10 @@ impl Work {
           sizes = record { meters = most_meters; branches = most_branches; vertices = most_vertices };
         }) }
     {
-        let no_move = Move {
-            meter: 0,
-            branch: 0,
-        };
-        let mut numbers = vec![in alloc; 0; most_vertices as usize]?;
-        number(&mut numbers);
         Ok(Work {
             meters: 0,
             count: 0,
-            trail: Trail::make(alloc, most_meters, most_branches)?,
-            stars: Stars::make(alloc, most_vertices)?,
-            tops: vec![in alloc; 0; most_vertices as usize]?,
-            numbers,
-            path: vec![in alloc; no_move; most_meters as usize]?,
+            scratch: Scratch::make(alloc, most_meters, most_branches, most_vertices)?,
             pairs: 0,
             noted: Noted::make(alloc, most_meters)?,
             copy: Meters::make(alloc, most_meters)?,
@@ -144,14 +117,14 @@ impl Work {
     pub fn reached(&self) -> &[bool]
         ensures reached { result.now ≡ self.now.reached }
     {
-        self.trail.marks(self.meters)
+        self.scratch.marks(self.meters)
     }
 
     /// The meters that the last search reached, in the order in which it did, where that search ended with `Closed`.
     pub fn listed(&self) -> &[u32]
         ensures listed { result.now ≡ self.now.listed }
     {
-        self.trail.queued(self.count)
+        self.scratch.queued(self.count)
     }
 
     /// Notes the live meters without a pair, for `lengthen_from` and `search_by`, and copies the meters for the latter.
@@ -222,22 +195,16 @@ impl Work {
     {
         let ms = picked(ms, &self.copy, copied);
         self.meters = ms.count() as usize;
-        let start = self.pass.resumed(a).start(from, a.length(), self.pairs);
+        let start = self.pass.start(a, from, self.pairs);
         self.pairs = a.length();
-        let found = find(
-            &Setting::new(g, ms, a, from),
-            &self.noted,
-            start,
-            &mut self.trail,
-            &mut self.stars,
-            &mut self.tops,
-            &self.numbers,
-            &mut self.path,
-        );
+        let found = self
+            .scratch
+            .find(&Setting::new(g, ms, a, from), &self.noted, start);
         match found {
             Ok(k) => {
-                let next = next_tried(&self.path[k..], ms.count());
-                let m = grow(g, ms, a, &self.path[k..], steps);
+                let path = self.scratch.path(k);
+                let next = next_tried(path, ms.count());
+                let m = grow(g, ms, a, path, steps);
                 self.pass = Pass::after(a, from, next, m);
                 Found::Grown(m)
             }

@@ -1,5 +1,6 @@
-use Rattle.std.proofs.Common.{◌∙◌, arith}
-use Rattle.obs_exchange.proofs.Trails.{Follows-then}
+use Rattle.std.proofs.Common.{refl, ◌∙◌, arith}
+use Rattle.obs_exchange.proofs.Noting.{marked_first, marked_next}
+use Rattle.obs_exchange.proofs.Trails.{Follows-same, Follows-then}
 use Rattle.obs_exchange.proofs.begin.spread_range.Goals as goal
 
 pub next-m-requires : goal.next-m-requires
@@ -40,3 +41,26 @@ returns-clause-follows c = c.loop-m.invariant.follows
 
 pub returns-clause-same_room : goal.returns-clause-same_room
 returns-clause-same_room c = c.loop-m.invariant.same_room
+
+pub loop-m-init : goal.loop-m-init
+loop-m-init c = record {
+  running = c.requires.running;
+  done = c.requires.done;
+  first = c.next-m.ensures.first;
+  marked = marked_first c.args.over.now c.args.noted.now c.requires.noted c.args.first c.args.limit c.next-m.result c.args.trail.now.marks c.next-m.ensures.passed;
+  follows = Follows-same c.args.trail.now;
+  same_room = refl;
+}
+
+pub loop-m-preserved : goal.loop-m-preserved
+loop-m-preserved c = let l = c.loop-m in let e = c.in_default.ensures in let n = c.next-m-in-loop-m in record {
+  running = e.running;
+  done = e.found;
+  first = omega (arith, l.invariant.first, n.ensures.first);
+  marked = marked_next c.args.over.now c.args.noted.now c.requires.noted c.args.first c.args.limit n.result l.m l.trail.marks c.spread_source.new.trail.marks e.follows.marks l.invariant.marked e.marked n.ensures.passed;
+  follows = Follows-then c.args.trail.now l.trail c.spread_source.new.trail l.invariant.follows e.follows;
+  same_room = e.same_room ∙ l.invariant.same_room;
+}
+
+pub returns-clause-found : goal.returns-clause-found
+returns-clause-found c = (c.loop-m.invariant.done, λ m low l s. c.loop-m.invariant.marked m low (omega (arith, l, c.loop-m-test.false)) l s)

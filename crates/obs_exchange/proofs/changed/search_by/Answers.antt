@@ -1,9 +1,13 @@
 use Rattle.obs_assign.specs.Assignment.{StandsOver}
-use Rattle.std.proofs.Common.{subst, ◌≡◌, ◌∙◌, List, get_or, set, sym, ap, length, arith}
+use Rattle.obs_meter.specs.Sizes.{HasRoomFor, Sizes}
+use Rattle.obs_meter.specs.Touches.{AreInRange, IsInRange}
+use Rattle.std.proofs.lemmas.List.{length-set}
+use Rattle.std.proofs.lemmas.List.Elements.{All-set}
+use Rattle.std.proofs.Common.{subst, ◌≡◌, ◌≤◌, ◌<◌, ◌∙◌, ℕ, List, get_or, set, sym, ap, length, arith}
 use Rattle.obs_meter.specs.declared.Touch.{Touch}
 use Rattle.obs_meter.specs.declared.Touch.TheVariants.{Nothing}
 use Rattle.obs_exchange.specs.Found.{Work, IsFound}
-use Rattle.obs_exchange.proofs.Changing.{set_back}
+use Rattle.obs_exchange.proofs.Changing.{StandsOver-changed, set_back}
 use Rattle.obs_exchange.proofs.changed.search_by.Goals as goal
 
 pub returns-clause-copied : goal.returns-clause-copied
@@ -53,3 +57,28 @@ returns-clause-whole g c = c.run-found.ensures.whole
 
 pub returns-clause-same_room : goal.returns-clause-same_room
 returns-clause-same_room g c = c.run-found.ensures.same_room
+
+pub run-found-requires-clause-stands : goal.run-found-requires-clause-stands
+run-found-requires-clause-stands g c = subst (λ (X : List Touch). StandsOver c.args.a.now c.args.g.now X) (sym (ap (λ (w : Work). w.touches) c.change.ensures.changed ∙ ap (λ (l : List Touch). set l c.args.m c.args.touch) c.requires.copied)) (StandsOver-changed c.args.g.now c.args.ms.now.touches c.args.m c.args.touch c.args.a.now c.requires.bare c.requires.stands)
+
+pub run-found-requires-clause-in_range : goal.run-found-requires-clause-in_range
+run-found-requires-clause-in_range g c = subst (λ (X : List Touch). AreInRange c.args.g.now X) (sym (ap (λ (w : Work). w.touches) c.change.ensures.changed ∙ ap (λ (l : List Touch). set l c.args.m c.args.touch) c.requires.copied)) (All-set (IsInRange c.args.g.now) c.args.ms.now.touches c.args.m c.args.touch c.requires.touch c.requires.in_range)
+
+pub run-found-requires-clause-room : goal.run-found-requires-clause-room
+run-found-requires-clause-room g c =
+    let r = c.requires.room in
+    let touches = c.args.ms.now.touches in
+    subst (λ (s : Sizes). HasRoomFor s c.args.g.now c.change.new.self.touches) (sym (ap (λ (w : Work). w.sizes) c.change.ensures.changed))
+    (subst (λ (X : List Touch). HasRoomFor c.args.work.now.sizes c.args.g.now X) (sym (ap (λ (w : Work). w.touches) c.change.ensures.changed ∙ ap (λ (l : List Touch). set l c.args.m c.args.touch) c.requires.copied))
+    (record {
+      meters = subst (λ (n : ℕ). n ≤ c.args.work.now.sizes.meters) (sym (length-set touches c.args.m c.args.touch)) r.meters;
+      branches = r.branches;
+      vertices = r.vertices;
+    }))
+
+pub change-requires-2 : goal.change-requires-2
+change-requires-2 g c = record {
+  m = subst (λ (n : ℕ). c.args.m < n)
+      (sym (ap length (c.run-found.ensures.same_touches ∙ (ap (λ (w : Work). w.touches) c.change.ensures.changed ∙ ap (λ (l : List Touch). set l c.args.m c.args.touch) c.requires.copied)) ∙ length-set c.args.ms.now.touches c.args.m c.args.touch))
+      c.requires.m;
+}

@@ -1,6 +1,10 @@
 use Rattle.obs_exchange.proofs.Trails.{Follows-same, Follows-then}
-use Rattle.std.proofs.Common.{arith, refl, sym, ◌∙◌}
+use Rattle.std.proofs.Common.{◌≡◌, ℕ, true, inl, inr, arith, refl, sym, subst, ◌∙◌}
+use Rattle.std.proofs.lemmas.Bool.{cases_lt}
+use Rattle.obs_assign.specs.Assignment.{has_flag}
+use Rattle.obs_matroid.proofs.Lists.{clash}
 use Rattle.obs_exchange.proofs.Closing.{tail_low}
+use Rattle.obs_exchange.proofs.Visiting.{IsSearching-next, visited_marked}
 use Rattle.obs_exchange.proofs.visit.spread.Goals as goal
 
 pub next-m-requires : goal.next-m-requires
@@ -48,3 +52,24 @@ returns-clause-follows c = c.loop-trail.invariant.follows
 
 pub returns-clause-same_room : goal.returns-clause-same_room
 returns-clause-same_room c = c.loop-trail.invariant.same_room
+
+pub loop-trail-preserved : goal.loop-trail-preserved
+loop-trail-preserved c = let v = c.in_default.ensures in let l = c.loop-trail in let f = Follows-then c.args.trail.now l.trail c.visit.new.trail l.invariant.follows v.stays.follows in rw c.advance.ensures.advanced (record {
+  running = record { searching = IsSearching-next c.args.over.now c.visit.new.trail c.next-m.result v.visiting v.walked; starred = v.starred; classes = v.classes };
+  follows = record { marks = f.marks; walked = f.walked; meters = f.meters; branches = f.branches };
+  same_room = v.same_room ∙ l.invariant.same_room;
+})
+
+pub returns-clause-found : goal.returns-clause-found
+returns-clause-found c = let t = c.loop-trail.trail in let le = c.loop-trail.invariant.running.searching.head_le in elim (cases_lt t.head t.tail) [
+  | inl b ↦ clash (c.waits.ensures.waits.1 b) c.loop-trail-test.false
+  | inr n ↦ omega (arith, le, n)
+]
+
+pub returns-in-Some-clause-found : goal.returns-in-Some-clause-found
+returns-in-Some-clause-found c = let e = c.in-Some.ensures in
+    record { searching = e.visiting.searching; marked = visited_marked c.args.over.now c.visit.new.trail c.next-m.result e.visiting; free = e.walked }
+
+pub visit-requires-clause-m : goal.visit-requires-clause-m
+visit-requires-clause-m c = let t = c.loop-trail.trail in let s = c.loop-trail.invariant.running.searching in
+    s.low c.next-m.result (subst (λ (k : ℕ). has_flag t.marks k ≡ true) (sym c.next-m.ensures.next) (s.entries t.head (c.waits.ensures.waits.0 c.loop-trail-test.true)).0)

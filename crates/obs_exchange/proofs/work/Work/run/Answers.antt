@@ -1,65 +1,52 @@
-use Rattle.std.proofs.Common.{◌≡◌, ◌-◌, ℕ, List, length, take, drop, ap, sym, subst, ◌∙◌, arith}
-use Rattle.std.proofs.lemmas.List.{length-drop, take_all}
+use Rattle.std.proofs.Common.{◌≡◌, List, length, take, ap, sym, subst, ◌∙◌, arith}
 use Rattle.obs_meter.specs.declared.Touch.{Touch}
 use Rattle.obs_graph.specs.Graph.{Graph}
 use Rattle.obs_meter.specs.Touches.{AreInRange}
 use Rattle.obs_assign.specs.Assignment.{StandsOver}
-use Rattle.obs_exchange.specs.Blank.{AreNumbers}
 use Rattle.obs_exchange.specs.Found.{AreListed, HasClosed, HasGrown, Work, searched}
 use Rattle.obs_exchange.specs.Noting.{AreNoted, Noted}
 use Rattle.obs_exchange.proofs.Closing.{HasClosed-flags}
 use Rattle.obs_exchange.proofs.work.Work.run.Goals as goal
-use Rattle.obs_graph.proofs.Stored.{written_back}
 
 pub invariant_of-self : goal.invariant_of-self
 invariant_of-self g c =
-    let ins = c.self.inside in
     let i = c.self.invariant in
-    let f = c.find-found in
-    let path : length f.new.path ≡ length ins.path.items = f.auto.path ∙ ap length c.deref_mut-2.ensures.value in
-    let path_back = written_back ins.path.len f.new.path ins.path.items path ins.path.ok.0 in
-    let tops : length f.new.tops ≡ length ins.tops.items = f.auto.tops ∙ ap length c.deref_mut.ensures.value in
-    let tops_back = written_back ins.tops.len f.new.tops ins.tops.items tops ins.tops.ok.0 in
-    let own = c.picked-ms.result.now.touches in
-    let is : own ≡ searched c.args.copied c.args.self.now.touches c.args.ms.now.touches = c.picked-ms.ensures.touches ∙ ap (λ (w : Work). searched c.args.copied w.touches c.args.ms.now.touches) c.self.view_is in
-    let most = ap (λ (w : Work). w.sizes.meters) c.self.view_is in
-    rw (path_back, tops_back) (
-      omega (arith, c.count.ensures.count, f.ensures.same_meters, most, ap length is, c.requires.room.meters),
-      omega (arith, i.1, f.ensures.same_meters),
-      omega (arith, i.2, f.ensures.same_meters),
-      omega (arith, path, i.3, f.ensures.same_meters),
-      omega (arith, tops, i.4, f.ensures.same_vertices),
-      omega (arith, i.5, f.ensures.same_vertices),
-      i.6,
-      omega (arith, i.7, f.ensures.same_meters),
+    let same = c.find-found.ensures.same_meters in
+    let is : c.picked-ms.result.now.touches ≡ searched c.args.copied c.args.self.now.touches c.args.ms.now.touches = c.picked-ms.ensures.touches ∙ ap (λ (w : Work). searched c.args.copied w.touches c.args.ms.now.touches) c.self.view_is in (
+      omega (arith, c.count.ensures.count, same, ap (λ (w : Work). w.sizes.meters) c.self.view_is, ap length is, c.requires.room.meters),
+      omega (arith, i.1, same),
+      i.2 ∙ sym same,
+      i.3 ∙ sym same,
+    )
+
+pub invariant_of-self-in-Err : goal.invariant_of-self-in-Err
+invariant_of-self-in-Err g c =
+    let i = c.self.invariant in
+    let same = c.find-found.ensures.same_meters in
+    let is : c.picked-ms.result.now.touches ≡ searched c.args.copied c.args.self.now.touches c.args.ms.now.touches = c.picked-ms.ensures.touches ∙ ap (λ (w : Work). searched c.args.copied w.touches c.args.ms.now.touches) c.self.view_is in (
+      omega (arith, c.count.ensures.count, same, ap (λ (w : Work). w.sizes.meters) c.self.view_is, ap length is, c.requires.room.meters),
+      c.in-Err.ensures.few,
+      i.2 ∙ sym same,
+      i.3 ∙ sym same,
     )
 
 pub returns-in-Ok-clause-found : goal.returns-in-Ok-clause-found
 returns-in-Ok-clause-found g c =
     let n = c.new.ensures in
-    let ins = c.self.inside in
-    let f = c.find-found in
-    let k = c.in-Ok.k in
-    let path : length f.new.path ≡ length ins.path.items = f.auto.path ∙ ap length c.deref_mut-2.ensures.value in
-    let all : take (length f.new.path - k) (drop k f.new.path) ≡ drop k f.new.path =
-    take_all (length f.new.path - k) (drop k f.new.path) (omega (arith, length-drop k f.new.path)) in
-    let own = c.picked-ms.result.now.touches in
-    let is : own ≡ searched c.args.copied c.args.self.now.touches c.args.ms.now.touches = c.picked-ms.ensures.touches ∙ ap (λ (w : Work). searched c.args.copied w.touches c.args.ms.now.touches) c.self.view_is in
+    let is : c.picked-ms.result.now.touches ≡ searched c.args.copied c.args.self.now.touches c.args.ms.now.touches = c.picked-ms.ensures.touches ∙ ap (λ (w : Work). searched c.args.copied w.touches c.args.ms.now.touches) c.self.view_is in
     subst (λ (X : List Touch). HasGrown c.args.g.now.ends X c.args.from c.args.a.now c.grow-m.new.a c.grow-m.result) is
     (c.grow-m.ensures.grown c.args.from
-    (rw (c.deref-in-Ok-2.ensures.value, written_back ins.path.len f.new.path ins.path.items path ins.path.ok.0, all)
-    (rw (n.graph, n.touches, n.assignment, n.sources) at c.in-Ok.ensures.found.begins)))
+    (rw c.path-path.ensures.path (rw (n.graph, n.touches, n.assignment, n.sources) at c.in-Ok.ensures.found.begins)))
 
 pub returns-in-Err-clause-found : goal.returns-in-Err-clause-found
 returns-in-Err-clause-found g c =
     let f = c.find-found in
     let n = c.new.ensures in
     let most = ap (λ (w : Work). w.sizes.meters) c.self.view_is in
-    let own = c.picked-ms.result.now.touches in
-    let is : own ≡ searched c.args.copied c.args.self.now.touches c.args.ms.now.touches = c.picked-ms.ensures.touches ∙ ap (λ (w : Work). searched c.args.copied w.touches c.args.ms.now.touches) c.self.view_is in
-    subst (λ (X : List Touch). HasClosed c.args.g.now.ends X c.args.from c.args.a.now c.args.a.now (take c.count.result f.new.trail.marks)) is
+    let is : c.picked-ms.result.now.touches ≡ searched c.args.copied c.args.self.now.touches c.args.ms.now.touches = c.picked-ms.ensures.touches ∙ ap (λ (w : Work). searched c.args.copied w.touches c.args.ms.now.touches) c.self.view_is in
+    subst (λ (X : List Touch). HasClosed c.args.g.now.ends X c.args.from c.args.a.now c.args.a.now (take c.count.result f.new.self.trail.marks)) is
     (rw (n.graph, n.touches, n.assignment, n.sources) at
-    (HasClosed-flags c.new.result n.sound f.new.trail.marks c.count.result (rw n.touches c.count.ensures.count)
+    (HasClosed-flags c.new.result n.sound f.new.self.trail.marks c.count.result (rw n.touches c.count.ensures.count)
     (rw n.touches (omega (arith, f.ensures.same_meters, most, ap length is, c.requires.room.meters))) c.in-Err.ensures.found))
 
 pub new-requires-clause-stands : goal.new-requires-clause-stands
@@ -90,34 +77,11 @@ find-found-requires-clause-meters g c =
 pub find-found-requires-clause-branches : goal.find-found-requires-clause-branches
 find-found-requires-clause-branches g c = omega (arith, ap (λ (x : Graph). length x.ends) c.new.ensures.graph, ap (λ (w : Work). w.sizes.branches) c.self.view_is, c.requires.room.branches)
 
-pub find-found-requires-clause-stars : goal.find-found-requires-clause-stars
-find-found-requires-clause-stars g c = omega (arith, ap (λ (x : Graph). x.vertices) c.new.ensures.graph, ap (λ (w : Work). w.sizes.vertices) c.self.view_is, c.requires.room.vertices)
+pub find-found-requires-clause-vertices : goal.find-found-requires-clause-vertices
+find-found-requires-clause-vertices g c = omega (arith, ap (λ (x : Graph). x.vertices) c.new.ensures.graph, ap (λ (w : Work). w.sizes.vertices) c.self.view_is, c.requires.room.vertices)
 
-pub find-found-requires-clause-tops : goal.find-found-requires-clause-tops
-find-found-requires-clause-tops g c = omega (arith, ap (λ (x : Graph). x.vertices) c.new.ensures.graph, ap (λ (w : Work). w.sizes.vertices) c.self.view_is, c.requires.room.vertices, ap length c.deref_mut.ensures.value, c.self.invariant.4)
-
-pub find-found-requires-clause-path : goal.find-found-requires-clause-path
-find-found-requires-clause-path g c = omega (arith, ap length c.deref_mut-2.ensures.value, c.self.invariant.3)
-
-pub find-found-requires-clause-numbered : goal.find-found-requires-clause-numbered
-find-found-requires-clause-numbered g c = omega (arith, ap (λ (x : Graph). x.vertices) c.new.ensures.graph, ap (λ (w : Work). w.sizes.vertices) c.self.view_is, c.requires.room.vertices, ap length c.deref.ensures.value, c.self.invariant.5)
-
-pub find-found-requires-clause-numbers : goal.find-found-requires-clause-numbers
-find-found-requires-clause-numbers g c = subst (λ (xs : List ℕ). AreNumbers xs) (sym c.deref.ensures.value) c.self.invariant.6
-
-pub slice_bounds-next_tried-count : goal.slice_bounds-next_tried-count
-slice_bounds-next_tried-count g c =
-    let ins = c.self.inside in
-    let f = c.find-found in
-    let path : length f.new.path ≡ length ins.path.items = f.auto.path ∙ ap length c.deref_mut-2.ensures.value in
-    omega (arith, ap length (c.deref-in-Ok.ensures.value ∙ written_back ins.path.len f.new.path ins.path.items path ins.path.ok.0), c.in-Ok.ensures.bound)
-
-pub slice_bounds-grow-count : goal.slice_bounds-grow-count
-slice_bounds-grow-count g c =
-    let ins = c.self.inside in
-    let f = c.find-found in
-    let path : length f.new.path ≡ length ins.path.items = f.auto.path ∙ ap length c.deref_mut-2.ensures.value in
-    omega (arith, ap length (c.deref-in-Ok-2.ensures.value ∙ written_back ins.path.len f.new.path ins.path.items path ins.path.ok.0), c.in-Ok.ensures.bound)
+pub path-path-requires : goal.path-path-requires
+path-path-requires g c = record { k = c.in-Ok.ensures.bound }
 
 pub grow-m-requires-clause-stands : goal.grow-m-requires-clause-stands
 grow-m-requires-clause-stands g c = subst (λ (X : List Touch). StandsOver c.args.a.now c.args.g.now X) (sym (c.picked-ms.ensures.touches ∙ ap (λ (w : Work). searched c.args.copied w.touches c.args.ms.now.touches) c.self.view_is)) c.requires.stands
@@ -125,37 +89,7 @@ grow-m-requires-clause-stands g c = subst (λ (X : List Touch). StandsOver c.arg
 pub grow-m-requires-clause-can : goal.grow-m-requires-clause-can
 grow-m-requires-clause-can g c =
     let n = c.new.ensures in
-    let ins = c.self.inside in
-    let f = c.find-found in
-    let k = c.in-Ok.k in
-    let path : length f.new.path ≡ length ins.path.items = f.auto.path ∙ ap length c.deref_mut-2.ensures.value in
-    let all : take (length f.new.path - k) (drop k f.new.path) ≡ drop k f.new.path =
-    take_all (length f.new.path - k) (drop k f.new.path) (omega (arith, length-drop k f.new.path)) in
-    rw (c.deref-in-Ok-2.ensures.value, written_back ins.path.len f.new.path ins.path.items path ins.path.ok.0, all)
-    (rw (n.graph, n.touches, n.assignment) at c.in-Ok.ensures.found.can)
-
-pub invariant_of-self-in-Err : goal.invariant_of-self-in-Err
-invariant_of-self-in-Err g c =
-    let ins = c.self.inside in
-    let i = c.self.invariant in
-    let f = c.find-found in
-    let path : length f.new.path ≡ length ins.path.items = f.auto.path ∙ ap length c.deref_mut-2.ensures.value in
-    let path_back = written_back ins.path.len f.new.path ins.path.items path ins.path.ok.0 in
-    let tops : length f.new.tops ≡ length ins.tops.items = f.auto.tops ∙ ap length c.deref_mut.ensures.value in
-    let tops_back = written_back ins.tops.len f.new.tops ins.tops.items tops ins.tops.ok.0 in
-    let own = c.picked-ms.result.now.touches in
-    let is : own ≡ searched c.args.copied c.args.self.now.touches c.args.ms.now.touches = c.picked-ms.ensures.touches ∙ ap (λ (w : Work). searched c.args.copied w.touches c.args.ms.now.touches) c.self.view_is in
-    let most = ap (λ (w : Work). w.sizes.meters) c.self.view_is in
-    rw (path_back, tops_back) (
-      omega (arith, c.count.ensures.count, f.ensures.same_meters, most, ap length is, c.requires.room.meters),
-      c.in-Err.ensures.few,
-      omega (arith, i.2, f.ensures.same_meters),
-      omega (arith, path, i.3, f.ensures.same_meters),
-      omega (arith, tops, i.4, f.ensures.same_vertices),
-      omega (arith, i.5, f.ensures.same_vertices),
-      i.6,
-      omega (arith, i.7, f.ensures.same_meters),
-    )
+    rw c.path-path.ensures.path (rw (n.graph, n.touches, n.assignment) at c.in-Ok.ensures.found.can)
 
 pub returns-in-Ok-clause-noted : goal.returns-in-Ok-clause-noted
 returns-in-Ok-clause-noted g c = ap (λ (w : Work). w.noted) c.self.view_is
@@ -185,10 +119,10 @@ pub returns-in-Err-clause-stands : goal.returns-in-Err-clause-stands
 returns-in-Err-clause-stands g c = c.requires.stands
 
 pub returns-in-Err-clause-whole : goal.returns-in-Err-clause-whole
-returns-in-Err-clause-whole g c = c.length.ensures.whole
+returns-in-Err-clause-whole g c = c.length-self-inside.ensures.whole
 
 pub returns-in-Err-clause-listed : goal.returns-in-Err-clause-listed
-returns-in-Err-clause-listed g c = λ e. subst (λ k. AreListed (take k c.find-found.new.trail.marks) (take c.in-Err.count c.find-found.new.trail.queue)) (ap length c.new.ensures.touches ∙ sym c.count.ensures.count) c.in-Err.ensures.listed
+returns-in-Err-clause-listed g c = λ e. subst (λ k. AreListed (take k c.find-found.new.self.trail.marks) (take c.in-Err.count c.find-found.new.self.trail.queue)) (ap length c.new.ensures.touches ∙ sym c.count.ensures.count) c.in-Err.ensures.listed
 
 pub returns-in-Ok-clause-same_sizes : goal.returns-in-Ok-clause-same_sizes
 returns-in-Ok-clause-same_sizes g c = rw (c.find-found.ensures.same_meters, c.find-found.ensures.same_branches, c.find-found.ensures.same_vertices) (ap (λ (w : Work). w.sizes) c.self.view_is)

@@ -1,0 +1,151 @@
+// What a search writes on.
+ghost use Rattle.std.specs.Prelude.{◌≡◌, ◌≤◌, IfErr, IfOk, MatchResult, length, drop, take};
+ghost use Rattle.obs_assign.specs.Assignment.{has_flag};
+ghost use Rattle.obs_exchange.specs.Closed.{IsLeastClosedAt};
+ghost use Rattle.obs_exchange.specs.Found.{AreListed};
+ghost use Rattle.obs_exchange.specs.Noting.{AreNotedIn};
+ghost use Rattle.obs_exchange.specs.Searching.{IsReady};
+ghost use Rattle.obs_exchange.specs.Setting.{IsSound, first_of};
+ghost use Rattle.obs_exchange.specs.Trail.{HasRoomOnly};
+
+use crate::find::find;
+use crate::memory::NoMemory;
+use crate::noted::Noted;
+use crate::pass::Start;
+use crate::setting::Setting;
+use crate::stars::Stars;
+use crate::tops::number;
+use crate::trail::Trail;
+use obs_assign::Move;
+use std::alloc::Global;
+use std::marker::Model;
+
+/// The arrays that a search fills.
+pub(crate) struct Scratch {
+    // what it reached and walked
+    trail: Trail,
+    // what it knows of the branches at each vertex
+    stars: Stars,
+    // where the vertex leads to, towards the top of its class
+    tops: Vec<u32>,
+    // the numbers of the vertices
+    numbers: Vec<u32>,
+    // the moves to a free branch, at the end
+    path: Vec<Move>,
+}
+
+impl Model for Scratch {
+    ghost use Rattle.std.specs.Prelude.{◌≡◌, length};
+    ghost use Rattle.obs_exchange.specs.Blank.{AreNumbers};
+    ghost use Rattle.obs_exchange.specs.Trail.{Scratch};
+
+    ghost Value = { Scratch };
+
+    ghost view = { λ s. record { trail = s.trail; path = s.path.items; vertices = length s.stars } };
+
+    ghost invariant = { λ s.
+        (length s.path.items ≡ length s.trail.marks) × (length s.tops.items ≡ length s.stars)
+        × (length s.numbers.items ≡ length s.stars) × AreNumbers s.numbers.items };
+}
+
+// Written out: so a caller's proof sees one call, and not the drop of each field.
+impl Drop for Scratch {
+    fn drop(self) {
+        let Scratch {
+            trail: _,
+            stars: _,
+            tops: _,
+            numbers: _,
+            path: _,
+        } = self;
+    }
+}
+
+impl Scratch {
+    /// Room for a search over so many meters, branches and vertices.
+    pub(crate) fn make(
+        alloc: Global,
+        most_meters: u32,
+        most_branches: u32,
+        most_vertices: u32,
+    ) -> Result<Scratch, NoMemory>
+        ensures room { IfOk result (λ s. HasRoomOnly s most_meters most_branches most_vertices) }
+    {
+        let no_move = Move {
+            meter: 0,
+            branch: 0,
+        };
+        let mut numbers = vec![in alloc; 0; most_vertices as usize]?;
+        number(&mut numbers);
+        Ok(Scratch {
+            trail: Trail::make(alloc, most_meters, most_branches)?,
+            stars: Stars::make(alloc, most_vertices)?,
+            tops: vec![in alloc; 0; most_vertices as usize]?,
+            numbers,
+            path: vec![in alloc; no_move; most_meters as usize]?,
+        })
+    }
+
+    /// `find` on these arrays.
+    pub(crate) fn find(
+        &mut self,
+        over: &Setting<'_>,
+        noted: &Noted,
+        start: Start,
+    ) -> Result<usize, usize>
+        requires sound { IsSound over.now }
+        requires noted { AreNotedIn over.now noted.now }
+        requires tried { first_of over.now.sources ≤ start.tried }
+        requires searched { first_of over.now.sources ≤ start.searched }
+        requires meters { length over.now.touches ≤ length self.old.trail.marks }
+        requires branches { length over.now.graph.ends ≤ length self.old.trail.walked }
+        requires vertices { over.now.graph.vertices ≤ self.old.vertices }
+        ensures bound { IfOk result (λ k. k ≤ length self.new.path) }
+        ensures few { IfErr result (λ count. count ≤ length self.new.trail.marks) }
+        ensures found { MatchResult result
+            (λ k. IsReady over.now (drop k self.new.path))
+            (λ _. IsLeastClosedAt over.now.graph.ends over.now.touches over.now.sources over.now.assignment
+            (has_flag (take (length over.now.touches) self.new.trail.marks))) }
+        ensures listed { IfErr result
+            (λ count. AreListed (take (length over.now.touches) self.new.trail.marks)
+            (take count self.new.trail.queue)) }
+        ensures same_meters { length self.new.trail.marks ≡ length self.old.trail.marks }
+        ensures same_branches { length self.new.trail.walked ≡ length self.old.trail.walked }
+        ensures same_vertices { self.new.vertices ≡ self.old.vertices }
+    {
+        find(
+            over,
+            noted,
+            start,
+            &mut self.trail,
+            &mut self.stars,
+            &mut self.tops,
+            &self.numbers,
+            &mut self.path,
+        )
+    }
+
+    /// The moves of the path from one place on.
+    pub(crate) fn path(&self, k: usize) -> &[Move]
+        requires k { k ≤ length self.now.path }
+        ensures path { result.now ≡ drop k self.now.path }
+    {
+        &self.path[k..]
+    }
+
+    /// The marks of the first meters.
+    pub(crate) fn marks(&self, meters: usize) -> &[bool]
+        requires meters { meters ≤ length self.now.trail.marks }
+        ensures marks { result.now ≡ take meters self.now.trail.marks }
+    {
+        self.trail.marks(meters)
+    }
+
+    /// The first meters of the queue.
+    pub(crate) fn queued(&self, count: usize) -> &[u32]
+        requires count { count ≤ length self.now.trail.marks }
+        ensures queued { result.now ≡ take count self.now.trail.queue }
+    {
+        self.trail.queued(count)
+    }
+}
