@@ -16,11 +16,12 @@ use Rattle.obs_meter.specs.Spanned.{graph_matroid}
 use Rattle.obs_meter.specs.Touches.{every_item, touch_at}
 use Rattle.obs_meter.proofs.Assigned.{from_matroid, to_matroid}
 use Rattle.obs_meter.proofs.Instance.{IsMatroid-graph}
+use Rattle.obs_meter.proofs.Live.{In-every}
 use Rattle.obs_assign.specs.declared.Move.{Move}
 use Rattle.obs_assign.specs.Moves.{ArePath}
 use Rattle.obs_assign.specs.Assignment.{Assignment, IsWhole, StandsOver, pairs}
 use Rattle.obs_assign.specs.Pins.{joins}
-use Rattle.obs_assign.proofs.Standing.{IsAssignmentAt-standing, In-every}
+use Rattle.obs_assign.proofs.Standing.{IsAssignmentAt-standing}
 
 pub IsAssignmentAt-free : (a : Assignment) (g : Graph) (touches : List Touch) (m e : ℕ) → AreBranches g.vertices g.ends → IsWhole a → StandsOver a g touches → m < length a.slots → In e (touch_at g.ends touches m)
     → joins g.ends (others (pairs a) m) e ≡ false → IsAssignmentAt g.ends touches (every_item touches) (pairs_of (set a.slots m (Some e)))

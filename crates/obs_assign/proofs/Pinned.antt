@@ -20,6 +20,7 @@ use Rattle.obs_meter.specs.Touches.{every_item, touch_at}
 use Rattle.obs_meter.specs.Spanned.{graph_matroid}
 use Rattle.obs_meter.proofs.Assigned.{forest_at-from_independent, independent-from_forest_at, to_matroid}
 use Rattle.obs_meter.proofs.Instance.{IsMatroid-graph}
+use Rattle.obs_meter.proofs.Live.{In-every}
 use Rattle.obs_assign.specs.Assignment.{Assignment, IsWhole, StandsOver, has_flag, is_frozen, pairs}
 use Rattle.obs_assign.specs.Kept.{Kept, seen, with_slots}
 use Rattle.obs_assign.specs.Pins.{IsPinnedAt, pinned_slots}
@@ -29,7 +30,7 @@ use Rattle.obs_assign.proofs.Slotted.{IsForestAt-over, item_slot, slot_item}
 use Rattle.obs_assign.proofs.Moving.{length-put_bare, length-put_paired}
 use Rattle.obs_assign.proofs.Pinning.{pinned-at, pinned-from, pinned-other}
 use Rattle.obs_assign.proofs.Paths.{joins-own}
-use Rattle.obs_assign.proofs.Standing.{IsAssignmentAt-standing, In-every, still_from}
+use Rattle.obs_assign.proofs.Standing.{IsAssignmentAt-standing, still_from}
 use Rattle.obs_assign.proofs.Keeping.{HasFrozen-clear, IsWhole-remade, StandsOver-remade, clear_flag}
 
 -- fewer pairs without a slot, and at most one more with another

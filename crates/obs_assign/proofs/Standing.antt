@@ -1,5 +1,5 @@
 -- An assignment that stands over a graph and meters, and its laws.
-use Rattle.std.proofs.Common.{◌≡◌, ℕ, ◌<◌, ◌≤◌, Bool, Option, List, length, arith}
+use Rattle.std.proofs.Common.{◌≡◌, ℕ, ◌≤◌, Bool, Option, List, length, arith}
 use Rattle.obs_graph.specs.declared.Ends.{Ends}
 use Rattle.obs_graph.specs.Positions.{AreBranches, IsForestAt}
 use Rattle.obs_graph.specs.Graph.{Graph}
@@ -10,7 +10,6 @@ use Rattle.obs_matroid.proofs.Pairs.{In-branches_from, branches_within}
 use Rattle.obs_matroid.proofs.Ranks.{rank-independent, rank-within}
 use Rattle.obs_matroid.proofs.Bounds.{length-branches, weak_bound}
 use Rattle.obs_matroid.proofs.Slots.{slot_from, IsDistinct-slots}
-use Rattle.obs_matroid.proofs.Ranges.{below_in}
 use Rattle.obs_meter.specs.declared.Touch.{Touch}
 use Rattle.obs_meter.specs.Touches.{every_item, touch_at}
 use Rattle.obs_meter.specs.Assignments.{IsAssignmentAt, bound_at}
@@ -18,12 +17,10 @@ use Rattle.obs_meter.specs.Spanned.{graph_matroid, rank_at}
 use Rattle.obs_meter.proofs.Assigned.{to_matroid, independent-from_forest_at}
 use Rattle.obs_meter.proofs.Instance.{IsMatroid-graph}
 use Rattle.obs_meter.proofs.Touched.{In-from_any, any-from_In}
+use Rattle.obs_meter.proofs.Live.{In-every}
 use Rattle.obs_assign.specs.Assignment.{Assignment, IsWhole, StandsOver, pairs}
 use Rattle.obs_assign.specs.Still.{AreRetained, is_still, still}
 use Rattle.obs_assign.proofs.Slotted.{IsForestAt-over, slot_low}
-
-pub In-every : (touches : List Touch) (m : ℕ) → m < length touches → In m (every_item touches)
-In-every touches m l = below_in (length touches) m l
 
 -- an assignment that stands is one of the meters
 pub IsAssignmentAt-standing : (a : Assignment) (g : Graph) (touches : List Touch) → IsWhole a → StandsOver a g touches → IsAssignmentAt g.ends touches (every_item touches) (pairs a)

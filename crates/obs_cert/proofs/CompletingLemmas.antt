@@ -17,13 +17,12 @@ use Rattle.obs_matroid.proofs.Ranks.{rank-within}
 use Rattle.obs_meter.specs.Spanned.{graph_matroid}
 use Rattle.obs_meter.specs.Touches.{every_item, is_live, live_items, touch_at}
 use Rattle.obs_meter.proofs.Assigned.{live_items-distinct, rho-to_matroid}
-use Rattle.obs_exchange.proofs.AtGraph.{In-live, live-from_live_items}
-use Rattle.obs_placement.specs.Laws.{live_candidates, live_meters}
-use Rattle.obs_placement.specs.Order.{price_of}
-use Rattle.obs_placement.proofs.Refuting.{layers_bound_completing}
+use Rattle.obs_meter.proofs.Live.{In-live, live-from_live_items}
 use Rattle.obs_network.specs.Network.{case_branches, case_needed, case_offered, case_vertex_count}
 use Rattle.obs_network.proofs.Observed.{most_pairs}
 use Rattle.obs_network.proofs.OfCase.{case_branches-are}
+use Rattle.obs_rankcut.specs.Costs.{live_candidates, live_meters, price_of}
+use Rattle.obs_rankcut.proofs.Costs.{layers_bound_completing}
 use Rattle.obs_cert.specs.declared.flaw.FlawCode.TheVariants.{Cycle, NotBelow, NotInside, NotTouched, Twice, UnknownName, WrongCost, WrongLayers, WrongLength, WrongOutside, WrongRank}
 use Rattle.obs_cert.specs.Claims.{Item, Layer, candidate}
 use Rattle.obs_cert.specs.Completing.{ChosenAreCheapest, CompletesCase, ShortfallsRefute, chosen_by, price_together}

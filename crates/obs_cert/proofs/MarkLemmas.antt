@@ -2,10 +2,10 @@
 use Rattle.std.proofs.Common.{◌≡◌, ℕ, suc, ◌<◌, ◌||◌, Bool, true, false, eqb, List, [], ◌∷◌, length, get_or, set, refl, sym, ap, ◌∙◌, inl, inr, arith, get_or-set_same, get_or-set_other}
 use Rattle.std.specs.List.{list_any}
 use Rattle.std.proofs.lemmas.Bool.{cases_eq, eq-eqb, ne_eqb}
+use Rattle.obs_rankcut.proofs.Marked.{number_flips}
 use Rattle.obs_cert.specs.Flaws.{twice}
 use Rattle.obs_cert.specs.Marks.{AreBelow, is_marked}
 use Rattle.obs_cert.specs.Scopes.{has}
-use Rattle.obs_placement.proofs.Ordered.{number_flips}
 
 fresh_case : (f m a h t : Bool) → m ≡ false → (f || ((m || a) || (h || t))) ≡ (f || ((h || a) || t))
 fresh_case true false true true true e = refl

@@ -4,8 +4,7 @@ use Rattle.std.specs.List.{sum_by}
 use Rattle.obs_case.specs.Tables.{IsValid, Tables, prices_of}
 use Rattle.obs_matroid.specs.Lists.{In, IsDistinct}
 use Rattle.obs_network.specs.Network.{case_branches, case_needed, case_offered}
-use Rattle.obs_placement.specs.Order.{price_of}
-use Rattle.obs_placement.specs.Shown.{Completes}
+use Rattle.obs_rankcut.specs.Costs.{Completes, price_of}
 use Rattle.obs_cert.specs.Claims.{CostClaim, ShortfallClaim, cost, shortfall}
 use Rattle.obs_cert.specs.Flaws.{Holds}
 use Rattle.obs_cert.specs.Numbered.{chosen_items, items_of}

@@ -6,8 +6,8 @@ use Rattle.obs_matroid.specs.Lists.{In, IsDistinct}
 use Rattle.obs_matroid.proofs.Lists.{In-filter_from, IsDistinct-filter, filter_same}
 use Rattle.obs_meter.specs.Touches.{live_items}
 use Rattle.obs_meter.proofs.Assigned.{live_items-distinct}
+use Rattle.obs_meter.proofs.Live.{live-from_live_items, live_low}
 use Rattle.obs_exchange.specs.Laws.{noncritical_in}
-use Rattle.obs_exchange.proofs.AtGraph.{live-from_live_items, live_low}
 use Rattle.obs_placement.specs.Placed.{ShortfallValue, shortfall_of, redundant_items}
 use Rattle.obs_placement.specs.Placed.Placed.{shortfall as short_of}
 use Rattle.obs_network.specs.Network.{case_branches, case_needed, case_offered, case_vertex_count}

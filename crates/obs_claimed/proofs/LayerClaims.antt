@@ -11,11 +11,9 @@ use Rattle.obs_matroid.proofs.Ranks.{rank-within}
 use Rattle.obs_meter.specs.Spanned.{graph_matroid}
 use Rattle.obs_meter.specs.Touches.{every_item, live_items}
 use Rattle.obs_meter.proofs.Assigned.{every_item-distinct}
-use Rattle.obs_assign.proofs.Standing.{In-every}
-use Rattle.obs_exchange.proofs.AtGraph.{In-live, live-from_live_items}
+use Rattle.obs_meter.proofs.Live.{In-every, In-live, live-from_live_items}
 use Rattle.obs_placement.specs.declared.plans.Layer.{Layer as PlacedLayer}
 use Rattle.obs_placement.specs.Layers.{layer_items, layer_outside}
-use Rattle.obs_placement.specs.Order.{price_of}
 use Rattle.obs_placement.specs.Shown.{bare_layer}
 use Rattle.obs_placement.specs.Taking.{scope_of as placed_scope}
 use Rattle.obs_placement.proofs.Growing.{AreRising, own_grows, own_in, scope_distinct as placed_distinct}
@@ -27,6 +25,7 @@ use Rattle.obs_cert.specs.Numbered.{items_of}
 use Rattle.obs_cert.specs.Scopes.{has, is_below, is_live_item, is_meter, price_at, scope_of, touches_of}
 use Rattle.obs_cert.proofs.OutsideLemmas.{scope_distinct}
 use Rattle.std.specs.Cmp.Derive.{one_truth}
+use Rattle.obs_rankcut.specs.Costs.{price_of}
 use Rattle.obs_cert.proofs.ScopeLemmas.{has_at, has_from}
 use Rattle.obs_cert.proofs.TruthLemmas.{laws}
 use Rattle.obs_cert.proofs.CompletingLemmas.{bare}

@@ -7,15 +7,15 @@ use Rattle.obs_case.specs.Tables.{Tables, prices_of}
 use Rattle.obs_matroid.specs.Lists.{In}
 use Rattle.obs_matroid.proofs.Lists.{In-append_cases, In-filter_from}
 use Rattle.obs_meter.specs.Touches.{every_item}
+use Rattle.obs_meter.proofs.Live.{live_low}
 use Rattle.obs_placement.specs.declared.plans.Layer.{Layer as PlacedLayer}
 use Rattle.obs_placement.specs.Layers.{added_items, inside_of, layers_of, layer_outside, layer_rank}
-use Rattle.obs_placement.specs.Order.{price_of}
 use Rattle.obs_placement.specs.Taking.{is_listed_at}
 use Rattle.obs_network.specs.Network.{case_branches, case_offered, case_vertex_count}
+use Rattle.obs_rankcut.specs.Costs.{price_of}
 use Rattle.obs_cert.specs.Claims.{Layer}
 use Rattle.obs_cert.specs.Scopes.{is_below, is_live_item, is_meter, price_at}
 use Rattle.obs_claimed.specs.Claimed.{named_items, named_layers}
-use Rattle.obs_exchange.proofs.AtGraph.{live_low}
 
 module _ (t : Tables) where
   abbrev pub price : ℕ → ℕ

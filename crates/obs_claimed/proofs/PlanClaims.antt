@@ -12,16 +12,17 @@ use Rattle.obs_matroid.specs.Placement.{Layer as BareLayer, RunOn, layers_sum}
 use Rattle.obs_matroid.proofs.Lists.{In-filter_from, In-map_from, IsDistinct-filter}
 use Rattle.obs_matroid.proofs.Pairs.{In-items}
 use Rattle.obs_matroid.proofs.Ranges.{range_distinct, range_from}
+use Rattle.obs_meter.proofs.Live.{live_low}
 use Rattle.obs_first.specs.First.{IsFirstAt}
 use Rattle.obs_placement.specs.Answer.{chosen_of, is_chosen}
 use Rattle.obs_placement.specs.Layers.{prices_above}
-use Rattle.obs_placement.specs.Order.{price_of}
 use Rattle.obs_placement.specs.Placed.{Placed, PlanValue, plan_of}
 use Rattle.obs_placement.specs.Placed.Placed.{cheapest, shortfall as short_of}
 use Rattle.obs_placement.specs.Shown.{bare_layer}
 use Rattle.obs_placement.proofs.Growing.{AreRising, prices_rising}
 use Rattle.obs_network.specs.Network.{case_branches, case_needed, case_offered, case_vertex_count}
 use Rattle.obs_network.proofs.OfCase.{length-case_offered}
+use Rattle.obs_rankcut.specs.Costs.{price_of}
 use Rattle.obs_edit.specs.Placements.{CompletesCase, price_together}
 use Rattle.obs_edit.specs.Planned.{case_placed_pairs, case_placement, planned_items}
 use Rattle.obs_edit.proofs.CheapestPlans.{layers_add_up, layers_are_bounds, plans_complete, plans_have_first_pairs}
@@ -40,7 +41,6 @@ use Rattle.obs_claimed.proofs.LayerClaims.{are_below, bare_same, inside_distinct
 use Rattle.obs_claimed.proofs.Layered.{are_claimed, inside_low, layer_claims}
 use Rattle.obs_claimed.proofs.NamedLemmas.{AreWithin, chosen_known, chosen_named, items_named, none_unknown, paired_named, pairs_known, pairs_named}
 use Rattle.obs_claimed.proofs.PlanPairs.{as_needed, branches_once, items_once, no_cycle, paired_inside, paired_live, touched_pairs}
-use Rattle.obs_exchange.proofs.AtGraph.{live_low}
 
 -- the clauses of a cost claim, one after the other
 pub record NoFlaw (t : Tables) (c : CostClaim) : Type 0 where

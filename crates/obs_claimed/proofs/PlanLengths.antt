@@ -16,19 +16,19 @@ use Rattle.obs_matroid.proofs.Ranges.{range_distinct}
 use Rattle.obs_meter.specs.declared.Touch.{Touch}
 use Rattle.obs_meter.specs.Assignments.{rho_at}
 use Rattle.obs_meter.specs.Touches.{every_item, live_items}
-use Rattle.obs_assign.proofs.Standing.{In-every}
+use Rattle.obs_meter.proofs.Live.{In-every}
 use Rattle.obs_exchange.specs.Laws.{noncritical_in}
 use Rattle.obs_first.specs.First.{first_pairs}
 use Rattle.obs_first.proofs.Lawful.{first_pairs-is}
 use Rattle.obs_placement.specs.declared.plans.Layer.{Layer as PlacedLayer}
 use Rattle.obs_placement.specs.Answer.{chosen_of, cost_of}
 use Rattle.obs_placement.specs.Layers.{is_price_of, layer_of, prices_above}
-use Rattle.obs_placement.specs.Order.{price_of}
 use Rattle.obs_placement.specs.Placed.{ShortfallValue, Placed, PlanValue, shortfall_of, plan_of}
 use Rattle.obs_placement.specs.Placed.Placed.{cheapest, shortfall as short_of}
 use Rattle.obs_placement.proofs.Growing.{prices_rising}
 use Rattle.obs_network.specs.Network.{case_branches, case_needed, case_offered, case_vertex_count}
 use Rattle.obs_network.proofs.OfCase.{case_branches-are}
+use Rattle.obs_rankcut.specs.Costs.{price_of}
 use Rattle.obs_report.specs.Items.{inside_line, pair_line}
 use Rattle.obs_report.specs.Lines.{last_line}
 use Rattle.obs_report.specs.Placements.{chosen_line, cost_line, layer_line, layers_text, listed_between, placement_text, shortfall_line}

@@ -16,11 +16,11 @@ use Rattle.obs_meter.specs.Touches.{is_live, live_items}
 use Rattle.obs_meter.proofs.Assigned.{independent-from_forest_at}
 use Rattle.obs_meter.proofs.Instance.{IsMatroid-graph}
 use Rattle.obs_meter.proofs.Touched.{live-from_In}
-use Rattle.obs_exchange.proofs.AtGraph.{In-live}
+use Rattle.obs_meter.proofs.Live.{In-live}
 use Rattle.obs_first.specs.First.{IsFirstAt}
-use Rattle.obs_placement.specs.Laws.{live_meters}
 use Rattle.obs_network.specs.Network.{case_branches, case_needed, case_offered, case_vertex_count}
 use Rattle.obs_network.proofs.OfCase.{case_branches-are}
+use Rattle.obs_rankcut.specs.Costs.{live_meters}
 use Rattle.obs_edit.specs.Placements.{CompletesCase}
 use Rattle.obs_edit.specs.Planned.{planned_items}
 use Rattle.obs_cert.specs.Flaws.{cycle, not_inside, not_touched, rank_of_branches, twice}

@@ -21,13 +21,13 @@ use Rattle.obs_first.specs.First.{first_pairs}
 use Rattle.obs_first.proofs.Lawful.{first_pairs-is}
 use Rattle.obs_placement.specs.Answer.{chosen_of, is_chosen}
 use Rattle.obs_placement.specs.Layers.{added_items, inside_of, prices_above}
-use Rattle.obs_placement.specs.Order.{price_of}
 use Rattle.obs_placement.specs.Placed.{Placed, shortfall_of, plan_of}
 use Rattle.obs_placement.specs.Placed.Placed.{cheapest, shortfall}
 use Rattle.obs_network.specs.Network.{case_branches, case_component_count, case_meters, case_offered, case_vertex_count}
 use Rattle.obs_network.specs.Observable.{case_live_meters}
 use Rattle.obs_network.proofs.Marked.{filtered_below}
 use Rattle.obs_network.proofs.OfCase.{case_branches-are, length-case_meters, length-case_offered}
+use Rattle.obs_rankcut.specs.Costs.{price_of}
 use Rattle.obs_report.specs.Items.{IsBranchOf, branch_name, branch_word, candidate_name, item_count, item_name, meter_name}
 use Rattle.obs_report.specs.Meters.{component_name}
 use Rattle.obs_report.proofs.OfPairs.{meter_branch, offered_branch}

@@ -17,13 +17,14 @@ use Rattle.obs_meter.specs.Held.{Meters}
 use Rattle.obs_meter.specs.Touches.{every_item, is_live}
 use Rattle.obs_meter.proofs.Assigned.{every-to_live, live-to_every, live_items-distinct}
 use Rattle.obs_meter.proofs.Touched.{live-from_In}
+use Rattle.obs_meter.proofs.Live.{In-live}
 use Rattle.obs_assign.specs.Assignment.{Assignment, IsWhole, StandsOver, branch_at, has_flag, pairs}
 use Rattle.obs_assign.proofs.Slotted.{item_slot, slot_item}
 use Rattle.obs_exchange.specs.declared.Sources.TheVariants.{All as AllSources}
 use Rattle.obs_exchange.specs.Critical.{critical_meters}
 use Rattle.obs_exchange.specs.Found.{HasClosed}
 use Rattle.obs_exchange.specs.Laws.{IsThawed}
-use Rattle.obs_exchange.proofs.AtGraph.{In-live, IsAssignment-live, IsLeastClosed-thawed}
+use Rattle.obs_exchange.proofs.AtGraph.{IsAssignment-live, IsLeastClosed-thawed}
 use Rattle.obs_first.specs.First.{first_pairs}
 use Rattle.obs_first.proofs.Lawful.{first_pairs-is}
 use Rattle.obs_islands.specs.Firsts.{islands_of}

@@ -23,9 +23,10 @@ use Rattle.obs_meter.specs.Touches.{every_item, touch_at}
 use Rattle.obs_meter.proofs.Assigned.{every-to_live, every_item-distinct, from_matroid, to_matroid}
 use Rattle.obs_meter.proofs.Instance.{IsMatroid-graph}
 use Rattle.obs_meter.proofs.Touched.{live-from_In}
+use Rattle.obs_meter.proofs.Live.{In-every}
 use Rattle.obs_assign.specs.Assignment.{Assignment, IsWhole, StandsOver, branch_at, has_flag, pairs}
 use Rattle.obs_assign.proofs.Slotted.{none_some}
-use Rattle.obs_assign.proofs.Standing.{In-every, IsAssignmentAt-standing}
+use Rattle.obs_assign.proofs.Standing.{IsAssignmentAt-standing}
 use Rattle.obs_exchange.specs.declared.Sources.TheVariants.{One}
 use Rattle.obs_exchange.specs.Found.{HasClosed, HasGrown}
 use Rattle.obs_exchange.specs.Laws.{IsThawed}

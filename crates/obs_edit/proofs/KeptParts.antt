@@ -17,8 +17,7 @@ use Rattle.obs_meter.specs.Touches.{every_item, touch_at}
 use Rattle.obs_meter.proofs.Assigned.{every_item-distinct}
 use Rattle.obs_meter.proofs.Instance.{in_range}
 use Rattle.obs_meter.proofs.Touched.{live-from_In}
-use Rattle.obs_assign.proofs.Standing.{In-every}
-use Rattle.obs_exchange.proofs.AtGraph.{live_low}
+use Rattle.obs_meter.proofs.Live.{In-every, live_low}
 use Rattle.obs_network.specs.Edited.{AreSameBut}
 use Rattle.obs_network.specs.Network.{Network, case_branches, case_meters, case_vertex_count, network_of}
 use Rattle.obs_network.proofs.Edited.{branches-with_meter}

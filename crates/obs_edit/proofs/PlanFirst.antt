@@ -15,17 +15,17 @@ use Rattle.obs_matroid.proofs.Ranges.{range_from, range_rising}
 use Rattle.obs_meter.specs.declared.Touch.{Touch}
 use Rattle.obs_meter.specs.Assignments.{IsAssignmentAt, rho_at}
 use Rattle.obs_meter.specs.Touches.{every_item, live_items}
+use Rattle.obs_meter.proofs.Live.{In-every}
 use Rattle.obs_forest.specs.Forest.{has_position}
-use Rattle.obs_assign.proofs.Standing.{In-every}
 use Rattle.obs_first.specs.First.{IsFirstAt, first_pairs}
 use Rattle.obs_first.proofs.Lawful.{IsNotAfter-filter, first_pairs-is}
 use Rattle.obs_placement.specs.Answer.{chosen_of, is_chosen}
-use Rattle.obs_placement.specs.Order.{price_of}
 use Rattle.obs_placement.specs.Placed.{Placed, PlanValue, shortfall_of, placement_of, plan_of}
 use Rattle.obs_placement.specs.Placed.Placed.{cheapest, shortfall}
 use Rattle.obs_edit.specs.Planned.{PlanPairsAreFirst, pairs_in, placed_pairs, planned_items, touches_of}
 use Rattle.obs_edit.proofs.Planned.{length-touches_of, listed-touch, touch-listed}
 use Rattle.obs_network.proofs.Listed.{rising_filter}
+use Rattle.obs_rankcut.specs.Costs.{price_of}
 use Rattle.obs_islands.proofs.Parts.{has-from_In, In-from_has}
 
 -- a rising list is what the test for it leaves of a range that holds it

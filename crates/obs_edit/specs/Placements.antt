@@ -7,12 +7,11 @@ use Rattle.obs_matroid.specs.Placement.{IsShown, Layer, RunOn, layers_sum}
 use Rattle.obs_meter.specs.Spanned.{graph_matroid}
 use Rattle.obs_meter.specs.Touches.{touch_at}
 use Rattle.obs_first.specs.First.{IsFirstAt}
-use Rattle.obs_placement.specs.Laws.{live_candidates, live_meters}
-use Rattle.obs_placement.specs.Order.{price_of}
 use Rattle.obs_placement.specs.Placed.{ShortfallValue, PlanValue}
 use Rattle.obs_placement.specs.Placed.Placed.{cheapest, shortfall}
-use Rattle.obs_placement.specs.Shown.{Completes, bare_layer}
+use Rattle.obs_placement.specs.Shown.{bare_layer}
 use Rattle.obs_network.specs.Network.{case_branches, case_needed, case_offered, case_vertex_count}
+use Rattle.obs_rankcut.specs.Costs.{Completes, live_candidates, live_meters, price_of}
 use Rattle.obs_edit.specs.Planned.{case_placed_pairs, case_placement, planned_items}
 
 -- candidates complete the meters of a case: with these, the live ones have an assignment that is as long as the case needs. An item

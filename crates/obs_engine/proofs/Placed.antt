@@ -15,12 +15,12 @@ use Rattle.obs_meter.specs.Assignments.{rho_at}
 use Rattle.obs_exchange.specs.Laws.{noncritical_in}
 use Rattle.obs_placement.specs.Answer.{is_chosen}
 use Rattle.obs_placement.specs.Layers.{added_items, inside_of, layers_of, prices_above}
-use Rattle.obs_placement.specs.Order.{price_of}
 use Rattle.obs_placement.specs.Placed.{Placed, redundant_items, shortfall_of, plan_of}
 use Rattle.obs_placement.specs.Placed.Placed.{cheapest, shortfall}
 use Rattle.obs_network.specs.Network.{case_branches, case_needed, case_offered, case_vertex_count}
 use Rattle.obs_network.proofs.Marked.{filtered_below}
 use Rattle.obs_network.proofs.OfCase.{length-case_offered}
+use Rattle.obs_rankcut.specs.Costs.{price_of}
 use Rattle.obs_report.specs.Items.{item_count}
 use Rattle.obs_report.specs.Placements.{AreCountsOf, IsWithin, placement_text}
 use Rattle.obs_edit.specs.Planned.{case_placed_pairs, case_placement}

@@ -1,39 +1,24 @@
 -- Closed sets of meters are those of the graph's matroid.
-use Rattle.std.proofs.Common.{◌≡◌, ℕ, ◌<◌, Bool, true, false, Option, None, List, length, refl, sym, ap, ◌∙◌, subst, inl, inr, ◌||◌, ◌&&◌}
-use Rattle.std.proofs.lemmas.Bool.{cases_lt, and_parts, and_from}
-use Rattle.std.proofs.lemmas.List.{get_or_past}
-use Rattle.obs_graph.specs.declared.Ends.{Ends}
+use Rattle.std.proofs.Common.{◌≡◌, ℕ, Bool, true, false, None, List, refl, sym, ap, ◌∙◌, subst, inl, inr, ◌||◌, ◌&&◌}
+use Rattle.std.proofs.lemmas.Bool.{and_parts, and_from}
 use Rattle.obs_graph.specs.Graph.{Graph}
 use Rattle.obs_matroid.specs.Lists.{In}
 use Rattle.obs_matroid.specs.Assignments.{Pair, items, branches, part, IsAssignment}
 use Rattle.obs_matroid.specs.Closed.{IsClosed, HoldsSources, IsLeastClosed, every, none}
-use Rattle.obs_matroid.proofs.Lists.{clash, filter_same, In-filter, In-filter_from}
+use Rattle.obs_matroid.proofs.Lists.{filter_same}
 use Rattle.obs_matroid.proofs.Comparing.{cases_Option}
 use Rattle.obs_matroid.proofs.Slots.{slot_from}
 use Rattle.obs_meter.specs.declared.Touch.{Touch}
-use Rattle.obs_meter.specs.declared.Touch.TheVariants.{Nothing}
 use Rattle.obs_meter.specs.Spanned.{graph_matroid}
-use Rattle.obs_meter.specs.Touches.{every_item, is_live, live_items, touch_at}
+use Rattle.obs_meter.specs.Touches.{is_live, live_items, touch_at}
 use Rattle.obs_meter.proofs.Assigned.{every-to_live, to_matroid}
 use Rattle.obs_meter.proofs.Touched.{live-from_In}
+use Rattle.obs_meter.proofs.Live.{In-live, live-from_live_items}
 use Rattle.obs_assign.specs.Assignment.{Assignment, IsWhole, StandsOver, branch_at, is_frozen, pairs}
 use Rattle.obs_assign.proofs.Slotted.{item_slot, none_some, slot_item}
-use Rattle.obs_assign.proofs.Standing.{In-every, IsAssignmentAt-standing}
+use Rattle.obs_assign.proofs.Standing.{IsAssignmentAt-standing}
 use Rattle.obs_exchange.specs.declared.Sources.TheVariants.{All}
 use Rattle.obs_exchange.specs.Closed.{HoldsSourcesAt, IsClosedAt, IsLeastClosedAt}
-
--- a live meter is one of the meters
-pub live_low : (ends : List (Option Ends)) (touches : List Touch) (m : ℕ) → is_live ends touches m ≡ true → m < length touches
-live_low ends touches m t = elim (cases_lt m (length touches)) [
-  | inl l ↦ l
-  | inr l ↦ clash (rw (get_or_past touches m Nothing l) at t) refl
-]
-
-pub In-live : (ends : List (Option Ends)) (touches : List Touch) (m : ℕ) → is_live ends touches m ≡ true → In m (live_items ends touches)
-In-live ends touches m t = In-filter (is_live ends touches) m (every_item touches) (In-every touches m (live_low ends touches m t)) t
-
-pub live-from_live_items : (ends : List (Option Ends)) (touches : List Touch) (m : ℕ) → In m (live_items ends touches) → is_live ends touches m ≡ true
-live-from_live_items ends touches m i = (In-filter_from (is_live ends touches) m (every_item touches) i).1
 
 -- a meter that is not among the items of the pairs has no branch, and the other way round
 pub bare-from_out : (a : Assignment) (m : ℕ) → (In m (items (pairs a)) → ⊥) → branch_at a m ≡ None

@@ -19,11 +19,12 @@ use Rattle.obs_meter.specs.Spanned.{graph_matroid}
 use Rattle.obs_meter.specs.Touches.{every_item, is_live, live_items, touch_at, touched}
 use Rattle.obs_meter.proofs.Assigned.{every-to_live, to_matroid}
 use Rattle.obs_meter.proofs.Instance.{IsMatroid-graph}
+use Rattle.obs_meter.proofs.Live.{live-from_live_items}
 use Rattle.obs_assign.specs.Assignment.{Assignment, IsWhole, StandsOver, branch_at, is_frozen, pairs}
 use Rattle.obs_assign.proofs.Slotted.{none_some}
 use Rattle.obs_exchange.specs.declared.Sources.TheVariants.{All as AllSources, One}
 use Rattle.obs_exchange.specs.Closed.{IsClosedAt, IsLeastClosedAt}
-use Rattle.obs_exchange.proofs.AtGraph.{IsAssignment-live, IsClosed-to_matroid, bare-from_out, live-from_live_items}
+use Rattle.obs_exchange.proofs.AtGraph.{IsAssignment-live, IsClosed-to_matroid, bare-from_out}
 use Rattle.obs_exchange.proofs.Walking.{touched_there}
 
 module _ (ends : List (Option Ends)) (touches : List Touch) (m : ℕ) (t : Touch) where

@@ -18,11 +18,12 @@ use Rattle.obs_meter.specs.Touches.{every_item, is_live}
 use Rattle.obs_meter.proofs.Assigned.{to_matroid}
 use Rattle.obs_meter.proofs.Instance.{IsMatroid-graph}
 use Rattle.obs_meter.proofs.Touched.{live-from_In}
+use Rattle.obs_meter.proofs.Live.{In-every, live_low}
 use Rattle.obs_assign.specs.declared.Move.{Move}
 use Rattle.obs_assign.specs.Assignment.{Assignment, branch_at, has_flag, is_frozen, pairs}
 use Rattle.obs_assign.specs.Pins.{joins}
 use Rattle.obs_assign.proofs.Slotted.{item_slot}
-use Rattle.obs_assign.proofs.Standing.{In-every, IsAssignmentAt-standing}
+use Rattle.obs_assign.proofs.Standing.{IsAssignmentAt-standing}
 use Rattle.obs_exchange.specs.declared.Sources.{Sources}
 use Rattle.obs_exchange.specs.declared.Sources.TheVariants.{All, One}
 use Rattle.obs_exchange.specs.Closed.{HoldsSourcesAt, IsClosedAt, IsLeastClosedAt, IsSource}
@@ -32,7 +33,7 @@ use Rattle.obs_exchange.specs.Setting.{IsSound, IsSourceIn, Setting, end_of, fir
 use Rattle.obs_exchange.specs.Trail.{Trail}
 use Rattle.obs_exchange.proofs.Beginning.{source_bare}
 use Rattle.obs_exchange.proofs.Queued.{has_pair}
-use Rattle.obs_exchange.proofs.AtGraph.{bare-from_out, live_low, out-from_bare}
+use Rattle.obs_exchange.proofs.AtGraph.{bare-from_out, out-from_bare}
 
 -- the matroid of the graph, and whether a meter without a pair is a source
 abbrev pub matroid_in : Setting → Matroid

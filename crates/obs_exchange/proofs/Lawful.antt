@@ -25,6 +25,7 @@ use Rattle.obs_meter.specs.Spanned.{graph_matroid}
 use Rattle.obs_meter.specs.Touches.{every_item, is_live, live_items, touch_at}
 use Rattle.obs_meter.proofs.Assigned.{every-to_live, live_items-distinct, rho-from_matroid, rho-to_matroid, to_matroid}
 use Rattle.obs_meter.proofs.Instance.{IsMatroid-graph}
+use Rattle.obs_meter.proofs.Live.{In-live}
 use Rattle.obs_assign.specs.Assignment.{Assignment, IsWhole, StandsOver, branch_at, is_frozen, pairs}
 use Rattle.obs_assign.proofs.Slotted.{item_slot, none_some, slot_item}
 use Rattle.obs_assign.proofs.Standing.{IsAssignmentAt-standing}
@@ -34,7 +35,7 @@ use Rattle.obs_exchange.specs.declared.Sources.{Sources}
 use Rattle.obs_exchange.specs.Critical.{IsCriticalAt, critical_at}
 use Rattle.obs_exchange.specs.Found.{AddsSource, HasGrown, IsFound}
 use Rattle.obs_exchange.specs.Laws.{HasClosedSet, HoldsNonCritical, IsThawed, JoinsWithinKinds, TouchesOneKind, noncritical_in}
-use Rattle.obs_exchange.proofs.AtGraph.{In-live, IsAssignment-live, IsLeastClosed-thawed, IsLeastClosed-to_matroid}
+use Rattle.obs_exchange.proofs.AtGraph.{IsAssignment-live, IsLeastClosed-thawed, IsLeastClosed-to_matroid}
 
 -- critical over the graph is critical over its matroid
 pub IsCritical-to_matroid : (n : ℕ) (ends : List (Option Ends)) (touches : List Touch) (M : List ℕ) (m : ℕ)

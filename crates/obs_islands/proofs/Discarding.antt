@@ -30,13 +30,14 @@ use Rattle.obs_meter.specs.Touches.{hub_of, live_items, touch_at, touched}
 use Rattle.obs_meter.proofs.Assigned.{from_matroid, live_items-distinct}
 use Rattle.obs_meter.proofs.Instance.{IsJoining-graph, IsMatroid-graph}
 use Rattle.obs_meter.proofs.Touched.{live-from_In, touched-hub, touched-present}
+use Rattle.obs_meter.proofs.Live.{In-live, live-from_live_items}
 use Rattle.obs_assign.specs.Assignment.{Assignment, branch_at as slot_of, is_frozen, pairs}
 use Rattle.obs_assign.specs.Pins.{joins}
 use Rattle.obs_assign.proofs.Paths.{apart-pairs, joined-pairs}
 use Rattle.obs_assign.proofs.Slotted.{slot_branch}
 use Rattle.obs_exchange.specs.Closed.{own_branches}
 use Rattle.obs_exchange.specs.Laws.{HasClosedSet, IsThawed}
-use Rattle.obs_exchange.proofs.AtGraph.{In-live, IsAssignment-live, bare-from_out, live-from_live_items}
+use Rattle.obs_exchange.proofs.AtGraph.{IsAssignment-live, bare-from_out}
 use Rattle.obs_exchange.proofs.Lawful.{closed_rho}
 use Rattle.obs_exchange.proofs.Walking.{free_is, touched_ends, touched_low}
 use Rattle.obs_islands.specs.Firsts.{island_first, islands_of}

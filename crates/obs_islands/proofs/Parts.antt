@@ -10,7 +10,7 @@ use Rattle.obs_matroid.proofs.Lists.{clash, In-filter, In-filter_from, IsDistinc
 use Rattle.obs_matroid.proofs.Ranges.{below_from}
 use Rattle.obs_meter.specs.declared.Touch.TheVariants.{Nothing}
 use Rattle.obs_meter.proofs.Assigned.{every_item-distinct}
-use Rattle.obs_assign.proofs.Standing.{In-every}
+use Rattle.obs_meter.proofs.Live.{In-every}
 use Rattle.obs_forest.specs.Forest.{has_position}
 use Rattle.obs_forest.proofs.Held.{contains-has_position, has_position-contains}
 use Rattle.obs_islands.specs.Firsts.{some_part}

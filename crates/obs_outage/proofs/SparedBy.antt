@@ -27,6 +27,7 @@ use Rattle.obs_meter.specs.Touches.{is_live, live_items, touch_at}
 use Rattle.obs_meter.proofs.Assigned.{every-to_live, from_matroid, live-to_every, live_items-distinct, to_matroid}
 use Rattle.obs_meter.proofs.Instance.{IsMatroid-graph}
 use Rattle.obs_meter.proofs.Touched.{live-from_In}
+use Rattle.obs_meter.proofs.Live.{In-live, live-from_live_items}
 use Rattle.obs_assign.specs.Assignment.{Assignment, branch_at, has_flag, pairs}
 use Rattle.obs_assign.proofs.Slotted.{branch_slot}
 use Rattle.obs_assign.proofs.Standing.{IsAssignmentAt-standing}
@@ -35,7 +36,6 @@ use Rattle.obs_exchange.specs.Critical.{critical_at}
 use Rattle.obs_exchange.specs.Found.{HasClosed}
 use Rattle.obs_exchange.specs.Laws.{HasClosedSet}
 use Rattle.obs_exchange.specs.Longest.{IsLongest}
-use Rattle.obs_exchange.proofs.AtGraph.{In-live, live-from_live_items}
 use Rattle.obs_exchange.proofs.Lawful.{closed_noncritical}
 use Rattle.obs_network.specs.Network.{Network}
 use Rattle.obs_kept.specs.Kept.{AreLongestOver}

@@ -20,13 +20,14 @@ use Rattle.obs_meter.specs.Touches.{is_live, live_items, touch_at}
 use Rattle.obs_meter.proofs.Assigned.{every-to_live, live-to_every, live_items-distinct, rho-to_matroid}
 use Rattle.obs_meter.proofs.Instance.{IsMatroid-graph}
 use Rattle.obs_meter.proofs.Lost.{live-losing, touch-left}
+use Rattle.obs_meter.proofs.Live.{In-live, live-from_live_items}
 use Rattle.obs_assign.specs.Assignment.{Assignment, branch_at, has_flag, pairs}
 use Rattle.obs_assign.proofs.Standing.{IsAssignmentAt-standing}
 use Rattle.obs_exchange.specs.Critical.{critical_at}
 use Rattle.obs_exchange.specs.declared.Sources.TheVariants.{All}
 use Rattle.obs_exchange.specs.Found.{HasClosed}
 use Rattle.obs_exchange.specs.Longest.{IsLongest}
-use Rattle.obs_exchange.proofs.AtGraph.{In-live, IsAssignment-live, IsLeastClosed-thawed, bare-from_out, live-from_live_items, out-from_bare}
+use Rattle.obs_exchange.proofs.AtGraph.{IsAssignment-live, IsLeastClosed-thawed, bare-from_out, out-from_bare}
 use Rattle.obs_exchange.proofs.Lawful.{IsCritical-from_matroid, IsCritical-to_matroid, critical_at-exactly}
 use Rattle.obs_exchange.proofs.Losing.{most-left, most-longest, stands-left}
 use Rattle.obs_pairs.specs.Partners.{class_at}

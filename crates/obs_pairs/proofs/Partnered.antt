@@ -15,8 +15,8 @@ use Rattle.obs_meter.specs.Spanned.{graph_matroid}
 use Rattle.obs_meter.specs.Touches.{every_item, is_live, live_items, touch_at}
 use Rattle.obs_meter.proofs.Assigned.{live_items-distinct, rho-from_matroid, rho-to_matroid, rho_at-unique}
 use Rattle.obs_meter.proofs.Instance.{IsMatroid-graph}
+use Rattle.obs_meter.proofs.Live.{In-live, live-from_live_items}
 use Rattle.obs_exchange.specs.Critical.{IsCriticalAt, critical_at}
-use Rattle.obs_exchange.proofs.AtGraph.{In-live, live-from_live_items}
 use Rattle.obs_exchange.proofs.Lawful.{IsCritical-from_matroid, IsCritical-to_matroid, critical_at-exactly}
 use Rattle.obs_pairs.specs.Partners.{ArePartnersAt, class_at, partner_at}
 use Rattle.obs_pairs.specs.Settled.{redundant_at}

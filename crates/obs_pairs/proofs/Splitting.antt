@@ -11,11 +11,11 @@ use Rattle.obs_matroid.proofs.Lists.{clash}
 use Rattle.obs_meter.specs.declared.Touch.{Touch}
 use Rattle.obs_meter.specs.Lost.{losing}
 use Rattle.obs_meter.specs.Touches.{is_live}
+use Rattle.obs_meter.proofs.Live.{live_low}
 use Rattle.obs_assign.specs.Assignment.{Assignment, branch_at, has_flag}
 use Rattle.obs_exchange.specs.declared.Sources.TheVariants.{All}
 use Rattle.obs_exchange.specs.Found.{HasClosed}
 use Rattle.obs_exchange.specs.Longest.{IsLongest}
-use Rattle.obs_exchange.proofs.AtGraph.{live_low}
 use Rattle.obs_pairs.specs.Partners.{class_at}
 use Rattle.obs_pairs.specs.Settled.{AreSettled, redundant_at}
 use Rattle.obs_pairs.specs.Split.{is_bare, is_half, is_low, spelt, struck}

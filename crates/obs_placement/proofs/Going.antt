@@ -18,8 +18,8 @@ use Rattle.obs_meter.specs.Spanned.{graph_matroid}
 use Rattle.obs_meter.specs.Touches.{is_live, live_items, touch_at}
 use Rattle.obs_meter.proofs.Assigned.{live_items-distinct}
 use Rattle.obs_meter.proofs.Instance.{IsMatroid-graph}
+use Rattle.obs_meter.proofs.Live.{In-live, live-from_live_items, live_low}
 use Rattle.obs_assign.specs.Assignment.{Assignment, has_flag, pairs}
-use Rattle.obs_exchange.proofs.AtGraph.{In-live, live-from_live_items, live_low}
 use Rattle.obs_placement.specs.Answer.{earlier_items, is_chosen}
 use Rattle.obs_placement.specs.Order.{IsOrder, is_earlier, item_at}
 use Rattle.obs_placement.specs.Taking.{AreAdded, AreFirst, AreHeld, AreTaken, IsTakenAt, IsUnderWay, StandsWithKnown, is_below, is_known, is_listed_at, never, scope_of, since_at}

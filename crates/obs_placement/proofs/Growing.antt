@@ -17,13 +17,12 @@ use Rattle.obs_meter.specs.Spanned.{graph_matroid}
 use Rattle.obs_meter.specs.Touches.{every_item, is_live, live_items, touch_at}
 use Rattle.obs_meter.proofs.Assigned.{live_items-distinct}
 use Rattle.obs_meter.proofs.Instance.{IsMatroid-graph}
-use Rattle.obs_assign.proofs.Standing.{In-every}
+use Rattle.obs_meter.proofs.Live.{In-every, In-live, live-from_live_items, live_low}
+use Rattle.obs_rankcut.specs.Costs.{price_of}
 use Rattle.obs_exchange.specs.Laws.{noncritical_in}
-use Rattle.obs_exchange.proofs.AtGraph.{In-live, live-from_live_items, live_low}
 use Rattle.obs_placement.specs.declared.plans.Layer.{Layer}
 use Rattle.obs_placement.specs.Answer.{chosen_of, cost_of}
 use Rattle.obs_placement.specs.Layers.{added_items, inside_of, is_price_of, layers_of, layer_items, prices_above}
-use Rattle.obs_placement.specs.Order.{price_of}
 use Rattle.obs_placement.specs.Placed.{plan_of}
 use Rattle.obs_placement.specs.Taking.{is_below, is_listed_at, scope_of}
 

@@ -9,10 +9,10 @@ use Rattle.obs_meter.specs.declared.Touch.{Touch}
 use Rattle.obs_meter.specs.Assignments.{rho_at}
 use Rattle.obs_meter.specs.Spanned.{rank_at}
 use Rattle.obs_meter.specs.Touches.{live_items, touch_at}
+use Rattle.obs_meter.proofs.Live.{live-from_live_items}
+use Rattle.obs_rankcut.specs.Costs.{price_of}
 use Rattle.obs_exchange.specs.Laws.{noncritical_in}
-use Rattle.obs_exchange.proofs.AtGraph.{live-from_live_items}
 use Rattle.obs_placement.specs.Layers.{layer_items, layer_outside, layer_rank}
-use Rattle.obs_placement.specs.Order.{price_of}
 use Rattle.obs_placement.specs.Placed.{shortfall, redundant_items, placement_of}
 use Rattle.obs_placement.specs.Taking.{is_below, is_listed_at, never, scope_of}
 

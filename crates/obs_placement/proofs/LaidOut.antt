@@ -10,10 +10,11 @@ use Rattle.obs_matroid.specs.Lists.{In}
 use Rattle.obs_matroid.proofs.Lists.{clash, In-filter, In-filter_from}
 use Rattle.obs_matroid.proofs.Ranges.{below_from, range_in}
 use Rattle.obs_meter.specs.declared.Touch.{Touch}
+use Rattle.obs_rankcut.specs.Costs.{price_of}
 use Rattle.obs_placement.specs.declared.plans.Layer.{Layer}
 use Rattle.obs_placement.specs.Answer.{chosen_of, cost_of, is_chosen}
 use Rattle.obs_placement.specs.Layers.{added_items, count_known, inside_of, is_price_of, layer_of, layers_of, prices_above}
-use Rattle.obs_placement.specs.Order.{IsOrder, item_at, price_of}
+use Rattle.obs_placement.specs.Order.{IsOrder, item_at}
 use Rattle.obs_placement.specs.Taking.{since_at}
 use Rattle.obs_placement.proofs.Going.{earlier_cheap}
 

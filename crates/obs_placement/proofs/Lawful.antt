@@ -10,31 +10,25 @@ use Rattle.obs_graph.specs.Positions.{AreBranches}
 use Rattle.obs_matroid.specs.Lists.{In, IsDistinct}
 use Rattle.obs_matroid.specs.Matroid.{IsMatroid}
 use Rattle.obs_matroid.specs.Assignments.{IsRho}
-use Rattle.obs_matroid.specs.Placement.{IsAnswer, IsApart, IsByPrice, IsShown, Layer, RunOn, chosen, finished, passed, layers_sum}
+use Rattle.obs_matroid.specs.Placement.{IsAnswer, IsApart, IsByPrice, chosen, finished, passed}
 use Rattle.obs_matroid.proofs.Answer.{answer_completes}
 use Rattle.obs_matroid.proofs.Cheapest.{answer_costs_least}
 use Rattle.obs_matroid.proofs.Critical.{rho_exists, rho_same}
 use Rattle.obs_matroid.proofs.Lists.{clash, In_same, In-append_left, In-append_right, In-append_cases, In-filter, In-filter_from, IsDistinct-filter}
-use Rattle.obs_matroid.proofs.Placement.{IsRho-same, layer_bound}
+use Rattle.obs_matroid.proofs.Placement.{IsRho-same}
 use Rattle.obs_meter.specs.declared.Touch.{Touch}
 use Rattle.obs_meter.specs.Assignments.{IsRhoAt}
 use Rattle.obs_meter.specs.Spanned.{graph_matroid}
 use Rattle.obs_meter.specs.Touches.{is_live, live_items, touch_at}
 use Rattle.obs_meter.proofs.Assigned.{live_items-distinct, rho-from_matroid, rho-to_matroid}
 use Rattle.obs_meter.proofs.Instance.{IsMatroid-graph}
-use Rattle.obs_exchange.proofs.AtGraph.{In-live, live-from_live_items}
+use Rattle.obs_meter.proofs.Live.{In-live, live-from_live_items}
+use Rattle.obs_rankcut.specs.Costs.{DoAsMuch, live_candidates, live_meters, price_of}
 use Rattle.obs_placement.specs.Answer.{earlier_items, is_chosen}
-use Rattle.obs_placement.specs.Laws.{DoAsMuch, answer_at, live_candidates, live_meters}
-use Rattle.obs_placement.specs.Order.{is_earlier, price_of}
+use Rattle.obs_placement.specs.Laws.{answer_at}
+use Rattle.obs_placement.specs.Order.{is_earlier}
 use Rattle.obs_placement.proofs.Going.{earlier_cheap, earlier_not_both}
 use Rattle.obs_placement.proofs.Stepped.{earlier-out, raising_by}
-
-pub layers_bound : (n : ℕ) (ends : List (Option Ends)) (touches : List Touch) (meters needed : ℕ) (prices X : List ℕ) (layers : List Layer) → AreBranches n ends → RunOn 0 layers
-    → ((l : Layer) → In l layers → IsShown (graph_matroid n ends) (touch_at ends touches) (price_of meters prices) (live_meters ends touches meters) (live_candidates ends touches meters) l)
-    → DoAsMuch ends touches meters needed X → layers_sum needed layers ≤ sum_by (price_of meters prices) X
-layers_bound n ends touches meters needed prices X layers ok r shown d =
-    layer_bound (graph_matroid n ends) (IsMatroid-graph n ends ok) (touch_at ends touches) (price_of meters prices) (live_meters ends touches meters) (live_candidates ends touches meters) X needed layers
-    r shown d.candidates (rho-to_matroid n ends touches (live_meters ends touches meters ++ X) needed d.longest)
 
 either : (p q a b : ℕ) → (ltb p q || (eqb p q && ltb a b)) ≡ false → (a ≡ b → ⊥) → (ltb q p || (eqb q p && ltb b a)) ≡ true
 either p q a b f n = grind (arith, nat_tests, f, n)

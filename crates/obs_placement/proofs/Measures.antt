@@ -7,7 +7,7 @@ use Rattle.obs_matroid.proofs.Lists.{In-filter_from, filter_same}
 use Rattle.obs_meter.specs.declared.Touch.{Touch}
 use Rattle.obs_meter.specs.Spanned.{rank_at}
 use Rattle.obs_meter.specs.Touches.{live_items, touch_at}
-use Rattle.obs_exchange.proofs.AtGraph.{live-from_live_items, live_low}
+use Rattle.obs_meter.proofs.Live.{live-from_live_items, live_low}
 use Rattle.obs_rankcut.specs.Bounds.{in_scope, listed, listed_rank, unlisted}
 use Rattle.obs_rankcut.specs.Flags.{marked}
 use Rattle.obs_placement.specs.Layers.{layer_items, layer_outside, layer_rank}

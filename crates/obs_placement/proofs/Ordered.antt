@@ -10,6 +10,7 @@ use Rattle.std.proofs.lemmas.Cmp.{nat_cmp_total, then_total, on_total}
 use Rattle.std.proofs.lemmas.List.MinMax.{ranks_by}
 use Rattle.std.proofs.lemmas.List.Sorted.{IsPermutation-sym, length_permutation, Contains-permutation, sorted_far}
 use Rattle.std.proofs.lemmas.Map.Keys.{IsDistinct-IsPermutation, IsDistinct-from_apart, apart_from_distinct}
+use Rattle.obs_rankcut.proofs.Marked.{number_flips}
 use Rattle.obs_placement.specs.Order.{AreNumbered, IsOrder, is_earlier, item_at}
 
 abbrev pub Key : Type 0
@@ -17,10 +18,6 @@ Key = ℕ × ℕ
 
 abbrev pub key_cmp : Key → Key → Ordering
 key_cmp = λ x y. ordering_then (nat_cmp x.0 y.0) (nat_cmp x.1 y.1)
-
--- the test for one number can be turned
-pub number_flips : (a b : ℕ) → eqb a b ≡ eqb b a
-number_flips a b = grind (arith, nat_tests)
 
 lt_is : (a b c d : ℕ) → is_lt (ordering_then (nat_cmp a b) (nat_cmp c d)) ≡ (ltb a b || (eqb a b && ltb c d))
 lt_is a b c d = grind (arith, nat_tests)

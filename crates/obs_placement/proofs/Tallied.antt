@@ -19,12 +19,13 @@ use Rattle.obs_meter.specs.Spanned.{graph_matroid}
 use Rattle.obs_meter.specs.Touches.{is_live, live_items, touch_at}
 use Rattle.obs_meter.proofs.Assigned.{live_items-distinct}
 use Rattle.obs_meter.proofs.Instance.{IsMatroid-graph}
-use Rattle.obs_exchange.proofs.AtGraph.{In-live, live-from_live_items, live_low}
+use Rattle.obs_meter.proofs.Live.{In-live, live-from_live_items, live_low}
+use Rattle.obs_rankcut.specs.Costs.{price_of}
 use Rattle.obs_placement.specs.declared.counting.Tally.{Tally}
 use Rattle.obs_placement.specs.Answer.{is_chosen}
 use Rattle.obs_placement.specs.Counting.{AreCounted, live_below, raised_below}
 use Rattle.obs_placement.specs.Layers.{count_known, layer_items, layer_outside, layer_rank}
-use Rattle.obs_placement.specs.Order.{IsOrder, is_earlier, item_at, price_of}
+use Rattle.obs_placement.specs.Order.{IsOrder, is_earlier, item_at}
 use Rattle.obs_placement.specs.Taking.{is_below, is_listed_at, scope_of, since_at}
 use Rattle.obs_placement.proofs.Costed.{tight_scope}
 use Rattle.obs_placement.proofs.Going.{earlier_cheap, earlier_not_both}

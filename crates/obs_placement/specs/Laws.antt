@@ -1,5 +1,5 @@
 -- What the laws of placement are said of: the live meters, the live candidates, and the chosen ones of these, all by item.
-use Rattle.std.specs.Prelude.{◌≡◌, ℕ, ◌+◌, ◌≤◌, not, nat_lt, Option, List, ◌++◌, length, filter, map}
+use Rattle.std.specs.Prelude.{◌≡◌, ℕ, ◌+◌, ◌≤◌, Option, List, length, filter, map}
 use Rattle.std.specs.List.{sum_by}
 use Rattle.obs_graph.specs.declared.Ends.{Ends}
 use Rattle.obs_graph.specs.Positions.{AreBranches}
@@ -9,24 +9,12 @@ use Rattle.obs_meter.specs.declared.Touch.{Touch}
 use Rattle.obs_meter.specs.Assignments.{IsRhoAt}
 use Rattle.obs_meter.specs.Spanned.{graph_matroid}
 use Rattle.obs_meter.specs.Touches.{live_items, touch_at}
+use Rattle.obs_rankcut.specs.Costs.{DoAsMuch, live_candidates, live_meters, price_of}
 use Rattle.obs_placement.specs.Answer.{chosen_of, cost_of, is_chosen}
-use Rattle.obs_placement.specs.Order.{price_of}
-
-abbrev pub live_meters : List (Option Ends) → List Touch → ℕ → List ℕ
-live_meters ends touches meters = filter (λ m. nat_lt m meters) (live_items ends touches)
-
-abbrev pub live_candidates : List (Option Ends) → List Touch → ℕ → List ℕ
-live_candidates ends touches meters = filter (λ m. not (nat_lt m meters)) (live_items ends touches)
 
 -- the chosen candidates
 abbrev pub answer_at : ℕ → List (Option Ends) → List Touch → ℕ → List ℕ → List ℕ
 answer_at n ends touches meters prices = filter (is_chosen n ends touches (price_of meters prices)) (live_candidates ends touches meters)
-
--- the items of X are live candidates, and with the live meters their greatest length is r. Where r is that of all live items, they do
--- as much as all; an idle candidate touches nothing and would only cost
-pub record DoAsMuch (ends : List (Option Ends)) (touches : List Touch) (meters r : ℕ) (X : List ℕ) : Type 0 where
-  pub candidates : (c : ℕ) → In c X → In c (live_candidates ends touches meters)
-  pub longest : IsRhoAt ends touches (live_meters ends touches meters ++ X) r
 
 -- no set of live candidates that does as much as all costs less than the chosen ones
 abbrev pub NoneIsCheaper : Type 0

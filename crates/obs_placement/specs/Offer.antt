@@ -3,10 +3,10 @@ use Rattle.std.specs.Prelude.{◌≡◌, ℕ, ◌+◌, ◌≤◌, ◌<◌, ◌^�
 use Rattle.obs_graph.specs.Positions.{AreBranches}
 use Rattle.obs_meter.specs.Sizes.{HasRoomFor, Sizes}
 use Rattle.obs_meter.specs.Touches.{AreInRange}
+use Rattle.obs_rankcut.specs.Costs.{price_of}
 use Rattle.obs_placement.specs.declared.offer.Offer.{Offer}
 use Rattle.obs_placement.specs.Answer.{chosen_of, earlier_items, is_chosen}
 use Rattle.obs_placement.specs.Limits.{most_candidates, most_price}
-use Rattle.obs_placement.specs.Order.{price_of}
 use Rattle.obs_placement.specs.Taking.{AreKnown}
 
 -- the items are the meters and then the candidates, and in range of the graph; the candidates are few and cheap

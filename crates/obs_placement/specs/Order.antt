@@ -1,9 +1,5 @@
 -- In which order the items are taken: the meters, and then the candidates by rising price and, at one price, by position.
-use Rattle.std.specs.Prelude.{◌≡◌, ℕ, ◌-◌, ◌<◌, ◌==◌, ◌||◌, ◌&&◌, Bool, true, if◌then◌else◌, nat_lt, List, length, slice_index_or}
-
--- the price of the item m: a meter costs nothing, and the candidates, which are numbered after the meters, their prices
-abbrev pub price_of : ℕ → List ℕ → ℕ → ℕ
-price_of meters prices m = if nat_lt m meters then 0 else slice_index_or prices (m - meters) 0
+use Rattle.std.specs.Prelude.{◌≡◌, ℕ, ◌<◌, ◌==◌, ◌||◌, ◌&&◌, Bool, true, nat_lt, List, length, slice_index_or}
 
 -- whether the item x is taken before c: it is cheaper, or it costs as much and has a lower number
 abbrev pub is_earlier : (ℕ → ℕ) → ℕ → ℕ → Bool

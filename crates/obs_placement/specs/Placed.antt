@@ -5,13 +5,13 @@ use Rattle.obs_meter.specs.declared.Touch.{Touch}
 use Rattle.obs_meter.specs.Assignments.{rho_at}
 use Rattle.obs_meter.specs.Spanned.{rank_at}
 use Rattle.obs_meter.specs.Touches.{live_items, touch_at}
+use Rattle.obs_rankcut.specs.Costs.{price_of}
 use Rattle.obs_exchange.specs.Laws.{noncritical_in}
 use Rattle.obs_placement.specs.declared.plans.Layer.{Layer}
 use Rattle.obs_placement.specs.declared.plans.Placement.{Placement}
 use Rattle.obs_placement.specs.declared.plans.Placement.TheVariants.{Cheapest, Shortfall}
 use Rattle.obs_placement.specs.Answer.{chosen_of, cost_of}
 use Rattle.obs_placement.specs.Layers.{inside_of, layers_of, prices_above}
-use Rattle.obs_placement.specs.Order.{price_of}
 
 -- the chosen positions, what they cost, the layers, and what these list
 pub record PlanValue : Type 0 where

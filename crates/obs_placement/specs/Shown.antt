@@ -1,5 +1,5 @@
 -- What the layers of a plan and the bound of a shortfall show.
-use Rattle.std.specs.Prelude.{◌≡◌, ◌↔◌, ℕ, ◌+◌, ◌≤◌, ◌<◌, Option, List, ◌++◌, length, filter, map, take}
+use Rattle.std.specs.Prelude.{◌≡◌, ◌↔◌, ℕ, ◌+◌, ◌≤◌, ◌<◌, Option, List, length, map, take}
 use Rattle.std.specs.List.{sum_by}
 use Rattle.obs_graph.specs.declared.Ends.{Ends}
 use Rattle.obs_graph.specs.Positions.{AreBranches}
@@ -8,12 +8,11 @@ use Rattle.obs_matroid.specs.Placement.{Layer, RunOn, layers_sum, IsShown}
 use Rattle.obs_meter.specs.declared.Touch.{Touch}
 use Rattle.obs_meter.specs.Assignments.{IsRhoAt, rho_at}
 use Rattle.obs_meter.specs.Spanned.{graph_matroid}
-use Rattle.obs_meter.specs.Touches.{is_live, live_items, touch_at}
+use Rattle.obs_meter.specs.Touches.{live_items, touch_at}
+use Rattle.obs_rankcut.specs.Costs.{Completes, live_candidates, live_meters, price_of}
 use Rattle.obs_placement.specs.declared.plans.Layer.{Layer as PlanLayer}
 use Rattle.obs_placement.specs.Answer.{chosen_of, cost_of}
-use Rattle.obs_placement.specs.Laws.{live_candidates, live_meters}
 use Rattle.obs_placement.specs.Layers.{layer_items}
-use Rattle.obs_placement.specs.Order.{price_of}
 use Rattle.obs_placement.specs.Placed.{shortfall_of, plan_of}
 
 -- a layer of a plan as the laws of layers speak of it
@@ -49,11 +48,6 @@ ListsComeFirst = (n : ℕ) (ends : List (Option Ends)) (touches : List Touch) (m
 abbrev pub ListsGrow : Type 0
 ListsGrow = (n : ℕ) (ends : List (Option Ends)) (touches : List Touch) (meters : ℕ) (prices : List ℕ) → AreBranches n ends → (f t : ℕ) → f ≤ t
     → (m : ℕ) → In m (layer_items n ends touches (price_of meters prices) f) → In m (layer_items n ends touches (price_of meters prices) t)
-
--- the items of X are candidates, and the needed number is the greatest length of the live meters and the live ones of X
-pub record Completes (ends : List (Option Ends)) (touches : List Touch) (meters needed : ℕ) (X : List ℕ) : Type 0 where
-  pub candidates : (c : ℕ) → In c X → meters ≤ c
-  pub reached : IsRhoAt ends touches (live_meters ends touches meters ++ filter (is_live ends touches) X) needed
 
 -- where all that is offered reaches just the needed number, no candidates that complete the meters cost less than the chosen ones
 abbrev pub NoneCompletesForLess : Type 0

@@ -3,11 +3,11 @@ ghost use Rattle.std.specs.Prelude.{◌≡◌, ◌+◌, ◌≤◌, All, IfOk, le
 ghost use Rattle.obs_meter.specs.Assignments.{rho_at};
 ghost use Rattle.obs_meter.specs.Sizes.{HasRoomFor};
 ghost use Rattle.obs_meter.specs.Touches.{AreInRange, live_items};
+ghost use Rattle.obs_rankcut.specs.Costs.{price_of};
 ghost use Rattle.obs_assign.specs.Assignment.{pairs as pairs_at};
 ghost use Rattle.obs_placement.specs.Limits.{most_candidates, most_price};
 ghost use Rattle.obs_placement.specs.Answer.{chosen_of};
 ghost use Rattle.obs_placement.specs.Choosing.{HavePairsOnly, new_placing};
-ghost use Rattle.obs_placement.specs.Order.{price_of};
 ghost use Rattle.obs_placement.specs.Placed.{placed_of, placement_of};
 ghost use Rattle.obs_placement.specs.Taking.{AreKnown, IsStanding};
 

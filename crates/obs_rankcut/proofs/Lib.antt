@@ -1,3 +1,4 @@
 pub mod Marked
 pub mod Ranked
 pub mod Passing
+pub mod Costs

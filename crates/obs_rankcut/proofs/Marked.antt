@@ -1,7 +1,8 @@
 -- Flags that are set one after another.
-use Rattle.std.proofs.Common.{◌≡◌, ℕ, ◌+◌, ◌-◌, ◌<◌, ◌≤◌, Bool, true, false, List, [], ◌∷◌, ◌++◌, length, get_or, set, take, drop, Option, sym, ap, ◌∙◌, subst, inl, inr, get_or-set_same, get_or-set_other, arith}
+use Rattle.std.proofs.Common.{◌≡◌, ℕ, ◌+◌, ◌-◌, ◌<◌, ◌≤◌, Bool, true, false, List, [], ◌∷◌, ◌++◌, length, eqb, get_or, set, take, drop, Option, sym, ap, ◌∙◌, subst, inl, inr, get_or-set_same, get_or-set_other, arith}
 use Rattle.std.specs.Prelude.{All}
 use Rattle.std.proofs.lemmas.Bool.{cases_eq}
+use Rattle.std.proofs.lemmas.Bool.Decides.{nat_tests}
 use Rattle.std.proofs.lemmas.List.{length-drop, take-append-drop, take-take, take_all, take_more}
 use Rattle.obs_graph.specs.declared.Ends.{Ends}
 use Rattle.obs_graph.specs.Positions.{branches_at}
@@ -91,3 +92,7 @@ flags_behind ends v count k n bs is len = All-from_In (λ e. e < n) (take (lengt
     let f : In e (take count bs) = subst (λ (M : List ℕ). In e M) (take-append-drop k (take count bs)) (In-append_right e (take k (take count bs)) (drop k (take count bs)) j) in
     let b : In e (branches_at ends v) = subst (λ (M : List ℕ). In e M) is (In-take count bs e f) in
     rw len (In-from_All (λ x. x < length ends) (branches_at ends v) (touched-below ends (Star v)) e b))
+
+-- the test for one number can be turned
+pub number_flips : (a b : ℕ) → eqb a b ≡ eqb b a
+number_flips a b = grind (arith, nat_tests)

@@ -1,3 +1,4 @@
 pub mod Bounds
+pub mod Costs
 pub mod Flags
 pub mod Marks
