@@ -18,3 +18,11 @@ invariant_of-result c =
       rw back (omega (arith, same, c.in_ok-numbers.ensures.len, stars)),
       rw back c.number.ensures.own,
     )
+
+pub returns : goal.returns
+returns c = record {
+  room = record {
+    blank = c.in_ok-make.ensures.made;
+    room = ap (λ (s : List ℕ). length s) c.in_ok-make-2.ensures.made ∙ length-replicate c.args.most_vertices 0;
+  };
+}
