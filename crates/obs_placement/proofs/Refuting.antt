@@ -59,4 +59,3 @@ none_for_less n ends touches meters needed prices X ok size all c =
     let l = cost_least n ends touches meters needed prices (filter (is_live ends touches) X) ok size all (live_ones ends touches meters needed X c) in
     let s = sum_by-filter_both (is_live ends touches) (λ x. not (is_live ends touches x)) (λ x. refl) (price_of meters prices) X in
     omega (arith, l, s)
-
