@@ -2,7 +2,7 @@
 ghost use Rattle.std.specs.Prelude.{◌≡◌, ◌≢◌, ◌+◌, ℕ, length, map, slice_index, string_bytes};
 ghost use Rattle.obs_engine.specs.Forms.{TakesInput};
 ghost use Rattle.obs_engine.specs.Runs.{IsRun};
-ghost use Rattle.obs_engine.specs.Words.{form_of};
+ghost use Rattle.obs_files.specs.Words.{form_of};
 ghost use Rattle.obs_io.specs.Bytes.{Wrote, WrotePart};
 ghost use Rattle.obs.specs.Notices.{NamesFailure, failed_word, notice};
 

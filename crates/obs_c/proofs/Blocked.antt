@@ -7,9 +7,10 @@ use Rattle.obs_engine.specs.declared.status.Status.{Status}
 use Rattle.obs_engine.specs.declared.status.Status.TheVariants.{NoMemory}
 use Rattle.obs_engine.specs.Ending.{Answers, Ends, HasRoom}
 use Rattle.obs_engine.specs.Replies.{Reply}
-use Rattle.obs_engine.specs.Forms.{AnyReadFailed, AreTold}
+use Rattle.obs_engine.specs.Forms.{AnyReadFailed}
+use Rattle.obs_files.specs.Outside.{AreTold}
 use Rattle.obs_engine.specs.Stated.{IsStated, Tells, Told}
-use Rattle.obs_engine.specs.Words.{file_words, form_of}
+use Rattle.obs_files.specs.Words.{file_words, form_of}
 
 told_all : (content : ℕ → Option (List ℕ)) (file : ℕ → List ℕ) → ((w : ℕ) → content w ≡ Some (file w)) → (words : List ℕ) → AreTold content file words
 told_all content file are [] = tt

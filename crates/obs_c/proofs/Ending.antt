@@ -5,7 +5,7 @@ use Rattle.obs_engine.specs.declared.status.Status.TheVariants.{Done, Short, Usa
 use Rattle.obs_engine.specs.Ending.{Answers, AnswersPart, Ends}
 use Rattle.obs_engine.specs.Replies.{Reply}
 use Rattle.obs_engine.specs.Stated.{IsStated, Told}
-use Rattle.obs_engine.specs.Words.{form_of}
+use Rattle.obs_files.specs.Words.{form_of}
 
 some_is : (xs ys : List ℕ) → Some xs ≡ Some ys → xs ≡ ys
 some_is xs ys e = cc

@@ -8,11 +8,11 @@ use Rattle.obs_edit.specs.Sessions.{Session}
 use Rattle.obs_engine.specs.declared.status.Status.{Status}
 use Rattle.obs_engine.specs.declared.status.Status.TheVariants.{Done, NoMemory, ReadFault, WriteFault}
 use Rattle.obs_engine.specs.Codes.{code_of}
-use Rattle.obs_engine.specs.Forms.{AreFiles}
+use Rattle.obs_files.specs.Outside.{AreFiles}
 use Rattle.obs_engine.specs.Lines.{line_case}
 use Rattle.obs_engine.specs.Replies.{EndsWith, Reply}
 use Rattle.obs_engine.specs.Stays.{Begins, IsNotBegun, line_reply}
-use Rattle.obs_engine.specs.Words.{form_of}
+use Rattle.obs_files.specs.Words.{form_of}
 use Rattle.obs_c.specs.Blocks.{AreLengths, IsCall, malformed, words_in}
 use Rattle.obs_c.specs.Stays.{IsAnswered, IsBegun, IsGiven, out_of_turn}
 use Rattle.obs_c.proofs.Blocked.{tells}

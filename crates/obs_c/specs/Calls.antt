@@ -6,7 +6,7 @@ use Rattle.obs_engine.specs.declared.status.Status.TheVariants.{ReadFault}
 use Rattle.obs_engine.specs.Codes.{code_of}
 use Rattle.obs_engine.specs.Ending.{Answers, Ends}
 use Rattle.obs_engine.specs.Stated.{Told}
-use Rattle.obs_engine.specs.Words.{form_of}
+use Rattle.obs_files.specs.Words.{form_of}
 
 -- what is told to obs: the content of each word's file, and the input
 abbrev pub told_by : List ℕ → List ℕ → List ℕ → Told

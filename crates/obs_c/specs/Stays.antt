@@ -7,7 +7,7 @@ use Rattle.obs_engine.specs.Codes.{code_of}
 use Rattle.obs_engine.specs.Lines.{line_case}
 use Rattle.obs_engine.specs.Replies.{Reply}
 use Rattle.obs_engine.specs.Stays.{IsBegun as IsBegunWith, IsNotBegun, line_reply}
-use Rattle.obs_engine.specs.Words.{form_of}
+use Rattle.obs_files.specs.Words.{form_of}
 use Rattle.obs_c.specs.Blocks.{IsCall, malformed, words_in}
 
 -- the number that is answered where a session has begun already, and where none has whose line is to be answered

@@ -3,7 +3,7 @@ ghost use Rattle.std.specs.Prelude.{◌≡◌, ◌≤◌, ◌⊎◌, drop, lengt
 ghost use Rattle.obs_engine.specs.Codes.{code_of};
 ghost use Rattle.obs_engine.specs.Replies.{Reply};
 ghost use Rattle.obs_engine.specs.Stated.{IsStated};
-ghost use Rattle.obs_engine.specs.Words.{form_of};
+ghost use Rattle.obs_files.specs.Words.{form_of};
 ghost use Rattle.obs_c.specs.Blocks.{IsCall, malformed, words_in};
 ghost use Rattle.obs_c.specs.Calls.{IsAnswered, IsWhole, told_by};
 

@@ -1,16 +1,18 @@
 -- What is said of a command, from what was taken from its files and what was answered.
 use Rattle.std.proofs.Common.{ℕ, ◌≡◌, ◌∙◌, ◌⊎◌, ap, inl, inr, refl, sym, subst, arith, Bool, List, [], Option, Some, Result, Ok}
+use Rattle.obs_text.specs.Faults.{Fault}
 use Rattle.obs_case.specs.Tables.{Tables}
 use Rattle.obs_engine.specs.declared.status.Status.{Status}
 use Rattle.obs_engine.specs.declared.status.Status.TheVariants.{Done, Short, InputFault, ReadFault, WriteFault, NoMemory, SessionTooLong}
-use Rattle.obs_engine.specs.declared.words.CaseForm.{CaseForm}
-use Rattle.obs_engine.specs.declared.words.CaseCommand.TheVariants.{Session}
-use Rattle.obs_engine.specs.declared.words.Form.{Form}
-use Rattle.obs_engine.specs.declared.words.Form.TheVariants.{Case}
+use Rattle.obs_files.specs.declared.words.CaseForm.{CaseForm}
+use Rattle.obs_files.specs.declared.words.CaseCommand.TheVariants.{Session}
+use Rattle.obs_files.specs.declared.words.Form.{Form}
+use Rattle.obs_files.specs.declared.words.Form.TheVariants.{Case}
 use Rattle.obs_engine.specs.Commands.{IsCaseReply, IsFilesReply}
 use Rattle.obs_engine.specs.Ending.{answered_before, answered_in}
-use Rattle.obs_engine.specs.Files.{case_in_files, certificate_in}
-use Rattle.obs_engine.specs.Forms.{AreFiles, CanAnswer, CanStop, TakesInput}
+use Rattle.obs_files.specs.Files.{case_in_files, certificate_in}
+use Rattle.obs_files.specs.Outside.{AreFiles}
+use Rattle.obs_engine.specs.Forms.{CanAnswer, CanStop, TakesInput}
 use Rattle.obs_engine.specs.Replies.{EndsBehind, IsReplyTo, RepliedAt, Reply}
 use Rattle.obs_engine.specs.Runs.{AnsweredAt, RanAt}
 use Rattle.obs_engine.specs.Sessions.{IsTakenFront, SessionAt, answered_within, session_reply}
@@ -22,7 +24,7 @@ use Rattle.obs_engine.proofs.Replied.{case-can, case_no_failure, nothing_before,
 files_replied : (form : Form) (t : Tables) (certificate : List ℕ) (reply : Reply) (told : Told) → case_in_files form told.file ≡ Ok t → certificate_in form told.file ≡ certificate
     → IsCaseReply form told.input certificate t reply → IsFilesReply form told.input told.file reply
 files_replied form t certificate reply told is beside of =
-    subst (λ (r : Result Tables Reply). IsReplyTo (IsCaseReply form told.input (certificate_in form told.file)) r reply) (sym is)
+    subst (λ (r : Result Tables Fault). IsReplyTo (IsCaseReply form told.input (certificate_in form told.file)) r reply) (sym is)
     (subst (λ (c : List ℕ). IsCaseReply form told.input c t reply) (sym beside) of)
 
 -- a case was answered by a form that takes no input, which is as it was
@@ -102,7 +104,7 @@ session_answered {left = left} {left_now = left_now} {a = a} {b = b} {room = roo
     here told of beside = files_replied form t certificate (whole told) told of beside (is.replies told.input certificate t)
 
     before : (told : Told) → case_in_files form told.file ≡ Ok t → answered_before (Some form) told left_now ≡ answered_within offered t told.input left_now
-    before told of = is.behind told left_now ∙ ap (λ (r : Result Tables Reply). answered_in offered r told.input left_now) of
+    before told of = is.behind told left_now ∙ ap (λ (r : Result Tables Fault). answered_in offered r told.input left_now) of
 
     behind : (told : Told) → case_in_files form told.file ≡ Ok t → (TakesInput (Some form) → left ≡ Some told.input)
         → EndsBehind (whole told) (answered_before (Some form) told left_now) status a b

@@ -6,10 +6,10 @@ use Rattle.std.proofs.lemmas.List.Elements.{All-map}
 use Rattle.obs_case.specs.Tables.{Tables}
 use Rattle.obs_case.specs.declared.rows.Meter.{Meter}
 use Rattle.obs_trial.specs.Trial.{ends_of_first, meter_at, trial_of}
-use Rattle.obs_engine.specs.declared.words.Form.{Form}
-use Rattle.obs_engine.specs.declared.words.Form.TheVariants.{Trial}
-use Rattle.obs_engine.specs.Files.{case_in_files, certificate_in, parsed}
-use Rattle.obs_engine.specs.Forms.{AreFiles}
+use Rattle.obs_files.specs.declared.words.Form.{Form}
+use Rattle.obs_files.specs.declared.words.Form.TheVariants.{Trial}
+use Rattle.obs_files.specs.Files.{case_in_files, certificate_in, parsed}
+use Rattle.obs_files.specs.Outside.{AreFiles}
 use Rattle.obs_engine.specs.Trials.{AreInService}
 
 drawn_in_service : (seed : ℕ) (ends : List (ℕ × (ℕ × ℕ))) → All (λ (row : Meter). row.inservice ≡ true) (map (meter_at seed) ends)

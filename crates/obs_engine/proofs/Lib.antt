@@ -1,14 +1,9 @@
 pub mod Endings
 pub mod Replied
 pub mod OfNetwork
-pub mod Taking
 pub mod Lawful
-pub mod Valid
 pub mod Asked
-pub mod Worded
 pub mod Commanded
-pub mod Contents
-pub mod Filed
 pub mod Placed
 pub mod Ran
 pub mod Folding

@@ -1,7 +1,7 @@
 -- What is said of a run, for the form of the words.
 use Rattle.std.proofs.Common.{ℕ, ◌≡◌, subst, List, Option, Some}
 use Rattle.obs_engine.specs.declared.status.Status.{Status}
-use Rattle.obs_engine.specs.declared.words.Form.{Form}
+use Rattle.obs_files.specs.declared.words.Form.{Form}
 use Rattle.obs_engine.specs.Runs.{RanAt}
 
 pub ran_at : {content : ℕ → Option (List ℕ)} {faults_before faults_now : ℕ → ℕ} {files_steady : ℕ → Type 0} {left left_now : Option (List ℕ)} {i j : ℕ} {is_steady : Type 0}

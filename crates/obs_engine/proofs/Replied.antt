@@ -4,18 +4,11 @@ use Rattle.std.proofs.lemmas.Bool.{cases_Bool}
 use Rattle.std.specs.Prelude.{if◌then◌else◌, ◌==◌, nat_lt}
 use Rattle.obs_network.specs.Network.{case_needed}
 use Rattle.obs_case.specs.Tables.{Tables}
-use Rattle.obs_case_csv.specs.declared.faults.TableFault.{TableFault}
 use Rattle.obs_cert.specs.declared.fault.CertFault.{CertFault}
 use Rattle.obs_cert.specs.declared.flaw.Flaw.{Flaw}
 use Rattle.obs_cert.specs.Claims.{Claim}
 use Rattle.obs_cert.specs.Flaws.{first_flaw}
 use Rattle.obs_cert.specs.Read.{claims_of}
-use Rattle.obs_ieee_cdf.specs.Faults.{cdf_fault}
-use Rattle.obs_case_csv.specs.Read.{tables_in}
-use Rattle.obs_ieee_cdf.specs.Read.{tables_after}
-use Rattle.obs_ieee_cdf.specs.Rows.{cdf_of}
-use Rattle.obs_matpower.specs.Faults.{mat_fault}
-use Rattle.obs_matpower.specs.Read.{mat_of}
 use Rattle.obs_outage.specs.Outages.{outages_of}
 use Rattle.obs_station.specs.Stations.{losses_of}
 use Rattle.obs_placement.specs.Placed.{Placed}
@@ -28,62 +21,28 @@ use Rattle.obs_network.specs.Observable.{case_rank}
 use Rattle.obs_edit.specs.Planned.{case_placement}
 use Rattle.obs_engine.specs.declared.status.Status.{Status}
 use Rattle.obs_engine.specs.declared.status.Status.TheVariants.{Done, Short, InputFault, SessionTooLong}
-use Rattle.obs_engine.specs.declared.words.CaseForm.{CaseForm}
-use Rattle.obs_engine.specs.declared.words.CaseForm.TheVariants.{Csv, Cdf, Matpower}
-use Rattle.obs_engine.specs.declared.words.CaseCommand.TheVariants.{Report, Place, Session, Verify, Study as StudyOf}
-use Rattle.obs_engine.specs.declared.words.Study.{Study}
-use Rattle.obs_engine.specs.declared.words.Study.TheVariants.{Outages, Pairs, Stations}
-use Rattle.obs_engine.specs.declared.words.Form.{Form}
-use Rattle.obs_engine.specs.declared.words.Form.TheVariants.{Topology, Case, Trial}
+use Rattle.obs_files.specs.declared.words.CaseCommand.TheVariants.{Report, Place, Session, Verify, Study as StudyOf}
+use Rattle.obs_files.specs.declared.words.Study.{Study}
+use Rattle.obs_files.specs.declared.words.Study.TheVariants.{Outages, Pairs, Stations}
+use Rattle.obs_files.specs.declared.words.Form.{Form}
+use Rattle.obs_files.specs.declared.words.Form.TheVariants.{Topology, Case, Trial}
 use Rattle.obs_engine.specs.Asks.{ask_reply, ask_status, placed_status, report_status}
 use Rattle.obs_engine.specs.Commands.{IsCaseReply, IsFilesReply}
-use Rattle.obs_engine.specs.Files.{candidates_in, case_in, case_in_files, case_of_tables, case_with_tables, certificate_in, first_too_long, parsed, unless_fault}
+use Rattle.obs_files.specs.Files.{case_in_files, certificate_in}
 use Rattle.obs_engine.specs.Ending.{answered_before, answered_in}
 use Rattle.obs_engine.specs.Forms.{CanEnd, TakesInput}
 use Rattle.obs_engine.specs.Lines.{lines_case}
 use Rattle.obs_engine.specs.Sessions.{most_input_bytes, session_reply}
 use Rattle.obs_engine.specs.Stated.{Told}
-use Rattle.obs_engine.specs.Replies.{IsRefused, IsReplyTo, Reply}
+use Rattle.obs_engine.specs.Replies.{IsRefused, IsReplyTo, Reply, fault_reply}
 use Rattle.obs_engine.specs.OutageReply.{are_met, outages_status}
 use Rattle.obs_engine.specs.StationReply.{are_borne, stations_status}
 use Rattle.obs_engine.specs.Studies.{study_reply}
 use Rattle.obs_engine.specs.Topology.{topology_reply}
 use Rattle.obs_engine.specs.Trials.{dips_of, trial_reply}
 use Rattle.obs_engine.specs.Verify.{checked_reply, claims_reply, verify_reply}
-use Rattle.obs_engine.specs.Words.{parts_of, words_of}
 use Rattle.obs_engine.proofs.Endings.{IsFailure}
 use Rattle.obs_engine.proofs.Turned.{dips_few}
-
--- files that are no case get a reply that says so
-abbrev pub RefusesInput : Result Tables Reply → Type 0
-RefusesInput (Ok t) = Unit {0}
-RefusesInput (Err reply) = reply.status ≡ InputFault
-
-tables-refuse : (r : Result Tables TableFault) → RefusesInput (case_of_tables r)
-tables-refuse (Ok t) = tt
-tables-refuse (Err fault) = refl
-
-with_tables-refuses : {E : Type 0} (said : E → Fault) (meters : List ℕ) (candidates : Option (List ℕ)) (r : Result Tables E) → RefusesInput (case_with_tables said meters candidates r)
-with_tables-refuses said meters candidates (Ok t) = tables-refuse (tables_after meters candidates t)
-with_tables-refuses said meters candidates (Err fault) = refl
-
-case-refuses : (from : CaseForm) (candidates : Option (List ℕ)) (file : ℕ → List ℕ) → RefusesInput (case_in from candidates file)
-case-refuses Csv candidates file = tables-refuse (tables_in (file 2) (file 3) (file 4) (file 5) candidates)
-case-refuses Cdf candidates file = with_tables-refuses cdf_fault (file 3) candidates (cdf_of (file 2))
-case-refuses Matpower candidates file = with_tables-refuses mat_fault (file 3) candidates (mat_of (file 2))
-
-parsed-refuses : (form : Form) (file : ℕ → List ℕ) → RefusesInput (parsed form file)
-unfolding parsed
-parsed-refuses Topology file = tables-refuse _
-parsed-refuses (Case command from) file = case-refuses from (candidates_in (Case command from) file) file
-parsed-refuses (Trial rows seed) file = tt
-
-unless-refuses : (fault : Option Fault) (next : Result Tables Reply) → RefusesInput next → RefusesInput (unless_fault fault next)
-unless-refuses None next h = h
-unless-refuses (Some fault) next h = refl
-
-pub files-refuse : (form : Form) (file : ℕ → List ℕ) → RefusesInput (case_in_files form file)
-files-refuse form file = unless-refuses (first_too_long (parts_of form) file (words_of form)) (parsed form file) (parsed-refuses form file)
 
 -- a status that the reply of a session can have
 abbrev pub CanReply : Status → Type 0
@@ -210,13 +169,13 @@ end_no_failure (Trial rows seed) status e = verdict_no_failure status e
 pub case_no_failure : (form : Form) (input certificate : List ℕ) (t : Tables) (reply : Reply) → IsCaseReply form input certificate t reply → IsFailure reply.status → ⊥
 case_no_failure form input certificate t reply is = end_no_failure form reply.status (case-can form input certificate t reply is)
 
-no_failure : (form : Form) (input certificate : List ℕ) (r : Result Tables Reply) (reply : Reply) → RefusesInput r → IsReplyTo (IsCaseReply form input certificate) r reply → IsFailure reply.status → ⊥
-no_failure form input certificate (Ok t) reply h is = case_no_failure form input certificate t reply is
-no_failure form input certificate (Err refused) reply h is = refused_no_failure reply.status (ap (λ (r : Reply). r.status) is ∙ h)
+no_failure : (form : Form) (input certificate : List ℕ) (r : Result Tables Fault) (reply : Reply) → IsReplyTo (IsCaseReply form input certificate) r reply → IsFailure reply.status → ⊥
+no_failure form input certificate (Ok t) reply is = case_no_failure form input certificate t reply is
+no_failure form input certificate (Err fault) reply is = refused_no_failure reply.status (ap (λ (r : Reply). r.status) is)
 
 -- a reply that is stated for a form says no failure
 pub stated_no_failure : (form : Form) (told : Told) (reply : Reply) → IsFilesReply form told.input told.file reply → IsFailure reply.status → ⊥
-stated_no_failure form told reply is = no_failure form told.input (certificate_in form told.file) (case_in_files form told.file) reply (files-refuse form told.file) is
+stated_no_failure form told reply is = no_failure form told.input (certificate_in form told.file) (case_in_files form told.file) reply is
 
 -- there is a reply to each case
 some_reply : (form : Form) (input certificate : List ℕ) (t : Tables) → (reply : Reply) × IsCaseReply form input certificate t reply
@@ -232,19 +191,19 @@ some_reply (Trial rows seed) input certificate t = (trial_reply rows seed t (dip
 pub stated_reply : (form : Form) (told : Told) → (reply : Reply) × IsFilesReply form told.input told.file reply
 stated_reply form told = to (case_in_files form told.file)
   where
-    to : (r : Result Tables Reply) → (reply : Reply) × IsReplyTo (IsCaseReply form told.input (certificate_in form told.file)) r reply
+    to : (r : Result Tables Fault) → (reply : Reply) × IsReplyTo (IsCaseReply form told.input (certificate_in form told.file)) r reply
     to (Ok t) = some_reply form told.input (certificate_in form told.file) t
-    to (Err refused) = (refused, refl)
+    to (Err fault) = (fault_reply fault, refl)
 
 -- where the files are no case, this is what they got
-pub refused_reply : (answers : Tables → Reply → Type 0) (r : Result Tables Reply) (reply : Reply) → IsReplyTo answers r reply → IsRefused r reply
+pub refused_reply : (answers : Tables → Reply → Type 0) (r : Result Tables Fault) (reply : Reply) → IsReplyTo answers r reply → IsRefused r reply
 refused_reply answers (Ok t) reply is = tt
-refused_reply answers (Err refused) reply is = is
+refused_reply answers (Err fault) reply is = is
 
 -- a session that took nothing has answered nothing
-nothing_in : (offered : Bool) (r : Result Tables Reply) (input : List ℕ) → answered_in offered r input (Some input) ≡ []
+nothing_in : (offered : Bool) (r : Result Tables Fault) (input : List ℕ) → answered_in offered r input (Some input) ≡ []
 nothing_in offered (Ok t) input = let none : length input - length input ≡ 0 = omega arith in rw none refl
-nothing_in offered (Err reply) input = refl
+nothing_in offered (Err fault) input = refl
 
 -- nothing is answered before the first byte of the input is taken
 pub nothing_before : (form : Form) (told : Told) (left : Option (List ℕ)) → (TakesInput (Some form) → left ≡ Some told.input) → answered_before (Some form) told left ≡ []

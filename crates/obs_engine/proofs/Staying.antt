@@ -16,7 +16,7 @@ use Rattle.obs_script.specs.declared.fault.LineFault.{LineFault}
 use Rattle.obs_script.specs.Commands.{Said, asks, closes, command_of, loses, opens, regains, restores, trips}
 use Rattle.obs_script.specs.Gathered.{is_comment}
 use Rattle.obs_script.proofs.LineLemmas.{ended_line}
-use Rattle.obs_text.specs.Faults.{fault_of}
+use Rattle.obs_text.specs.Faults.{Fault, fault_of}
 use Rattle.obs_text.specs.Lines.{lines_of}
 use Rattle.obs_edit.specs.declared.edit.Edit.{Edit}
 use Rattle.obs_edit.specs.declared.edit.Edit.TheVariants as edit
@@ -29,19 +29,20 @@ use Rattle.obs_edit.specs.Lines.{edit_at, meant_by, meant_of}
 use Rattle.obs_edit.specs.Sessions.{Session as Kept}
 use Rattle.obs_engine.specs.declared.status.Status.{Status}
 use Rattle.obs_engine.specs.declared.status.Status.TheVariants.{Done, Short, Usage, ReadFault, WriteFault, NoMemory}
-use Rattle.obs_engine.specs.declared.taken.CaseError.{CaseError}
-use Rattle.obs_engine.specs.declared.taken.CaseError.TheVariants.{Refused, Read, NoMemory as NoMemoryForIt}
-use Rattle.obs_engine.specs.declared.words.CaseCommand.TheVariants.{Report, Place, Session, Verify, Study as StudyOf}
-use Rattle.obs_engine.specs.declared.words.Form.{Form}
-use Rattle.obs_engine.specs.declared.words.Form.TheVariants.{Topology, Case, Trial}
+use Rattle.obs_files.specs.declared.taken.CaseError.{CaseError}
+use Rattle.obs_files.specs.declared.taken.CaseError.TheVariants.{Refused, Read, NoMemory as NoMemoryForIt}
+use Rattle.obs_files.specs.declared.words.CaseCommand.TheVariants.{Report, Place, Session, Verify, Study as StudyOf}
+use Rattle.obs_files.specs.declared.words.Form.{Form}
+use Rattle.obs_files.specs.declared.words.Form.TheVariants.{Topology, Case, Trial}
 use Rattle.obs_engine.specs.Asks.{report_status}
 use Rattle.obs_engine.specs.Commands.{IsCaseReply}
-use Rattle.obs_engine.specs.Files.{case_in_files, certificate_in}
+use Rattle.obs_files.specs.Files.{case_in_files, certificate_in}
 use Rattle.obs_engine.specs.Lines.{answer_to, case_after, line_case, line_text, lines_case, lines_text}
 use Rattle.obs_engine.specs.Replies.{EndsWith, IsRefused, IsReplyTo, Reply, fault_reply, usage_reply}
 use Rattle.obs_engine.specs.Sessions.{most_input_bytes, session_reply}
-use Rattle.obs_engine.specs.Stays.{AnswersAsRun, Begins, CanBeSaidAgain, IsBegun, IsContent, IsNotBegun, RefusesAsRun, as_one, input_of, line_replies, line_reply, offers}
-use Rattle.obs_engine.specs.Taken.{IsCaseError}
+use Rattle.obs_engine.specs.Stays.{AnswersAsRun, Begins, CanBeSaidAgain, IsBegun, IsContent, IsNotBegun, RefusesAsRun, as_one, input_of, line_replies, line_reply}
+use Rattle.obs_files.specs.Words.{offers}
+use Rattle.obs_files.specs.Taken.{IsCaseError}
 use Rattle.obs_engine.proofs.Folding.{is_whole}
 use Rattle.obs_engine.proofs.Lined.{passed_case, said_case, said_text}
 use Rattle.obs_engine.proofs.Replied.{report_status-is}
@@ -65,13 +66,13 @@ begins-other form x file status a b is none ends = subst (λ (f : Option Form). 
 -- files from which nothing was taken
 pub begins-refused : (form : Option Form) (x : Form) (file : ℕ → List ℕ) (offered : Bool) (why : CaseError) (status : Status) (a b : Option (List ℕ))
     → Some x ≡ form → Some offered ≡ offers (Some x) → IsCaseError (case_in_files x file) why
-    → ((stated : Result Tables Reply) (reply : Reply) → IsCaseError stated why → IsRefused stated reply → EndsWith reply status a b)
+    → ((stated : Result Tables Fault) (reply : Reply) → IsCaseError stated why → IsRefused stated reply → EndsWith reply status a b)
     → (why ≡ Read → status ≡ ReadFault) → (status ≡ ReadFault → b ≡ a) → (why ≡ NoMemoryForIt → status ≡ NoMemory) → (status ≡ NoMemory → b ≡ a)
     → Begins form file (Err status) a b
 begins-refused form x file offered (Refused fault) status a b is some stated ends read unread starved memory =
     subst (λ (f : Option Form). Begins f file (Err status) a b) is
     (let reply = fault_reply (fault_of fault) in
-    inl (reply, inr (offered, sym some, stated), ends (case_in_files x file) reply stated (subst (λ (r : Result Tables Reply). IsRefused r reply) (sym stated) refl)))
+    inl (reply, inr (offered, fault_of fault, sym some, stated, refl), ends (case_in_files x file) reply stated (subst (λ (r : Result Tables Fault). IsRefused r reply) (sym stated) refl)))
 begins-refused form x file offered Read status a b is some stated ends read unread starved memory = inr (inl (read refl), unread (read refl))
 begins-refused form x file offered NoMemoryForIt status a b is some stated ends read unread starved memory = inr (inr (starved refl), memory (starved refl))
 
@@ -82,17 +83,17 @@ usage_of_words form file reply is not = subst (λ (f : Option Form). IsNotBegun 
 pub usage_of_others : (form : Option Form) (x : Form) (file : ℕ → List ℕ) (reply : Reply) → Some x ≡ form → None ≡ offers (Some x) → IsNotBegun form file reply → reply ≡ usage_reply
 usage_of_others form x file reply is none not = by (offers (Some x)) none (subst (λ (f : Option Form). IsNotBegun f file reply) (sym is) not)
   where
-    by : (o : Option Bool) → None ≡ o → ((o ≡ None) × (reply ≡ usage_reply)) ⊎ ((offered : Bool) × (o ≡ Some offered) × (case_in_files x file ≡ Err reply)) → reply ≡ usage_reply
+    by : (o : Option Bool) → None ≡ o → ((o ≡ None) × (reply ≡ usage_reply)) ⊎ ((offered : Bool) × (fault : Fault) × (o ≡ Some offered) × (case_in_files x file ≡ Err fault) × (reply ≡ fault_reply fault)) → reply ≡ usage_reply
     by o none (inl (e, same)) = same
-    by o none (inr (offered, e, case)) = absurd cc
+    by o none (inr (offered, fault, e, case, is)) = absurd cc
 
 pub refused_by_files : (form : Option Form) (x : Form) (file : ℕ → List ℕ) (offered : Bool) (reply : Reply) → Some x ≡ form → Some offered ≡ offers (Some x) → IsNotBegun form file reply
     → IsRefused (case_in_files x file) reply
 refused_by_files form x file offered reply is some not = by (offers (Some x)) some (subst (λ (f : Option Form). IsNotBegun f file reply) (sym is) not)
   where
-    by : (o : Option Bool) → Some offered ≡ o → ((o ≡ None) × (reply ≡ usage_reply)) ⊎ ((offered : Bool) × (o ≡ Some offered) × (case_in_files x file ≡ Err reply)) → IsRefused (case_in_files x file) reply
+    by : (o : Option Bool) → Some offered ≡ o → ((o ≡ None) × (reply ≡ usage_reply)) ⊎ ((offered : Bool) × (fault : Fault) × (o ≡ Some offered) × (case_in_files x file ≡ Err fault) × (reply ≡ fault_reply fault)) → IsRefused (case_in_files x file) reply
     by o some (inl (e, same)) = absurd cc
-    by o some (inr (p, e, case)) = subst (λ (r : Result Tables Reply). IsRefused r reply) (sym case) refl
+    by o some (inr (p, fault, e, case, same)) = subst (λ (r : Result Tables Fault). IsRefused r reply) (sym case) same
 
 -- a refusal of words isn't one for want of memory, nor a read that failed
 pub usage_no_memory : (status : Status) → (status ≡ Usage) ⊎ (status ≡ WriteFault) → status ≡ NoMemory → ⊥
@@ -167,7 +168,7 @@ AnswersAsRun-holds (Some (Case (Session offered) from)) file o t lines (e, case)
     let form = Case (Session offered) from in
     let reply = as_one (report_status t) (line_replies o t lines) in
     let same : offered ≡ o = cc e in
-    subst (λ (r : Result Tables Reply). IsReplyTo (IsCaseReply form (input_of lines) (certificate_in form file)) r reply) (sym case)
+    subst (λ (r : Result Tables Fault). IsReplyTo (IsCaseReply form (input_of lines) (certificate_in form file)) r reply) (sym case)
     (whole-of_lines o t lines all short ∙ ap (λ (x : Bool). session_reply x t (input_of lines)) (sym same))
 
 pub RefusesAsRun-holds : RefusesAsRun
@@ -177,8 +178,8 @@ RefusesAsRun-holds (Some form) file input reply (inr (o, e)) (inl (none, is)) = 
   where
     clash : (x : Option Bool) → x ≡ None → x ≡ Some o → ⊥
     clash x a b = absurd cc
-RefusesAsRun-holds (Some form) file input reply (inr (o, e)) (inr (p, f, case)) =
-    subst (λ (r : Result Tables Reply). IsReplyTo (IsCaseReply form input (certificate_in form file)) r reply) (sym case) refl
+RefusesAsRun-holds (Some form) file input reply (inr (o, e)) (inr (p, fault, f, case, is)) =
+    subst (λ (r : Result Tables Fault). IsReplyTo (IsCaseReply form input (certificate_in form file)) r reply) (sym case) is
 
 -- a row that is changed keeps its name, and may be changed again
 module _ {A : Type 0} (change : A → A) where

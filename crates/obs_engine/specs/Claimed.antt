@@ -12,15 +12,15 @@ use Rattle.obs_script.specs.declared.command.Ask.TheVariants.{Tree, Bound, Place
 use Rattle.obs_edit.specs.Answers.{component_rank}
 use Rattle.obs_edit.specs.Planned.{case_placed_pairs, case_placement}
 use Rattle.obs_claimed.specs.Claimed.{component_bound, component_tree, placement_claim}
-use Rattle.obs_engine.specs.declared.words.CaseForm.{CaseForm}
-use Rattle.obs_engine.specs.declared.words.CaseCommand.TheVariants.{Session, Verify}
-use Rattle.obs_engine.specs.declared.words.Form.TheVariants.{Case}
+use Rattle.obs_files.specs.declared.words.CaseForm.{CaseForm}
+use Rattle.obs_files.specs.declared.words.CaseCommand.TheVariants.{Session, Verify}
+use Rattle.obs_files.specs.declared.words.Form.TheVariants.{Case}
 use Rattle.obs_engine.specs.Asks.{ask_text}
 use Rattle.obs_engine.specs.Commands.{IsFilesReply}
-use Rattle.obs_engine.specs.Files.{case_in_files}
+use Rattle.obs_files.specs.Files.{case_in_files}
 use Rattle.obs_engine.specs.Replies.{Reply}
 use Rattle.obs_engine.specs.Verify.{AllHold, valid_reply, verify_reply}
-use Rattle.obs_engine.specs.Words.{certificate_at}
+use Rattle.obs_files.specs.Words.{certificate_at}
 
 -- a claim where a test is met, else none
 abbrev pub claim_if : Bool → Claim → List Claim

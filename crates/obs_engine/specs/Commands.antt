@@ -2,11 +2,11 @@
 use Rattle.std.specs.Prelude.{ℕ, ◌≡◌, List}
 use Rattle.obs_case.specs.Tables.{Tables}
 use Rattle.obs_script.specs.declared.command.Ask.TheVariants.{Report as ReportAsk, Place as PlaceAsk}
-use Rattle.obs_engine.specs.declared.words.CaseCommand.TheVariants.{Report, Place, Session, Verify, Study}
-use Rattle.obs_engine.specs.declared.words.Form.{Form}
-use Rattle.obs_engine.specs.declared.words.Form.TheVariants.{Topology, Case, Trial}
+use Rattle.obs_files.specs.declared.words.CaseCommand.TheVariants.{Report, Place, Session, Verify, Study}
+use Rattle.obs_files.specs.declared.words.Form.{Form}
+use Rattle.obs_files.specs.declared.words.Form.TheVariants.{Topology, Case, Trial}
 use Rattle.obs_engine.specs.Asks.{ask_reply}
-use Rattle.obs_engine.specs.Files.{case_in_files, certificate_in}
+use Rattle.obs_files.specs.Files.{case_in_files, certificate_in}
 use Rattle.obs_engine.specs.Replies.{IsReplyTo, Reply}
 use Rattle.obs_engine.specs.Sessions.{session_reply}
 use Rattle.obs_engine.specs.Studies.{study_reply}

@@ -2,20 +2,21 @@
 use Rattle.std.specs.Prelude.{ℕ, ◌≡◌, ◌+◌, Bool, List, [], length, Option, Some, Result, Ok, Err}
 use Rattle.obs_case.specs.Tables.{Tables}
 use Rattle.obs_io.specs.Bytes.{Wrote, WrotePart}
+use Rattle.obs_text.specs.Faults.{Fault}
 use Rattle.obs_engine.specs.declared.status.Status.{Status}
 use Rattle.obs_engine.specs.declared.status.Status.TheVariants.{Done, Short, Usage, InputFault, ReadFault, WriteFault, NoMemory, SessionTooLong}
-use Rattle.obs_engine.specs.declared.words.CaseCommand.TheVariants.{Session}
-use Rattle.obs_engine.specs.declared.words.Form.{Form}
-use Rattle.obs_engine.specs.declared.words.Form.TheVariants.{Case}
-use Rattle.obs_engine.specs.Files.{case_in_files}
+use Rattle.obs_files.specs.declared.words.CaseCommand.TheVariants.{Session}
+use Rattle.obs_files.specs.declared.words.Form.{Form}
+use Rattle.obs_files.specs.declared.words.Form.TheVariants.{Case}
+use Rattle.obs_files.specs.Files.{case_in_files}
 use Rattle.obs_engine.specs.Replies.{Reply}
 use Rattle.obs_engine.specs.Sessions.{answered_within}
 use Rattle.obs_engine.specs.Stated.{Told, IsStated}
 
 -- what a session had answered where these bytes of its input were left: the lines that had ended, for the case that its files are
-abbrev pub answered_in : Bool → Result Tables Reply → List ℕ → Option (List ℕ) → List ℕ
+abbrev pub answered_in : Bool → Result Tables Fault → List ℕ → Option (List ℕ) → List ℕ
 answered_in offered (Ok t) input left = answered_within offered t input left
-answered_in offered (Err reply) input left = []
+answered_in offered (Err fault) input left = []
 
 -- what had been answered when a read failed and these bytes of the input were left: nothing, but for forms that take the input
 abbrev pub answered_before : Option Form → Told → Option (List ℕ) → List ℕ

@@ -1,5 +1,5 @@
 -- The laws that need a name.
-use Rattle.std.specs.Prelude.{◌≡◌, ◌≢◌, ◌≤◌, ◌<◌, ◌↔◌, ℕ, Bool, true, false, List, Some, Ok, Err, [], ◌∷◌, ◌++◌, codes, length, slice_index}
+use Rattle.std.specs.Prelude.{◌≡◌, ◌≢◌, ◌<◌, ◌↔◌, ℕ, Bool, true, false, List, Ok, Err, [], ◌∷◌, ◌++◌, codes, length, slice_index}
 use Rattle.obs_case.specs.Tables.{IsValid, Tables}
 use Rattle.obs_matroid.specs.Assignments.{Pair}
 use Rattle.obs_matroid.specs.Lists.{In, without}
@@ -7,20 +7,15 @@ use Rattle.obs_meter.specs.Assignments.{IsAssignmentAt}
 use Rattle.obs_exchange.specs.Critical.{IsCriticalAt}
 use Rattle.obs_network.specs.Network.{case_branches, case_meters}
 use Rattle.obs_network.specs.Observable.{IsObservableCase, case_live_meters, case_rank, item_component, rank_of_meters}
-use Rattle.obs_engine.specs.declared.words.CaseForm.{CaseForm}
-use Rattle.obs_engine.specs.declared.words.CaseCommand.TheVariants.{Report}
-use Rattle.obs_engine.specs.declared.words.Form.{Form}
-use Rattle.obs_engine.specs.declared.words.Form.TheVariants.{Topology, Case, Trial}
-use Rattle.obs_engine.specs.Files.{case_in_files}
-use Rattle.obs_engine.specs.Forms.{HasRows}
-use Rattle.obs_engine.specs.Replies.{Reply, usage_reply}
-use Rattle.obs_engine.specs.Words.{case_parts, case_word, command_word, has_with, item_if, parts_behind, usage_of}
+use Rattle.obs_files.specs.declared.words.CaseForm.{CaseForm}
+use Rattle.obs_files.specs.declared.words.CaseCommand.TheVariants.{Report}
+use Rattle.obs_files.specs.declared.words.Form.TheVariants.{Case}
+use Rattle.obs_engine.specs.Replies.{Reply}
 use Rattle.obs_network.specs.Network.{case_needed}
 use Rattle.obs_report.specs.Lines.{ok_line, refused_line}
 use Rattle.obs_script.specs.declared.command.Ask.{Ask}
 use Rattle.obs_script.specs.Gathered.{content_of, is_comment}
 use Rattle.obs_text.specs.Lines.{lines_of}
-use Rattle.obs_text.specs.Numbers.{whole_of}
 use Rattle.obs_edit.specs.declared.edit.Edit.{Edit}
 use Rattle.obs_edit.specs.declared.edit.Meant.TheVariants.{Edits, Asks}
 use Rattle.obs_edit.specs.declared.edit.Refusal.{Refusal}
@@ -40,24 +35,6 @@ ListsNonCritical =
     (t : Tables) → IsValid t → (c m : ℕ) →
     In m (bound_meters t c)
     ↔ (In m (case_live_meters t) × (item_component t (case_meters t) m ≡ c) × (IsCriticalAt (case_branches t) (case_meters t) (case_live_meters t) m → ⊥))
-
--- the case that the files of a form are is valid: what the other laws ask of a case. A trial has no files, but its rows
-abbrev pub CasesAreValid : Type 0
-CasesAreValid = (form : Form) (file : ℕ → List ℕ) (t : Tables) → HasRows form → case_in_files form file ≡ Ok t → IsValid t
-
--- the words have this form: a command's word, where it takes a case the word of the case's form, and then a word for each file, with
--- the word `with` before candidates where the command has it; of a trial two numbers
-abbrev pub IsFormOf : Form → List (List ℕ) → Type 0
-IsFormOf Topology words = (n : List ℕ) × (s : List ℕ) × (words ≡ codes "topology" ∷ n ∷ s ∷ [])
-IsFormOf (Case command from) words =
-    (files behind : List (List ℕ)) × (length files ≡ length (case_parts from)) × (length behind ≡ length (parts_behind (Case command from)))
-    × (words ≡ command_word (Case command from) ∷ case_word from ∷ (files ++ (item_if (has_with (Case command from)) (codes "with") ++ behind)))
-IsFormOf (Trial rows seed) words =
-    (n s : List ℕ) × (words ≡ codes "trial" ∷ n ∷ s ∷ []) × (whole_of n ≡ Some rows) × (1 ≤ rows) × (rows ≤ 100) × (whole_of s ≡ Some seed)
-
--- the usage line names a form: what it says of the form stands in it, behind a space
-abbrev pub IsInUsage : Form → Type 0
-IsInUsage form = (before behind : List ℕ) × (usage_reply.text ≡ before ++ (codes " " ++ (usage_of form ++ behind)))
 
 -- of a session's lines an edit alone changes the present case: it sets its flag
 pub record EditsAloneChange (offered : Bool) (t : Tables) (line : List ℕ) : Type 0 where

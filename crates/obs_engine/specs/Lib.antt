@@ -3,7 +3,6 @@ pub mod Claimed
 pub mod Codes
 pub mod Commands
 pub mod Ending
-pub mod Files
 pub mod Forms
 pub mod Laws
 pub mod Lines
@@ -16,10 +15,8 @@ pub mod Stated
 pub mod StationReply
 pub mod Stays
 pub mod Studies
-pub mod Taken
 pub mod Tasks
 pub mod Topology
 pub mod Trials
 pub mod Turns
 pub mod Verify
-pub mod Words

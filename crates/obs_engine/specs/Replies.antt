@@ -1,10 +1,11 @@
 -- A status with its text, the texts on words and files that are refused, and how a command ends that has such a reply.
-use Rattle.std.specs.Prelude.{ℕ, ◌≡◌, ◌+◌, ◌⊎◌, List, codes, length, Option, Result, Ok, Err}
+use Rattle.std.specs.Prelude.{ℕ, ◌≡◌, ◌+◌, ◌⊎◌, List, length, Option, Result, Ok, Err}
 use Rattle.obs_io.specs.Bytes.{Wrote, WrotePart}
 use Rattle.obs_io.specs.Causes.{Rose}
 use Rattle.obs_report.specs.Lines.{fault_line}
 use Rattle.obs_case.specs.Tables.{Tables}
 use Rattle.obs_text.specs.Faults.{Fault}
+use Rattle.obs_files.specs.Words.{usage_text}
 use Rattle.obs_engine.specs.declared.status.Status.{Status}
 use Rattle.obs_engine.specs.declared.status.Status.TheVariants.{Usage, InputFault, ReadFault, WriteFault, NoMemory}
 
@@ -15,24 +16,21 @@ pub record Reply : Type 0 where
 
 -- the reply to words that have no form
 abbrev pub usage_reply : Reply
-usage_reply = record {
-  status = Usage;
-  text = codes "usage: obs topology N S | report FORM | place FORM CAND | session FORM | verify FORM CERT | trial N SEED | outages FORM | pairs FORM | stations FORM\n";
-}
+usage_reply = record { status = Usage; text = usage_text }
 
 -- the reply to input that has this fault
 abbrev pub fault_reply : Fault → Reply
 fault_reply fault = record { status = InputFault; text = fault_line fault.part fault.place fault.code fault.name }
 
--- the reply to a case, or the one that its files got
-abbrev pub IsReplyTo : (Tables → Reply → Type 0) → Result Tables Reply → Reply → Type 0
+-- the reply to the case that files are, or to the fault for which they are none
+abbrev pub IsReplyTo : (Tables → Reply → Type 0) → Result Tables Fault → Reply → Type 0
 IsReplyTo answers (Ok t) reply = answers t reply
-IsReplyTo answers (Err refused) reply = reply ≡ refused
+IsReplyTo answers (Err fault) reply = reply ≡ fault_reply fault
 
 -- the reply to files that are no case
-abbrev pub IsRefused : Result Tables Reply → Reply → Type 0
+abbrev pub IsRefused : Result Tables Fault → Reply → Type 0
 IsRefused (Ok t) reply = Unit {0}
-IsRefused (Err refused) reply = reply ≡ refused
+IsRefused (Err fault) reply = reply ≡ fault_reply fault
 
 -- how a command ends that has this reply: with all of it, or behind a front of its text, or with nothing written
 abbrev pub EndsWith : Reply → Status → Option (List ℕ) → Option (List ℕ) → Type 0

@@ -4,10 +4,11 @@ use Rattle.obs_case.specs.Tables.{Tables}
 use Rattle.obs_io.specs.Causes.{Rose}
 use Rattle.obs_engine.specs.declared.status.Status.{Status}
 use Rattle.obs_engine.specs.declared.status.Status.TheVariants.{ReadFault, WriteFault, NoMemory}
-use Rattle.obs_engine.specs.declared.words.Form.{Form}
+use Rattle.obs_files.specs.declared.words.Form.{Form}
 use Rattle.obs_engine.specs.Ending.{Answers, Ends, HasRoom}
-use Rattle.obs_engine.specs.Files.{case_in_files, certificate_in}
-use Rattle.obs_engine.specs.Forms.{AnyReadFailed, CanAnswer, IsFileWord, TakesInput}
+use Rattle.obs_files.specs.Files.{case_in_files, certificate_in}
+use Rattle.obs_engine.specs.Forms.{AnyReadFailed, CanAnswer, TakesInput}
+use Rattle.obs_files.specs.Outside.{IsFileWord}
 use Rattle.obs_engine.specs.Sessions.{IsTakenFront}
 use Rattle.obs_engine.specs.Stated.{Told, Tells}
 

@@ -1,8 +1,9 @@
 -- What the program is to answer, stated over the words and what the outside tells: the contents of the files, and the input.
 use Rattle.std.specs.Prelude.{ℕ, ◌≡◌, List, Option, None, Some}
-use Rattle.obs_engine.specs.declared.words.Form.{Form}
+use Rattle.obs_files.specs.declared.words.Form.{Form}
 use Rattle.obs_engine.specs.Commands.{IsFilesReply}
-use Rattle.obs_engine.specs.Forms.{AreFiles, TakesInput}
+use Rattle.obs_files.specs.Outside.{AreFiles}
+use Rattle.obs_engine.specs.Forms.{TakesInput}
 use Rattle.obs_engine.specs.Replies.{Reply, usage_reply}
 
 -- the content of the file of each word, by the word's position, and the bytes of the input

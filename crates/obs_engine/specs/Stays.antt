@@ -3,24 +3,19 @@ use Rattle.std.specs.Prelude.{ℕ, ◌≡◌, ◌≤◌, ◌⊎◌, All, Bool, L
 use Rattle.obs_case.specs.Tables.{Tables}
 use Rattle.obs_report.specs.Lines.{line_feed}
 use Rattle.obs_script.specs.Gathered.{content_of}
+use Rattle.obs_text.specs.Faults.{Fault}
 use Rattle.obs_text.specs.Laws.{HasNoFeed}
 use Rattle.obs_edit.specs.Sessions.{Session as Kept}
 use Rattle.obs_engine.specs.declared.status.Status.{Status}
 use Rattle.obs_engine.specs.declared.status.Status.TheVariants.{ReadFault, NoMemory}
-use Rattle.obs_engine.specs.declared.words.CaseCommand.TheVariants.{Session}
-use Rattle.obs_engine.specs.declared.words.Form.{Form}
-use Rattle.obs_engine.specs.declared.words.Form.TheVariants.{Case}
+use Rattle.obs_files.specs.declared.words.Form.{Form}
 use Rattle.obs_engine.specs.Asks.{report_status}
-use Rattle.obs_engine.specs.Files.{case_in_files}
+use Rattle.obs_files.specs.Files.{case_in_files}
+use Rattle.obs_files.specs.Words.{offers}
 use Rattle.obs_engine.specs.Lines.{line_case, line_text}
-use Rattle.obs_engine.specs.Replies.{EndsWith, Reply, usage_reply}
+use Rattle.obs_engine.specs.Replies.{EndsWith, Reply, fault_reply, usage_reply}
 use Rattle.obs_engine.specs.Sessions.{most_input_bytes}
 use Rattle.obs_engine.specs.Stated.{IsStated}
-
--- whether words of a form are a session's, and then whether with candidates
-abbrev pub offers : Option Form → Option Bool
-offers (Some (Case (Session offered) from)) = Some offered
-offers form = None
 
 -- the words are a session's, with candidates or without, and this is the case that its files are
 abbrev pub IsBegun : Option Form → (ℕ → List ℕ) → Bool → Tables → Type 0
@@ -31,7 +26,7 @@ IsBegun None file offered t = ⊥
 abbrev pub IsNotBegun : Option Form → (ℕ → List ℕ) → Reply → Type 0
 IsNotBegun (Some form) file reply =
     ((offers (Some form) ≡ None) × (reply ≡ usage_reply))
-    ⊎ ((offered : Bool) × (offers (Some form) ≡ Some offered) × (case_in_files form file ≡ Err reply))
+    ⊎ ((offered : Bool) × (fault : Fault) × (offers (Some form) ≡ Some offered) × (case_in_files form file ≡ Err fault) × (reply ≡ fault_reply fault))
 IsNotBegun None file reply = reply ≡ usage_reply
 
 -- how beginning a session ends: it has begun; or it gets the reply that is stated where none begins; or a file couldn't be read or

@@ -1,7 +1,7 @@
 -- What each study of a case answers.
 use Rattle.obs_case.specs.Tables.{Tables}
-use Rattle.obs_engine.specs.declared.words.Study.{Study}
-use Rattle.obs_engine.specs.declared.words.Study.TheVariants.{Outages, Pairs, Stations}
+use Rattle.obs_files.specs.declared.words.Study.{Study}
+use Rattle.obs_files.specs.declared.words.Study.TheVariants.{Outages, Pairs, Stations}
 use Rattle.obs_engine.specs.OutageReply.{outages_reply}
 use Rattle.obs_engine.specs.PairReply.{pairs_reply}
 use Rattle.obs_engine.specs.Replies.{Reply}

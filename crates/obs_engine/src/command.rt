@@ -1,19 +1,19 @@
 // Commands: their files are taken and refused, or the case that they are is answered.
 ghost use Rattle.std.specs.Prelude.{◌≡◌, ◌≤◌, ℕ, Some, length};
 ghost use Rattle.obs_text.specs.Limits.{most_file_bytes};
-ghost use Rattle.obs_engine.specs.Forms.{HasRows, TakesInput};
+ghost use Rattle.obs_files.specs.Words.{HasRows};
+ghost use Rattle.obs_engine.specs.Forms.{TakesInput};
 ghost use Rattle.obs_engine.specs.Trials.{AreInService};
 ghost use Rattle.obs_engine.specs.Runs.{IsAnswered, IsRun};
 
-use crate::cases::take_case;
 use crate::refused::refuse_files;
 use crate::status::Status;
 use crate::studies::answer_study;
 use crate::tasks::{Task, begin_task};
 use crate::topology::answer_topology;
 use crate::verify::answer_verify;
-use crate::words::{CaseCommand, Form};
 use obs_case::Case;
+use obs_files::{CaseCommand, Form, take_case};
 use obs_io::{Files, Sink, Source};
 use obs_script::Ask;
 use std::alloc::Global;

@@ -1,5 +1,6 @@
-// The laws of what is stated: of cases, words, and the lines of a report.
-ghost use Rattle.std.specs.Prelude.{◌≡◌, ◌↔◌, ◌+◌, ◌<◌, ◌≤◌, ◌==◌, ℕ, Bool, true, List, length, filter, Some, Ok, codes};
+// The laws of what is stated: of cases and the lines of a report. Those of words, and of the cases that files are, are
+// of obs_files.
+ghost use Rattle.std.specs.Prelude.{◌≡◌, ◌↔◌, ◌+◌, ◌<◌, ◌≤◌, ◌==◌, ℕ, Bool, true, List, length, filter, Ok, codes};
 ghost use Rattle.obs_case.specs.Tables.{IsValid, Tables};
 ghost use Rattle.obs_matroid.specs.Lists.{In};
 ghost use Rattle.obs_matroid.specs.Assignments.{Pair};
@@ -11,12 +12,9 @@ ghost use Rattle.obs_cert.specs.Claims.{Claim};
 ghost use Rattle.obs_cert.specs.Read.{claims_of};
 ghost use Rattle.obs_engine.specs.Verify.{AllHold, verify_reply};
 ghost use Rattle.obs_engine.specs.declared.status.Status.TheVariants.{Done, Short};
-ghost use Rattle.obs_engine.specs.declared.words.Form.{Form};
-ghost use Rattle.obs_engine.specs.Forms.{HasRows};
 ghost use Rattle.obs_engine.specs.Lines.{lines_case};
 ghost use Rattle.obs_edit.specs.declared.edit.Edit.{Edit};
 ghost use Rattle.obs_edit.specs.Edits.{edited};
-ghost use Rattle.obs_engine.specs.Words.{form_of};
 ghost use Rattle.obs_report.specs.Counts.{verdict_word};
 ghost use Rattle.obs_engine.specs.Asks.{report_status};
 ghost use Rattle.obs_engine.specs.Stays.{AnswersAsRun, CanBeSaidAgain, RefusesAsRun};
@@ -24,15 +22,10 @@ ghost use Rattle.obs_engine.specs.OutageReply.{outages_status};
 ghost use Rattle.obs_engine.specs.StationReply.{stations_status};
 ghost use Rattle.obs_engine.specs.Trials.{dip_meters, dips_of};
 ghost use Rattle.obs_engine.specs.Claimed.{AnswersAreVerified, AnswersFit, AnswersHold};
-ghost use Rattle.obs_engine.specs.Laws.{BearsLosses, BearsOutages, CasesAreValid, EditsAloneChange, EndedOrLast, IsAnswerTo, IsFormOf, IsInUsage, ListsNonCritical, OrderIsForgotten, PairsFailTogether, ReportsAsTheCommand};
+ghost use Rattle.obs_engine.specs.Laws.{BearsLosses, BearsOutages, EditsAloneChange, EndedOrLast, IsAnswerTo, ListsNonCritical, OrderIsForgotten, PairsFailTogether, ReportsAsTheCommand};
 ghost use Rattle.obs_edit.specs.Answers.{bound_outside, bound_rank, case_critical_meters, component_meters, short_components};
 
-/// Every case that files are is valid. The other laws ask this of a case.
-/// Words that are a trial's give it from 1 to 100 rows.
-pub fn cases_are_valid()
-    ensures valid { CasesAreValid }
-    ensures rows { (words : List (List ℕ)) (form : Form) → form_of words ≡ Some form → HasRows form }
-{}
+pub use obs_files::laws::{cases_are_valid, forms_of_words};
 
 /// A valid case stays valid over edits. So the present case of a session is valid after any of its lines, and the other
 /// laws hold of it.
@@ -113,14 +106,6 @@ pub fn bounds_list_the_meters_that_are_not_critical()
 pub fn critical_lines_are_exact()
     ensures exactly { (t : Tables) → IsValid t → (m : ℕ) →
         In m (case_critical_meters t) ↔ IsCriticalAt (case_branches t) (case_meters t) (case_live_meters t) m }
-{}
-
-/// The words have a form exactly where they are those of a command,
-/// each in its place, with a word for each of its files.
-/// The usage line names each form.
-pub fn forms_of_words()
-    ensures exactly { (words : List (List ℕ)) (form : Form) → (form_of words ≡ Some form) ↔ IsFormOf form words }
-    ensures usage { (form : Form) → IsInUsage form }
 {}
 
 /// Of a session's lines an edit alone changes the present case, and sets one flag. An ask, a refused line and one that

@@ -8,7 +8,6 @@ mod asks;
 mod blocks;
 #[cfg(test)]
 mod caller_tests;
-mod cases;
 #[cfg(test)]
 mod cdf_tests;
 #[cfg(test)]
@@ -19,7 +18,6 @@ mod command;
 mod edit_tests;
 #[cfg(test)]
 mod failure_tests;
-mod files;
 #[cfg(test)]
 mod full_tests;
 #[cfg(test)]
@@ -62,7 +60,6 @@ mod stays_tests;
 mod studies;
 #[cfg(test)]
 mod study_tests;
-mod taken;
 mod tasks;
 #[cfg(test)]
 mod tests;
@@ -77,7 +74,6 @@ mod verdicts;
 mod verify;
 #[cfg(test)]
 mod verify_tests;
-mod words;
 #[cfg(test)]
 mod worked;
 

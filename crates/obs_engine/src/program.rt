@@ -2,15 +2,16 @@
 ghost use Rattle.std.specs.Prelude.{◌≡◌, ◌≢◌, ◌⊎◌, ℕ, List, Some, map, string_bytes};
 ghost use Rattle.obs_io.specs.Causes.{Rose};
 ghost use Rattle.obs_engine.specs.Ending.{Answers, Ends, HasRoom};
-ghost use Rattle.obs_engine.specs.Forms.{AnyReadFailed, CanAnswer, IsFileWord, TakesInput};
+ghost use Rattle.obs_engine.specs.Forms.{AnyReadFailed, CanAnswer, TakesInput};
+ghost use Rattle.obs_files.specs.Outside.{IsFileWord};
 ghost use Rattle.obs_engine.specs.Sessions.{IsTakenFront};
 ghost use Rattle.obs_engine.specs.Stated.{Told, Tells};
-ghost use Rattle.obs_engine.specs.Words.{form_of};
+ghost use Rattle.obs_files.specs.Words.{form_of};
 
 use crate::command::command;
 use crate::refused::refuse_words;
 use crate::status::Status;
-use crate::words::form_of_words;
+use obs_files::form_of_words;
 use obs_io::{Files, Sink, Source};
 use std::alloc::Global;
 

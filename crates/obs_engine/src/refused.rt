@@ -2,12 +2,12 @@
 ghost use Rattle.std.specs.Prelude.{◌≡◌, ◌≢◌, ◌+◌, ◌⊎◌, ℕ, length, Result};
 ghost use Rattle.obs_case.specs.Tables.{Tables};
 ghost use Rattle.obs_io.specs.Causes.{Rose};
-ghost use Rattle.obs_text.specs.Faults.{fault_of};
+ghost use Rattle.obs_text.specs.Faults.{Fault, fault_of};
 ghost use Rattle.obs_engine.specs.Replies.{EndsWith, IsRefused, IsReplied, Reply, fault_reply, usage_reply};
-ghost use Rattle.obs_engine.specs.Taken.{IsCaseError};
+ghost use Rattle.obs_files.specs.Taken.{IsCaseError};
 
 use crate::status::Status;
-use crate::taken::CaseError;
+use obs_files::CaseError;
 use obs_io::{Failed, Sink, write_all};
 use obs_report::print_fault;
 use obs_text::InputFault;
@@ -42,7 +42,7 @@ pub(crate) fn refuse<W: Sink>(output: &mut W, fault: InputFault) -> Status
 
 /// Answers files from which nothing was taken. After a failed read, and for want of memory, nothing is written.
 pub(crate) fn refuse_files<W: Sink>(output: &mut W, why: CaseError) -> Status
-    ensures ends { (stated : Result Tables Reply) (reply : Reply) → IsCaseError stated why → IsRefused stated reply
+    ensures ends { (stated : Result Tables Fault) (reply : Reply) → IsCaseError stated why → IsRefused stated reply
         → EndsWith reply result (W.written output.old) (W.written output.new) }
     ensures statuses { (result ≡ Status.InputFault) ⊎ (result ≡ Status.ReadFault)
         ⊎ (result ≡ Status.WriteFault) ⊎ (result ≡ Status.NoMemory) }
@@ -53,7 +53,7 @@ pub(crate) fn refuse_files<W: Sink>(output: &mut W, why: CaseError) -> Status
     ensures quiet { result ≢ Status.WriteFault → W.faults output.new ≡ W.faults output.old }
     ensures memory { result ≡ Status.NoMemory → W.written output.new ≡ W.written output.old }
     ensures unread { result ≡ Status.ReadFault → W.written output.new ≡ W.written output.old }
-    ensures room { (stated : Result Tables Reply) (reply : Reply) (rest : ℕ)
+    ensures room { (stated : Result Tables Fault) (reply : Reply) (rest : ℕ)
         → IsCaseError stated why → IsRefused stated reply
         → W.has_room output.old (length reply.text + rest) → result ≢ Status.WriteFault }
 {

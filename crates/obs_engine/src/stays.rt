@@ -1,24 +1,23 @@
 // A session that stays between calls.
-ghost use Rattle.std.specs.Prelude.{◌≡◌, ◌≢◌, ◌<◌, ◌+◌, ◌⊎◌, ℕ, List, IfErr, IfOk, IsErrOf, length, map, string_bytes};
+ghost use Rattle.std.specs.Prelude.{◌≡◌, ◌<◌, ◌+◌, ◌⊎◌, ℕ, List, IfErr, IfOk, IsErrOf, length, map, string_bytes};
 ghost use Rattle.obs_io.specs.Causes.{Rose};
 ghost use Rattle.obs_script.specs.Gathered.{is_comment};
 ghost use Rattle.obs_report.specs.Printed.{Appends};
 ghost use Rattle.obs_engine.specs.Asks.{report_status};
-ghost use Rattle.obs_engine.specs.Forms.{AreFiles, IsFileWord, ReadFailed};
+ghost use Rattle.obs_files.specs.Outside.{AreFiles, IsFileWord, ReadFailed};
 ghost use Rattle.obs_engine.specs.Lines.{line_case, line_text};
 ghost use Rattle.obs_engine.specs.Replies.{IsReplied, Reply};
 ghost use Rattle.obs_engine.specs.Stays.{Begins, IsNotBegun, line_reply};
-ghost use Rattle.obs_engine.specs.Words.{file_words, form_of};
+ghost use Rattle.obs_files.specs.Words.{file_words, form_of};
 
 use crate::answers::verdict;
-use crate::cases::take_case;
 use crate::lines::answer_content;
 use crate::refused::{refuse_files, refuse_words};
 use crate::status::Status;
-use crate::words::form_of_words;
 use obs_assign::Steps;
 use obs_case::Case;
 use obs_edit::Session;
+use obs_files::{form_of_words, take_case};
 use obs_io::{Failed, Files, Sink};
 use std::alloc::Global;
 use std::marker::Brand;

@@ -4,7 +4,7 @@ use Rattle.std.specs.Prelude.{map, string_bytes}
 use Rattle.obs_engine.specs.declared.status.Status.TheVariants.{NoMemory, ReadFault, WriteFault}
 use Rattle.obs_engine.specs.Codes.{code_of}
 use Rattle.obs_engine.specs.Ending.{Answers, AnswersPart, Ends}
-use Rattle.obs_engine.specs.Words.{form_of}
+use Rattle.obs_files.specs.Words.{form_of}
 use Rattle.obs_c.specs.Blocks.{words_in}
 use Rattle.obs_c.specs.Calls.{told_by}
 use Rattle.obs_c.proofs.Blocked.{answers_in, ends_in, lengths_of, none_failed, stands}

@@ -1,8 +1,8 @@
 use Rattle.std.proofs.Common.{◌∙◌, ap, refl, subst, sym, Some}
 use Rattle.obs_script.specs.declared.command.Ask.TheVariants.{Report as ReportAsk, Place as PlaceAsk}
-use Rattle.obs_engine.specs.declared.words.CaseCommand.{CaseCommand}
-use Rattle.obs_engine.specs.declared.words.Form.{Form}
-use Rattle.obs_engine.specs.declared.words.Form.TheVariants.{Case}
+use Rattle.obs_files.specs.declared.words.CaseCommand.{CaseCommand}
+use Rattle.obs_files.specs.declared.words.Form.{Form}
+use Rattle.obs_files.specs.declared.words.Form.TheVariants.{Case}
 use Rattle.obs_engine.specs.Asks.{ask_reply}
 use Rattle.obs_engine.specs.Commands.{IsCaseReply}
 use Rattle.obs_engine.specs.Forms.{TakesInput}

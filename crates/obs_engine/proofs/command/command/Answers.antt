@@ -1,10 +1,10 @@
 use Rattle.std.proofs.Common.{◌∙◌, ap, sym, Err, inl, inr, refl, Some}
 use Rattle.obs_engine.specs.Commands.{IsCaseReply}
-use Rattle.obs_engine.specs.Files.{case_in_files, certificate_in}
+use Rattle.obs_files.specs.Files.{case_in_files, certificate_in}
 use Rattle.obs_engine.proofs.Commanded.{answered_ran, nothing_taken}
 use Rattle.obs_engine.proofs.Endings.{behind_of, complete_stated, ends_stated}
 use Rattle.obs_engine.proofs.Replied.{nothing_before, refused_reply, stated_no_failure, stated_reply}
-use Rattle.obs_engine.proofs.Taking.{ok_not_read, read_is}
+use Rattle.obs_files.proofs.Taking.{ok_not_read, read_is}
 use Rattle.obs_engine.proofs.Generated.{generated_in_service}
 use Rattle.obs_engine.proofs.command.command.Goals as goal
 

@@ -1,5 +1,5 @@
 use Rattle.std.proofs.Common.{subst, Option}
-use Rattle.obs_engine.specs.declared.words.Form.{Form}
+use Rattle.obs_files.specs.declared.words.Form.{Form}
 use Rattle.obs_engine.specs.Forms.{TakesInput}
 use Rattle.obs_engine.proofs.Endings.{usage_complete, usage_ends}
 use Rattle.obs_engine.proofs.Ran.{ran_at}

@@ -1,11 +1,11 @@
 use Rattle.std.proofs.Common.{◌+◌, length, ap, subst, sym, Err, Option}
 use Rattle.obs_engine.specs.declared.status.Status.TheVariants.{NoMemory, ReadFault}
-use Rattle.obs_engine.specs.declared.words.Form.{Form}
-use Rattle.obs_engine.specs.Forms.{AreFiles, IsFileWord, ReadFailed}
+use Rattle.obs_files.specs.declared.words.Form.{Form}
+use Rattle.obs_files.specs.Outside.{AreFiles, IsFileWord, ReadFailed}
 use Rattle.obs_engine.specs.Replies.{Reply}
-use Rattle.obs_engine.specs.Words.{file_words}
+use Rattle.obs_files.specs.Words.{file_words}
 use Rattle.obs_engine.proofs.Staying.{begins-counted, begins-other, begins-refused, begins-usage, no_read, no_write, refused_by_files, status_is, usage_no_memory, usage_no_read, usage_of_others, usage_of_words}
-use Rattle.obs_engine.proofs.Taking.{ok_not_read, read_is}
+use Rattle.obs_files.proofs.Taking.{ok_not_read, read_is}
 use Rattle.obs_engine.proofs.stays.begin_session.Goals as goal
 
 pub returns-in_default-clause-begins : goal.returns-in_default-clause-begins

@@ -1,6 +1,0 @@
-use Rattle.obs_engine.proofs.Valid.{CasesAreValid-holds}
-use Rattle.obs_engine.proofs.Worded.{rows_of}
-use Rattle.obs_engine.proofs.laws.cases_are_valid.Goals as goal
-
-pub returns : goal.returns
-returns c = record { valid = CasesAreValid-holds; rows = rows_of }

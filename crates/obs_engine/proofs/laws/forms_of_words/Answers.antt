@@ -1,5 +1,0 @@
-use Rattle.obs_engine.proofs.Worded.{form_exactly, in_usage}
-use Rattle.obs_engine.proofs.laws.forms_of_words.Goals as goal
-
-pub returns : goal.returns
-returns c = record { exactly = form_exactly; usage = in_usage }

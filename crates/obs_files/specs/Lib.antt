@@ -1,0 +1,5 @@
+pub mod Files
+pub mod Laws
+pub mod Outside
+pub mod Taken
+pub mod Words
