@@ -3,8 +3,8 @@ use Rattle.std.proofs.Common.{◌⊎◌, ◌≡◌, ℕ, ◌+◌, ◌≤◌, min
 use Rattle.std.proofs.lemmas.List.{length-map, length-take-le, take-append-le, take_all}
 use Rattle.std.specs.Prelude.{String, map, string_bytes}
 use Rattle.obs_c.specs.Blocks.{AreLengths}
-use Rattle.obs_engine.specs.declared.status.Status.{Status}
-use Rattle.obs_engine.specs.declared.status.Status.TheVariants.{NoMemory}
+use Rattle.obs_files.specs.declared.status.Status.{Status}
+use Rattle.obs_files.specs.declared.status.Status.TheVariants.{NoMemory}
 use Rattle.obs_engine.specs.Ending.{Answers, Ends, HasRoom}
 use Rattle.obs_engine.specs.Replies.{Reply}
 use Rattle.obs_engine.specs.Forms.{AnyReadFailed}

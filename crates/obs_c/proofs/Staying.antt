@@ -5,9 +5,9 @@ use Rattle.std.proofs.lemmas.List.{length-map, take-append-drop}
 use Rattle.std.specs.Prelude.{String, map, string_bytes}
 use Rattle.obs_io.specs.Contents.{content_at}
 use Rattle.obs_edit.specs.Sessions.{Session}
-use Rattle.obs_engine.specs.declared.status.Status.{Status}
-use Rattle.obs_engine.specs.declared.status.Status.TheVariants.{Done, NoMemory, ReadFault, WriteFault}
-use Rattle.obs_engine.specs.Codes.{code_of}
+use Rattle.obs_files.specs.declared.status.Status.{Status}
+use Rattle.obs_files.specs.declared.status.Status.TheVariants.{Done, NoMemory, ReadFault, WriteFault}
+use Rattle.obs_files.specs.Codes.{code_of}
 use Rattle.obs_files.specs.Outside.{AreFiles}
 use Rattle.obs_engine.specs.Lines.{line_case}
 use Rattle.obs_engine.specs.Replies.{EndsWith, Reply}

@@ -1,9 +1,9 @@
 -- What is told to a call, and how it ends.
 use Rattle.std.specs.Prelude.{ℕ, ◌≡◌, ◌≢◌, List, [], None, Some}
 use Rattle.obs_io.specs.Contents.{content_at}
-use Rattle.obs_engine.specs.declared.status.Status.{Status}
-use Rattle.obs_engine.specs.declared.status.Status.TheVariants.{ReadFault}
-use Rattle.obs_engine.specs.Codes.{code_of}
+use Rattle.obs_files.specs.declared.status.Status.{Status}
+use Rattle.obs_files.specs.declared.status.Status.TheVariants.{ReadFault}
+use Rattle.obs_files.specs.Codes.{code_of}
 use Rattle.obs_engine.specs.Ending.{Answers, Ends}
 use Rattle.obs_engine.specs.Stated.{Told}
 use Rattle.obs_files.specs.Words.{form_of}

@@ -2,8 +2,8 @@
 use Rattle.std.specs.Prelude.{ℕ, ◌≡◌, ◌<◌, ◌⊎◌, ◌++◌, List, [], length, Option, None, Some}
 use Rattle.obs_io.specs.Contents.{content_at}
 use Rattle.obs_edit.specs.Sessions.{Session}
-use Rattle.obs_engine.specs.declared.status.Status.TheVariants.{Done, NoMemory, WriteFault}
-use Rattle.obs_engine.specs.Codes.{code_of}
+use Rattle.obs_files.specs.declared.status.Status.TheVariants.{Done, NoMemory, WriteFault}
+use Rattle.obs_files.specs.Codes.{code_of}
 use Rattle.obs_engine.specs.Lines.{line_case}
 use Rattle.obs_engine.specs.Replies.{Reply}
 use Rattle.obs_engine.specs.Stays.{IsBegun as IsBegunWith, IsNotBegun, line_reply}

@@ -1,6 +1,6 @@
 // The call.
 ghost use Rattle.std.specs.Prelude.{◌≡◌, ◌≤◌, ◌⊎◌, drop, length, take};
-ghost use Rattle.obs_engine.specs.Codes.{code_of};
+ghost use Rattle.obs_files.specs.Codes.{code_of};
 ghost use Rattle.obs_engine.specs.Replies.{Reply};
 ghost use Rattle.obs_engine.specs.Stated.{IsStated};
 ghost use Rattle.obs_files.specs.Words.{form_of};

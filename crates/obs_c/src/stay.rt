@@ -1,6 +1,6 @@
 // A session that stays between calls.
 ghost use Rattle.std.specs.Prelude.{◌≡◌, ◌<◌, ◌≤◌, None, drop, length, take};
-ghost use Rattle.obs_engine.specs.Codes.{code_of};
+ghost use Rattle.obs_files.specs.Codes.{code_of};
 ghost use Rattle.obs_c.specs.Stays.{IsAnswered, IsBegun};
 
 use crate::lengths::are_lengths;

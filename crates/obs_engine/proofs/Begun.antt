@@ -1,8 +1,8 @@
 -- A session that begins, or that finds no memory.
 use Rattle.std.proofs.Common.{ℕ, ◌≡◌, ◌⊎◌, Bool, inl, inr, refl, subst, arith, List, Option}
 use Rattle.obs_case.specs.Tables.{Tables}
-use Rattle.obs_engine.specs.declared.status.Status.{Status}
-use Rattle.obs_engine.specs.declared.status.Status.TheVariants.{Done, Short, NoMemory}
+use Rattle.obs_files.specs.declared.status.Status.{Status}
+use Rattle.obs_files.specs.declared.status.Status.TheVariants.{Done, Short, NoMemory}
 use Rattle.obs_engine.specs.declared.tasks.Task.{Task}
 use Rattle.obs_engine.specs.declared.tasks.Task.TheVariants.{Answer, Lines, Trial}
 use Rattle.obs_engine.specs.Asks.{ask_reply}

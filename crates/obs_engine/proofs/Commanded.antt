@@ -2,8 +2,8 @@
 use Rattle.std.proofs.Common.{ℕ, ◌≡◌, ◌∙◌, ◌⊎◌, ap, inl, inr, refl, sym, subst, arith, Bool, List, [], Option, Some, Result, Ok}
 use Rattle.obs_text.specs.Faults.{Fault}
 use Rattle.obs_case.specs.Tables.{Tables}
-use Rattle.obs_engine.specs.declared.status.Status.{Status}
-use Rattle.obs_engine.specs.declared.status.Status.TheVariants.{Done, Short, InputFault, ReadFault, WriteFault, NoMemory, SessionTooLong}
+use Rattle.obs_files.specs.declared.status.Status.{Status}
+use Rattle.obs_files.specs.declared.status.Status.TheVariants.{Done, Short, InputFault, ReadFault, WriteFault, NoMemory, SessionTooLong}
 use Rattle.obs_files.specs.declared.words.CaseForm.{CaseForm}
 use Rattle.obs_files.specs.declared.words.CaseCommand.TheVariants.{Session}
 use Rattle.obs_files.specs.declared.words.Form.{Form}

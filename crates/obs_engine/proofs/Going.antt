@@ -11,8 +11,8 @@ use Rattle.obs_io.specs.declared.outside.Failed.{Failed}
 use Rattle.obs_report.specs.Printed.{AppendsAt}
 use Rattle.obs_report.proofs.Printing.{failed_call, then_call}
 use Rattle.obs_script.specs.Gathered.{Holds, content_of}
-use Rattle.obs_engine.specs.declared.status.Status.{Status}
-use Rattle.obs_engine.specs.declared.status.Status.TheVariants.{Done, Short, InputFault, ReadFault, WriteFault, SessionTooLong}
+use Rattle.obs_files.specs.declared.status.Status.{Status}
+use Rattle.obs_files.specs.declared.status.Status.TheVariants.{Done, Short, InputFault, ReadFault, WriteFault, SessionTooLong}
 use Rattle.obs_engine.specs.Asks.{report_status}
 use Rattle.obs_engine.specs.Lines.{ended_after, line_case, line_text, lines_case, lines_text, open_after}
 use Rattle.obs_engine.specs.Replies.{Reply}

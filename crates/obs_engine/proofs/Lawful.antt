@@ -18,7 +18,7 @@ use Rattle.obs_network.specs.Observable.{IsObservable, IsObservableCase, branch_
 use Rattle.obs_network.proofs.Marked.{filtered_below}
 use Rattle.obs_network.proofs.Observed.{observed_by_rho}
 use Rattle.obs_network.proofs.OfCase.{case_branches-are}
-use Rattle.obs_engine.specs.declared.status.Status.TheVariants.{Done, Short}
+use Rattle.obs_files.specs.declared.status.Status.TheVariants.{Done, Short}
 use Rattle.obs_report.specs.Counts.{verdict_word}
 use Rattle.obs_engine.specs.Laws.{ListsNonCritical}
 use Rattle.obs_edit.specs.Answers.{bound_meters, bound_outside, bound_rank, case_critical_meters, component_meters, component_rank, is_critical_meter, is_meter_of, is_short, short_components}

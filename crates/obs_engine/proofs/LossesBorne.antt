@@ -12,7 +12,7 @@ use Rattle.obs_network.specs.Observable.{case_live_meters, rank_of_meters}
 use Rattle.obs_network.proofs.Observed.{most_pairs}
 use Rattle.obs_network.proofs.OfCase.{case_branches-are}
 use Rattle.obs_station.specs.Stations.{is_at, loss_of, loss_stations, losses_of, other_meters}
-use Rattle.obs_engine.specs.declared.status.Status.TheVariants.{Done, Short}
+use Rattle.obs_files.specs.declared.status.Status.TheVariants.{Done, Short}
 use Rattle.obs_engine.specs.Asks.{report_status}
 use Rattle.obs_engine.specs.Laws.{BearsLosses, IsObservableWithout}
 use Rattle.obs_engine.specs.StationReply.{are_borne, is_borne, stations_status}

@@ -1,6 +1,6 @@
 -- What is said of a run, for the form of the words.
 use Rattle.std.proofs.Common.{ℕ, ◌≡◌, subst, List, Option, Some}
-use Rattle.obs_engine.specs.declared.status.Status.{Status}
+use Rattle.obs_files.specs.declared.status.Status.{Status}
 use Rattle.obs_files.specs.declared.words.Form.{Form}
 use Rattle.obs_engine.specs.Runs.{RanAt}
 

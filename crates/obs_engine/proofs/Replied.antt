@@ -19,8 +19,8 @@ use Rattle.obs_text.specs.Faults.{Fault}
 use Rattle.obs_text.specs.Lines.{lines_of}
 use Rattle.obs_network.specs.Observable.{case_rank}
 use Rattle.obs_edit.specs.Planned.{case_placement}
-use Rattle.obs_engine.specs.declared.status.Status.{Status}
-use Rattle.obs_engine.specs.declared.status.Status.TheVariants.{Done, Short, InputFault, SessionTooLong}
+use Rattle.obs_files.specs.declared.status.Status.{Status}
+use Rattle.obs_files.specs.declared.status.Status.TheVariants.{Done, Short, InputFault, SessionTooLong}
 use Rattle.obs_files.specs.declared.words.CaseCommand.TheVariants.{Report, Place, Session, Verify, Study as StudyOf}
 use Rattle.obs_files.specs.declared.words.Study.{Study}
 use Rattle.obs_files.specs.declared.words.Study.TheVariants.{Outages, Pairs, Stations}

@@ -27,8 +27,8 @@ use Rattle.obs_edit.specs.declared.edit.Refusal.TheVariants.{UnknownSwitch, Unkn
 use Rattle.obs_edit.specs.Edits.{edited}
 use Rattle.obs_edit.specs.Lines.{edit_at, meant_by, meant_of}
 use Rattle.obs_edit.specs.Sessions.{Session as Kept}
-use Rattle.obs_engine.specs.declared.status.Status.{Status}
-use Rattle.obs_engine.specs.declared.status.Status.TheVariants.{Done, Short, Usage, ReadFault, WriteFault, NoMemory}
+use Rattle.obs_files.specs.declared.status.Status.{Status}
+use Rattle.obs_files.specs.declared.status.Status.TheVariants.{Done, Short, Usage, ReadFault, WriteFault, NoMemory}
 use Rattle.obs_files.specs.declared.taken.CaseError.{CaseError}
 use Rattle.obs_files.specs.declared.taken.CaseError.TheVariants.{Refused, Read, NoMemory as NoMemoryForIt}
 use Rattle.obs_files.specs.declared.words.CaseCommand.TheVariants.{Report, Place, Session, Verify, Study as StudyOf}

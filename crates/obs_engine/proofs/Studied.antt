@@ -31,8 +31,8 @@ use Rattle.obs_station.specs.declared.losses.Loss.{Loss}
 use Rattle.obs_station.specs.Stations.{all_links, case_station_count, has_live, loss_of, loss_stations, losses_of, station_node}
 use Rattle.obs_report.specs.Printed.{AppendsAt, PrintsAt}
 use Rattle.obs_report.proofs.Printing.{nothing_printed}
-use Rattle.obs_engine.specs.declared.status.Status.{Status}
-use Rattle.obs_engine.specs.declared.status.Status.TheVariants.{Short, ReadFault, WriteFault}
+use Rattle.obs_files.specs.declared.status.Status.{Status}
+use Rattle.obs_files.specs.declared.status.Status.TheVariants.{Short, ReadFault, WriteFault}
 use Rattle.obs_engine.specs.Asks.{report_status}
 use Rattle.obs_engine.specs.OutageReply.{are_met, outages_status}
 use Rattle.obs_engine.specs.PairReply.{case_classes, class_line, class_lines}

@@ -8,7 +8,7 @@ use Rattle.obs_cert.specs.Claims.{Claim}
 use Rattle.obs_cert.specs.Flaws.{first_flaw}
 use Rattle.obs_cert.specs.Read.{claims_of}
 use Rattle.obs_cert.proofs.TruthLemmas.{no_flaw}
-use Rattle.obs_engine.specs.declared.status.Status.TheVariants.{Done, Short}
+use Rattle.obs_files.specs.declared.status.Status.TheVariants.{Done, Short}
 use Rattle.obs_engine.specs.Verify.{AllHold, checked_reply, claims_reply, verify_reply}
 
 checked-done : (count : ℕ) (o : Option Flaw) → (checked_reply count o).status ≡ Done → o ≡ None

@@ -18,8 +18,8 @@ use Rattle.obs_edit.specs.Answers.{bound_meters, bound_outside, bound_rank, case
 use Rattle.obs_edit.specs.Planned.{case_placed_pairs, case_placement}
 use Rattle.obs_engine.specs.declared.blocks.Block.{Block}
 use Rattle.obs_engine.specs.declared.blocks.Block.TheVariants.{Counts, Trees, Bounds, Claims, Islands, Critical, Placement}
-use Rattle.obs_engine.specs.declared.status.Status.{Status}
-use Rattle.obs_engine.specs.declared.status.Status.TheVariants.{Done, Short}
+use Rattle.obs_files.specs.declared.status.Status.{Status}
+use Rattle.obs_files.specs.declared.status.Status.TheVariants.{Done, Short}
 use Rattle.obs_engine.specs.Replies.{Reply}
 
 -- the tree of an observable component: the pairs of the first assignment that lie in it

@@ -1,8 +1,8 @@
 -- What a form of words takes, and which answers it can have.
 use Rattle.std.specs.Prelude.{ℕ, ◌≡◌, ◌⊎◌, List, Option, None, Some}
 use Rattle.obs_io.specs.Causes.{Rose}
-use Rattle.obs_engine.specs.declared.status.Status.{Status}
-use Rattle.obs_engine.specs.declared.status.Status.TheVariants.{Done, Short, Usage, InputFault, ReadFault, WriteFault, NoMemory, SessionTooLong}
+use Rattle.obs_files.specs.declared.status.Status.{Status}
+use Rattle.obs_files.specs.declared.status.Status.TheVariants.{Done, Short, Usage, InputFault, ReadFault, WriteFault, NoMemory, SessionTooLong}
 use Rattle.obs_files.specs.declared.words.CaseCommand.TheVariants.{Session, Verify}
 use Rattle.obs_files.specs.declared.words.Form.{Form}
 use Rattle.obs_files.specs.declared.words.Form.TheVariants.{Topology, Case}

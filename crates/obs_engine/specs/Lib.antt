@@ -1,6 +1,5 @@
 pub mod Asks
 pub mod Claimed
-pub mod Codes
 pub mod Commands
 pub mod Ending
 pub mod Forms

@@ -7,8 +7,8 @@ use Rattle.obs_outage.specs.Outages.{outages_of}
 use Rattle.obs_report.specs.Counts.{verdict_word}
 use Rattle.obs_report.specs.Items.{branch_name}
 use Rattle.obs_report.specs.Lines.{last_line, line_of}
-use Rattle.obs_engine.specs.declared.status.Status.{Status}
-use Rattle.obs_engine.specs.declared.status.Status.TheVariants.{Short}
+use Rattle.obs_files.specs.declared.status.Status.{Status}
+use Rattle.obs_files.specs.declared.status.Status.TheVariants.{Short}
 use Rattle.obs_engine.specs.Asks.{report_status}
 use Rattle.obs_engine.specs.Replies.{Reply}
 

@@ -6,8 +6,8 @@ use Rattle.obs_report.specs.Lines.{fault_line}
 use Rattle.obs_case.specs.Tables.{Tables}
 use Rattle.obs_text.specs.Faults.{Fault}
 use Rattle.obs_files.specs.Words.{usage_text}
-use Rattle.obs_engine.specs.declared.status.Status.{Status}
-use Rattle.obs_engine.specs.declared.status.Status.TheVariants.{Usage, InputFault, ReadFault, WriteFault, NoMemory}
+use Rattle.obs_files.specs.declared.status.Status.{Status}
+use Rattle.obs_files.specs.declared.status.Status.TheVariants.{Usage, InputFault, ReadFault, WriteFault, NoMemory}
 
 -- a status and the whole text that goes with it
 pub record Reply : Type 0 where

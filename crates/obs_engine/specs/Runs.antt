@@ -2,8 +2,8 @@
 use Rattle.std.specs.Prelude.{ℕ, ◌≡◌, ◌≢◌, ◌⊎◌, List, Option, Some, Ok}
 use Rattle.obs_case.specs.Tables.{Tables}
 use Rattle.obs_io.specs.Causes.{Rose}
-use Rattle.obs_engine.specs.declared.status.Status.{Status}
-use Rattle.obs_engine.specs.declared.status.Status.TheVariants.{ReadFault, WriteFault, NoMemory}
+use Rattle.obs_files.specs.declared.status.Status.{Status}
+use Rattle.obs_files.specs.declared.status.Status.TheVariants.{ReadFault, WriteFault, NoMemory}
 use Rattle.obs_files.specs.declared.words.Form.{Form}
 use Rattle.obs_engine.specs.Ending.{Answers, Ends, HasRoom}
 use Rattle.obs_files.specs.Files.{case_in_files, certificate_in}

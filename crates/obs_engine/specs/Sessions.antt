@@ -4,8 +4,8 @@ use Rattle.obs_case.specs.Tables.{Tables}
 use Rattle.obs_io.specs.Causes.{Rose}
 use Rattle.obs_text.specs.Limits.{most_file_bytes}
 use Rattle.obs_text.specs.Lines.{lines_of}
-use Rattle.obs_engine.specs.declared.status.Status.{Status}
-use Rattle.obs_engine.specs.declared.status.Status.TheVariants.{Done, Short, InputFault, ReadFault, WriteFault, NoMemory, SessionTooLong}
+use Rattle.obs_files.specs.declared.status.Status.{Status}
+use Rattle.obs_files.specs.declared.status.Status.TheVariants.{Done, Short, InputFault, ReadFault, WriteFault, NoMemory, SessionTooLong}
 use Rattle.obs_engine.specs.Asks.{report_status}
 use Rattle.obs_engine.specs.Lines.{ended_after, lines_case, lines_text}
 use Rattle.obs_engine.specs.Replies.{EndsBehind, Reply}

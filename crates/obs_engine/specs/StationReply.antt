@@ -8,8 +8,8 @@ use Rattle.obs_report.specs.Lines.{last_line, line_of}
 use Rattle.obs_report.specs.Nodes.{node_name}
 use Rattle.obs_station.specs.declared.losses.Loss.{Loss}
 use Rattle.obs_station.specs.Stations.{losses_of}
-use Rattle.obs_engine.specs.declared.status.Status.{Status}
-use Rattle.obs_engine.specs.declared.status.Status.TheVariants.{Short}
+use Rattle.obs_files.specs.declared.status.Status.{Status}
+use Rattle.obs_files.specs.declared.status.Status.TheVariants.{Short}
 use Rattle.obs_engine.specs.Asks.{report_status}
 use Rattle.obs_engine.specs.Replies.{Reply}
 

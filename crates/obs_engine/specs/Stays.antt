@@ -6,8 +6,8 @@ use Rattle.obs_script.specs.Gathered.{content_of}
 use Rattle.obs_text.specs.Faults.{Fault}
 use Rattle.obs_text.specs.Laws.{HasNoFeed}
 use Rattle.obs_edit.specs.Sessions.{Session as Kept}
-use Rattle.obs_engine.specs.declared.status.Status.{Status}
-use Rattle.obs_engine.specs.declared.status.Status.TheVariants.{ReadFault, NoMemory}
+use Rattle.obs_files.specs.declared.status.Status.{Status}
+use Rattle.obs_files.specs.declared.status.Status.TheVariants.{ReadFault, NoMemory}
 use Rattle.obs_files.specs.declared.words.Form.{Form}
 use Rattle.obs_engine.specs.Asks.{report_status}
 use Rattle.obs_files.specs.Files.{case_in_files}

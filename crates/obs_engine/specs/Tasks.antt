@@ -1,7 +1,7 @@
 -- What a session is begun for, and how that ends.
 use Rattle.std.specs.Prelude.{ℕ, ◌≡◌, Bool, List, Option}
 use Rattle.obs_case.specs.Tables.{Tables}
-use Rattle.obs_engine.specs.declared.status.Status.{Status}
+use Rattle.obs_files.specs.declared.status.Status.{Status}
 use Rattle.obs_engine.specs.declared.tasks.Task.{Task}
 use Rattle.obs_engine.specs.declared.tasks.Task.TheVariants.{Answer, Lines, Trial}
 use Rattle.obs_engine.specs.Asks.{ask_reply}

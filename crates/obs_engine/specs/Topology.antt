@@ -4,7 +4,7 @@ use Rattle.obs_case.specs.Tables.{Tables}
 use Rattle.obs_network.specs.Switched.{case_bus_count}
 use Rattle.obs_report.specs.Lines.{count_line, last_line}
 use Rattle.obs_report.specs.Nodes.{node_lines}
-use Rattle.obs_engine.specs.declared.status.Status.TheVariants.{Done}
+use Rattle.obs_files.specs.declared.status.Status.TheVariants.{Done}
 use Rattle.obs_engine.specs.Replies.{Reply}
 
 -- a line for each node with its bus, then how many buses there are

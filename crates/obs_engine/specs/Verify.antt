@@ -10,7 +10,7 @@ use Rattle.obs_cert.specs.FlawNames.{flaw_code, flaw_name}
 use Rattle.obs_cert.specs.Flaws.{Holds, first_flaw}
 use Rattle.obs_cert.specs.Read.{claims_of}
 use Rattle.obs_report.specs.Totals.{flaw_line, valid_line}
-use Rattle.obs_engine.specs.declared.status.Status.TheVariants.{Done, Short}
+use Rattle.obs_files.specs.declared.status.Status.TheVariants.{Done, Short}
 use Rattle.obs_engine.specs.Replies.{Reply, fault_reply}
 
 -- the reply to claims that all hold: how many they are

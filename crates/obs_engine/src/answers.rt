@@ -5,9 +5,9 @@ ghost use Rattle.obs_engine.specs.Asks.{ask_reply, ask_status, report_status};
 ghost use Rattle.obs_engine.specs.Replies.{IsReplied};
 
 use crate::asks::print_ask;
-use crate::status::Status;
 use obs_assign::Steps;
 use obs_edit::Session;
+use obs_files::Status;
 use obs_io::{Failed, Sink};
 use obs_placement::Placement;
 use obs_script::Ask;

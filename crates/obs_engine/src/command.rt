@@ -7,13 +7,12 @@ ghost use Rattle.obs_engine.specs.Trials.{AreInService};
 ghost use Rattle.obs_engine.specs.Runs.{IsAnswered, IsRun};
 
 use crate::refused::refuse_files;
-use crate::status::Status;
 use crate::studies::answer_study;
 use crate::tasks::{Task, begin_task};
 use crate::topology::answer_topology;
 use crate::verify::answer_verify;
 use obs_case::Case;
-use obs_files::{CaseCommand, Form, take_case};
+use obs_files::{CaseCommand, Form, Status, take_case};
 use obs_io::{Files, Sink, Source};
 use obs_script::Ask;
 use std::alloc::Global;

@@ -6,9 +6,9 @@ ghost use Rattle.obs_engine.specs.Sessions.{IsSession};
 
 use crate::answers::verdict;
 use crate::lines::{answer_bytes, answer_line};
-use crate::status::Status;
 use obs_assign::Steps;
 use obs_edit::Session;
+use obs_files::Status;
 use obs_io::{Failed, Sink, Source};
 use obs_script::Gather;
 use obs_text::MOST_FILE_BYTES;

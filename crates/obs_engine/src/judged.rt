@@ -4,9 +4,9 @@ ghost use Rattle.obs_network.specs.Network.{network_of};
 ghost use Rattle.obs_kept.specs.Kept.{AreLongest};
 ghost use Rattle.obs_engine.specs.Asks.{report_status};
 
-use crate::status::Status;
 use obs_assign::Assignment;
 use obs_case::Case;
+use obs_files::Status;
 use obs_network::Network;
 
 /// Done where the case has as many pairs as it needs: there are as many as there can be.

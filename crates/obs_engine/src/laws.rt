@@ -11,7 +11,7 @@ ghost use Rattle.obs_network.specs.Observable.{IsObservable, IsObservableCase, b
 ghost use Rattle.obs_cert.specs.Claims.{Claim};
 ghost use Rattle.obs_cert.specs.Read.{claims_of};
 ghost use Rattle.obs_engine.specs.Verify.{AllHold, verify_reply};
-ghost use Rattle.obs_engine.specs.declared.status.Status.TheVariants.{Done, Short};
+ghost use Rattle.obs_files.specs.declared.status.Status.TheVariants.{Done, Short};
 ghost use Rattle.obs_engine.specs.Lines.{lines_case};
 ghost use Rattle.obs_edit.specs.declared.edit.Edit.{Edit};
 ghost use Rattle.obs_edit.specs.Edits.{edited};

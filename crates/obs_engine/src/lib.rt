@@ -53,7 +53,6 @@ mod session_tests;
 #[cfg(test)]
 mod spoilt_tests;
 mod stations;
-mod status;
 mod stays;
 #[cfg(test)]
 mod stays_tests;
@@ -77,6 +76,6 @@ mod verify_tests;
 #[cfg(test)]
 mod worked;
 
+pub use obs_files::Status;
 pub use program::run;
-pub use status::Status;
 pub use stays::{answer_one, begin_session};

@@ -9,9 +9,9 @@ ghost use Rattle.obs_engine.specs.OutageReply.{are_met, outage_line, outages_rep
 ghost use Rattle.obs_engine.specs.Replies.{IsReplied};
 
 use crate::judged::kept_verdict;
-use crate::status::Status;
 use obs_assign::Steps;
 use obs_case::Case;
+use obs_files::Status;
 use obs_io::{Failed, Sink};
 use obs_outage::{Outage, Outages};
 use obs_report::{LineBuffer, branch_name, verdict_word};

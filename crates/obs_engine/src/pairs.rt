@@ -8,9 +8,9 @@ ghost use Rattle.obs_engine.specs.PairReply.{case_classes, class_line, class_lin
 ghost use Rattle.obs_engine.specs.Replies.{IsReplied};
 
 use crate::judged::kept_verdict;
-use crate::status::Status;
 use obs_assign::Steps;
 use obs_case::Case;
+use obs_files::Status;
 use obs_graph::Graph;
 use obs_io::{Failed, Sink};
 use obs_kept::Kept;

@@ -10,8 +10,7 @@ ghost use Rattle.obs_files.specs.Words.{form_of};
 
 use crate::command::command;
 use crate::refused::refuse_words;
-use crate::status::Status;
-use obs_files::form_of_words;
+use obs_files::{Status, form_of_words};
 use obs_io::{Files, Sink, Source};
 use std::alloc::Global;
 

@@ -6,8 +6,7 @@ ghost use Rattle.obs_text.specs.Faults.{Fault, fault_of};
 ghost use Rattle.obs_engine.specs.Replies.{EndsWith, IsRefused, IsReplied, Reply, fault_reply, usage_reply};
 ghost use Rattle.obs_files.specs.Taken.{IsCaseError};
 
-use crate::status::Status;
-use obs_files::CaseError;
+use obs_files::{CaseError, Status};
 use obs_io::{Failed, Sink, write_all};
 use obs_report::print_fault;
 use obs_text::InputFault;

@@ -9,9 +9,9 @@ ghost use Rattle.obs_engine.specs.Replies.{IsReplied};
 ghost use Rattle.obs_engine.specs.StationReply.{are_borne, loss_line, losses_text, stations_reply, stations_status};
 
 use crate::judged::kept_verdict;
-use crate::status::Status;
 use obs_assign::Steps;
 use obs_case::Case;
+use obs_files::Status;
 use obs_io::{Failed, Sink};
 use obs_kept::Kept;
 use obs_report::{LineBuffer, node_name, verdict_word};

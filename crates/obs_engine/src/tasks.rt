@@ -6,11 +6,11 @@ ghost use Rattle.obs_engine.specs.Trials.{AreInService};
 
 use crate::answers::answer_session;
 use crate::input::answer_lines;
-use crate::status::Status;
 use crate::trial::{answer_trial, find_island_count};
 use obs_assign::Steps;
 use obs_case::Case;
 use obs_edit::Session;
+use obs_files::Status;
 use obs_io::{Sink, Source};
 use obs_script::Ask;
 use std::alloc::Global;

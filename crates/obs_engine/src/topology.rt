@@ -6,8 +6,8 @@ ghost use Rattle.obs_report.specs.Printed.{Appends};
 ghost use Rattle.obs_engine.specs.Replies.{IsReplied};
 ghost use Rattle.obs_engine.specs.Topology.{topology_reply, topology_text};
 
-use crate::status::Status;
 use obs_case::Case;
+use obs_files::Status;
 use obs_io::{Failed, Sink};
 use obs_network::buses_of_case;
 use obs_report::{print_count, print_last_line, print_nodes};

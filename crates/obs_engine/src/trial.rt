@@ -11,9 +11,9 @@ ghost use Rattle.obs_engine.specs.Trials.{AreInService, dips_of, edits_of, is_di
 ghost use Rattle.obs_engine.specs.Turns.{AreSearches, AreTurns, IsTurn};
 
 use crate::answers::verdict;
-use crate::status::Status;
 use obs_assign::Steps;
 use obs_edit::{Edit, Session};
+use obs_files::Status;
 use obs_io::{Failed, Sink};
 use obs_report::{print_counts, print_totals, print_trial};
 use std::sync::ledger::Ledger;

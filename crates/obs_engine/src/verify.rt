@@ -11,9 +11,9 @@ ghost use Rattle.obs_engine.specs.Replies.{IsReplied};
 ghost use Rattle.obs_engine.specs.Verify.{checked_reply, claims_reply, flaw_reply, valid_reply, verify_reply};
 
 use crate::refused::refuse;
-use crate::status::Status;
 use obs_case::Case;
 use obs_cert::{Cert, CertEnd, Checker, Flaw, read_cert};
+use obs_files::Status;
 use obs_io::{Failed, Sink};
 use obs_report::{print_flaw, print_valid};
 use std::alloc::Global;

@@ -4,9 +4,11 @@
 mod cases;
 mod files;
 pub mod laws;
+mod status;
 mod taken;
 mod words;
 
 pub use cases::take_case;
+pub use status::Status;
 pub use taken::{CaseError, Taken};
 pub use words::{CaseCommand, CaseForm, Form, Study, form_of_words};

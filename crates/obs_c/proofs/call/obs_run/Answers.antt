@@ -1,8 +1,8 @@
 use Rattle.std.proofs.Common.{◌≡◌, ◌≢◌, ℕ, List, [], length, take, drop, None, Some, inl, inr, ⊎_elim, refl, sym, ap, ◌∙◌, subst, arith}
 use Rattle.std.proofs.lemmas.List.{length-drop, take_all, take-append-drop}
 use Rattle.std.specs.Prelude.{map, string_bytes}
-use Rattle.obs_engine.specs.declared.status.Status.TheVariants.{NoMemory, ReadFault, WriteFault}
-use Rattle.obs_engine.specs.Codes.{code_of}
+use Rattle.obs_files.specs.declared.status.Status.TheVariants.{NoMemory, ReadFault, WriteFault}
+use Rattle.obs_files.specs.Codes.{code_of}
 use Rattle.obs_engine.specs.Ending.{Answers, AnswersPart, Ends}
 use Rattle.obs_files.specs.Words.{form_of}
 use Rattle.obs_c.specs.Blocks.{words_in}

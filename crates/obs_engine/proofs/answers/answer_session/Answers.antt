@@ -1,8 +1,8 @@
 use Rattle.std.proofs.Common.{◌≡◌, ◌∙◌, ap, subst, sym, inl, inr}
 use Rattle.obs_case.specs.Tables.{Tables}
 use Rattle.obs_script.specs.declared.command.Ask.{Ask}
-use Rattle.obs_engine.specs.declared.status.Status.{Status}
-use Rattle.obs_engine.specs.declared.status.Status.TheVariants.{ReadFault, WriteFault}
+use Rattle.obs_files.specs.declared.status.Status.{Status}
+use Rattle.obs_files.specs.declared.status.Status.TheVariants.{ReadFault, WriteFault}
 use Rattle.obs_engine.specs.Asks.{ask_reply, ask_status, ask_text}
 use Rattle.obs_engine.specs.Replies.{RepliedAt}
 use Rattle.obs_engine.proofs.Asked.{appends_as}

@@ -1,5 +1,5 @@
 use Rattle.std.proofs.Common.{◌+◌, length, ap, subst, sym, Err, Option}
-use Rattle.obs_engine.specs.declared.status.Status.TheVariants.{NoMemory, ReadFault}
+use Rattle.obs_files.specs.declared.status.Status.TheVariants.{NoMemory, ReadFault}
 use Rattle.obs_files.specs.declared.words.Form.{Form}
 use Rattle.obs_files.specs.Outside.{AreFiles, IsFileWord, ReadFailed}
 use Rattle.obs_engine.specs.Replies.{Reply}

@@ -23,7 +23,7 @@ pub enum Status {
 }
 
 impl Status {
-    ghost use Rattle.obs_engine.specs.Codes.{code_of};
+    ghost use Rattle.obs_files.specs.Codes.{code_of};
 
     /// The program's exit status.
     pub fn code(self) -> u8
