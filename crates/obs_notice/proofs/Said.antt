@@ -3,7 +3,7 @@ use Rattle.std.proofs.Common.{ℕ, ◌≡◌, ◌<◌, ◌∙◌, ◌+◌, zero,
 use Rattle.std.specs.Prelude.{slice_index, ⊤}
 use Rattle.std.proofs.lemmas.List.{length-append}
 use Rattle.obs_io.specs.Bytes.{Wrote, WrotePart, Writes}
-use Rattle.obs.specs.Notices.{byte_said, name_said}
+use Rattle.obs_notice.specs.Notices.{byte_said, name_said}
 
 wrote_then : (a b d : Option (List ℕ)) (x y : List ℕ) → Wrote a b x → Wrote b d y → Wrote a d (x ++ y)
 wrote_then None b d x y first second = rw first at second

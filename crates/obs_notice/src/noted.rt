@@ -1,12 +1,12 @@
 // Files that note which of them could not be read.
 ghost use Rattle.std.specs.Prelude.{◌≡◌, ℕ, length, slice_index};
-ghost use Rattle.obs.specs.Notices.{failed_word};
+ghost use Rattle.obs_notice.specs.Notices.{failed_word};
 
 use obs_io::{Failed, Files};
 
 /// Files that count the failed reads of each word.
 #[derive(Drop)]
-pub(crate) struct Noted<F: Files> {
+pub struct Noted<F: Files> {
     inner: F,
     faults: [u64; 16],
     ghost counts: { length faults ≡ 16 },
@@ -16,7 +16,7 @@ pub(crate) struct Noted<F: Files> {
 
 impl<F: Files> Noted<F> {
     /// These files, of which no read has failed yet.
-    pub(crate) fn new(inner: F) -> Noted<F>
+    pub fn new(inner: F) -> Noted<F>
         requires fresh { (w : ℕ) → F.faults inner w ≡ 0 }
         ensures inner { result.inner ≡ inner }
         ensures faults { (w : ℕ) → slice_index result.faults w ≡ 0 }
@@ -28,7 +28,7 @@ impl<F: Files> Noted<F> {
     }
 
     /// The first word of which a read failed.
-    pub(crate) fn failed(&self) -> Option<usize>
+    pub fn failed(&self) -> Option<usize>
         ensures word { result ≡ failed_word self.now.faults }
     {
         self.faults.iter().position(|count| *count > 0)

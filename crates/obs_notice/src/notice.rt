@@ -1,9 +1,9 @@
 // What is said on standard error where no answer was given, or not the whole one.
 ghost use Rattle.std.specs.Prelude.{◌≡◌, ◌<◌, ◌+◌, ◌++◌, ℕ, [], length, map, string_bytes, slice_index_or, IsOk};
 ghost use Rattle.obs_io.specs.Bytes.{Writes};
-ghost use Rattle.obs.specs.Notices.{byte_said, digit_code, name_said, notice, read_notice};
+ghost use Rattle.obs_notice.specs.Notices.{byte_said, digit_code, name_said, notice, read_notice};
 
-use obs_engine::Status;
+use obs_files::Status;
 use obs_io::{Failed, Sink, write_all};
 
 const USAGE: &[u8] =
@@ -127,7 +127,7 @@ fn say_unread<E: Sink>(
 
 /// Says what happened in a run that ended with this status, and what to do, where no answer was given or not the whole
 /// one. The word is that of the file of which a read failed.
-pub(crate) fn say<E: Sink>(
+pub fn say<E: Sink>(
     errors: &mut E,
     words: &[String],
     status: Status,

@@ -5,8 +5,8 @@ use Rattle.std.specs.List.{position_or_len}
 use Rattle.std.proofs.lemmas.Bool.Decides.{nat_tests}
 use Rattle.std.proofs.lemmas.List.Quantifiers.{position-Some}
 use Rattle.obs_io.specs.Causes.{Rose}
-use Rattle.obs_engine.specs.Forms.{ReadFailed}
-use Rattle.obs.specs.Notices.{NamesFailure, failed_word}
+use Rattle.obs_files.specs.Outside.{ReadFailed}
+use Rattle.obs_notice.specs.Notices.{NamesFailure, failed_word}
 
 cond_none : {A : Type 0} (b : Bool) (x : A) → cond b (Some x) None ≡ None → b ≡ false
 cond_none true x e = absurd cc

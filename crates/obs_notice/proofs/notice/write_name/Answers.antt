@@ -1,7 +1,7 @@
 use Rattle.std.proofs.Common.{rules, arith, length, drop, ◌+◌}
-use Rattle.obs.specs.Notices.{name_said}
-use Rattle.obs.proofs.Said.{wrote_next, failed_next, room_next, no_success}
-use Rattle.obs.proofs.notice.write_name.Goals as goal
+use Rattle.obs_notice.specs.Notices.{name_said}
+use Rattle.obs_notice.proofs.Said.{wrote_next, failed_next, room_next, no_success}
+use Rattle.obs_notice.proofs.notice.write_name.Goals as goal
 
 pub returns-in_err-write_byte-clause-writes : goal.returns-in_err-write_byte-clause-writes
 returns-in_err-write_byte-clause-writes g c =

@@ -1,5 +1,5 @@
 use Rattle.std.proofs.Common.{sym}
-use Rattle.obs.proofs.notice.say_unread.Goals as goal
+use Rattle.obs_notice.proofs.notice.say_unread.Goals as goal
 
 pub returns-in-Some-clause-says : goal.returns-in-Some-clause-says
 returns-in-Some-clause-says g c = rw (c.in-Some.is, sym c.word_bytes.ensures.bytes) c.write_three.ensures.writes

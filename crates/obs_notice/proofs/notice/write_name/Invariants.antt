@@ -1,7 +1,7 @@
 use Rattle.std.proofs.Common.{◌≤◌, ◌-◌, ◌+◌, ℕ, length, take, drop}
 use Rattle.obs_io.specs.Bytes.{Wrote}
-use Rattle.obs.specs.Notices.{name_said}
-use Rattle.obs.proofs.notice.write_name.Given as goal
+use Rattle.obs_notice.specs.Notices.{name_said}
+use Rattle.obs_notice.proofs.notice.write_name.Given as goal
 
 abbrev pub invariant-loop-at : goal.invariant-loop-at
 invariant-loop-at g l = record {

@@ -1,7 +1,7 @@
 use Rattle.std.proofs.Common.{length, ◌+◌}
-use Rattle.obs.specs.Notices.{name_said}
-use Rattle.obs.proofs.Said.{part_front, room_front, writes_behind}
-use Rattle.obs.proofs.notice.write_two.Goals as goal
+use Rattle.obs_notice.specs.Notices.{name_said}
+use Rattle.obs_notice.proofs.Said.{part_front, room_front, writes_behind}
+use Rattle.obs_notice.proofs.notice.write_two.Goals as goal
 
 pub returns-in-Ok-clause-writes : goal.returns-in-Ok-clause-writes
 returns-in-Ok-clause-writes g c = writes_behind _ _ _ c.write_all.result (name_said c.args.name.now) c.args.second.now c.in-Ok.ensures.writes c.write_all.ensures.writes
