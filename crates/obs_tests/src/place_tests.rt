@@ -1,9 +1,9 @@
 // The printed text of worked placements.
 
-use crate::Status;
 use crate::scripts::all_end_so;
 use crate::tests::{QUIET, failing_reads, failing_writes, outcome_over};
 use crate::worked::{PATH_CANDIDATES, PATH_PLAN, path, too_long_behind};
+use obs_engine::Status;
 use std::test::Fail;
 
 const TABLES: [&str; 7] = ["place", "tables", "n", "s", "b", "m", "c"];

@@ -1,9 +1,9 @@
 // The answers to the lines of worked sessions.
 
-use crate::Status;
 use crate::scripts::all_end_so;
 use crate::tests::{Ended, Outside, outcome, taking};
 use crate::worked::{NO_SWITCHES, PATH_BRANCHES, PATH_METERS, PATH_NODES, SESSION};
+use obs_engine::Status;
 use std::alloc::Global;
 use std::process::Abort;
 use std::test::Fail;

@@ -1,9 +1,9 @@
 // The answers to worked certificates.
 
-use crate::Status;
 use crate::scripts::all_end_so;
 use crate::tests::{QUIET, failing_reads, failing_writes, outcome_over};
 use crate::worked::{VERIFY, path, too_long_behind};
+use obs_engine::Status;
 use std::test::Fail;
 
 // A bound of the path that holds.

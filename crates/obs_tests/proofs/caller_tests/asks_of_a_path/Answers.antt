@@ -1,6 +1,6 @@
 use Rattle.std.proofs.Common.{arith}
 use Rattle.obs_network.proofs.OfCase.{count_of}
-use Rattle.obs_engine.proofs.caller_tests.asks_of_a_path.Goals as goal
+use Rattle.obs_tests.proofs.caller_tests.asks_of_a_path.Goals as goal
 
 pub observable-requires-clause-component : goal.observable-requires-clause-component
 observable-requires-clause-component g c =

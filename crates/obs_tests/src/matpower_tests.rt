@@ -1,8 +1,8 @@
 // Reports and placements of MATPOWER cases.
 
-use crate::Status;
 use crate::tests::answers;
 use crate::worked::{METER, too_long};
+use obs_engine::Status;
 use std::alloc::Global;
 use std::process::Abort;
 use std::test::Fail;

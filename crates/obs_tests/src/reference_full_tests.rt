@@ -1,9 +1,9 @@
 // Tables that are full of marked nodes, angle meters and angle candidates.
 
-use crate::Status;
 use crate::reference_cases::{Ask, NO_BRANCHES, Tables, ended_in};
 use crate::tests::{Outside, QUIET};
 use crate::worked::{NO_CANDIDATES, NO_SWITCHES};
+use obs_engine::Status;
 use obs_text::Digits;
 use std::alloc::Global;
 use std::process::Abort;

@@ -6,7 +6,7 @@ use Rattle.obs_graph.specs.Graph.{Graph}
 use Rattle.obs_graph.specs.Joined.{IsForest}
 use Rattle.obs_graph.specs.Positions.{IsForestAt}
 use Rattle.obs_graph.proofs.Forests.{IsForest-from_Grows}
-use Rattle.obs_engine.proofs.caller_tests.a_forest_holds_its_branches.Goals as goal
+use Rattle.obs_tests.proofs.caller_tests.a_forest_holds_its_branches.Goals as goal
 
 one_branch : (bs : List (Option Ends)) (p : ℕ) (e : Ends) → get_or bs p None ≡ Some e → (e.a ≡ e.b → ⊥) → IsForestAt bs (p ∷ [])
 one_branch bs p e there apart =

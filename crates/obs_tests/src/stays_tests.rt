@@ -4,8 +4,8 @@ use crate::tests::{entries, texts};
 use crate::worked::{
     NO_METERS, NO_SWITCHES, PATH_CANDIDATES, PATH_PLAN, SESSION, SESSION_WITH, path,
 };
-use crate::{Status, answer_one, begin_session};
 use obs_edit::Session;
+use obs_engine::{Status, answer_one, begin_session};
 use obs_io::{MemFiles, MemSink};
 use std::alloc::Global;
 use std::process::Abort;

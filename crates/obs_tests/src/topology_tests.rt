@@ -1,10 +1,10 @@
 // What `topology` prints, and the faults of its tables.
-use crate::Status;
 use crate::scripts::{Run, all_end_so, ended, is_as_said};
 use crate::tests::{
     Ended, Outside, QUIET, answers, failing_reads, failing_writes, outcome, outcome_over,
 };
 use crate::worked::{NO_SWITCHES, many_nodes, too_long};
+use obs_engine::Status;
 use obs_io::Entry;
 use obs_text::{Digits, lines};
 use std::alloc::Global;

@@ -1,9 +1,9 @@
 // Reports on cases in the IEEE Common Data Format.
 
-use crate::Status;
 use crate::tests::{answers, failing_reads};
 use crate::verdicts::front;
 use crate::worked::NO_METERS;
+use obs_engine::Status;
 use std::alloc::Global;
 use std::process::Abort;
 use std::test::Fail;

@@ -1,12 +1,12 @@
 // The printed text of worked reports.
 
-use crate::Status;
 use crate::reference_cases::NO_BRANCHES;
 use crate::scripts::all_end_so;
 use crate::tests::{QUIET, answers, failing_reads, failing_writes, outcome_over};
 use crate::worked::{
     NO_METERS, NO_SWITCHES, PATH_BRANCHES, PATH_METERS, PATH_NODES, many_nodes, too_long,
 };
+use obs_engine::Status;
 use obs_io::Entry;
 use std::alloc::Global;
 use std::process::Abort;

@@ -1,10 +1,10 @@
 // Edits of each kind on a grid, forth and back, against sessions that begin anew.
 
-use crate::Status;
 use crate::grids::{Grid, make_grid, make_marked_rows};
 use crate::reference_cases::{Tables, answers_anew};
 use crate::tests::{Ended, outcome, taking};
 use crate::worked::SESSION;
+use obs_engine::Status;
 use obs_text::{Digits, lines};
 use std::alloc::Global;
 use std::process::Abort;

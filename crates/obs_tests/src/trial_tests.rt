@@ -1,9 +1,9 @@
 // What trials print.
 
-use crate::Status;
 use crate::grids::{Grid, make_grid};
 use crate::tests::{Ended, QUIET, answers, failing_writes, outcome, taking};
 use crate::worked::{NO_SWITCHES, SESSION};
+use obs_engine::Status;
 use obs_text::{lines, whole};
 use std::alloc::Global;
 use std::process::Abort;

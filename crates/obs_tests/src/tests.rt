@@ -1,5 +1,5 @@
 // Runs over the forms in memory, and how they end.
-use crate::{Status, run};
+use obs_engine::{Status, run};
 use obs_io::{Entry, MemFiles, MemSink, MemSource};
 use std::alloc::Global;
 use std::process::Abort;

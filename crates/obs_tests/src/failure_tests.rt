@@ -1,8 +1,8 @@
 // A failure at each call of each command over each form of a case.
 
-use crate::Status;
 use crate::scripts::{Run, ended, input_of, is_as_said, nth_run};
 use crate::tests::{Ended, Outside, QUIET, is_front};
+use obs_engine::Status;
 use std::alloc::Global;
 use std::process::Abort;
 use std::test::Fail;

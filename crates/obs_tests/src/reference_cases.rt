@@ -1,8 +1,8 @@
 // Tables of a case, what may be asked of it, and how a run answers.
 
-use crate::Status;
 use crate::tests::{Ended, Outside, outcome, taking};
 use crate::worked::{SESSION_WITH, VERIFY, VERIFY_WITH};
+use obs_engine::Status;
 use std::alloc::Global;
 use std::process::Abort;
 use std::test::Fail;

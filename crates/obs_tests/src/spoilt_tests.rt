@@ -1,8 +1,8 @@
 // Files that are cut, or in which a byte is another one.
 
-use crate::Status;
 use crate::scripts::{Run, entries_of, nth_run, outcome_with};
 use crate::tests::{Outside, QUIET};
+use obs_engine::Status;
 use obs_io::Entry;
 use std::alloc::Global;
 use std::process::Abort;

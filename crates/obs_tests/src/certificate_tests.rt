@@ -1,12 +1,12 @@
 // What is printed is a certificate that holds: the answers to asks go through the checker.
 
-use crate::Status;
 use crate::grids::make_grid;
 use crate::tests::{Ended, QUIET, entries, outcome, outcome_over, taking};
 use crate::worked::{
     NO_CANDIDATES, NO_METERS, NO_SWITCHES, PATH_BRANCHES, PATH_CANDIDATES, PATH_METERS, PATH_NODES,
     SESSION_WITH, TRIANGLE_BRANCHES, TRIANGLE_METERS, TRIANGLE_NODES, VERIFY_WITH,
 };
+use obs_engine::Status;
 use obs_io::Entry;
 use obs_text::{Digits, lines};
 use std::alloc::Global;
