@@ -4,12 +4,11 @@ ghost use Rattle.obs_engine.specs.Forms.{TakesInput};
 ghost use Rattle.obs_engine.specs.Runs.{IsRun};
 ghost use Rattle.obs_files.specs.Words.{form_of};
 ghost use Rattle.obs_io.specs.Bytes.{Wrote, WrotePart};
-ghost use Rattle.obs.specs.Notices.{NamesFailure, failed_word, notice};
+ghost use Rattle.obs_notice.specs.Notices.{NamesFailure, failed_word, notice};
 
-use crate::noted::Noted;
-use crate::notice::say;
 use obs_engine::{Status, run};
 use obs_io::{Files, Sink, Source};
+use obs_notice::{Noted, say};
 use std::alloc::Global;
 
 /// Runs the words, and says on `errors` what happened where no answer was given or not the whole one. What is said, or

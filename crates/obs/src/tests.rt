@@ -1,8 +1,8 @@
 // What no contract says: that calls succeed, and the words on standard error.
-use crate::noted::Noted;
 use crate::serve::serve;
 use obs_engine::Status;
 use obs_io::{Entry, MemFiles, MemSink, MemSource};
+use obs_notice::Noted;
 use std::alloc::Global;
 use std::test::Fail;
 

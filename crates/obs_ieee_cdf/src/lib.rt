@@ -19,8 +19,3 @@ pub use parts::Sections;
 pub use read::{add_tables, read_cdf};
 pub use rows::{NAME_ROOM, branch_name};
 pub use section::sections;
-
-#[cfg(test)]
-mod part_tests;
-#[cfg(test)]
-mod tests;

@@ -20,6 +20,3 @@ pub use real::dir_files::DirFiles;
 pub use real::from_read::FromRead;
 pub use real::to_write::ToWrite;
 pub use whole::{ReadEnd, read_all, write_all};
-
-#[cfg(test)]
-mod tests;

@@ -25,8 +25,3 @@ pub use row_start::rows;
 pub use search::table;
 pub use value_iter::Values;
 pub use value_start::values;
-
-#[cfg(test)]
-mod part_tests;
-#[cfg(test)]
-mod tests;

@@ -13,6 +13,3 @@ pub use command::{Ask, Command};
 pub use fault::LineFault;
 pub use gather::Gather;
 pub use read::read_line;
-
-#[cfg(test)]
-mod tests;

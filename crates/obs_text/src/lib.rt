@@ -19,6 +19,3 @@ pub use names::name_of;
 pub use numbers::whole;
 pub use parts::{bare, columns};
 pub use split::lines;
-
-#[cfg(test)]
-mod tests;

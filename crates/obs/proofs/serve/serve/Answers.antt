@@ -1,6 +1,6 @@
 use Rattle.std.proofs.Common.{inl, inr, sym, ◌∙◌}
-use Rattle.obs.proofs.Named.{named_file, named_input}
-use Rattle.obs.proofs.Said.{writes_part}
+use Rattle.obs_notice.proofs.Named.{named_file, named_input}
+use Rattle.obs_notice.proofs.Said.{writes_part}
 use Rattle.obs.proofs.serve.serve.Goals as goal
 
 pub returns-clause-says : goal.returns-clause-says

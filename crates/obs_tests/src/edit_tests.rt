@@ -1,0 +1,214 @@
+// Edits of each kind on a grid, forth and back, against sessions that begin anew.
+
+use crate::grids::{Grid, make_grid, make_marked_rows};
+use crate::reference_cases::{Tables, answers_anew};
+use crate::tests::{Ended, outcome, taking};
+use crate::worked::SESSION;
+use obs_engine::Status;
+use obs_text::{Digits, lines};
+use std::alloc::Global;
+use std::process::Abort;
+use std::test::Fail;
+
+// The words that turn a flag of a table and turn it back, and the letter before the numbers of its names.
+#[derive(Clone, Copy)]
+struct Words {
+    forth: &'static [u8],
+    back: &'static [u8],
+    letter: &'static [u8],
+}
+
+// The tables behind the nodes, in order.
+const TURNS: [Words; 3] = [
+    Words {
+        forth: b"close ",
+        back: b"open ",
+        letter: b"s",
+    },
+    Words {
+        forth: b"trip ",
+        back: b"restore ",
+        letter: b"b",
+    },
+    Words {
+        forth: b"lose ",
+        back: b"regain ",
+        letter: b"m",
+    },
+];
+
+fn session(alloc: Global, grid: &Grid, changed: [&[u8]; 3], input: &[u8]) -> Result<Ended, Fail> {
+    let [switches, branches, meters] = changed;
+    let files = [b"".as_slice(), &grid.nodes, switches, branches, meters];
+    outcome(alloc, &SESSION, &files, taking(input, 4096))
+}
+
+// The table with the flag of a row turned. Each line ends with its flag.
+fn turned(alloc: Global, bytes: &[u8], row: usize) -> Result<Vec<u8>, Fail> {
+    let mut text = Vec::new(alloc);
+    let mut at = 0_usize;
+    for line in lines(bytes) {
+        if at == row.saturating_add(1) {
+            let front = line
+                .strip_suffix(b"0".as_slice())
+                .or(line.strip_suffix(b"1".as_slice()))
+                .ok_or("no flag")?;
+            text.extend_from_slice(front)?;
+            text.extend_from_slice(if line.ends_with(b"0") { b"1" } else { b"0" })?;
+        } else {
+            text.extend_from_slice(line)?;
+        }
+        text.extend_from_slice(b"\n")?;
+        at = at.wrapping_add(1);
+    }
+    Ok(text)
+}
+
+fn turn(input: &mut Vec<u8>, word: &[u8], letter: &[u8], row: usize) -> Result<(), Fail> {
+    let mut digits = Digits::new();
+    input.extend_from_slice(word)?;
+    input.extend_from_slice(letter)?;
+    input.extend_from_slice(digits.text(row as u64))?;
+    input.extend_from_slice(b"\n")?;
+    Ok(())
+}
+
+// What a session that begins with a row's flag turned answers to the edit that turned it, which leaves its tables as
+// they are.
+fn answer_anew(
+    alloc: Global,
+    grid: &Grid,
+    tables: [&[u8]; 3],
+    table: usize,
+    row: usize,
+) -> Result<Ended, Fail> {
+    let [switches, branches, meters] = tables;
+    let words = *TURNS.get(table).ok_or("no table")?;
+    let mut line = Vec::new(alloc);
+    turn(&mut line, words.forth, words.letter, row)?;
+    let now = turned(alloc, tables.get(table).ok_or("no table")?, row)?;
+    let changed: [&[u8]; 3] = match table {
+        0 => [&now, branches, meters],
+        1 => [switches, &now, meters],
+        _ => [switches, branches, &now],
+    };
+    session(alloc, grid, changed, &line)
+}
+
+// Each row's flag is turned and turned back in one session. Back it answers as at first, and forth, of each so many
+// rows, as a session that begins with the tables as they are then.
+fn answers_as_anew(
+    rt: &impl Abort,
+    alloc: Global,
+    grid: &Grid,
+    table: usize,
+    rows: usize,
+    each: usize,
+) -> Result<(), Fail> {
+    let tables: [&[u8]; 3] = [&grid.switches, &grid.branches, &grid.meters];
+    let words = *TURNS.get(table).ok_or("no table")?;
+    let mut input = Vec::new(alloc);
+    for row in 0..rows {
+        turn(&mut input, words.forth, words.letter, row)?;
+        turn(&mut input, words.back, words.letter, row)?;
+    }
+    let found = session(alloc, grid, tables, &input)?;
+    let first = session(alloc, grid, tables, b"regain m0\n")?;
+    let mut answers = lines(&found.text);
+    for row in 0..rows {
+        let forth = answers.next().ok_or("no answer")?;
+        let back = answers.next().ok_or("no answer")?;
+        if each != 0 && row % each == 0 {
+            let anew = answer_anew(alloc, grid, tables, table, row)?;
+            assert!(rt; Some(forth) == lines(&anew.text).next());
+        }
+        assert!(rt; Some(back) == lines(&first.text).next());
+    }
+    assert!(rt; found.status == Status::Done || found.status == Status::Short);
+    assert!(rt; answers.next() == None);
+    Ok(())
+}
+
+// Ten rows of ten nodes have 180 branches and meters, and a switch at the head of each row.
+#[test]
+fn edits_are_as_a_new_session(rt: HostRuntime) -> Result<(), Fail> {
+    let grid = make_grid(rt.alloc(), 10, 3, 0)?;
+    answers_as_anew(&rt, rt.alloc(), &grid, 0, 10, 1)?;
+    answers_as_anew(&rt, rt.alloc(), &grid, 1, 180, 7)?;
+    answers_as_anew(&rt, rt.alloc(), &grid, 2, 180, 7)
+}
+
+// Whether the line of a row ends with a set flag.
+fn is_set(bytes: &[u8], row: usize) -> bool {
+    let mut at = 0_usize;
+    for line in lines(bytes) {
+        if at == row.saturating_add(1) {
+            return line.ends_with(b"1");
+        }
+        at = at.wrapping_add(1);
+    }
+    false
+}
+
+// After each flag of a table was turned, all answers are those of a session that begins with it so, and after all
+// were turned forth and back, those of the tables as they were.
+fn turns_as_anew(
+    rt: &impl Abort,
+    alloc: Global,
+    tables: Tables<'_>,
+    table: usize,
+    rows: usize,
+) -> Result<(), Fail> {
+    let words = *TURNS.get(table).ok_or("no table")?;
+    let bytes = match table {
+        0 => tables.switches,
+        1 => tables.branches,
+        _ => tables.meters,
+    };
+    let mut all = Vec::new(alloc);
+    for row in 0..rows {
+        let forth = is_set(bytes, row) == (table != 0);
+        let (forth, back) = if forth {
+            (words.forth, words.back)
+        } else {
+            (words.back, words.forth)
+        };
+        let mut edits = Vec::new(alloc);
+        turn(&mut edits, forth, words.letter, row)?;
+        turn(&mut all, forth, words.letter, row)?;
+        turn(&mut all, back, words.letter, row)?;
+        let now = turned(alloc, bytes, row)?;
+        let changed = match table {
+            0 => Tables {
+                switches: &now,
+                ..tables
+            },
+            1 => Tables {
+                branches: &now,
+                ..tables
+            },
+            _ => Tables {
+                meters: &now,
+                ..tables
+            },
+        };
+        answers_anew(rt, alloc, tables, &edits, changed)?;
+    }
+    answers_anew(rt, alloc, tables, &all, tables)
+}
+
+// Three rows of three nodes, of which some have a source, and some a mark.
+#[test]
+fn edits_of_marked_rows_are_as_a_new_session(rt: HostRuntime) -> Result<(), Fail> {
+    let grid = make_marked_rows(rt.alloc(), 3, 11)?;
+    let tables = Tables {
+        nodes: &grid.nodes,
+        switches: &grid.switches,
+        branches: &grid.branches,
+        meters: &grid.meters,
+        candidates: &grid.candidates,
+    };
+    turns_as_anew(&rt, rt.alloc(), tables, 0, 3)?;
+    turns_as_anew(&rt, rt.alloc(), tables, 1, 12)?;
+    turns_as_anew(&rt, rt.alloc(), tables, 2, 12)
+}
