@@ -14,8 +14,8 @@ ghost use Rattle.obs_engine.specs.declared.status.Status.TheVariants.{Done, Shor
 ghost use Rattle.obs_engine.specs.declared.words.Form.{Form};
 ghost use Rattle.obs_engine.specs.Forms.{HasRows};
 ghost use Rattle.obs_engine.specs.Lines.{lines_case};
-ghost use Rattle.obs_edit.specs.declared.edit.Edit.{Edit};
-ghost use Rattle.obs_edit.specs.Edits.{edited};
+ghost use Rattle.obs_repair.specs.declared.edit.Edit.{Edit};
+ghost use Rattle.obs_repair.specs.Edits.{edited};
 ghost use Rattle.obs_engine.specs.Words.{form_of};
 ghost use Rattle.obs_report.specs.Counts.{verdict_word};
 ghost use Rattle.obs_engine.specs.Asks.{report_status};
