@@ -20,7 +20,7 @@ import sys
 
 CRATES = (
     "obs_graph obs_forest obs_meter obs_assign obs_exchange obs_rankcut obs_critical obs_first obs_islands obs_placement obs_switch "
-    "obs_network obs_kept obs_outage obs_edit"
+    "obs_network obs_kept obs_outage obs_repair obs_edit"
 ).split()
 # What a plain file takes the place of, each a crate of its own.
 STANDS = {"obs_case": "case.rs", "obs_script": "script.rs", "shim": "shim.rs"}

@@ -30,13 +30,14 @@ use Rattle.obs_first.proofs.Lawful.{first_pairs-is}
 use Rattle.obs_islands.specs.Firsts.{islands_of}
 use Rattle.obs_network.specs.Located.{live_meters_of}
 use Rattle.obs_network.specs.Network.{case_branches, case_meters, case_vertex_count, network_of}
-use Rattle.obs_network.specs.Observable.{case_live_meters, case_rank}
+use Rattle.obs_network.specs.Observable.{case_live_meters}
 use Rattle.obs_network.proofs.Observed.{pairs_in}
 use Rattle.obs_network.proofs.OfCase.{case_branches-are, length-case_meters}
 use Rattle.obs_edit.specs.Answers.{bound_meters, bound_outside, bound_rank, case_critical_meters, case_first_pairs, case_islands, component_meters, component_rank, is_critical_meter, is_meter_of}
-use Rattle.obs_edit.specs.Sessions.{AreLongest, AreMarks}
+use Rattle.obs_repair.specs.Kept.{AreLongest}
+use Rattle.obs_edit.specs.Sessions.{AreMarks}
 use Rattle.obs_edit.proofs.Enough.{in_component, least, live_pairs}
-use Rattle.obs_edit.proofs.Tight.{IsClosedFor, bound_is, mark_from, pairs_in_from, rank_from}
+use Rattle.obs_edit.proofs.Tight.{IsClosedFor, bound_is, mark_from, pairs_in_from}
 
 is_some-from : (o : Option ℕ) → is_some o ≡ true → (e : ℕ) × (o ≡ Some e)
 is_some-from (Some e) t = (e, refl)
@@ -46,10 +47,6 @@ is_some-from None t = clash t refl
 module _ (t : Tables) (v : IsValid t) (a : Assignment) (h : AreLongest t a) where
   closed_for : (S : ℕ → Bool) × IsClosedFor t (pairs a) S
   closed_for = let s = least t v a h in (s.0, record { assigns = IsAssignment-live (case_vertex_count t) a (network_of t).graph (case_meters t) h.whole h.stands; least = s.1 })
-
-  -- the number of pairs is the rank
-  pub rank_of_longest : length (pairs a) ≡ case_rank t
-  rank_of_longest = let s = closed_for in rank_from t v (pairs a) s.0 s.1
 
   abbrev pub has_pair : ℕ → Bool
   has_pair m = is_some (branch_at a m)

@@ -1,4 +1,3 @@
-pub mod OfNetwork
 pub mod Enough
 pub mod Planned
 pub mod PlanFirst
@@ -13,19 +12,4 @@ pub mod FirstParts
 pub mod FirstTrees
 pub mod NamedIslands
 pub mod OneIsland
-pub mod Retained
-pub mod Metered
-pub mod Flagged
-pub mod Repaired
-pub mod Absent
-pub mod SameBut
-pub mod GivenUp
-pub mod MostPairs
-pub mod CameBack
 pub mod Sets
-pub mod Bounding
-pub mod KeptParts
-pub mod ClosedParts
-pub mod HeldPairs
-pub mod Limited
-pub mod PartRoom

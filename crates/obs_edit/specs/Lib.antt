@@ -3,7 +3,5 @@ pub mod Edits
 pub mod Lines
 pub mod Planned
 pub mod Placements
-pub mod Repairing
 pub mod Sessions
 pub mod Laws
-pub mod Parts

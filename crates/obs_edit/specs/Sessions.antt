@@ -3,14 +3,12 @@ use Rattle.std.specs.Prelude.{◌≡◌, ℕ, ◌≤◌, Bool, true, false, not,
 use Rattle.obs_case.specs.Tables.{Tables, prices_of}
 use Rattle.obs_matroid.specs.Lists.{In}
 use Rattle.obs_assign.specs.Assignment.{Assignment, StandsOver, pairs}
-use Rattle.obs_exchange.specs.Found.{Work}
 use Rattle.obs_critical.specs.Listed.{CriticalWork}
 use Rattle.obs_islands.specs.IslandWork.{IslandWork}
-use Rattle.obs_meter.specs.Sizes.{Sizes}
-use Rattle.obs_network.specs.Network.{case_meters, case_offered, case_position_count, case_vertex_room, network_of}
+use Rattle.obs_network.specs.Network.{case_meters, case_offered, network_of}
 use Rattle.obs_network.specs.Observable.{case_live_meters}
 use Rattle.obs_edit.specs.Answers.{bound_meters, bound_outside, bound_rank, case_critical_meters, case_first_pairs, case_islands, is_critical_meter}
-use Rattle.obs_exchange.specs.Longest.{IsLongest}
+use Rattle.obs_repair.specs.Kept.{case_room}
 use Rattle.obs_edit.specs.Planned.{Planning, case_placed_pairs, case_placement, offered_room}
 use Rattle.obs_edit.specs.declared.hand.AtHand.{AtHand}
 
@@ -20,21 +18,6 @@ pub record Session : Type 0 where
   pub offered : Bool
   pub pairs : Assignment
   pub at_hand : AtHand
-
--- the pairs are a longest assignment over the network of a case, and nothing is frozen
-abbrev pub AreLongest : Tables → Assignment → Type 0
-AreLongest t a = IsLongest (network_of t).graph (case_meters t) a
-
--- the sizes of a work value for a case, whichever switches are closed
-abbrev pub case_room : Tables → Sizes
-case_room t = record { meters = length t.meters; branches = case_position_count t; vertices = case_vertex_room t }
-
--- there is room for every case with as many rows
-pub record HasRoom (t : Tables) (a : Assignment) (w : Work) : Type 0 where
-  pub pair_meters : a.most_meters ≡ length t.meters
-  pub pair_branches : a.forest.most_branches ≡ case_position_count t
-  pub pair_vertices : a.forest.most_vertices ≡ case_vertex_room t
-  pub work : w.sizes ≡ case_room t
 
 -- the flags mark, of the live meters, those that aren't critical
 pub record AreMarks (t : Tables) (flags : List Bool) : Type 0 where

@@ -4,11 +4,11 @@ ghost use Rattle.obs_edit.specs.Sessions.{HasRoomToAnswer};
 
 use crate::asks::Measured;
 use crate::hand::AtHand;
-use crate::memory::NoMemory;
 use obs_case::Case;
 use obs_critical::CriticalWork;
 use obs_islands::IslandWork;
 use obs_network::{position_count, vertex_room};
+use obs_repair::NoMemory;
 use std::alloc::Global;
 
 /// What was found in the present case beside the pairs.

@@ -3,7 +3,8 @@ ghost use Rattle.std.specs.Prelude.{◌≡◌, ◌<◌, ◌≤◌, length, take}
 ghost use Rattle.obs_assign.specs.Assignment.{pairs};
 ghost use Rattle.obs_network.specs.Network.{case_component_count, network_of};
 ghost use Rattle.obs_edit.specs.Answers.{bound_meters, bound_outside, bound_rank, case_critical_meters, case_first_pairs, case_islands};
-ghost use Rattle.obs_edit.specs.Sessions.{AreLongest, AreMarks, HasRoom, case_room};
+ghost use Rattle.obs_repair.specs.Kept.{AreLongest, HasRoom, case_room};
+ghost use Rattle.obs_edit.specs.Sessions.{AreMarks};
 
 use crate::components::{count_paired, list_marked};
 use obs_assign::{Assignment, Steps};

@@ -6,13 +6,13 @@ ghost use Rattle.obs_assign.specs.Assignment.{Fits, HasRoomOf, StandsOver, pairs
 ghost use Rattle.obs_first.specs.First.{first_pairs};
 ghost use Rattle.obs_edit.specs.Planned.{new_paired, pairs_in, planned_items, touches_of};
 
-use crate::memory::NoMemory;
 use obs_assign::{Assignment, Steps};
 use obs_exchange::{Work, lengthen};
 use obs_first::first;
 use obs_graph::Graph;
 use obs_meter::{Meters, Touch};
 use obs_placement::{PlaceWork, Placement};
+use obs_repair::NoMemory;
 use std::alloc::Global;
 use std::marker::Model;
 use std::sync::ledger::Ledger;

@@ -8,7 +8,6 @@ ghost use Rattle.obs_placement.specs.Placed.{placed_of, placement_of};
 ghost use Rattle.obs_network.specs.Network.{network_of};
 ghost use Rattle.obs_edit.specs.Planned.{case_placed_pairs, case_placement, new_planning, offered_room, placed_pairs, planning_of};
 
-use crate::memory::NoMemory;
 use crate::pairing::Pairing;
 use obs_assign::{Assignment, Steps};
 use obs_case::{Candidate, Case};
@@ -16,6 +15,7 @@ use obs_graph::Graph;
 use obs_meter::Meters;
 use obs_network::{Network, position_count, vertex_room};
 use obs_placement::{PlaceWork, Placement, find_placement};
+use obs_repair::NoMemory;
 use std::alloc::Global;
 use std::marker::Model;
 use std::sync::ledger::Ledger;

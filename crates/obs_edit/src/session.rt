@@ -3,22 +3,23 @@ ghost use Rattle.std.specs.Prelude.{◌≡◌, ◌+◌, ◌<◌, ◌↔◌, true
 ghost use Rattle.obs_assign.specs.Assignment.{pairs};
 ghost use Rattle.obs_network.specs.Network.{case_component_count, case_needed, network_of};
 ghost use Rattle.obs_network.specs.Observable.{IsObservable, IsRankOf, case_rank, is_energised_component};
-ghost use Rattle.obs_edit.specs.Edits.{HasRow, IsEdited};
-ghost use Rattle.obs_edit.specs.Lines.{IsDone, meant_of, searches_of};
-ghost use Rattle.obs_edit.specs.Sessions.{AreLongest};
+ghost use Rattle.obs_repair.specs.Edits.{HasRow};
+ghost use Rattle.obs_edit.specs.Edits.{IsEdited};
+ghost use Rattle.obs_repair.specs.Lines.{meant_of};
+ghost use Rattle.obs_edit.specs.Lines.{IsDone, searches_of};
+ghost use Rattle.obs_repair.specs.Kept.{AreLongest};
 
 use crate::answers::{Answers, make_answers};
 use crate::counted::has_enough;
-use crate::edit::{Applied, Done, Edit, Meant, Refusal};
+use crate::edit::{Applied, Done};
 use crate::hand::AtHand;
-use crate::kept::{Held, fill, make_held};
-use crate::lines::meant;
-use crate::memory::NoMemory;
 use crate::placing::Placing;
-use crate::repair::{is_set, repair, set_flag};
 use obs_assign::{Assignment, Steps};
 use obs_case::Case;
 use obs_network::Network;
+use obs_repair::{
+    Edit, Held, Meant, NoMemory, Refusal, fill, is_set, make_held, meant, repair, set_flag,
+};
 use std::alloc::Global;
 use std::marker::Model;
 use std::sync::ledger::Ledger;
@@ -48,8 +49,9 @@ impl Model for Session {
     ghost use Rattle.std.specs.Prelude.{◌≡◌, take};
     ghost use Rattle.obs_network.specs.Network.{network_of};
     ghost use Rattle.obs_network.specs.Observable.{case_rank};
-    ghost use Rattle.obs_edit.specs.Parts.{BoundsWhereKnown, HasRoomForParts};
-    ghost use Rattle.obs_edit.specs.Sessions.{AreAnswers, AreLongest, HasRoom, HasRoomToAnswer, IsPlacing, Session};
+    ghost use Rattle.obs_repair.specs.Parts.{BoundsWhereKnown, HasRoomForParts};
+    ghost use Rattle.obs_repair.specs.Kept.{AreLongest, HasRoom};
+    ghost use Rattle.obs_edit.specs.Sessions.{AreAnswers, HasRoomToAnswer, IsPlacing, Session};
 
     ghost Value = { Session };
 

@@ -4,9 +4,9 @@ use Rattle.std.proofs.lemmas.Bool.{cases_Bool}
 use Rattle.std.proofs.lemmas.List.{append-nil}
 use Rattle.obs_case.specs.Tables.{Tables}
 use Rattle.obs_script.specs.Gathered.{content_of, is_comment}
-use Rattle.obs_edit.specs.declared.edit.Meant.{Meant}
-use Rattle.obs_edit.specs.declared.edit.Refusal.{Refusal}
-use Rattle.obs_edit.specs.Lines.{meant_of}
+use Rattle.obs_repair.specs.declared.edit.Meant.{Meant}
+use Rattle.obs_repair.specs.declared.edit.Refusal.{Refusal}
+use Rattle.obs_repair.specs.Lines.{meant_of}
 use Rattle.obs_engine.specs.Laws.{EditsAloneChange, EndedOrLast, IsAnswerTo, OrderIsForgotten, ReportsAsTheCommand}
 use Rattle.obs_engine.specs.Lines.{answer_to, case_after, ended_after, line_case, lines_case, lines_text, open_after}
 use Rattle.obs_engine.specs.Replies.{Reply}

@@ -30,7 +30,7 @@ use Rattle.obs_report.specs.Items.{pair_line}
 use Rattle.obs_report.specs.Trees.{tree_line, tree_text}
 use Rattle.obs_report.proofs.Printing.{and_then_none}
 use Rattle.obs_edit.specs.Answers.{bound_meters, bound_outside, bound_rank, case_critical_meters, case_first_pairs, case_islands, component_rank}
-use Rattle.obs_edit.specs.Sessions.{AreLongest}
+use Rattle.obs_repair.specs.Kept.{AreLongest}
 use Rattle.obs_edit.proofs.Enough.{live_pairs}
 use Rattle.obs_edit.proofs.Tight.{observable-from, observable-to}
 use Rattle.obs_engine.specs.Asks.{block_text, blocks_text, bound_claim, claims_text, component_claim, text_if, tree_claim}

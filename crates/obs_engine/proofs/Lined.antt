@@ -12,8 +12,8 @@ use Rattle.obs_script.specs.Commands.{most_bytes}
 use Rattle.obs_script.specs.Gathered.{Holds, content_of, fed, is_comment, line_of}
 use Rattle.obs_script.proofs.CommandLemmas.{too_long}
 use Rattle.obs_text.specs.Lines.{is_feed}
-use Rattle.obs_edit.specs.declared.edit.Refusal.TheVariants.{LineTooLong}
-use Rattle.obs_edit.specs.Lines.{meant_by, meant_of}
+use Rattle.obs_repair.specs.declared.edit.Refusal.TheVariants.{LineTooLong}
+use Rattle.obs_repair.specs.Lines.{meant_by, meant_of}
 use Rattle.obs_engine.specs.Lines.{answer_to, case_after, ended_after, line_case, line_text, lines_case, lines_text, open_after}
 use Rattle.obs_engine.proofs.Asked.{appends_as}
 use Rattle.obs_engine.proofs.Folding.{case_goes_on, open_parts, text_goes_on}

@@ -18,14 +18,14 @@ use Rattle.obs_script.specs.Gathered.{is_comment}
 use Rattle.obs_script.proofs.LineLemmas.{ended_line}
 use Rattle.obs_text.specs.Faults.{Fault, fault_of}
 use Rattle.obs_text.specs.Lines.{lines_of}
-use Rattle.obs_edit.specs.declared.edit.Edit.{Edit}
-use Rattle.obs_edit.specs.declared.edit.Edit.TheVariants as edit
-use Rattle.obs_edit.specs.declared.edit.Meant.{Meant}
-use Rattle.obs_edit.specs.declared.edit.Meant.TheVariants.{Edits, Asks}
-use Rattle.obs_edit.specs.declared.edit.Refusal.{Refusal}
-use Rattle.obs_edit.specs.declared.edit.Refusal.TheVariants.{UnknownSwitch, UnknownBranch, UnknownMeter}
-use Rattle.obs_edit.specs.Edits.{edited}
-use Rattle.obs_edit.specs.Lines.{edit_at, meant_by, meant_of}
+use Rattle.obs_repair.specs.declared.edit.Edit.{Edit}
+use Rattle.obs_repair.specs.declared.edit.Edit.TheVariants as edit
+use Rattle.obs_repair.specs.declared.edit.Meant.{Meant}
+use Rattle.obs_repair.specs.declared.edit.Meant.TheVariants.{Edits, Asks}
+use Rattle.obs_repair.specs.declared.edit.Refusal.{Refusal}
+use Rattle.obs_repair.specs.declared.edit.Refusal.TheVariants.{UnknownSwitch, UnknownBranch, UnknownMeter}
+use Rattle.obs_repair.specs.Edits.{edited}
+use Rattle.obs_repair.specs.Lines.{edit_at, meant_by, meant_of}
 use Rattle.obs_edit.specs.Sessions.{Session as Kept}
 use Rattle.obs_files.specs.declared.status.Status.{Status}
 use Rattle.obs_files.specs.declared.status.Status.TheVariants.{Done, Short, Usage, ReadFault, WriteFault, NoMemory}

@@ -16,8 +16,9 @@ use Rattle.obs_network.specs.Switched.{case_bus_count}
 use Rattle.obs_report.specs.Counts.{counts_text}
 use Rattle.obs_report.specs.Totals.{totals_text, trial_line}
 use Rattle.obs_network.specs.Observable.{IsRankOf, case_rank}
-use Rattle.obs_edit.specs.Edits.{IsRepaired}
-use Rattle.obs_edit.specs.Sessions.{AreLongest, Session}
+use Rattle.obs_repair.specs.Edits.{IsRepaired}
+use Rattle.obs_repair.specs.Kept.{AreLongest}
+use Rattle.obs_edit.specs.Sessions.{Session}
 use Rattle.obs_engine.specs.Trials.{AreInService, dip_meters, dips_of, edits_of, is_dip, is_first_of_island, island_count, trial_text}
 use Rattle.obs_engine.specs.Turns.{AreSearches, AreTurns, IsTurn}
 use Rattle.obs_claimed.proofs.Small.{filter_few}

@@ -16,12 +16,12 @@ use Rattle.obs_report.specs.Lines.{ok_line, refused_line}
 use Rattle.obs_script.specs.declared.command.Ask.{Ask}
 use Rattle.obs_script.specs.Gathered.{content_of, is_comment}
 use Rattle.obs_text.specs.Lines.{lines_of}
-use Rattle.obs_edit.specs.declared.edit.Edit.{Edit}
-use Rattle.obs_edit.specs.declared.edit.Meant.TheVariants.{Edits, Asks}
-use Rattle.obs_edit.specs.declared.edit.Refusal.{Refusal}
+use Rattle.obs_repair.specs.declared.edit.Edit.{Edit}
+use Rattle.obs_repair.specs.declared.edit.Meant.TheVariants.{Edits, Asks}
+use Rattle.obs_repair.specs.declared.edit.Refusal.{Refusal}
 use Rattle.obs_edit.specs.Answers.{bound_meters}
-use Rattle.obs_edit.specs.Edits.{edited}
-use Rattle.obs_edit.specs.Lines.{meant_of, refusal_code, refusal_name}
+use Rattle.obs_repair.specs.Edits.{edited}
+use Rattle.obs_repair.specs.Lines.{meant_of, refusal_code, refusal_name}
 use Rattle.obs_engine.specs.Asks.{ask_text}
 use Rattle.obs_engine.specs.Commands.{IsCaseReply}
 use Rattle.obs_outage.specs.Outages.{outage_case, outage_rows}

@@ -5,12 +5,12 @@ use Rattle.obs_text.specs.Lines.{is_feed}
 use Rattle.obs_network.specs.Network.{case_needed}
 use Rattle.obs_report.specs.Lines.{ok_line, refused_line}
 use Rattle.obs_script.specs.Gathered.{content_of, is_comment}
-use Rattle.obs_edit.specs.declared.edit.Meant.{Meant}
-use Rattle.obs_edit.specs.declared.edit.Meant.TheVariants.{Edits, Asks}
-use Rattle.obs_edit.specs.declared.edit.Refusal.{Refusal}
+use Rattle.obs_repair.specs.declared.edit.Meant.{Meant}
+use Rattle.obs_repair.specs.declared.edit.Meant.TheVariants.{Edits, Asks}
+use Rattle.obs_repair.specs.declared.edit.Refusal.{Refusal}
 use Rattle.obs_network.specs.Observable.{case_rank}
-use Rattle.obs_edit.specs.Edits.{edited}
-use Rattle.obs_edit.specs.Lines.{meant_of, refusal_code, refusal_name}
+use Rattle.obs_repair.specs.Edits.{edited}
+use Rattle.obs_repair.specs.Lines.{meant_of, refusal_code, refusal_name}
 use Rattle.obs_engine.specs.Asks.{ask_text}
 
 -- the present case after what a line means: only an edit changes it

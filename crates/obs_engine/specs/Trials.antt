@@ -8,10 +8,10 @@ use Rattle.obs_network.specs.Switched.{case_bus_count}
 use Rattle.obs_report.specs.Counts.{counts_text}
 use Rattle.obs_report.specs.Islands.{is_energised_bus}
 use Rattle.obs_report.specs.Totals.{totals_text, trial_line}
-use Rattle.obs_edit.specs.declared.edit.Edit.TheVariants.{Meter}
+use Rattle.obs_repair.specs.declared.edit.Edit.TheVariants.{Meter}
 use Rattle.obs_edit.specs.Answers.{case_islands}
 use Rattle.obs_network.specs.Observable.{case_rank}
-use Rattle.obs_edit.specs.Edits.{edited}
+use Rattle.obs_repair.specs.Edits.{edited}
 use Rattle.obs_engine.specs.Asks.{report_status}
 use Rattle.obs_engine.specs.Replies.{Reply}
 

@@ -1,7 +1,7 @@
 -- The edits of a trial, which lose and regain each meter, and the searches that they took.
 use Rattle.std.specs.Prelude.{ℕ, zero, suc, ◌≡◌, ◌≤◌, ◌+◌, true, false, length}
 use Rattle.obs_edit.specs.declared.edit.Applied.{Applied}
-use Rattle.obs_edit.specs.declared.edit.Edit.TheVariants.{Meter}
+use Rattle.obs_repair.specs.declared.edit.Edit.TheVariants.{Meter}
 use Rattle.obs_edit.specs.Edits.{IsEdited}
 use Rattle.obs_edit.specs.Sessions.{Session}
 use Rattle.obs_engine.specs.Trials.{dips_of, edits_of}

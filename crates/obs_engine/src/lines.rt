@@ -3,7 +3,7 @@ ghost use Rattle.std.specs.Prelude.{◌≡◌, ℕ, List, [], ◌∷◌, Err, If
 ghost use Rattle.obs_case.specs.Tables.{Tables};
 ghost use Rattle.obs_report.specs.Printed.{Appends};
 ghost use Rattle.obs_script.specs.Gathered.{Holds, content_of};
-ghost use Rattle.obs_edit.specs.Lines.{meant_of};
+ghost use Rattle.obs_repair.specs.Lines.{meant_of};
 ghost use Rattle.obs_engine.specs.Lines.{answer_to, case_after, ended_after, line_case, line_text, lines_case, lines_text, open_after};
 
 use crate::asks::print_ask;

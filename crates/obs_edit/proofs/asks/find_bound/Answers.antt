@@ -5,7 +5,7 @@ use Rattle.obs_network.specs.Located.{live_meters_of}
 use Rattle.obs_network.specs.Network.{Network, network_of}
 use Rattle.obs_edit.proofs.Answered.{few_in_component, marked_bound, measured}
 use Rattle.obs_network.proofs.OfCase.{count_of, length-case_meters}
-use Rattle.obs_edit.proofs.OfNetwork.{few_meters}
+use Rattle.obs_repair.proofs.OfNetwork.{few_meters}
 use Rattle.obs_edit.proofs.asks.find_bound.Goals as goal
 
 pub live_meters-meters-requires : goal.live_meters-meters-requires

@@ -2,7 +2,8 @@ use Rattle.std.proofs.Common.{◌∙◌, sym, ap, subst, length, Bool, List, ari
 use Rattle.obs_assign.specs.Assignment.{Assignment}
 use Rattle.obs_meter.specs.Held.{Meters}
 use Rattle.obs_network.specs.Network.{Network}
-use Rattle.obs_edit.specs.Sessions.{AreLongest, AreMarks}
+use Rattle.obs_repair.specs.Kept.{AreLongest}
+use Rattle.obs_edit.specs.Sessions.{AreMarks}
 use Rattle.obs_edit.proofs.Answered.{critical_of_network, marks_of_network}
 use Rattle.obs_network.proofs.OfCase.{length-case_meters}
 use Rattle.obs_edit.proofs.asks.find_critical.Goals as goal

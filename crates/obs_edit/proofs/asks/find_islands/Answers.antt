@@ -1,7 +1,7 @@
 use Rattle.std.proofs.Common.{◌∙◌, ap}
 use Rattle.obs_network.specs.Network.{Network}
 use Rattle.obs_edit.proofs.Answered.{islands_of_network}
-use Rattle.obs_edit.proofs.OfNetwork.{room_of_rows}
+use Rattle.obs_repair.proofs.OfNetwork.{room_of_rows}
 use Rattle.obs_edit.proofs.asks.find_islands.Goals as goal
 
 pub find_islands-requires-clause-room : goal.find_islands-requires-clause-room

@@ -6,7 +6,7 @@ use Rattle.obs_network.specs.Network.{Network}
 use Rattle.obs_edit.proofs.Answered.{count_of_pairs, few_in_component}
 use Rattle.obs_edit.proofs.Enough.{enough_observable}
 use Rattle.obs_network.proofs.OfCase.{count_of, length-case_meters, need_from}
-use Rattle.obs_edit.proofs.OfNetwork.{few_meters}
+use Rattle.obs_repair.proofs.OfNetwork.{few_meters}
 use Rattle.obs_edit.proofs.counted.has_enough.Goals as goal
 
 pub live_meters-requires : goal.live_meters-requires

@@ -1,6 +1,6 @@
 use Rattle.std.proofs.Common.{ap, sym, Result}
-use Rattle.obs_edit.specs.declared.edit.Meant.{Meant}
-use Rattle.obs_edit.specs.declared.edit.Refusal.{Refusal}
+use Rattle.obs_repair.specs.declared.edit.Meant.{Meant}
+use Rattle.obs_repair.specs.declared.edit.Refusal.{Refusal}
 use Rattle.obs_engine.specs.Lines.{answer_to}
 use Rattle.obs_engine.proofs.Asked.{appends_as}
 use Rattle.obs_engine.proofs.lines.answer_content.Goals as goal

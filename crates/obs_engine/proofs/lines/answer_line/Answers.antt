@@ -1,8 +1,8 @@
 use Rattle.std.proofs.Common.{◌≡◌, ◌∙◌, ap, List, sym, Result, false, ℕ}
 use Rattle.obs_script.specs.Gathered.{content_of, is_comment}
-use Rattle.obs_edit.specs.declared.edit.Meant.{Meant}
-use Rattle.obs_edit.specs.declared.edit.Refusal.{Refusal}
-use Rattle.obs_edit.specs.Lines.{meant_of}
+use Rattle.obs_repair.specs.declared.edit.Meant.{Meant}
+use Rattle.obs_repair.specs.declared.edit.Refusal.{Refusal}
+use Rattle.obs_repair.specs.Lines.{meant_of}
 use Rattle.obs_engine.specs.Lines.{answer_to, case_after}
 use Rattle.obs_engine.proofs.Asked.{appends_as, appends_nothing}
 use Rattle.obs_engine.proofs.Lined.{line_none, line_some, passed_case, passed_text, said_case, said_text}

@@ -1,8 +1,8 @@
 use Rattle.std.proofs.Common.{◌≡◌, ◌∙◌, ◌<◌, ap, length, true, refl, sym, arith}
 use Rattle.obs_case.specs.Tables.{Tables}
 use Rattle.obs_network.specs.Observable.{case_rank}
-use Rattle.obs_edit.specs.declared.edit.Edit.TheVariants.{Meter}
-use Rattle.obs_edit.specs.Edits.{edited}
+use Rattle.obs_repair.specs.declared.edit.Edit.TheVariants.{Meter}
+use Rattle.obs_repair.specs.Edits.{edited}
 use Rattle.obs_engine.proofs.Turned.{regained_case, rows_lost, turn_searched}
 use Rattle.obs_engine.proofs.trial.turn_meter.Given.{Over}
 use Rattle.obs_engine.proofs.trial.turn_meter.Goals as goal

@@ -1,7 +1,7 @@
 use Rattle.std.proofs.Common.{sym, ap, ◌∙◌}
 use Rattle.std.specs.Prelude.{Ok}
-use Rattle.obs_edit.specs.Lines.{meant_of}
-use Rattle.obs_edit.proofs.Sets.{row-meant}
+use Rattle.obs_repair.specs.Lines.{meant_of}
+use Rattle.obs_repair.proofs.Rows.{row-meant}
 use Rattle.obs_edit.proofs.session.Session.apply.Goals as goal
 
 pub set-requires : goal.set-requires

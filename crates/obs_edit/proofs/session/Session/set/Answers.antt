@@ -4,12 +4,14 @@ use Rattle.obs_case.specs.Tables.{Tables}
 use Rattle.obs_assign.specs.Assignment.{StandsOver}
 use Rattle.obs_network.specs.Network.{case_meters, network_of}
 use Rattle.obs_edit.specs.declared.hand.AtHand.{AtHand}
-use Rattle.obs_edit.specs.Edits.{HasRow, edited}
-use Rattle.obs_edit.specs.Parts.{BoundsWhereKnown, HasRoomForParts}
-use Rattle.obs_edit.specs.Sessions.{HasRoom, HasRoomToAnswer, Session}
-use Rattle.obs_edit.proofs.Answered.{rank_of_longest}
-use Rattle.obs_edit.proofs.PartRoom.{parts_room-edited}
-use Rattle.obs_edit.proofs.Sets.{answer_room-edited, no_answers, placing-edited, repaired-same, room-edited, takes_none}
+use Rattle.obs_repair.specs.Edits.{HasRow, edited}
+use Rattle.obs_repair.specs.Parts.{BoundsWhereKnown, HasRoomForParts}
+use Rattle.obs_repair.specs.Kept.{HasRoom}
+use Rattle.obs_edit.specs.Sessions.{HasRoomToAnswer, Session}
+use Rattle.obs_repair.proofs.OfNetwork.{rank_of_longest}
+use Rattle.obs_repair.proofs.PartRoom.{parts_room-edited}
+use Rattle.obs_repair.proofs.Sets.{repaired-same, room-edited, takes_none}
+use Rattle.obs_edit.proofs.Sets.{answer_room-edited, no_answers, placing-edited}
 use Rattle.obs_edit.proofs.session.Session.set.Goals as goal
 
 pub returns-then-is_set-clause-edited : goal.returns-then-is_set-clause-edited

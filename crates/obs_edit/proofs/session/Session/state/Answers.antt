@@ -1,7 +1,7 @@
 use Rattle.std.proofs.Common.{◌∙◌, ap}
 use Rattle.obs_network.specs.Observable.{case_rank}
 use Rattle.obs_edit.specs.Sessions.{Session}
-use Rattle.obs_edit.proofs.Answered.{rank_of_longest}
+use Rattle.obs_repair.proofs.OfNetwork.{rank_of_longest}
 use Rattle.obs_edit.proofs.session.Session.state.Goals as goal
 
 pub returns-clause-computed : goal.returns-clause-computed

@@ -1,4 +1,0 @@
-use Rattle.obs_edit.proofs.grow.grow.Goals as goal
-
-pub search_back-requires-clause-back : goal.search_back-requires-clause-back
-search_back-requires-clause-back g c = c.requires.back c.in-Some.m c.in-Some.ensures.back

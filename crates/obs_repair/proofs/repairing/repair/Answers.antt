@@ -1,0 +1,95 @@
+use Rattle.std.proofs.Common.{refl, sym, subst, arith}
+use Rattle.obs_graph.specs.Positions.{AreBranches}
+use Rattle.obs_assign.specs.Assignment.{Assignment, StandsOver}
+use Rattle.obs_exchange.specs.Longest.{IsLongest}
+use Rattle.obs_network.specs.Network.{Network, network_of}
+use Rattle.obs_network.proofs.OfCase.{case_branches-are}
+use Rattle.obs_repair.specs.declared.edit.Edit.{Edit}
+use Rattle.obs_repair.specs.Repairing.{AreLeft, IsBack, IsBefore, IsSaidAlone}
+use Rattle.obs_repair.specs.Parts.{BoundsWhereKnown}
+use Rattle.obs_repair.proofs.OfNetwork.{rank_of_longest}
+use Rattle.obs_repair.proofs.CameBack.{is_back}
+use Rattle.obs_repair.proofs.GivenUp.{kept-left, stands-alone}
+use Rattle.obs_repair.proofs.MostPairs.{bound_now, no_search_bare, one_search}
+use Rattle.obs_repair.proofs.Limited.{most-least}
+use Rattle.obs_repair.proofs.PartRoom.{bound_before, place_after, place_before, positions_after, room_after, room_before}
+use Rattle.obs_repair.proofs.Repaired.{IsRepaired-by}
+use Rattle.obs_repair.proofs.repairing.repair.Goals as goal
+
+pub keep_standing-requires-clause-alone : goal.keep_standing-requires-clause-alone
+keep_standing-requires-clause-alone g c =
+    let h = c.requires.before in
+    stands-alone c.args.case.now c.args.edit c.args.network.now c.args.a.now h c.give_up.new.a c.give_up.ensures.left
+    c.nodes-nodes.ensures.valid c.give_up.ensures.whole
+    (subst (λ (x : Network). StandsOver c.give_up.new.a x.graph x.meters.touches) h.network c.give_up.ensures.stands)
+    c.follow-alone.result c.follow-alone.new.network c.follow-alone.ensures.network c.follow-alone.ensures.alone
+
+pub is_between-between-requires : goal.is_between-between-requires
+is_between-between-requires g c =
+    let h = c.requires.before in record {
+      place = place_before c.args.case.now c.args.edit c.args.network.now c.args.a.now h (network_of c.args.case.now) refl c.args.parts.now c.requires.parts_room;
+      room = room_before c.args.case.now c.args.edit c.args.network.now c.args.a.now h (network_of c.args.case.now) refl c.args.parts.now c.requires.parts_room;
+    }
+
+pub limit-bound-requires : goal.limit-bound-requires
+limit-bound-requires g c =
+    let h = c.requires.before in
+    let n = c.follow-alone.new.network in
+    let net = c.follow-alone.ensures.network in record {
+      before = λ known. bound_before c.args.case.now c.args.edit c.args.network.now c.args.a.now h n net c.args.parts.now c.requires.parts_room
+          c.nodes-nodes.ensures.valid c.follow-alone.result c.is_between-between.result c.length-had.result c.follow-alone.ensures.alone c.is_between-between.ensures.between c.length-had.ensures.length (c.requires.bounded known);
+      place = place_after c.args.case.now c.args.edit c.args.network.now c.args.a.now h n net c.args.parts.now c.requires.parts_room;
+      room = room_after c.args.case.now c.args.edit c.args.network.now c.args.a.now h n net c.args.parts.now c.requires.parts_room;
+    }
+
+pub grow-grown-requires-clause-most : goal.grow-grown-requires-clause-most
+grow-grown-requires-clause-most g c =
+    let n = c.follow-alone.new.network in
+    let ok = subst (λ (x : Network). AreBranches x.graph.vertices x.graph.ends) (sym c.follow-alone.ensures.network) (case_branches-are c.args.case.now c.nodes-nodes.ensures.valid) in
+    most-least n c.args.parts.now.first c.most_pairs-most.result c.least.result c.limit-bound.result ok
+    (bound_now c.args.case.now c.args.edit c.args.network.now c.args.a.now c.requires.before c.nodes-nodes.ensures.valid c.follow-alone.result n c.follow-alone.ensures.network c.follow-alone.ensures.alone
+    n.graph n.meters c.length-had.result c.needed.result c.most_pairs-most.result refl refl c.length-had.ensures.length c.needed.ensures.needed c.most_pairs-most.ensures.most)
+    c.limit-bound.ensures.limit c.least.ensures.one
+
+pub grow-grown-requires-clause-back : goal.grow-grown-requires-clause-back
+grow-grown-requires-clause-back g c m is =
+    let t = c.args.case.now in
+    let n = c.follow-alone.new.network in
+    let b = c.give_up.new.a in
+    let k = c.keep_standing.ensures in
+    let surely = subst (λ (x : Edit). IsSaidAlone x c.follow-alone.result c.args.network.now n) is c.follow-alone.ensures.alone in
+    let stands = subst (λ (x : Assignment). StandsOver x (network_of t).graph (network_of t).meters.touches) (k.same surely) k.stands in
+    let back = is_back t c.nodes-nodes.ensures.valid c.args.network.now c.args.a.now m (subst (λ (x : Edit). IsBefore t x c.args.network.now c.args.a.now) is c.requires.before)
+    b (subst (λ (x : Edit). AreLeft x c.args.a.now b) is c.give_up.ensures.left) stands in
+    subst (λ (x : Assignment). IsBack n.graph n.meters.touches m x) (sym (k.same surely))
+    (subst (λ (x : Network). IsBack x.graph x.meters.touches m b) (sym c.follow-alone.ensures.network) back)
+
+pub returns-clause-repaired : goal.returns-clause-repaired
+returns-clause-repaired g c =
+    IsRepaired-by c.args.case.now c.args.a.now c.keep_standing.new.a c.grow-grown.new.a c.grow-grown.result.searches
+    (kept-left c.args.case.now c.args.edit c.args.network.now c.args.a.now c.requires.before c.give_up.new.a c.give_up.ensures.left c.keep_standing.new.a c.keep_standing.ensures.kept) c.grow-grown.ensures.lengthened
+
+pub returns-clause-meter : goal.returns-clause-meter
+returns-clause-meter g c =
+    one_search c.args.edit c.args.a.now c.give_up.new.a c.give_up.ensures.left c.keep_standing.new.a c.grow-grown.new.a c.grow-grown.result.searches c.length-had.result c.needed.result c.most_pairs-most.result
+    c.follow-alone.result c.keep_standing.ensures.same c.length-had.ensures.length c.most_pairs-most.ensures.most (let some = c.grow-grown.ensures.bound in let few = c.least.ensures.within in omega (arith, some, few)) c.grow-grown.ensures.lengthened
+    (λ at inservice is. subst (λ (x : Edit). IsSaidAlone x c.follow-alone.result c.args.network.now c.follow-alone.new.network) is c.follow-alone.ensures.alone)
+
+pub returns-clause-without_pair : goal.returns-clause-without_pair
+returns-clause-without_pair g c at is none =
+    no_search_bare c.args.edit c.args.a.now c.give_up.new.a c.give_up.ensures.left c.keep_standing.new.a c.grow-grown.new.a c.grow-grown.result.searches c.length-had.result c.needed.result c.most_pairs-most.result
+    c.follow-alone.result c.keep_standing.ensures.same c.length-had.ensures.length c.most_pairs-most.ensures.most (let some = c.grow-grown.ensures.bound in let few = c.least.ensures.within in omega (arith, some, few)) c.grow-grown.ensures.lengthened
+    at is (subst (λ (x : Edit). IsSaidAlone x c.follow-alone.result c.args.network.now c.follow-alone.new.network) is c.follow-alone.ensures.alone) none
+
+pub settle-requires-clause-room : goal.settle-requires-clause-room
+settle-requires-clause-room g c =
+    room_after c.args.case.now c.args.edit c.args.network.now c.args.a.now c.requires.before c.follow-alone.new.network c.follow-alone.ensures.network c.args.parts.now c.requires.parts_room
+
+pub settle-requires-clause-positions : goal.settle-requires-clause-positions
+settle-requires-clause-positions g c =
+    positions_after c.args.case.now c.args.edit c.args.network.now c.args.a.now c.requires.before c.follow-alone.new.network c.follow-alone.ensures.network c.args.parts.now c.requires.parts_room
+
+pub returns-clause-bounded : goal.returns-clause-bounded
+returns-clause-bounded g c =
+    subst (λ k. BoundsWhereKnown c.follow-alone.new.network c.settle.new.parts k)
+    (rank_of_longest c.args.case.now c.nodes-nodes.ensures.valid c.grow-grown.new.a (subst (λ (x : Network). IsLongest x.graph x.meters.touches c.grow-grown.new.a) c.follow-alone.ensures.network c.grow-grown.ensures.longest)) c.settle.ensures.bounded

@@ -1,0 +1,5 @@
+pub mod Kept
+pub mod Edits
+pub mod Lines
+pub mod Repairing
+pub mod Parts

@@ -1,0 +1,101 @@
+// The searches of a repair.
+ghost use Rattle.std.specs.Prelude.{◌≡◌, ◌+◌, ◌-◌, ◌≤◌, ℕ, true, length};
+ghost use Rattle.obs_meter.specs.Sizes.{HasRoomFor};
+ghost use Rattle.obs_assign.specs.Assignment.{HasRoomOf, StandsOver, pairs};
+ghost use Rattle.obs_exchange.specs.declared.Sources.TheVariants.{All};
+ghost use Rattle.obs_exchange.specs.Found.{HasClosed};
+ghost use Rattle.obs_exchange.specs.Laws.{IsThawed};
+ghost use Rattle.obs_exchange.specs.Lengthened.{HasLengthened};
+ghost use Rattle.obs_exchange.specs.Longest.{IsLongest, IsMost};
+ghost use Rattle.obs_repair.specs.declared.edit.Edit.TheVariants.{Meter};
+ghost use Rattle.obs_repair.specs.Repairing.{IsBack, IsMeterBack};
+
+use crate::edit::Edit;
+use obs_assign::{Assignment, Steps};
+use obs_exchange::{Found, Lengthened, Sources, Work, regrow, search};
+use obs_network::Network;
+use std::sync::ledger::Ledger;
+
+/// The meter that the edit puts in service.
+fn back(edit: Edit) -> Option<u32>
+    ensures back { IsMeterBack edit result }
+{
+    match edit {
+        Edit::Meter { at, inservice } => { if inservice { Some(at) } else { None } }
+        Edit::Branch {
+            at: _,
+            inservice: _,
+        } => None,
+        Edit::Switch { at: _, closed: _ } => None,
+    }
+}
+
+/// Searches once from a meter that came back, where there are fewer pairs than there can be. Says how many searches it
+/// took.
+fn search_back<L: Ledger>(
+    network: &Network,
+    m: u32,
+    most: u32,
+    a: &mut Assignment,
+    work: &mut Work,
+    steps: &mut Steps<L>,
+) -> u32
+    requires stands { StandsOver a.old network.now.graph network.now.meters.touches }
+    requires thawed { IsThawed a.old }
+    requires room { HasRoomFor work.old.sizes network.now.graph network.now.meters.touches }
+    requires most { IsMost network.now.graph.ends network.now.meters.touches most }
+    requires back { IsBack network.now.graph network.now.meters.touches m a.old }
+    ensures longest { IsLongest network.now.graph network.now.meters.touches a.new }
+    ensures lengthened { HasLengthened a.old a.new result }
+    ensures bound { result ≤ most - length (pairs a.old) }
+    ensures ticks { steps.new ≡ steps.old + result }
+    ensures same_room { HasRoomOf a.old a.new }
+    ensures same_sizes { work.new.sizes ≡ work.old.sizes }
+{
+    let g = network.graph();
+    let ms = network.meters();
+    let _ = g.vertices();
+    let _ = a.turns();
+    if a.length() >= most {
+        return 0;
+    }
+    match search(g, ms, a, Sources::One(m), work, steps) {
+        Found::Grown(_) => {}
+        Found::Closed => {}
+    }
+    1
+}
+
+/// Makes the pairs longest, of which no assignment has more than `most`. Where a meter came back no pair but one of its own
+/// can be missing, so that one search from it is enough. Says how many searches it took, and whether one from all sources
+/// ended closed.
+pub(crate) fn grow<L: Ledger>(
+    network: &Network,
+    edit: Edit,
+    most: u32,
+    a: &mut Assignment,
+    work: &mut Work,
+    steps: &mut Steps<L>,
+) -> Lengthened
+    requires stands { StandsOver a.old network.now.graph network.now.meters.touches }
+    requires thawed { IsThawed a.old }
+    requires room { HasRoomFor work.old.sizes network.now.graph network.now.meters.touches }
+    requires most { IsMost network.now.graph.ends network.now.meters.touches most }
+    requires back { (m : ℕ) → edit ≡ Meter m true → IsBack network.now.graph network.now.meters.touches m a.old }
+    ensures longest { IsLongest network.now.graph network.now.meters.touches a.new }
+    ensures lengthened { HasLengthened a.old a.new result.searches }
+    ensures closed { result.closed ≡ true
+        → HasClosed network.now.graph.ends network.now.meters.touches All a.new a.new work.new.reached }
+    ensures bound { result.searches ≤ most - length (pairs a.old) }
+    ensures ticks { steps.new ≡ steps.old + result.searches }
+    ensures same_room { HasRoomOf a.old a.new }
+    ensures same_sizes { work.new.sizes ≡ work.old.sizes }
+{
+    match back(edit) {
+        Some(m) => Lengthened {
+            searches: search_back(network, m, most, a, work, steps),
+            closed: false,
+        },
+        None => regrow(network.graph(), network.meters(), a, most, work, steps),
+    }
+}

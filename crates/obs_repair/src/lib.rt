@@ -1,0 +1,18 @@
+//! The pairs after an edit: what a line means for a case, the one flag that it sets, and the kept pairs made longest again.
+#![tactic(auto)]
+
+mod edit;
+mod grow;
+mod kept;
+mod limit;
+mod lines;
+mod memory;
+mod parts;
+mod repairing;
+
+pub use edit::{Edit, Meant, Refusal};
+pub use kept::{Held, fill, make_held};
+pub use lines::meant;
+pub use memory::NoMemory;
+pub use parts::Parts;
+pub use repairing::{is_set, repair, set_flag};
