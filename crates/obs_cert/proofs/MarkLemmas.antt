@@ -109,6 +109,34 @@ module _ (all : List ℕ) (x : ℕ) (left : List ℕ) (flag : Bool) (stamp : ℕ
     below = below_now;
   }
 
+  pub seeing_again : is_marked marks stamp x ≡ true → Seeing all left true stamp (set marks x stamp)
+  seeing_again m = record {
+    again = so_far.again ∙ marked_case flag (is_marked marks stamp x) (list_any (is_marked marks stamp) left) (has left x || twice left) m;
+    marked = has_now;
+    below = below_now;
+  }
+    where
+      marked_case : (f m a r : Bool) → m ≡ true → (f || ((m || a) || r)) ≡ true
+      marked_case true m a r e = refl
+      marked_case false true a r e = refl
+      marked_case false false a r e = cc
+
+-- at the end all came
+module _ (all : List ℕ) (flag : Bool) (stamp : ℕ) (marks : List ℕ) (so_far : Seeing all [] flag stamp marks) where
+  pub seen_twice : flag ≡ twice all
+  seen_twice = sym (so_far.again ∙ alone flag)
+    where
+      alone : (f : Bool) → (f || (false || false)) ≡ f
+      alone true = refl
+      alone false = refl
+
+  pub seen_marked : (x : ℕ) → is_marked marks stamp x ≡ has all x
+  seen_marked x = sym (so_far.marked x ∙ alone (is_marked marks stamp x))
+    where
+      alone : (m : Bool) → (m || false) ≡ m
+      alone true = refl
+      alone false = refl
+
 -- where all numbers are 0, no mark is at the first stamp
 zero_at : (n x : ℕ) → get_or {A = ℕ} (replicate n 0) x 0 ≡ 0
 zero_at zero x = refl
