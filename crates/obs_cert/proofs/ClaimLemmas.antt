@@ -8,8 +8,8 @@ use Rattle.obs_matroid.specs.Assignments.{Pair as NumberPair}
 use Rattle.obs_cert.specs.declared.flaw.FlawCode.{FlawCode}
 use Rattle.obs_cert.specs.declared.flaw.FlawCode.TheVariants.{WrongOutside, NotBelow, NotInside, NotTouched, Twice}
 use Rattle.obs_cert.specs.declared.work.Work.{Work}
-use Rattle.obs_cert.specs.Claims.{BoundClaim, CostClaim, Layer, TreeClaim}
-use Rattle.obs_cert.specs.Flaws.{Listed, bound_clauses, bound_flaw, cost_flaw, costs_clauses, first_true, forest_clauses, layers_clauses, list_clauses, listed_layers, not_below, not_inside, not_touched, outside_of, paired_twice, rank_of_items, runs_on, shows, tree_flaw, twice, unknown_item, unknown_pair, wrong_rank, wrong_outside}
+use Rattle.obs_cert.specs.Claims.{BoundClaim, CostClaim, Layer, ShortfallClaim, TreeClaim}
+use Rattle.obs_cert.specs.Flaws.{Listed, bound_clauses, bound_flaw, cost_flaw, costs_clauses, first_true, forest_clauses, layers_clauses, list_clauses, listed_layers, not_below, not_inside, not_touched, outside_of, paired_twice, rank_of_items, runs_on, shortfall_flaw, shows, tree_flaw, twice, unknown_item, unknown_pair, wrong_rank, wrong_outside}
 use Rattle.obs_cert.specs.Marks.{AreBelow}
 use Rattle.obs_cert.specs.Numbered.{chosen_items, items_of, paired_items, pairs_of}
 use Rattle.obs_cert.specs.Ready.{HasRoom, IsReady}
@@ -21,7 +21,7 @@ use Rattle.obs_cert.specs.Claims.{Item}
 use Rattle.obs_cert.specs.Flaws.{outside_of_plan, twice_in_plan, unknown_in_plan}
 use Rattle.obs_cert.specs.Numbered.{item_of}
 use Rattle.obs_cert.proofs.OutsideLemmas.{outside_is}
-use Rattle.obs_cert.specs.Scopes.{OfItems, scope_of, has, is_below, is_meter_in, is_of_plan, named_component, named_need, names_component, price_at}
+use Rattle.obs_cert.specs.Scopes.{OfItems, scope_of, has, is_below, is_live_item, is_meter_in, is_of_plan, named_component, named_need, names_component, price_at}
 use Rattle.obs_network.specs.Network.{Rows, case_needed, rows_of}
 
 pub more_below : (stamp : ℕ) (marks : List ℕ) → AreBelow stamp marks → AreBelow (suc stamp) marks
@@ -216,6 +216,10 @@ bound_rest t c k need is same known unknown names inside =
     ap (λ (x : ℕ). first_true (list_clauses t (is_meter_in t x) (items_of t c.inside) c.rank c.outside need)) is
     ∙ ap (λ (x : ℕ). first_true (list_clauses t (is_meter_in t (named_component t c.component)) (items_of t c.inside) c.rank c.outside x)) same
     ∙ sym (let i = ap (λ (x : ℕ). not_inside (is_meter_in t x) (items_of t c.inside)) (sym is) ∙ inside in rw (known, unknown, names, i) refl)
+
+pub shortfall_rest : (t : Tables) (c : ShortfallClaim) → unknown_item t c.inside ≡ false → not_inside (is_live_item t) (items_of t c.inside) ≡ false
+    → first_true (list_clauses t (is_live_item t) (items_of t c.inside) c.rank c.outside (case_needed t)) ≡ shortfall_flaw t c
+shortfall_rest t c known inside = rw (known, inside) refl
 
 pub layers_outside : (t : Tables) (c : CostClaim) → list_any (λ (l : Listed). wrong_rank t l.list l.layer.rank) (listed_layers t c.layers) ≡ false
     → list_any (λ (l : Listed). wrong_outside t (is_below t l.layer.to) l.list l.layer.outside) (listed_layers t c.layers) ≡ true → Some WrongOutside ≡ first_true (layers_clauses t c)

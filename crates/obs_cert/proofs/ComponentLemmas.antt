@@ -20,6 +20,7 @@ use Rattle.obs_network.proofs.Marked.{filtered_below}
 use Rattle.obs_network.proofs.OfCase.{length-case_meters, length-case_offered}
 use Rattle.obs_cert.specs.Scopes.{is_meter, is_meter_in, is_this, scope_of}
 use Rattle.obs_cert.proofs.OutsideLemmas.{scope_distinct}
+use Rattle.obs_cert.specs.Numbered.{all_positions}
 
 module _ (t : Tables) (c m : ℕ) where
   abbrev touch : Touch
@@ -80,3 +81,8 @@ rows_few t v =
     let a = v.meters.few in
     let b = v.candidates.few in
     omega (arith, a, b, length-map t.meters (λ row. row.name), length-map t.candidates (λ row. row.name))
+
+pub positions_few : (t : Tables) → IsValid t → all_positions t ≤ 3 * most_rows
+positions_few t v =
+    let a = v.branches.few in
+    omega (arith, a, rows_few t v, length-map t.branches (λ row. row.name))

@@ -3,12 +3,13 @@ use mir.Val.{bool_byte}
 use Rattle.std.proofs.Common.{◌≡◌, ℕ, suc, ◌+◌, ◌≤◌, Bool, true, false, cond, List, [], ◌∷◌, length, Result, Ok, Err, refl, sym, ap, ◌∙◌, inl, inr, add-zero, add-one, arith}
 use Rattle.std.proofs.lemmas.Bool.{cases_Bool}
 use Rattle.obs_text.specs.Lines.{lines_of}
+use Rattle.obs_cert.specs.declared.fault.CertCode.{CertCode}
 use Rattle.obs_cert.specs.declared.fault.CertCode.TheVariants.{NoEnd}
 use Rattle.obs_cert.specs.declared.fault.CertFault.{CertFault}
 use Rattle.obs_cert.specs.declared.place.Place.{Place}
 use Rattle.obs_cert.specs.declared.place.Place.TheVariants.{Start}
 use Rattle.obs_cert.specs.Places.{is_over, is_start, step}
-use Rattle.obs_cert.specs.Read.{HasClaims, claims_in, onto_lines, parts_of, read_from, then_read}
+use Rattle.obs_cert.specs.Read.{HasClaims, claims_in, claims_of, onto_lines, parts_of, read_from, then_read}
 use Rattle.obs_cert.specs.Words.{Line, tree_line, bound_line, cost_line, shortfall_line, pair_line, chosen_line, layer_line, inside_line, end_line}
 
 -- one for a line that starts a claim
@@ -60,6 +61,13 @@ pub record Counted (bytes : List ℕ) (place : Place) (at claims : ℕ) (left : 
   pub room : at + length (lines_of left) ≡ length (lines_of bytes)
   pub few : claims ≤ at
 
+pub counted_none : (bytes left : List ℕ) → left ≡ bytes → Counted bytes Start 0 0 left
+counted_none bytes left all = rw all (record { stated = refl; room = omega arith; few = omega arith })
+
+refused_by : (r : Result (List Line) CertFault) (n : ℕ) (fault : CertFault) → counted n r ≡ Err fault → r ≡ Err fault
+refused_by (Ok lines) n fault is = cc
+refused_by (Err other) n fault is = cc
+
 module _ (bytes : List ℕ) (place : Place) (at claims : ℕ) (left line rest : List ℕ) (so_far : Counted bytes place at claims left) (is : lines_of left ≡ line ∷ lines_of rest) where
   pub room_for_one : at + 1 ≤ length (lines_of bytes)
   room_for_one = omega (arith, so_far.room, ap length is)
@@ -76,6 +84,13 @@ module _ (bytes : List ℕ) (place : Place) (at claims : ℕ) (left line rest : 
     few = few;
   }
 
+  pub refused_here : (code : CertCode) → step place line ≡ Err code → claims_of bytes ≡ Err (record { line = at + 1; code = code })
+  refused_here code bad =
+      ap claims_in (
+      refused_by (read_from Start 1 (lines_of bytes)) 0 (record { line = at + 1; code = code })
+      (stated_here ∙ ap (λ r. counted claims (then_read (at + 1) r (λ next. read_from next (at + 1 + 1) (lines_of rest)))) bad)
+      )
+
 module _ (bytes : List ℕ) (place : Place) (at claims : ℕ) (left : List ℕ) (so_far : Counted bytes place at claims left) (none : lines_of left ≡ []) where
   at_end : counted 0 (read_from Start 1 (lines_of bytes)) ≡ counted claims (cond (is_over place) (Ok []) (Err (record { line = 0; code = NoEnd })))
   at_end = so_far.stated ∙ ap (λ lines. counted claims (read_from place (at + 1) lines)) none
@@ -85,3 +100,10 @@ module _ (bytes : List ℕ) (place : Place) (at claims : ℕ) (left : List ℕ) 
       let found = has_claims (read_from Start 1 (lines_of bytes)) claims
       (at_end ∙ ap (λ b. counted claims (cond b (Ok []) (Err (record { line = 0; code = NoEnd })))) over ∙ ap (λ (n : ℕ). Ok n) (add-zero claims)) in
       ((parts_of found.0).claims, ap claims_in found.1, found.2)
+
+  pub refused_end : is_over place ≡ false → claims_of bytes ≡ Err (record { line = 0; code = NoEnd })
+  refused_end over =
+      ap claims_in (
+      refused_by (read_from Start 1 (lines_of bytes)) 0 (record { line = 0; code = NoEnd })
+      (at_end ∙ ap (λ b. counted claims (cond b (Ok []) (Err (record { line = 0; code = NoEnd })))) over)
+      )

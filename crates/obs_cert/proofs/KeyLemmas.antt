@@ -1,8 +1,8 @@
 -- The number of sorted keys up to a price is that of the live items below it.
-use Rattle.std.proofs.Common.{◌≡◌, ◌∙◌, ℕ, zero, suc, ◌+◌, ◌-◌, ◌^◌, ◌<◌, ◌≤◌, ◌||◌, ◌&&◌, Bool, true, false, cond, leb, nat_lt, List, [], ◌∷◌, length, map, filter, get_or, refl, sym, ap, inl, inr, arith}
+use Rattle.std.proofs.Common.{◌≡◌, ◌∙◌, ℕ, zero, suc, ◌+◌, ◌-◌, ◌^◌, ◌<◌, ◌≤◌, ◌||◌, ◌&&◌, Bool, true, false, cond, leb, nat_lt, List, [], ◌∷◌, length, map, filter, get_or, set, refl, sym, ap, inl, inr, arith, get_or-set_same, get_or-set_other, length-set}
 use Rattle.std.specs.List.{AllWithin, count_by}
 use Rattle.std.specs.List.Sorted.{IsPartitionPoint, IsPermutation}
-use Rattle.std.proofs.lemmas.Bool.{cases_Bool}
+use Rattle.std.proofs.lemmas.Bool.{cases_Bool, cases_eq}
 use Rattle.std.proofs.lemmas.Bool.Decides.{nat_tests}
 use Rattle.std.proofs.lemmas.List.FromFn.{fill_by_all}
 use Rattle.std.proofs.lemmas.List.Sorted.{sum_by-IsPermutation}
@@ -65,3 +65,15 @@ pub written_all : (t : Tables) (n m : ℕ) (keys : List ℕ) → n ≡ length t.
 written_all t n m keys e le w =
     let long = length-case_offered t in
     fill_by_all (key_of t) keys (length (case_offered t)) 0 (omega (arith, w.count, e, long)) (λ k l. w.is k (omega (arith, l, e, long, le)))
+
+pub written_none : (t : Tables) (n : ℕ) (keys : List ℕ) → length keys ≡ n → AreWritten t n 0 keys
+written_none t n keys e = record { count = e; is = λ k l. absurd (omega (arith, l)) }
+
+pub written_more : (t : Tables) (n m x : ℕ) (keys : List ℕ) → m < length keys → x ≡ key_of t m → AreWritten t n m keys → AreWritten t n (m + 1) (set keys m x)
+written_more t n m x keys low is w = record {
+  count = simp length-set w.count;
+  is = λ k l. elim (cases_eq k m) [
+    | inl e ↦ ap (λ z. get_or (set keys m x) z 0) e ∙ get_or-set_same keys m x 0 low ∙ is ∙ ap (key_of t) (sym e)
+    | inr ne ↦ get_or-set_other keys m k x 0 ne ∙ w.is k (omega (arith, l, ne))
+  ];
+}

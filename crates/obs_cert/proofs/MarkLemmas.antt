@@ -1,5 +1,5 @@
 -- Marks while numbers are seen one after the other.
-use Rattle.std.proofs.Common.{◌≡◌, ℕ, suc, ◌<◌, ◌||◌, Bool, true, false, eqb, List, [], ◌∷◌, length, get_or, set, refl, sym, ap, ◌∙◌, inl, inr, arith, get_or-set_same, get_or-set_other}
+use Rattle.std.proofs.Common.{◌≡◌, ℕ, zero, suc, ◌<◌, ◌||◌, Bool, true, false, eqb, List, [], ◌∷◌, length, get_or, set, replicate, refl, sym, ap, ◌∙◌, inl, inr, arith, get_or-set_same, get_or-set_other}
 use Rattle.std.specs.List.{list_any}
 use Rattle.std.proofs.lemmas.Bool.{cases_eq, eq-eqb, ne_eqb}
 use Rattle.obs_rankcut.proofs.Marked.{number_flips}
@@ -108,3 +108,43 @@ module _ (all : List ℕ) (x : ℕ) (left : List ℕ) (flag : Bool) (stamp : ℕ
     marked = has_now;
     below = below_now;
   }
+
+  pub seeing_again : is_marked marks stamp x ≡ true → Seeing all left true stamp (set marks x stamp)
+  seeing_again m = record {
+    again = so_far.again ∙ marked_case flag (is_marked marks stamp x) (list_any (is_marked marks stamp) left) (has left x || twice left) m;
+    marked = has_now;
+    below = below_now;
+  }
+    where
+      marked_case : (f m a r : Bool) → m ≡ true → (f || ((m || a) || r)) ≡ true
+      marked_case true m a r e = refl
+      marked_case false true a r e = refl
+      marked_case false false a r e = cc
+
+-- at the end all came
+module _ (all : List ℕ) (flag : Bool) (stamp : ℕ) (marks : List ℕ) (so_far : Seeing all [] flag stamp marks) where
+  pub seen_twice : flag ≡ twice all
+  seen_twice = sym (so_far.again ∙ alone flag)
+    where
+      alone : (f : Bool) → (f || (false || false)) ≡ f
+      alone true = refl
+      alone false = refl
+
+  pub seen_marked : (x : ℕ) → is_marked marks stamp x ≡ has all x
+  seen_marked x = sym (so_far.marked x ∙ alone (is_marked marks stamp x))
+    where
+      alone : (m : Bool) → (m || false) ≡ m
+      alone true = refl
+      alone false = refl
+
+-- where all numbers are 0, no mark is at the first stamp
+zero_at : (n x : ℕ) → get_or {A = ℕ} (replicate n 0) x 0 ≡ 0
+zero_at zero x = refl
+zero_at (suc n) zero = refl
+zero_at (suc n) (suc x) = zero_at n x
+
+pub read_none : (n : ℕ) (marks : List ℕ) → marks ≡ replicate n 0 → (x : ℕ) → get_or marks x 0 ≡ 0
+read_none n marks none x = ap (λ (xs : List ℕ). get_or xs x 0) none ∙ zero_at n x
+
+pub below_first : (n : ℕ) (marks : List ℕ) → marks ≡ replicate n 0 → AreBelow 1 marks
+below_first n marks none x = omega (arith, read_none n marks none x)

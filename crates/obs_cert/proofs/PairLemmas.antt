@@ -1,6 +1,6 @@
 -- The branches of pairs while they are joined.
-use Rattle.std.proofs.Common.{◌≡◌, ℕ, ◌+◌, ◌<◌, ◌≤◌, Bool, true, false, Option, inl, inr, List, ◌∷◌, length, refl, arith}
-use Rattle.std.proofs.lemmas.Bool.{cases_Bool}
+use Rattle.std.proofs.Common.{◌≡◌, ℕ, ◌+◌, ◌<◌, ◌≤◌, Bool, true, false, not, eqb, Option, inl, inr, List, [], ◌∷◌, length, refl, sym, ap, ◌∙◌, arith}
+use Rattle.std.proofs.lemmas.Bool.{cases_Bool, eq-eqb, ne_eqb}
 use Rattle.obs_graph.specs.declared.Ends.{Ends}
 use Rattle.obs_matroid.proofs.Lists.{clash}
 use Rattle.obs_cert.proofs.JoinLemmas.{IsJoining, joining_none}
@@ -44,3 +44,11 @@ module _ (ends : List (Option Ends)) (p : ℕ) (left all ups0 moved0 ups moved :
     none = λ e. absurd (clash refl e);
     some = λ e. (let a = le in omega (arith, a));
   }
+
+pub pairing_cycle : (ends : List (Option Ends)) (all ups0 moved0 ups moved : List ℕ) (count : ℕ) (cycle : Bool) → IsPairing ends [] all ups0 moved0 ups moved count cycle → cycle ≡ not (eqb count (length all))
+pairing_cycle ends all ups0 moved0 ups moved count cycle p =
+    let s = p.split in
+    elim (cases_Bool cycle) [
+      | inl t ↦ t ∙ sym (ap not (ne_eqb count (length all) (λ e. let a = p.some t in omega (arith, a, s, e))))
+      | inr f ↦ f ∙ sym (ap not (eq-eqb count (length all) (let a = p.none f in omega (arith, a, s))))
+    ]

@@ -39,8 +39,8 @@ pub enum Line<'a> {
     End,
 }
 
-// Whether a word is this one.
-fn is(word: &[u8], kind: &'static [u8]) -> bool
+/// Whether a word is this one.
+pub(crate) fn is(word: &[u8], kind: &'static [u8]) -> bool
     ensures is { result ≡ bytes_eq word.now kind.now }
 {
     word == kind

@@ -4,7 +4,7 @@ ghost use Rattle.std.specs.Prelude.{◌≡◌, ◌≤◌, ◌+◌, IfSome, lengt
 ghost use Rattle.obs_cert.specs.Said.{item_said};
 ghost use Rattle.obs_cert.specs.Numbered.{all_positions, branch_in, branch_of, is_angle_item, is_known, is_known_branch, item_of};
 
-use crate::line::Item;
+use crate::line::{Item, is};
 use obs_case::Case;
 
 /// The number of an item; of one that isn't in its table the number of rows up to the table's end.
@@ -50,7 +50,7 @@ fn branch_in(case: &Case, item: Item<'_>, word: &[u8]) -> Option<u32>
     if !is_angle_item(case, item) {
         return case.find_branch(word);
     }
-    if word != b"angle".as_slice() {
+    if !is(word, b"angle") {
         return None;
     }
     Some(case.branches().len() as u32 + item_of(case, item))

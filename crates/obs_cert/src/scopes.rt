@@ -41,11 +41,9 @@ pub(crate) fn is_live(present: &Present<'_>, m: u32) -> bool
 pub(crate) fn price_at(case: &Case, m: u32) -> u64
     ensures price { result ≡ price_at case.now m }
 {
+    let rows = case.candidates();
     let at = m.saturating_sub(case.meters().len() as u32) as usize;
-    match case.candidates().get(at) {
-        Some(row) => row.price,
-        None => 0,
-    }
+    if at < rows.len() { rows[at].price } else { 0 }
 }
 
 /// Whether an item is a meter.

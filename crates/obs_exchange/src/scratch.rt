@@ -75,14 +75,28 @@ impl Scratch {
             meter: 0,
             branch: 0,
         };
-        let mut numbers = vec![in alloc; 0; most_vertices as usize]?;
+        let Ok(mut numbers) = vec![in alloc; 0; most_vertices as usize] else {
+            return Err(NoMemory);
+        };
         number(&mut numbers);
+        let Ok(trail) = Trail::make(alloc, most_meters, most_branches) else {
+            return Err(NoMemory);
+        };
+        let Ok(stars) = Stars::make(alloc, most_vertices) else {
+            return Err(NoMemory);
+        };
+        let Ok(tops) = vec![in alloc; 0; most_vertices as usize] else {
+            return Err(NoMemory);
+        };
+        let Ok(path) = vec![in alloc; no_move; most_meters as usize] else {
+            return Err(NoMemory);
+        };
         Ok(Scratch {
-            trail: Trail::make(alloc, most_meters, most_branches)?,
-            stars: Stars::make(alloc, most_vertices)?,
-            tops: vec![in alloc; 0; most_vertices as usize]?,
+            trail,
+            stars,
+            tops,
             numbers,
-            path: vec![in alloc; no_move; most_meters as usize]?,
+            path,
         })
     }
 

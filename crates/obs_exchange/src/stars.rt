@@ -50,12 +50,27 @@ impl Stars {
         ensures made { IfOk result (λ s. s ≡ replicate most_vertices 0) }
     {
         let vertices = most_vertices as usize;
+        let Ok(walked) = vec![in alloc; false; vertices] else {
+            return Err(NoMemory);
+        };
+        let Ok(fronts) = vec![in alloc; 0; vertices] else {
+            return Err(NoMemory);
+        };
+        let Ok(tried) = vec![in alloc; 0; vertices] else {
+            return Err(NoMemory);
+        };
+        let Ok(clear) = vec![in alloc; false; vertices] else {
+            return Err(NoMemory);
+        };
+        let Ok(zeros) = vec![in alloc; 0; vertices] else {
+            return Err(NoMemory);
+        };
         Ok(Stars {
-            walked: vec![in alloc; false; vertices]?,
-            fronts: vec![in alloc; 0; vertices]?,
-            tried: vec![in alloc; 0; vertices]?,
-            clear: vec![in alloc; false; vertices]?,
-            zeros: vec![in alloc; 0; vertices]?,
+            walked,
+            fronts,
+            tried,
+            clear,
+            zeros,
         })
     }
 

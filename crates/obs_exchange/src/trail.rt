@@ -76,14 +76,29 @@ impl Trail {
     {
         let meters = most_meters as usize;
         let branches = most_branches as usize;
+        let Ok(marks) = vec![in alloc; false; meters] else {
+            return Err(NoMemory);
+        };
+        let Ok(parents) = vec![in alloc; None; meters] else {
+            return Err(NoMemory);
+        };
+        let Ok(queue) = vec![in alloc; 0; meters] else {
+            return Err(NoMemory);
+        };
+        let Ok(walked) = vec![in alloc; false; branches] else {
+            return Err(NoMemory);
+        };
+        let Ok(clear) = vec![in alloc; false; meters.max(branches)] else {
+            return Err(NoMemory);
+        };
         Ok(Trail {
-            marks: vec![in alloc; false; meters]?,
-            parents: vec![in alloc; None; meters]?,
-            queue: vec![in alloc; 0; meters]?,
+            marks,
+            parents,
+            queue,
             head: 0,
             tail: 0,
-            walked: vec![in alloc; false; branches]?,
-            clear: vec![in alloc; false; meters.max(branches)]?,
+            walked,
+            clear,
         })
     }
 

@@ -4,7 +4,7 @@ use Rattle.obs_text.specs.Lines.{lines_of}
 use Rattle.obs_text.proofs.LineLaws.{length-lines_of}
 use Rattle.obs_cert.specs.Places.{is_start}
 use Rattle.obs_cert.specs.Said.{line_said}
-use Rattle.obs_cert.proofs.CountLemmas.{all_counted, at-most-one, byte-one, count_one, one, room_for_one}
+use Rattle.obs_cert.proofs.CountLemmas.{all_counted, at-most-one, byte-one, count_one, counted_none, one, refused_end, refused_here, room_for_one}
 use Rattle.obs_cert.proofs.cert.count_claims.Goals as goal
 
 pub overflow_add-at : goal.overflow_add-at
@@ -33,3 +33,22 @@ loop-line-preserved c =
 pub returns-then-is_over-clause-count : goal.returns-then-is_over-clause-count
 returns-then-is_over-clause-count c =
     all_counted c.args.bytes.now c.loop-line.place c.loop-line.at c.loop-line.claims c.loop-line.line-iterator c.loop-line.invariant c.in-None.ensures.steps.first.0 (sym c.is_over.ensures.over ∙ c.if-is_over.true)
+
+pub loop-line-init : goal.loop-line-init
+loop-line-init c = counted_none c.args.bytes.now c.into_iter-line-iterator.result (c.into_iter-line-iterator.ensures.into_iter_gives ∙ c.lines-line-items.ensures.bytes)
+
+pub returns-in-Err : goal.returns-in-Err
+returns-in-Err c =
+    let l = c.loop-line in
+    record {
+      count = tt;
+      refused = refused_here c.args.bytes.now l.place l.at l.claims l.line-iterator c.in-Some.line.now c.next.new.self l.invariant c.in-Some.ensures.steps.first c.in-Err.code c.in-Err.ensures.refused;
+    }
+
+pub returns-else-is_over : goal.returns-else-is_over
+returns-else-is_over c =
+    let l = c.loop-line in
+    record {
+      count = tt;
+      refused = refused_end c.args.bytes.now l.place l.at l.claims l.line-iterator l.invariant c.in-None.ensures.steps.first.0 (sym c.is_over.ensures.over ∙ c.if-is_over.false);
+    }

@@ -66,3 +66,15 @@ forest-requires-clause-room c =
 
 pub forest-requires-clause-clear : goal.forest-requires-clause-clear
 forest-requires-clause-clear c = c.requires.ready.clear
+
+pub has_pair_twice-requires-clause-items : goal.has_pair_twice-requires-clause-items
+has_pair_twice-requires-clause-items c = rw (c.case-case.ensures.case, c.deref_mut.ensures.value) c.requires.ready.room.paired
+
+pub has_pair_twice-requires-clause-branches : goal.has_pair_twice-requires-clause-branches
+has_pair_twice-requires-clause-branches c = rw (c.case-case.ensures.case, c.deref_mut-2.ensures.value) c.requires.ready.room.taken
+
+pub has_pair_twice-requires-clause-fresh_items : goal.has_pair_twice-requires-clause-fresh_items
+has_pair_twice-requires-clause-fresh_items c = rw c.deref_mut.ensures.value c.requires.ready.paired
+
+pub has_pair_twice-requires-clause-fresh_branches : goal.has_pair_twice-requires-clause-fresh_branches
+has_pair_twice-requires-clause-fresh_branches c = rw c.deref_mut-2.ensures.value c.requires.ready.taken

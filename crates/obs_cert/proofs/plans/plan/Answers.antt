@@ -1,4 +1,4 @@
-use Rattle.std.proofs.Common.{◌≡◌, ℕ, length, suc, refl, sym, ap, ◌∙◌}
+use Rattle.std.proofs.Common.{◌≡◌, ℕ, ◌||◌, Bool, true, false, length, suc, refl, sym, ap, ◌∙◌}
 use Rattle.std.specs.Vec.{with_items}
 use Rattle.obs_case.specs.Tables.{Tables}
 use Rattle.obs_cert.specs.Ready.{IsReady}
@@ -51,6 +51,11 @@ chosen_ready c =
 
 need_is : (t : Tables) (n : Network) (k : ℕ) → n ≡ network_of t → k ≡ n.needed → case_needed t ≡ k
 need_is t n k is same = sym (same ∙ ap (λ (m : Network). m.needed) is)
+
+last_false : (a b d : Bool) → (a || (b || d)) ≡ false → d ≡ false
+last_false false false d e = e
+last_false false true d e = cc
+last_false true b d e = cc
 
 pub returns-then-has_outside_item-clause-flaw : goal.returns-then-has_outside_item-clause-flaw
 returns-then-has_outside_item-clause-flaw c =
@@ -142,3 +147,34 @@ layers-requires-clause-room c = c.forest.ensures.room
 
 pub layers-requires-clause-clear : goal.layers-requires-clause-clear
 layers-requires-clause-clear c = c.forest.ensures.clear
+
+pub has_twice-chosen_twice-requires-clause-room : goal.has_twice-chosen_twice-requires-clause-room
+has_twice-chosen_twice-requires-clause-room c = rw (c.case-case.ensures.case, c.deref_mut.ensures.value) c.requires.ready.room.chosen
+
+pub has_twice-chosen_twice-requires-clause-fresh : goal.has_twice-chosen_twice-requires-clause-fresh
+has_twice-chosen_twice-requires-clause-fresh c = rw c.deref_mut.ensures.value c.requires.ready.chosen
+
+pub has_pair_twice-pair_twice-requires-clause-items : goal.has_pair_twice-pair_twice-requires-clause-items
+has_pair_twice-pair_twice-requires-clause-items c = rw (c.case-case.ensures.case, c.deref_mut-2.ensures.value) c.requires.ready.room.paired
+
+pub has_pair_twice-pair_twice-requires-clause-branches : goal.has_pair_twice-pair_twice-requires-clause-branches
+has_pair_twice-pair_twice-requires-clause-branches c = rw (c.case-case.ensures.case, c.deref_mut-3.ensures.value) c.requires.ready.room.taken
+
+pub has_pair_twice-pair_twice-requires-clause-fresh_items : goal.has_pair_twice-pair_twice-requires-clause-fresh_items
+has_pair_twice-pair_twice-requires-clause-fresh_items c = rw c.deref_mut-2.ensures.value c.requires.ready.paired
+
+pub has_pair_twice-pair_twice-requires-clause-fresh_branches : goal.has_pair_twice-pair_twice-requires-clause-fresh_branches
+has_pair_twice-pair_twice-requires-clause-fresh_branches c = rw c.deref_mut-3.ensures.value c.requires.ready.taken
+
+pub has_twice-listed_twice-requires-clause-room : goal.has_twice-listed_twice-requires-clause-room
+has_twice-listed_twice-requires-clause-room c = rw (c.case-case.ensures.case, c.deref_mut-4.ensures.value) c.requires.ready.room.listed
+
+pub has_twice-listed_twice-requires-clause-fresh : goal.has_twice-listed_twice-requires-clause-fresh
+has_twice-listed_twice-requires-clause-fresh c = rw c.deref_mut-4.ensures.value c.requires.ready.listed
+
+pub layers-requires-clause-once : goal.layers-requires-clause-once
+layers-requires-clause-once c =
+    let t = c.args.present.now in
+    let parts = parts_in c.args.rest.now in
+    last_false (twice (items_of t (chosen_items parts.chosen))) (paired_twice t parts.pairs) (twice (items_of t (all_inside parts.layers)))
+    (sym (again (goal.at.layers-requires-clause-once c).After-either) ∙ c.if-either.false)

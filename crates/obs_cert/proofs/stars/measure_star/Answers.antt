@@ -4,6 +4,7 @@ use Rattle.obs_meter.specs.Held.{Meters}
 use Rattle.obs_meter.specs.Touches.{touch_at}
 use Rattle.obs_network.specs.Network.{Network, case_branches, case_offered, network_of}
 use Rattle.obs_cert.specs.Flaws.{rank_of_branches}
+use Rattle.obs_cert.specs.Joins.{onto}
 use Rattle.obs_cert.specs.Stars.{star_rank}
 use Rattle.obs_cert.proofs.CaseLemmas.{case_rank, noted_few, vertices_fit}
 use Rattle.obs_cert.proofs.stars.measure_star.Goals as goal
@@ -53,3 +54,35 @@ returns-clause-rank c = rank_is (goal.at.returns-clause-rank c).After-clear
 
 pub returns-clause-kept : goal.returns-clause-kept
 returns-clause-kept c = c.keep.ensures.kept c.args.present.now (rank_is (goal.at.returns-clause-kept c).After-clear) c.requires.kept
+
+pub overflow_sub-result : goal.overflow_sub-result
+overflow_sub-result c = omega (arith, c.if-known-gt0.true)
+
+pub returns-then-known-gt0-clause-rank : goal.returns-then-known-gt0-clause-rank
+returns-then-known-gt0-clause-rank c = omega (arith, c.requires.kept c.args.v c.if-known-gt0.true)
+
+pub returns-then-known-gt0-clause-kept : goal.returns-then-known-gt0-clause-kept
+returns-then-known-gt0-clause-kept c = c.requires.kept
+
+pub returns-then-known-gt0-clause-clear : goal.returns-then-known-gt0-clause-clear
+returns-then-known-gt0-clause-clear c = c.requires.clear
+
+pub touch-touched-requires-clause-item : goal.touch-touched-requires-clause-item
+touch-touched-requires-clause-item c =
+    let items : c.offered.result.now.touches ≡ case_offered c.args.present.now = ap (λ (x : Meters). x.touches) (c.offered.ensures.offered ∙ ap (λ (n : Network). n.offered) c.network-network.ensures.network) in
+    rw items c.requires.item
+
+pub join_all-count-requires-clause-room : goal.join_all-count-requires-clause-room
+join_all-count-requires-clause-room c = c.requires.room
+
+pub join_all-count-requires-clause-count : goal.join_all-count-requires-clause-count
+join_all-count-requires-clause-count c = omega arith
+
+pub slice_bounds-clear-end : goal.slice_bounds-clear-end
+slice_bounds-clear-end c = c.join_all-count.ensures.count
+
+pub clear-requires : goal.clear-requires
+clear-requires c = record { joined = (onto c.graph-graph.result.now.ends c.touch-touched.result.now [], c.join_all-count.ensures.joined [] c.requires.clear) }
+
+pub returns-clause-clear : goal.returns-clause-clear
+returns-clause-clear c = c.clear.ensures.clear

@@ -1,0 +1,70 @@
+use Rattle.std.proofs.Common.{◌≡◌, ℕ, ◌+◌, ◌∷◌, Some, None, List, length, refl, sym, ap, ◌∙◌, add-one, arith}
+use Rattle.obs_case.specs.Tables.{Tables}
+use Rattle.obs_cert.specs.Claims.{Claim}
+use Rattle.obs_cert.specs.declared.flaw.FlawCode.{FlawCode}
+use Rattle.obs_cert.specs.Flaws.{first_flaw, flaw_of}
+use Rattle.obs_cert.specs.Walked.{claim_said}
+use Rattle.obs_cert.proofs.checker.first_flaw.Goals as goal
+
+pub begin-requires : goal.begin-requires
+begin-requires c = record { few = c.requires.room.few }
+
+pub sort_keys-requires : goal.sort_keys-requires
+sort_keys-requires c = record { room = c.requires.keys }
+
+pub flaw_of-requires-clause-keys : goal.flaw_of-requires-clause-keys
+flaw_of-requires-clause-keys c = c.sort_keys.ensures.keys
+
+pub returns-in-Some-flaw_of-clause-keys : goal.returns-in-Some-flaw_of-clause-keys
+returns-in-Some-flaw_of-clause-keys c = c.sort_keys.ensures.len
+
+pub returns-clause-keys : goal.returns-clause-keys
+returns-clause-keys c = c.sort_keys.ensures.len
+
+pub returns-in-Some-flaw_of-clause-room : goal.returns-in-Some-flaw_of-clause-room
+returns-in-Some-flaw_of-clause-room c = c.flaw_of.ensures.ready.room
+
+pub returns-clause-room : goal.returns-clause-room
+returns-clause-room c = c.loop-claim.invariant.2.room
+
+pub flaw_of-requires-clause-ready : goal.flaw_of-requires-clause-ready
+flaw_of-requires-clause-ready c = rw (add-one c.loop-claim.at) c.loop-claim.invariant.2
+
+passes : (t : Tables) (at : ℕ) (claim : Claim) (claims : List Claim) → flaw_of t claim ≡ None → first_flaw t at (claim ∷ claims) ≡ first_flaw t (at + 1) claims
+passes t at claim claims none = rw none refl
+
+fails : (t : Tables) (at : ℕ) (claim : Claim) (claims : List Claim) (code : FlawCode) → flaw_of t claim ≡ Some code → first_flaw t at (claim ∷ claims) ≡ Some (record { claim = at; code = code })
+fails t at claim claims code some = rw some refl
+
+pub loop-claim-init : goal.loop-claim-init
+loop-claim-init c =
+    let t = c.args.present.now in
+    let whole : c.into_iter-claim-iterator.result ≡ c.args.cert.now = c.into_iter-claim-iterator.ensures.into_iter_gives ∙ c.walk-claim-items.ensures.claims in
+    (ap (first_flaw t 1) (sym whole), omega (arith, ap length whole), c.begin.ensures.ready t c.requires.room)
+
+pub overflow_add-at : goal.overflow_add-at
+overflow_add-at c = omega (arith, c.loop-claim.invariant.1, ap length c.in-Some.ensures.steps, c.claims-claims.ensures.count, c.claims-claims.type_inv)
+
+pub loop-claim-smaller : goal.loop-claim-smaller
+loop-claim-smaller c = omega (arith, ap length c.in-Some.ensures.steps)
+
+pub loop-claim-preserved : goal.loop-claim-preserved
+loop-claim-preserved c =
+    let t = c.args.present.now in
+    let l = c.loop-claim in (
+      l.invariant.0 ∙ ap (first_flaw t (l.at + 1)) c.in-Some.ensures.steps ∙ passes t (l.at + 1) (claim_said c.in-Some.claim) c.next.new.self (sym c.flaw_of.ensures.flaw ∙ c.in_default.is),
+      omega (arith, l.invariant.1, ap length c.in-Some.ensures.steps),
+      c.flaw_of.ensures.ready,
+    )
+
+pub returns-in-Some-flaw_of-clause-flaw : goal.returns-in-Some-flaw_of-clause-flaw
+returns-in-Some-flaw_of-clause-flaw c =
+    let t = c.args.present.now in
+    let l = c.loop-claim in
+    sym (
+    l.invariant.0 ∙ ap (first_flaw t (l.at + 1)) c.in-Some.ensures.steps
+    ∙ fails t (l.at + 1) (claim_said c.in-Some.claim) c.next.new.self c.in-Some-flaw_of.code (sym c.flaw_of.ensures.flaw ∙ c.in-Some-flaw_of.is)
+    )
+
+pub returns-clause-flaw : goal.returns-clause-flaw
+returns-clause-flaw c = sym (c.loop-claim.invariant.0 ∙ ap (first_flaw c.args.present.now (c.loop-claim.at + 1)) c.in-None.ensures.steps)
