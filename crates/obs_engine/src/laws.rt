@@ -25,7 +25,7 @@ ghost use Rattle.obs_engine.specs.StationReply.{stations_status};
 ghost use Rattle.obs_engine.specs.Trials.{dip_meters, dips_of};
 ghost use Rattle.obs_engine.specs.Claimed.{AnswersAreVerified, AnswersFit, AnswersHold};
 ghost use Rattle.obs_engine.specs.Laws.{BearsLosses, BearsOutages, CasesAreValid, EditsAloneChange, EndedOrLast, IsAnswerTo, IsFormOf, IsInUsage, ListsNonCritical, OrderIsForgotten, PairsFailTogether, ReportsAsTheCommand};
-ghost use Rattle.obs_edit.specs.Answers.{bound_outside, bound_rank, case_critical_meters, component_meters, short_components};
+ghost use Rattle.obs_repair.specs.Bounds.{bound_outside, bound_rank, case_critical_meters, component_meters, short_components};
 
 /// Every case that files are is valid. The other laws ask this of a case.
 /// Words that are a trial's give it from 1 to 100 rows.
