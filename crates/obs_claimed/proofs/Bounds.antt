@@ -13,8 +13,8 @@ use Rattle.obs_network.specs.Observable.{IsObservable, case_live_meters}
 use Rattle.obs_network.proofs.Items.{meter_is_item}
 use Rattle.obs_network.proofs.Marked.{filtered_below}
 use Rattle.obs_network.proofs.OfCase.{length-case_meters}
-use Rattle.obs_edit.specs.Answers.{bound_meters, bound_outside, bound_rank, component_meters, component_rank, is_critical_meter, is_meter_of}
-use Rattle.obs_edit.proofs.Tight.{bound_is, observable-from, rank_few}
+use Rattle.obs_repair.specs.Bounds.{bound_meters, bound_outside, bound_rank, component_meters, component_rank, is_critical_meter, is_meter_of}
+use Rattle.obs_repair.proofs.Tight.{bound_is, observable-from, rank_few}
 use Rattle.obs_report.specs.Items.{item_count}
 use Rattle.obs_cert.specs.declared.flaw.FlawCode.TheVariants.{Twice}
 use Rattle.obs_cert.specs.Flaws.{bound_clauses, first_true, list_clauses, not_inside, outside_of, rank_of_items, twice}

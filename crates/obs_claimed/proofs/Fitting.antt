@@ -13,7 +13,8 @@ use Rattle.obs_network.proofs.OfCase.{case_branches-are, case_bus_count-le, case
 use Rattle.obs_report.specs.Items.{inside_line, pair_line}
 use Rattle.obs_report.specs.Meters.{bound_line, bound_text, component_name}
 use Rattle.obs_report.specs.Trees.{pair_lines, tree_line, tree_text}
-use Rattle.obs_edit.specs.Answers.{bound_meters, bound_outside, bound_rank, case_first_pairs, component_meters, is_critical_meter}
+use Rattle.obs_repair.specs.Bounds.{bound_meters, bound_outside, bound_rank, component_meters, is_critical_meter}
+use Rattle.obs_edit.specs.Answers.{case_first_pairs}
 use Rattle.obs_edit.specs.Laws.{tree_pairs}
 use Rattle.obs_claimed.specs.Laws.{TreesAndBoundsFit}
 use Rattle.obs_claimed.proofs.LineLengths.{bound_line-length, each_length, inside_length, pair_length, tree_line-length}

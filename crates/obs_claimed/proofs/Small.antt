@@ -27,7 +27,7 @@ use Rattle.obs_network.specs.Network.{case_branches, case_meters, case_offered, 
 use Rattle.obs_network.specs.Observable.{case_live_meters}
 use Rattle.obs_network.proofs.Marked.{filtered_below}
 use Rattle.obs_network.proofs.OfCase.{case_vertex_count-le, few_meters, few_nodes, length-case_meters, length-case_offered}
-use Rattle.obs_edit.specs.Answers.{bound_meters, bound_outside, bound_rank, component_meters, is_critical_meter, is_meter_of}
+use Rattle.obs_repair.specs.Bounds.{bound_meters, bound_outside, bound_rank, component_meters, is_critical_meter, is_meter_of}
 use Rattle.obs_edit.proofs.Priced.{cheap_prices, few_prices}
 use Rattle.obs_claimed.proofs.Words.{IsSmall}
 

@@ -18,7 +18,8 @@ use Rattle.obs_report.specs.Items.{candidate_name, item_count, inside_line as in
 use Rattle.obs_report.specs.Meters.{component_name, bound_line as bound_text}
 use Rattle.obs_report.specs.Placements.{layers_text, listed_between, placement_text, chosen_line as chosen_text, cost_line as cost_text, layer_line as layer_text, shortfall_line as shortfall_text}
 use Rattle.obs_report.specs.Trees.{tree_line as tree_text}
-use Rattle.obs_edit.specs.Answers.{bound_meters, bound_outside, bound_rank, case_first_pairs}
+use Rattle.obs_repair.specs.Bounds.{bound_meters, bound_outside, bound_rank}
+use Rattle.obs_edit.specs.Answers.{case_first_pairs}
 use Rattle.obs_edit.specs.Laws.{tree_pairs}
 use Rattle.obs_edit.specs.Planned.{case_placed_pairs}
 use Rattle.obs_network.specs.Observable.{branch_component}

@@ -15,7 +15,7 @@ use Rattle.obs_cert.specs.Scopes.{is_meter_in, named_component, named_need, name
 use Rattle.obs_cert.proofs.ClaimLemmas.{tree_rest}
 use Rattle.obs_report.specs.Meters.{component_name}
 use Rattle.obs_report.proofs.OfPairs.{offered_branch}
-use Rattle.obs_edit.specs.Answers.{component_meters}
+use Rattle.obs_repair.specs.Bounds.{component_meters}
 use Rattle.obs_edit.specs.Laws.{tree_pairs}
 use Rattle.obs_edit.proofs.FirstTrees.{tree_first, tree_whole}
 use Rattle.obs_claimed.specs.Claimed.{component_tree, named_pair}

@@ -31,7 +31,8 @@ use Rattle.obs_rankcut.specs.Costs.{price_of}
 use Rattle.obs_report.specs.Items.{IsBranchOf, branch_name, branch_word, candidate_name, item_count, item_name, meter_name}
 use Rattle.obs_report.specs.Meters.{component_name}
 use Rattle.obs_report.proofs.OfPairs.{meter_branch, offered_branch}
-use Rattle.obs_edit.specs.Answers.{bound_meters, case_first_pairs, component_meters, is_critical_meter, is_meter_of}
+use Rattle.obs_repair.specs.Bounds.{bound_meters, component_meters, is_critical_meter, is_meter_of}
+use Rattle.obs_edit.specs.Answers.{case_first_pairs}
 use Rattle.obs_edit.specs.Planned.{case_placed_pairs, case_placement, pairs_in, planned_items, touches_of}
 use Rattle.obs_edit.proofs.Planned.{length-touches_of, touch-listed}
 use Rattle.obs_claimed.proofs.ComponentNames.{first_of_component}

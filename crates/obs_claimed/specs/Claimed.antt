@@ -8,7 +8,7 @@ use Rattle.obs_placement.specs.Placed.Placed.{cheapest, shortfall as short_of}
 use Rattle.obs_cert.specs.Claims.{BoundClaim, Claim, CostClaim, Item, Layer, Pair, ShortfallClaim, TreeClaim, meter, candidate, cost, shortfall}
 use Rattle.obs_report.specs.Items.{branch_word, candidate_name, is_meter, meter_name}
 use Rattle.obs_report.specs.Meters.{component_name}
-use Rattle.obs_edit.specs.Answers.{bound_meters, bound_outside, bound_rank}
+use Rattle.obs_repair.specs.Bounds.{bound_meters, bound_outside, bound_rank}
 use Rattle.obs_edit.specs.Laws.{tree_pairs}
 
 -- an item by its name: a meter, or behind the meters a candidate

@@ -28,11 +28,12 @@ use Rattle.obs_network.specs.Observable.{IsObservable, branch_component, case_li
 use Rattle.obs_network.proofs.InComponents.{kinds_sum, present_below, present_placed, touched_component}
 use Rattle.obs_network.proofs.OfCase.{case_branches-are}
 use Rattle.obs_network.proofs.Vertices.{need_is, vertices_of_component}
-use Rattle.obs_edit.specs.Answers.{case_first_pairs, component_meters, component_rank, is_meter_of}
+use Rattle.obs_repair.specs.Bounds.{component_meters, component_rank, is_meter_of}
+use Rattle.obs_edit.specs.Answers.{case_first_pairs}
 use Rattle.obs_edit.specs.Laws.{TreesAreFirst, TreesAreWhole, TreesSpan, TreesStandAlone, tree_pairs}
 use Rattle.obs_edit.proofs.FirstParts.{first_in_component}
 use Rattle.obs_network.proofs.Listed.{rising_filter}
-use Rattle.obs_edit.proofs.Tight.{case_matroid, case_touch, observable-to}
+use Rattle.obs_repair.proofs.Tight.{case_matroid, case_touch, observable-to}
 
 -- some of the pairs rise, where all do
 IsRising-filter_items : (f : Pair → Bool) (A : List Pair) → IsRising (items A) → IsRising (items (filter f A))

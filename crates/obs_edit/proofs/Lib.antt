@@ -1,10 +1,8 @@
-pub mod Enough
 pub mod Planned
 pub mod PlanFirst
 pub mod Priced
 pub mod Offered
 pub mod Plans
-pub mod Tight
 pub mod Answered
 pub mod PlanOrShortfall
 pub mod CheapestPlans

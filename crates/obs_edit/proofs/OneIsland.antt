@@ -28,10 +28,11 @@ use Rattle.obs_network.proofs.Numbered.{component_at}
 use Rattle.obs_network.proofs.OfCase.{case_branches-are}
 use Rattle.obs_network.proofs.Vertices.{is_vertex_of-bus, need_is}
 use Rattle.obs_network.proofs.OfLaws.{case_component-at}
-use Rattle.obs_edit.specs.Answers.{case_first_pairs, component_meters, is_meter_of}
+use Rattle.obs_repair.specs.Bounds.{component_meters, is_meter_of}
+use Rattle.obs_edit.specs.Answers.{case_first_pairs}
 use Rattle.obs_edit.specs.Laws.{IsIslandOf, IslandsLieInComponents, ObservableIsIsland, tree_pairs}
 use Rattle.obs_edit.proofs.FirstTrees.{tree_first, tree_whole}
-use Rattle.obs_edit.proofs.Tight.{case_matroid, case_touch}
+use Rattle.obs_repair.proofs.Tight.{case_matroid, case_touch}
 
 -- a vertex of a component lies in it
 vertex_of_component : (t : Tables) (c u : ℕ) → is_vertex_of t c u ≡ true → (case_vertex_component t u == c) ≡ true

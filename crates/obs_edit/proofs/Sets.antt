@@ -6,11 +6,12 @@ use Rattle.obs_assign.specs.Assignment.{Assignment}
 use Rattle.obs_assign.proofs.Slotted.{none_some}
 use Rattle.obs_critical.specs.Listed.{CriticalWork}
 use Rattle.obs_islands.specs.IslandWork.{IslandWork}
-use Rattle.obs_network.specs.Network.{Rows, case_position_count, rows_of}
+use Rattle.obs_network.specs.Network.{Network, Rows, case_position_count, rows_of}
 use Rattle.obs_meter.specs.Sizes.{Sizes}
 use Rattle.obs_repair.specs.declared.edit.Edit.{Edit}
 use Rattle.obs_edit.specs.declared.hand.AtHand.{AtHand}
 use Rattle.obs_repair.specs.Edits.{edited}
+use Rattle.obs_repair.specs.Parts.{BoundsWhereKnown, Parts}
 use Rattle.obs_edit.specs.Edits.{nothing_at_hand}
 use Rattle.obs_edit.specs.Planned.{Planning, offered_room}
 use Rattle.obs_edit.specs.Sessions.{AreAnswers, BoundOf, HasRoomToAnswer, IsPlacing}
@@ -35,6 +36,10 @@ answer_room-edited t e flags listing found list listed r =
       list_len = r.list_len ∙ meters;
       within = r.within;
     }
+
+-- where parts aren't known they bound nothing
+pub bounds-unknown : (n : Network) (p : Parts) (most : ℕ) → p.known ≡ false → BoundsWhereKnown n p most
+bounds-unknown n p most none is = absurd (false≢true (sym none ∙ is))
 
 -- where nothing is said to be at hand there is nothing to say
 pub no_answers : (t : Tables) (a : Assignment) (flags : List Bool) (listing : CriticalWork) (found : IslandWork) (measured : BoundOf) (hand : AtHand) → hand ≡ nothing_at_hand

@@ -10,7 +10,8 @@ use Rattle.obs_islands.specs.Islands.{IsFirstIn, IsIslandAt, IsOnlyIslandOf}
 use Rattle.obs_network.specs.Switched.{case_bus_count}
 use Rattle.obs_network.specs.Network.{case_branches, case_component_count, case_meters, case_need, case_vertex_component, case_vertex_count}
 use Rattle.obs_network.specs.Observable.{IsObservable, branch_component, is_vertex_of}
-use Rattle.obs_edit.specs.Answers.{case_first_pairs, case_islands, component_meters}
+use Rattle.obs_repair.specs.Bounds.{component_meters}
+use Rattle.obs_edit.specs.Answers.{case_first_pairs, case_islands}
 
 -- the pairs of the first assignment of a case's meters whose branches lie in a component; where the component is
 -- observable, they are its tree

@@ -1,13 +1,12 @@
 -- What a session keeps.
-use Rattle.std.specs.Prelude.{◌≡◌, ℕ, ◌≤◌, Bool, true, false, not, Some, List, length, slice_index_or}
+use Rattle.std.specs.Prelude.{◌≡◌, ℕ, ◌≤◌, Bool, true, Some, List, length}
 use Rattle.obs_case.specs.Tables.{Tables, prices_of}
-use Rattle.obs_matroid.specs.Lists.{In}
 use Rattle.obs_assign.specs.Assignment.{Assignment, StandsOver, pairs}
 use Rattle.obs_critical.specs.Listed.{CriticalWork}
 use Rattle.obs_islands.specs.IslandWork.{IslandWork}
-use Rattle.obs_network.specs.Network.{case_meters, case_offered, network_of}
-use Rattle.obs_network.specs.Observable.{case_live_meters}
-use Rattle.obs_edit.specs.Answers.{bound_meters, bound_outside, bound_rank, case_critical_meters, case_first_pairs, case_islands, is_critical_meter}
+use Rattle.obs_network.specs.Network.{case_offered, network_of}
+use Rattle.obs_repair.specs.Bounds.{AreMarks, bound_meters, bound_outside, bound_rank, case_critical_meters}
+use Rattle.obs_edit.specs.Answers.{case_first_pairs, case_islands}
 use Rattle.obs_repair.specs.Kept.{case_room}
 use Rattle.obs_edit.specs.Planned.{Planning, case_placed_pairs, case_placement, offered_room}
 use Rattle.obs_edit.specs.declared.hand.AtHand.{AtHand}
@@ -18,11 +17,6 @@ pub record Session : Type 0 where
   pub offered : Bool
   pub pairs : Assignment
   pub at_hand : AtHand
-
--- the flags mark, of the live meters, those that aren't critical
-pub record AreMarks (t : Tables) (flags : List Bool) : Type 0 where
-  pub one_each : length flags ≡ length (case_meters t)
-  pub mark : (m : ℕ) → In m (case_live_meters t) → slice_index_or flags m false ≡ not (is_critical_meter t m)
 
 -- the list of a bound, the rank of what it touches, and the number of the component's other live meters
 pub record BoundOf : Type 0 where

@@ -2,13 +2,12 @@
 ghost use Rattle.std.specs.Prelude.{◌≡◌, false, None, IfOk};
 ghost use Rattle.obs_edit.specs.Sessions.{HasRoomToAnswer};
 
-use crate::asks::Measured;
 use crate::hand::AtHand;
 use obs_case::Case;
 use obs_critical::CriticalWork;
 use obs_islands::IslandWork;
 use obs_network::{position_count, vertex_room};
-use obs_repair::NoMemory;
+use obs_repair::{Measured, NoMemory};
 use std::alloc::Global;
 
 /// What was found in the present case beside the pairs.

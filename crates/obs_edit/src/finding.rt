@@ -4,15 +4,17 @@ ghost use Rattle.obs_assign.specs.Assignment.{StandsOver, pairs};
 ghost use Rattle.obs_exchange.specs.Laws.{IsThawed};
 ghost use Rattle.obs_placement.specs.Placed.{placed_of};
 ghost use Rattle.obs_network.specs.Network.{case_component_count, case_meters, case_need, case_offered, network_of};
-ghost use Rattle.obs_edit.specs.Answers.{bound_meters, bound_outside, bound_rank, case_critical_meters, case_first_pairs, case_islands};
+ghost use Rattle.obs_repair.specs.Bounds.{bound_meters, bound_outside, bound_rank, case_critical_meters};
+ghost use Rattle.obs_edit.specs.Answers.{case_first_pairs, case_islands};
 ghost use Rattle.obs_edit.specs.Planned.{case_placed_pairs, case_placement};
 
-use crate::asks::{find_bound, find_critical, find_first, find_islands};
+use crate::asks::{find_first, find_islands};
 use crate::placing::place;
 use crate::session::Session;
 use obs_assign::{Assignment, Steps};
 use obs_placement::Placement;
 use obs_rankcut::Bound;
+use obs_repair::{find_bound, find_critical};
 use std::sync::ledger::Ledger;
 
 impl Session {

@@ -3,8 +3,6 @@
 
 mod answers;
 mod asks;
-mod components;
-mod counted;
 mod edit;
 mod finding;
 mod hand;

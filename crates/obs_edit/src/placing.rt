@@ -95,7 +95,6 @@ impl Placing {
         ensures empty { IfOk result (λ p. p ≡ planning_of
             (record { meters = items; branches = positions; vertices = vertices }) (prices_of case.now.candidates)) }
     {
-        let _nodes = case.nodes();
         let Ok(prices) = list_prices(alloc, case.candidates()) else {
             return Err(NoMemory);
         };
@@ -186,7 +185,6 @@ pub(crate) fn place<L: Ledger>(
     ensures same_prices { placing.new.prices ≡ placing.old.prices }
     ensures same_sizes { placing.new.sizes ≡ placing.old.sizes }
 {
-    let _nodes = case.nodes();
     let meters = case.meters().len() as u32;
     placing.find(
         network.graph(),

@@ -10,7 +10,6 @@ ghost use Rattle.obs_edit.specs.Lines.{IsDone, searches_of};
 ghost use Rattle.obs_repair.specs.Kept.{AreLongest};
 
 use crate::answers::{Answers, make_answers};
-use crate::counted::has_enough;
 use crate::edit::{Applied, Done};
 use crate::hand::AtHand;
 use crate::placing::Placing;
@@ -18,7 +17,8 @@ use obs_assign::{Assignment, Steps};
 use obs_case::Case;
 use obs_network::Network;
 use obs_repair::{
-    Edit, Held, Meant, NoMemory, Refusal, fill, is_set, make_held, meant, repair, set_flag,
+    Edit, Held, Meant, NoMemory, Refusal, fill, has_enough, is_set, make_held, meant, repair,
+    set_flag,
 };
 use std::alloc::Global;
 use std::marker::Model;

@@ -29,10 +29,11 @@ use Rattle.obs_report.specs.Printed.{AppendsAt}
 use Rattle.obs_report.specs.Items.{pair_line}
 use Rattle.obs_report.specs.Trees.{tree_line, tree_text}
 use Rattle.obs_report.proofs.Printing.{and_then_none}
-use Rattle.obs_edit.specs.Answers.{bound_meters, bound_outside, bound_rank, case_critical_meters, case_first_pairs, case_islands, component_rank}
+use Rattle.obs_repair.specs.Bounds.{bound_meters, bound_outside, bound_rank, case_critical_meters, component_rank}
+use Rattle.obs_edit.specs.Answers.{case_first_pairs, case_islands}
 use Rattle.obs_repair.specs.Kept.{AreLongest}
-use Rattle.obs_edit.proofs.Enough.{live_pairs}
-use Rattle.obs_edit.proofs.Tight.{observable-from, observable-to}
+use Rattle.obs_repair.proofs.Enough.{live_pairs}
+use Rattle.obs_repair.proofs.Tight.{observable-from, observable-to}
 use Rattle.obs_engine.specs.Asks.{block_text, blocks_text, bound_claim, claims_text, component_claim, text_if, tree_claim}
 use Rattle.obs_engine.specs.declared.blocks.Block.{Block}
 use Rattle.obs_engine.specs.declared.blocks.Block.TheVariants.{Counts, Trees, Bounds, Claims, Islands, Critical}

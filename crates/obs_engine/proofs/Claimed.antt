@@ -21,9 +21,9 @@ use Rattle.obs_cert.proofs.LawLemmas.{CertificateIsRead-holds}
 use Rattle.obs_cert.proofs.TruthLemmas.{no_flaw}
 use Rattle.obs_report.specs.Lines.{last_line}
 use Rattle.obs_report.specs.Placements.{placement_text}
-use Rattle.obs_edit.specs.Answers.{component_rank}
+use Rattle.obs_repair.specs.Bounds.{component_rank}
 use Rattle.obs_edit.specs.Planned.{case_placed_pairs, case_placement}
-use Rattle.obs_edit.proofs.Tight.{observable-from, observable-to}
+use Rattle.obs_repair.proofs.Tight.{observable-from, observable-to}
 use Rattle.obs_claimed.specs.Claimed.{component_bound, component_tree, placement_claim}
 use Rattle.obs_claimed.specs.Laws.{AreLines}
 use Rattle.obs_claimed.proofs.Bounds.{bounds_hold}

@@ -19,7 +19,7 @@ use Rattle.obs_meter.specs.Touches.{is_live, live_items, touch_at}
 use Rattle.obs_exchange.specs.Critical.{critical_at}
 use Rattle.obs_network.specs.Network.{case_branches, case_meters, case_vertex_count}
 use Rattle.obs_network.specs.Observable.{case_live_meters, case_rank}
-use Rattle.obs_edit.specs.Answers.{case_critical_meters}
+use Rattle.obs_repair.specs.Bounds.{case_critical_meters}
 use Rattle.obs_repair.proofs.Metered.{none_touched, same_count, same_graph, same_touch}
 use Rattle.obs_network.proofs.OfCase.{length-case_meters}
 use Rattle.obs_engine.specs.Trials.{dip_meters, dips_of, is_dip}

@@ -15,7 +15,8 @@ use Rattle.obs_report.specs.Lines.{last_line}
 use Rattle.obs_report.specs.Meters.{bound_text}
 use Rattle.obs_report.specs.Placements.{placement_text}
 use Rattle.obs_report.specs.Trees.{tree_text}
-use Rattle.obs_edit.specs.Answers.{bound_meters, bound_outside, bound_rank, case_first_pairs, component_rank}
+use Rattle.obs_repair.specs.Bounds.{bound_meters, bound_outside, bound_rank, component_rank}
+use Rattle.obs_edit.specs.Answers.{case_first_pairs}
 use Rattle.obs_edit.specs.Planned.{case_placed_pairs, case_placement}
 use Rattle.obs_claimed.proofs.Fitting.{trees_and_bounds_fit}
 use Rattle.obs_claimed.proofs.PlanLengths.{placements_fit}

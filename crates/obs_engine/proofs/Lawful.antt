@@ -21,10 +21,10 @@ use Rattle.obs_network.proofs.OfCase.{case_branches-are}
 use Rattle.obs_files.specs.declared.status.Status.TheVariants.{Done, Short}
 use Rattle.obs_report.specs.Counts.{verdict_word}
 use Rattle.obs_engine.specs.Laws.{ListsNonCritical}
-use Rattle.obs_edit.specs.Answers.{bound_meters, bound_outside, bound_rank, case_critical_meters, component_meters, component_rank, is_critical_meter, is_meter_of, is_short, short_components}
+use Rattle.obs_repair.specs.Bounds.{bound_meters, bound_outside, bound_rank, case_critical_meters, component_meters, component_rank, is_critical_meter, is_meter_of, is_short, short_components}
 use Rattle.obs_engine.specs.Asks.{report_status}
 use Rattle.obs_engine.proofs.OfNetwork.{verdict_done, verdict_short}
-use Rattle.obs_edit.proofs.Tight.{bound_is, most_is, observable-from, observable-to, rank_few}
+use Rattle.obs_repair.proofs.Tight.{bound_is, most_is, observable-from, observable-to, rank_few}
 
 pub rank_greatest : (t : Tables) → IsValid t → IsRhoAt (case_branches t) (case_meters t) (case_live_meters t) (case_rank t)
 unfolding case_rank

@@ -12,7 +12,7 @@ use Rattle.obs_network.specs.Network.{Network, case_branches, case_meters, case_
 use Rattle.obs_network.specs.Observable.{case_live_meters, case_rank, is_energised_component}
 use Rattle.obs_network.proofs.Marked.{filtered_below}
 use Rattle.obs_files.specs.declared.status.Status.TheVariants.{Done, Short}
-use Rattle.obs_edit.specs.Answers.{bound_meters, case_critical_meters, component_meters, is_critical_meter, is_meter_of}
+use Rattle.obs_repair.specs.Bounds.{bound_meters, case_critical_meters, component_meters, is_critical_meter, is_meter_of}
 use Rattle.obs_engine.specs.Asks.{report_status}
 use Rattle.obs_network.proofs.OfCase.{length-case_meters}
 

@@ -2,21 +2,13 @@
 use Rattle.std.proofs.Common.{ℕ, Bool, true, false, List, [], ◌∷◌, Result, Ok, Err}
 use Rattle.std.specs.Prelude.{if◌then◌else◌}
 use Rattle.obs_case.specs.Tables.{IsValid, Tables}
-use Rattle.obs_case.proofs.ValidLemmas.{valid-with_branch_inservice, valid-with_closed, valid-with_meter_inservice}
 use Rattle.obs_script.specs.Gathered.{is_comment}
-use Rattle.obs_repair.specs.declared.edit.Edit.{Edit}
-use Rattle.obs_repair.specs.declared.edit.Edit.TheVariants.{Switch, Branch, Meter}
 use Rattle.obs_repair.specs.declared.edit.Meant.{Meant}
 use Rattle.obs_repair.specs.declared.edit.Meant.TheVariants.{Edits, Asks}
 use Rattle.obs_repair.specs.declared.edit.Refusal.{Refusal}
-use Rattle.obs_repair.specs.Edits.{edited}
 use Rattle.obs_repair.specs.Lines.{meant_of}
+use Rattle.obs_repair.proofs.Flagged.{valid_edited}
 use Rattle.obs_engine.specs.Lines.{case_after, line_case, lines_case}
-
-pub valid_edited : (t : Tables) (edit : Edit) → IsValid t → IsValid (edited t edit)
-valid_edited t (Switch at closed) v = valid-with_closed t v at closed
-valid_edited t (Branch at inservice) v = valid-with_branch_inservice t v at inservice
-valid_edited t (Meter at inservice) v = valid-with_meter_inservice t v at inservice
 
 -- whatever a line means
 valid_after : (t : Tables) (meant : Result Meant Refusal) → IsValid t → IsValid (case_after t meant)

@@ -14,7 +14,8 @@ use Rattle.obs_report.specs.Placements.{placement_text}
 use Rattle.obs_report.specs.Trees.{tree_text}
 use Rattle.obs_script.specs.declared.command.Ask.{Ask}
 use Rattle.obs_script.specs.declared.command.Ask.TheVariants.{Status as StatusAsk, Tree, Bound, Islands as IslandsAsk, Critical as CriticalAsk, Report, Place, Cert}
-use Rattle.obs_edit.specs.Answers.{bound_meters, bound_outside, bound_rank, case_critical_meters, case_first_pairs, case_islands, component_rank}
+use Rattle.obs_repair.specs.Bounds.{bound_meters, bound_outside, bound_rank, case_critical_meters, component_rank}
+use Rattle.obs_edit.specs.Answers.{case_first_pairs, case_islands}
 use Rattle.obs_edit.specs.Planned.{case_placed_pairs, case_placement}
 use Rattle.obs_engine.specs.declared.blocks.Block.{Block}
 use Rattle.obs_engine.specs.declared.blocks.Block.TheVariants.{Counts, Trees, Bounds, Claims, Islands, Critical, Placement}

@@ -9,7 +9,7 @@ use Rattle.obs_cert.specs.Claims.{Claim, tree, bound}
 use Rattle.obs_cert.specs.Read.{claims_of}
 use Rattle.obs_script.specs.declared.command.Ask.{Ask}
 use Rattle.obs_script.specs.declared.command.Ask.TheVariants.{Tree, Bound, Place, Cert}
-use Rattle.obs_edit.specs.Answers.{component_rank}
+use Rattle.obs_repair.specs.Bounds.{component_rank}
 use Rattle.obs_edit.specs.Planned.{case_placed_pairs, case_placement}
 use Rattle.obs_claimed.specs.Claimed.{component_bound, component_tree, placement_claim}
 use Rattle.obs_files.specs.declared.words.CaseForm.{CaseForm}

@@ -19,7 +19,7 @@ use Rattle.obs_text.specs.Lines.{lines_of}
 use Rattle.obs_repair.specs.declared.edit.Edit.{Edit}
 use Rattle.obs_repair.specs.declared.edit.Meant.TheVariants.{Edits, Asks}
 use Rattle.obs_repair.specs.declared.edit.Refusal.{Refusal}
-use Rattle.obs_edit.specs.Answers.{bound_meters}
+use Rattle.obs_repair.specs.Bounds.{bound_meters}
 use Rattle.obs_repair.specs.Edits.{edited}
 use Rattle.obs_repair.specs.Lines.{meant_of, refusal_code, refusal_name}
 use Rattle.obs_engine.specs.Asks.{ask_text}

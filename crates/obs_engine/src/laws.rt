@@ -23,7 +23,7 @@ ghost use Rattle.obs_engine.specs.StationReply.{stations_status};
 ghost use Rattle.obs_engine.specs.Trials.{dip_meters, dips_of};
 ghost use Rattle.obs_engine.specs.Claimed.{AnswersAreVerified, AnswersFit, AnswersHold};
 ghost use Rattle.obs_engine.specs.Laws.{BearsLosses, BearsOutages, EditsAloneChange, EndedOrLast, IsAnswerTo, ListsNonCritical, OrderIsForgotten, PairsFailTogether, ReportsAsTheCommand};
-ghost use Rattle.obs_edit.specs.Answers.{bound_outside, bound_rank, case_critical_meters, component_meters, short_components};
+ghost use Rattle.obs_repair.specs.Bounds.{bound_outside, bound_rank, case_critical_meters, component_meters, short_components};
 
 pub use obs_files::laws::{cases_are_valid, forms_of_words};
 

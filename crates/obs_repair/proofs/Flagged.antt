@@ -1,5 +1,5 @@
 -- A flag that is set to what it is changes nothing, and any other does.
-use Rattle.std.proofs.Common.{◌≡◌, ◌≢◌, ℕ, zero, suc, ◌+◌, ◌<◌, Bool, true, false, List, [], ◌∷◌, length, get_or, refl, sym, ap, ◌∙◌, arith}
+use Rattle.std.proofs.Common.{◌≡◌, ◌≢◌, ℕ, zero, suc, ◌+◌, ◌<◌, Bool, true, false, List, [], ◌∷◌, length, get_or, refl, sym, ap, ◌∙◌, arith, subst}
 use Rattle.std.specs.Prelude.{MatchBool, if◌then◌else◌}
 use Rattle.std.specs.List.{list_any}
 use Rattle.std.proofs.lemmas.Bool.{false≢true, true≢false}
@@ -7,7 +7,8 @@ use Rattle.obs_case.specs.declared.rows.Branch.{Branch}
 use Rattle.obs_case.specs.declared.rows.Meter.{Meter}
 use Rattle.obs_case.specs.declared.rows.Switch.{Switch}
 use Rattle.obs_case.specs.Flags.{changed_at, with_branch_inservice, with_closed, with_meter_inservice}
-use Rattle.obs_case.specs.Tables.{Tables}
+use Rattle.obs_case.specs.Tables.{IsValid, Tables}
+use Rattle.obs_case.proofs.ValidLemmas.{valid-with_branch_inservice, valid-with_closed, valid-with_meter_inservice}
 use Rattle.obs_network.specs.Angles.{has_angle}
 use Rattle.obs_network.specs.Network.{Rows, case_meters, case_position_count, rows_of}
 use Rattle.obs_network.proofs.Edited.{flags-with_meter}
@@ -101,3 +102,12 @@ positions-edited t e = ap (λ r. positions_of r (has_angle (edited t e))) (rows-
 -- nor does the number of meters change
 pub meters-edited : (t : Tables) (e : Edit) → length (case_meters (edited t e)) ≡ length (case_meters t)
 meters-edited t e = length-case_meters (edited t e) ∙ (ap (λ (r : Rows). r.meters) (rows-edited t e) ∙ sym (length-case_meters t))
+
+-- a case stays valid over an edit
+pub valid_edited : (t : Tables) (e : Edit) → IsValid t → IsValid (edited t e)
+valid_edited t (edit.Switch at closed) v = valid-with_closed t v at closed
+valid_edited t (edit.Branch at inservice) v = valid-with_branch_inservice t v at inservice
+valid_edited t (edit.Meter at inservice) v = valid-with_meter_inservice t v at inservice
+
+pub valid_now : (t before : Tables) (e : Edit) → t ≡ edited before e → IsValid before → IsValid t
+valid_now t before e same v = subst (λ (x : Tables). IsValid x) (sym same) (valid_edited before e v)

@@ -16,3 +16,6 @@ pub mod ClosedParts
 pub mod HeldPairs
 pub mod Limited
 pub mod PartRoom
+pub mod Tight
+pub mod Enough
+pub mod Bounded

@@ -3,3 +3,4 @@ pub mod Edits
 pub mod Lines
 pub mod Repairing
 pub mod Parts
+pub mod Bounds

@@ -68,7 +68,6 @@ pub fn fill<L: Ledger>(
     let _nodes = case.nodes();
     let g = network.graph();
     let ms = network.meters();
-    let _ = g.vertices();
     pairs.clear(g, ms);
     let _ = lengthen(g, ms, pairs, network.needed(), work, steps);
 }

@@ -1,6 +1,9 @@
 //! The pairs after an edit: what a line means for a case, the one flag that it sets, and the kept pairs made longest again.
 #![tactic(auto)]
 
+mod bounds;
+mod components;
+mod counted;
 mod edit;
 mod grow;
 mod kept;
@@ -10,6 +13,8 @@ mod memory;
 mod parts;
 mod repairing;
 
+pub use bounds::{Measured, find_bound, find_critical};
+pub use counted::has_enough;
 pub use edit::{Edit, Meant, Refusal};
 pub use kept::{Held, fill, make_held};
 pub use lines::meant;

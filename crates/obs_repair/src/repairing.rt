@@ -47,9 +47,9 @@ pub fn set_flag(case: &mut Case, edit: Edit)
 /// The meter whose pair the edit takes away: one that goes, or one that has a branch that trips.
 fn taken(edit: Edit, a: &Assignment) -> Option<u32>
     requires place { HasPlace edit a.now }
+    requires whole { IsWhole a.now }
     ensures taken { IsMeterTaken edit a.now result }
 {
-    let _ = a.length();
     match edit {
         Edit::Meter { at, inservice } => { if inservice { None } else { Some(at) } }
         Edit::Branch { at, inservice } => { if inservice { None } else { a.meter_of(at) } }
@@ -66,11 +66,8 @@ fn give_up(case: &Case, network: &Network, edit: Edit, a: &mut Assignment)
     ensures thawed { IsThawed a.new }
     ensures same_room { HasRoomOf a.old a.new }
 {
-    let _ = case;
-    let g = network.graph();
-    let _ = a.length();
     if let Some(m) = taken(edit, a) {
-        a.drop_pair(g, m);
+        a.drop_pair(network.graph(), m);
     }
 }
 
@@ -132,9 +129,6 @@ fn keep_standing(case: &Case, network: &Network, edit: Edit, alone: bool, a: &mu
     ensures thawed { IsThawed a.new }
     ensures same_room { HasRoomOf a.old a.new }
 {
-    let _nodes = case.nodes();
-    let _ = edit;
-    let _ = a.length();
     if !alone {
         let _ = a.retain_touching(network.graph(), network.meters());
     }
@@ -166,14 +160,11 @@ pub fn repair<L: Ledger>(
     ensures parts_room { HasRoomForParts case.now parts.new }
     ensures bounded { BoundsWhereKnown network.new parts.new (case_rank case.now) }
 {
-    let _nodes = case.nodes();
     let had = a.length();
     let between = is_between(edit, network, parts);
     give_up(case, network, edit, a);
     let alone = follow(case, edit, network);
     keep_standing(case, network, edit, alone, a);
-    let _ = network.graph();
-    let _ = network.meters();
     let bound = limit(edit, alone, between, had, network, parts);
     let most = most_pairs(edit, alone, had, network.needed());
     let grown = grow(network, edit, least(most, bound), a, work, steps);

@@ -2,7 +2,10 @@ use Rattle.obs_repair.proofs.GivenUp.{has-place, left-dropped}
 use Rattle.obs_repair.proofs.repairing.give_up.Goals as goal
 
 pub taken-requires : goal.taken-requires
-taken-requires c = record { place = has-place c.args.case.now c.args.edit c.args.network.now c.args.a.now c.requires.before }
+taken-requires c = record {
+  place = has-place c.args.case.now c.args.edit c.args.network.now c.args.a.now c.requires.before;
+  whole = c.requires.before.longest.whole;
+}
 
 pub returns-in-Some-clause-left : goal.returns-in-Some-clause-left
 returns-in-Some-clause-left c = record {

@@ -8,6 +8,7 @@ use Rattle.obs_repair.specs.declared.edit.Edit.{Edit}
 use Rattle.obs_repair.specs.Repairing.{AreLeft, IsBack, IsBefore, IsSaidAlone}
 use Rattle.obs_repair.specs.Parts.{BoundsWhereKnown}
 use Rattle.obs_repair.proofs.OfNetwork.{rank_of_longest}
+use Rattle.obs_repair.proofs.Flagged.{valid_now}
 use Rattle.obs_repair.proofs.CameBack.{is_back}
 use Rattle.obs_repair.proofs.GivenUp.{kept-left, stands-alone}
 use Rattle.obs_repair.proofs.MostPairs.{bound_now, no_search_bare, one_search}
@@ -20,7 +21,7 @@ pub keep_standing-requires-clause-alone : goal.keep_standing-requires-clause-alo
 keep_standing-requires-clause-alone g c =
     let h = c.requires.before in
     stands-alone c.args.case.now c.args.edit c.args.network.now c.args.a.now h c.give_up.new.a c.give_up.ensures.left
-    c.nodes-nodes.ensures.valid c.give_up.ensures.whole
+    (valid_now c.args.case.now c.requires.before.before c.args.edit c.requires.before.same c.requires.before.valid) c.give_up.ensures.whole
     (subst (λ (x : Network). StandsOver c.give_up.new.a x.graph x.meters.touches) h.network c.give_up.ensures.stands)
     c.follow-alone.result c.follow-alone.new.network c.follow-alone.ensures.network c.follow-alone.ensures.alone
 
@@ -37,7 +38,7 @@ limit-bound-requires g c =
     let n = c.follow-alone.new.network in
     let net = c.follow-alone.ensures.network in record {
       before = λ known. bound_before c.args.case.now c.args.edit c.args.network.now c.args.a.now h n net c.args.parts.now c.requires.parts_room
-          c.nodes-nodes.ensures.valid c.follow-alone.result c.is_between-between.result c.length-had.result c.follow-alone.ensures.alone c.is_between-between.ensures.between c.length-had.ensures.length (c.requires.bounded known);
+          (valid_now c.args.case.now c.requires.before.before c.args.edit c.requires.before.same c.requires.before.valid) c.follow-alone.result c.is_between-between.result c.length-had.result c.follow-alone.ensures.alone c.is_between-between.ensures.between c.length-had.ensures.length (c.requires.bounded known);
       place = place_after c.args.case.now c.args.edit c.args.network.now c.args.a.now h n net c.args.parts.now c.requires.parts_room;
       room = room_after c.args.case.now c.args.edit c.args.network.now c.args.a.now h n net c.args.parts.now c.requires.parts_room;
     }
@@ -45,9 +46,9 @@ limit-bound-requires g c =
 pub grow-grown-requires-clause-most : goal.grow-grown-requires-clause-most
 grow-grown-requires-clause-most g c =
     let n = c.follow-alone.new.network in
-    let ok = subst (λ (x : Network). AreBranches x.graph.vertices x.graph.ends) (sym c.follow-alone.ensures.network) (case_branches-are c.args.case.now c.nodes-nodes.ensures.valid) in
+    let ok = subst (λ (x : Network). AreBranches x.graph.vertices x.graph.ends) (sym c.follow-alone.ensures.network) (case_branches-are c.args.case.now (valid_now c.args.case.now c.requires.before.before c.args.edit c.requires.before.same c.requires.before.valid)) in
     most-least n c.args.parts.now.first c.most_pairs-most.result c.least.result c.limit-bound.result ok
-    (bound_now c.args.case.now c.args.edit c.args.network.now c.args.a.now c.requires.before c.nodes-nodes.ensures.valid c.follow-alone.result n c.follow-alone.ensures.network c.follow-alone.ensures.alone
+    (bound_now c.args.case.now c.args.edit c.args.network.now c.args.a.now c.requires.before (valid_now c.args.case.now c.requires.before.before c.args.edit c.requires.before.same c.requires.before.valid) c.follow-alone.result n c.follow-alone.ensures.network c.follow-alone.ensures.alone
     n.graph n.meters c.length-had.result c.needed.result c.most_pairs-most.result refl refl c.length-had.ensures.length c.needed.ensures.needed c.most_pairs-most.ensures.most)
     c.limit-bound.ensures.limit c.least.ensures.one
 
@@ -59,7 +60,7 @@ grow-grown-requires-clause-back g c m is =
     let k = c.keep_standing.ensures in
     let surely = subst (λ (x : Edit). IsSaidAlone x c.follow-alone.result c.args.network.now n) is c.follow-alone.ensures.alone in
     let stands = subst (λ (x : Assignment). StandsOver x (network_of t).graph (network_of t).meters.touches) (k.same surely) k.stands in
-    let back = is_back t c.nodes-nodes.ensures.valid c.args.network.now c.args.a.now m (subst (λ (x : Edit). IsBefore t x c.args.network.now c.args.a.now) is c.requires.before)
+    let back = is_back t (valid_now c.args.case.now c.requires.before.before c.args.edit c.requires.before.same c.requires.before.valid) c.args.network.now c.args.a.now m (subst (λ (x : Edit). IsBefore t x c.args.network.now c.args.a.now) is c.requires.before)
     b (subst (λ (x : Edit). AreLeft x c.args.a.now b) is c.give_up.ensures.left) stands in
     subst (λ (x : Assignment). IsBack n.graph n.meters.touches m x) (sym (k.same surely))
     (subst (λ (x : Network). IsBack x.graph x.meters.touches m b) (sym c.follow-alone.ensures.network) back)
@@ -92,4 +93,4 @@ settle-requires-clause-positions g c =
 pub returns-clause-bounded : goal.returns-clause-bounded
 returns-clause-bounded g c =
     subst (λ k. BoundsWhereKnown c.follow-alone.new.network c.settle.new.parts k)
-    (rank_of_longest c.args.case.now c.nodes-nodes.ensures.valid c.grow-grown.new.a (subst (λ (x : Network). IsLongest x.graph x.meters.touches c.grow-grown.new.a) c.follow-alone.ensures.network c.grow-grown.ensures.longest)) c.settle.ensures.bounded
+    (rank_of_longest c.args.case.now (valid_now c.args.case.now c.requires.before.before c.args.edit c.requires.before.same c.requires.before.valid) c.grow-grown.new.a (subst (λ (x : Network). IsLongest x.graph x.meters.touches c.grow-grown.new.a) c.follow-alone.ensures.network c.grow-grown.ensures.longest)) c.settle.ensures.bounded

@@ -10,5 +10,5 @@ returns-else-inservice-2 c =
     let e = c.meter_of.ensures in
     record {
       taken = subst (λ (x : Edit). IsMeterTaken x c.args.a.now c.meter_of.result) (sym (c.in-Branch.is ∙ ap (Branch c.in-Branch.at) c.if-inservice-2.false))
-          (owner-taken c.args.a.now c.length.ensures.whole c.in-Branch.at c.meter_of.result e.meter e.none e.low);
+          (owner-taken c.args.a.now c.requires.whole c.in-Branch.at c.meter_of.result e.meter e.none e.low);
     }

@@ -7,7 +7,7 @@ pub invariant_of-result : goal.invariant_of-result
 invariant_of-result c =
     let listed = c.in-Ok.ensures.prices ∙ ap prices_of c.candidates.ensures.rows in
     record {
-      few = few_prices c.args.case.now c.in-Ok.prices.items c.nodes-nodes.ensures.valid listed;
-      cheap = cheap_prices c.args.case.now c.in-Ok.prices.items c.nodes-nodes.ensures.valid listed;
+      few = few_prices c.args.case.now c.in-Ok.prices.items c.candidates.ensures.valid listed;
+      cheap = cheap_prices c.args.case.now c.in-Ok.prices.items c.candidates.ensures.valid listed;
       paired = search rules;
     }

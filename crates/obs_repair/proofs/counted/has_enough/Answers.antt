@@ -3,11 +3,11 @@ use Rattle.std.specs.Prelude.{is_some}
 use Rattle.obs_assign.specs.Assignment.{branch_at}
 use Rattle.obs_network.specs.Located.{live_meters_of}
 use Rattle.obs_network.specs.Network.{Network}
-use Rattle.obs_edit.proofs.Answered.{count_of_pairs, few_in_component}
-use Rattle.obs_edit.proofs.Enough.{enough_observable}
+use Rattle.obs_repair.proofs.Bounded.{count_of_pairs, few_in_component}
+use Rattle.obs_repair.proofs.Enough.{enough_observable}
 use Rattle.obs_network.proofs.OfCase.{count_of, length-case_meters, need_from}
 use Rattle.obs_repair.proofs.OfNetwork.{few_meters}
-use Rattle.obs_edit.proofs.counted.has_enough.Goals as goal
+use Rattle.obs_repair.proofs.counted.has_enough.Goals as goal
 
 pub live_meters-requires : goal.live_meters-requires
 live_meters-requires c = record {

@@ -3,10 +3,10 @@ use Rattle.obs_assign.specs.Assignment.{Assignment}
 use Rattle.obs_meter.specs.Held.{Meters}
 use Rattle.obs_network.specs.Network.{Network}
 use Rattle.obs_repair.specs.Kept.{AreLongest}
-use Rattle.obs_edit.specs.Sessions.{AreMarks}
-use Rattle.obs_edit.proofs.Answered.{critical_of_network, marks_of_network}
+use Rattle.obs_repair.specs.Bounds.{AreMarks}
+use Rattle.obs_repair.proofs.Bounded.{critical_of_network, marks_of_network}
 use Rattle.obs_network.proofs.OfCase.{length-case_meters}
-use Rattle.obs_edit.proofs.asks.find_critical.Goals as goal
+use Rattle.obs_repair.proofs.bounds.find_critical.Goals as goal
 
 pub copy_from_slice-requires : goal.copy_from_slice-requires
 copy_from_slice-requires g c =

@@ -27,7 +27,7 @@ use Rattle.obs_network.specs.Observable.{IsObservable, branch_component, case_li
 use Rattle.obs_network.proofs.InComponents.{kinds_sum, touched_component}
 use Rattle.obs_network.proofs.Observed.{few_in, pairs_in}
 use Rattle.obs_network.proofs.OfCase.{case_branches-are}
-use Rattle.obs_edit.specs.Answers.{bound_meters, bound_outside, bound_rank, component_meters, component_rank, is_critical_meter, is_meter_of}
+use Rattle.obs_repair.specs.Bounds.{bound_meters, bound_outside, bound_rank, component_meters, component_rank, is_critical_meter, is_meter_of}
 
 not_not : (b : Bool) → not (not b) ≡ b
 not_not true = refl

@@ -3,10 +3,10 @@ use Rattle.obs_case.specs.Tables.{Tables}
 use Rattle.obs_assign.specs.Assignment.{has_flag}
 use Rattle.obs_network.specs.Located.{live_meters_of}
 use Rattle.obs_network.specs.Network.{Network, network_of}
-use Rattle.obs_edit.proofs.Answered.{few_in_component, marked_bound, measured}
+use Rattle.obs_repair.proofs.Bounded.{few_in_component, marked_bound, measured}
 use Rattle.obs_network.proofs.OfCase.{count_of, length-case_meters}
 use Rattle.obs_repair.proofs.OfNetwork.{few_meters}
-use Rattle.obs_edit.proofs.asks.find_bound.Goals as goal
+use Rattle.obs_repair.proofs.bounds.find_bound.Goals as goal
 
 pub live_meters-meters-requires : goal.live_meters-meters-requires
 live_meters-meters-requires c = record {

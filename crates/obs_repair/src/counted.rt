@@ -11,7 +11,7 @@ use obs_network::Network;
 
 /// Whether a longest assignment has as many pairs in a component as it needs. This goes through the component's own
 /// meters alone.
-pub(crate) fn has_enough(case: &Case, network: &Network, a: &Assignment, c: u32) -> bool
+pub fn has_enough(case: &Case, network: &Network, a: &Assignment, c: u32) -> bool
     requires network { network.now ≡ network_of case.now }
     requires longest { AreLongest case.now a.now }
     requires component { c < case_component_count case.now }
