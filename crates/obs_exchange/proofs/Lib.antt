@@ -1,4 +1,5 @@
 pub mod Queued
+pub mod Flagging
 pub mod Clearing
 pub mod Fronts
 pub mod Trails

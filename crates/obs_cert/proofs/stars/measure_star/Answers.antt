@@ -55,9 +55,6 @@ returns-clause-rank c = rank_is (goal.at.returns-clause-rank c).After-clear
 pub returns-clause-kept : goal.returns-clause-kept
 returns-clause-kept c = c.keep.ensures.kept c.args.present.now (rank_is (goal.at.returns-clause-kept c).After-clear) c.requires.kept
 
-pub overflow_sub-result : goal.overflow_sub-result
-overflow_sub-result c = omega (arith, c.if-known-gt0.true)
-
 pub returns-then-known-gt0-clause-rank : goal.returns-then-known-gt0-clause-rank
 returns-then-known-gt0-clause-rank c = omega (arith, c.requires.kept c.args.v c.if-known-gt0.true)
 
