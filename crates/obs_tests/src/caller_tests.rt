@@ -5,8 +5,11 @@ ghost use Rattle.obs_assign.specs.Assignment.{Fits};
 ghost use Rattle.obs_meter.specs.Sizes.{HasRoomFor};
 ghost use Rattle.obs_meter.specs.Touches.{AreInRange};
 
-use crate::verdicts::{case_of, path, ring};
+use crate::reference_cases::{Tables, tables_of};
+use crate::scripts::nth_run;
 use obs_assign::{Assignment, Steps};
+use obs_case::Case;
+use obs_case_csv::read_tables;
 use obs_critical::{CriticalWork, critical};
 use obs_edit::Session;
 use obs_exchange::{Found, Sources, Work, lengthen, search};
@@ -54,24 +57,40 @@ fn is_plan(found: Placement<'_>, layers: &[Layer], inside: &[u32]) -> bool {
 }
 
 // The asks of a path whose first branch has two meters and whose second bus an injection, and of which two buses stand
-// apart. Two candidates complete it. The islands are those of the six buses and, behind them, of two reference vertices.
-fn asks_of_a_path<L: Ledger>(rt: &impl Abort, session: &mut Session, steps: &mut Steps<L>) {
+// apart. Two candidates complete it.
+fn critical_of_a_path<L: Ledger>(session: &mut Session, steps: &mut Steps<L>) -> bool {
     let seen = session.critical(steps);
-    assert!(rt; seen.found == [2].as_slice() && seen.case.meters().len() == 5);
+    seen.found == [2].as_slice() && seen.case.meters().len() == 5
+}
+
+// The islands are those of the six buses and, behind them, of two reference vertices.
+fn islands_of_a_path<L: Ledger>(session: &mut Session, steps: &mut Steps<L>) -> bool {
     let seen = session.islands(steps);
-    assert!(rt;
-        seen.found == [0, 0, 0, 3, 4, 5, 6, 7].as_slice() && seen.network.components() == 2
-    );
+    seen.found == [0, 0, 0, 3, 4, 5, 6, 7].as_slice() && seen.network.components() == 2
+}
+
+fn bound_of_a_path<L: Ledger>(rt: &impl Abort, session: &mut Session, steps: &mut Steps<L>) {
     assert!(rt; session.network().components() == 2);
     assert!(rt; session.network().energised(0));
     assert!(rt; !session.observable(0));
     let seen = session.bound(0, steps);
     assert!(rt; seen.found.inside == [0, 1].as_slice() && seen.found.rank == 1);
     assert!(rt; seen.found.outside == 1 && seen.found.needed == 3);
-    assert!(rt; session.offered());
+}
+
+fn plan_of_a_path<L: Ledger>(session: &mut Session, steps: &mut Steps<L>) -> bool {
+    if !session.offered() {
+        return false;
+    }
     let seen = session.place(steps);
-    assert!(rt; is_plan(seen.found.placement, &[layer(4)], &[0, 1, 2, 5]));
-    assert!(rt; seen.found.pairs.length() == 3);
+    is_plan(seen.found.placement, &[layer(4)], &[0, 1, 2, 5]) && seen.found.pairs.length() == 3
+}
+
+fn asks_of_a_path<L: Ledger>(rt: &impl Abort, session: &mut Session, steps: &mut Steps<L>) {
+    assert!(rt; critical_of_a_path(session, steps));
+    assert!(rt; islands_of_a_path(session, steps));
+    bound_of_a_path(rt, session, steps);
+    assert!(rt; plan_of_a_path(session, steps));
 }
 
 // The first pairs of a ring, in which an injection leaves the lowest branch to a flow.
@@ -81,9 +100,51 @@ fn pairs_of_a_ring<L: Ledger>(rt: &impl Abort, session: &mut Session, steps: &mu
     assert!(rt; seen.found.branch_of(0) == Some(2) && seen.found.branch_of(1) == Some(0));
 }
 
+// A row of four buses and two that stand apart, with a meter out of service, and then a ring of three.
+const CASES: &[u8] = b"+ n
+node,source\na,1\nb,0\nc,0\nd,0\ne,0\nf,0
++ s
+switch,from,to,closed
++ b
+branch,from,to,inservice\nL1,a,b,1\nL2,b,c,1\nL3,c,d,1\nL4,e,f,1
++ m
+meter,kind,at,inservice\nf1,flow,L1,1\nf2,flow,L1,1\nib,injection,b,1\no1,flow,L2,0\nf4,flow,L4,1
++ c
+candidate,kind,at,price\np1,flow,L2,0\np2,injection,c,3\np3,flow,L3,5
+> 1 session tables n s b m with c
++ n
+node,source\na,1\nb,0\nc,0
++ b
+branch,from,to,inservice\nL1,a,b,1\nL2,b,c,1\nL3,c,a,1
++ m
+meter,kind,at,inservice\nia,injection,a,1\nf1,flow,L1,1
++ c
+candidate,kind,at,price
+> 0 session tables n s b m with c
+";
+
+fn read(alloc: Global, tables: Tables<'_>) -> Option<Case> {
+    let Tables {
+        nodes,
+        switches,
+        branches,
+        meters,
+        candidates,
+    } = tables;
+    read_tables(alloc, nodes, switches, branches, meters, Some(candidates)).ok()
+}
+
+// The case of this number.
+fn nth_case(alloc: Global, number: u32) -> Option<Case> {
+    read(alloc, tables_of(nth_run(CASES, number)?))
+}
+
 // Each session is owned by one call, which nothing leaves but at its end.
 fn session_of_a_path<L: Ledger>(rt: &impl Abort, alloc: Global, steps: &mut Steps<L>) -> bool {
-    let Ok(mut session) = Session::begin(alloc, case_of(rt, alloc, &path(3)), true, steps) else {
+    let Some(case) = nth_case(alloc, 0) else {
+        return false;
+    };
+    let Ok(mut session) = Session::begin(alloc, case, true, steps) else {
         return false;
     };
     asks_of_a_path(rt, &mut session, steps);
@@ -91,7 +152,10 @@ fn session_of_a_path<L: Ledger>(rt: &impl Abort, alloc: Global, steps: &mut Step
 }
 
 fn session_of_a_ring<L: Ledger>(rt: &impl Abort, alloc: Global, steps: &mut Steps<L>) -> bool {
-    let Ok(mut session) = Session::begin(alloc, case_of(rt, alloc, &ring(2)), false, steps) else {
+    let Some(case) = nth_case(alloc, 1) else {
+        return false;
+    };
+    let Ok(mut session) = Session::begin(alloc, case, false, steps) else {
         return false;
     };
     pairs_of_a_ring(rt, &mut session, steps);
@@ -138,8 +202,10 @@ fn finds_critical<L: Ledger>(
     }
 }
 
-// The critical meter and the islands of a row.
-fn meters_of_a_row<L: Ledger>(alloc: Global, blank: Blank) -> Result<bool, Fail>
+// Two flows on the first branch, and the injection.
+const TOUCHES: [Touch; 3] = [Touch::Edge(0), Touch::Edge(0), Touch::Star(1)];
+
+fn critical_of_a_row<L: Ledger>(alloc: Global, blank: Blank) -> Result<bool, Fail>
     requires name { blank.name ≡ L.name }
     requires parts { blank.parts ≡ L.parts }
     requires some { 0 < L.parts }
@@ -148,14 +214,25 @@ fn meters_of_a_row<L: Ledger>(alloc: Global, blank: Blank) -> Result<bool, Fail>
     let mut g = Graph::make(alloc, 4, 3)?;
     g.refill(4, &ROW);
     let mut ms = Meters::make(alloc, 3)?;
-    ms.refill(&[Touch::Edge(0), Touch::Edge(0), Touch::Star(1)]);
+    ms.refill(&TOUCHES);
     let mut a = Assignment::make(alloc, 3, 3, 4)?;
     let mut work = Work::make(alloc, 3, 3, 4)?;
     let mut list = CriticalWork::make(alloc, 3)?;
-    let listed = finds_critical(&g, &ms, &mut a, &mut work, &mut list, &mut steps);
+    Ok(finds_critical(&g, &ms, &mut a, &mut work, &mut list, &mut steps))
+}
+
+fn islands_of_a_row<L: Ledger>(alloc: Global, blank: Blank) -> Result<bool, Fail>
+    requires name { blank.name ≡ L.name }
+    requires parts { blank.parts ≡ L.parts }
+    requires some { 0 < L.parts }
+{
+    let mut steps = Steps::<L>::begin(blank);
+    let mut g = Graph::make(alloc, 4, 3)?;
+    g.refill(4, &ROW);
+    let mut ms = Meters::make(alloc, 3)?;
+    ms.refill(&TOUCHES);
     let mut named = IslandWork::make(alloc, 3, 3, 4)?;
-    let firsts = islands(&g, &ms, &mut named, &mut steps) == [0, 0, 0, 3].as_slice();
-    Ok(listed && firsts)
+    Ok(islands(&g, &ms, &mut named, &mut steps) == [0, 0, 0, 3].as_slice())
 }
 
 // The plan of the same row with three candidates.
@@ -183,7 +260,8 @@ fn plan_of_a_row<L: Ledger>(alloc: Global, blank: Blank) -> Result<bool, Fail>
 
 #[test]
 fn searches_of_a_row(rt: HostRuntime) -> Result<(), Fail> {
-    assert!(rt; meters_of_a_row::<Brand>(rt.alloc(), Blank::new(1))?);
+    assert!(rt; critical_of_a_row::<Brand>(rt.alloc(), Blank::new(1))?);
+    assert!(rt; islands_of_a_row::<Brand>(rt.alloc(), Blank::new(1))?);
     assert!(rt; plan_of_a_row::<Brand>(rt.alloc(), Blank::new(1))?);
     Ok(())
 }

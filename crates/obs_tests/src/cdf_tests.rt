@@ -1,9 +1,10 @@
 // Reports on cases in the IEEE Common Data Format.
 
-use crate::tests::{answers, failing_reads};
-use crate::verdicts::front;
+use crate::scripts::{Run, front, is_as_said, nth_run};
+use crate::tests::{QUIET, answers, failing_reads, outcome};
 use crate::worked::NO_METERS;
 use obs_engine::Status;
+use obs_text::whole;
 use std::alloc::Global;
 use std::process::Abort;
 use std::test::Fail;
@@ -142,50 +143,38 @@ fn a_further_meter_leaves_fewer_critical(rt: HostRuntime) -> Result<(), Fail> {
     answers(&rt, rt.alloc(), &CDF, &files, Status::Done, text)
 }
 
-// A file's length, and the fault that its first bytes then have.
-#[derive(Clone, Copy)]
-struct Cut {
-    length: usize,
-    text: &'static [u8],
+// A run over the first bytes of the file, whose words are their number.
+fn ends_so_where_cut(rt: &impl Abort, alloc: Global, run: Run<'_>) -> Result<(), Fail> {
+    let length = whole(run.words).ok_or("no length")?;
+    let files = with_meters(front(ieee14(), length as usize));
+    let found = outcome(alloc, &CDF, &files, QUIET)?;
+    assert!(rt; is_as_said(run, &found));
+    Ok(())
 }
 
 // The title and a heading have 38 bytes, a bus line 27 and a branch line 10.
+const CUTS: &[u8] = b"> 3 0
+fault\tcdf\t0\t1\tNoBusSection
+> 3 254
+fault\tcdf\t0\t2\tBusSectionOpen
+> 3 112
+fault\tcdf\t5\t6\tBadType
+> 3 421
+fault\tcdf\t0\t3\tNoBranchSection
+> 3 447
+fault\tcdf\t19\t5\tBadBusNumber
+> 3 641
+fault\tcdf\t0\t4\tBranchSectionOpen
+> 3 644
+fault\tcdf\t39\t5\tBadBusNumber
+";
+
 #[test]
 fn the_first_fault_of_a_cut_file_is_printed(rt: HostRuntime) -> Result<(), Fail> {
-    let cuts = [
-        Cut {
-            length: 0,
-            text: b"fault\tcdf\t0\t1\tNoBusSection\n",
-        },
-        Cut {
-            length: 254,
-            text: b"fault\tcdf\t0\t2\tBusSectionOpen\n",
-        },
-        Cut {
-            length: 112,
-            text: b"fault\tcdf\t5\t6\tBadType\n",
-        },
-        Cut {
-            length: 421,
-            text: b"fault\tcdf\t0\t3\tNoBranchSection\n",
-        },
-        Cut {
-            length: 447,
-            text: b"fault\tcdf\t19\t5\tBadBusNumber\n",
-        },
-        Cut {
-            length: 641,
-            text: b"fault\tcdf\t0\t4\tBranchSectionOpen\n",
-        },
-        Cut {
-            length: 644,
-            text: b"fault\tcdf\t39\t5\tBadBusNumber\n",
-        },
-    ];
-    for cut in cuts {
-        let cdf = front(ieee14(), cut.length);
-        reports_cdf(&rt, rt.alloc(), cdf, Status::InputFault, cut.text)?;
+    for number in 0..7 {
+        ends_so_where_cut(&rt, rt.alloc(), nth_run(CUTS, number).ok_or("no run")?)?;
     }
+    assert!(rt; nth_run(CUTS, 7).is_none());
     Ok(())
 }
 

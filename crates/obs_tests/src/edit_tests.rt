@@ -95,6 +95,54 @@ fn answer_anew(
     session(alloc, grid, changed, &line)
 }
 
+// The edits that turn each row's flag and turn it back.
+fn turns(alloc: Global, words: Words, rows: usize) -> Result<Vec<u8>, Fail> {
+    let mut input = Vec::new(alloc);
+    for row in 0..rows {
+        turn(&mut input, words.forth, words.letter, row)?;
+        turn(&mut input, words.back, words.letter, row)?;
+    }
+    Ok(input)
+}
+
+fn flagged(grid: &Grid) -> [&[u8]; 3] {
+    [&grid.switches, &grid.branches, &grid.meters]
+}
+
+// Whether a session that begins with a row's flag turned answers so.
+fn is_anew(
+    alloc: Global,
+    grid: &Grid,
+    table: usize,
+    row: usize,
+    forth: &[u8],
+) -> Result<bool, Fail> {
+    let anew = answer_anew(alloc, grid, flagged(grid), table, row)?;
+    Ok(lines(&anew.text).next() == Some(forth))
+}
+
+// Of a session's answers two are of each row. The second is this line, and the first, of each so many rows, is that of
+// a session that begins with the tables as they are then.
+fn rows_are_anew(
+    alloc: Global,
+    grid: &Grid,
+    table: usize,
+    rows: usize,
+    each: usize,
+    found: &[u8],
+    line: &[u8],
+) -> Result<bool, Fail> {
+    let mut answers = lines(found);
+    for row in 0..rows {
+        let forth = answers.next().ok_or("no answer")?;
+        let asked = each != 0 && row % each == 0;
+        if asked && !is_anew(alloc, grid, table, row, forth)? || answers.next() != Some(line) {
+            return Ok(false);
+        }
+    }
+    Ok(answers.next().is_none())
+}
+
 // Each row's flag is turned and turned back in one session. Back it answers as at first, and forth, of each so many
 // rows, as a session that begins with the tables as they are then.
 fn answers_as_anew(
@@ -105,27 +153,12 @@ fn answers_as_anew(
     rows: usize,
     each: usize,
 ) -> Result<(), Fail> {
-    let tables: [&[u8]; 3] = [&grid.switches, &grid.branches, &grid.meters];
-    let words = *TURNS.get(table).ok_or("no table")?;
-    let mut input = Vec::new(alloc);
-    for row in 0..rows {
-        turn(&mut input, words.forth, words.letter, row)?;
-        turn(&mut input, words.back, words.letter, row)?;
-    }
-    let found = session(alloc, grid, tables, &input)?;
-    let first = session(alloc, grid, tables, b"regain m0\n")?;
-    let mut answers = lines(&found.text);
-    for row in 0..rows {
-        let forth = answers.next().ok_or("no answer")?;
-        let back = answers.next().ok_or("no answer")?;
-        if each != 0 && row % each == 0 {
-            let anew = answer_anew(alloc, grid, tables, table, row)?;
-            assert!(rt; Some(forth) == lines(&anew.text).next());
-        }
-        assert!(rt; Some(back) == lines(&first.text).next());
-    }
+    let input = turns(alloc, *TURNS.get(table).ok_or("no table")?, rows)?;
+    let found = session(alloc, grid, flagged(grid), &input)?;
+    let first = session(alloc, grid, flagged(grid), b"regain m0\n")?;
+    let line = lines(&first.text).next().ok_or("no answer")?;
+    assert!(rt; rows_are_anew(alloc, grid, table, rows, each, &found.text, line)?);
     assert!(rt; found.status == Status::Done || found.status == Status::Short);
-    assert!(rt; answers.next() == None);
     Ok(())
 }
 

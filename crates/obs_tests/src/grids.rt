@@ -48,33 +48,44 @@ fn put(bytes: &mut Vec<u8>, front: &[u8], number: u64, rest: &[u8]) -> Result<()
     Ok(())
 }
 
+// Two numbers, each with what stands before it.
+fn put_two(
+    bytes: &mut Vec<u8>,
+    front: &[u8],
+    first: u64,
+    middle: &[u8],
+    second: u64,
+    rest: &[u8],
+) -> Result<(), Fail> {
+    put(bytes, front, first, b"")?;
+    put(bytes, middle, second, rest)
+}
+
+// What stands between the name of a meter and its place, and the place.
+fn place_of(marked: bool, draw: u64, at: u64, from: u64, to: u64) -> (&'static [u8], u64) {
+    if draw % 3 == 0 {
+        (b",flow,b", at)
+    } else if marked && draw % 3 == 2 {
+        (b",angle,n", to)
+    } else {
+        (b",injection,n", if draw % 3 == 1 { from } else { to })
+    }
+}
+
 // A branch between two nodes, and its meter.
 fn link(grid: &mut Grid, from: u64, to: u64, rest: &[u8]) -> Result<(), Fail> {
     let at = grid.links;
     put(&mut grid.branches, b"b", at, b",")?;
-    put(&mut grid.branches, b"n", from, b",")?;
-    put(&mut grid.branches, b"n", to, rest)?;
+    put_two(&mut grid.branches, b"n", from, b",n", to, rest)?;
     grid.drawn = grid.drawn.wrapping_mul(1_103_515_245).wrapping_add(12345) % 2_147_483_648;
-    put(&mut grid.meters, b"m", at, b",")?;
-    let rest = if grid.out != 0 && at % grid.out == 0 {
-        b",0\n"
-    } else {
-        b",1\n"
-    };
     let draw = grid.drawn / 65536;
-    if draw % 3 == 0 {
-        put(&mut grid.meters, b"flow,b", at, rest)?;
-    } else if grid.marked && draw % 3 == 2 {
-        put(&mut grid.meters, b"angle,n", to, rest)?;
-    } else {
-        let end = if draw % 3 == 1 { from } else { to };
-        put(&mut grid.meters, b"injection,n", end, rest)?;
-    }
-    put(&mut grid.candidates, b"c", at, b",flow,b")?;
-    put(&mut grid.candidates, b"", at, b",")?;
+    let (kind, place) = place_of(grid.marked, draw, at, from, to);
+    let out = grid.out != 0 && at % grid.out == 0;
+    let flag: &[u8] = if out { b",0\n" } else { b",1\n" };
+    put_two(&mut grid.meters, b"m", at, kind, place, flag)?;
+    put_two(&mut grid.candidates, b"c", at, b",flow,b", at, b",")?;
     put(&mut grid.candidates, b"", draw / 3 % 4, b"\n")?;
-    put(&mut grid.input, b"lose m", at, b"\n")?;
-    put(&mut grid.input, b"regain m", at, b"\n")?;
+    put_two(&mut grid.input, b"lose m", at, b"\nregain m", at, b"\n")?;
     grid.links = at.wrapping_add(1);
     Ok(())
 }
@@ -95,14 +106,18 @@ fn empty(alloc: Global, nodes: &[u8], seed: u64, out: u64, marked: bool) -> Resu
     })
 }
 
+// An open switch between two nodes.
+fn switch(grid: &mut Grid, row: u64, from: u64, to: u64) -> Result<(), Fail> {
+    put(&mut grid.switches, b"s", row, b",")?;
+    put_two(&mut grid.switches, b"n", from, b",n", to, b",0\n")
+}
+
 // So many rows of as many nodes. Each meter whose number is a multiple of `out` is out of service; of 0 none is.
 pub(crate) fn make_grid(alloc: Global, rows: u64, seed: u64, out: u64) -> Result<Grid, Fail> {
     let mut grid = empty(alloc, b"node,source\n", seed, out, false)?;
     for row in 0..rows {
         let head = row.wrapping_mul(rows);
-        put(&mut grid.switches, b"s", row, b",")?;
-        put(&mut grid.switches, b"n", head, b",")?;
-        put(&mut grid.switches, b"n", head.wrapping_add(1), b",0\n")?;
+        switch(&mut grid, row, head, head.wrapping_add(1))?;
         for column in 0..rows {
             let at = head.wrapping_add(column);
             let source = if at == 0 { b",1\n" } else { b",0\n" };
@@ -118,34 +133,32 @@ pub(crate) fn make_grid(alloc: Global, rows: u64, seed: u64, out: u64) -> Result
     Ok(grid)
 }
 
+// Whether a node of such rows has a source, and whether it has a mark.
+fn flags(row: u64, column: u64) -> &'static [u8] {
+    if column == 1 && row % 2 == 0 {
+        b",1,0\n"
+    } else if column == 2 && row % 3 != 2 {
+        b",0,1\n"
+    } else {
+        b",0,0\n"
+    }
+}
+
 // So many rows of as many nodes, each row a component: the branches from row to row are out of service, and a switch
 // leads from the head of a row to that of the next. Every second row has a source, and two of three a mark.
 pub(crate) fn make_marked_rows(alloc: Global, rows: u64, seed: u64) -> Result<Grid, Fail> {
     let mut grid = empty(alloc, b"node,source,absolute\n", seed, 0, true)?;
     for row in 0..rows {
         let head = row.wrapping_mul(rows);
-        put(&mut grid.switches, b"s", row, b",")?;
-        put(&mut grid.switches, b"n", head, b",")?;
         let next = if row.wrapping_add(1) < rows {
             head.wrapping_add(rows)
         } else {
             0
         };
-        put(&mut grid.switches, b"n", next, b",0\n")?;
+        switch(&mut grid, row, head, next)?;
         for column in 0..rows {
             let at = head.wrapping_add(column);
-            let source = if column == 1 && row % 2 == 0 {
-                b",1"
-            } else {
-                b",0"
-            };
-            put(&mut grid.nodes, b"n", at, source)?;
-            let mark = if column == 2 && row % 3 != 2 {
-                b",1\n"
-            } else {
-                b",0\n"
-            };
-            grid.nodes.extend_from_slice(mark)?;
+            put(&mut grid.nodes, b"n", at, flags(row, column))?;
             if column.wrapping_add(1) < rows {
                 link(&mut grid, at, at.wrapping_add(1), b",1\n")?;
             }

@@ -1,5 +1,6 @@
 // Tables of a case, what may be asked of it, and how a run answers.
 
+use crate::scripts::{Run, file_of};
 use crate::tests::{Ended, Outside, outcome, taking};
 use crate::worked::{SESSION_WITH, VERIFY, VERIFY_WITH};
 use obs_engine::Status;
@@ -21,6 +22,17 @@ pub(crate) struct Tables<'a> {
     pub(crate) branches: &'a [u8],
     pub(crate) meters: &'a [u8],
     pub(crate) candidates: &'a [u8],
+}
+
+// The tables that stand before a run.
+pub(crate) fn tables_of<'a>(run: Run<'a>) -> Tables<'a> {
+    Tables {
+        nodes: file_of(run.before, b"n").unwrap_or(b""),
+        switches: file_of(run.before, b"s").unwrap_or(b""),
+        branches: file_of(run.before, b"b").unwrap_or(b""),
+        meters: file_of(run.before, b"m").unwrap_or(b""),
+        candidates: file_of(run.before, b"c").unwrap_or(b""),
+    }
 }
 
 // A command, with the lines of a session or a certificate. A session has the candidates too.

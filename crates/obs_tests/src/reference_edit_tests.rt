@@ -1,55 +1,9 @@
 // Sessions over reference vertices and angle branches: what each edit of a worked case answers, and that each present
 // case answers as a session that begins with it.
 
-use crate::reference_cases::{NO_BRANCHES, Tables, answers_anew, certifies};
-use crate::scripts::all_end_so;
-use crate::worked::{NO_CANDIDATES, NO_METERS, NO_SWITCHES};
+use crate::reference_cases::{answers_anew, certifies, tables_of};
+use crate::scripts::{all_end_so, input_of, nth_run};
 use std::test::Fail;
-
-// A switch between two marked buses, each with an angle meter.
-const SWITCHED: Tables<'static> = Tables {
-    nodes: b"node,source,absolute\na,1,1\nb,1,1\n",
-    switches: b"switch,from,to,closed\nS1,a,b,0\n",
-    branches: NO_BRANCHES,
-    meters: b"meter,kind,at,inservice\ng1,angle,a,1\ng2,angle,b,1\n",
-    candidates: NO_CANDIDATES,
-};
-
-// One switch, before a third such bus.
-const THREE: Tables<'static> = Tables {
-    nodes: b"node,source,absolute\na,1,1\nb,1,1\nc,1,1\n",
-    switches: b"switch,from,to,closed\nS1,a,b,0\n",
-    branches: NO_BRANCHES,
-    meters: b"meter,kind,at,inservice\ng1,angle,a,1\ng2,angle,b,1\ng3,angle,c,1\n",
-    candidates: NO_CANDIDATES,
-};
-
-// A branch between two marked buses, each with an angle meter.
-const TWO: Tables<'static> = Tables {
-    nodes: b"node,source,absolute\na,1,1\nb,1,1\n",
-    switches: NO_SWITCHES,
-    branches: b"branch,from,to,inservice\nL1,a,b,0\n",
-    meters: b"meter,kind,at,inservice\ng1,angle,a,1\ng2,angle,b,1\n",
-    candidates: CANDIDATES,
-};
-
-// One of the two isn't marked.
-const MARKED_AND_PLAIN: Tables<'static> = Tables {
-    nodes: b"node,source,absolute\na,1,1\nb,1,0\n",
-    switches: NO_SWITCHES,
-    branches: b"branch,from,to,inservice\nL1,a,b,0\n",
-    meters: b"meter,kind,at,inservice\ng1,angle,a,1\ng2,angle,b,1\n",
-    candidates: CANDIDATES,
-};
-
-// And the marked one has no source.
-const DEAD_AND_PLAIN: Tables<'static> = Tables {
-    nodes: b"node,source,absolute\na,0,1\nb,1,0\n",
-    switches: NO_SWITCHES,
-    branches: b"branch,from,to,inservice\nL1,a,b,0\n",
-    meters: b"meter,kind,at,inservice\ng1,angle,a,1\ng2,angle,b,1\n",
-    candidates: CANDIDATES,
-};
 
 #[test]
 fn edits_merge_reference_vertices(rt: HostRuntime) -> Result<(), Fail> {
@@ -127,101 +81,177 @@ count\tbuses\t2\ncount\tenergised\t1\ncount\tbranches\t0\ncount\tmeters\t0\ncoun
     )
 }
 
-// The switches of these with the one closed.
-const CLOSED: &[u8] = b"switch,from,to,closed\nS1,a,b,1\n";
-
-// The branches with the one in service.
-const RESTORED: &[u8] = b"branch,from,to,inservice\nL1,a,b,1\n";
-
-// Candidates at each bus and on the branch.
-const CANDIDATES: &[u8] =
-    b"candidate,kind,at,price\nc1,angle,a,2\nc2,flow,L1,1\nc3,angle,b,1\nc4,injection,b,4\n";
-
-const PRESENT: &[(Tables<'static>, &[u8], Tables<'static>)] = &[
-    (
-        SWITCHED,
-        b"close S1\n",
-        Tables {
-            switches: CLOSED,
-            ..SWITCHED
-        },
-    ),
-    (SWITCHED, b"close S1\nopen S1\n", SWITCHED),
-    (
-        THREE,
-        b"close S1\n",
-        Tables {
-            switches: CLOSED,
-            ..THREE
-        },
-    ),
-    (THREE, b"lose g2\nclose S1\nregain g2\nopen S1\n", THREE),
-    (
-        TWO,
-        b"restore L1\n",
-        Tables {
-            branches: RESTORED,
-            ..TWO
-        },
-    ),
-    (TWO, b"restore L1\nlose g1\ntrip L1\nregain g1\n", TWO),
-    (
-        MARKED_AND_PLAIN,
-        b"restore L1\n",
-        Tables {
-            branches: RESTORED,
-            ..MARKED_AND_PLAIN
-        },
-    ),
-    (MARKED_AND_PLAIN, b"restore L1\ntrip L1\n", MARKED_AND_PLAIN),
-    (
-        DEAD_AND_PLAIN,
-        b"restore L1\n",
-        Tables {
-            branches: RESTORED,
-            ..DEAD_AND_PLAIN
-        },
-    ),
-    (
-        DEAD_AND_PLAIN,
-        b"lose g2\nrestore L1\nregain g2\ntrip L1\n",
-        DEAD_AND_PLAIN,
-    ),
-];
+// Each second run begins with the case that is present after the edits of the run before it. What they print isn't written.
+const PRESENT: &[u8] = b"= A switch between two marked buses, each with an angle meter.
++ n
+node,source,absolute\na,1,1\nb,1,1
++ s
+switch,from,to,closed\nS1,a,b,0
++ b
+branch,from,to,inservice
++ m
+meter,kind,at,inservice\ng1,angle,a,1\ng2,angle,b,1
++ c
+candidate,kind,at,price
++ input
+close S1
+> 0 session tables n s b m with c
++ s
+switch,from,to,closed\nS1,a,b,1
++ input
+> 0 session tables n s b m with c
++ s
+switch,from,to,closed\nS1,a,b,0
++ input
+close S1\nopen S1
+> 0 session tables n s b m with c
++ input
+> 0 session tables n s b m with c
+= One switch, before a third such bus.
++ n
+node,source,absolute\na,1,1\nb,1,1\nc,1,1
++ m
+meter,kind,at,inservice\ng1,angle,a,1\ng2,angle,b,1\ng3,angle,c,1
++ input
+close S1
+> 0 session tables n s b m with c
++ s
+switch,from,to,closed\nS1,a,b,1
++ input
+> 0 session tables n s b m with c
++ s
+switch,from,to,closed\nS1,a,b,0
++ input
+lose g2\nclose S1\nregain g2\nopen S1
+> 0 session tables n s b m with c
++ input
+> 0 session tables n s b m with c
+= A branch between two marked buses, each with an angle meter.
++ n
+node,source,absolute\na,1,1\nb,1,1
++ s
+switch,from,to,closed
++ b
+branch,from,to,inservice\nL1,a,b,0
++ m
+meter,kind,at,inservice\ng1,angle,a,1\ng2,angle,b,1
++ c
+candidate,kind,at,price\nc1,angle,a,2\nc2,flow,L1,1\nc3,angle,b,1\nc4,injection,b,4
++ input
+restore L1
+> 0 session tables n s b m with c
++ b
+branch,from,to,inservice\nL1,a,b,1
++ input
+> 0 session tables n s b m with c
++ b
+branch,from,to,inservice\nL1,a,b,0
++ input
+restore L1\nlose g1\ntrip L1\nregain g1
+> 0 session tables n s b m with c
++ input
+> 0 session tables n s b m with c
+= One of the two isn't marked.
++ n
+node,source,absolute\na,1,1\nb,1,0
++ input
+restore L1
+> 0 session tables n s b m with c
++ b
+branch,from,to,inservice\nL1,a,b,1
++ input
+> 0 session tables n s b m with c
++ b
+branch,from,to,inservice\nL1,a,b,0
++ input
+restore L1\ntrip L1
+> 0 session tables n s b m with c
++ input
+> 0 session tables n s b m with c
+= And the marked one has no source.
++ n
+node,source,absolute\na,0,1\nb,1,0
++ input
+restore L1
+> 0 session tables n s b m with c
++ b
+branch,from,to,inservice\nL1,a,b,1
++ input
+> 0 session tables n s b m with c
++ b
+branch,from,to,inservice\nL1,a,b,0
++ input
+lose g2\nrestore L1\nregain g2\ntrip L1
+> 0 session tables n s b m with c
++ input
+> 0 session tables n s b m with c
+";
 
 #[test]
 fn present_cases_are_answered_as_at_first(rt: HostRuntime) -> Result<(), Fail> {
-    for case in PRESENT {
-        let (tables, edits, now) = *case;
-        answers_anew(&rt, rt.alloc(), tables, edits, now)?;
+    for number in 0..10 {
+        let at = 2_u32.wrapping_mul(number);
+        let edited = nth_run(PRESENT, at).ok_or("no run")?;
+        let begun = nth_run(PRESENT, at.wrapping_add(1)).ok_or("no run")?;
+        let (tables, now) = (tables_of(edited), tables_of(begun));
+        answers_anew(&rt, rt.alloc(), tables, input_of(edited), now)?;
     }
+    assert!(rt; nth_run(PRESENT, 20).is_none());
     Ok(())
 }
 
-const PRINTED: &[Tables<'static>] = &[
-    SWITCHED,
-    THREE,
-    MARKED_AND_PLAIN,
-    DEAD_AND_PLAIN,
-    Tables {
-        branches: RESTORED,
-        ..TWO
-    },
-    Tables {
-        branches: RESTORED,
-        ..DEAD_AND_PLAIN
-    },
-    Tables {
-        meters: NO_METERS,
-        branches: RESTORED,
-        ..TWO
-    },
-];
+// Cases alone.
+const PRINTED: &[u8] = b"+ n
+node,source,absolute\na,1,1\nb,1,1
++ s
+switch,from,to,closed\nS1,a,b,0
++ b
+branch,from,to,inservice
++ m
+meter,kind,at,inservice\ng1,angle,a,1\ng2,angle,b,1
++ c
+candidate,kind,at,price
+> 0 session tables n s b m with c
++ n
+node,source,absolute\na,1,1\nb,1,1\nc,1,1
++ m
+meter,kind,at,inservice\ng1,angle,a,1\ng2,angle,b,1\ng3,angle,c,1
+> 0 session tables n s b m with c
++ n
+node,source,absolute\na,1,1\nb,1,0
++ s
+switch,from,to,closed
++ b
+branch,from,to,inservice\nL1,a,b,0
++ m
+meter,kind,at,inservice\ng1,angle,a,1\ng2,angle,b,1
++ c
+candidate,kind,at,price\nc1,angle,a,2\nc2,flow,L1,1\nc3,angle,b,1\nc4,injection,b,4
+> 0 session tables n s b m with c
++ n
+node,source,absolute\na,0,1\nb,1,0
+> 0 session tables n s b m with c
++ n
+node,source,absolute\na,1,1\nb,1,1
++ b
+branch,from,to,inservice\nL1,a,b,1
+> 0 session tables n s b m with c
++ n
+node,source,absolute\na,0,1\nb,1,0
+> 0 session tables n s b m with c
++ n
+node,source,absolute\na,1,1\nb,1,1
++ m
+meter,kind,at,inservice
+> 0 session tables n s b m with c
+";
 
 #[test]
 fn printed_certificates_hold(rt: HostRuntime) -> Result<(), Fail> {
-    for tables in PRINTED {
-        certifies(&rt, rt.alloc(), *tables)?;
+    for number in 0..7 {
+        let run = nth_run(PRINTED, number).ok_or("no run")?;
+        certifies(&rt, rt.alloc(), tables_of(run))?;
     }
+    assert!(rt; nth_run(PRINTED, 7).is_none());
     Ok(())
 }

@@ -5,8 +5,9 @@
 // line that begins with `=` says what comes. What a line begins goes on up to the next of these lines. A run has of each word the
 // file that stands last before it.
 
+ghost use Rattle.std.specs.Prelude.{◌≤◌, length};
+
 use crate::tests::{Ended, Outside, outcome_of, taking};
-use crate::verdicts::front;
 use obs_io::Entry;
 use obs_text::whole;
 use std::alloc::Global;
@@ -14,7 +15,7 @@ use std::process::Abort;
 use std::test::Fail;
 
 // What stands before a byte and behind it, or all where it isn't there.
-fn cut_at(text: &[u8], byte: u8) -> (&[u8], &[u8]) {
+pub(crate) fn cut_at(text: &[u8], byte: u8) -> (&[u8], &[u8]) {
     let mut at = 0_usize;
     for other in text {
         if *other == byte {
@@ -26,6 +27,17 @@ fn cut_at(text: &[u8], byte: u8) -> (&[u8], &[u8]) {
         (&text[..at], &text[at + 1..])
     } else {
         (text, &[])
+    }
+}
+
+// The first bytes.
+pub(crate) fn front(bytes: &[u8], count: usize) -> &[u8]
+    ensures short { length result.now ≤ count }
+{
+    if count <= bytes.len() {
+        &bytes[..count]
+    } else {
+        bytes
     }
 }
 
@@ -67,7 +79,7 @@ fn first_part(text: &[u8]) -> Part<'_> {
 }
 
 // The last file of a word.
-fn file_of<'a>(text: &'a [u8], word: &[u8]) -> Option<&'a [u8]> {
+pub(crate) fn file_of<'a>(text: &'a [u8], word: &[u8]) -> Option<&'a [u8]> {
     let mut found = None;
     let mut rest = text;
     for _ in text {

@@ -1,23 +1,15 @@
 // What no contract says of a session that stays: that it begins, and that its lines are answered.
 
+use crate::scripts::{Run, nth_run};
 use crate::tests::{entries, texts};
-use crate::worked::{
-    NO_METERS, NO_SWITCHES, PATH_CANDIDATES, PATH_PLAN, SESSION, SESSION_WITH, path,
-};
+use crate::worked::{NO_METERS, NO_SWITCHES, PATH_CANDIDATES, SESSION, SESSION_WITH, path};
 use obs_edit::Session;
 use obs_engine::{Status, answer_one, begin_session};
 use obs_io::{MemFiles, MemSink};
+use obs_text::whole;
 use std::alloc::Global;
 use std::process::Abort;
 use std::test::Fail;
-
-// A line that is said, and its reply.
-#[derive(Clone, Copy)]
-struct Said<'a> {
-    line: &'a [u8],
-    status: Status,
-    text: &'a [u8],
-}
 
 fn sink(alloc: Global, room: usize) -> Result<MemSink, Fail> {
     Ok(
@@ -69,14 +61,15 @@ fn replies_in(
     rt: &impl Abort,
     alloc: Global,
     session: &mut Session,
-    said: Said<'_>,
+    said: Run<'_>,
     room: usize,
 ) -> Result<(), Fail> {
     let fits = said.text.len() <= room;
     let mut output = sink(alloc, room)?;
-    let status = answer_one(&mut output, session, said.line);
+    let status = answer_one(&mut output, session, said.words);
+    let code = Some(u64::from(status.code()));
     assert!(rt; fits || status == Status::WriteFault);
-    assert!(rt; !fits || status == said.status);
+    assert!(rt; !fits || code == whole(said.status));
     assert!(rt; !fits || output.written() == said.text);
     Ok(())
 }
@@ -85,56 +78,36 @@ fn replies(
     rt: &impl Abort,
     alloc: Global,
     session: &mut Session,
-    said: Said<'_>,
+    said: Run<'_>,
 ) -> Result<(), Fail> {
     replies_in(rt, alloc, session, said, 3)?;
     replies_in(rt, alloc, session, said, 1000)
 }
 
+// Of each run the words are a line that is said, and its end is the reply.
+const SAID: &[u8] = b"> 1 place
+cost\t3\nchosen\tp2\npair\tmeter\tf1\tL1\npair\tmeter\tib\tL2\npair\tcandidate\tp2\tL3\nlayer\t0\t3\t2\t0\ninside\tmeter\tf1\ninside\tmeter\tf2\ninside\tmeter\tib\ninside\tcandidate\tp1\nend
+> 0 trip L3
+ok\t2\t2
+> 0 # critical
+> 0 critical
+critical\tib\nend
+> 0 trip L4
+refused\t6\tUnknownBranch
+> 1 restore L3
+ok\t2\t3
+> 1
+";
+
 #[test]
 fn lines_are_answered_one_by_one(rt: HostRuntime) -> Result<(), Fail> {
     let alloc = rt.alloc();
     let mut session = begun(&rt, alloc, &SESSION_WITH, &path_with_candidates())?;
-    let lines = [
-        Said {
-            line: b"place",
-            status: Status::Short,
-            text: PATH_PLAN,
-        },
-        Said {
-            line: b"trip L3",
-            status: Status::Done,
-            text: b"ok\t2\t2\n",
-        },
-        Said {
-            line: b"# critical",
-            status: Status::Done,
-            text: b"",
-        },
-        Said {
-            line: b"critical",
-            status: Status::Done,
-            text: b"critical\tib\nend\n",
-        },
-        Said {
-            line: b"trip L4",
-            status: Status::Done,
-            text: b"refused\t6\tUnknownBranch\n",
-        },
-        Said {
-            line: b"restore L3",
-            status: Status::Short,
-            text: b"ok\t2\t3\n",
-        },
-        Said {
-            line: b"",
-            status: Status::Short,
-            text: b"",
-        },
-    ];
-    for said in lines {
+    for number in 0..7 {
+        let said = nth_run(SAID, number).ok_or("no line")?;
         replies(&rt, alloc, &mut session, said)?;
     }
+    assert!(rt; nth_run(SAID, 7).is_none());
     Ok(())
 }
 

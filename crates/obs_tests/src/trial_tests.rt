@@ -1,6 +1,7 @@
 // What trials print.
 
 use crate::grids::{Grid, make_grid};
+use crate::scripts::{Run, ended};
 use crate::tests::{Ended, QUIET, answers, failing_writes, outcome, taking};
 use crate::worked::{NO_SWITCHES, SESSION};
 use obs_engine::Status;
@@ -47,19 +48,27 @@ fn two_rows_are_a_ring(rt: HostRuntime) -> Result<(), Fail> {
 
 #[test]
 fn other_numbers_are_no_trial(rt: HostRuntime) -> Result<(), Fail> {
-    let forms = [
-        ["trial", "0", "5"].as_slice(),
-        &["trial", "101", "5"],
-        &["trial", "two", "5"],
-        &["trial", "2", "-5"],
-        &["trial", "2", "99999999999999999999"],
-        &["trial", "2"],
-        &["trial", "2", "5", "5"],
-    ];
-    for words in forms {
-        let found = outcome(rt.alloc(), words, &[], QUIET)?;
+    let words = b"trial 0 5
+trial 101 5
+trial two 5
+trial 2 -5
+trial 2 99999999999999999999
+trial 2
+trial 2 5 5
+";
+    let mut count = 0_u32;
+    for words in lines(words) {
+        let run = Run {
+            before: b"",
+            words,
+            status: b"2",
+            text: b"",
+        };
+        let found = ended(rt.alloc(), run, QUIET)?;
         assert!(rt; found.status == Status::Usage);
+        count = count.wrapping_add(1);
     }
+    assert!(rt; count == 7);
     let seeded = trial(rt.alloc(), "2", "9999999999999999999")?;
     assert!(rt; seeded.text.starts_with(b"trial\t2\t9999999999999999999\n"));
     Ok(())

@@ -1,278 +1,171 @@
-// Claims on candidates, and what the checker says of them.
-use crate::verdicts::{Verdict, case_of, flaw, path, verdict_on};
-use obs_case::Case;
-use obs_cert::FlawCode;
-use std::alloc::Global;
+// Claims on candidates, and what is said of them: of six buses in two rows, of which one is energised.
 
+use crate::scripts::all_end_so;
+use std::test::Fail;
+
+// One candidate is offered, and then four.
 #[test]
-fn shortfalls(rt: HostRuntime) {
-    let few = case_of(&rt, rt.alloc(), &path(1));
-    let list =
-        b"inside\tmeter\tf1\ninside\tmeter\tf2\ninside\tmeter\tib\ninside\tcandidate\tp1\n".as_slice();
-    for (start, end, want) in [
-        (
-            b"shortfall\t2\t0\n".as_slice(),
-            b"end\n".as_slice(),
-            Verdict::Valid(1),
-        ),
-        (
-            b"shortfall\t9\t9\n".as_slice(),
-            b"inside\tmeter\tzz\nend\n".as_slice(),
-            flaw(FlawCode::UnknownName),
-        ),
-        (
-            b"shortfall\t9\t9\n".as_slice(),
-            b"inside\tmeter\to1\nend\n".as_slice(),
-            flaw(FlawCode::NotInside),
-        ),
-        (
-            b"shortfall\t9\t9\n".as_slice(),
-            b"inside\tmeter\tf2\nend\n".as_slice(),
-            flaw(FlawCode::Twice),
-        ),
-        (
-            b"shortfall\t9\t9\n".as_slice(),
-            b"end\n".as_slice(),
-            flaw(FlawCode::WrongRank),
-        ),
-        (
-            b"shortfall\t2\t9\n".as_slice(),
-            b"end\n".as_slice(),
-            flaw(FlawCode::WrongOutside),
-        ),
-    ] {
-        assert!(rt; joined(rt.alloc(), &few, &[start, list, end]) == want);
-    }
-    let all = case_of(&rt, rt.alloc(), &path(4));
-    for (start, end, want) in [
-        (
-            b"shortfall\t3\t0\n".as_slice(),
-            b"inside\tcandidate\tp2\ninside\tcandidate\tp3\nend\n".as_slice(),
-            flaw(FlawCode::NotBelow),
-        ),
-        (
-            b"shortfall\t3\t0\n".as_slice(),
-            b"inside\tcandidate\tq4\nend\n".as_slice(),
-            flaw(FlawCode::NotInside),
-        ),
-        (
-            b"shortfall\t2\t2\n".as_slice(),
-            b"end\n".as_slice(),
-            flaw(FlawCode::NotBelow),
-        ),
-    ] {
-        assert!(rt; joined(rt.alloc(), &all, &[start, list, end]) == want);
-    }
-}
-
-// What is said of parts of a certificate, one after the other.
-fn joined(alloc: Global, case: &Case, parts: &[&[u8]]) -> Verdict {
-    let mut bytes = Vec::new(alloc);
-    for part in parts {
-        if bytes.extend_from_slice(part).is_err() {
-            return Verdict::NoMemory;
-        }
-    }
-    verdict_on(alloc, case, bytes.as_slice())
+fn shortfalls(rt: HostRuntime) -> Result<(), Fail> {
+    all_end_so(
+        &rt,
+        rt.alloc(),
+        9,
+        b"+ n
+node,source\na,1\nb,0\nc,0\nd,0\ne,0\nf,0
++ s
+switch,from,to,closed
++ b
+branch,from,to,inservice\nL1,a,b,1\nL2,b,c,1\nL3,c,d,1\nL4,e,f,1
++ m
+meter,kind,at,inservice\nf1,flow,L1,1\nf2,flow,L1,1\nib,injection,b,1\no1,flow,L2,0\nf4,flow,L4,1
++ c
+candidate,kind,at,price\np1,flow,L2,0
++ cert
+shortfall\t2\t0\ninside\tmeter\tf1\ninside\tmeter\tf2\ninside\tmeter\tib\ninside\tcandidate\tp1\nend
+> 0 verify tables n s b m with c cert
+valid\t1
++ cert
+shortfall\t9\t9\ninside\tmeter\tf1\ninside\tmeter\tf2\ninside\tmeter\tib\ninside\tcandidate\tp1\ninside\tmeter\tzz\nend
+> 1 verify tables n s b m with c cert
+flaw\t1\t1\tUnknownName
++ cert
+shortfall\t9\t9\ninside\tmeter\tf1\ninside\tmeter\tf2\ninside\tmeter\tib\ninside\tcandidate\tp1\ninside\tmeter\to1\nend
+> 1 verify tables n s b m with c cert
+flaw\t1\t3\tNotInside
++ cert
+shortfall\t9\t9\ninside\tmeter\tf1\ninside\tmeter\tf2\ninside\tmeter\tib\ninside\tcandidate\tp1\ninside\tmeter\tf2\nend
+> 1 verify tables n s b m with c cert
+flaw\t1\t5\tTwice
++ cert
+shortfall\t9\t9\ninside\tmeter\tf1\ninside\tmeter\tf2\ninside\tmeter\tib\ninside\tcandidate\tp1\nend
+> 1 verify tables n s b m with c cert
+flaw\t1\t8\tWrongRank
++ cert
+shortfall\t2\t9\ninside\tmeter\tf1\ninside\tmeter\tf2\ninside\tmeter\tib\ninside\tcandidate\tp1\nend
+> 1 verify tables n s b m with c cert
+flaw\t1\t9\tWrongOutside
++ c
+candidate,kind,at,price\np1,flow,L2,0\np2,injection,c,3\np3,flow,L3,5\nq4,flow,L4,1
++ cert
+shortfall\t3\t0\ninside\tmeter\tf1\ninside\tmeter\tf2\ninside\tmeter\tib\ninside\tcandidate\tp1\ninside\tcandidate\tp2\ninside\tcandidate\tp3\nend
+> 1 verify tables n s b m with c cert
+flaw\t1\t10\tNotBelow
++ cert
+shortfall\t3\t0\ninside\tmeter\tf1\ninside\tmeter\tf2\ninside\tmeter\tib\ninside\tcandidate\tp1\ninside\tcandidate\tq4\nend
+> 1 verify tables n s b m with c cert
+flaw\t1\t3\tNotInside
++ cert
+shortfall\t2\t2\ninside\tmeter\tf1\ninside\tmeter\tf2\ninside\tmeter\tib\ninside\tcandidate\tp1\nend
+> 1 verify tables n s b m with c cert
+flaw\t1\t10\tNotBelow
+",
+    )
 }
 
 #[test]
-fn costs(rt: HostRuntime) {
-    let case = case_of(&rt, rt.alloc(), &path(4));
-    let three = b"cost\t3\nchosen\tp2\n".as_slice();
-    let pairs = b"pair\tmeter\tf1\tL1\npair\tmeter\tib\tL2\npair\tcandidate\tp2\tL3\n".as_slice();
-    let first = b"layer\t0\t3\t2\t0\n".as_slice();
-    let list = b"inside\tmeter\tf1\ninside\tmeter\tf2\ninside\tmeter\tib\n".as_slice();
-    let cheap = b"inside\tcandidate\tp1\nend\n".as_slice();
-    for ([a, b, c, d, e], want) in [
-        ([three, pairs, first, list, cheap], Verdict::Valid(1)),
-        (
-            [
-                b"cost\t003\nchosen\tp2\n".as_slice(),
-                pairs,
-                b"layer\t00\t03\t02\t00\n".as_slice(),
-                list,
-                cheap,
-            ],
-            Verdict::Valid(1),
-        ),
-        (
-            [
-                b"cost\t2\nchosen\tp2\n".as_slice(),
-                pairs,
-                first,
-                list,
-                cheap,
-            ],
-            flaw(FlawCode::WrongCost),
-        ),
-        (
-            [
-                b"cost\t4\nchosen\tp2\nchosen\tq4\n".as_slice(),
-                pairs,
-                first,
-                list,
-                cheap,
-            ],
-            flaw(FlawCode::WrongCost),
-        ),
-        (
-            [
-                b"cost\t3\nchosen\tzz\n".as_slice(),
-                pairs,
-                first,
-                list,
-                cheap,
-            ],
-            flaw(FlawCode::UnknownName),
-        ),
-        (
-            [
-                three,
-                pairs,
-                first,
-                list,
-                b"inside\tcandidate\tzz\nend\n".as_slice(),
-            ],
-            flaw(FlawCode::UnknownName),
-        ),
-        (
-            [b"cost\t3\n".as_slice(), pairs, first, list, cheap],
-            flaw(FlawCode::NotInside),
-        ),
-        (
-            [
-                three,
-                b"pair\tmeter\to1\tL2\n".as_slice(),
-                first,
-                list,
-                cheap,
-            ],
-            flaw(FlawCode::NotInside),
-        ),
-        (
-            [
-                three,
-                pairs,
-                first,
-                list,
-                b"inside\tcandidate\tp2\nend\n".as_slice(),
-            ],
-            flaw(FlawCode::NotInside),
-        ),
-        (
-            [
-                three,
-                pairs,
-                first,
-                list,
-                b"inside\tcandidate\tq4\nend\n".as_slice(),
-            ],
-            flaw(FlawCode::NotInside),
-        ),
-        (
-            [
-                three,
-                pairs,
-                b"layer\t0\t6\t3\t0\ninside\tcandidate\tp3\n".as_slice(),
-                list,
-                b"layer\t6\t4\t0\t0\nend\n".as_slice(),
-            ],
-            flaw(FlawCode::NotInside),
-        ),
-        (
-            [
-                three,
-                b"pair\tcandidate\tp2\tL1\npair\tmeter\tf1\tL1\n".as_slice(),
-                first,
-                list,
-                cheap,
-            ],
-            flaw(FlawCode::NotTouched),
-        ),
-        (
-            [
-                b"cost\t9\nchosen\tp2\nchosen\tp2\n".as_slice(),
-                pairs,
-                first,
-                list,
-                cheap,
-            ],
-            flaw(FlawCode::Twice),
-        ),
-        (
-            [
-                three,
-                pairs,
-                first,
-                list,
-                b"layer\t3\t9\t2\t0\ninside\tmeter\tf1\nend\n".as_slice(),
-            ],
-            flaw(FlawCode::Twice),
-        ),
-        (
-            [
-                three,
-                b"pair\tmeter\tf1\tL1\npair\tmeter\tf2\tL1\n".as_slice(),
-                first,
-                list,
-                cheap,
-            ],
-            flaw(FlawCode::Twice),
-        ),
-        (
-            [
-                three,
-                b"pair\tmeter\tf1\tL1\n".as_slice(),
-                b"layer\t0\t3\t9\t9\n".as_slice(),
-                list,
-                cheap,
-            ],
-            flaw(FlawCode::WrongLength),
-        ),
-        (
-            [three, pairs, b"layer\t0\t3\t1\t0\n".as_slice(), list, cheap],
-            flaw(FlawCode::WrongRank),
-        ),
-        (
-            [three, pairs, b"layer\t0\t3\t2\t9\n".as_slice(), list, cheap],
-            flaw(FlawCode::WrongOutside),
-        ),
-        (
-            [
-                three,
-                pairs,
-                b"layer\t0\t6\t3\t0\n".as_slice(),
-                list,
-                b"inside\tcandidate\tp1\ninside\tcandidate\tp2\ninside\tcandidate\tp3\nend\n".as_slice(),
-            ],
-            flaw(FlawCode::NotBelow),
-        ),
-        (
-            [three, pairs, b"layer\t1\t3\t2\t0\n".as_slice(), list, cheap],
-            flaw(FlawCode::WrongLayers),
-        ),
-        (
-            [
-                three,
-                pairs,
-                b"layer\t0\t0\t2\t0\n".as_slice(),
-                list,
-                b"end\n".as_slice(),
-            ],
-            flaw(FlawCode::WrongLayers),
-        ),
-        (
-            [
-                three,
-                pairs,
-                first,
-                list,
-                b"inside\tcandidate\tp1\nlayer\t2\t3\t2\t0\nend\n".as_slice(),
-            ],
-            flaw(FlawCode::WrongLayers),
-        ),
-    ] {
-        assert!(rt; joined(rt.alloc(), &case, &[a, b, c, d, e]) == want);
-    }
+fn costs(rt: HostRuntime) -> Result<(), Fail> {
+    all_end_so(
+        &rt,
+        rt.alloc(),
+        22,
+        b"+ n
+node,source\na,1\nb,0\nc,0\nd,0\ne,0\nf,0
++ s
+switch,from,to,closed
++ b
+branch,from,to,inservice\nL1,a,b,1\nL2,b,c,1\nL3,c,d,1\nL4,e,f,1
++ m
+meter,kind,at,inservice\nf1,flow,L1,1\nf2,flow,L1,1\nib,injection,b,1\no1,flow,L2,0\nf4,flow,L4,1
++ c
+candidate,kind,at,price\np1,flow,L2,0\np2,injection,c,3\np3,flow,L3,5\nq4,flow,L4,1
++ cert
+cost\t3\nchosen\tp2\npair\tmeter\tf1\tL1\npair\tmeter\tib\tL2\npair\tcandidate\tp2\tL3\nlayer\t0\t3\t2\t0\ninside\tmeter\tf1\ninside\tmeter\tf2\ninside\tmeter\tib\ninside\tcandidate\tp1\nend
+> 0 verify tables n s b m with c cert
+valid\t1
++ cert
+cost\t003\nchosen\tp2\npair\tmeter\tf1\tL1\npair\tmeter\tib\tL2\npair\tcandidate\tp2\tL3\nlayer\t00\t03\t02\t00\ninside\tmeter\tf1\ninside\tmeter\tf2\ninside\tmeter\tib\ninside\tcandidate\tp1\nend
+> 0 verify tables n s b m with c cert
+valid\t1
++ cert
+cost\t2\nchosen\tp2\npair\tmeter\tf1\tL1\npair\tmeter\tib\tL2\npair\tcandidate\tp2\tL3\nlayer\t0\t3\t2\t0\ninside\tmeter\tf1\ninside\tmeter\tf2\ninside\tmeter\tib\ninside\tcandidate\tp1\nend
+> 1 verify tables n s b m with c cert
+flaw\t1\t12\tWrongCost
++ cert
+cost\t4\nchosen\tp2\nchosen\tq4\npair\tmeter\tf1\tL1\npair\tmeter\tib\tL2\npair\tcandidate\tp2\tL3\nlayer\t0\t3\t2\t0\ninside\tmeter\tf1\ninside\tmeter\tf2\ninside\tmeter\tib\ninside\tcandidate\tp1\nend
+> 1 verify tables n s b m with c cert
+flaw\t1\t12\tWrongCost
++ cert
+cost\t3\nchosen\tzz\npair\tmeter\tf1\tL1\npair\tmeter\tib\tL2\npair\tcandidate\tp2\tL3\nlayer\t0\t3\t2\t0\ninside\tmeter\tf1\ninside\tmeter\tf2\ninside\tmeter\tib\ninside\tcandidate\tp1\nend
+> 1 verify tables n s b m with c cert
+flaw\t1\t1\tUnknownName
++ cert
+cost\t3\nchosen\tp2\npair\tmeter\tf1\tL1\npair\tmeter\tib\tL2\npair\tcandidate\tp2\tL3\nlayer\t0\t3\t2\t0\ninside\tmeter\tf1\ninside\tmeter\tf2\ninside\tmeter\tib\ninside\tcandidate\tzz\nend
+> 1 verify tables n s b m with c cert
+flaw\t1\t1\tUnknownName
++ cert
+cost\t3\npair\tmeter\tf1\tL1\npair\tmeter\tib\tL2\npair\tcandidate\tp2\tL3\nlayer\t0\t3\t2\t0\ninside\tmeter\tf1\ninside\tmeter\tf2\ninside\tmeter\tib\ninside\tcandidate\tp1\nend
+> 1 verify tables n s b m with c cert
+flaw\t1\t3\tNotInside
++ cert
+cost\t3\nchosen\tp2\npair\tmeter\to1\tL2\nlayer\t0\t3\t2\t0\ninside\tmeter\tf1\ninside\tmeter\tf2\ninside\tmeter\tib\ninside\tcandidate\tp1\nend
+> 1 verify tables n s b m with c cert
+flaw\t1\t3\tNotInside
++ cert
+cost\t3\nchosen\tp2\npair\tmeter\tf1\tL1\npair\tmeter\tib\tL2\npair\tcandidate\tp2\tL3\nlayer\t0\t3\t2\t0\ninside\tmeter\tf1\ninside\tmeter\tf2\ninside\tmeter\tib\ninside\tcandidate\tp2\nend
+> 1 verify tables n s b m with c cert
+flaw\t1\t3\tNotInside
++ cert
+cost\t3\nchosen\tp2\npair\tmeter\tf1\tL1\npair\tmeter\tib\tL2\npair\tcandidate\tp2\tL3\nlayer\t0\t3\t2\t0\ninside\tmeter\tf1\ninside\tmeter\tf2\ninside\tmeter\tib\ninside\tcandidate\tq4\nend
+> 1 verify tables n s b m with c cert
+flaw\t1\t3\tNotInside
++ cert
+cost\t3\nchosen\tp2\npair\tmeter\tf1\tL1\npair\tmeter\tib\tL2\npair\tcandidate\tp2\tL3\nlayer\t0\t6\t3\t0\ninside\tcandidate\tp3\ninside\tmeter\tf1\ninside\tmeter\tf2\ninside\tmeter\tib\nlayer\t6\t4\t0\t0\nend
+> 1 verify tables n s b m with c cert
+flaw\t1\t3\tNotInside
++ cert
+cost\t3\nchosen\tp2\npair\tcandidate\tp2\tL1\npair\tmeter\tf1\tL1\nlayer\t0\t3\t2\t0\ninside\tmeter\tf1\ninside\tmeter\tf2\ninside\tmeter\tib\ninside\tcandidate\tp1\nend
+> 1 verify tables n s b m with c cert
+flaw\t1\t4\tNotTouched
++ cert
+cost\t9\nchosen\tp2\nchosen\tp2\npair\tmeter\tf1\tL1\npair\tmeter\tib\tL2\npair\tcandidate\tp2\tL3\nlayer\t0\t3\t2\t0\ninside\tmeter\tf1\ninside\tmeter\tf2\ninside\tmeter\tib\ninside\tcandidate\tp1\nend
+> 1 verify tables n s b m with c cert
+flaw\t1\t5\tTwice
++ cert
+cost\t3\nchosen\tp2\npair\tmeter\tf1\tL1\npair\tmeter\tib\tL2\npair\tcandidate\tp2\tL3\nlayer\t0\t3\t2\t0\ninside\tmeter\tf1\ninside\tmeter\tf2\ninside\tmeter\tib\nlayer\t3\t9\t2\t0\ninside\tmeter\tf1\nend
+> 1 verify tables n s b m with c cert
+flaw\t1\t5\tTwice
++ cert
+cost\t3\nchosen\tp2\npair\tmeter\tf1\tL1\npair\tmeter\tf2\tL1\nlayer\t0\t3\t2\t0\ninside\tmeter\tf1\ninside\tmeter\tf2\ninside\tmeter\tib\ninside\tcandidate\tp1\nend
+> 1 verify tables n s b m with c cert
+flaw\t1\t5\tTwice
++ cert
+cost\t3\nchosen\tp2\npair\tmeter\tf1\tL1\nlayer\t0\t3\t9\t9\ninside\tmeter\tf1\ninside\tmeter\tf2\ninside\tmeter\tib\ninside\tcandidate\tp1\nend
+> 1 verify tables n s b m with c cert
+flaw\t1\t7\tWrongLength
++ cert
+cost\t3\nchosen\tp2\npair\tmeter\tf1\tL1\npair\tmeter\tib\tL2\npair\tcandidate\tp2\tL3\nlayer\t0\t3\t1\t0\ninside\tmeter\tf1\ninside\tmeter\tf2\ninside\tmeter\tib\ninside\tcandidate\tp1\nend
+> 1 verify tables n s b m with c cert
+flaw\t1\t8\tWrongRank
++ cert
+cost\t3\nchosen\tp2\npair\tmeter\tf1\tL1\npair\tmeter\tib\tL2\npair\tcandidate\tp2\tL3\nlayer\t0\t3\t2\t9\ninside\tmeter\tf1\ninside\tmeter\tf2\ninside\tmeter\tib\ninside\tcandidate\tp1\nend
+> 1 verify tables n s b m with c cert
+flaw\t1\t9\tWrongOutside
++ cert
+cost\t3\nchosen\tp2\npair\tmeter\tf1\tL1\npair\tmeter\tib\tL2\npair\tcandidate\tp2\tL3\nlayer\t0\t6\t3\t0\ninside\tmeter\tf1\ninside\tmeter\tf2\ninside\tmeter\tib\ninside\tcandidate\tp1\ninside\tcandidate\tp2\ninside\tcandidate\tp3\nend
+> 1 verify tables n s b m with c cert
+flaw\t1\t10\tNotBelow
++ cert
+cost\t3\nchosen\tp2\npair\tmeter\tf1\tL1\npair\tmeter\tib\tL2\npair\tcandidate\tp2\tL3\nlayer\t1\t3\t2\t0\ninside\tmeter\tf1\ninside\tmeter\tf2\ninside\tmeter\tib\ninside\tcandidate\tp1\nend
+> 1 verify tables n s b m with c cert
+flaw\t1\t11\tWrongLayers
++ cert
+cost\t3\nchosen\tp2\npair\tmeter\tf1\tL1\npair\tmeter\tib\tL2\npair\tcandidate\tp2\tL3\nlayer\t0\t0\t2\t0\ninside\tmeter\tf1\ninside\tmeter\tf2\ninside\tmeter\tib\nend
+> 1 verify tables n s b m with c cert
+flaw\t1\t11\tWrongLayers
++ cert
+cost\t3\nchosen\tp2\npair\tmeter\tf1\tL1\npair\tmeter\tib\tL2\npair\tcandidate\tp2\tL3\nlayer\t0\t3\t2\t0\ninside\tmeter\tf1\ninside\tmeter\tf2\ninside\tmeter\tib\ninside\tcandidate\tp1\nlayer\t2\t3\t2\t0\nend
+> 1 verify tables n s b m with c cert
+flaw\t1\t11\tWrongLayers
+",
+    )
 }
