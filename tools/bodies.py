@@ -1,5 +1,5 @@
 #!/usr/bin/env python3
-"""Builds the bodies of the crates from obs_graph to obs_outage without their clauses, to time a change before it is proved.
+"""Builds the bodies of the crates from obs_graph to obs_edit without their clauses, to time a change before it is proved.
 
 Usage: tools/bodies.py FOLDER [again]
 
@@ -65,7 +65,9 @@ WORDS = [
     (r"#!\[tactic\(auto\)\]", ""),
     (r"#\[derive\(Drop\)\]\n", ""),
     (r"use std::marker::Model;\n", ""),
-    (r"vec!\[in alloc; ([^;]*); (.*?)\]\?", r"shim::filled(\1, \2)?"),
+    (r"vec!\[in alloc;\s*", "shim::filled!["),
+    (r"Vec::new\(alloc\)", "Vec::new()"),
+    (r"(\.resize\(.*\))\?;", r"\1;"),
     (r"use std::alloc::\{AllocError, (Global|AllocFailed)\};", r"use shim::{AllocError, \1};"),
     (r"use std::alloc::(\w+);", r"use shim::\1;"),
     (r"use std::sync::ledger::Ledger;", "use shim::Ledger;"),

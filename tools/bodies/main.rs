@@ -106,6 +106,9 @@ fn lines(session: &mut Session, steps: &mut Steps<Counted>, hash: &mut Hash) {
     std::io::stdin().read_to_string(&mut text).expect("lines");
     let (mut nanos, mut count) = ([0u128; 4], [0u32; 4]);
     for line in text.lines() {
+        if line.is_empty() || line.starts_with('#') {
+            continue;
+        }
         let began = Instant::now();
         match session.apply(line.as_bytes(), steps) {
             Ok(Done::Edited(state)) => {

@@ -14,6 +14,10 @@ pub struct Counted;
 
 impl Ledger for Counted {}
 
-pub fn filled<T: Clone>(value: T, count: usize) -> Result<Vec<T>, AllocError> {
-    Ok(vec![value; count])
+/// What stands for `vec![in alloc; value; count]`.
+#[macro_export]
+macro_rules! filled {
+    ($value:expr; $count:expr) => {
+        Ok::<_, $crate::AllocError>(vec![$value; $count])
+    };
 }
