@@ -1,2 +1,2 @@
-mod Named
-mod Said
+pub mod Named
+pub mod Said
