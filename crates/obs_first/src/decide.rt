@@ -1,5 +1,6 @@
 // How one meter is decided: it takes the lowest branch with which the pairs can be as many as before.
 ghost use Rattle.std.specs.Prelude.{◌≡◌, ◌+◌, ◌<◌, ℕ, Some, length, slice_index_or};
+ghost use Rattle.obs_graph.specs.Positions.{AreBranches};
 ghost use Rattle.obs_meter.specs.declared.Touch.TheVariants.{Nothing};
 ghost use Rattle.obs_meter.specs.Sizes.{HasRoomFor};
 ghost use Rattle.obs_meter.specs.Touches.{AreInRange};
@@ -63,6 +64,8 @@ pub fn decide<L: Ledger>(
     work: &mut Work,
     steps: &mut Steps<L>,
 ) -> u32
+    requires branches { AreBranches g.now.vertices g.now.ends }
+    requires whole { IsWhole a.old }
     requires stands { StandsOver a.old g.now ms.now.touches }
     requires in_range { AreInRange g.now ms.now.touches }
     requires room { HasRoomFor work.old.sizes g.now ms.now.touches }
@@ -80,8 +83,6 @@ pub fn decide<L: Ledger>(
     ensures noted { AreNoted g.now.ends ms.now.touches All a.new work.new.noted }
     ensures copied { work.new.touches ≡ ms.now.touches }
 {
-    let _ = g.vertices();
-    let _ = a.length();
     if taken >= rank {
         return taken;
     }

@@ -1,6 +1,7 @@
 // How a meter takes a branch, or is refused it: refused where the other meters can have no more pairs, and none is won
 // by this branch either.
 ghost use Rattle.std.specs.Prelude.{◌≡◌, ◌+◌, ◌<◌, ◌≤◌, false, Some, None, length, MatchBool};
+ghost use Rattle.obs_graph.specs.Positions.{AreBranches};
 ghost use Rattle.obs_matroid.specs.Lists.{In};
 ghost use Rattle.obs_meter.specs.Sizes.{HasRoomFor};
 ghost use Rattle.obs_meter.specs.Touches.{AreInRange, touch_at};
@@ -147,6 +148,8 @@ fn makes_way<L: Ledger>(
     work: &mut Work,
     steps: &mut Steps<L>,
 ) -> bool
+    requires branches { AreBranches g.now.vertices g.now.ends }
+    requires whole { IsWhole a.old }
     requires stands { StandsOver a.old g.now ms.now.touches }
     requires in_range { AreInRange g.now ms.now.touches }
     requires room { HasRoomFor work.old.sizes g.now ms.now.touches }
@@ -169,8 +172,6 @@ fn makes_way<L: Ledger>(
     ensures noted { AreNoted g.now.ends ms.now.touches All a.new work.new.noted }
     ensures copied { work.new.touches ≡ ms.now.touches }
 {
-    let _ = g.vertices();
-    let _ = a.length();
     if !a.may_pin(g, m, e) {
         return false;
     }
@@ -188,6 +189,8 @@ pub fn take_branch<L: Ledger>(
     work: &mut Work,
     steps: &mut Steps<L>,
 ) -> bool
+    requires branches { AreBranches g.now.vertices g.now.ends }
+    requires whole { IsWhole a.old }
     requires stands { StandsOver a.old g.now ms.now.touches }
     requires in_range { AreInRange g.now ms.now.touches }
     requires room { HasRoomFor work.old.sizes g.now ms.now.touches }
@@ -209,7 +212,6 @@ pub fn take_branch<L: Ledger>(
     ensures noted { AreNoted g.now.ends ms.now.touches All a.new work.new.noted }
     ensures copied { work.new.touches ≡ ms.now.touches }
 {
-    let _ = g.vertices();
     if !makes_way(g, ms, a, m, e, rank, work, steps) {
         return false;
     }

@@ -1,5 +1,5 @@
 // The items that stay used.
-ghost use Rattle.std.specs.Prelude.{◌≡◌, ◌<◌, length, slice_index_or};
+ghost use Rattle.std.specs.Prelude.{◌≡◌, ◌<◌, ◌^◌, length, slice_index_or};
 ghost use Rattle.std.specs.List.{list_any};
 ghost use Rattle.obs_meter.specs.declared.Touch.TheVariants.{Nothing};
 ghost use Rattle.obs_meter.specs.Touches.{AreInRange, IsInRange, touches_branch};
@@ -70,6 +70,7 @@ pub(crate) fn discard(
     lowest: &mut [u32],
     queue: &mut [u32],
 ) -> bool
+    requires few { g.now.vertices < 2 ^ 32 }
     requires stands { StandsOver pairs.now g.now used.old.touches }
     requires in_range { AreInRange g.now used.old.touches }
     requires firsts { length firsts.now ≡ g.now.vertices }

@@ -112,12 +112,12 @@ pub(crate) fn follow(
     lowest: &mut [u32],
     queue: &mut [u32],
 )
+    requires few { g.now.vertices < 2 ^ 32 }
     requires stands { StandsOver pairs.now g.now ms.now.touches }
     requires lowest { length lowest.old ≡ g.now.vertices }
     requires queue { length queue.old ≡ g.now.vertices }
     ensures gives_up { StillGivesUp g.now.ends ms.now.touches pairs.now (noted lowest.old) (noted lowest.new) }
 {
-    let _ = g.vertices();
     let mut tail = fill_queue(g.positions(), lowest, queue);
     let mut head = 0;
     while head < tail {

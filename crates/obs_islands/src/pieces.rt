@@ -53,8 +53,7 @@ pub(crate) fn mark_crossed(g: &Graph, firsts: &[u32], limit: u32, lowest: &mut [
     requires limit { limit ≤ length g.now.ends }
     ensures lowest { AreLowest g.now.ends (is_crossing g.now.ends firsts.now) limit lowest.new }
 {
-    let _ = g.positions();
-    lowest.fill(u32::MAX);
+    lowest.fill(g.positions());
     for e in 0..limit {
         cross(e, g.ends(e), firsts, lowest);
     }

@@ -1,6 +1,7 @@
 // Rounds of growing and discarding.
-ghost use Rattle.std.specs.Prelude.{◌≡◌, ◌≤◌, length, take};
+ghost use Rattle.std.specs.Prelude.{◌≡◌, ◌<◌, ◌≤◌, ◌^◌, length, take};
 ghost use Rattle.std.specs.List.{list_any};
+ghost use Rattle.obs_graph.specs.Positions.{AreBranches};
 ghost use Rattle.obs_meter.specs.Sizes.{HasRoomFor};
 ghost use Rattle.obs_meter.specs.Touches.{AreInRange};
 ghost use Rattle.obs_assign.specs.Assignment.{Fits, HasRoomOf, StandsOver, has_flag};
@@ -29,6 +30,8 @@ fn round<L: Ledger>(
     queue: &mut [u32],
     steps: &mut Steps<L>,
 ) -> bool
+    requires branches { AreBranches g.now.vertices g.now.ends }
+    requires few { g.now.vertices < 2 ^ 32 }
     requires stands { StandsOver pairs.old g.now used.old.touches }
     requires in_range { AreInRange g.now used.old.touches }
     requires room { HasRoomFor exchange.old.sizes g.now used.old.touches }
@@ -48,7 +51,6 @@ fn round<L: Ledger>(
     ensures same_room { HasRoomOf pairs.old pairs.new }
     ensures same_sizes { exchange.new.sizes ≡ exchange.old.sizes }
 {
-    let _ = g.vertices();
     let _ = lengthen(g, used, pairs, u32::MAX, exchange, steps);
     name_pieces(pairs.forest(), firsts);
     discard(g, used, pairs, firsts, lowest, queue)
@@ -66,6 +68,8 @@ fn settle<L: Ledger>(
     queue: &mut [u32],
     steps: &mut Steps<L>,
 )
+    requires branches { AreBranches g.now.vertices g.now.ends }
+    requires few { g.now.vertices < 2 ^ 32 }
     requires stands { StandsOver pairs.old g.now used.old.touches }
     requires in_range { AreInRange g.now used.old.touches }
     requires room { HasRoomFor exchange.old.sizes g.now used.old.touches }

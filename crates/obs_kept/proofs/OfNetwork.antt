@@ -1,6 +1,7 @@
 -- What is read off the network of a case, and the room for its pairs.
 use Rattle.std.proofs.Common.{◌≡◌, ℕ, length, sym, ap, ◌∙◌, subst, arith}
 use Rattle.obs_graph.specs.Graph.{Graph}
+use Rattle.obs_graph.specs.Positions.{AreBranches}
 use Rattle.obs_case.specs.Tables.{IsValid, Tables}
 use Rattle.obs_meter.specs.Held.{Meters}
 use Rattle.obs_meter.specs.Sizes.{HasRoomFor, Sizes}
@@ -10,7 +11,7 @@ use Rattle.obs_exchange.specs.Found.{Work}
 use Rattle.obs_exchange.specs.Longest.{IsLongest, IsMost}
 use Rattle.obs_network.specs.Network.{Network, case_branches, case_meters, case_needed, case_position_count, case_vertex_room, network_of}
 use Rattle.obs_network.proofs.Observed.{most_pairs}
-use Rattle.obs_network.proofs.OfCase.{case_vertex_count-le, length-case_branches, length-case_meters}
+use Rattle.obs_network.proofs.OfCase.{case_branches-are, case_vertex_count-le, length-case_branches, length-case_meters}
 use Rattle.obs_kept.specs.Kept.{AreLongest, HasRoom, network_sizes}
 
 -- the room for a case's pairs is enough for its network
@@ -53,6 +54,10 @@ module _ (n : Network) (t : Tables) (same : n ≡ network_of t) (g : Graph) (is_
   pub room_network : (a : Assignment) (w : Work) → HasRoom n a w → HasRoomFor w.sizes g ms.touches
   room_network a w r =
       from_case (λ h i. HasRoomFor w.sizes h i.touches) (room_case t w.sizes (subst (λ (x : Network). HasRoom x a w) same r).work)
+
+  -- the branches lie between the vertices
+  pub branches_network : IsValid t → AreBranches g.vertices g.ends
+  branches_network v = from_case (λ h _. AreBranches h.vertices h.ends) (case_branches-are t v)
 
   pub most_network : (k : ℕ) → IsValid t → k ≡ n.needed → IsMost g.ends ms.touches k
   most_network k v needed =

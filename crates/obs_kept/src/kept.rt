@@ -1,5 +1,6 @@
 // The kept pairs of a case.
 ghost use Rattle.std.specs.Prelude.{◌≡◌, IfOk};
+ghost use Rattle.obs_case.specs.Tables.{IsValid};
 ghost use Rattle.obs_network.specs.Network.{network_of};
 ghost use Rattle.obs_kept.specs.Kept.{AreLongest, HasRoom};
 
@@ -34,6 +35,7 @@ impl Kept {
     fn with_room(alloc: Global, case: &Case) -> Result<Kept, NoMemory>
         ensures network { IfOk result (λ k. k.network ≡ network_of case.now) }
         ensures room { IfOk result (λ k. HasRoom k.network k.pairs k.work) }
+        ensures valid { IfOk result (λ _. IsValid case.now) }
     {
         let network = Network::make(alloc, case)?;
         let meters = case.meters().len() as u32;
@@ -58,7 +60,6 @@ impl Kept {
         ensures longest { IfOk result (λ k. AreLongest case.now k.pairs) }
         ensures room { IfOk result (λ k. HasRoom k.network k.pairs k.work) }
     {
-        let _nodes = case.nodes();
         let mut kept = Kept::with_room(alloc, case)?;
         fill(
             kept.network.graph(),

@@ -1,5 +1,5 @@
 -- Pairs that stand over another network, which is the same but for a branch that none of them has.
-use Rattle.std.proofs.Common.{◌≡◌, ℕ, ◌<◌, Bool, false, Option, Some, None, List, length, get_or, set, sym, ap, ◌∙◌, subst, inl, inr, get_or-set_same, get_or-set_other}
+use Rattle.std.proofs.Common.{[], ◌∷◌, zero, suc, refl, ◌≡◌, ℕ, ◌<◌, Bool, false, Option, Some, None, List, length, get_or, set, sym, ap, ◌∙◌, subst, inl, inr, get_or-set_same, get_or-set_other}
 use Rattle.std.specs.Prelude.{is_some}
 use Rattle.std.proofs.lemmas.Bool.{cases_eq, true≢false}
 use Rattle.std.proofs.lemmas.List.{length-set}
@@ -35,6 +35,18 @@ use Rattle.obs_outage.proofs.Restored.{row_gone, row_here, row_low}
 pub thawed_found : (ends : List (Option Ends)) (touches : List Touch) (from : Sources) (a b : Assignment) (flags : List Bool) (answer : Found) → IsFound ends touches from a b flags answer → IsThawed a → IsThawed b
 thawed_found ends touches from a b flags (Grown m) h t = λ x. ap (λ (fs : List Bool). get_or fs x false) h.frozen ∙ t x
 thawed_found ends touches from a b flags Closed h t = λ x. ap (λ (c : Assignment). get_or c.frozen x false) h.same ∙ t x
+
+-- a flag that is cleared is clear, and the others are as they were
+cleared : (flags : List Bool) (m k : ℕ) → get_or flags k false ≡ false → get_or (set flags m false) k false ≡ false
+cleared [] m k h = h
+cleared (f ∷ flags) zero zero h = refl
+cleared (f ∷ flags) zero (suc k) h = h
+cleared (f ∷ flags) (suc m) zero h = h
+cleared (f ∷ flags) (suc m) (suc k) h = cleared flags m k h
+
+-- nor does it freeze any that one is thawed
+pub thawed_dropped : (a b : Assignment) (m : ℕ) → b.frozen ≡ set a.frozen m false → IsThawed a → IsThawed b
+thawed_dropped a b m is t = λ k. ap (λ (flags : List Bool). get_or flags k false) is ∙ cleared a.frozen m k (t k)
 
 crossed : (e : ℕ) (n o : Network) → o.graph.vertices ≡ n.graph.vertices → length o.graph.ends ≡ length n.graph.ends → ((p : ℕ) → (p ≡ e → ⊥) → get_or o.graph.ends p None ≡ get_or n.graph.ends p None)
     → length o.meters.touches ≡ length n.meters.touches → ((m k : ℕ) → (k ≡ e → ⊥) → In k (touch_at n.graph.ends n.meters.touches m) → In k (touch_at o.graph.ends o.meters.touches m))

@@ -1,5 +1,6 @@
 // The entry of a row that parts the buses of its component, where no pairs need be counted.
 ghost use Rattle.std.specs.Prelude.{◌≡◌, ◌≢◌, ◌-◌, ◌<◌, ◌≤◌, ◌^◌, All, IfSome, length, slice_index, sum_by, true};
+ghost use Rattle.obs_case.specs.Tables.{IsValid};
 ghost use Rattle.obs_matroid.specs.Lists.{In};
 ghost use Rattle.obs_kept.specs.Kept.{AreLongest};
 ghost use Rattle.obs_network.specs.Network.{case_needed, case_rows, network_of};
@@ -59,6 +60,7 @@ fn fall_without(
     feeds: &Feeds,
     side: &[u32],
 ) -> Option<(u32, bool, bool)>
+    requires valid { IsValid case.now }
     requires network { network.now ≡ network_of case.now }
     requires feeds { AreFeeds case.now feeds.now }
     requires row { In e (outage_rows case.now) }
@@ -67,7 +69,6 @@ fn fall_without(
     ensures unfed { IfSome result (λ r. r.1 ≡ true → IsUnfed case.now e side.now) }
     ensures beside { IfSome result (λ r. r.2 ≡ true → IsUnfedBeside case.now e side.now) }
 {
-    let _nodes = case.nodes();
     let c = network.component_of_branch(e)?;
     if network.absolute(c) {
         return None;
@@ -87,6 +88,7 @@ fn unfed_entry(
     side: &[u32],
     needed: u32,
 ) -> Outage
+    requires valid { IsValid case.now }
     requires network { network.now ≡ network_of case.now }
     requires longest { AreLongest case.now pairs.now }
     requires unfed { IsUnfed case.now e side.now }
@@ -94,7 +96,6 @@ fn unfed_entry(
     requires needed { needed ≡ case_needed (outage_case case.now e) }
     ensures entry { result ≡ outage_of case.now e }
 {
-    let _nodes = case.nodes();
     let lost = count_lost(network.graph(), pairs, e, side) as u32;
     Outage {
         branch: e,
@@ -113,6 +114,7 @@ fn beside_entry(
     side: &[u32],
     needed: u32,
 ) -> Option<Outage>
+    requires valid { IsValid case.now }
     requires network { network.now ≡ network_of case.now }
     requires longest { AreLongest case.now pairs.now }
     requires feeds { AreFeeds case.now feeds.now }
@@ -122,7 +124,6 @@ fn beside_entry(
     requires needed { needed ≡ case_needed (outage_case case.now e) }
     ensures entry { IfSome result (λ o. o ≡ outage_of case.now e) }
 {
-    let _nodes = case.nodes();
     let c = network.component_of_branch(e)?;
     let here = count_lost(network.graph(), pairs, e, side);
     let row = u64::from(pairs.forest().holds(e));
@@ -146,6 +147,7 @@ pub(crate) fn parted_entry(
     feeds: &Feeds,
     side: &[u32],
 ) -> Option<Outage>
+    requires valid { IsValid case.now }
     requires network { network.now ≡ network_of case.now }
     requires longest { AreLongest case.now pairs.now }
     requires flags { HasFlags network.now spared.now }
@@ -156,7 +158,6 @@ pub(crate) fn parted_entry(
     requires side { IsSide (case_rows case.now) e side.now }
     ensures entry { IfSome result (λ o. o ≡ outage_of case.now e) }
 {
-    let _nodes = case.nodes();
     let (fall, unfed, beside) = fall_without(case, e, network, feeds, side)?;
     let before = network.needed();
     let needed = before - fall;

@@ -17,7 +17,6 @@ fn is_critical_flow(g: &Graph, ms: &Meters, a: &Assignment, marks: &[bool], e: u
     requires branch { e < length g.now.ends }
     ensures costly { IsTrue result → IsCostly g.now.ends ms.now.touches e }
 {
-    let _ = g;
     match a.meter_of(e) {
         Some(m) => match ms.kind(m) {
             Touch::Edge(_) => !marks[m as usize],

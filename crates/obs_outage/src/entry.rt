@@ -97,7 +97,6 @@ pub(crate) fn entry_of<L: Ledger>(
     ensures other { other.new ≡ kept.new.network }
     ensures sides { sides.new.most_vertices ≡ sides.old.most_vertices }
 {
-    let _nodes = case.nodes();
     let rows = case.branches().len() as u32;
     let joined = sides.walk(kept.network.graph(), rows, e);
     if joined {

@@ -1,5 +1,6 @@
 // How many sources each bus and each component has.
 ghost use Rattle.std.specs.Prelude.{◌≡◌, ◌<◌, ◌≤◌, ◌^◌, ℕ, IfOk, IfSome, length, slice_index};
+ghost use Rattle.obs_case.specs.Tables.{IsValid};
 ghost use Rattle.obs_network.specs.Components.{source_nodes};
 ghost use Rattle.obs_network.specs.Network.{network_of};
 ghost use Rattle.obs_assign.specs.Assignment.{Assignment};
@@ -80,13 +81,13 @@ fn count_pairs(network: &Network, pairs: &Assignment, counts: &mut [u32])
 
 // The same over the network of a case with longest pairs: any other longest pairs are as many in each component.
 fn count_longest(case: &Case, network: &Network, pairs: &Assignment, counts: &mut [u32])
+    requires valid { IsValid case.now }
     requires network { network.now ≡ network_of case.now }
     requires longest { AreLongest case.now pairs.now }
     requires room { length network.now.components.first_buses ≤ length counts.old }
     ensures counts { (c : ℕ) → c < length counts.old → (a : Assignment) → AreLongest case.now a →
         slice_index counts.new c ≡ component_pairs case.now c a }
 {
-    let _nodes = case.nodes();
     count_pairs(network, pairs, counts);
 }
 

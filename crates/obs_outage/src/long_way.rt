@@ -1,6 +1,7 @@
 // One outage by the long way: the network of the outage case is made, and the pairs are made longest there and back.
 ghost use Rattle.std.specs.Prelude.{◌≡◌, ◌≤◌, length};
 ghost use Rattle.obs_graph.specs.Positions.{IsForestAt};
+ghost use Rattle.obs_case.specs.Tables.{IsValid};
 ghost use Rattle.obs_matroid.specs.Assignments.{branches};
 ghost use Rattle.obs_matroid.specs.Lists.{In};
 ghost use Rattle.obs_assign.specs.Assignment.{pairs as pairs_at};
@@ -27,6 +28,7 @@ fn carry<L: Ledger>(
     work: &mut Work,
     steps: &mut Steps<L>,
 )
+    requires valid { IsValid case.now }
     requires network { network.now ≡ network_of case.now }
     requires room { HasRoom network.now pairs.old work.old }
     requires meters { length network.now.meters.touches ≡ length pairs.old.slots }
@@ -39,10 +41,8 @@ fn carry<L: Ledger>(
         most ≤ length (still network.now.graph.ends network.now.meters.touches (pairs_at pairs.old)) →
         (steps.new ≡ steps.old) × (pairs.new.turns ≡ pairs.old.turns) }
 {
-    let _nodes = case.nodes();
     let g = network.graph();
     let ms = network.meters();
-    let _ = g.vertices();
     let _ = pairs.retain_touching(g, ms);
     let _ = regrow(g, ms, pairs, most, work, steps);
 }
@@ -57,6 +57,7 @@ pub(crate) fn outage_at<L: Ledger>(
     work: &mut Work,
     steps: &mut Steps<L>,
 ) -> Outage
+    requires valid { IsValid case.old }
     requires network { network.now ≡ network_of case.old }
     requires row { In e (outage_rows case.old) }
     requires longest { AreLongest case.old pairs.old }
@@ -70,7 +71,6 @@ pub(crate) fn outage_at<L: Ledger>(
     ensures room { HasRoom network.now pairs.new work.new }
     ensures other { other.new ≡ network.now }
 {
-    let _nodes = case.nodes();
     let most = pairs.length();
     case.set_branch(e, false);
     let _ = other.refresh_branch(case, e);

@@ -1,5 +1,6 @@
 // One outage by the short way: of a row whose ends stay joined, and that a pair has.
 ghost use Rattle.std.specs.Prelude.{◌≡◌, ◌<◌, ◌≤◌, None, Some, length, slice_index_or};
+ghost use Rattle.obs_case.specs.Tables.{IsValid};
 ghost use Rattle.obs_matroid.specs.Lists.{In};
 ghost use Rattle.obs_meter.specs.Assignments.{IsRhoAt};
 ghost use Rattle.obs_meter.specs.Sizes.{HasRoomFor};
@@ -116,6 +117,7 @@ pub(crate) fn joined_outage<L: Ledger>(
     work: &mut Work,
     steps: &mut Steps<L>,
 ) -> Outage
+    requires valid { IsValid case.old }
     requires network { network.now ≡ network_of case.old }
     requires row { In e (outage_rows case.old) }
     requires same { AreSameBut e (network_of case.old) (network_of (outage_case case.old e)) }
@@ -129,7 +131,6 @@ pub(crate) fn joined_outage<L: Ledger>(
     ensures room { HasRoom network.now pairs.new work.new }
     ensures other { other.new ≡ network.now }
 {
-    let _nodes = case.nodes();
     case.set_branch(e, false);
     let _ = other.refresh_branch(case, e);
     let rank = rank_without(e, m, network, other, pairs, work, steps);

@@ -240,10 +240,9 @@ impl Spared {
         ensures flags { HasFlags kept.new.network self.new }
         ensures sides { sides.new.most_vertices ≡ sides.old.most_vertices }
     {
-        let _nodes = case.nodes();
+        let rows = case.branches().len() as u32;
         let g = kept.network.graph();
         let ms = kept.network.meters();
-        let _ = g.vertices();
         close(g, ms, &mut kept.pairs, &mut kept.work, steps);
         refill_touched(
             g,
@@ -253,7 +252,6 @@ impl Spared {
             &mut self.part,
             &mut self.touched,
         );
-        let rows = case.branches().len() as u32;
         flag_rows(&kept.pairs, &self.touched, rows, sides, &mut self.flags);
         let reached = kept.work.reached();
         flag_costly(g, ms, &kept.pairs, reached, rows, &mut self.costly);

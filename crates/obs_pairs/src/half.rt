@@ -1,5 +1,6 @@
 // Searches in which some of the meters without a pair are lost.
 ghost use Rattle.std.specs.Prelude.{◌≡◌, ◌<◌, ◌^◌, if◌then◌else◌, length, slice_index_or};
+ghost use Rattle.obs_graph.specs.Positions.{AreBranches};
 ghost use Rattle.obs_meter.specs.Lost.{losing};
 ghost use Rattle.obs_meter.specs.Sizes.{HasRoomFor};
 ghost use Rattle.obs_meter.specs.Touches.{AreInRange};
@@ -71,6 +72,7 @@ pub(crate) fn reach_from<L: Ledger>(
     lows: bool,
     steps: &mut Steps<L>,
 )
+    requires branches { AreBranches g.now.vertices g.now.ends }
     requires longest { IsLongest g.now ms.now.touches a.old }
     requires in_range { AreInRange g.now ms.now.touches }
     requires room { HasRoomFor exchange.old.sizes g.now ms.now.touches }
@@ -83,7 +85,6 @@ pub(crate) fn reach_from<L: Ledger>(
         exchange.new.reached }
     ensures same_sizes { exchange.new.sizes ≡ exchange.old.sizes }
 {
-    let _ = g.vertices();
     lose_half(ms, a, step, lows, left);
     close(g, left, a, exchange, steps);
 }

@@ -1,5 +1,6 @@
 // What a search reaches when a meter is lost.
 ghost use Rattle.std.specs.Prelude.{◌≡◌, true, length};
+ghost use Rattle.obs_graph.specs.Positions.{AreBranches};
 ghost use Rattle.obs_meter.specs.Sizes.{HasRoomFor};
 ghost use Rattle.obs_meter.specs.Touches.{AreInRange};
 ghost use Rattle.obs_assign.specs.Assignment.{HasRoomOf, has_flag};
@@ -23,6 +24,7 @@ pub fn search_without<L: Ledger>(
     exchange: &mut Work,
     steps: &mut Steps<L>,
 )
+    requires branches { AreBranches g.now.vertices g.now.ends }
     requires longest { IsLongest g.now ms.now.touches a.old }
     requires in_range { AreInRange g.now ms.now.touches }
     requires room { HasRoomFor exchange.old.sizes g.now ms.now.touches }
@@ -35,12 +37,10 @@ pub fn search_without<L: Ledger>(
     ensures same_room { HasRoomOf a.old a.new }
     ensures same_sizes { exchange.new.sizes ≡ exchange.old.sizes }
 {
-    let _ = g.vertices();
     let most = a.length();
     let lost = [m];
     lose(g, left, &lost, a);
     let _ = regrow(g, left, a, most, exchange, steps);
     close(g, left, a, exchange, steps);
-    let _ = a.length();
     regain(ms, left, &lost);
 }

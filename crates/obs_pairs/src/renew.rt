@@ -49,6 +49,5 @@ pub(crate) fn renew<L: Ledger>(
     lose_marked(ms, waiting, left);
     fill(g, left, a, most, exchange, steps);
     restore(ms, left);
-    let _ = a.length();
     let _ = regrow(g, ms, a, most, exchange, steps);
 }

@@ -1,5 +1,6 @@
 // Splits with other pairs each time, as long as they settle enough.
-ghost use Rattle.std.specs.Prelude.{◌≡◌, ◌≤◌, length};
+ghost use Rattle.std.specs.Prelude.{◌≡◌, ◌<◌, ◌≤◌, ◌^◌, length};
+ghost use Rattle.obs_graph.specs.Positions.{AreBranches};
 ghost use Rattle.obs_meter.specs.Sizes.{HasRoomFor};
 ghost use Rattle.obs_meter.specs.Touches.{AreInRange};
 ghost use Rattle.obs_assign.specs.Assignment.{HasRoomOf};
@@ -63,7 +64,9 @@ pub(crate) fn split_in_rounds<L: Ledger>(
     list: &mut [u32],
     steps: &mut Steps<L>,
 )
+    requires branches { AreBranches g.now.vertices g.now.ends }
     requires longest { IsLongest g.now ms.now.touches a.old }
+    requires few { length ms.now.touches < 2 ^ 32 }
     requires in_range { AreInRange g.now ms.now.touches }
     requires room { HasRoomFor exchange.old.sizes g.now ms.now.touches }
     requires left { left.old.touches ≡ ms.now.touches }

@@ -1,5 +1,6 @@
 // Classes, settled one after the other.
 ghost use Rattle.std.specs.Prelude.{◌≡◌, ◌&&◌, ◌<◌, ◌≤◌, ◌^◌, if◌then◌else◌, ℕ, not, length, slice_index, take};
+ghost use Rattle.obs_graph.specs.Positions.{AreBranches};
 ghost use Rattle.obs_meter.specs.Sizes.{HasRoomFor};
 ghost use Rattle.obs_meter.specs.Touches.{AreInRange};
 ghost use Rattle.obs_assign.specs.Assignment.{HasRoomOf, has_flag};
@@ -66,6 +67,7 @@ fn settle_all<L: Ledger>(
     list: &mut [u32],
     steps: &mut Steps<L>,
 )
+    requires branches { AreBranches g.now.vertices g.now.ends }
     requires longest { IsLongest g.now ms.now.touches a.old }
     requires in_range { AreInRange g.now ms.now.touches }
     requires room { HasRoomFor exchange.old.sizes g.now ms.now.touches }
@@ -77,8 +79,6 @@ fn settle_all<L: Ledger>(
     ensures same_room { HasRoomOf a.old a.new }
     ensures same_sizes { exchange.new.sizes ≡ exchange.old.sizes }
 {
-    // What the graph knows of itself: the branches lie between the vertices.
-    let _ = g.vertices();
     for m in 0..ms.count() {
         if waiting[m as usize] {
             search_without(g, ms, a, m, left, exchange, steps);
@@ -98,7 +98,9 @@ fn find_all<L: Ledger>(
     list: &mut [u32],
     steps: &mut Steps<L>,
 )
+    requires branches { AreBranches g.now.vertices g.now.ends }
     requires longest { IsLongest g.now ms.now.touches a.old }
+    requires few { length ms.now.touches < 2 ^ 32 }
     requires in_range { AreInRange g.now ms.now.touches }
     requires room { HasRoomFor exchange.old.sizes g.now ms.now.touches }
     requires left { left.old.touches ≡ ms.now.touches }
@@ -110,9 +112,6 @@ fn find_all<L: Ledger>(
     ensures same_room { HasRoomOf a.old a.new }
     ensures same_sizes { exchange.new.sizes ≡ exchange.old.sizes }
 {
-    let _ = g.vertices();
-    let _ = a.length();
-    let _ = ms.count();
     close(g, ms, a, exchange, steps);
     begin(exchange.reached(), waiting, list);
     split_in_rounds(g, ms, a, left, exchange, waiting, list, steps);
@@ -131,6 +130,7 @@ pub(crate) fn list_classes<L: Ledger>(
     list: &mut [u32],
     steps: &mut Steps<L>,
 )
+    requires branches { AreBranches g.now.vertices g.now.ends }
     requires longest { IsLongest g.now ms.now.touches a.old }
     requires in_range { AreInRange g.now ms.now.touches }
     requires room { HasRoomFor exchange.old.sizes g.now ms.now.touches }

@@ -1,5 +1,6 @@
 // The classes of all meters without a pair, settled at once.
-ghost use Rattle.std.specs.Prelude.{◌≡◌};
+ghost use Rattle.std.specs.Prelude.{◌≡◌, ◌<◌, ◌^◌, length};
+ghost use Rattle.obs_graph.specs.Positions.{AreBranches};
 ghost use Rattle.obs_meter.specs.Sizes.{HasRoomFor};
 ghost use Rattle.obs_meter.specs.Touches.{AreInRange};
 ghost use Rattle.obs_assign.specs.Assignment.{HasRoomOf};
@@ -27,7 +28,9 @@ pub(crate) fn split<L: Ledger>(
     list: &mut [u32],
     steps: &mut Steps<L>,
 )
+    requires branches { AreBranches g.now.vertices g.now.ends }
     requires longest { IsLongest g.now ms.now.touches a.old }
+    requires few { length ms.now.touches < 2 ^ 32 }
     requires in_range { AreInRange g.now ms.now.touches }
     requires room { HasRoomFor exchange.old.sizes g.now ms.now.touches }
     requires left { left.old.touches ≡ ms.now.touches }
@@ -37,8 +40,6 @@ pub(crate) fn split<L: Ledger>(
     ensures left { left.new ≡ left.old }
     ensures same_sizes { exchange.new.sizes ≡ exchange.old.sizes }
 {
-    let _ = g.vertices();
-    let _ = ms.count();
     start(waiting, list);
     let mut step = 1;
     for _bit in 0..32u32 {

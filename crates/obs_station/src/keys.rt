@@ -78,10 +78,9 @@ fn write_keys(case: &Case, network: &Network, stations: &Buses, keys: &mut [u32]
     requires one_each { length keys.old ≡ length case.now.meters }
     ensures keys { (m : ℕ) → m < length keys.new → slice_index keys.new m ≡ key_of case.now m }
     ensures below { (m : ℕ) → m < length keys.new → slice_index keys.new m ≤ stations.now.count }
+    ensures few { length keys.new < 2 ^ 32 }
 {
-    // What the case knows of itself: it has few meters.
-    let _meters = case.meters();
-    for m in 0..keys.len() {
+    for m in 0..case.meters().len() {
         keys[m] = key_of(case, network, stations, m as u32);
     }
 }
@@ -104,7 +103,6 @@ pub(crate) fn write_members(
     ensures keys { (m : ℕ) → m < length keys.new → slice_index keys.new m ≡ key_of case.now m }
     ensures groups { AreGroups keys.new members.new starts.new (suc stations.now.count) }
 {
-    let _meters = case.meters();
     write_keys(case, network, stations, keys);
     group(keys, members, &mut starts[..stations.count() as usize + 1]);
 }

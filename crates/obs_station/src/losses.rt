@@ -138,7 +138,6 @@ impl StationWork {
         ensures same_room { HasRoomOf a.old a.new }
         ensures rows { self.new.rows ≡ self.old.rows }
     {
-        let _nodes = case.nodes();
         self.stations.refill(case, network);
         self.left.refill(network.meters().touches());
         self.count = write_losses(

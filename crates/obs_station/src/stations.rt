@@ -1,5 +1,6 @@
 // The stations of a case, and the live meters of each.
-ghost use Rattle.std.specs.Prelude.{◌≡◌, ◌<◌, ◌≤◌, [], All, ℕ, IfOk, length, slice_index};
+ghost use Rattle.std.specs.Prelude.{◌≡◌, ◌<◌, ◌≤◌, ◌^◌, [], All, ℕ, IfOk, length, slice_index};
+ghost use Rattle.obs_case.specs.Tables.{IsValid};
 ghost use Rattle.obs_switch.specs.Buses.{members_of};
 ghost use Rattle.obs_switch.specs.Groups.{items_with};
 ghost use Rattle.obs_network.specs.Network.{network_of};
@@ -98,6 +99,7 @@ impl Stations {
         ensures keys { self.new.keys ≡ keys_of case.now }
         ensures switches { self.new.switches ≡ self.old.switches }
         ensures meters { self.new.most_meters ≡ self.old.most_meters }
+        ensures valid { IsValid case.now }
     {
         write_links(case.switches(), &mut self.links);
         self.buses.relabel(case.nodes().len() as u32, &self.links);
@@ -135,6 +137,7 @@ impl Stations {
         ensures meters { result.now ≡ items_with self.now.keys c }
         ensures low { All (λ m. m < length self.now.keys) result.now }
         ensures few { length result.now ≤ length self.now.keys }
+        ensures small { length result.now < 2 ^ 32 }
     {
         group_of(&self.keys[..self.meters], &self.members, &self.starts, c)
     }

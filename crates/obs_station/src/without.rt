@@ -1,6 +1,7 @@
 // The pairs without the meters of a station.
 ghost use Rattle.std.specs.Prelude.{◌≡◌, ◌+◌, ◌<◌, ◌≤◌, All, ℕ, length, take};
 ghost use Rattle.std.specs.List.{range_with_len};
+ghost use Rattle.obs_graph.specs.Positions.{AreBranches};
 ghost use Rattle.obs_switch.specs.Buses.{members_of};
 ghost use Rattle.obs_switch.specs.Groups.{group_start, items_with};
 ghost use Rattle.obs_meter.specs.Assignments.{rho_at};
@@ -29,6 +30,7 @@ fn rank_without<L: Ledger>(
     exchange: &mut Work,
     steps: &mut Steps<L>,
 ) -> u32
+    requires branches { AreBranches g.now.vertices g.now.ends }
     requires longest { IsLongest g.now ms.now.touches a.old }
     requires in_range { AreInRange g.now ms.now.touches }
     requires room { HasRoomFor exchange.old.sizes g.now ms.now.touches }
@@ -44,8 +46,6 @@ fn rank_without<L: Ledger>(
     ensures same_room { HasRoomOf a.old a.new }
     ensures same_sizes { exchange.new.sizes ≡ exchange.old.sizes }
 {
-    // What the graph knows of itself: the branches lie between the vertices.
-    let _ = g.vertices();
     let most = a.length();
     lose(g, left, list, a);
     let _ = regrow(g, left, a, most, exchange, steps);
@@ -66,6 +66,7 @@ fn loss_of<L: Ledger>(
     exchange: &mut Work,
     steps: &mut Steps<L>,
 ) -> Loss
+    requires branches { AreBranches g.now.vertices g.now.ends }
     requires longest { IsLongest g.now ms.now.touches a.old }
     requires in_range { AreInRange g.now ms.now.touches }
     requires room { HasRoomFor exchange.old.sizes g.now ms.now.touches }
@@ -82,8 +83,6 @@ fn loss_of<L: Ledger>(
     ensures same_room { HasRoomOf a.old a.new }
     ensures same_sizes { exchange.new.sizes ≡ exchange.old.sizes }
 {
-    // What the meters know of themselves: they are few.
-    let _ = ms.count();
     let list = stations.meters(c);
     let rank = rank_without(g, ms, list, a, left, exchange, steps);
     Loss {
@@ -104,6 +103,7 @@ pub(crate) fn write_losses<L: Ledger>(
     entries: &mut [Loss],
     steps: &mut Steps<L>,
 ) -> usize
+    requires branches { AreBranches g.now.vertices g.now.ends }
     requires longest { IsLongest g.now ms.now.touches a.old }
     requires in_range { AreInRange g.now ms.now.touches }
     requires room { HasRoomFor exchange.old.sizes g.now ms.now.touches }

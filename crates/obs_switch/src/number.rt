@@ -23,7 +23,6 @@ pub(crate) fn number(links: &[Link], firsts: &[u32], numbers: &mut [u32]) -> u32
     ensures few { result ≤ length firsts.now }
     ensures below { (u : ℕ) → u < length numbers.new → slice_index numbers.new u < result }
 {
-    let _links = links.len();
     let mut count = 0;
     for node in 0..firsts.len() {
         let first = firsts[node] as usize;

@@ -13,7 +13,6 @@ fn lower(labels: &mut [u32], links: &[Link], node: u32, label: u32) -> bool
     ensures lowered { AreLowered links.now labels.old labels.new result }
     ensures at_most { slice_index labels.new node ≤ label }
 {
-    let _links = links.len();
     if label < labels[node as usize] {
         labels[node as usize] = label;
         return true;
@@ -82,7 +81,6 @@ fn jump(labels: &mut [u32], links: &[Link]) -> bool
     ensures lowered { AreLowered links.now labels.old labels.new result }
     ensures own { AreOwn labels.new }
 {
-    let _links = links.len();
     let mut changed = false;
     for node in 0..labels.len() {
         let label = labels[labels[node] as usize];

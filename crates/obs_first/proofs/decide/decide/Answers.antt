@@ -29,7 +29,7 @@ returns-then-take_branch-clause-decided g c =
     let meters = c.requires.stands.meters in
     let m = c.requires.m in
     let same = ap length is in
-    Decided-taken c.args.g.now c.args.ms.now.touches c.args.a.now c.args.m c.args.rank c.requires.decided c.length.ensures.whole c.requires.stands b c.take_branch.ensures.whole
+    Decided-taken c.args.g.now c.args.ms.now.touches c.args.a.now c.args.m c.args.rank c.requires.decided c.requires.whole c.requires.stands b c.take_branch.ensures.whole
     c.take_branch.ensures.stands (KeepsFrozen-on c.args.a.now l.a b t.frozen t.keeps c.take_branch.ensures.keeps) taken.long_enough (get_or xs l.e-index 0) taken.has
     l.e-index 0 (omega arith) (ap (λ ys. get_or ys l.e-index 0) is) t.refused (omega arith) (taken.frozen ∙ ap (λ (f : List Bool). set f c.args.m true) t.frozen)
 
@@ -78,7 +78,7 @@ returns-clause-decided g c =
     let a = c.args.a.now in
     let l = c.loop-e in
     let t = l.invariant.trying in
-    let w = c.length.ensures.whole in
+    let w = c.requires.whole in
     let s = c.requires.stands in
     let d = c.requires.decided in
     let xs = touch_at c.args.g.now.ends touches c.args.m in
@@ -86,13 +86,13 @@ returns-clause-decided g c =
     let all : take l.e-index xs ≡ xs = take_all l.e-index xs (omega arith) in
     let refused = subst (λ ys. AreRefused c.args.g.now touches a c.args.m c.args.rank ys) all t.refused in
     Decided-none c.args.g.now touches a c.args.m c.args.rank d w s l.a t.whole t.stands t.keeps
-    (enough_at_last c.args.g.now touches l.a c.args.m c.args.rank c.requires.m c.vertices.ensures.branches t.whole t.stands a w s d.length_is t.frozen t.keeps refused l.invariant.under_way) refused t.frozen
+    (enough_at_last c.args.g.now touches l.a c.args.m c.args.rank c.requires.m c.requires.branches t.whole t.stands a w s d.length_is t.frozen t.keeps refused l.invariant.under_way) refused t.frozen
 
 pub returns-then-taken-rank-clause-decided : goal.returns-then-taken-rank-clause-decided
 returns-then-taken-rank-clause-decided g c =
     let n = c.requires.taken in
     let more = c.if-taken-rank.true in
-    Decided-full c.args.g.now c.args.ms.now.touches c.args.a.now c.args.m c.args.rank c.requires.decided c.length.ensures.whole c.requires.stands (omega arith)
+    Decided-full c.args.g.now c.args.ms.now.touches c.args.a.now c.args.m c.args.rank c.requires.decided c.requires.whole c.requires.stands (omega arith)
 
 pub returns-then-take_branch-clause-taken : goal.returns-then-take_branch-clause-taken
 returns-then-take_branch-clause-taken g c =
@@ -101,7 +101,7 @@ returns-then-take_branch-clause-taken g c =
     let t = l.invariant.trying in
     let b = c.take_branch.new.a in
     let taken = c.if-take_branch.ensures.taken in
-    let flags = c.length.ensures.whole.paired.flags in
+    let flags = c.requires.whole.paired.flags in
     let meters = c.requires.stands.meters in
     let m = c.requires.m in
     let more = count_taken a b c.args.m (get_or c.touch-e-items.result.now l.e-index 0) (omega arith) (next_thawed c.args.g.now c.args.ms.now.touches a c.args.m c.args.rank c.requires.decided) taken.has
@@ -172,3 +172,9 @@ returns-clause-noted g c = c.loop-e.invariant.noted
 
 pub returns-clause-copied : goal.returns-clause-copied
 returns-clause-copied g c = c.loop-e.invariant.copied
+
+pub take_branch-requires-clause-branches : goal.take_branch-requires-clause-branches
+take_branch-requires-clause-branches g c = c.requires.branches
+
+pub take_branch-requires-clause-whole : goal.take_branch-requires-clause-whole
+take_branch-requires-clause-whole g c = c.loop-e.invariant.trying.whole

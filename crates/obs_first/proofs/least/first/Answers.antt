@@ -108,3 +108,9 @@ returns-clause-same_room g c =
 
 pub returns-clause-same_sizes : goal.returns-clause-same_sizes
 returns-clause-same_sizes g c = c.loop-m.invariant.same_sizes
+
+pub decide-taken-requires-clause-branches : goal.decide-taken-requires-clause-branches
+decide-taken-requires-clause-branches g c = c.vertices.ensures.branches
+
+pub decide-taken-requires-clause-whole : goal.decide-taken-requires-clause-whole
+decide-taken-requires-clause-whole g c = c.loop-m.invariant.whole

@@ -1,6 +1,6 @@
 use Rattle.std.proofs.Common.{◌≡◌, ◌∙◌, false, ap, sym, subst, arith}
 use Rattle.std.specs.Prelude.{MatchBool}
-use Rattle.obs_assign.specs.Assignment.{Assignment, HasRoomOf, StandsOver, branch_at, is_frozen}
+use Rattle.obs_assign.specs.Assignment.{Assignment, HasRoomOf, IsWhole, StandsOver, branch_at, is_frozen}
 use Rattle.obs_exchange.specs.declared.Sources.TheVariants.{All}
 use Rattle.obs_exchange.specs.Noting.{AreNoted}
 use Rattle.obs_exchange.proofs.Lengthening.{room_again, rooms}
@@ -18,7 +18,7 @@ pub returns-then-not-may_pin-clause-way : goal.returns-then-not-may_pin-clause-w
 returns-then-not-may_pin-clause-way g c =
     let ends = c.args.g.now.ends in
     let touches = c.args.ms.now.touches in
-    let r = HasRefused-joined c.args.g.now touches c.vertices.ensures.branches c.args.a.now c.args.m c.args.e c.requires.thawed c.args.rank (λ p. cc (c.may_pin.ensures.may.1 p)) in
+    let r = HasRefused-joined c.args.g.now touches c.requires.branches c.args.a.now c.args.m c.args.e c.requires.thawed c.args.rank (λ p. cc (c.may_pin.ensures.may.1 p)) in
     subst (λ (d : Assignment). HasRefused ends touches c.args.a.now d c.args.m c.args.e c.args.rank × IsUnderWay ends touches d c.args.m c.args.rank) (sym c.may_pin.ensures.same) (r, c.requires.under_way)
 
 pub returns-else-set_aside-clause-way : goal.returns-else-set_aside-clause-way
@@ -28,7 +28,7 @@ returns-else-set_aside-clause-way g c =
     let s = c.set_aside.ensures in
     let r = c.reaches.ensures in
     let new = c.reaches.new.a in
-    let w = way_or_refused c.args.g.now touches c.vertices.ensures.branches c.may_pin.new.self c.set_aside.new.a new c.args.m c.args.e c.args.rank c.requires.m c.requires.touched
+    let w = way_or_refused c.args.g.now touches c.requires.branches c.may_pin.new.self c.set_aside.new.a new c.args.m c.args.e c.args.rank c.requires.m c.requires.touched
     s.whole s.stands c.if-set_aside.ensures.aside s.frozen s.keeps c.reaches.result r.same r.reached in
     subst (λ (d : Assignment). MatchBool c.reaches.result (AreEnoughFor new c.args.m c.args.e c.args.rank) (HasRefused ends touches d new c.args.m c.args.e c.args.rank × IsUnderWay ends touches new c.args.m c.args.rank))
     c.may_pin.ensures.same w
@@ -131,3 +131,6 @@ returns-then-not-may_pin-clause-stands g c = subst (λ (d : Assignment). StandsO
 
 pub returns-then-not-may_pin-clause-noted : goal.returns-then-not-may_pin-clause-noted
 returns-then-not-may_pin-clause-noted g c = subst (λ (d : Assignment). AreNoted c.args.g.now.ends c.args.ms.now.touches All d c.args.work.now.noted) (sym c.may_pin.ensures.same) c.requires.noted
+
+pub returns-then-not-may_pin-clause-whole : goal.returns-then-not-may_pin-clause-whole
+returns-then-not-may_pin-clause-whole g c = subst (λ (d : Assignment). IsWhole d) (sym c.may_pin.ensures.same) c.requires.whole

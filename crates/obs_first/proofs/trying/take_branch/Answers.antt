@@ -25,7 +25,7 @@ returns-in_default-clause-taken g c =
     let a = c.args.a.now in
     let b = c.makes_way.new.a in
     let w = c.makes_way.ensures in
-    let r = HasRefused-joined c.args.g.now touches c.vertices.ensures.branches b c.args.m c.args.e (frozen_same a b w.frozen c.args.m ∙ c.requires.thawed) c.args.rank
+    let r = HasRefused-joined c.args.g.now touches c.requires.branches b c.args.m c.args.e (frozen_same a b w.frozen c.args.m ∙ c.requires.thawed) c.args.rank
     (λ p. cc (c.in_default.ensures.may.1 p)) in
     subst (λ (d : Assignment). HasRefused ends touches a d c.args.m c.args.e c.args.rank × IsUnderWay ends touches d c.args.m c.args.rank) (sym c.spare.ensures.same) (
       HasRefused-kept ends touches a b c.args.m c.args.e c.args.rank w.frozen w.keeps r,
@@ -47,7 +47,7 @@ returns-clause-taken g c =
     record {
       has = pin_taken s ends m c.args.e c.in-Some.x c.pin_for.new.self.slots p low;
       frozen = c.pin_for.ensures.frozen ∙ (ap (λ (d : Assignment). set d.frozen m true) c.spare.ensures.same ∙ ap (λ f. set f m true) w.frozen);
-      long_enough = pinned_long c.args.g.now touches s c.pin_for.new.self c.vertices.ensures.branches
+      long_enough = pinned_long c.args.g.now touches s c.pin_for.new.self c.requires.branches
           (subst (λ (d : Assignment). IsWhole d) same w.whole) (subst (λ (d : Assignment). StandsOver d c.args.g.now touches) same w.stands) m c.args.e c.in-Some.x c.args.rank low c.requires.touched
           (subst (λ (d : Assignment). is_frozen d m ≡ false) same (frozen_same a b w.frozen m ∙ c.requires.thawed))
           (subst (λ (d : Assignment). IsSpare ends d.slots d.frozen m c.args.e c.in-Some.x) same c.in-Some.ensures.spare)
@@ -203,3 +203,9 @@ returns-clause-same_sizes g c = ap (λ (v : Work). v.sizes) c.note-2.ensures.not
 
 pub returns-clause-copied : goal.returns-clause-copied
 returns-clause-copied g c = ap (λ (v : Work). v.touches) c.note-2.ensures.noted ∙ (ap (λ (v : Work). v.touches) c.note.ensures.noted ∙ c.makes_way.ensures.copied)
+
+pub makes_way-requires-clause-branches : goal.makes_way-requires-clause-branches
+makes_way-requires-clause-branches g c = c.requires.branches
+
+pub makes_way-requires-clause-whole : goal.makes_way-requires-clause-whole
+makes_way-requires-clause-whole g c = c.requires.whole

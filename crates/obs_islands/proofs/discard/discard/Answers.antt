@@ -8,3 +8,6 @@ returns-clause-gives_up c =
     let test = is_crossing ends c.args.firsts.now in
     c.follow.ensures.gives_up test
     (GivesUp-lowest ends c.args.used.now.touches c.args.pairs.now test c.limit.result c.mark_crossed.new.lowest c.mark_crossed.ensures.lowest c.limit.ensures.above)
+
+pub follow-requires-clause-few : goal.follow-requires-clause-few
+follow-requires-clause-few c = c.requires.few

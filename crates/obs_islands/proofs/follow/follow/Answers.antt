@@ -13,7 +13,7 @@ loop-head-init c = record {
 pub offset_bounds-queue-head : goal.offset_bounds-queue-head
 offset_bounds-queue-head c =
     let low = tail_low (length c.args.g.now.ends) c.loop-head.lowest c.loop-head.queue c.loop-head.tail c.loop-head.invariant.queue in
-    omega (arith, low, c.loop-head-test.true, c.loop-head.auto.lowest, c.requires.lowest, c.vertices.ensures.value, c.vertices.type_inv)
+    omega (arith, low, c.loop-head-test.true, c.loop-head.auto.lowest, c.requires.lowest, c.requires.few)
 
 pub bounds-queue-head : goal.bounds-queue-head
 bounds-queue-head c =

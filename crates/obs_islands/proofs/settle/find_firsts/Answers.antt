@@ -1,3 +1,4 @@
+use Rattle.std.proofs.Common.{◌<◌, ◌^◌, ℕ, subst}
 use Rattle.obs_islands.proofs.settle.find_firsts.Goals as goal
 
 pub settle-requires-clause-stands : goal.settle-requires-clause-stands
@@ -29,3 +30,9 @@ returns-clause-same_room g c = c.settle.ensures.same_room
 
 pub returns-clause-same_sizes : goal.returns-clause-same_sizes
 returns-clause-same_sizes g c = c.settle.ensures.same_sizes
+
+pub settle-requires-clause-branches : goal.settle-requires-clause-branches
+settle-requires-clause-branches g c = c.vertices-n.ensures.branches
+
+pub settle-requires-clause-few : goal.settle-requires-clause-few
+settle-requires-clause-few g c = subst (λ (k : ℕ). k < 2 ^ 32) c.vertices-n.ensures.value c.vertices-n.type_inv

@@ -11,15 +11,15 @@ returns-clause-closed g c =
     let b = c.lengthen.new.a in
     let flags = c.lengthen.new.work.reached in
     let e = c.lengthen.ensures in
-    let ok = c.vertices.ensures.branches in
-    let low : shape.vertices ≤ 4294967295 = omega (arith, c.vertices.ensures.value, c.vertices.type_inv) in
+    let ok = c.requires.branches in
+    let low : shape.vertices ≤ 4294967295 = omega (arith, c.requires.few) in
     closed_set shape us b flags ok e.whole e.stands (closed_at_last shape us b flags c.lengthen.result.closed ok e.whole e.stands low e.ended)
 
 pub name_pieces-requires-clause-one_each : goal.name_pieces-requires-clause-one_each
 name_pieces-requires-clause-one_each g c = c.requires.firsts ∙ (c.lengthen.ensures.stands.forest.vertices ∙ sym (ap (λ (f : Forest). f.vertices) c.forest.ensures.forest))
 
 pub name_pieces-requires-clause-few : goal.name_pieces-requires-clause-few
-name_pieces-requires-clause-few g c = subst (λ (n : ℕ). n < 2 ^ 32) (c.vertices.ensures.value ∙ sym c.requires.firsts) c.vertices.type_inv
+name_pieces-requires-clause-few g c = subst (λ (n : ℕ). n < 2 ^ 32) (sym c.requires.firsts) c.requires.few
 
 pub discard-requires-clause-stands : goal.discard-requires-clause-stands
 discard-requires-clause-stands g c = c.lengthen.ensures.stands
@@ -60,3 +60,6 @@ returns-clause-same_room g c = c.lengthen.ensures.same_room
 
 pub returns-clause-same_sizes : goal.returns-clause-same_sizes
 returns-clause-same_sizes g c = c.lengthen.ensures.same_sizes
+
+pub discard-requires-clause-few : goal.discard-requires-clause-few
+discard-requires-clause-few g c = c.requires.few

@@ -75,3 +75,9 @@ returns-clause-same_room g c = rooms c.args.pairs.now c.loop-pairs.pairs c.round
 
 pub returns-clause-same_sizes : goal.returns-clause-same_sizes
 returns-clause-same_sizes g c = c.round.ensures.same_sizes ∙ c.loop-pairs.invariant.settling.same_sizes
+
+pub round-requires-clause-branches : goal.round-requires-clause-branches
+round-requires-clause-branches g c = c.requires.branches
+
+pub round-requires-clause-few : goal.round-requires-clause-few
+round-requires-clause-few g c = c.requires.few

@@ -18,7 +18,7 @@ use Rattle.obs_outage.proofs.bridges.beside_entry.Goals as goal
 pub count_lost-here-requires-clause-few : goal.count_lost-here-requires-clause-few
 count_lost-here-requires-clause-few c =
     let t = c.args.case.now in
-    let v = c.nodes-nodes.ensures.valid in
+    let v = c.requires.valid in
     let u = c.requires.unfed in
     omega (arith, few_buses t v c.args.e u.0 c.args.side.now u.1, case_bus_count-le t, few_nodes t v)
 
@@ -27,12 +27,12 @@ count_lost-here-requires-clause-few_branches c =
     let t = c.args.case.now in
     let same = ap (λ (x : Graph). length x.ends) c.graph.ensures.graph in
     let net = ap (λ (x : Network). length x.graph.ends) c.requires.network in
-    omega (arith, few_positions t c.nodes-nodes.ensures.valid, same, net)
+    omega (arith, few_positions t c.requires.valid, same, net)
 
 pub count_lost-here-requires-clause-buses : goal.count_lost-here-requires-clause-buses
 count_lost-here-requires-clause-buses c =
     let t = c.args.case.now in
-    let v = c.nodes-nodes.ensures.valid in
+    let v = c.requires.valid in
     let u = c.requires.unfed in
     let same = ap (λ (x : Graph). x.vertices) c.graph.ensures.graph in
     let net = ap (λ (x : Network). x.graph.vertices) c.requires.network in
@@ -71,7 +71,7 @@ pairs_of_component-requires c =
 pub overflow_add-left : goal.overflow_add-left
 overflow_add-left c =
     let t = c.args.case.now in
-    let v = c.nodes-nodes.ensures.valid in
+    let v = c.requires.valid in
     let a = c.args.pairs.now in
     let h = c.requires.longest in
     let k = c.in_ok-c.c in
@@ -93,7 +93,7 @@ overflow_add-left c =
 pub overflow_sub-left : goal.overflow_sub-left
 overflow_sub-left c =
     let t = c.args.case.now in
-    let v = c.nodes-nodes.ensures.valid in
+    let v = c.requires.valid in
     let a = c.args.pairs.now in
     let h = c.requires.longest in
     let k = c.in_ok-c.c in
@@ -115,7 +115,7 @@ overflow_sub-left c =
 pub overflow_sub-left-2 : goal.overflow_sub-left-2
 overflow_sub-left-2 c =
     let t = c.args.case.now in
-    let v = c.nodes-nodes.ensures.valid in
+    let v = c.requires.valid in
     let a = c.args.pairs.now in
     let h = c.requires.longest in
     let k = c.in_ok-c.c in
@@ -137,7 +137,7 @@ overflow_sub-left-2 c =
 pub overflow_cast-result : goal.overflow_cast-result
 overflow_cast-result c =
     let t = c.args.case.now in
-    let v = c.nodes-nodes.ensures.valid in
+    let v = c.requires.valid in
     let a = c.args.pairs.now in
     let h = c.requires.longest in
     let k = c.in_ok-c.c in
@@ -159,7 +159,7 @@ overflow_cast-result c =
 pub returns : goal.returns
 returns c =
     let t = c.args.case.now in
-    let v = c.nodes-nodes.ensures.valid in
+    let v = c.requires.valid in
     let a = c.args.pairs.now in
     let h = c.requires.longest in
     let k = c.in_ok-c.c in

@@ -19,7 +19,7 @@ component_of_branch-requires c =
 pub sources_of-here-requires-clause-few : goal.sources_of-here-requires-clause-few
 sources_of-here-requires-clause-few c =
     let t = c.args.case.now in
-    let v = c.nodes-nodes.ensures.valid in
+    let v = c.requires.valid in
     let e = c.args.e in
     let side = c.args.side.now in
     let k = c.in_ok-c.c in
@@ -29,7 +29,7 @@ sources_of-here-requires-clause-few c =
 pub sources_of-here-requires-clause-buses : goal.sources_of-here-requires-clause-buses
 sources_of-here-requires-clause-buses c =
     let t = c.args.case.now in
-    let v = c.nodes-nodes.ensures.valid in
+    let v = c.requires.valid in
     let e = c.args.e in
     let side = c.args.side.now in
     let k = c.in_ok-c.c in
@@ -41,7 +41,7 @@ sources_of-here-requires-clause-buses c =
 pub of_component-requires : goal.of_component-requires
 of_component-requires c =
     let t = c.args.case.now in
-    let v = c.nodes-nodes.ensures.valid in
+    let v = c.requires.valid in
     let e = c.args.e in
     let side = c.args.side.now in
     let k = c.in_ok-c.c in
@@ -52,7 +52,7 @@ of_component-requires c =
 pub overflow_cast-side : goal.overflow_cast-side
 overflow_cast-side c =
     let t = c.args.case.now in
-    let v = c.nodes-nodes.ensures.valid in
+    let v = c.requires.valid in
     let e = c.args.e in
     let side = c.args.side.now in
     let k = c.in_ok-c.c in
@@ -62,7 +62,7 @@ overflow_cast-side c =
 pub fall-less-requires : goal.fall-less-requires
 fall-less-requires c =
     let t = c.args.case.now in
-    let v = c.nodes-nodes.ensures.valid in
+    let v = c.requires.valid in
     let e = c.args.e in
     let side = c.args.side.now in
     let k = c.in_ok-c.c in
@@ -73,7 +73,7 @@ fall-less-requires c =
 pub returns : goal.returns
 returns c =
     let t = c.args.case.now in
-    let v = c.nodes-nodes.ensures.valid in
+    let v = c.requires.valid in
     let e = c.args.e in
     let side = c.args.side.now in
     let k = c.in_ok-c.c in
@@ -87,3 +87,18 @@ returns c =
       unfed = λ is. (k, p, no_source t v e k side p c.args.feeds.now c.requires.feeds (sym sum ∙ eqb-true c.sources_of-here.result 0 is));
       beside = λ is. (k, p, none_beside t v e k side p c.args.feeds.now c.requires.feeds (sym sum ∙ eqb-true c.sources_of-here.result c.from-sources.result is ∙ fed));
     }
+
+pub absolute-requires : goal.absolute-requires
+absolute-requires c = record { component = c.in_ok-c.ensures.below }
+
+pub size-requires : goal.size-requires
+size-requires c = record { component = c.in_ok-c.ensures.below }
+
+pub returns-then-absolute-clause-fall : goal.returns-then-absolute-clause-fall
+returns-then-absolute-clause-fall c = tt
+
+pub returns-then-absolute-clause-unfed : goal.returns-then-absolute-clause-unfed
+returns-then-absolute-clause-unfed c = tt
+
+pub returns-then-absolute-clause-beside : goal.returns-then-absolute-clause-beside
+returns-then-absolute-clause-beside c = tt

@@ -14,7 +14,7 @@ returns-then-length-before c =
     let before = c.needed-before.ensures.needed ∙ ap (λ (x : Network). x.needed) c.requires.network in
     let full = sym c.length.ensures.length ∙ c.if-length-before.true ∙ before in
     let less = ap (λ n. n - k) before in
-    record { entry = observable_entry t c.nodes-nodes.ensures.valid c.args.e k c.in_ok-fall.ensures.fall c.args.pairs.now c.requires.longest full _ refl less less }
+    record { entry = observable_entry t c.requires.valid c.args.e k c.in_ok-fall.ensures.fall c.args.pairs.now c.requires.longest full _ refl less less }
 
 pub is_confined-requires-clause-branch : goal.is_confined-requires-clause-branch
 is_confined-requires-clause-branch c =
@@ -86,7 +86,7 @@ returns-then-fall-eq1 c =
     let needed : c.needed-before.result - c.in_ok-fall.fall ≡ case_needed (outage_case t e) = let f = fall.needed in omega (arith, before, f) in
     record {
       entry = if_some c.known_entry.result (λ o told.
-          known_is t c.nodes-nodes.ensures.valid e (fall.alone c.if-fall-eq1.true) (row_low t e c.requires.row) c.args.pairs.now c.requires.longest c.args.network.now c.requires.network
+          known_is t c.requires.valid e (fall.alone c.if-fall-eq1.true) (row_low t e c.requires.row) c.args.pairs.now c.requires.longest c.args.network.now c.requires.network
           c.args.spared.now c.requires.spared c.requires.costly (c.needed-before.result - c.in_ok-fall.fall) needed o told) c.known_entry.ensures.entry;
     }
 
@@ -137,3 +137,27 @@ beside_entry-requires-clause-unfed c = c.in_ok-fall.ensures.beside c.if-beside.t
 
 pub beside_entry-requires-clause-confined : goal.beside_entry-requires-clause-confined
 beside_entry-requires-clause-confined c = c.is_confined_beside.ensures.confined c.if-is_confined_beside.true
+
+pub fall_without-requires-clause-valid : goal.fall_without-requires-clause-valid
+fall_without-requires-clause-valid c = c.requires.valid
+
+pub unfed_entry-requires-clause-valid : goal.unfed_entry-requires-clause-valid
+unfed_entry-requires-clause-valid c = c.requires.valid
+
+pub beside_entry-requires-clause-valid : goal.beside_entry-requires-clause-valid
+beside_entry-requires-clause-valid c = c.requires.valid
+
+pub unfed_entry-requires-clause-needed : goal.unfed_entry-requires-clause-needed
+unfed_entry-requires-clause-needed c = let before = c.needed-before.ensures.needed ∙ ap (λ (x : Network). x.needed) c.requires.network in let f = c.in_ok-fall.ensures.fall.needed in omega (arith, before, f)
+
+pub beside_entry-requires-clause-needed : goal.beside_entry-requires-clause-needed
+beside_entry-requires-clause-needed c = let before = c.needed-before.ensures.needed ∙ ap (λ (x : Network). x.needed) c.requires.network in let f = c.in_ok-fall.ensures.fall.needed in omega (arith, before, f)
+
+pub returns-then-is_confined : goal.returns-then-is_confined
+returns-then-is_confined c = record { entry = c.unfed_entry.ensures.entry }
+
+pub returns-then-is_confined_beside : goal.returns-then-is_confined_beside
+returns-then-is_confined_beside c = record { entry = c.beside_entry.ensures.entry }
+
+pub returns : goal.returns
+returns c = record { entry = tt }

@@ -11,7 +11,7 @@ use Rattle.obs_outage.proofs.bridges.unfed_entry.Goals as goal
 pub count_lost-lost-requires-clause-few : goal.count_lost-lost-requires-clause-few
 count_lost-lost-requires-clause-few c =
     let t = c.args.case.now in
-    let v = c.nodes-nodes.ensures.valid in
+    let v = c.requires.valid in
     let u = c.requires.unfed in
     omega (arith, few_buses t v c.args.e u.0 c.args.side.now u.1, case_bus_count-le t, few_nodes t v)
 
@@ -20,12 +20,12 @@ count_lost-lost-requires-clause-few_branches c =
     let t = c.args.case.now in
     let same = ap (λ (x : Graph). length x.ends) c.graph.ensures.graph in
     let net = ap (λ (x : Network). length x.graph.ends) c.requires.network in
-    omega (arith, few_positions t c.nodes-nodes.ensures.valid, same, net)
+    omega (arith, few_positions t c.requires.valid, same, net)
 
 pub count_lost-lost-requires-clause-buses : goal.count_lost-lost-requires-clause-buses
 count_lost-lost-requires-clause-buses c =
     let t = c.args.case.now in
-    let v = c.nodes-nodes.ensures.valid in
+    let v = c.requires.valid in
     let u = c.requires.unfed in
     let same = ap (λ (x : Graph). x.vertices) c.graph.ensures.graph in
     let net = ap (λ (x : Network). x.graph.vertices) c.requires.network in
@@ -34,7 +34,7 @@ count_lost-lost-requires-clause-buses c =
 pub overflow_cast-lost : goal.overflow_cast-lost
 overflow_cast-lost c =
     let t = c.args.case.now in
-    let v = c.nodes-nodes.ensures.valid in
+    let v = c.requires.valid in
     let a = c.args.pairs.now in
     let h = c.requires.longest in
     let ends : c.graph.result.now.ends ≡ case_branches t = ap (λ (x : Graph). x.ends) c.graph.ensures.graph ∙ ap (λ (x : Network). x.graph.ends) c.requires.network in
@@ -45,7 +45,7 @@ overflow_cast-lost c =
 pub overflow_sub-result : goal.overflow_sub-result
 overflow_sub-result c =
     let t = c.args.case.now in
-    let v = c.nodes-nodes.ensures.valid in
+    let v = c.requires.valid in
     let a = c.args.pairs.now in
     let h = c.requires.longest in
     let ends : c.graph.result.now.ends ≡ case_branches t = ap (λ (x : Graph). x.ends) c.graph.ensures.graph ∙ ap (λ (x : Network). x.graph.ends) c.requires.network in
@@ -57,7 +57,7 @@ overflow_sub-result c =
 pub returns : goal.returns
 returns c =
     let t = c.args.case.now in
-    let v = c.nodes-nodes.ensures.valid in
+    let v = c.requires.valid in
     let a = c.args.pairs.now in
     let h = c.requires.longest in
     let ends : c.graph.result.now.ends ≡ case_branches t = ap (λ (x : Graph). x.ends) c.graph.ensures.graph ∙ ap (λ (x : Network). x.graph.ends) c.requires.network in

@@ -4,7 +4,7 @@ use Rattle.obs_graph.specs.declared.Ends.{Ends}
 use Rattle.obs_graph.specs.Graph.{Graph}
 use Rattle.obs_case.specs.declared.rows.Branch.{Branch}
 use Rattle.obs_network.specs.Network.{Network, case_branches, case_rows}
-use Rattle.obs_network.proofs.OfCase.{case_vertex_count-le, length-case_branches}
+use Rattle.obs_network.proofs.OfCase.{case_vertex_count-le, few_branches, length-case_branches}
 use Rattle.obs_network.specs.Parted.{AreJoinedWithout, IsSide}
 use Rattle.obs_outage.proofs.Crossed.{held_falls}
 use Rattle.obs_outage.proofs.Joined.{joined_is, rows_first, same_by_walk}
@@ -71,7 +71,7 @@ returns-in-Some-clause-entry g c =
     let ends : c.graph.result.now.ends ≡ case_branches t =
     ap (λ (x : Graph). x.ends) c.graph.ensures.graph ∙ ap (λ (x : Network). x.graph.ends) c.requires.network in
     let joined = subst (λ (xs : List (Option Ends)). AreJoinedWithout (take (length c.branches.result.now) xs) e) ends (c.walk-joined.ensures.joined c.if-joined.true) in
-    joined_is t c.nodes-nodes.ensures.valid e c.requires.row (length c.branches.result.now) rows joined c.args.kept.now.network c.requires.network c.args.kept.now.pairs c.requires.longest
+    joined_is t c.branches.ensures.valid e c.requires.row (length c.branches.result.now) rows joined c.args.kept.now.network c.requires.network c.args.kept.now.pairs c.requires.longest
     c.args.spared.now c.requires.spared c.requires.costly c.needed-needed.result c.needed-needed.ensures.needed c.in-Some.entry c.in-Some.ensures.entry
 
 pub meter_of-requires : goal.meter_of-requires
@@ -88,11 +88,11 @@ joined_outage-requires-clause-same g c =
     let ends : c.graph.result.now.ends ≡ case_branches t =
     ap (λ (x : Graph). x.ends) c.graph.ensures.graph ∙ ap (λ (x : Network). x.graph.ends) c.requires.network in
     let joined = subst (λ (xs : List (Option Ends)). AreJoinedWithout (take (length c.branches.result.now) xs) c.args.e) ends (c.walk-joined.ensures.joined c.if-joined.true) in
-    same_by_walk t c.nodes-nodes.ensures.valid c.args.e c.requires.row (length c.branches.result.now) rows joined
+    same_by_walk t c.branches.ensures.valid c.args.e c.requires.row (length c.branches.result.now) rows joined
 
 pub returns-in-Some-meter_of-clause-quiet : goal.returns-in-Some-meter_of-clause-quiet
 returns-in-Some-meter_of-clause-quiet g c = λ all.
-    absurd (held_falls c.args.case.now c.nodes-nodes.ensures.valid c.args.kept.now.pairs c.in-Some-meter_of.m c.args.e c.requires.row c.in-Some-meter_of.ensures.meter all)
+    absurd (held_falls c.args.case.now c.branches.ensures.valid c.args.kept.now.pairs c.in-Some-meter_of.m c.args.e c.requires.row c.in-Some-meter_of.ensures.meter all)
 
 pub parted_entry-requires-clause-side : goal.parted_entry-requires-clause-side
 parted_entry-requires-clause-side g c =
@@ -250,3 +250,15 @@ returns-in-Some-parted_entry-clause-quiet g c = λ _. (refl, refl)
 
 pub returns-in-Some-clause-quiet : goal.returns-in-Some-clause-quiet
 returns-in-Some-clause-quiet g c = λ _. (refl, refl)
+
+pub parted_entry-requires-clause-valid : goal.parted_entry-requires-clause-valid
+parted_entry-requires-clause-valid g c = c.branches.ensures.valid
+
+pub joined_outage-requires-clause-valid : goal.joined_outage-requires-clause-valid
+joined_outage-requires-clause-valid g c = c.branches.ensures.valid
+
+pub outage_at-requires-clause-valid : goal.outage_at-requires-clause-valid
+outage_at-requires-clause-valid g c = c.branches.ensures.valid
+
+pub overflow_cast-rows : goal.overflow_cast-rows
+overflow_cast-rows g c = omega (arith, ap (λ (xs : List Branch). length xs) c.branches.ensures.rows, few_branches c.args.case.now c.branches.ensures.valid)

@@ -11,5 +11,5 @@ count_pairs-requires-clause-one_each c =
 
 pub returns : goal.returns
 returns c = record {
-  counts = λ k l b other. counts_are c.args.case.now c.nodes-nodes.ensures.valid c.args.pairs.now c.requires.longest k b other c.args.network.now c.requires.network _ (c.count_pairs.ensures.counts k l);
+  counts = λ k l b other. counts_are c.args.case.now c.requires.valid c.args.pairs.now c.requires.longest k b other c.args.network.now c.requires.network _ (c.count_pairs.ensures.counts k l);
 }

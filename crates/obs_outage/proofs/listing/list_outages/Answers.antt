@@ -9,7 +9,7 @@ use Rattle.obs_outage.specs.Costly.{AreCostly}
 use Rattle.obs_outage.specs.Feeds.{AreFeeds}
 use Rattle.obs_outage.specs.Spared.{AreSpared}
 use Rattle.obs_outage.specs.Sparing.{HasFlags}
-use Rattle.obs_network.proofs.OfCase.{length-case_branches}
+use Rattle.obs_network.proofs.OfCase.{few_branches, length-case_branches}
 use Rattle.obs_outage.specs.Outages.{is_outage_row, outage_rows}
 use Rattle.obs_outage.proofs.Entries.{IsListing-listed, IsListing-over, all_listed, begun, row_in}
 use Rattle.obs_outage.proofs.listing.list_outages.Goals as goal
@@ -122,3 +122,16 @@ returns g c =
       other = inv.other;
       sides = inv.sides;
     }
+
+pub overflow_cast-rows : goal.overflow_cast-rows
+overflow_cast-rows g c = omega (arith, ap (λ (xs : List Branch). length xs) c.branches.ensures.rows, few_branches c.args.case.now c.branches.ensures.valid)
+
+pub bounds-entries-count : goal.bounds-entries-count
+bounds-entries-count g c =
+    let rows = ap (λ (xs : List Branch). length xs) c.branches.ensures.rows in
+    omega (arith, c.loop-e.invariant.bound, c.loop-e.invariant.long, c.loop-e-test.true, rows, c.requires.entries)
+
+pub overflow_add-count : goal.overflow_add-count
+overflow_add-count g c =
+    let rows = ap (λ (xs : List Branch). length xs) c.branches.ensures.rows in
+    omega (arith, c.loop-e.invariant.bound, c.loop-e-test.true, rows, few_branches c.args.case.now c.branches.ensures.valid)

@@ -8,7 +8,7 @@ use Rattle.obs_assign.specs.Assignment.{pairs as pairs_at}
 use Rattle.obs_assign.specs.Still.{still}
 use Rattle.obs_exchange.specs.Longest.{IsMost}
 use Rattle.obs_exchange.proofs.Lengthening.{rooms}
-use Rattle.obs_kept.proofs.OfNetwork.{fits_network, longest_network, room_network, room_stays}
+use Rattle.obs_kept.proofs.OfNetwork.{branches_network, fits_network, longest_network, room_network, room_stays}
 use Rattle.obs_outage.proofs.Carried.{quiet_by}
 use Rattle.obs_outage.proofs.long_way.carry.Goals as goal
 
@@ -62,7 +62,7 @@ returns-clause-quiet g c = λ forest long.
     let r = c.regrow.ensures in
     let gg = c.graph-g.ensures.graph in
     let mm = c.meters-ms.ensures.meters in
-    quiet_by graph meters.touches a b c.regrow.new.a c.regrow.result.searches c.args.most c.args.steps.now c.regrow.new.steps c.vertices.ensures.branches
+    quiet_by graph meters.touches a b c.regrow.new.a c.regrow.result.searches c.args.most c.args.steps.now c.regrow.new.steps (branches_network n c.args.case.now c.requires.network graph gg meters mm c.requires.valid)
     e.retained e.stands e.whole e.turns r.lengthened r.bound r.ticks
     (subst (λ (h : Graph). IsForestAt h.ends (branches (still h.ends meters.touches (pairs_at a)))) (sym gg)
     (subst (λ (i : Meters). IsForestAt n.graph.ends (branches (still n.graph.ends i.touches (pairs_at a)))) (sym mm) forest))

@@ -25,7 +25,7 @@ set_branch-requires g c = record { at = row_low c.args.case.now c.args.e c.requi
 pub refresh_branch-requires : goal.refresh_branch-requires
 refresh_branch-requires g c = record {
   branch = let low = row_low c.args.case.now c.args.e c.requires.row in
-      let many = as_many_rows c.args.case.now c.nodes-nodes.ensures.valid c.args.e in
+      let many = as_many_rows c.args.case.now c.requires.valid c.args.e in
       let same = ap (λ (x : Tables). length x.branches) c.set_branch.ensures.set in
       omega (arith, low, many, same);
   before = record { tables = c.args.case.now; inservice = false; network = c.requires.other ∙ c.requires.network; edited = c.set_branch.ensures.set };
@@ -40,19 +40,19 @@ rank_without-rank-requires-clause-same g c =
 pub rank_without-rank-requires-clause-meters : goal.rank_without-rank-requires-clause-meters
 rank_without-rank-requires-clause-meters g c =
     let out = c.refresh_branch.ensures.whole ∙ ap network_of c.set_branch.ensures.set in
-    ap (λ (x : Network). length x.meters.touches) out ∙ as_many_meters c.args.case.now c.nodes-nodes.ensures.valid c.args.e ∙ sym (ap (λ (x : Network). length x.meters.touches) c.requires.network)
+    ap (λ (x : Network). length x.meters.touches) out ∙ as_many_meters c.args.case.now c.requires.valid c.args.e ∙ sym (ap (λ (x : Network). length x.meters.touches) c.requires.network)
 
 pub rank_without-rank-requires-clause-gone : goal.rank_without-rank-requires-clause-gone
 rank_without-rank-requires-clause-gone g c =
     let out = c.refresh_branch.ensures.whole ∙ ap network_of c.set_branch.ensures.set in
-    ap (λ (x : Network). get_or x.graph.ends c.args.e None) out ∙ gone_out c.args.case.now c.nodes-nodes.ensures.valid c.args.e c.requires.row
+    ap (λ (x : Network). get_or x.graph.ends c.args.e None) out ∙ gone_out c.args.case.now c.requires.valid c.args.e c.requires.row
 
 pub rank_without-rank-requires-clause-longest : goal.rank_without-rank-requires-clause-longest
 rank_without-rank-requires-clause-longest g c = subst (λ (x : Network). AreLongestOver x c.args.pairs.now) (sym c.requires.network) c.requires.longest
 
 pub rank_without-rank-requires-clause-most : goal.rank_without-rank-requires-clause-most
 rank_without-rank-requires-clause-most g c =
-    most_at_out c.args.case.now c.nodes-nodes.ensures.valid c.args.e c.args.pairs.now c.requires.longest c.args.network.now c.requires.network
+    most_at_out c.args.case.now c.requires.valid c.args.e c.args.pairs.now c.requires.longest c.args.network.now c.requires.network
     c.refresh_branch.new.self (c.refresh_branch.ensures.whole ∙ ap network_of c.set_branch.ensures.set) (length (pairs_at c.args.pairs.now)) refl
 
 pub rank_without-rank-requires-clause-room : goal.rank_without-rank-requires-clause-room
@@ -65,19 +65,19 @@ rank_without-rank-requires-clause-room_there g c =
     let n1 = c.refresh_branch.new.self in
     let out = c.refresh_branch.ensures.whole ∙ ap network_of c.set_branch.ensures.set in
     room_network n1 (outage_case t c.args.e) out n1.graph refl n1.meters refl c.args.pairs.now c.args.work.now
-    (has_room_out t c.nodes-nodes.ensures.valid c.args.e c.args.pairs.now c.requires.longest c.args.network.now c.requires.network n1 out c.args.work.now c.requires.room)
+    (has_room_out t c.requires.valid c.args.e c.args.pairs.now c.requires.longest c.args.network.now c.requires.network n1 out c.args.work.now c.requires.room)
 
 pub set_branch-requires-2 : goal.set_branch-requires-2
 set_branch-requires-2 g c =
     let low = row_low c.args.case.now c.args.e c.requires.row in
-    let many = as_many_rows c.args.case.now c.nodes-nodes.ensures.valid c.args.e in
+    let many = as_many_rows c.args.case.now c.requires.valid c.args.e in
     let same = ap (λ (x : Tables). length x.branches) c.set_branch.ensures.set in
     record { at = omega (arith, low, many, same) }
 
 pub refresh_branch-requires-2 : goal.refresh_branch-requires-2
 refresh_branch-requires-2 g c = record {
   branch = let low = row_low c.args.case.now c.args.e c.requires.row in
-      let many = as_many_rows c.args.case.now c.nodes-nodes.ensures.valid c.args.e in
+      let many = as_many_rows c.args.case.now c.requires.valid c.args.e in
       let same = ap (λ (x : Tables). length x.branches) c.set_branch.ensures.set in
       let again = length-changed (λ (row : Branch). record row { inservice = true }) c.set_branch.new.self.branches c.args.e in
       let back = ap (λ (x : Tables). length x.branches) c.set_branch-2.ensures.set in
@@ -90,7 +90,7 @@ returns-clause-entry g c =
     let t = c.args.case.now in
     let e = c.args.e in
     let out = c.refresh_branch.ensures.whole ∙ ap network_of c.set_branch.ensures.set in
-    let rank = rank_there t c.nodes-nodes.ensures.valid e c.rank_without-rank.result
+    let rank = rank_there t c.requires.valid e c.rank_without-rank.result
     (subst (λ (x : Network). IsRhoAt x.graph.ends x.meters.touches (live_items x.graph.ends x.meters.touches) c.rank_without-rank.result) out c.rank_without-rank.ensures.rank) in
     entry_by t e (record { branch = e; rank = c.rank_without-rank.result; needed = c.needed.result }) refl rank (c.needed.ensures.needed ∙ ap (λ (x : Network). x.needed) out)
 

@@ -8,7 +8,7 @@ use Rattle.obs_meter.specs.Touches.{live_items}
 use Rattle.obs_meter.proofs.Assigned.{every-to_live}
 use Rattle.obs_assign.proofs.Slotted.{slot_low}
 use Rattle.obs_exchange.proofs.Lengthening.{rooms}
-use Rattle.obs_outage.proofs.Crossed.{dropped_there, grown_here}
+use Rattle.obs_outage.proofs.Crossed.{dropped_there, grown_here, thawed_dropped}
 use Rattle.obs_outage.proofs.short_way.rank_without.Goals as goal
 
 pub drop_pair-requires : goal.drop_pair-requires
@@ -76,3 +76,6 @@ returns g c =
       same_room = rooms c.args.pairs.now c.grow.new.pairs c.grow-2.new.pairs dropped c.grow-2.ensures.same_room;
       same_sizes = c.grow-2.ensures.same_sizes ∙ c.grow.ensures.same_sizes;
     }
+
+pub grow-requires-clause-thawed : goal.grow-requires-clause-thawed
+grow-requires-clause-thawed g c = thawed_dropped c.args.pairs.now c.drop_pair.new.self c.args.m c.drop_pair.ensures.thawed c.requires.longest.thawed

@@ -1,14 +1,19 @@
-use Rattle.std.proofs.Common.{ℕ, List, [], ◌∷◌, length, sym, ap, ◌∙◌, subst}
+use Rattle.obs_exchange.specs.Critical.{critical_at}
+use Rattle.obs_meter.proofs.Live.{live_low}
+use Rattle.obs_matroid.proofs.Contained.{All-from_In}
+use Rattle.std.proofs.lemmas.Bool.{and_parts}
+use Rattle.std.specs.Prelude.{All as AllOf, not}
+use Rattle.std.proofs.Common.{ℕ, List, [], ◌∷◌, length, sym, ap, ◌∙◌, subst, ◌<◌, inl, inr}
 use Rattle.obs_meter.specs.declared.Touch.{Touch}
 use Rattle.obs_meter.specs.Lost.{is_listed, losing}
 use Rattle.obs_meter.specs.Sizes.{HasRoomFor}
-use Rattle.obs_meter.specs.Touches.{AreInRange}
+use Rattle.obs_meter.specs.Touches.{AreInRange, is_live}
 use Rattle.obs_meter.proofs.Lost.{in_range-losing, length-losing, room-losing}
-use Rattle.obs_assign.specs.Assignment.{Assignment}
+use Rattle.obs_assign.specs.Assignment.{Assignment, HasRoomOf, StandsOver}
 use Rattle.obs_exchange.specs.declared.Sources.TheVariants.{All}
 use Rattle.obs_exchange.specs.Found.{HasClosed}
 use Rattle.obs_exchange.specs.Longest.{IsLongest, IsMost}
-use Rattle.obs_exchange.proofs.Lengthening.{room_again}
+use Rattle.obs_exchange.proofs.Lengthening.{room_again, rooms}
 use Rattle.obs_exchange.proofs.Losing.{most-left, most-longest}
 use Rattle.obs_pairs.proofs.Unreached.{lacks_class, left_again, left_is, longest-without}
 use Rattle.obs_pairs.proofs.lacking.search_without.Goals as goal
@@ -57,7 +62,7 @@ returns-clause-longest g c =
     let h : IsLongest c.args.g.now (losing (is_listed (c.args.m ∷ [])) touches) c.regrow.new.a =
     subst (λ (t : List Touch). IsLongest c.args.g.now t c.regrow.new.a) (left_is c.args.left.now c.lose.new.left touches c.args.m c.requires.left c.lose.ensures.left) c.regrow.ensures.longest in
     subst (λ (a : Assignment). IsLongest c.args.g.now touches a) (sym c.close.ensures.same)
-    (longest-without c.args.g.now touches c.vertices.ensures.branches c.args.m c.requires.redundant c.args.a.now c.regrow.new.a c.requires.longest h)
+    (longest-without c.args.g.now touches c.requires.branches c.args.m c.requires.redundant c.args.a.now c.regrow.new.a c.requires.longest h)
 
 pub returns-clause-left : goal.returns-clause-left
 returns-clause-left g c =
@@ -81,4 +86,39 @@ returns-clause-lacks g c =
     (subst (λ (t : List Touch). IsLongest c.args.g.now t c.regrow.new.a) is c.regrow.ensures.longest) in
     let closed : HasClosed c.args.g.now.ends (losing (is_listed (c.args.m ∷ [])) touches) All a a c.close.new.work.reached =
     subst (λ (t : List Touch). HasClosed c.args.g.now.ends t All a a c.close.new.work.reached) is c.close.ensures.closed in
-    lacks_class c.args.g.now touches c.vertices.ensures.branches c.args.m c.requires.redundant a c.close.new.work.reached h closed
+    lacks_class c.args.g.now touches c.requires.branches c.args.m c.requires.redundant a c.close.new.work.reached h closed
+
+pub lose-requires-clause-stands : goal.lose-requires-clause-stands
+lose-requires-clause-stands g c = subst (λ (t : List Touch). StandsOver c.args.a.now c.args.g.now t) (sym c.requires.left) c.requires.longest.stands
+
+pub lose-requires-clause-thawed : goal.lose-requires-clause-thawed
+lose-requires-clause-thawed g c = c.requires.longest.thawed
+
+pub regrow-requires-clause-stands : goal.regrow-requires-clause-stands
+regrow-requires-clause-stands g c = c.lose.ensures.stands
+
+pub regrow-requires-clause-thawed : goal.regrow-requires-clause-thawed
+regrow-requires-clause-thawed g c = c.lose.ensures.thawed
+
+pub close-requires-clause-longest : goal.close-requires-clause-longest
+close-requires-clause-longest g c = c.regrow.ensures.longest
+
+pub returns-clause-same_room : goal.returns-clause-same_room
+returns-clause-same_room g c = subst (λ (a : Assignment). HasRoomOf c.args.a.now a) (sym c.close.ensures.same) (rooms c.args.a.now c.lose.new.a c.regrow.new.a c.lose.ensures.same_room c.regrow.ensures.same_room)
+
+pub returns-clause-same_sizes : goal.returns-clause-same_sizes
+returns-clause-same_sizes g c = c.close.ensures.same_sizes ∙ c.regrow.ensures.same_sizes
+
+pub regain-requires-clause-low : goal.regain-requires-clause-low
+regain-requires-clause-low g c =
+    let touches = c.args.ms.now.touches in
+    let live = (and_parts (is_live c.args.g.now.ends touches c.args.m) (not (critical_at c.args.g.now.vertices c.args.g.now.ends touches c.args.m)) c.requires.redundant).0 in
+    let low = live_low c.args.g.now.ends touches c.args.m live in
+    All-from_In (λ k. k < length touches) (c.args.m ∷ []) (λ k i. elim i [ inl same ↦ subst (λ (x : ℕ). x < length touches) (sym same) low | inr f ↦ absurd f ])
+
+pub lose-requires-clause-low : goal.lose-requires-clause-low
+lose-requires-clause-low g c =
+    let touches = c.args.ms.now.touches in
+    let live = (and_parts (is_live c.args.g.now.ends touches c.args.m) (not (critical_at c.args.g.now.vertices c.args.g.now.ends touches c.args.m)) c.requires.redundant).0 in
+    let low = live_low c.args.g.now.ends touches c.args.m live in
+    subst (λ (ts : List Touch). AllOf (λ k. k < length ts) (c.args.m ∷ [])) (sym c.requires.left) (All-from_In (λ k. k < length touches) (c.args.m ∷ []) (λ k i. elim i [ inl same ↦ subst (λ (x : ℕ). x < length touches) (sym same) low | inr f ↦ absurd f ]))

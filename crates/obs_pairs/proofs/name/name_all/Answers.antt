@@ -3,7 +3,7 @@ use Rattle.obs_pairs.proofs.Naming.{Named-all, Named-first, Named-none, Named-pu
 use Rattle.obs_pairs.proofs.name.name_all.Goals as goal
 
 pub loop-k-init : goal.loop-k-init
-loop-k-init c = Named-none c.args.g.now.vertices c.args.g.now.ends c.args.ms.now.touches c.vertices.ensures.branches c.args.list.now c.requires.keyed
+loop-k-init c = Named-none c.args.g.now.vertices c.args.g.now.ends c.args.ms.now.touches c.requires.branches c.args.list.now c.requires.keyed
 
 pub bounds-list-key : goal.bounds-list-key
 bounds-list-key c =
@@ -20,7 +20,7 @@ loop-k-preserved c =
     let touches = c.args.ms.now.touches in
     let n = c.args.g.now.vertices in
     let ends = c.args.g.now.ends in
-    let ok = c.vertices.ensures.branches in
+    let ok = c.requires.branches in
     Named-put n ends touches ok c.loop-k.list c.loop-k.k (omega (arith, e, l)) c.loop-k.invariant c.min-first.result
     (c.min-first.ensures ∙ Named-first n ends touches ok c.loop-k.list c.loop-k.k (omega (arith, e, l)) c.loop-k.invariant)
 
@@ -28,4 +28,4 @@ pub returns : goal.returns
 returns c =
     let e = c.count-k-end.ensures.count in
     let f = c.loop-k-test.false in
-    record { classes = Named-all c.args.g.now.vertices c.args.g.now.ends c.args.ms.now.touches c.vertices.ensures.branches c.loop-k.list c.loop-k.k (omega (arith, e, f)) c.loop-k.invariant }
+    record { classes = Named-all c.args.g.now.vertices c.args.g.now.ends c.args.ms.now.touches c.requires.branches c.loop-k.list c.loop-k.k (omega (arith, e, f)) c.loop-k.invariant }

@@ -1,11 +1,12 @@
-use Rattle.std.proofs.Common.{ℕ, length, sym, ap, ◌∙◌, subst}
+use Rattle.obs_meter.specs.declared.Touch.{Touch}
+use Rattle.std.proofs.Common.{ℕ, length, sym, ap, ◌∙◌, subst, List}
 use Rattle.obs_meter.specs.Held.{Meters}
 use Rattle.obs_meter.specs.Sizes.{HasRoomFor}
 use Rattle.obs_meter.specs.Touches.{AreInRange}
 use Rattle.obs_meter.proofs.Lost.{in_range-losing, length-losing, room-losing}
 use Rattle.obs_assign.specs.Assignment.{Fits, StandsOver, has_flag}
 use Rattle.obs_exchange.specs.Longest.{IsMost}
-use Rattle.obs_exchange.proofs.Lengthening.{room_again}
+use Rattle.obs_exchange.proofs.Lengthening.{room_again, rooms}
 use Rattle.obs_exchange.proofs.Losing.{most-left, most-longest, stands-all}
 use Rattle.obs_pairs.proofs.Halved.{fits_left, restored}
 use Rattle.obs_pairs.proofs.renew.renew.Goals as goal
@@ -52,3 +53,24 @@ pub restore-requires : goal.restore-requires
 restore-requires g c = record {
   count = ap (λ (m : Meters). length m.touches) c.lose_marked.ensures.left ∙ length-losing (has_flag c.args.waiting.now) c.args.ms.now.touches;
 }
+
+pub regrow-requires-clause-thawed : goal.regrow-requires-clause-thawed
+regrow-requires-clause-thawed g c = c.fill.ensures.longest.thawed
+
+pub regrow-requires-clause-in_range : goal.regrow-requires-clause-in_range
+regrow-requires-clause-in_range g c = c.requires.in_range
+
+pub returns-clause-longest : goal.returns-clause-longest
+returns-clause-longest g c = c.regrow.ensures.longest
+
+pub returns-clause-same_sizes : goal.returns-clause-same_sizes
+returns-clause-same_sizes g c = c.regrow.ensures.same_sizes ∙ c.fill.ensures.same_sizes
+
+pub returns-clause-same_room : goal.returns-clause-same_room
+returns-clause-same_room g c = rooms c.args.a.now c.fill.new.a c.regrow.new.a c.fill.ensures.same_room c.regrow.ensures.same_room
+
+pub lose_marked-requires-clause-count : goal.lose_marked-requires-clause-count
+lose_marked-requires-clause-count g c = ap (λ (t : List Touch). length t) c.requires.left
+
+pub lose_marked-requires-clause-marks : goal.lose_marked-requires-clause-marks
+lose_marked-requires-clause-marks g c = c.requires.waiting

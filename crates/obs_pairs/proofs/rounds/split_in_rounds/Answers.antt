@@ -105,3 +105,24 @@ returns-clause-same_room g c = c.loop-round.invariant.same_room
 
 pub returns-clause-same_sizes : goal.returns-clause-same_sizes
 returns-clause-same_sizes g c = c.loop-round.invariant.same_sizes
+
+pub split-requires-clause-branches : goal.split-requires-clause-branches
+split-requires-clause-branches g c = c.requires.branches
+
+pub split-requires-clause-few : goal.split-requires-clause-few
+split-requires-clause-few g c = c.requires.few
+
+pub split-requires-then-worth-clause-branches : goal.split-requires-then-worth-clause-branches
+split-requires-then-worth-clause-branches g c = c.requires.branches
+
+pub split-requires-then-worth-clause-few : goal.split-requires-then-worth-clause-few
+split-requires-then-worth-clause-few g c = c.requires.few
+
+pub split-requires-clause-in_range : goal.split-requires-clause-in_range
+split-requires-clause-in_range g c = c.requires.in_range
+
+pub split-requires-clause-left : goal.split-requires-clause-left
+split-requires-clause-left g c = c.requires.left
+
+pub split-requires-clause-settled : goal.split-requires-clause-settled
+split-requires-clause-settled g c = c.requires.settled

@@ -10,7 +10,7 @@ use Rattle.obs_pairs.proofs.settle.find_all.Goals as goal
 pub split_in_rounds-requires-clause-settled : goal.split_in_rounds-requires-clause-settled
 split_in_rounds-requires-clause-settled g c =
     let touches = c.args.ms.now.touches in
-    let ok = c.vertices.ensures.branches in
+    let ok = c.requires.branches in
     let h = subst (λ (a : Assignment). IsLongest c.args.g.now touches a) (sym c.close.ensures.same) c.requires.longest in
     let same : c.begin.new.waiting ≡ c.close.new.work.reached = c.begin.ensures.waiting ∙ c.reached.ensures.reached in
     Settled-begun c.args.g.now.vertices c.args.g.now.ends touches ok c.begin.new.waiting c.begin.new.list (c.begin.auto.waiting ∙ c.requires.waiting) (c.begin.auto.list ∙ c.requires.list) c.begin.ensures.list
@@ -23,7 +23,7 @@ pub begin-requires-clause-waiting : goal.begin-requires-clause-waiting
 begin-requires-clause-waiting g c = c.requires.waiting ∙ sym (ap length c.reached.ensures.reached ∙ c.close.ensures.closed.flags)
 
 pub begin-requires-clause-few : goal.begin-requires-clause-few
-begin-requires-clause-few g c = subst (λ (n : ℕ). n < 2 ^ 32) (c.count.ensures.count ∙ sym c.requires.list) c.count.type_inv
+begin-requires-clause-few g c = subst (λ (n : ℕ). n < 2 ^ 32) (sym c.requires.list) c.requires.few
 
 pub split_in_rounds-requires-clause-longest : goal.split_in_rounds-requires-clause-longest
 split_in_rounds-requires-clause-longest g c = subst (λ (a : Assignment). IsLongest c.args.g.now c.args.ms.now.touches a) (sym c.close.ensures.same) c.requires.longest
@@ -54,8 +54,8 @@ settle_all-requires-clause-left g c = ap (λ (m : Meters). m.touches) c.split_in
 pub settle_all-requires-clause-settled : goal.settle_all-requires-clause-settled
 settle_all-requires-clause-settled g c = c.split_in_rounds.ensures.settled
 
-pub name_all-requires : goal.name_all-requires
-name_all-requires g c = record { keyed = c.settle_all.ensures.keyed }
+pub name_all-requires-clause-keyed : goal.name_all-requires-clause-keyed
+name_all-requires-clause-keyed g c = c.settle_all.ensures.keyed
 
 pub returns-clause-classes : goal.returns-clause-classes
 returns-clause-classes g c = c.name_all.ensures.classes
@@ -73,3 +73,21 @@ returns-clause-same_room g c =
 
 pub returns-clause-same_sizes : goal.returns-clause-same_sizes
 returns-clause-same_sizes g c = c.settle_all.ensures.same_sizes ∙ (c.split_in_rounds.ensures.same_sizes ∙ c.close.ensures.same_sizes)
+
+pub split_in_rounds-requires-clause-branches : goal.split_in_rounds-requires-clause-branches
+split_in_rounds-requires-clause-branches g c = c.requires.branches
+
+pub split_in_rounds-requires-clause-few : goal.split_in_rounds-requires-clause-few
+split_in_rounds-requires-clause-few g c = c.requires.few
+
+pub settle_all-requires-clause-branches : goal.settle_all-requires-clause-branches
+settle_all-requires-clause-branches g c = c.requires.branches
+
+pub name_all-requires-clause-branches : goal.name_all-requires-clause-branches
+name_all-requires-clause-branches g c = c.requires.branches
+
+pub close-requires-clause-longest : goal.close-requires-clause-longest
+close-requires-clause-longest g c = c.requires.longest
+
+pub close-requires-clause-in_range : goal.close-requires-clause-in_range
+close-requires-clause-in_range g c = c.requires.in_range

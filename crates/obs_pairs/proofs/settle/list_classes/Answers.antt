@@ -1,3 +1,4 @@
+use Rattle.std.proofs.Common.{◌<◌, ◌^◌, ℕ, subst}
 use Rattle.obs_pairs.proofs.settle.list_classes.Goals as goal
 
 pub find_all-requires-clause-longest : goal.find_all-requires-clause-longest
@@ -23,3 +24,9 @@ returns-clause-same_room g c = c.find_all.ensures.same_room
 
 pub returns-clause-same_sizes : goal.returns-clause-same_sizes
 returns-clause-same_sizes g c = c.find_all.ensures.same_sizes
+
+pub find_all-requires-clause-branches : goal.find_all-requires-clause-branches
+find_all-requires-clause-branches g c = c.requires.branches
+
+pub find_all-requires-clause-few : goal.find_all-requires-clause-few
+find_all-requires-clause-few g c = subst (λ (n : ℕ). n < 2 ^ 32) c.count-n.ensures.count c.count-n.type_inv

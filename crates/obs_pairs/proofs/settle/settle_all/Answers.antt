@@ -12,7 +12,7 @@ loop-m-preserved g c =
     let n = c.args.g.now.vertices in
     let ends = c.args.g.now.ends in
     let touches = c.args.ms.now.touches in
-    let ok = c.vertices.ensures.branches in
+    let ok = c.requires.branches in
     let l = c.loop-m in
     elim c.if-waiting-m.branch [
       | then-waiting-m w ↦
@@ -43,7 +43,7 @@ pub returns-clause-keyed : goal.returns-clause-keyed
 returns-clause-keyed g c =
     let e = c.count-m-end.ensures.count in
     let f = c.loop-m-test.false in
-    Settled-all c.args.g.now.vertices c.args.g.now.ends c.args.ms.now.touches c.vertices.ensures.branches c.loop-m.waiting c.loop-m.list c.loop-m.m c.loop-m.invariant.settled (omega (arith, e, f))
+    Settled-all c.args.g.now.vertices c.args.g.now.ends c.args.ms.now.touches c.requires.branches c.loop-m.waiting c.loop-m.list c.loop-m.m c.loop-m.invariant.settled (omega (arith, e, f))
 
 pub loop-m-init : goal.loop-m-init
 loop-m-init g c = record {
@@ -94,3 +94,6 @@ returns-clause-same_room g c = c.loop-m.invariant.same_room
 
 pub returns-clause-same_sizes : goal.returns-clause-same_sizes
 returns-clause-same_sizes g c = c.loop-m.invariant.same_sizes
+
+pub search_without-requires-clause-branches : goal.search_without-requires-clause-branches
+search_without-requires-clause-branches g c = c.requires.branches

@@ -18,7 +18,7 @@ loop-bit-init g c =
     let b = c.requires.settled in
     record {
       splitting = record {
-        spelt = Spelt-begun c.args.g.now c.args.ms.now.touches c.args.a.now c.vertices.ensures.branches c.requires.longest c.args.waiting.now c.args.list.now b.opened c.start.new.list b.places c.start.auto.list c.start.ensures.list;
+        spelt = Spelt-begun c.args.g.now c.args.ms.now.touches c.args.a.now c.requires.branches c.requires.longest c.args.waiting.now c.args.list.now b.opened c.start.new.list b.places c.start.auto.list c.start.ensures.list;
         pos = omega arith;
         grown = λ m. omega arith;
       };
@@ -55,7 +55,7 @@ pub loop-bit-preserved : goal.loop-bit-preserved
 loop-bit-preserved g c =
     let touches = c.args.ms.now.touches in
     let ends = c.args.g.now.ends in
-    let ok = c.vertices.ensures.branches in
+    let ok = c.requires.branches in
     let A = c.args.a.now in
     let flags = c.args.waiting.now in
     let before = c.args.list.now in
@@ -107,14 +107,14 @@ returns-clause-settled g c =
     let f = c.loop-bit-test.false in
     let e = l.auto._bit-end in
     let last : l._bit ≡ 32 = omega (arith, f, e) in
-    let count : length touches < 4294967296 = subst (λ (n : ℕ). n < 4294967296) c.count.ensures.count c.count.type_inv in
+    let count : length touches < 4294967296 = c.requires.few in
     let full : length touches ≤ l.step = elim (cases_lt l.step (length touches)) [
       | inr m ↦ m
       | inl m ↦
           let high : 4294967296 ≤ l.step = subst (λ (x : ℕ). 2 ^ x ≤ l.step) last (inv.splitting.grown m) in
           omega (arith, high, count, m)
     ] in
-    Spelt-settled c.args.g.now touches c.args.a.now c.vertices.ensures.branches c.requires.longest c.args.waiting.now c.args.list.now c.requires.settled.opened l.list l.step full inv.splitting.spelt c.requires.settled
+    Spelt-settled c.args.g.now touches c.args.a.now c.requires.branches c.requires.longest c.args.waiting.now c.args.list.now c.requires.settled.opened l.list l.step full inv.splitting.spelt c.requires.settled
     c.finish.new.waiting c.finish.auto.waiting c.finish.ensures.waiting
 
 pub start-requires : goal.start-requires
@@ -138,7 +138,7 @@ reach_from-requires-clause-step g c = c.loop-bit.invariant.splitting.pos
 pub reach_from-requires-clause-low : goal.reach_from-requires-clause-low
 reach_from-requires-clause-low g c =
     let places = c.loop-bit.invariant.splitting.spelt.places in
-    let few : length c.args.ms.now.touches < 4294967296 = subst (λ (n : ℕ). n < 4294967296) c.count.ensures.count c.count.type_inv in
+    let few : length c.args.ms.now.touches < 4294967296 = c.requires.few in
     let t = c.if-step-list.true in
     omega (arith, t, places, few)
 
@@ -148,7 +148,7 @@ spell-requires-clause-waiting g c = c.requires.settled.flags ∙ sym c.loop-bit.
 pub spell-requires-clause-count : goal.spell-requires-clause-count
 spell-requires-clause-count g c =
     let places = c.loop-bit.invariant.splitting.spelt.places in
-    let few : length c.args.ms.now.touches < 4294967296 = subst (λ (n : ℕ). n < 4294967296) c.count.ensures.count c.count.type_inv in
+    let few : length c.args.ms.now.touches < 4294967296 = c.requires.few in
     omega (arith, places, few)
 
 pub spell-requires-clause-step : goal.spell-requires-clause-step
@@ -169,7 +169,7 @@ reach_from-requires-then-step-list-clause-step g c = c.loop-bit.invariant.splitt
 pub reach_from-requires-then-step-list-clause-low : goal.reach_from-requires-then-step-list-clause-low
 reach_from-requires-then-step-list-clause-low g c =
     let places = c.loop-bit.invariant.splitting.spelt.places in
-    let few : length c.args.ms.now.touches < 4294967296 = subst (λ (n : ℕ). n < 4294967296) c.count.ensures.count c.count.type_inv in
+    let few : length c.args.ms.now.touches < 4294967296 = c.requires.few in
     let t = c.if-step-list.true in
     omega (arith, t, places, few)
 
@@ -179,7 +179,7 @@ strike-requires-clause-waiting g c = c.requires.settled.flags ∙ (sym c.loop-bi
 pub strike-requires-clause-count : goal.strike-requires-clause-count
 strike-requires-clause-count g c =
     let places = c.loop-bit.invariant.splitting.spelt.places in
-    let few : length c.args.ms.now.touches < 4294967296 = subst (λ (n : ℕ). n < 4294967296) c.count.ensures.count c.count.type_inv in
+    let few : length c.args.ms.now.touches < 4294967296 = c.requires.few in
     let same = c.spell.auto.list in
     omega (arith, places, few, same)
 
@@ -194,3 +194,9 @@ returns-clause-same g c = c.loop-bit.invariant.same
 
 pub returns-clause-same_sizes : goal.returns-clause-same_sizes
 returns-clause-same_sizes g c = c.loop-bit.invariant.same_sizes
+
+pub reach_from-requires-clause-branches : goal.reach_from-requires-clause-branches
+reach_from-requires-clause-branches g c = c.requires.branches
+
+pub reach_from-requires-then-step-list-clause-branches : goal.reach_from-requires-then-step-list-clause-branches
+reach_from-requires-then-step-list-clause-branches g c = c.requires.branches

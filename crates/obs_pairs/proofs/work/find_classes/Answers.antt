@@ -47,3 +47,6 @@ returns-clause-classes g c =
 
 pub list_classes-requires-clause-left : goal.list_classes-requires-clause-left
 list_classes-requires-clause-left g c = ap (λ (m : Meters). m.touches) c.refill.ensures.whole ∙ c.touches.ensures.touches
+
+pub list_classes-requires-clause-branches : goal.list_classes-requires-clause-branches
+list_classes-requires-clause-branches g c = c.vertices.ensures.branches

@@ -1,3 +1,4 @@
+use Rattle.obs_assign.specs.Assignment.{StandsOver}
 use Rattle.std.proofs.Common.{ℕ, ◌<◌, List, length, sym, ap, ◌∙◌, subst, arith}
 use Rattle.std.specs.Prelude.{All}
 use Rattle.obs_meter.specs.declared.Touch.{Touch}
@@ -61,7 +62,7 @@ returns-clause-rank g c =
     let touches = c.args.ms.now.touches in
     let is = left_is c.args.list.now c.args.left.now c.lose.new.left touches c.requires.left c.lose.ensures.left in
     let h : IsLongest c.args.g.now (losing (is_listed c.args.list.now) touches) c.regrow.new.a = subst (λ (t : List Touch). IsLongest c.args.g.now t c.regrow.new.a) is c.regrow.ensures.longest in
-    c.length-rank.ensures.length ∙ rank_left c.args.g.now touches c.args.list.now c.regrow.new.a c.vertices.ensures.branches h
+    c.length-rank.ensures.length ∙ rank_left c.args.g.now touches c.args.list.now c.regrow.new.a c.requires.branches h
 
 pub returns-clause-left : goal.returns-clause-left
 returns-clause-left g c =
@@ -98,3 +99,27 @@ returns-clause-turns_most g c =
 
 pub returns-clause-same_room : goal.returns-clause-same_room
 returns-clause-same_room g c = rooms c.args.a.now c.regrow.new.a c.regrow-2.new.a (rooms c.args.a.now c.lose.new.a c.regrow.new.a c.lose.ensures.same_room c.regrow.ensures.same_room) c.regrow-2.ensures.same_room
+
+pub lose-requires-clause-stands : goal.lose-requires-clause-stands
+lose-requires-clause-stands g c = subst (λ (t : List Touch). StandsOver c.args.a.now c.args.g.now t) (sym c.requires.left) c.requires.longest.stands
+
+pub lose-requires-clause-thawed : goal.lose-requires-clause-thawed
+lose-requires-clause-thawed g c = c.requires.longest.thawed
+
+pub regrow-requires-clause-stands : goal.regrow-requires-clause-stands
+regrow-requires-clause-stands g c = c.lose.ensures.stands
+
+pub regrow-requires-clause-thawed : goal.regrow-requires-clause-thawed
+regrow-requires-clause-thawed g c = c.lose.ensures.thawed
+
+pub regain-requires-clause-low : goal.regain-requires-clause-low
+regain-requires-clause-low g c = c.requires.low
+
+pub regrow-requires-2-clause-in_range : goal.regrow-requires-2-clause-in_range
+regrow-requires-2-clause-in_range g c = c.requires.in_range
+
+pub returns-clause-longest : goal.returns-clause-longest
+returns-clause-longest g c = c.regrow-2.ensures.longest
+
+pub returns-clause-same_sizes : goal.returns-clause-same_sizes
+returns-clause-same_sizes g c = c.regrow-2.ensures.same_sizes ∙ c.regrow.ensures.same_sizes

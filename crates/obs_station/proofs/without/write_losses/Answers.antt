@@ -1,5 +1,6 @@
+use Rattle.obs_meter.specs.Held.{Meters}
 use Rattle.std.proofs.Common.{◌≡◌, ◌<◌, true, false, sym, ap, ◌∙◌, arith}
-use Rattle.obs_exchange.proofs.Lengthening.{rooms}
+use Rattle.obs_exchange.proofs.Lengthening.{rooms, room_again}
 use Rattle.obs_switch.specs.Groups.{group_start}
 use Rattle.obs_station.specs.Held.{has_any}
 use Rattle.obs_station.proofs.Listing.{Listing-all, Listing-more, Listing-over}
@@ -82,3 +83,36 @@ returns-clause-turns_most g c =
     let all : l.c ≡ c.args.stations.now.buses.count = omega (arith, e, f, low) in
     let same = ap (group_start c.args.stations.now.keys) all in
     omega (arith, most, same)
+
+pub loss_of-requires-clause-branches : goal.loss_of-requires-clause-branches
+loss_of-requires-clause-branches g c = c.requires.branches
+
+pub loss_of-requires-clause-in_range : goal.loss_of-requires-clause-in_range
+loss_of-requires-clause-in_range g c = c.requires.in_range
+
+pub loss_of-requires-clause-keys : goal.loss_of-requires-clause-keys
+loss_of-requires-clause-keys g c = c.requires.keys
+
+pub loss_of-requires-clause-longest : goal.loss_of-requires-clause-longest
+loss_of-requires-clause-longest g c = c.loop-c.invariant.longest
+
+pub loss_of-requires-clause-left : goal.loss_of-requires-clause-left
+loss_of-requires-clause-left g c = ap (λ (m : Meters). m.touches) c.loop-c.invariant.left ∙ c.requires.left
+
+pub loss_of-requires-clause-room : goal.loss_of-requires-clause-room
+loss_of-requires-clause-room g c = room_again c.args.g.now c.args.ms.now.touches c.args.exchange.now.sizes c.loop-c.exchange.sizes c.loop-c.invariant.same_sizes c.requires.room
+
+pub returns-clause-longest : goal.returns-clause-longest
+returns-clause-longest g c = c.loop-c.invariant.longest
+
+pub returns-clause-left : goal.returns-clause-left
+returns-clause-left g c = c.loop-c.invariant.left
+
+pub returns-clause-turns_rise : goal.returns-clause-turns_rise
+returns-clause-turns_rise g c = c.loop-c.invariant.turns_rise
+
+pub returns-clause-same_room : goal.returns-clause-same_room
+returns-clause-same_room g c = c.loop-c.invariant.same_room
+
+pub returns-clause-same_sizes : goal.returns-clause-same_sizes
+returns-clause-same_sizes g c = c.loop-c.invariant.same_sizes

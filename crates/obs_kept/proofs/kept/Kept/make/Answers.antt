@@ -17,7 +17,7 @@ fill-requires-clause-room g c =
 pub fill-requires-clause-most : goal.fill-requires-clause-most
 fill-requires-clause-most g c =
     let k = c.in_ok-kept.kept in
-    most_network k.network c.args.case.now c.in_ok-kept.ensures.network c.graph.result.now c.graph.ensures.graph c.meters.result.now c.meters.ensures.meters c.needed.result c.nodes-nodes.ensures.valid c.needed.ensures.needed
+    most_network k.network c.args.case.now c.in_ok-kept.ensures.network c.graph.result.now c.graph.ensures.graph c.meters.result.now c.meters.ensures.meters c.needed.result c.in_ok-kept.ensures.valid c.needed.ensures.needed
 
 pub fill-requires-clause-in_range : goal.fill-requires-clause-in_range
 fill-requires-clause-in_range g c = subst (λ (x : Graph). AreInRange x c.meters.result.now.touches) (sym c.graph.ensures.graph) c.meters.ensures.in_range

@@ -85,3 +85,6 @@ returns c =
       components = room-of_components ∙ held-of_components;
       pairs = room-pairs ∙ held-pairs;
     }
+
+pub count_longest-requires-clause-valid : goal.count_longest-requires-clause-valid
+count_longest-requires-clause-valid c = c.nodes-nodes.ensures.valid

@@ -8,9 +8,9 @@ use Rattle.obs_assign.specs.Assignment.{Assignment, has_flag}
 use Rattle.obs_exchange.specs.declared.Sources.TheVariants.{All}
 use Rattle.obs_exchange.specs.Found.{HasClosed}
 use Rattle.obs_network.specs.Network.{Network}
-use Rattle.obs_network.proofs.OfCase.{length-case_branches}
+use Rattle.obs_network.proofs.OfCase.{length-case_branches, few_branches}
 use Rattle.obs_kept.specs.Kept.{AreLongest, AreLongestOver}
-use Rattle.obs_kept.proofs.OfNetwork.{room_network}
+use Rattle.obs_kept.proofs.OfNetwork.{branches_network, room_network}
 use Rattle.obs_outage.specs.Sparing.{Spared}
 use Rattle.obs_outage.proofs.Costing.{closed_there, costly_network, longest_there}
 use Rattle.obs_outage.proofs.Fitting.{back_length, vertices_there}
@@ -37,7 +37,7 @@ returns-clause-spared g c = λ e f.
     let same : length c.flag_rows.new.flags ≡ length c.self.inside.flags.items = c.flag_rows.auto.flags ∙ ap length c.deref_mut-3.ensures.value in
     let back = written_back c.self.inside.flags.len c.flag_rows.new.flags c.self.inside.flags.items same c.self.inside.flags.ok.0 in
     flags_spared n graph c.meters-ms.result.now c.graph-g.ensures.graph c.meters-ms.ensures.meters
-    c.vertices.ensures.branches
+    (branches_network c.args.kept.now.network c.args.case.now c.requires.network c.graph-g.result.now c.graph-g.ensures.graph c.meters-ms.result.now c.meters-ms.ensures.meters c.branches.ensures.valid)
     a c.close.new.a c.close.ensures.same
     (subst (λ (x : Network). AreLongestOver x a) (sym c.requires.network) c.requires.longest) reached closed
     c.refill_touched.new.touched.ends c.refill_touched.ensures.touched c.flag_rows.new.flags c.flag_rows.ensures.missed e
@@ -45,7 +45,7 @@ returns-clause-spared g c = λ e f.
 
 pub flag_costly-requires-clause-longest : goal.flag_costly-requires-clause-longest
 flag_costly-requires-clause-longest g c =
-    longest_there c.args.kept.now.network c.graph-g.result.now c.meters-ms.result.now c.graph-g.ensures.graph c.meters-ms.ensures.meters c.vertices.ensures.branches c.args.kept.now.pairs c.close.new.a
+    longest_there c.args.kept.now.network c.graph-g.result.now c.meters-ms.result.now c.graph-g.ensures.graph c.meters-ms.ensures.meters (branches_network c.args.kept.now.network c.args.case.now c.requires.network c.graph-g.result.now c.graph-g.ensures.graph c.meters-ms.result.now c.meters-ms.ensures.meters c.branches.ensures.valid) c.args.kept.now.pairs c.close.new.a
     c.close.ensures.same (subst (λ (x : Network). AreLongestOver x c.args.kept.now.pairs) (sym c.requires.network) c.requires.longest)
 
 pub flag_costly-requires-clause-closed : goal.flag_costly-requires-clause-closed
@@ -53,7 +53,7 @@ flag_costly-requires-clause-closed g c =
     let graph = c.graph-g.result.now in
     let touches = c.meters-ms.result.now.touches in
     let closed = subst (λ (xs : List Bool). HasClosed graph.ends touches All c.close.new.a c.close.new.a xs) (sym c.reached-reached.ensures.reached) c.close.ensures.closed in
-    closed_there c.args.kept.now.network graph c.meters-ms.result.now c.graph-g.ensures.graph c.meters-ms.ensures.meters c.vertices.ensures.branches c.args.kept.now.pairs c.close.new.a
+    closed_there c.args.kept.now.network graph c.meters-ms.result.now c.graph-g.ensures.graph c.meters-ms.ensures.meters (branches_network c.args.kept.now.network c.args.case.now c.requires.network c.graph-g.result.now c.graph-g.ensures.graph c.meters-ms.result.now c.meters-ms.ensures.meters c.branches.ensures.valid) c.args.kept.now.pairs c.close.new.a
     c.close.ensures.same (subst (λ (x : Network). AreLongestOver x c.args.kept.now.pairs) (sym c.requires.network) c.requires.longest) c.reached-reached.result.now closed
 
 pub flag_costly-requires-clause-rows : goal.flag_costly-requires-clause-rows
@@ -68,13 +68,13 @@ pub returns-clause-costly : goal.returns-clause-costly
 returns-clause-costly g c = λ e f.
     let same : length c.flag_costly.new.flags ≡ length c.self.inside.costly.items = c.flag_costly.auto.flags ∙ ap length c.deref_mut-4.ensures.value in
     let back = written_back c.self.inside.costly.len c.flag_costly.new.flags c.self.inside.costly.items same c.self.inside.costly.ok.0 in
-    costly_network c.args.kept.now.network c.graph-g.result.now c.meters-ms.result.now c.graph-g.ensures.graph c.meters-ms.ensures.meters c.vertices.ensures.branches c.args.kept.now.pairs c.close.new.a
+    costly_network c.args.kept.now.network c.graph-g.result.now c.meters-ms.result.now c.graph-g.ensures.graph c.meters-ms.ensures.meters (branches_network c.args.kept.now.network c.args.case.now c.requires.network c.graph-g.result.now c.graph-g.ensures.graph c.meters-ms.result.now c.meters-ms.ensures.meters c.branches.ensures.valid) c.args.kept.now.pairs c.close.new.a
     c.close.ensures.same (subst (λ (x : Network). AreLongestOver x c.args.kept.now.pairs) (sym c.requires.network) c.requires.longest) c.flag_costly.new.flags c.flag_costly.ensures.costly e
     (subst (λ (xs : List Bool). has_flag xs e ≡ true) back f)
 
 pub close-requires-clause-longest : goal.close-requires-clause-longest
 close-requires-clause-longest g c =
-    longest_there c.args.kept.now.network c.graph-g.result.now c.meters-ms.result.now c.graph-g.ensures.graph c.meters-ms.ensures.meters c.vertices.ensures.branches c.args.kept.now.pairs c.args.kept.now.pairs
+    longest_there c.args.kept.now.network c.graph-g.result.now c.meters-ms.result.now c.graph-g.ensures.graph c.meters-ms.ensures.meters (branches_network c.args.kept.now.network c.args.case.now c.requires.network c.graph-g.result.now c.graph-g.ensures.graph c.meters-ms.result.now c.meters-ms.ensures.meters c.branches.ensures.valid) c.args.kept.now.pairs c.args.kept.now.pairs
     refl (subst (λ (x : Network). AreLongestOver x c.args.kept.now.pairs) (sym c.requires.network) c.requires.longest)
 
 pub close-requires-clause-in_range : goal.close-requires-clause-in_range
@@ -179,3 +179,6 @@ invariant_of-self g c =
       branches = c.refill_touched.ensures.most_branches ∙ c.self.invariant.branches ∙ sym flags;
       vertices = c.refill_touched.ensures.most_vertices ∙ c.self.invariant.vertices ∙ sym fronts;
     }
+
+pub overflow_cast-rows : goal.overflow_cast-rows
+overflow_cast-rows g c = omega (arith, ap (λ (xs : List Branch). length xs) c.branches.ensures.rows, few_branches c.args.case.now c.branches.ensures.valid)

@@ -11,7 +11,7 @@ use Rattle.obs_exchange.specs.Longest.{IsLongest}
 use Rattle.obs_network.specs.Network.{Rows}
 use Rattle.obs_network.specs.Observable.{case_live_meters}
 use Rattle.obs_network.proofs.OfCase.{length-case_meters}
-use Rattle.obs_kept.proofs.OfNetwork.{longest_network}
+use Rattle.obs_kept.proofs.OfNetwork.{branches_network, longest_network}
 use Rattle.obs_station.specs.Held.{key_of}
 use Rattle.obs_station.specs.Stations.{StationWork, losses_of}
 use Rattle.obs_station.proofs.Finding.{few-of_case, found-of_case, list-of_case, over_case, room_for, touches_are}
@@ -154,3 +154,16 @@ returns-clause-rows g c =
     ap (λ (n : ℕ). of n s.switches s.most_meters) e.nodes
     ∙ (ap (λ (k : ℕ). of was.buses.most_nodes k s.most_meters) e.switches
     ∙ (ap (λ (m : ℕ). of was.buses.most_nodes was.switches m) e.meters ∙ ap (λ (w : StationWork). w.rows) c.self.view_is))
+
+pub write_losses-self-inside-requires-clause-branches : goal.write_losses-self-inside-requires-clause-branches
+write_losses-self-inside-requires-clause-branches g c =
+    branches_network c.args.network.now c.args.case.now c.requires.network c.graph.result.now c.graph.ensures.graph c.meters-2.result.now c.meters-2.ensures.meters c.refill.ensures.valid
+
+pub refill-requires-clause-network : goal.refill-requires-clause-network
+refill-requires-clause-network g c = c.requires.network
+
+pub returns-clause-turns_rise : goal.returns-clause-turns_rise
+returns-clause-turns_rise g c = c.write_losses-self-inside.ensures.turns_rise
+
+pub returns-clause-same_room : goal.returns-clause-same_room
+returns-clause-same_room g c = c.write_losses-self-inside.ensures.same_room

@@ -1,4 +1,4 @@
-use Rattle.std.proofs.Common.{◌≡◌, ◌+◌, ◌*◌, ℕ, List, length, refl, sym, ap, ◌∙◌, arith}
+use Rattle.std.proofs.Common.{◌+◌, ◌*◌, ℕ, List, length, refl, sym, ap, ◌∙◌, arith}
 use Rattle.obs_case.specs.declared.rows.Branch.{Branch}
 use Rattle.obs_case.specs.declared.rows.Candidate.{Candidate}
 use Rattle.obs_case.specs.declared.rows.Meter.{Meter}
@@ -8,6 +8,7 @@ use Rattle.obs_meter.specs.Held.{Meters}
 use Rattle.obs_meter.specs.Sizes.{Sizes}
 use Rattle.obs_exchange.specs.Found.{Work}
 use Rattle.obs_network.specs.Network.{Rows}
+use Rattle.obs_network.proofs.OfCase.{few_branches, few_candidates, few_meters, few_nodes}
 use Rattle.obs_station.specs.Held.{Stations}
 use Rattle.obs_station.proofs.losses.StationWork.make.Goals as goal
 
@@ -44,3 +45,24 @@ returns c =
           ∙ ap (λ k. of (length t.nodes) (length t.switches) (length t.branches) (length t.meters) k) candidates;
       none_found = refl;
     }
+
+pub overflow_cast-nodes : goal.overflow_cast-nodes
+overflow_cast-nodes c = omega (arith, ap (λ (xs : List Node). length xs) c.nodes.ensures.rows, few_nodes c.args.case.now c.nodes.ensures.valid)
+
+pub overflow_cast-branches : goal.overflow_cast-branches
+overflow_cast-branches c = omega (arith, ap (λ (xs : List Branch). length xs) c.branches.ensures.rows, few_branches c.args.case.now c.nodes.ensures.valid)
+
+pub overflow_cast-meters : goal.overflow_cast-meters
+overflow_cast-meters c = omega (arith, ap (λ (xs : List Meter). length xs) c.meters.ensures.rows, few_meters c.args.case.now c.nodes.ensures.valid)
+
+pub overflow_cast-candidates : goal.overflow_cast-candidates
+overflow_cast-candidates c = omega (arith, ap (λ (xs : List Candidate). length xs) c.candidates.ensures.rows, few_candidates c.args.case.now c.nodes.ensures.valid)
+
+pub overflow_add-meters : goal.overflow_add-meters
+overflow_add-meters c = omega (arith, ap (λ (xs : List Meter). length xs) c.meters.ensures.rows, few_meters c.args.case.now c.nodes.ensures.valid, ap (λ (xs : List Candidate). length xs) c.candidates.ensures.rows, few_candidates c.args.case.now c.nodes.ensures.valid)
+
+pub overflow_add-branches : goal.overflow_add-branches
+overflow_add-branches c = omega (arith, ap (λ (xs : List Branch). length xs) c.branches.ensures.rows, few_branches c.args.case.now c.nodes.ensures.valid, ap (λ (xs : List Meter). length xs) c.meters.ensures.rows, few_meters c.args.case.now c.nodes.ensures.valid, ap (λ (xs : List Candidate). length xs) c.candidates.ensures.rows, few_candidates c.args.case.now c.nodes.ensures.valid)
+
+pub overflow_mul-nodes : goal.overflow_mul-nodes
+overflow_mul-nodes c = omega (arith, ap (λ (xs : List Node). length xs) c.nodes.ensures.rows, few_nodes c.args.case.now c.nodes.ensures.valid)

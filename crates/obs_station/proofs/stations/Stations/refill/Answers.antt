@@ -144,3 +144,6 @@ pub returns-clause-meters : goal.returns-clause-meters
 returns-clause-meters c =
     let d = (goal.at.returns-clause-meters c).After-write_members in
     rw (keys_back d) (keys_len d ∙ ap (λ (s : Stations). s.most_meters) c.self.view_is)
+
+pub returns-clause-valid : goal.returns-clause-valid
+returns-clause-valid c = c.nodes.ensures.valid
