@@ -1,8 +1,9 @@
 -- Layers and their lists, one after the other.
-use Rattle.std.proofs.Common.{◌≡◌, ℕ, ◌≤◌, ◌||◌, Bool, true, false, not, Option, List, [], ◌∷◌, ◌++◌, length, take, refl, sym, ap, ◌∙◌, subst, append_assoc}
+use Rattle.std.proofs.Common.{◌≡◌, ℕ, ◌≤◌, ◌||◌, ◌&&◌, Bool, true, false, not, nat_lt, Option, List, [], ◌∷◌, ◌++◌, length, take, refl, sym, ap, ◌∙◌, subst, append_assoc}
 use Rattle.std.specs.List.{flat_map, list_any}
 use Rattle.std.proofs.lemmas.Bool.{eq-eqb, ne_eqb}
 use Rattle.std.proofs.lemmas.Grind.{flat_map-append}
+use Rattle.std.proofs.lemmas.List.Folds.{list_any-append}
 use Rattle.std.proofs.Math.Bool.{or-true}
 use Rattle.obs_case.specs.Tables.{Tables}
 use Rattle.obs_graph.specs.declared.Ends.{Ends}
@@ -11,7 +12,7 @@ use Rattle.obs_cert.specs.Claims.{Item, Layer}
 use Rattle.obs_cert.specs.Flaws.{Listed, listed_from, not_inside, rank_of_items, wrong_rank}
 use Rattle.obs_cert.specs.Joins.{AreJoined, onto}
 use Rattle.obs_cert.specs.Numbered.{item_of, items_of}
-use Rattle.obs_cert.specs.Scopes.{is_below, touches_of}
+use Rattle.obs_cert.specs.Scopes.{is_below, is_live_item, is_meter, price_at, touches_of}
 use Rattle.obs_cert.specs.Seen.{Tells, too_dear}
 use Rattle.obs_cert.proofs.JoinLemmas.{onto-append}
 
@@ -28,6 +29,38 @@ pub seeing_more : (t : Tables) (item : Item) (left all : List Item) (before now 
 seeing_more t item left all before now after i step list tells =
     let q = i list tells in
     (q.0 ++ item_of t item ∷ [], step q.0 q.1, append_assoc q.0 (item_of t item ∷ []) (items_of t left) ∙ q.2)
+
+-- one item more is seen: one that isn't live, a meter, or a candidate
+or_end : (a : Bool) → (a || false) ≡ a
+or_end true = refl
+or_end false = refl
+
+or_assoc : (a b d : Bool) → ((a || b) || d) ≡ (a || (b || d))
+or_assoc true b d = refl
+or_assoc false b d = refl
+
+module _ (t : Tables) (m : ℕ) (now : Seen) (list : List ℕ) (tells : Tells t list now) where
+  one_more : (live meter : Bool) → is_live_item t m ≡ live → is_meter t m ≡ meter → (to : ℕ)
+      → not_inside (is_below t to) (list ++ m ∷ []) ≡ ((now.idle || too_dear now.dearest to) || (not (live && (meter || nat_lt (price_at t m) to)) || false))
+  one_more live meter a b to =
+      let p : ℕ → Bool = λ x. not (is_below t to x) in
+      list_any-append p list (m ∷ []) ∙ ap (λ (x : Bool). x || (p m || false)) (tells to)
+      ∙ ap (λ (x : Bool). (now.idle || too_dear now.dearest to) || (not (x && (is_meter t m || nat_lt (price_at t m) to)) || false)) a
+      ∙ ap (λ (x : Bool). (now.idle || too_dear now.dearest to) || (not (live && (x || nat_lt (price_at t m) to)) || false)) b
+
+  pub tells_idle : is_live_item t m ≡ false → Tells t (list ++ m ∷ []) (record { idle = true; dearest = now.dearest })
+  tells_idle dead to = one_more false (is_meter t m) dead refl to ∙ or-true (now.idle || too_dear now.dearest to)
+
+  pub tells_meter : is_live_item t m ≡ true → is_meter t m ≡ true → Tells t (list ++ m ∷ []) now
+  tells_meter live meter to = one_more true true live meter to ∙ or_end (now.idle || too_dear now.dearest to)
+
+  pub tells_price : (dearest : Option ℕ) (price : ℕ) → is_live_item t m ≡ true → is_meter t m ≡ false → price ≡ price_at t m
+      → ((to : ℕ) → too_dear dearest to ≡ (too_dear now.dearest to || not (nat_lt price to))) → Tells t (list ++ m ∷ []) (record { idle = now.idle; dearest = dearest })
+  tells_price dearest price live meter is dearer to =
+      let dear = too_dear now.dearest to in
+      let high = not (nat_lt (price_at t m) to) in
+      one_more true false live meter to ∙ ap (λ (x : Bool). (now.idle || dear) || x) (or_end high) ∙ or_assoc now.idle dear high
+      ∙ ap (λ (x : Bool). now.idle || x) (sym (dearer to ∙ ap (λ (x : ℕ). dear || not (nat_lt x to)) is))
 
 -- while layers are looked at for items that they may not speak of
 pub record IsLooking (t : Tables) (left all : List Layer) (seen : Seen) : Type 0 where

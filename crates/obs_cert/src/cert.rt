@@ -1,5 +1,5 @@
 // Certificates from bytes.
-ghost use Rattle.std.specs.Prelude.{◌≡◌, ◌≤◌, Ok, Err, length, IfErr, IfOk};
+ghost use Rattle.std.specs.Prelude.{◌≡◌, ◌<◌, ◌≤◌, ◌^◌, Ok, Err, length, IfErr, IfOk};
 ghost use Rattle.obs_text.specs.Limits.{most_file_bytes};
 ghost use Rattle.obs_cert.specs.Read.{EndsCert, HasClaims, claims_of};
 
@@ -21,7 +21,7 @@ pub struct Cert {
 }
 
 impl Model for Cert {
-    ghost use Rattle.std.specs.Prelude.{List};
+    ghost use Rattle.std.specs.Prelude.{◌<◌, ◌^◌, List};
     ghost use Rattle.obs_cert.specs.Claims.{Claim};
     ghost use Rattle.obs_cert.specs.Read.{HasClaims, claims_of, claims_or_none};
 
@@ -29,7 +29,10 @@ impl Model for Cert {
 
     ghost view = { λ c. claims_or_none (claims_of c.bytes.items) };
 
-    ghost invariant = { λ c. HasClaims c.bytes.items c.claims };
+    ghost invariant = { λ c. record {
+      claims : HasClaims c.bytes.items c.claims;
+      few : c.claims < 2 ^ 32;
+    } };
 }
 
 impl Cert {
@@ -43,6 +46,7 @@ impl Cert {
     /// The claims one after the other.
     pub(crate) fn walk(&self) -> Claims<'_>
         ensures claims { result ≡ self.now }
+        ensures few { length self.now < 2 ^ 32 }
     {
         walk_claims(&self.bytes)
     }

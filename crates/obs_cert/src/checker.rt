@@ -102,7 +102,6 @@ fn first_flaw(
     ensures room { HasRoom (rows_of present.now) work.new }
     ensures keys { length keys.new ≡ length keys.old }
 {
-    let _claims = cert.claims();
     work.begin();
     let live = count_live(present);
     sort_keys(present, keys);

@@ -1,5 +1,6 @@
 // How many live items are below a price, by keys that are sorted once for all claims.
 ghost use Rattle.std.specs.Prelude.{◌≡◌, ◌+◌, length};
+ghost use Rattle.obs_case.specs.Tables.{IsValid};
 ghost use Rattle.obs_cert.specs.Keys.{AreKeys, key_of, keys_of};
 ghost use Rattle.obs_cert.specs.Scopes.{is_below, scope_of};
 
@@ -25,10 +26,11 @@ fn key_of(present: &Present<'_>, m: u32) -> u128
 fn write_keys(present: &Present<'_>, keys: &mut [u128])
     requires room { length keys.old ≡ length present.now.meters + length present.now.candidates }
     ensures keys { keys.new ≡ keys_of present.now }
+    ensures valid { IsValid present.now }
 {
-    let _case = present.case();
-    for m in 0..keys.len() {
-        keys[m] = key_of(present, m as u32);
+    let network = present.network();
+    for m in 0..network.offered().count() {
+        keys[m as usize] = key_of(present, m);
     }
 }
 
@@ -38,7 +40,6 @@ pub(crate) fn sort_keys(present: &Present<'_>, keys: &mut [u128])
     ensures keys { AreKeys present.now keys.new }
     ensures len { length keys.new ≡ length keys.old }
 {
-    let _case = present.case();
     write_keys(present, keys);
     keys.sort_unstable();
 }

@@ -114,7 +114,6 @@ fn join_layers(
     ensures joined { (es : List Ends) × AreJoined es ups.new (take result.0 moved.new) }
     ensures count { result.0 ≤ length moved.new }
 {
-    let _case = present.case();
     let mut count = 0;
     let mut wrong = false;
     for layer in layers {

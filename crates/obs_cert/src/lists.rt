@@ -1,6 +1,7 @@
 // Passes over the items of a claim, one clause each.
 ghost use Rattle.std.specs.Prelude.{◌≡◌, ◌≤◌, ◌<◌, ◌^◌, ◌-◌, ◌+◌, [], ℕ, suc, List, flat_map, length, min, sum_by, take};
 ghost use Rattle.obs_graph.specs.declared.Ends.{Ends};
+ghost use Rattle.obs_case.specs.Tables.{IsValid};
 ghost use Rattle.obs_network.specs.Network.{case_vertex_room, network_of};
 ghost use Rattle.obs_cert.specs.Flaws.{not_inside, rank_of_items, twice, unknown_item};
 ghost use Rattle.obs_cert.specs.InScope.{in_scope};
@@ -122,6 +123,7 @@ pub(crate) fn join_items(
         AreJoined (onto (network_of present.now).graph.ends (flat_map (touches_of present.now) (items_of present.now items.entry)) es)
         ups.new (take result moved.new) }
     ensures count { result ≤ length moved.new }
+    ensures valid { IsValid present.now }
 {
     let case = present.case();
     let mut count = count;
@@ -145,7 +147,6 @@ pub(crate) fn measure_items(
     ensures rank { result ≡ rank_of_items present.now (items_of present.now items.entry) }
     ensures clear { AreJoined [] ups.new [] }
 {
-    let _case = present.case();
     let count = join_items(present, items, ups, moved, 0);
     clear(ups, &moved[..count]);
     count as u32

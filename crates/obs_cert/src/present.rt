@@ -16,14 +16,14 @@ pub(crate) struct Present<'a> {
 
 impl<'a> Model for Present<'a> {
     ghost use Rattle.std.specs.Prelude.{◌≡◌};
-    ghost use Rattle.obs_case.specs.Tables.{Tables};
+    ghost use Rattle.obs_case.specs.Tables.{IsValid, Tables};
     ghost use Rattle.obs_network.specs.Network.{network_of};
 
     ghost Value = { Tables };
 
     ghost view = { λ p. p.case.now };
 
-    ghost invariant = { λ p. p.network.now ≡ network_of p.case.now };
+    ghost invariant = { λ p. (p.network.now ≡ network_of p.case.now) × IsValid p.case.now };
 }
 
 impl<'a> Present<'a> {
@@ -32,6 +32,7 @@ impl<'a> Present<'a> {
         requires of_case { network.now ≡ network_of case.now }
         ensures case { result ≡ case.now }
     {
+        let _nodes = case.nodes();
         Present { case, network }
     }
 
@@ -40,13 +41,13 @@ impl<'a> Present<'a> {
         ensures case { result.now ≡ self.now }
         ensures valid { IsValid self.now }
     {
-        let _nodes = self.case.nodes();
         self.case
     }
 
     /// Its network.
     pub(crate) fn network(&self) -> &Network
         ensures network { result.now ≡ network_of self.now }
+        ensures valid { IsValid self.now }
     {
         self.network
     }

@@ -38,7 +38,6 @@ fn star_of(present: &Present<'_>, m: u32) -> Option<u32>
     ensures vertex { IfSome result (λ v. v < (network_of present.now).graph.vertices) }
     ensures item { IfSome result (λ v. m < length (case_offered present.now)) }
 {
-    let _case = present.case();
     let network = present.network();
     let items = network.offered();
     if m >= items.count() {
@@ -83,7 +82,6 @@ fn measure_star(
     ensures clear { AreJoined [] ups.new [] }
     ensures kept { AreStarRanks present.now stars.new }
 {
-    let _case = present.case();
     let network = present.network();
     let known = stars[v as usize];
     if known > 0 {

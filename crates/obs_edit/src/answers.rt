@@ -1,5 +1,6 @@
 // Room for the answers to a case, and those that are at hand.
 ghost use Rattle.std.specs.Prelude.{◌≡◌, false, None, IfOk};
+ghost use Rattle.obs_case.specs.Tables.{IsValid};
 ghost use Rattle.obs_edit.specs.Sessions.{HasRoomToAnswer};
 
 use crate::hand::AtHand;
@@ -42,6 +43,7 @@ pub(crate) fn make_answers(alloc: Global, case: &Case) -> Result<Answers, NoMemo
         (λ x. HasRoomToAnswer case.now x.marks.items x.critical x.islands x.inside.items x.measured.listed) }
     ensures nothing { IfOk result (λ x. x.hand ≡
         record { first = false; critical = false; islands = false; bound = None; placed = false }) }
+    ensures valid { IsValid case.now }
 {
     let meters = case.meters().len();
     let positions = position_count(case);

@@ -1,5 +1,6 @@
 // How the answers to a case are found. Each call keeps the pairs longest.
 ghost use Rattle.std.specs.Prelude.{◌≡◌};
+ghost use Rattle.obs_case.specs.Tables.{IsValid};
 ghost use Rattle.obs_assign.specs.Assignment.{pairs};
 ghost use Rattle.obs_network.specs.Network.{network_of};
 ghost use Rattle.obs_edit.specs.Answers.{case_first_pairs, case_islands};
@@ -20,6 +21,7 @@ pub(crate) fn find_first<L: Ledger>(
     work: &mut Work,
     steps: &mut Steps<L>,
 )
+    requires valid { IsValid case.now }
     requires network { network.now ≡ network_of case.now }
     requires longest { AreLongest case.now a.old }
     requires room { HasRoom case.now a.old work.old }
@@ -27,7 +29,6 @@ pub(crate) fn find_first<L: Ledger>(
     ensures longest { AreLongest case.now a.new }
     ensures room { HasRoom case.now a.new work.new }
 {
-    let _nodes = case.nodes();
     let g = network.graph();
     obs_first::first(g, network.meters(), a, work, steps);
 }

@@ -47,6 +47,7 @@ pub struct Session {
 
 impl Model for Session {
     ghost use Rattle.std.specs.Prelude.{◌≡◌, take};
+    ghost use Rattle.obs_case.specs.Tables.{IsValid};
     ghost use Rattle.obs_network.specs.Network.{network_of};
     ghost use Rattle.obs_network.specs.Observable.{case_rank};
     ghost use Rattle.obs_repair.specs.Parts.{BoundsWhereKnown, HasRoomForParts};
@@ -63,6 +64,7 @@ impl Model for Session {
     } };
 
     ghost invariant = { λ s. record {
+      valid : IsValid s.case;
       network : s.network ≡ network_of s.case;
       longest : AreLongest s.case s.held.pairs;
       room : HasRoom s.case s.held.pairs s.held.work;
@@ -167,7 +169,6 @@ impl Session {
         ensures computed { result.rank ≡ case_rank self.now.tables }
         ensures needed { result.needed ≡ case_needed self.now.tables }
     {
-        let _nodes = self.case.nodes();
         State {
             rank: self.held.pairs.length(),
             needed: self.network.needed(),
@@ -212,7 +213,6 @@ impl Session {
         if is_set(&self.case, edit) {
             return self.applied(0);
         }
-        let _nodes = self.case.nodes();
         set_flag(&mut self.case, edit);
         self.answers.hand = AtHand::nothing();
         let searches = repair(

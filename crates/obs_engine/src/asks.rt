@@ -72,7 +72,6 @@ fn print_case_placement<W: Sink, L: Ledger>(
         (block_text Block.Placement session.old.tables) }
 {
     session.find_placement(steps);
-    let _nodes = session.present().nodes();
     print_placement(
         output,
         session.present(),

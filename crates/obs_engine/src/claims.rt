@@ -1,6 +1,7 @@
 // The claims on the components of a session's case, printed.
 // Each call finds what is not at hand, and leaves the case as it is.
 ghost use Rattle.std.specs.Prelude.{◌≡◌, ◌<◌, []};
+ghost use Rattle.obs_case.specs.Tables.{IsValid};
 ghost use Rattle.obs_network.specs.Located.{live_meters_of};
 ghost use Rattle.obs_network.specs.Network.{case_component_count, network_of};
 ghost use Rattle.obs_report.specs.Printed.{Appends};
@@ -14,12 +15,12 @@ use std::sync::ledger::Ledger;
 
 // Prints the tree of a component without a live meter: its line alone, since no pair lies in it.
 fn print_lone_tree<W: Sink>(output: &mut W, session: &Session, c: u32) -> Result<(), Failed>
+    requires valid { IsValid session.now.tables }
     requires component { c < case_component_count session.now.tables }
     requires lone { live_meters_of (network_of session.now.tables) c ≡ [] }
     ensures appends { Appends W.written W.faults W.has_room output.old output.new result
         (tree_claim session.now.tables c) }
 {
-    let _nodes = session.present().nodes();
     print_tree(
         output,
         session.present(),
@@ -43,7 +44,6 @@ fn print_first_tree<W: Sink, L: Ledger>(
         (tree_claim session.old.tables c) }
 {
     session.find_first(steps);
-    let _nodes = session.present().nodes();
     print_tree(
         output,
         session.present(),
@@ -60,13 +60,13 @@ fn print_component_tree<W: Sink, L: Ledger>(
     c: u32,
     steps: &mut Steps<L>,
 ) -> Result<(), Failed>
+    requires valid { IsValid session.old.tables }
     requires component { c < case_component_count session.old.tables }
     ensures tables { session.new.tables ≡ session.old.tables }
     ensures offered { session.new.offered ≡ session.old.offered }
     ensures appends { Appends W.written W.faults W.has_room output.old output.new result
         (tree_claim session.old.tables c) }
 {
-    let _nodes = session.present().nodes();
     if session.network().live_meters(c).is_empty() {
         return print_lone_tree(output, session, c);
     }

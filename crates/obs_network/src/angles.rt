@@ -2,7 +2,7 @@
 ghost use Rattle.std.specs.Prelude.{◌≡◌, ◌+◌, ◌≢◌, ◌<◌, ◌≤◌, All, Bool, List, length, map, take};
 ghost use Rattle.std.specs.List.{list_any};
 ghost use Rattle.obs_case.specs.Items.{is_angle_kind};
-ghost use Rattle.obs_case.specs.Tables.{most_rows};
+ghost use Rattle.obs_case.specs.Tables.{IsValid, most_rows};
 ghost use Rattle.obs_network.specs.Angles.{angle_branches, bus_angle, has_angle, item_angle};
 ghost use Rattle.obs_network.specs.Network.{case_absolute, case_angles, case_components, case_energised};
 ghost use Rattle.obs_network.specs.Switched.{case_bus_count, case_buses};
@@ -46,6 +46,7 @@ fn any_candidate(candidates: &[Candidate]) -> bool
 // Whether one of the items is an angle item: one look at each kind.
 pub(crate) fn has_angle(case: &Case) -> bool
     ensures angle { result ≡ has_angle case.now }
+    ensures valid { IsValid case.now }
 {
     any_meter(case.meters()) || any_candidate(case.candidates())
 }
@@ -140,6 +141,7 @@ pub(crate) fn write_angles(
     ensures angles { take result places.new ≡ case_angles case.now }
     ensures room { length places.new ≡ length places.old }
     ensures few { result ≤ length places.new }
+    ensures valid { IsValid case.now }
 {
     if has_angle(case) {
         let (of_meters, of_candidates) = places.split_at_mut(case.meters().len());

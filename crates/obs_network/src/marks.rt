@@ -44,7 +44,6 @@ pub(crate) fn number(
     ensures below { All (λ c. c < result) numbers.new }
     ensures firsts { All (λ b. b < length firsts.now) (take result first_buses.new) }
 {
-    let _live = live.len();
     let mut count = 0;
     for bus in 0..firsts.len() {
         let first = firsts[bus] as usize;

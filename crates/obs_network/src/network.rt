@@ -187,7 +187,6 @@ impl Network {
         ensures whole { self.new ≡ network_of case.now }
         ensures same { IsTrue result → self.new ≡ self.old }
     {
-        let _nodes = case.nodes();
         if relabel_unless(case, known, &mut self.links, &mut self.buses) {
             return true;
         }

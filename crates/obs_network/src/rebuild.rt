@@ -1,6 +1,6 @@
 // The parts of the network of a case, made anew one after another.
 ghost use Rattle.std.specs.Prelude.{◌≡◌, ◌<◌, ◌≤◌, ◌+◌, IsTrue, length, slice_index_or, slice_set, take};
-ghost use Rattle.obs_case.specs.Tables.{most_rows};
+ghost use Rattle.obs_case.specs.Tables.{IsValid, most_rows};
 ghost use Rattle.obs_graph.specs.Positions.{AreBranches};
 ghost use Rattle.obs_graph.specs.Search.{room_of};
 ghost use Rattle.obs_network.specs.declared.rebuild.Known.TheVariants.{TheBuses, ByCount};
@@ -96,6 +96,7 @@ pub(crate) fn find_live(case: &Case, buses: &Buses, live: &mut [Option<Ends>])
     requires buses { buses.now.buses ≡ case_buses case.now }
     requires room { length live.old ≡ length case.now.branches }
     ensures live { live.new ≡ case_live case.now }
+    ensures valid { IsValid case.now }
 {
     write_live(case.branches(), buses, live);
 }
@@ -169,11 +170,11 @@ fn write_branches(
     ensures whole { IsTrue result.whole → live.now ≡ case_branches case.now }
     ensures few { result.positions ≤ length kept.new }
     ensures kept { length kept.new ≡ length kept.old }
+    ensures valid { IsValid case.now }
 {
-    let _nodes = case.nodes();
     let (rows, items) = kept.split_at_mut(live.len());
-    let all = write_energised(live, components.numbers(), components.marks(), rows);
     let angles = write_angles(case, buses, components, items);
+    let all = write_energised(live, components.numbers(), components.marks(), rows);
     let whole = are_live(all, angles);
     Written {
         positions: live.len() + angles,
@@ -228,7 +229,6 @@ pub(crate) fn refill_graph(
     ensures kept { length kept.new ≡ length kept.old }
     ensures kept_ends { take (length graph.new.ends) kept.new ≡ graph.new.ends }
 {
-    let _nodes = case.nodes();
     let written = write_branches(case, buses, components, live, kept);
     let vertices = buses.count() + components.count();
     fill_graph(written.whole, vertices, &kept[..written.positions], graph);
@@ -295,6 +295,7 @@ pub(crate) fn change_item(
     ensures offered { offered.new ≡ record offered.old {
       touches = slice_set offered.old.touches m (slice_index_or (case_meters case.now) m Touch.Nothing);
     } }
+    ensures valid { IsValid case.now }
 {
     let rows = case.branches().len() as u32;
     let touch = touch_of_meter(&case.meters()[m as usize], m, buses, graph, rows);

@@ -1,5 +1,6 @@
 // The network after a switch was opened or closed, or after any edit.
 ghost use Rattle.std.specs.Prelude.{◌≡◌, ◌<◌, IsTrue, length};
+ghost use Rattle.obs_case.specs.Tables.{IsValid};
 ghost use Rattle.obs_network.specs.Edited.{IsBeforeSwitch};
 ghost use Rattle.obs_network.specs.Network.{network_of, rows_of};
 
@@ -21,6 +22,7 @@ impl Network {
         requires switch { at < length case.now.switches }
         requires before { IsBeforeSwitch self.now at case.now }
         ensures same { IsTrue result → self.now ≡ network_of case.now }
+        ensures valid { IsValid case.now }
     {
         let switch = &case.switches()[at as usize];
         let buses = self.buses();
@@ -36,7 +38,6 @@ impl Network {
         ensures whole { self.new ≡ network_of case.now }
         ensures same { IsTrue result → self.new ≡ self.old }
     {
-        let _nodes = case.nodes();
         self.joins_nothing(case, at) || self.remake(case, Known::ByCount)
     }
 }

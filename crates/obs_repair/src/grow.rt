@@ -1,5 +1,6 @@
 // The searches of a repair.
 ghost use Rattle.std.specs.Prelude.{◌≡◌, ◌+◌, ◌-◌, ◌≤◌, ℕ, true, length};
+ghost use Rattle.obs_graph.specs.Positions.{AreBranches};
 ghost use Rattle.obs_meter.specs.Sizes.{HasRoomFor};
 ghost use Rattle.obs_assign.specs.Assignment.{HasRoomOf, StandsOver, pairs};
 ghost use Rattle.obs_exchange.specs.declared.Sources.TheVariants.{All};
@@ -40,6 +41,7 @@ fn search_back<L: Ledger>(
     work: &mut Work,
     steps: &mut Steps<L>,
 ) -> u32
+    requires branches { AreBranches network.now.graph.vertices network.now.graph.ends }
     requires stands { StandsOver a.old network.now.graph network.now.meters.touches }
     requires thawed { IsThawed a.old }
     requires room { HasRoomFor work.old.sizes network.now.graph network.now.meters.touches }
@@ -54,7 +56,6 @@ fn search_back<L: Ledger>(
 {
     let g = network.graph();
     let ms = network.meters();
-    let _ = g.vertices();
     let _ = a.turns();
     if a.length() >= most {
         return 0;
@@ -77,6 +78,7 @@ pub(crate) fn grow<L: Ledger>(
     work: &mut Work,
     steps: &mut Steps<L>,
 ) -> Lengthened
+    requires branches { AreBranches network.now.graph.vertices network.now.graph.ends }
     requires stands { StandsOver a.old network.now.graph network.now.meters.touches }
     requires thawed { IsThawed a.old }
     requires room { HasRoomFor work.old.sizes network.now.graph network.now.meters.touches }

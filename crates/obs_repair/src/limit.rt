@@ -1,5 +1,6 @@
 // How many pairs the parts bound after an edit, and which parts are known after its searches.
-ghost use Rattle.std.specs.Prelude.{◌≡◌, ◌⊎◌, ◌+◌, ◌<◌, ◌≤◌, true, false, Some, IfSome, length};
+ghost use Rattle.std.specs.Prelude.{◌≡◌, ◌⊎◌, ◌+◌, ◌<◌, ◌≤◌, ◌^◌, true, false, Some, IfSome, length};
+ghost use Rattle.obs_graph.specs.Positions.{AreBranches};
 ghost use Rattle.obs_assign.specs.Assignment.{pairs};
 ghost use Rattle.obs_exchange.specs.declared.Sources.TheVariants.{All};
 ghost use Rattle.obs_exchange.specs.Found.{HasClosed};
@@ -108,6 +109,8 @@ pub(crate) fn settle(
     limit: Option<u32>,
     parts: &mut Parts,
 )
+    requires branches { AreBranches network.now.graph.vertices network.now.graph.ends }
+    requires few { network.now.graph.vertices < 2 ^ 32 }
     requires longest { IsLongest network.now.graph network.now.meters.touches a.now }
     requires closed { closed ≡ true
         → HasClosed network.now.graph.ends network.now.meters.touches All a.now a.now reached.now }

@@ -1,6 +1,7 @@
 // Parts of the vertices, which bound how many pairs there can be. They are made where a search from all sources ended closed:
 // the branches of the meters that it reached join the vertices of each part.
-ghost use Rattle.std.specs.Prelude.{◌≡◌, ◌<◌, ◌≤◌, ℕ, true, false, None, Some, IfOk, length, slice_index_or};
+ghost use Rattle.std.specs.Prelude.{◌≡◌, ◌<◌, ◌≤◌, ◌^◌, ℕ, true, false, None, Some, IfOk, length, slice_index_or};
+ghost use Rattle.obs_graph.specs.Positions.{AreBranches};
 ghost use Rattle.obs_meter.specs.Touches.{IsInRange};
 ghost use Rattle.obs_meter.specs.declared.Touch.TheVariants.{Nothing};
 ghost use Rattle.obs_assign.specs.Assignment.{branch_at, pairs};
@@ -142,6 +143,8 @@ impl Parts {
     /// Makes the parts anew, of what a search from all sources reached that found none: then no assignment has more
     /// pairs than there are.
     pub(crate) fn renew(&mut self, g: &Graph, ms: &Meters, a: &Assignment, reached: &[bool])
+        requires branches { AreBranches g.now.vertices g.now.ends }
+        requires few { g.now.vertices < 2 ^ 32 }
         requires longest { IsLongest g.now ms.now.touches a.now }
         requires closed { HasClosed g.now.ends ms.now.touches All a.now a.now reached.now }
         requires room { g.now.vertices ≤ length self.old.first }
@@ -151,7 +154,6 @@ impl Parts {
         ensures vertices { length self.new.first ≡ length self.old.first }
         ensures same_positions { self.new.positions ≡ self.old.positions }
     {
-        let _ = g.vertices();
         hold_own(g, ms, a, reached, &mut self.held);
         reach_all(g, &self.held, &mut self.search);
         self.known = true;

@@ -1,5 +1,6 @@
 // The names of rows, buses and components.
 ghost use Rattle.std.specs.Prelude.{◌≡◌, ◌<◌, length, slice_index};
+ghost use Rattle.obs_case.specs.Tables.{IsValid};
 ghost use Rattle.obs_network.specs.Network.{network_of};
 ghost use Rattle.obs_report.specs.Items.{branch_name, candidate_name, meter_name};
 ghost use Rattle.obs_report.specs.Meters.{bus_name, component_name};
@@ -53,8 +54,10 @@ pub(crate) fn bus_name<'a>(case: &'a Case, network: &Network, bus: u32) -> &'a [
     requires network { network.now ≡ network_of case.now }
     requires bus { bus < network.now.buses.count }
     ensures name { result.now ≡ bus_name case.now bus }
+    ensures valid { IsValid case.now }
 {
-    node_name(case, first_of(network.buses().members(bus)))
+    let first = first_of(network.buses().members(bus));
+    case.nodes()[first as usize].name.bytes()
 }
 
 /// The name of a component.
@@ -62,6 +65,7 @@ pub(crate) fn component_name<'a>(case: &'a Case, network: &Network, c: u32) -> &
     requires network { network.now ≡ network_of case.now }
     requires component { c < length network.now.components.first_buses }
     ensures name { result.now ≡ component_name case.now c }
+    ensures valid { IsValid case.now }
 {
     bus_name(case, network, network.first_bus(c))
 }

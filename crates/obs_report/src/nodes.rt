@@ -17,7 +17,6 @@ fn first_node(case: &Case, buses: &Buses, node: u32) -> u32
     ensures first { result ≡ case_first_node case.now node }
     ensures within { result < length case.now.nodes }
 {
-    let _nodes = case.nodes().len();
     first_of(buses.members(buses.bus(node)))
 }
 

@@ -1,6 +1,7 @@
 // The lines on trees: components and their pairs.
 ghost use Rattle.std.specs.Prelude.{◌≡◌, ◌<◌, All, [], ◌∷◌, length};
 ghost use Rattle.std.specs.List.{flat_map};
+ghost use Rattle.obs_case.specs.Tables.{IsValid};
 ghost use Rattle.obs_matroid.specs.Slots.{pairs_from, pairs_of};
 ghost use Rattle.obs_assign.specs.Assignment.{StandsOver, branch_at};
 ghost use Rattle.obs_network.specs.Network.{case_meters, network_of};
@@ -24,12 +25,12 @@ fn print_pairs<W: Sink>(
     meters: &[u32],
     pairs: &Assignment,
 )
+    requires valid { IsValid case.now }
     requires meters { All (λ m. m < length case.now.meters) meters.now }
     requires pairs { StandsOver pairs.now (network_of case.now).graph (case_meters case.now) }
     ensures printed { Prints W.written W.faults W.has_room output.old output.new lines.old lines.new
         (flat_map (λ m. flat_map (pair_line case.now) (pairs_from m (branch_at pairs.now m ∷ []))) meters.now) }
 {
-    let _nodes = case.nodes();
     for m in meters {
         print_pair(lines, output, case, *m, pairs.branch_of(*m));
     }
@@ -50,7 +51,6 @@ pub fn print_tree<W: Sink>(
     ensures appends { Appends W.written W.faults W.has_room output.old output.new result
         (tree_text case.now c (pairs_of pairs.now.slots)) }
 {
-    let _nodes = case.nodes();
     let name = component_name(case, network, c);
     let mut lines = LineBuffer::new();
     lines.line(output, &[b"tree", name]);

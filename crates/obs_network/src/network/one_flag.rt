@@ -78,7 +78,6 @@ impl Network {
         requires before { IsBeforeMeter self.old m case.now }
         ensures whole { self.new ≡ network_of case.now }
     {
-        let _nodes = case.nodes();
         change_item(
             case,
             &self.buses,

@@ -43,7 +43,7 @@ loop-claim-init c =
     (ap (first_flaw t 1) (sym whole), omega (arith, ap length whole), c.begin.ensures.ready t c.requires.room)
 
 pub overflow_add-at : goal.overflow_add-at
-overflow_add-at c = omega (arith, c.loop-claim.invariant.1, ap length c.in-Some.ensures.steps, c.claims-claims.ensures.count, c.claims-claims.type_inv)
+overflow_add-at c = omega (arith, c.loop-claim.invariant.1, ap length c.in-Some.ensures.steps, c.walk-claim-items.ensures.few)
 
 pub loop-claim-smaller : goal.loop-claim-smaller
 loop-claim-smaller c = omega (arith, ap length c.in-Some.ensures.steps)

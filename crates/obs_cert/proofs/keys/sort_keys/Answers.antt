@@ -10,5 +10,5 @@ returns-clause-keys c =
     record {
       all = subst (λ (xs : List ℕ). IsPermutation xs new) c.write_keys.ensures.keys c.sort_unstable.ensures.permutation;
       rising = IsNonDecreasingBy-from_sort (λ k. k) new c.sort_unstable.ensures.sorted;
-      few = omega (arith, c.sort_unstable.ensures.len, c.write_keys.auto.keys, c.requires.room, rows_few c.args.present.now c.case-case.ensures.valid);
+      few = omega (arith, c.sort_unstable.ensures.len, c.write_keys.auto.keys, c.requires.room, rows_few c.args.present.now c.write_keys.ensures.valid);
     }

@@ -34,7 +34,7 @@ is_rank c =
     let t = c.args.present.now in
     let h = here c in
     case_rank t (network_of c.args.present.now) (network_of c.args.present.now).graph (flat_map (touches_of t) (h.before ++ items_of t (layer_said c.in-Some.layer).inside)) j.new.ups j.new.moved j.result
-    c.case-case.ensures.valid refl refl (omega (arith, c.requires.vertices, l.auto.ups, j.auto.ups)) j.ensures.count
+    c.join_items-count.ensures.valid refl refl (omega (arith, c.requires.vertices, l.auto.ups, j.auto.ups)) j.ensures.count
     (joined_now t (network_of c.args.present.now).graph.ends (layer_said c.in-Some.layer) c.next.new.self c.args.layers l.ups l.moved l.count l.wrong j.new.ups j.new.moved j.result h j.ensures.count (step c))
 
 pub loop-layer-preserved : goal.loop-layer-preserved

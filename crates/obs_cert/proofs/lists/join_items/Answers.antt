@@ -48,4 +48,4 @@ returns c =
     let all = flat_map (touches_of case) (items_of case c.args.items) in
     let i : IsJoining ends [] all c.args.ups.now c.args.moved.now c.args.count l.ups l.moved l.count =
     subst (λ (is : List Item). IsJoining ends (flat_map (touches_of case) (items_of case is)) all c.args.ups.now c.args.moved.now c.args.count l.ups l.moved l.count) c.in-None.ensures.steps l.invariant in
-    record { joined = joining_end ends all c.args.ups.now c.args.moved.now c.args.count l.ups l.moved l.count i; count = i.fits }
+    record { joined = joining_end ends all c.args.ups.now c.args.moved.now c.args.count l.ups l.moved l.count i; count = i.fits; valid = c.case-case.ensures.valid }

@@ -20,4 +20,4 @@ pub returns-clause-rank : goal.returns-clause-rank
 returns-clause-rank c =
     let j = c.join_items-count in
     case_rank c.args.present.now (network_of c.args.present.now) (network_of c.args.present.now).graph (flat_map (touches_of c.args.present.now) (items_of c.args.present.now c.args.items)) j.new.ups j.new.moved j.result
-    c.case-case.ensures.valid refl refl (omega (arith, c.requires.vertices, j.auto.ups)) j.ensures.count (j.ensures.joined [] c.requires.clear)
+    c.join_items-count.ensures.valid refl refl (omega (arith, c.requires.vertices, j.auto.ups)) j.ensures.count (j.ensures.joined [] c.requires.clear)

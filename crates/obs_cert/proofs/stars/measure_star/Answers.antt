@@ -40,7 +40,7 @@ rank_is c =
     let j = c.join_all-count in
     let ends : g.ends ≡ case_branches t = ap (λ (x : Graph). x.ends) (c.graph-graph.ensures.graph ∙ ap (λ (n : Network). n.graph) c.network-network.ensures.network) in
     let items : c.offered.result.now.touches ≡ case_offered t = ap (λ (x : Meters). x.touches) (c.offered.ensures.offered ∙ ap (λ (n : Network). n.offered) c.network-network.ensures.network) in
-    case_rank t c.network-network.result.now g c.touch-touched.result.now j.new.ups j.new.moved j.result c.case-case.ensures.valid c.network-network.ensures.network c.graph-graph.ensures.graph
+    case_rank t c.network-network.result.now g c.touch-touched.result.now j.new.ups j.new.moved j.result c.network-network.ensures.valid c.network-network.ensures.network c.graph-graph.ensures.graph
     (omega (arith, c.requires.vertices, j.auto.ups)) j.ensures.count (j.ensures.joined [] c.requires.clear)
     ∙ ap (rank_of_branches t) (c.touch-touched.ensures.touched ∙ ap (λ es. touch_at es c.offered.result.now.touches c.args.m) ends ∙ ap (λ ts. touch_at (case_branches t) ts c.args.m) items ∙ c.requires.star)
 

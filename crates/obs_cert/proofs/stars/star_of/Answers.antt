@@ -17,5 +17,5 @@ returns-in-Some-clause-star c =
     let ends : g.ends ≡ case_branches t = ap (λ (x : Graph). x.ends) (c.graph.ensures.graph ∙ ap (λ (n : Network). n.graph) c.network-network.ensures.network) in
     let items : c.offered-items.result.now.touches ≡ case_offered t = ap (λ (x : Meters). x.touches) (c.offered-items.ensures.offered ∙ ap (λ (n : Network). n.offered) c.network-network.ensures.network) in
     let low : m < length (case_offered t) = omega (arith, c.if-m-count.false, c.count.ensures.count, ap (λ (ts : List Touch). length ts) items) in
-    rows_at_hub t c.case-case.ensures.valid m low c.in-Some.hub
+    rows_at_hub t c.network-network.ensures.valid m low c.in-Some.hub
     (ap (λ es. hub_of es (slice_index_or (case_offered t) m Nothing)) (sym ends) ∙ ap (λ (ts : List Touch). hub_of g.ends (slice_index_or ts m Nothing)) (sym items) ∙ sym c.in-Some.ensures.hub)

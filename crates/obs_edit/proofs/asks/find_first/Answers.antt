@@ -18,4 +18,4 @@ returns-clause-longest g c =
     let mm = c.meters.ensures.meters ∙ ap (λ (n : Network). n.meters) c.requires.network in
     let a = c.first.new.a in
     let stands = subst (λ (x : Graph). StandsOver a x (case_meters t)) gg (subst (λ (i : Meters). StandsOver a c.graph-g.result.now i.touches) mm c.first.ensures.stands) in
-    IsLongest-first t c.nodes-nodes.ensures.valid a stands c.first.ensures.whole c.first.ensures.thawed (c.first.ensures.first ∙ first_of_network t c.graph-g.result.now c.meters.result.now gg mm)
+    IsLongest-first t c.requires.valid a stands c.first.ensures.whole c.first.ensures.thawed (c.first.ensures.first ∙ first_of_network t c.graph-g.result.now c.meters.result.now gg mm)

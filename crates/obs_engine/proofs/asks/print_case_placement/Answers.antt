@@ -13,20 +13,20 @@ use Rattle.obs_engine.proofs.asks.print_case_placement.Goals as goal
 pub print_placement-requires-clause-within : goal.print_placement-requires-clause-within
 print_placement-requires-clause-within g c =
     let t = c.find_placement.new.self.tables in
-    subst (λ (x : Tables). IsWithin x (placed_of c.found_placement.result)) (sym c.present-2.ensures.case)
+    subst (λ (x : Tables). IsWithin x (placed_of c.found_placement.result)) (sym c.present.ensures.case)
     (subst (λ (p : Placed). IsWithin t p) (sym c.found_placement.ensures.placed) (placement_within t))
 
 pub print_placement-requires-clause-pairs : goal.print_placement-requires-clause-pairs
 print_placement-requires-clause-pairs g c =
     let t = c.find_placement.new.self.tables in
     let pairs = c.found_plan_pairs.result.now in
-    subst (λ (x : Tables). ArePairsOf x pairs) (sym c.present-2.ensures.case) (standing_pairs t pairs c.found_plan_pairs.ensures.stands)
+    subst (λ (x : Tables). ArePairsOf x pairs) (sym c.present.ensures.case) (standing_pairs t pairs c.found_plan_pairs.ensures.stands)
 
 pub returns-clause-appends : goal.returns-clause-appends
 returns-clause-appends g c =
     let t = c.find_placement.new.self.tables in
     let pairs = pairs_of c.found_plan_pairs.result.now.slots in
     appends_as
-    (ap (λ (x : Tables). placement_text x (placed_of c.found_placement.result) pairs) c.present-2.ensures.case
+    (ap (λ (x : Tables). placement_text x (placed_of c.found_placement.result) pairs) c.present.ensures.case
     ∙ (placement_is t (placed_of c.found_placement.result) pairs c.found_placement.ensures.placed c.found_plan_pairs.ensures.pairs ∙ ap (λ (x : Tables). block_text Placement x) c.find_placement.ensures.tables))
     c.print_placement.ensures.appends

@@ -12,6 +12,9 @@ energised-requires g c = record {
   component = let low = c.requires.component in let n = count_of c.network.result.now c.args.session.now.tables c.network.ensures.network in omega (arith, low, n);
 }
 
+pub print_component_tree-requires-clause-valid : goal.print_component_tree-requires-clause-valid
+print_component_tree-requires-clause-valid g c = subst (λ (x : Tables). IsValid x) c.present.ensures.case c.nodes-nodes.ensures.valid
+
 pub returns-then-not-energised-clause-appends : goal.returns-then-not-energised-clause-appends
 returns-then-not-energised-clause-appends g c =
     let t = c.args.session.now.tables in

@@ -19,6 +19,6 @@ pub returns-clause-appends : goal.returns-clause-appends
 returns-clause-appends g c =
     let pairs = pairs_of c.found_pairs.result.now.slots in
     appends_as
-    (ap (λ (t : Tables). tree_text t c.args.c pairs) c.present-2.ensures.case
+    (ap (λ (t : Tables). tree_text t c.args.c pairs) c.present.ensures.case
     ∙ (tree_is c.find_first.new.self.tables c.args.c pairs c.found_pairs.ensures.first ∙ ap (λ (t : Tables). tree_claim t c.args.c) c.find_first.ensures.tables))
     c.print_tree.ensures.appends

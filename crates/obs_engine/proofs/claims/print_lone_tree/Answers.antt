@@ -1,5 +1,5 @@
-use Rattle.std.proofs.Common.{◌∙◌, ap, arith, subst}
-use Rattle.obs_case.specs.Tables.{IsValid, Tables}
+use Rattle.std.proofs.Common.{◌∙◌, ap, arith}
+use Rattle.obs_case.specs.Tables.{Tables}
 use Rattle.obs_assign.specs.Assignment.{Assignment, pairs}
 use Rattle.obs_report.specs.Trees.{tree_text}
 use Rattle.obs_network.proofs.OfCase.{count_of}
@@ -14,10 +14,9 @@ print_tree-requires-clause-component g c =
 pub returns : goal.returns
 returns g c =
     let t = c.args.session.now.tables in
-    let valid = subst IsValid c.present.ensures.case c.nodes-nodes.ensures.valid in
     record {
       appends = appends_as
-          (ap (λ (x : Tables). tree_text x c.args.c (pairs c.pairs.result.now)) c.present-2.ensures.case
-          ∙ (ap (λ (a : Assignment). tree_text t c.args.c (pairs a)) c.pairs.ensures.pairs ∙ lone_tree_is t valid c.args.c c.requires.lone c.args.session.now.pairs c.pairs.ensures.longest))
+          (ap (λ (x : Tables). tree_text x c.args.c (pairs c.pairs.result.now)) c.present.ensures.case
+          ∙ (ap (λ (a : Assignment). tree_text t c.args.c (pairs a)) c.pairs.ensures.pairs ∙ lone_tree_is t c.requires.valid c.args.c c.requires.lone c.args.session.now.pairs c.pairs.ensures.longest))
           c.print_tree.ensures.appends;
     }

@@ -44,4 +44,5 @@ pub returns : goal.returns
 returns c = record {
   meters = with_touch c c.args.meters.now c.set.new.self c.set.ensures.set;
   offered = with_touch c c.args.offered.now c.set-2.new.self c.set-2.ensures.set;
+  valid = c.meters.ensures.valid;
 }

@@ -10,4 +10,4 @@ write_live-requires-clause-ends c =
 
 pub returns : goal.returns
 unfolding case_live
-returns c = record { live = c.write_live.ensures.live ∙ rw (c.branches.ensures.rows, c.requires.buses) }
+returns c = record { live = c.write_live.ensures.live ∙ rw (c.branches.ensures.rows, c.requires.buses); valid = c.branches.ensures.valid }

@@ -15,7 +15,7 @@ pub overflow_add-vertices : goal.overflow_add-vertices
 overflow_add-vertices c =
     let t = c.args.case.now in
     let all = vertices t c.count.result c.count-2.result _ _ c.count.ensures.count c.count-2.ensures.count c.requires.count c.requires.first_buses in
-    omega (arith, all, case_bus_count-le t, case_component_count-le t, few_nodes t c.nodes-nodes.ensures.valid)
+    omega (arith, all, case_bus_count-le t, case_component_count-le t, few_nodes t c.write_branches-written.ensures.valid)
 
 pub fill_graph-requires-clause-vertices : goal.fill_graph-requires-clause-vertices
 fill_graph-requires-clause-vertices c =
@@ -25,7 +25,7 @@ fill_graph-requires-clause-vertices c =
 pub fill_graph-requires-clause-branches : goal.fill_graph-requires-clause-branches
 fill_graph-requires-clause-branches c =
     let all = vertices c.args.case.now c.count.result c.count-2.result _ _ c.count.ensures.count c.count-2.ensures.count c.requires.count c.requires.first_buses in
-    rw (all, c.write_branches-written.ensures.branches) (case_branches-are c.args.case.now c.nodes-nodes.ensures.valid)
+    rw (all, c.write_branches-written.ensures.branches) (case_branches-are c.args.case.now c.write_branches-written.ensures.valid)
 
 pub returns-clause-vertices : goal.returns-clause-vertices
 returns-clause-vertices c =

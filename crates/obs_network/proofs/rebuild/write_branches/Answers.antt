@@ -8,7 +8,7 @@ use Rattle.obs_network.proofs.rebuild.write_branches.Goals.{After-are_live-whole
 
 pub write_energised-all-requires-clause-ends : goal.write_energised-all-requires-clause-ends
 write_energised-all-requires-clause-ends c =
-    rw (c.requires.live, c.numbers.ensures.numbers, c.requires.of_buses) (case_live-ends c.args.case.now c.nodes-nodes.ensures.valid)
+    rw (c.requires.live, c.numbers.ensures.numbers, c.requires.of_buses) (case_live-ends c.args.case.now c.write_angles-angles.ensures.valid)
 
 -- what is kept of the rows
 rows_are : (c : After-are_live-whole) → c.write_energised-all.new.kept ≡ case_rows c.args.case.now

@@ -1,6 +1,5 @@
 use Rattle.std.proofs.Common.{[], false, subst, arith}
 use Rattle.obs_graph.specs.Graph.{Graph}
-use Rattle.obs_graph.specs.Positions.{AreBranches}
 use Rattle.obs_meter.specs.Held.{Meters}
 use Rattle.obs_assign.specs.Assignment.{StandsOver}
 use Rattle.obs_exchange.specs.declared.Sources.TheVariants.{One}
@@ -12,16 +11,14 @@ use Rattle.obs_repair.proofs.grow.search_back.Goals as goal
 pub returns-then-length-most-clause-longest : goal.returns-then-length-most-clause-longest
 returns-then-length-most-clause-longest g c =
     let n = c.args.network.now in
-    let ok = subst (λ (x : Graph). AreBranches x.vertices x.ends) c.graph-g.ensures.graph c.vertices.ensures.branches in
-    IsLongest-ended n.graph n.meters.touches c.args.a.now [] c.args.most false ok c.requires.stands c.length.ensures.whole c.requires.thawed c.requires.most
+    IsLongest-ended n.graph n.meters.touches c.args.a.now [] c.args.most false c.requires.branches c.requires.stands c.length.ensures.whole c.requires.thawed c.requires.most
     (let full = c.if-length-most.true in let many = c.length.ensures.length in omega (arith, full, many))
 
 pub returns-in-Grown-clause-longest : goal.returns-in-Grown-clause-longest
 returns-in-Grown-clause-longest g c =
     let n = c.args.network.now in
-    let ok = subst (λ (x : Graph). AreBranches x.vertices x.ends) c.graph-g.ensures.graph c.vertices.ensures.branches in
     let e = c.in-Grown.ensures in
-    longest-grown n.graph n.meters.touches ok c.args.m c.args.a.now c.requires.back c.requires.stands c.requires.thawed c.search.new.a c.in-Grown.field-0 e.whole
+    longest-grown n.graph n.meters.touches c.requires.branches c.args.m c.args.a.now c.requires.back c.requires.stands c.requires.thawed c.search.new.a c.in-Grown.field-0 e.whole
     (subst (λ (x : Graph). StandsOver c.search.new.a x n.meters.touches) c.graph-g.ensures.graph
     (subst (λ (x : Meters). StandsOver c.search.new.a c.graph-g.result.now x.touches) c.meters-ms.ensures.meters e.stands))
     (subst (λ (x : Graph). HasGrown x.ends n.meters.touches (One c.args.m) c.args.a.now c.search.new.a c.in-Grown.field-0) c.graph-g.ensures.graph
@@ -30,8 +27,7 @@ returns-in-Grown-clause-longest g c =
 pub returns-in-Closed-clause-longest : goal.returns-in-Closed-clause-longest
 returns-in-Closed-clause-longest g c =
     let n = c.args.network.now in
-    let ok = subst (λ (x : Graph). AreBranches x.vertices x.ends) c.graph-g.ensures.graph c.vertices.ensures.branches in
     let e = c.in-Closed.ensures in
-    longest-closed n.graph n.meters.touches ok c.args.m c.args.a.now c.requires.back c.requires.stands c.requires.thawed c.length.ensures.whole c.search.new.a c.search.new.work.reached
+    longest-closed n.graph n.meters.touches c.requires.branches c.args.m c.args.a.now c.requires.back c.requires.stands c.requires.thawed c.length.ensures.whole c.search.new.a c.search.new.work.reached
     (subst (λ (x : Graph). HasClosed x.ends n.meters.touches (One c.args.m) c.args.a.now c.search.new.a c.search.new.work.reached) c.graph-g.ensures.graph
     (subst (λ (x : Meters). HasClosed c.graph-g.result.now.ends x.touches (One c.args.m) c.args.a.now c.search.new.a c.search.new.work.reached) c.meters-ms.ensures.meters e.found))

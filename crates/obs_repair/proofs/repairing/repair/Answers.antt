@@ -1,9 +1,10 @@
-use Rattle.std.proofs.Common.{refl, sym, subst, arith}
+use Rattle.std.proofs.Common.{◌≡◌, ap, refl, sym, subst, arith}
 use Rattle.obs_graph.specs.Positions.{AreBranches}
 use Rattle.obs_assign.specs.Assignment.{Assignment, StandsOver}
 use Rattle.obs_exchange.specs.Longest.{IsLongest}
+use Rattle.obs_case.specs.Tables.{IsValid, Tables}
 use Rattle.obs_network.specs.Network.{Network, network_of}
-use Rattle.obs_network.proofs.OfCase.{case_branches-are}
+use Rattle.obs_network.proofs.OfCase.{case_branches-are, case_vertex_count-le, few_nodes}
 use Rattle.obs_repair.specs.declared.edit.Edit.{Edit}
 use Rattle.obs_repair.specs.Repairing.{AreLeft, IsBack, IsBefore, IsSaidAlone}
 use Rattle.obs_repair.specs.Parts.{BoundsWhereKnown}
@@ -43,10 +44,28 @@ limit-bound-requires g c =
       room = room_after c.args.case.now c.args.edit c.args.network.now c.args.a.now h n net c.args.parts.now c.requires.parts_room;
     }
 
+-- the graph's branches are between its vertices
+branches_are : (n : Network) (t : Tables) → IsValid t → n ≡ network_of t → AreBranches n.graph.vertices n.graph.ends
+branches_are n t valid is = subst (λ (x : Network). AreBranches x.graph.vertices x.graph.ends) (sym is) (case_branches-are t valid)
+
+pub grow-grown-requires-clause-branches : goal.grow-grown-requires-clause-branches
+grow-grown-requires-clause-branches g c =
+    branches_are c.follow-alone.new.network c.args.case.now (valid_now c.args.case.now c.requires.before.before c.args.edit c.requires.before.same c.requires.before.valid) c.follow-alone.ensures.network
+
+pub settle-requires-clause-branches : goal.settle-requires-clause-branches
+settle-requires-clause-branches g c =
+    branches_are c.follow-alone.new.network c.args.case.now (valid_now c.args.case.now c.requires.before.before c.args.edit c.requires.before.same c.requires.before.valid) c.follow-alone.ensures.network
+
+pub settle-requires-clause-few : goal.settle-requires-clause-few
+settle-requires-clause-few g c =
+    let t = c.args.case.now in
+    let valid = valid_now t c.requires.before.before c.args.edit c.requires.before.same c.requires.before.valid in
+    omega (arith, ap (λ (x : Network). x.graph.vertices) c.follow-alone.ensures.network, case_vertex_count-le t, few_nodes t valid)
+
 pub grow-grown-requires-clause-most : goal.grow-grown-requires-clause-most
 grow-grown-requires-clause-most g c =
     let n = c.follow-alone.new.network in
-    let ok = subst (λ (x : Network). AreBranches x.graph.vertices x.graph.ends) (sym c.follow-alone.ensures.network) (case_branches-are c.args.case.now (valid_now c.args.case.now c.requires.before.before c.args.edit c.requires.before.same c.requires.before.valid)) in
+    let ok = branches_are n c.args.case.now (valid_now c.args.case.now c.requires.before.before c.args.edit c.requires.before.same c.requires.before.valid) c.follow-alone.ensures.network in
     most-least n c.args.parts.now.first c.most_pairs-most.result c.least.result c.limit-bound.result ok
     (bound_now c.args.case.now c.args.edit c.args.network.now c.args.a.now c.requires.before (valid_now c.args.case.now c.requires.before.before c.args.edit c.requires.before.same c.requires.before.valid) c.follow-alone.result n c.follow-alone.ensures.network c.follow-alone.ensures.alone
     n.graph n.meters c.length-had.result c.needed.result c.most_pairs-most.result refl refl c.length-had.ensures.length c.needed.ensures.needed c.most_pairs-most.ensures.most)

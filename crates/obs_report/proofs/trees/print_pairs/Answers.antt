@@ -20,7 +20,7 @@ pub print_pair-requires-clause-branch : goal.print_pair-requires-clause-branch
 print_pair-requires-clause-branch g c =
     let t = c.args.case.now in
     rw c.branch_of.ensures.branch
-    (held_branch t c.args.pairs.now (λ m e h. meter_branch t c.nodes-nodes.ensures.valid m e (c.requires.pairs.touched m e h)) (get_or c.args.meters.now c.loop-m.m-index 0))
+    (held_branch t c.args.pairs.now (λ m e h. meter_branch t c.requires.valid m e (c.requires.pairs.touched m e h)) (get_or c.args.meters.now c.loop-m.m-index 0))
 
 pub loop-m-preserved : goal.loop-m-preserved
 loop-m-preserved g c =

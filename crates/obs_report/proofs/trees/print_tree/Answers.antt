@@ -12,6 +12,7 @@ print_pairs-requires g c =
     let t = c.args.case.now in
     let rows = ap (λ (n : Network). length n.meters.touches) c.requires.network ∙ length-case_meters t in
     record {
+      valid = c.component_name-name.ensures.valid;
       meters = λ k d l. let low = c.live_meters.ensures.below k d l in omega (arith, low, rows);
       pairs = subst (λ (n : Network). StandsOver c.args.pairs.now n.graph n.meters.touches) c.requires.network c.requires.pairs;
     }
@@ -22,5 +23,5 @@ returns g c =
     let stands = subst (λ (n : Network). StandsOver c.args.pairs.now n.graph n.meters.touches) c.requires.network c.requires.pairs in
     let meters = c.live_meters.ensures.meters ∙ ap (λ (n : Network). live_meters_of n c.args.c) c.requires.network in
     let named = rw c.component_name-name.ensures.name at c.line.ensures.printed in
-    let listed = rw (meters, tree_pairs t c.nodes-nodes.ensures.valid c.args.pairs.now stands c.args.c) at c.print_pairs.ensures.printed in
+    let listed = rw (meters, tree_pairs t c.component_name-name.ensures.valid c.args.pairs.now stands c.args.c) at c.print_pairs.ensures.printed in
     record { appends = finished c.new-lines.ensures.empty (then_printed named listed) c.finish.ensures.printed }

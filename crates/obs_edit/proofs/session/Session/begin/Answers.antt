@@ -10,6 +10,7 @@ pub invariant_of-result : goal.invariant_of-result
 invariant_of-result g c =
     let nothing = c.in-Ok-make_answers.ensures.nothing in
     record {
+      valid = c.make_answers.ensures.valid;
       network = c.in-Ok-make.ensures.whole;
       longest = c.fill.ensures.longest;
       room = c.fill.ensures.room;

@@ -15,6 +15,7 @@ invariant_of-self g c =
     let was = c.self.invariant in
     let found = c.place.ensures in
     record {
+      valid = was.valid;
       network = was.network;
       longest = was.longest;
       room = was.room;

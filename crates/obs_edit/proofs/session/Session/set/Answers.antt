@@ -8,6 +8,7 @@ use Rattle.obs_repair.specs.Edits.{HasRow, edited}
 use Rattle.obs_repair.specs.Parts.{BoundsWhereKnown, HasRoomForParts}
 use Rattle.obs_repair.specs.Kept.{HasRoom}
 use Rattle.obs_edit.specs.Sessions.{HasRoomToAnswer, Session}
+use Rattle.obs_repair.proofs.Flagged.{valid_now}
 use Rattle.obs_repair.proofs.OfNetwork.{rank_of_longest}
 use Rattle.obs_repair.proofs.PartRoom.{parts_room-edited}
 use Rattle.obs_repair.proofs.Sets.{repaired-same, room-edited, takes_none}
@@ -31,7 +32,7 @@ returns-then-is_set-clause-edited g c = record {
 pub repair-searches-requires-clause-before : goal.repair-searches-requires-clause-before
 repair-searches-requires-clause-before g c = record {
   before = c.self.inside.case;
-  valid = c.nodes-nodes.ensures.valid;
+  valid = c.self.invariant.valid;
   row = subst (λ (k : Session). HasRow k.tables c.args.edit) (sym c.self.view_is) c.requires.row;
   same = c.set_flag.ensures.edited;
   changed = λ k. c.if-is_set.ensures.set (sym c.set_flag.ensures.edited ∙ k);
@@ -49,10 +50,11 @@ repair-searches-requires-clause-parts_room g c =
 
 pub repair-searches-requires-clause-bounded : goal.repair-searches-requires-clause-bounded
 repair-searches-requires-clause-bounded g c =
-    subst (λ k. BoundsWhereKnown c.self.inside.network c.self.inside.held.parts k) (sym (rank_of_longest c.self.inside.case c.nodes-nodes.ensures.valid c.self.inside.held.pairs c.self.invariant.longest)) c.self.invariant.bounded
+    subst (λ k. BoundsWhereKnown c.self.inside.network c.self.inside.held.parts k) (sym (rank_of_longest c.self.inside.case c.self.invariant.valid c.self.inside.held.pairs c.self.invariant.longest)) c.self.invariant.bounded
 
 pub invariant_of-self : goal.invariant_of-self
 invariant_of-self g c = record {
+  valid = valid_now c.set_flag.new.case c.self.inside.case c.args.edit c.set_flag.ensures.edited c.self.invariant.valid;
   network = c.repair-searches.ensures.network;
   longest = c.repair-searches.ensures.longest;
   room = c.repair-searches.ensures.room;

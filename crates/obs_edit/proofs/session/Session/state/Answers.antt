@@ -7,4 +7,4 @@ use Rattle.obs_edit.proofs.session.Session.state.Goals as goal
 pub returns-clause-computed : goal.returns-clause-computed
 returns-clause-computed c =
     c.length.ensures.length
-    ∙ (rank_of_longest c.self.inside.case c.nodes-nodes.ensures.valid c.self.inside.held.pairs c.self.invariant.longest ∙ ap (λ (k : Session). case_rank k.tables) c.self.view_is)
+    ∙ (rank_of_longest c.self.inside.case c.self.invariant.valid c.self.inside.held.pairs c.self.invariant.longest ∙ ap (λ (k : Session). case_rank k.tables) c.self.view_is)

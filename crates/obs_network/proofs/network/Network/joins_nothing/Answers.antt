@@ -24,6 +24,7 @@ returns-then-switch c = record {
       let is = c.index-switches-at.is ∙ ap (λ (rows : List Switch). get_or rows c.args.at row) c.switches.ensures.rows in
       stays c.args.self.now c.args.at c.args.case.now c.switches.ensures.valid c.requires.before c.requires.switch row is c.buses-buses.result.now.buses (ap (λ (b : Buses). b.buses) c.buses-buses.ensures.buses)
       c.bus.result c.bus-2.result c.bus.ensures.bus c.bus-2.ensures.bus c.if-one_bus.true (inl closed);
+  valid = c.switches.ensures.valid;
 }
 
 pub returns-else-switch : goal.returns-else-switch
@@ -33,4 +34,5 @@ returns-else-switch c = record {
       let is = c.index-switches-at.is ∙ ap (λ (rows : List Switch). get_or rows c.args.at row) c.switches.ensures.rows in
       stays c.args.self.now c.args.at c.args.case.now c.switches.ensures.valid c.requires.before c.requires.switch row is c.buses-buses.result.now.buses (ap (λ (b : Buses). b.buses) c.buses-buses.ensures.buses)
       c.bus.result c.bus-2.result c.bus.ensures.bus c.bus-2.ensures.bus c.if-one_bus.true (inr (eqb-true row.from row.to itself));
+  valid = c.switches.ensures.valid;
 }

@@ -50,7 +50,7 @@ set-requires-clause-in_range c =
     let is = c.self.view_is in
     let g = c.self.inside.graph in
     let touches = of_meters c.args.self.now c.args.m c.args.case.now (the_view c.self.inside) is f c.change_item.new.meters c.change_item.ensures.meters in
-    let all = meters-in_range c.args.case.now c.nodes-nodes.ensures.valid g (ap (λ (x : Network). x.graph.vertices) is ∙ f.vertices) (ap (λ (x : Network). x.graph.ends) is ∙ f.ends) in
+    let all = meters-in_range c.args.case.now c.change_item.ensures.valid g (ap (λ (x : Network). x.graph.vertices) is ∙ f.vertices) (ap (λ (x : Network). x.graph.ends) is ∙ f.ends) in
     let low : c.args.m < length (case_meters c.args.case.now) = omega (arith, c.requires.meter, length-case_meters c.args.case.now) in
     subst (IsInRange g) (sym (c.kind-touch.ensures.kind ∙ ap (λ l. get_or l c.args.m Nothing) touches)) (All-get_or (IsInRange g) (case_meters c.args.case.now) c.args.m Nothing low all)
 
@@ -78,8 +78,8 @@ invariant_of-self c =
       sides_room = v.sides_room;
       vertices = v.vertices;
       of_buses = v.of_buses;
-      meters_in_range = rw (of_meters c.args.self.now c.args.m c.args.case.now (the_view c.self.inside) is f c.change_item.new.meters items.meters) (meters-in_range c.args.case.now c.nodes-nodes.ensures.valid g vertices ends);
-      offered_in_range = rw (of_offered c.args.self.now c.args.m c.args.case.now (the_view c.self.inside) is f c.change_item.new.offered items.offered) (offered-in_range c.args.case.now c.nodes-nodes.ensures.valid g vertices ends);
+      meters_in_range = rw (of_meters c.args.self.now c.args.m c.args.case.now (the_view c.self.inside) is f c.change_item.new.meters items.meters) (meters-in_range c.args.case.now c.change_item.ensures.valid g vertices ends);
+      offered_in_range = rw (of_offered c.args.self.now c.args.m c.args.case.now (the_view c.self.inside) is f c.change_item.new.offered items.offered) (offered-in_range c.args.case.now c.change_item.ensures.valid g vertices ends);
       listed_meters = omega (arith, v.listed_meters, listed.most_meters, most);
       listed_components = omega (arith, v.listed_components, listed.most_components);
       listed_count = listed.components ∙ v.listed_count;

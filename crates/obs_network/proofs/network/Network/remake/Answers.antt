@@ -39,7 +39,7 @@ pub refill_graph-requires-clause-few : goal.refill_graph-requires-clause-few
 refill_graph-requires-clause-few c =
     let rows = ap (λ (n : Network). n.rows) c.self.view_is ∙ c.requires.rows in
     let nodes = ap (λ (r : Rows). r.nodes) rows in
-    omega (arith, nodes, c.find_components.ensures.room, few_nodes c.args.case.now c.nodes-nodes.ensures.valid)
+    omega (arith, nodes, c.find_components.ensures.room, few_nodes c.args.case.now c.find_live.ensures.valid)
 
 pub refill_graph-requires-clause-vertices : goal.refill_graph-requires-clause-vertices
 refill_graph-requires-clause-vertices c =
@@ -56,7 +56,7 @@ refill-requires-clause-vertices c =
 pub refill-requires-clause-in_range : goal.refill-requires-clause-in_range
 refill-requires-clause-in_range c =
     let kept = c.refill_graph.ensures in
-    rw c.refill_items.ensures.meters (meters-in_range c.args.case.now c.nodes-nodes.ensures.valid c.refill_graph.new.graph kept.vertices kept.ends)
+    rw c.refill_items.ensures.meters (meters-in_range c.args.case.now c.find_live.ensures.valid c.refill_graph.new.graph kept.vertices kept.ends)
 
 pub refill-requires-clause-meters : goal.refill-requires-clause-meters
 refill-requires-clause-meters c =
@@ -77,7 +77,7 @@ pub needed-self-inside-requires : goal.needed-self-inside-requires
 needed-self-inside-requires c =
     let rows = ap (λ (n : Network). n.rows) c.self.view_is ∙ c.requires.rows in
     let nodes = ap (λ (r : Rows). r.nodes) rows in
-    record { few = omega (arith, nodes, c.find_components.ensures.room, few_nodes c.args.case.now c.nodes-nodes.ensures.valid) }
+    record { few = omega (arith, nodes, c.find_components.ensures.room, few_nodes c.args.case.now c.find_live.ensures.valid) }
 
 -- where the number of buses tells that nothing changed
 pub invariant_of-self : goal.invariant_of-self
@@ -132,7 +132,7 @@ returns-then-relabel_unless c =
 pub invariant_of-self-2 : goal.invariant_of-self-2
 invariant_of-self-2 c =
     let t = c.args.case.now in
-    let valid = c.nodes-nodes.ensures.valid in
+    let valid = c.find_live.ensures.valid in
     let s = c.self.inside in
     let v = c.self.invariant in
     let found = c.find_components.ensures in

@@ -27,5 +27,8 @@ returns-clause-bound c =
     let same : length held ≡ length c.self.inside.held.items = c.hold_own.ensures.one_each ∙ ap (λ (xs : List (Option Ends)). length xs) c.deref_mut.ensures.value in
     let back = written_back c.self.inside.held.len held c.self.inside.held.items same c.self.inside.held.ok.0 in
     let longest = c.requires.longest in
-    bounding-closed c.args.g.now c.args.ms.now.touches c.args.a.now c.args.reached.now held c.reach_all.new.search c.vertices.ensures.branches longest.whole longest.stands longest.thawed c.requires.closed
+    bounding-closed c.args.g.now c.args.ms.now.touches c.args.a.now c.args.reached.now held c.reach_all.new.search c.requires.branches longest.whole longest.stands longest.thawed c.requires.closed
     c.hold_own.ensures.held (subst (λ (xs : List (Option Ends)). IsRooted c.args.g.now.vertices xs c.reach_all.new.search) (c.deref.ensures.value ∙ back) c.reach_all.ensures.rooted)
+
+pub reach_all-requires-clause-few : goal.reach_all-requires-clause-few
+reach_all-requires-clause-few c = c.requires.few
