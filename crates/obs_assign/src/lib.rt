@@ -2,7 +2,7 @@
 #![tactic(auto)]
 
 /// A meter takes a branch.
-#[derive(Clone, Copy, Debug, PartialEq, Eq)]
+#[derive(Clone, Copy)]
 pub struct Move {
     pub meter: u32,
     pub branch: u32,

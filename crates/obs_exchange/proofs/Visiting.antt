@@ -1,5 +1,5 @@
 -- The branches that a meter of the queue touches, one after the other.
-use Rattle.std.proofs.Common.{rules, ◌≡◌, ℕ, ◌+◌, ◌<◌, ◌≤◌, Bool, true, Option, None, Some, List, length, get_or, set, take, sym, ap, ◌∙◌, subst, inl, inr, arith, length-set, get_or-set_same, get_or-set_other}
+use Rattle.std.proofs.Common.{rules, ◌≡◌, ℕ, ◌+◌, ◌<◌, ◌≤◌, Bool, true, Option, None, Some, ⊎_elim, List, length, get_or, set, take, sym, ap, ◌∙◌, subst, inl, inr, arith, length-set, get_or-set_same, get_or-set_other}
 use Rattle.std.proofs.lemmas.Bool.{cases_eq, cases_lt}
 use Rattle.std.proofs.lemmas.List.{get_or_default}
 use Rattle.obs_graph.specs.Positions.{branches_at}
@@ -14,6 +14,7 @@ use Rattle.obs_exchange.specs.Searching.{AreStarred, AreWalkedOf, HasOrigin, IsP
 use Rattle.obs_exchange.specs.Setting.{Setting, touched_in}
 use Rattle.obs_exchange.specs.Trail.{Keeps, Stays, Trail}
 use Rattle.obs_exchange.proofs.Queued.{flag-from, flag-kept}
+use Rattle.obs_exchange.proofs.Trails.{Stays-then}
 
 -- the first k branches of the visited meter were walked
 pub record IsTouching (over : Setting) (before trail : Trail) (m : ℕ) (tops touched : List ℕ) (k : ℕ) : Type 0 where
@@ -21,6 +22,21 @@ pub record IsTouching (over : Setting) (before trail : Trail) (m : ℕ) (tops to
   pub classes : AreClasses over trail.marks tops
   pub done : (i : ℕ) → i < k → has_flag trail.walked (get_or touched i 0) ≡ true
   pub stays : Stays before trail
+
+-- one more of its branches was walked
+pub Touching-more : (over : Setting) (before trail : Trail) (m : ℕ) (tops touched : List ℕ) (k : ℕ) → IsTouching over before trail m tops touched k
+    → (next : Trail) (new_tops : List ℕ) → IsVisiting over next m → AreClasses over next.marks new_tops → Stays trail next → has_flag next.walked (get_or touched k 0) ≡ true
+    → IsTouching over before next m new_tops touched (k + 1)
+Touching-more over before trail m tops touched k t next new_tops visiting classes stays walked =
+    record {
+      visiting = visiting;
+      classes = classes;
+      done = λ i l. ⊎_elim
+          (λ (low : i < k). stays.follows.walked (get_or touched i 0) (t.done i low))
+          (λ (high : k ≤ i). let same : k ≡ i = omega arith in subst (λ j. has_flag next.walked (get_or touched j 0) ≡ true) same walked)
+          (cases_lt i k);
+      stays = Stays-then before trail next t.stays stays;
+    }
 
 pub Touching-end : (over : Setting) (before trail : Trail) (m : ℕ) (tops touched : List ℕ) (k : ℕ) → IsTouching over before trail m tops touched k
     → touched ≡ touched_in over m → length touched ≤ k → AreWalkedOf over trail.walked m

@@ -16,7 +16,7 @@ pub enum Found {
 }
 
 /// How pairs were made more: by so many searches, the last of which found a closed set where `closed` is true.
-#[derive(Clone, Copy, Debug, PartialEq, Eq)]
+#[derive(Clone, Copy)]
 pub struct Lengthened {
     pub searches: u32,
     pub closed: bool,

@@ -3,6 +3,7 @@ use Rattle.std.proofs.Common.{◌≡◌, ℕ, zero, suc, ◌<◌, ◌≤◌, Opt
 use Rattle.std.specs.List.{Contains}
 use Rattle.std.proofs.lemmas.Bool.{cases_lt}
 use Rattle.std.proofs.lemmas.List.{get_or_past}
+use Rattle.std.proofs.lemmas.Option.{IfSome_then}
 use Rattle.std.specs.Prelude.{IsSome, slice_index_or}
 use Rattle.obs_graph.specs.declared.Ends.{Ends}
 use Rattle.obs_graph.specs.Positions.{AreBranches, present}
@@ -51,6 +52,10 @@ present_low bs p some = by_option (get_or bs p None) refl some
 -- the ends of a branch of a graph
 pub branch_at : (n : ℕ) (bs : List (Option Ends)) (i : ℕ) (e : Ends) → AreBranches n bs → i < length bs → get_or bs i None ≡ Some e → (e.a < n) × (e.b < n) × (e.a ≡ e.b → ⊥)
 branch_at n bs i e all l is = subst (λ o. IfSome o (λ e. (e.a < n) × (e.b < n) × (e.a ≡ e.b → ⊥))) is (all i None l)
+
+-- the branches of fewer vertices
+pub AreBranches-more : (n m : ℕ) (bs : List (Option Ends)) → n ≤ m → AreBranches n bs → AreBranches m bs
+AreBranches-more n m bs low all k d l = IfSome_then (get_or bs k d) (all k d l) (λ e b. (omega (arith, b.0), omega (arith, b.1), b.2))
 
 pub AreBelow-part : (n : ℕ) (hs bs : List (Option Ends)) → IsPart hs bs → AreBranches n bs → AreBelow n hs
 AreBelow-part n hs bs part branches p e is =

@@ -1,10 +1,10 @@
 -- A list whose front was moved by one place, and one whose numbers from some place on were changed.
 use borrow.Rule.Slice.PartMut.{put_mid}
-use Rattle.std.proofs.Common.{◌≡◌, ℕ, suc, ◌+◌, ◌-◌, ◌<◌, ◌≤◌, List, [], ◌∷◌, ◌++◌, length, ltb, get_or, map, set, take, drop, refl, sym, ap, ◌∙◌, arith}
+use Rattle.std.proofs.Common.{◌≡◌, All, ℕ, suc, ◌+◌, ◌-◌, ◌<◌, ◌≤◌, List, [], ◌∷◌, ◌++◌, length, ltb, get_or, map, set, take, drop, refl, sym, ap, ◌∙◌, arith}
 use Rattle.std.specs.List.{copy_within, insert, remove}
 use Rattle.std.specs.List.Sorted.{IsNonDecreasing}
 use Rattle.std.proofs.Math.Seq.{take-set-lt}
-use Rattle.std.proofs.lemmas.List.{append-nil, append_assoc, drop_all, drop-take, length-drop, length-map, length-take, length-take-le, set-append_left, take_more_set, take_rest, take-take}
+use Rattle.std.proofs.lemmas.List.{append-nil, append_assoc, drop_all, drop-take, length-drop, length-map, length-take, length-take-le, get_or-drop, get_or_default, set-append_left, take_more_set, take_rest, take-take}
 use Rattle.std.proofs.lemmas.List.Edits.{paste_all, take-paste}
 use Rattle.std.proofs.lemmas.List.Sums.{count_by-le-length}
 use Rattle.std.proofs.lemmas.Slice.{put_mid-paste}
@@ -51,3 +51,13 @@ place_low starts at v i low rise =
     let up = rise v (suc v) 0 (omega arith) low in
     let size = length-take (to - from) (drop from at) in
     (omega arith, rise (suc v) (length starts - 1) 0 (omega arith) (omega arith))
+
+-- the number k places behind m lies between that at m and the last
+number_behind : (starts : List ℕ) (m k d : ℕ) → IsNonDecreasing starts → k < length (drop m starts) → (get_or starts m 0 ≤ get_or (drop m starts) k d) × (get_or (drop m starts) k d ≤ total_of starts)
+number_behind starts m k d rise l =
+    let low : m + k < length starts = omega (arith, length-drop m starts) in
+    rw (get_or-drop m starts k d, get_or_default starts (m + k) d 0 low) (rise m (m + k) 0 (omega arith) low, rise (m + k) (length starts - 1) 0 (omega arith) (omega arith))
+
+-- so do all from m on
+pub numbers_behind : (starts : List ℕ) (m : ℕ) → IsNonDecreasing starts → All (λ n. (get_or starts m 0 ≤ n) × (n ≤ total_of starts)) (take (length starts - m) (drop m starts))
+numbers_behind starts m rise = rw (take_rest starts m) (λ k d l. number_behind starts m k d rise l)

@@ -53,6 +53,23 @@ IsStored-set vertices positions ends new itself starts at starts' at' s e after 
       parts = λ v l. parts v (omega (arith, starts_len));
     }
 
+-- a graph whose arrays were written anew
+pub IsStored-filled : (vertices positions n : ℕ) (ends branches new : List (Option Ends)) (itself starts at starts' at' : List ℕ) → IsStored vertices positions ends itself starts at
+    → n ≤ length starts - 1 → length branches ≤ length ends → AreBranches n branches → length new ≡ length ends → length starts' ≡ length starts → length at' ≡ length at
+    → take (length branches) new ≡ branches → AreStarts (length starts) branches starts' → AreParts (length starts) branches at' → IsStored n (length branches) new itself starts' at'
+IsStored-filled vertices positions n ends branches new itself starts at starts' at' s low held good size starts_len at_len rows begin parts =
+    record {
+      few = omega (arith, size, s.few);
+      held = omega (arith, size, held);
+      below = omega (arith, starts_len, s.below, low);
+      branches = subst (λ bs. AreBranches n bs) (sym rows) good;
+      itself_len = s.itself_len ∙ sym size;
+      itself_is = λ k l. s.itself_is k (omega (arith, size));
+      room = omega (arith, size, at_len, s.room);
+      starts_is = subst (λ bs. AreStarts (length starts') bs starts') (sym rows) (λ v l. begin v (omega (arith, starts_len)));
+      parts = subst (λ bs. AreParts (length starts' - 1) bs at') (sym rows) (λ v l. parts v (omega (arith, starts_len)));
+    }
+
 -- a whole slice of a `Vec` that was written through
 pub written_back : {X : Type 0} (n : ℕ) (new items : List X) → length new ≡ length items → n ≡ length items → take n (new ++ drop (length new) items) ≡ new
 written_back n new items same len =

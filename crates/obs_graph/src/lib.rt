@@ -2,7 +2,7 @@
 #![tactic(auto)]
 
 /// The two ends of a branch.
-#[derive(Clone, Copy, Debug, PartialEq, Eq)]
+#[derive(Clone, Copy)]
 pub struct Ends {
     pub a: u32,
     pub b: u32,

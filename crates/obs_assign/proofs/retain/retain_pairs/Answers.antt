@@ -75,3 +75,15 @@ returns-clause-listed c = rw (cut_back (goal.at.returns-clause-listed c).After-c
 
 pub returns-clause-forest : goal.returns-clause-forest
 returns-clause-forest c = rw (cut_back (goal.at.returns-clause-forest c).After-choose) c.hold_pairs.ensures.forest
+
+pub keep_touched-requires-clause-low : goal.keep_touched-requires-clause-low
+keep_touched-requires-clause-low c = low (goal.at.keep_touched-requires-clause-low c).After-count
+
+pub choose-requires-clause-inverse : goal.choose-requires-clause-inverse
+choose-requires-clause-inverse c = c.list_pairs-count.ensures.inverse
+
+pub hold_pairs-requires-clause-found : goal.hold_pairs-requires-clause-found
+hold_pairs-requires-clause-found c = c.search_along.ensures.room ∙ c.requires.room
+
+pub returns-clause-room : goal.returns-clause-room
+returns-clause-room c = c.hold_pairs.ensures.found ∙ c.search_along.ensures.room

@@ -1,5 +1,7 @@
 use Rattle.std.proofs.Common.{◌≡◌, None, Some, get_or, take, length, sym, ap, ◌∙◌, subst, arith}
 use Rattle.std.proofs.lemmas.List.{get_or_default}
+use Rattle.obs_graph.specs.Positions.{present}
+use Rattle.obs_graph.proofs.IsJoined.{true-from_same}
 use Rattle.obs_graph.proofs.Present.{present_low}
 use Rattle.obs_matroid.specs.Assignments.{branches}
 use Rattle.obs_matroid.specs.Slots.{pairs_of}
@@ -79,3 +81,15 @@ returns c =
       spare = spare_found ends c.args.kept.now.slots c.args.frozen.now held c.args.m c.args.e (stands w).held (paired w) r.thawed u (ends_are ends c.args.e u (there w)) path
           (cycle_at ends held c.args.e u path (there w) c.cycle-count.ensures.cycle) c.owners-owners.result.now c.owners-owners.ensures.inverse c.spare_of.result c.spare_of.ensures.spare;
     }
+
+pub cycle-count-requires-clause-stands : goal.cycle-count-requires-clause-stands
+cycle-count-requires-clause-stands c = stands (goal.at.cycle-count-requires-clause-stands c).After-unwrap-ends
+
+pub cycle-count-requires-clause-joined : goal.cycle-count-requires-clause-joined
+cycle-count-requires-clause-joined c =
+    let u = c.unwrap-ends.result in
+    rw (there (goal.at.cycle-count-requires-clause-joined c).After-unwrap-ends)
+    (true-from_same (present c.forest-forest.result.now.held) u.a u.b (sym c.piece.ensures.first ∙ (c.if-piece.false ∙ c.piece-2.ensures.first)))
+
+pub cycle-count-requires-clause-room : goal.cycle-count-requires-clause-room
+cycle-count-requires-clause-room c = omega (arith, ap (λ (f : Forest). f.vertices) c.forest-forest.ensures.forest, c.requires.room)

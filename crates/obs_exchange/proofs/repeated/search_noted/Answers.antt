@@ -25,3 +25,36 @@ returns-in-Grown-clause-noted g c =
     let is : c.note.new.self.noted ≡ record n { flags = set n.flags m false } =
     ap (λ (w : Work). w.noted) c.note.ensures.noted ∙ ap (λ (k : Noted). record k { flags = set k.flags m false }) kept in
     subst (λ (k : Noted). AreNoted ends touches All b k) (sym is) (AreNoted-grown ends touches All a b m n c.in-Grown.ensures.found c.requires.noted)
+
+pub run-requires-clause-stands : goal.run-requires-clause-stands
+run-requires-clause-stands g c = c.requires.stands
+
+pub run-requires-clause-in_range : goal.run-requires-clause-in_range
+run-requires-clause-in_range g c = c.requires.in_range
+
+pub returns-in-Grown-clause-found : goal.returns-in-Grown-clause-found
+returns-in-Grown-clause-found g c = c.in-Grown.ensures.found
+
+pub returns-in-Grown-clause-tick : goal.returns-in-Grown-clause-tick
+returns-in-Grown-clause-tick g c = c.run.ensures.tick
+
+pub returns-in-Grown-clause-stands : goal.returns-in-Grown-clause-stands
+returns-in-Grown-clause-stands g c = c.run.ensures.stands
+
+pub returns-in-Grown-clause-whole : goal.returns-in-Grown-clause-whole
+returns-in-Grown-clause-whole g c = c.run.ensures.whole
+
+pub returns-in-Grown-clause-same_room : goal.returns-in-Grown-clause-same_room
+returns-in-Grown-clause-same_room g c = c.run.ensures.same_room
+
+pub returns-in-Closed-clause-tick : goal.returns-in-Closed-clause-tick
+returns-in-Closed-clause-tick g c = c.run.ensures.tick
+
+pub returns-in-Closed-clause-stands : goal.returns-in-Closed-clause-stands
+returns-in-Closed-clause-stands g c = c.run.ensures.stands
+
+pub returns-in-Closed-clause-whole : goal.returns-in-Closed-clause-whole
+returns-in-Closed-clause-whole g c = c.run.ensures.whole
+
+pub returns-in-Closed-clause-same_room : goal.returns-in-Closed-clause-same_room
+returns-in-Closed-clause-same_room g c = c.run.ensures.same_room

@@ -2,7 +2,7 @@ use Rattle.obs_exchange.proofs.Trails.{Stays-same, Stays-then}
 use Rattle.std.proofs.Common.{get_or, subst, arith}
 use Rattle.obs_matroid.specs.Lists.{In}
 use Rattle.obs_matroid.proofs.Contained.{In-get_or}
-use Rattle.obs_exchange.proofs.Visiting.{Touching-end}
+use Rattle.obs_exchange.proofs.Visiting.{Touching-end, Touching-more}
 use Rattle.obs_exchange.proofs.visit.walk_touched.Goals as goal
 
 pub walk-requires-clause-touched : goal.walk-requires-clause-touched
@@ -44,3 +44,7 @@ returns-clause-stays c = c.loop-e.invariant.stays
 
 pub loop-e-init : goal.loop-e-init
 loop-e-init c = record { visiting = c.requires.visiting; classes = c.requires.classes; done = λ i l. absurd (omega (arith, l)); stays = Stays-same c.args.trail.now }
+
+pub loop-e-preserved : goal.loop-e-preserved
+loop-e-preserved c = let w = c.if-walk.ensures in
+    Touching-more c.args.over.now c.args.trail.now c.loop-e.trail c.args.m c.loop-e.tops c.args.touched.now c.loop-e.e-index c.loop-e.invariant c.walk.new.trail c.walk.new.tops w.visiting w.classes w.stays w.free

@@ -42,3 +42,42 @@ pub returns-clause-reached : goal.returns-clause-reached
 returns-clause-reached c = let r = c.requires in let l = c.loop-u in let i = l.invariant in let u = c.ends-ends in
     met_walked c.args.over.now i.visiting.searching.sound c.args.by.branch u.result u.ensures.ends r.joined l.trail.marks l.tops i.classes
     l.u l.v (i.left u.result u.ensures.ends) (i.right u.result u.ensures.ends) c.loop-u-test.false
+
+pub meet-v-requires-clause-touched : goal.meet-v-requires-clause-touched
+meet-v-requires-clause-touched c = c.requires.touched
+
+pub meet-v-requires-clause-top : goal.meet-v-requires-clause-top
+meet-v-requires-clause-top c = c.loop-u.invariant.right_low
+
+pub meet-v-requires-clause-own : goal.meet-v-requires-clause-own
+meet-v-requires-clause-own c = c.loop-u.invariant.right_top
+
+pub meet-v-requires-clause-visiting : goal.meet-v-requires-clause-visiting
+meet-v-requires-clause-visiting c = c.loop-u.invariant.visiting
+
+pub meet-v-requires-clause-classes : goal.meet-v-requires-clause-classes
+meet-v-requires-clause-classes c = c.loop-u.invariant.classes
+
+pub meet-u-requires-clause-touched : goal.meet-u-requires-clause-touched
+meet-u-requires-clause-touched c = c.requires.touched
+
+pub meet-u-requires-clause-top : goal.meet-u-requires-clause-top
+meet-u-requires-clause-top c = c.loop-u.invariant.left_low
+
+pub meet-u-requires-clause-own : goal.meet-u-requires-clause-own
+meet-u-requires-clause-own c = c.loop-u.invariant.left_top
+
+pub meet-u-requires-clause-visiting : goal.meet-u-requires-clause-visiting
+meet-u-requires-clause-visiting c = c.loop-u.invariant.visiting
+
+pub meet-u-requires-clause-classes : goal.meet-u-requires-clause-classes
+meet-u-requires-clause-classes c = c.loop-u.invariant.classes
+
+pub returns-clause-visiting : goal.returns-clause-visiting
+returns-clause-visiting c = c.loop-u.invariant.visiting
+
+pub returns-clause-classes : goal.returns-clause-classes
+returns-clause-classes c = c.loop-u.invariant.classes
+
+pub returns-clause-stays : goal.returns-clause-stays
+returns-clause-stays c = c.loop-u.invariant.stays

@@ -1,8 +1,42 @@
-use Rattle.std.proofs.Common.{◌≡◌, ◌+◌, ◌-◌, ltb, suc, get_or, ap, ◌∙◌, arith}
+use Rattle.std.proofs.Common.{◌≡◌, ◌+◌, ◌-◌, ◌<◌, ltb, suc, get_or, sym, ap, ◌∙◌, subst, arith}
 use Rattle.std.specs.List.{copy_within, count_by}
+use Rattle.std.specs.List.Sorted.{IsPartitionedBy}
 use Rattle.obs_graph.specs.Placing.{place_of, total_of}
-use Rattle.obs_graph.proofs.Shifted.{changed_from, place_low, shifted_down}
+use Rattle.obs_graph.proofs.Shifted.{changed_from, numbers_behind, place_low, shifted_down}
 use Rattle.obs_graph.proofs.setting.take_out.Goals as goal
+use Rattle.obs_graph.proofs.setting.take_out.Goals.{After-place_in}
+
+pub place_in-requires : goal.place_in-requires
+place_in-requires c = record { parted = subst (IsPartitionedBy (λ p. ltb p c.args.i)) (sym c.part.ensures.part) c.requires.parted }
+
+pub lower-requires : goal.lower-requires
+lower-requires c = record { some = λ k d l. let behind = (numbers_behind c.args.starts.now (c.args.v + 1) c.requires.rise k d l).0 in let next : suc c.args.v ≡ c.args.v + 1 = omega arith in let there = subst (λ m. place_of c.args.starts.now c.args.at.now c.args.v c.args.i < get_or c.args.starts.now m 0) next c.requires.there in omega arith }
+
+pub part-requires-clause-rise : goal.part-requires-clause-rise
+part-requires-clause-rise c = c.requires.rise c.args.v (suc c.args.v) 0 (omega arith) c.requires.v
+
+pub part-requires-clause-room : goal.part-requires-clause-room
+part-requires-clause-room c =
+    let low = (place_low c.args.starts.now c.args.at.now c.args.v c.args.i c.requires.v c.requires.rise).1 in
+    let room = c.requires.room in
+    omega arith
+
+-- the place is before the end of the last part
+place_fits : (c : After-place_in) → get_or c.args.starts.now c.args.v 0 + c.place_in.result < total_of c.args.starts.now
+place_fits c =
+    let there : get_or c.args.starts.now c.args.v 0 + c.place_in.result ≡ place_of c.args.starts.now c.args.at.now c.args.v c.args.i = ap (λ k. get_or c.args.starts.now c.args.v 0 + k) (c.place_in.ensures.place ∙ ap (count_by (λ p. ltb p c.args.i)) c.part.ensures.part) in
+    let low = (place_low c.args.starts.now c.args.at.now c.args.v c.args.i c.requires.v c.requires.rise).1 in
+    let in_part = c.requires.there in
+    omega (arith, there)
+
+pub overflow_add-place : goal.overflow_add-place
+overflow_add-place c = let room = c.requires.room in omega (arith, place_fits c)
+
+pub copy_within-requires-clause-start_le_end : goal.copy_within-requires-clause-start_le_end
+copy_within-requires-clause-start_le_end c = omega (arith, place_fits (goal.at.copy_within-requires-clause-start_le_end c).After-place_in)
+
+pub copy_within-requires-clause-dest_in_bounds : goal.copy_within-requires-clause-dest_in_bounds
+copy_within-requires-clause-dest_in_bounds c = let room = c.requires.room in omega (arith, place_fits (goal.at.copy_within-requires-clause-dest_in_bounds c).After-place_in)
 
 pub returns-clause-starts : goal.returns-clause-starts
 returns-clause-starts c = let m : suc c.args.v ≡ c.args.v + 1 = omega arith in rw m (changed_from (λ n. n - 1) (c.args.v + 1) c.args.starts.now c.lower.new.numbers (let l = c.requires.v in omega arith) c.lower.ensures.lower)

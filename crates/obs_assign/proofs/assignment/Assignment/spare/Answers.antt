@@ -3,6 +3,7 @@ use Rattle.std.specs.Prelude.{IfSome, IsSome, MatchOption}
 use Rattle.std.proofs.lemmas.List.{get_or-take, get_or_default}
 use Rattle.obs_matroid.specs.Assignments.{branches, part}
 use Rattle.obs_matroid.specs.Slots.{pairs_of}
+use Rattle.obs_forest.specs.Forest.{StandsOver}
 use Rattle.obs_assign.specs.Assignment.{Assignment, has_flag}
 use Rattle.obs_assign.specs.Kept.{seen}
 use Rattle.obs_assign.specs.Pins.{MayPin, joins}
@@ -36,3 +37,25 @@ returns-clause-spare c = (found (goal.at.returns-clause-spare c).After-spare_for
 
 pub returns-clause-may : goal.returns-clause-may
 returns-clause-may c = (found (goal.at.returns-clause-may c).After-spare_for).1
+
+pub spare_for-requires-clause-stands : goal.spare_for-requires-clause-stands
+spare_for-requires-clause-stands c = subst (λ (a : Assignment). StandsOver a.forest c.args.g.now) (sym c.self.view_is) c.requires.stands
+
+pub spare_for-requires-clause-paired : goal.spare_for-requires-clause-paired
+spare_for-requires-clause-paired c = rw (c.slots-meters.ensures.slots, c.deref.ensures.value) c.self.invariant.whole.paired
+
+pub spare_for-requires-clause-room : goal.spare_for-requires-clause-room
+spare_for-requires-clause-room c = omega (arith, c.deref_mut.ensures.len, ap (λ xs. length xs) c.deref_mut.ensures.value, c.self.invariant.path_len, c.self.invariant.whole.vertices)
+
+pub spare_for-requires-clause-thawed : goal.spare_for-requires-clause-thawed
+spare_for-requires-clause-thawed c =
+    let ins = c.self.inside in
+    let m = c.args.m in
+    let now_len = ap (λ (x : Assignment). length x.slots) c.self.view_is in
+    let low = c.requires.m in
+    let inv = c.self.invariant in
+    rw (c.slots-meters.ensures.slots, c.deref.ensures.value)
+    (get_or-take (length ins.kept.slots) ins.frozen.items m false (omega arith) ∙ (get_or_default ins.frozen.items m false c.index.result.now (omega (arith, low, now_len, inv.whole.meters, inv.frozen_len)) ∙ (sym c.index.ensures ∙ c.if-index.false)))
+
+pub returns-clause-same : goal.returns-clause-same
+returns-clause-same c = c.self.view_is

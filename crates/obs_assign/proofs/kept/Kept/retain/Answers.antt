@@ -1,5 +1,6 @@
-use Rattle.std.proofs.Common.{◌≡◌, ◌<◌, ◌++◌, ℕ, Option, None, Some, List, length, take, drop, get_or, refl, sym, ap, ◌∙◌, subst, arith}
+use Rattle.std.proofs.Common.{◌≡◌, ◌<◌, ◌≤◌, ◌++◌, ℕ, Option, None, Some, List, length, take, drop, get_or, refl, sym, ap, ◌∙◌, subst, arith}
 use Rattle.std.proofs.lemmas.List.{length-take-le}
+use Rattle.obs_graph.specs.Search.{room_of}
 use Rattle.obs_forest.proofs.Lent.{lent_back, lent_len}
 use Rattle.obs_matroid.specs.Slots.{pairs_of}
 use Rattle.obs_assign.specs.Kept.{Kept, SlotsApart}
@@ -81,3 +82,31 @@ returns-clause-forest c =
 
 pub returns-clause-held : goal.returns-clause-held
 returns-clause-held c = let a = (goal.at.returns-clause-held c).After-retain_pairs-self-inside in rw (slots_back a) (made a).is
+
+pub retain_pairs-self-inside-requires-clause-meters : goal.retain_pairs-self-inside-requires-clause-meters
+retain_pairs-self-inside-requires-clause-meters c =
+    let ins = c.self.inside in
+    let k = c.self.invariant in
+    let n : ins.meters ≡ length c.args.ms.now.touches =
+    omega (arith, c.requires.meters, ap (λ (x : Kept). length x.slots) c.self.view_is, length-take-le ins.meters ins.slots.items k.meters_low) in
+    omega (arith, n, k.meters_low, ap (λ xs. length xs) c.deref_mut.ensures.value)
+
+pub retain_pairs-self-inside-requires-clause-list : goal.retain_pairs-self-inside-requires-clause-list
+retain_pairs-self-inside-requires-clause-list c =
+    let ins = c.self.inside in
+    let k = c.self.invariant in
+    let n : ins.meters ≡ length c.args.ms.now.touches =
+    omega (arith, c.requires.meters, ap (λ (x : Kept). length x.slots) c.self.view_is, length-take-le ins.meters ins.slots.items k.meters_low) in
+    omega (arith, n, k.meters_low, k.list_len, ap (λ xs. length xs) c.deref_mut-3.ensures.value)
+
+pub retain_pairs-self-inside-requires-clause-owners : goal.retain_pairs-self-inside-requires-clause-owners
+retain_pairs-self-inside-requires-clause-owners c = omega (arith, c.requires.positions, ap (λ (x : Kept). length x.forest.held) c.self.view_is, c.self.invariant.positions, c.self.invariant.owners_len, ap (λ xs. length xs) c.deref_mut-2.ensures.value)
+
+pub retain_pairs-self-inside-requires-clause-room : goal.retain_pairs-self-inside-requires-clause-room
+retain_pairs-self-inside-requires-clause-room c = subst (λ (x : Kept). room_of c.args.search.now ≡ x.forest.most_vertices) (sym c.self.view_is) c.requires.room
+
+pub retain_pairs-self-inside-requires-clause-vertices : goal.retain_pairs-self-inside-requires-clause-vertices
+retain_pairs-self-inside-requires-clause-vertices c = subst (λ (x : Kept). c.args.g.now.vertices ≤ x.forest.most_vertices) (sym c.self.view_is) c.requires.vertices
+
+pub retain_pairs-self-inside-requires-clause-branches : goal.retain_pairs-self-inside-requires-clause-branches
+retain_pairs-self-inside-requires-clause-branches c = omega (arith, c.requires.positions, ap (λ (x : Kept). length x.forest.held) c.self.view_is, c.self.invariant.positions)
