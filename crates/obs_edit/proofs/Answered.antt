@@ -1,5 +1,5 @@
 -- The first assignment and the islands over the parts of a network.
-use Rattle.std.proofs.Common.{◌≡◌, List, length, sym, ap, ◌∙◌, arith}
+use Rattle.std.proofs.Common.{◌≡◌, ℕ, List, Some, length, sym, ap, ◌∙◌, arith}
 use Rattle.obs_graph.specs.Graph.{Graph}
 use Rattle.obs_case.specs.Tables.{IsValid, Tables}
 use Rattle.obs_matroid.specs.Assignments.{Pair}
@@ -12,7 +12,10 @@ use Rattle.obs_first.proofs.Lawful.{first_pairs-is}
 use Rattle.obs_islands.specs.Firsts.{islands_of}
 use Rattle.obs_network.specs.Network.{case_branches, case_meters, case_vertex_count, network_of}
 use Rattle.obs_network.proofs.OfCase.{case_branches-are}
+use Rattle.obs_assign.proofs.Slotted.{some_same}
 use Rattle.obs_edit.specs.Answers.{case_first_pairs, case_islands}
+use Rattle.obs_edit.specs.Sessions.{case_bound}
+use Rattle.obs_repair.specs.Bounds.{bound_meters, bound_outside, bound_rank}
 use Rattle.obs_repair.specs.Kept.{AreLongest}
 
 pub first_of_network : (t : Tables) (g : Graph) (ms : Meters) → g ≡ (network_of t).graph → ms ≡ (network_of t).meters → first_pairs g.vertices g.ends ms.touches ≡ case_first_pairs t
@@ -44,3 +47,8 @@ IsLongest-first t v a stands whole thawed same =
         none_longer = λ B x. let few = f.longest B (live-to_every ends touches B x) in let l = ap (λ (A : List Pair). length A) same in omega (arith, few, l);
       };
     }
+
+-- what was measured for a component is its bound
+pub bound_answer : (t : Tables) (c : ℕ) (inside : List ℕ) (rank outside : ℕ) → inside ≡ bound_meters t c → rank ≡ bound_rank t c → outside ≡ bound_outside t c
+    → (k : ℕ) → Some c ≡ Some k → record { inside = inside; rank = rank; outside = outside } ≡ case_bound t k
+bound_answer t c inside rank outside i r o k e = rw (i, r, o) (ap (case_bound t) (some_same c k e))

@@ -53,9 +53,6 @@ module _ (since : List ℕ) where
     pub record IsAdding (inside : List ℕ) (i : ℕ) : Type 0 where
       pub lists : inside ++ filter (is_added since f t) (later n i) ≡ before ++ filter (is_added since f t) (range_with_len 0 n)
 
-    pub IsAdding-begun : IsAdding before 0
-    IsAdding-begun = record { lists = let e : n - 0 ≡ n = omega arith in ap (λ k. before ++ filter (is_added since f t) (range_with_len 0 k)) e }
-
     module _ (inside : List ℕ) (i : ℕ) (h : IsAdding inside i) where
       pub IsAdding-ended : n ≤ i → inside ≡ before ++ filter (is_added since f t) (range_with_len 0 n)
       IsAdding-ended end =

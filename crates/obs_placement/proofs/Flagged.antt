@@ -1,8 +1,8 @@
 -- Known items stay known, with the flags of what they touch and with their frozen pairs.
-use Rattle.std.proofs.Common.{◌≡◌, ◌⊎◌, ℕ, ◌+◌, ◌≤◌, ◌<◌, Bool, true, false, Option, None, Some, List, [], ◌∷◌, length, get_or, set, take, replicate, refl, sym, ap, ◌∙◌, inl, inr, arith, subst, get_or-set_same, get_or-set_other}
+use Rattle.std.proofs.Common.{◌≡◌, ℕ, ◌+◌, ◌≤◌, ◌<◌, Bool, true, false, Option, None, Some, List, [], ◌∷◌, length, get_or, set, take, refl, sym, ap, ◌∙◌, inl, inr, arith, subst, get_or-set_same, get_or-set_other}
 use Rattle.std.specs.Prelude.{nat_lt}
 use Rattle.std.proofs.lemmas.Bool.{cases_Bool, cases_eq, cases_lt, lt-ltb, ne_eqb}
-use Rattle.std.proofs.lemmas.List.{get_or_default, get_or_past, length-replicate, length-set, same_lists, take_all, take_more}
+use Rattle.std.proofs.lemmas.List.{get_or_default, get_or_past, length-set, same_lists, take_more}
 use Rattle.obs_graph.specs.Graph.{Graph}
 use Rattle.obs_graph.specs.Positions.{AreBranches, branches_at}
 use Rattle.obs_matroid.specs.Lists.{In, other_than}
@@ -20,7 +20,6 @@ use Rattle.obs_meter.proofs.Instance.{IsMatroid-graph}
 use Rattle.obs_meter.proofs.Touched.{In-take_more}
 use Rattle.obs_assign.specs.Assignment.{Assignment, IsWhole, StandsOver, branch_at, has_flag, is_frozen, pairs}
 use Rattle.obs_assign.specs.Pins.{IsPinnedAt, MayPin, joins}
-use Rattle.obs_assign.proofs.Keeping.{flags_clear, replicate_at}
 use Rattle.obs_assign.proofs.Slotted.{none_some}
 use Rattle.obs_exchange.specs.Found.{AreListed}
 use Rattle.obs_exchange.proofs.AtGraph.{IsAssignment-live}
@@ -84,9 +83,6 @@ set_known p before m l low = lt-ltb (since_at (set before m p) m) never (let e =
 
 -- the list is kept place by place
 module _ (L : List ℕ) (p : ℕ) (low : p < never) (before : List ℕ) where
-  pub AreKept-none : AreKept (take 0 L) p before before
-  AreKept-none = record { kept = λ m i. absurd i; others = λ m o. refl }
-
   module _ (i : ℕ) (l : i < length L) (since : List ℕ) (h : AreKept (take i L) p before since) where
     abbrev x : ℕ
     x = get_or L i 0
@@ -140,21 +136,7 @@ module _ (L : List ℕ) (p : ℕ) (low : p < never) (before : List ℕ) where
       others = λ m o. get_or-set_other since x m p never (λ s. o (subst (λ (y : ℕ). In y (take (i + 1) L)) (sym s) this)) ∙ h.others m (λ j. o (later m j));
     }
 
-  pub AreKept-whole : (i : ℕ) (since : List ℕ) → length L ≡ i → AreKept (take i L) p before since → AreKept L p before since
-  AreKept-whole i since e h = subst (λ (K : List ℕ). AreKept K p before since) (take_all i L (omega (arith, e))) h
-
 module _ (g : Graph) (touches : List Touch) where
-  -- no flag is set
-  pub AreTouchedByKnown-none : (since : List ℕ) (n : ℕ) (flags : List Bool) → n ≡ length g.ends → flags ≡ replicate n false → AreTouchedByKnown g touches since flags
-  AreTouchedByKnown-none since n flags c is = rw is (record { count = length-replicate n false ∙ c; known = λ e t. clash t (flags_clear n e) })
-
-  -- and nothing is counted
-  pub AreFrontsOfKnown-none : (since : List ℕ) (n : ℕ) (counts : List ℕ) → n ≡ g.vertices → counts ≡ replicate n 0 → AreFrontsOfKnown g touches since counts
-  AreFrontsOfKnown-none since n counts c is = rw is (record {
-    count = length-replicate n 0 ∙ c;
-    known = λ v e i. absurd (subst (λ k. In e (take k (branches_at g.ends v))) (replicate_at n v 0) i);
-  })
-
   -- known items touch what is no more than was counted
   pub known_front : (since counts : List ℕ) (m : ℕ) (hub : Hub) → AreFrontsOfKnown g touches since counts → touch_at g.ends touches m ≡ take hub.count (branches_at g.ends hub.vertex)
       → hub.count ≤ get_or counts hub.vertex 0 → (e : ℕ) → In e (touch_at g.ends touches m) → IsTouchedByKnown g.ends touches since e
@@ -248,10 +230,3 @@ module _ (g : Graph) (touches : List Touch) (ok : AreBranches g.vertices g.ends)
         get_or_default (set (set a.slots m None) m (Some e)) k d None l
         ∙ (slots_same k ∙ sym (get_or_default a.slots k d None (let q = same_length in omega (arith, q, l)))))
   ]
-
--- the frozen ones after a pin
-pub frozen_more : (flags after : List Bool) (m x : ℕ) → after ≡ set flags m true → has_flag after x ≡ true → (x ≡ m) ⊎ (has_flag flags x ≡ true)
-frozen_more flags after m x e t = elim (cases_eq x m) [
-  | inl s ↦ inl s
-  | inr n ↦ inr (sym (get_or-set_other flags m x true false n) ∙ (ap (λ (f : List Bool). has_flag f x) (sym e) ∙ t))
-]

@@ -1,7 +1,7 @@
 -- Where all that is offered falls short the items below every price are all live items; and where it doesn't, there is a plan.
-use Rattle.std.proofs.Common.{◌≡◌, ℕ, ◌<◌, not, Option, List, length, refl, ap, ◌∙◌}
+use Rattle.std.proofs.Common.{◌≡◌, ℕ, ◌≤◌, ◌<◌, not, Option, List, length, refl, ap, ◌∙◌}
 use Rattle.std.specs.Prelude.{filter, flat_map}
-use Rattle.std.proofs.lemmas.Bool.{lt-ltb}
+use Rattle.std.proofs.lemmas.Bool.{le-ltb, lt-ltb}
 use Rattle.obs_graph.specs.declared.Ends.{Ends}
 use Rattle.obs_matroid.specs.Lists.{In}
 use Rattle.obs_matroid.proofs.Lists.{filter_all, filter_same}
@@ -13,7 +13,7 @@ use Rattle.obs_meter.proofs.Live.{live-from_live_items}
 use Rattle.obs_rankcut.specs.Costs.{price_of}
 use Rattle.obs_exchange.specs.Laws.{noncritical_in}
 use Rattle.obs_placement.specs.Layers.{layer_items, layer_outside, layer_rank}
-use Rattle.obs_placement.specs.Placed.{shortfall, redundant_items, placement_of}
+use Rattle.obs_placement.specs.Placed.{cheapest, plan_of, shortfall, redundant_items, placement_of}
 use Rattle.obs_placement.specs.Taking.{is_below, is_listed_at, never, scope_of}
 
 module _ (n : ℕ) (ends : List (Option Ends)) (touches : List Touch) (price : ℕ → ℕ) (cheap : (m : ℕ) → price m < never) where
@@ -43,3 +43,6 @@ module _ (n : ℕ) (ends : List (Option Ends)) (touches : List Touch) (meters : 
       let price = price_of meters prices in
       rw (lt-ltb (rho_at n ends touches (live_items ends touches)) needed low, i ∙ lack_items n ends touches price cheap, r ∙ lack_rank n ends touches price cheap, o ∙ lack_outside n ends touches price cheap)
       refl
+
+  pub placed_cheap : needed ≤ rho_at n ends touches (live_items ends touches) → cheapest (plan_of n ends touches meters prices) ≡ placement_of n ends touches meters prices needed
+  placed_cheap high = rw (le-ltb (rho_at n ends touches (live_items ends touches)) needed high) refl

@@ -1,5 +1,5 @@
 -- The chosen candidates are listed, and what they cost is added up.
-use Rattle.std.proofs.Common.{◌≡◌, ℕ, ◌+◌, ◌-◌, ◌*◌, ◌<◌, ◌≤◌, Bool, true, false, List, [], ◌++◌, length, get_or, set, take, sym, ap, ◌∙◌, arith, All, inl, inr, subst, replicate}
+use Rattle.std.proofs.Common.{◌≡◌, ℕ, ◌+◌, ◌-◌, ◌*◌, ◌<◌, ◌≤◌, Bool, true, false, List, ◌++◌, length, get_or, set, take, sym, ap, ◌∙◌, arith, All, inl, inr, subst, replicate}
 use Rattle.std.specs.Prelude.{filter}
 use Rattle.std.specs.List.{range_with_len}
 use Rattle.std.proofs.lemmas.Bool.{and_parts, cases_lt, le-ltb, lt-ltb}
@@ -8,8 +8,6 @@ use Rattle.std.proofs.lemmas.List.Sums.{sum_by-cons}
 use Rattle.std.proofs.lemmas.List.{get_or-replicate, get_or_past, length-replicate}
 use Rattle.obs_graph.specs.Graph.{Graph}
 use Rattle.obs_graph.specs.Positions.{AreBranches}
-use Rattle.obs_matroid.specs.Lists.{In}
-use Rattle.obs_matroid.specs.Assignments.{Pair, items}
 use Rattle.obs_matroid.specs.Placement.{is_raising}
 use Rattle.obs_matroid.specs.Values.{rho_of}
 use Rattle.obs_matroid.proofs.Computed.{rho_of_is}
@@ -24,7 +22,7 @@ use Rattle.obs_meter.proofs.Assigned.{live_items-distinct}
 use Rattle.obs_meter.proofs.Instance.{IsMatroid-graph}
 use Rattle.obs_meter.proofs.Live.{live_low}
 use Rattle.obs_rankcut.specs.Costs.{price_of}
-use Rattle.obs_assign.specs.Assignment.{Assignment, IsWhole, StandsOver, has_flag, pairs}
+use Rattle.obs_assign.specs.Assignment.{Assignment, has_flag, pairs}
 use Rattle.obs_assign.proofs.Keeping.{flags_clear}
 use Rattle.obs_placement.specs.Answer.{chosen_of, cost_of, earlier_items, is_chosen}
 use Rattle.obs_placement.specs.Choosing.{HavePairsOnly}
@@ -76,13 +74,6 @@ cheap_price meters prices h m = elim (cases_lt m meters) [
     | inr u ↦ let e = get_or_past prices (m - meters) 0 u in omega (arith, e)
   ])
 ]
-
-pub cleared_standing : (g : Graph) (touches : List Touch) (a : Assignment) (since : List ℕ) → StandsOver a g touches → IsWhole a → pairs a ≡ [] → StandsWithKnown g touches a since
-cleared_standing g touches a since s w e = record {
-  stands = s;
-  whole = w;
-  frozen = λ m y. absurd (subst (λ (A : List Pair). In m (items A)) e (w.paired.frozen_have m y));
-}
 
 -- the front of a list that was made of two
 pub front : {X : Type 0} (n : ℕ) (xs ys : List X) → length xs ≡ n → take n (xs ++ ys) ≡ xs

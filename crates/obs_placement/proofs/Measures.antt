@@ -1,5 +1,7 @@
 -- Flags of the items of a price, and what is measured by them.
-use Rattle.std.proofs.Common.{◌≡◌, ℕ, ◌≤◌, ◌<◌, Bool, not, List, length, ap, ◌∙◌, ltb}
+use Rattle.std.proofs.Common.{◌≡◌, ℕ, ◌+◌, ◌≤◌, ◌<◌, Bool, false, not, List, length, set, ap, sym, ◌∙◌, ltb, inl, inr, arith, get_or-set_same, get_or-set_other}
+use Rattle.std.proofs.lemmas.Bool.{cases_eq}
+use Rattle.std.proofs.lemmas.List.{length-set}
 use Rattle.std.specs.Prelude.{filter, flat_map}
 use Rattle.obs_graph.specs.Graph.{Graph}
 use Rattle.obs_matroid.specs.Lists.{In}
@@ -17,6 +19,20 @@ use Rattle.obs_placement.specs.Taking.{AreKnown, is_below, is_listed_at, never, 
 pub record AreTested (P : ℕ → Bool) (n i : ℕ) (flags : List Bool) : Type 0 where
   pub count : length flags ≡ n
   pub is : (m : ℕ) → m < i → marked flags m ≡ P m
+
+pub AreTested-none : (P : ℕ → Bool) (n : ℕ) (flags : List Bool) → length flags ≡ n → AreTested P n 0 flags
+AreTested-none P n flags e = record { count = e; is = λ m l. absurd (omega (arith, l)) }
+
+pub AreTested-next : (P : ℕ → Bool) (n i : ℕ) (flags : List Bool) → i < n → (b : Bool) → b ≡ P i → AreTested P n i flags → AreTested P n (i + 1) (set flags i b)
+AreTested-next P n i flags l b e h = record {
+  count = length-set flags i b ∙ h.count;
+  is = λ m k. elim (cases_eq m i) [
+    | inl w ↦
+        let low : i < length flags = let c = h.count in omega (arith, l, c) in
+        ap (marked (set flags i b)) w ∙ (get_or-set_same flags i b false low ∙ (e ∙ ap P (sym w)))
+    | inr o ↦ get_or-set_other flags i m b false o ∙ h.is m (omega (arith, k, o))
+  ];
+}
 
 module _ (g : Graph) (touches : List Touch) (price : ℕ → ℕ) (since : List ℕ) (t : ℕ) (marks scope : List Bool) (known : AreKnown g touches price since) (high : t ≤ never)
     (marks_are : (m : ℕ) → m < length touches → marked marks m ≡ ltb (since_at since m) t) (scope_is : (m : ℕ) → m < length touches → marked scope m ≡ is_below price t m) where

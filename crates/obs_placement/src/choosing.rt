@@ -150,13 +150,25 @@ impl Choosing {
         ensures empty { IfOk result (λ c. c ≡
             new_choosing (record { meters = most_items; branches = most_branches; vertices = most_vertices })) }
     {
+        let Ok(keys) = vec![in alloc; (0, 0); most_items as usize] else {
+            return Err(NoMemory);
+        };
+        let Ok(raised) = vec![in alloc; false; most_items as usize] else {
+            return Err(NoMemory);
+        };
+        let Ok(list) = vec![in alloc; 0; most_items as usize] else {
+            return Err(NoMemory);
+        };
+        let Ok(taking) = Taking::make(alloc, most_items, most_branches, most_vertices) else {
+            return Err(NoMemory);
+        };
         Ok(Choosing {
             items: 0,
             listed: Listed { count: 0, cost: 0 },
-            keys: vec![in alloc; (0, 0); most_items as usize]?,
-            raised: vec![in alloc; false; most_items as usize]?,
-            list: vec![in alloc; 0; most_items as usize]?,
-            taking: Taking::make(alloc, most_items, most_branches, most_vertices)?,
+            keys,
+            raised,
+            list,
+            taking,
         })
     }
 

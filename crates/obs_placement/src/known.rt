@@ -113,13 +113,22 @@ impl Known {
           sizes = record { meters = most_items; branches = most_branches; vertices = most_vertices };
         }) }
     {
+        let Ok(since) = vec![in alloc; 0; most_items as usize] else {
+            return Err(NoMemory);
+        };
+        let Ok(touched) = vec![in alloc; false; most_branches as usize] else {
+            return Err(NoMemory);
+        };
+        let Ok(fronts) = vec![in alloc; 0; most_vertices as usize] else {
+            return Err(NoMemory);
+        };
         Ok(Known {
             items: 0,
             branches: 0,
             vertices: 0,
-            since: vec![in alloc; 0; most_items as usize]?,
-            touched: vec![in alloc; false; most_branches as usize]?,
-            fronts: vec![in alloc; 0; most_vertices as usize]?,
+            since,
+            touched,
+            fronts,
         })
     }
 

@@ -61,11 +61,17 @@ impl Laying {
     pub fn make(alloc: Global, most: u32) -> Result<Laying, NoMemory>
         ensures empty { IfOk result (λ l. l ≡ record { layers = []; inside = []; room = most }) }
     {
+        let Ok(layers) = vec![in alloc; NO_LAYER; most as usize] else {
+            return Err(NoMemory);
+        };
+        let Ok(inside) = vec![in alloc; 0; most as usize] else {
+            return Err(NoMemory);
+        };
         Ok(Laying {
             count: 0,
             upto: 0,
-            layers: vec![in alloc; NO_LAYER; most as usize]?,
-            inside: vec![in alloc; 0; most as usize]?,
+            layers,
+            inside,
         })
     }
 

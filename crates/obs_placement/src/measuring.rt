@@ -108,11 +108,16 @@ impl Measuring {
           sizes = record { meters = most_items; branches = most_branches; vertices = most_vertices };
         }) }
     {
-        Ok(Measuring {
-            marks: vec![in alloc; false; most_items as usize]?,
-            scope: vec![in alloc; false; most_items as usize]?,
-            cut: CutWork::make(alloc, most_items, most_branches, most_vertices)?,
-        })
+        let Ok(marks) = vec![in alloc; false; most_items as usize] else {
+            return Err(NoMemory);
+        };
+        let Ok(scope) = vec![in alloc; false; most_items as usize] else {
+            return Err(NoMemory);
+        };
+        let Ok(cut) = CutWork::make(alloc, most_items, most_branches, most_vertices) else {
+            return Err(NoMemory);
+        };
+        Ok(Measuring { marks, scope, cut })
     }
 
     /// The list that was measured last.

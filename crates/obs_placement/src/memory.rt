@@ -1,40 +1,5 @@
 // The one error of the calls that allocate.
-ghost use Rattle.std.specs.Prelude.{◌≡◌};
-
-use std::alloc::AllocError;
 
 /// There is no memory.
-#[derive(Clone, Copy, Debug, PartialEq, Eq)]
+#[derive(Clone, Copy, Debug)]
 pub struct NoMemory;
-
-impl From<AllocError> for NoMemory {
-    ghost from_gives = { λ _ e. e ≡ e };
-
-    fn from(_: AllocError) -> Self {
-        NoMemory
-    }
-}
-
-impl From<obs_assign::NoMemory> for NoMemory {
-    ghost from_gives = { λ _ e. e ≡ e };
-
-    fn from(_: obs_assign::NoMemory) -> Self {
-        NoMemory
-    }
-}
-
-impl From<obs_exchange::NoMemory> for NoMemory {
-    ghost from_gives = { λ _ e. e ≡ e };
-
-    fn from(_: obs_exchange::NoMemory) -> Self {
-        NoMemory
-    }
-}
-
-impl From<obs_rankcut::NoMemory> for NoMemory {
-    ghost from_gives = { λ _ e. e ≡ e };
-
-    fn from(_: obs_rankcut::NoMemory) -> Self {
-        NoMemory
-    }
-}

@@ -64,11 +64,16 @@ impl Taking {
         ensures empty { IfOk result (λ t. t ≡
             nothing_taken (record { meters = most_items; branches = most_branches; vertices = most_vertices })) }
     {
-        Ok(Taking {
-            known: Known::make(alloc, most_items, most_branches, most_vertices)?,
-            pairs: Assignment::make(alloc, most_items, most_branches, most_vertices)?,
-            work: Work::make(alloc, most_items, most_branches, most_vertices)?,
-        })
+        let Ok(known) = Known::make(alloc, most_items, most_branches, most_vertices) else {
+            return Err(NoMemory);
+        };
+        let Ok(pairs) = Assignment::make(alloc, most_items, most_branches, most_vertices) else {
+            return Err(NoMemory);
+        };
+        let Ok(work) = Work::make(alloc, most_items, most_branches, most_vertices) else {
+            return Err(NoMemory);
+        };
+        Ok(Taking { known, pairs, work })
     }
 
     /// By item the price from which on it isn't critical.

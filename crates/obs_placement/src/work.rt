@@ -88,11 +88,21 @@ impl PlaceWork {
         ensures empty { IfOk result (λ w. w ≡
             new_placing (record { meters = most_offered; branches = most_branches; vertices = most_vertices })) }
     {
+        let Ok(choosing) = Choosing::make(alloc, most_offered, most_branches, most_vertices) else {
+            return Err(NoMemory);
+        };
+        let Ok(measuring) = Measuring::make(alloc, most_offered, most_branches, most_vertices)
+        else {
+            return Err(NoMemory);
+        };
+        let Ok(laying) = Laying::make(alloc, most_offered) else {
+            return Err(NoMemory);
+        };
         Ok(PlaceWork {
             lack: NO_LACK,
-            choosing: Choosing::make(alloc, most_offered, most_branches, most_vertices)?,
-            measuring: Measuring::make(alloc, most_offered, most_branches, most_vertices)?,
-            laying: Laying::make(alloc, most_offered)?,
+            choosing,
+            measuring,
+            laying,
         })
     }
 

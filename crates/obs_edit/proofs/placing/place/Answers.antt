@@ -1,4 +1,8 @@
-use Rattle.std.proofs.Common.{length, ap, ◌∙◌}
+use Rattle.std.proofs.Common.{length, ap, ◌∙◌, subst}
+use Rattle.obs_graph.specs.Graph.{Graph}
+use Rattle.obs_meter.specs.Held.{Meters}
+use Rattle.obs_assign.specs.Assignment.{StandsOver}
+use Rattle.obs_placement.specs.Placed.{placement_of}
 use Rattle.obs_edit.specs.Planned.{placed_pairs}
 use Rattle.obs_edit.proofs.Offered.{at_case, offered_count, room_of_offered}
 use Rattle.obs_edit.proofs.placing.place.Goals as goal
@@ -18,3 +22,14 @@ returns-clause-pairs g c =
     c.find.ensures.pairs
     ∙ at_case c.args.case.now c.args.network.now c.graph.result.now c.offered.result.now c.requires.network c.graph.ensures.graph c.offered.ensures.offered
     placed_pairs (length c.meters.result.now) c.needed.result c.args.placing.now.prices (ap length c.meters.ensures.rows) c.needed.ensures.needed c.requires.prices
+
+pub returns-clause-placed : goal.returns-clause-placed
+returns-clause-placed g c =
+    c.find.ensures.placed
+    ∙ at_case c.args.case.now c.args.network.now c.graph.result.now c.offered.result.now c.requires.network c.graph.ensures.graph c.offered.ensures.offered
+    placement_of (length c.meters.result.now) c.needed.result c.args.placing.now.prices (ap length c.meters.ensures.rows) c.needed.ensures.needed c.requires.prices
+
+pub returns-clause-stands : goal.returns-clause-stands
+returns-clause-stands g c =
+    let a = c.find.new.self.pairs in
+    subst (λ (x : Graph). StandsOver a x c.args.network.now.offered.touches) c.graph.ensures.graph (subst (λ (i : Meters). StandsOver a c.graph.result.now i.touches) c.offered.ensures.offered c.find.ensures.stands)

@@ -74,3 +74,18 @@ list_raised-requires-clause-offer g c = c.requires.offer
 
 pub returns-clause-same_sizes : goal.returns-clause-same_sizes
 returns-clause-same_sizes g c = ap (λ (t : Taking). t.sizes) c.thaw.ensures.thawed ∙ (c.take_all.ensures.same_sizes ∙ c.begin.ensures.same_sizes)
+
+pub put_in_order-requires-clause-count : goal.put_in_order-requires-clause-count
+put_in_order-requires-clause-count g c =
+    let count = c.count-n.ensures.count in
+    let room : c.count-n.result ≤ length c.args.keys.now = let m = c.requires.room.meters in let k = c.requires.keys in omega (arith, count, m, k) in
+    length-take-le c.count-n.result c.args.keys.now room ∙ count
+
+pub list_raised-requires-clause-raised : goal.list_raised-requires-clause-raised
+list_raised-requires-clause-raised g c =
+    let count = c.count-n.ensures.count in
+    let room : c.count-n.result ≤ length c.args.raised.now = let m = c.requires.room.meters in let r = c.requires.raised in omega (arith, count, m, r) in
+    c.take_all.auto.raised ∙ (c.clear.auto.flags ∙ (length-take-le c.count-n.result c.args.raised.now room ∙ count))
+
+pub list_raised-requires-clause-room : goal.list_raised-requires-clause-room
+list_raised-requires-clause-room g c = let m = c.requires.room.meters in let i = c.requires.offer.items in let l = c.requires.list in omega (arith, m, i, l)

@@ -1,6 +1,7 @@
 use Rattle.std.proofs.Common.{◌<◌, ℕ, length, arith, ap, refl, sym, ◌∙◌}
 use Rattle.obs_matroid.proofs.Lists.{clash}
 use Rattle.obs_assign.specs.Assignment.{has_flag}
+use Rattle.obs_placement.specs.Counting.{live_below, raised_below}
 use Rattle.obs_placement.specs.Offer.{price_in}
 use Rattle.obs_placement.specs.Order.{item_at}
 use Rattle.obs_placement.proofs.LaidOut.{IsLaying-begun, IsLaying-inside, IsLaying-layers, IsLaying-more, IsLaying-over}
@@ -68,3 +69,49 @@ returns-clause-inside c =
     let l = c.loop-k in
     IsLaying-inside o.graph.now.vertices o.graph.now.ends o.items.now.touches o.meters o.prices.now t.keys t.since c.requires.chosen.order c.requires.offer.items
     l.k l.last l.laying.layers l.laying.inside l.invariant.0 (let t = c.loop-k-test.false in let n = c.count-k-end.ensures.count in omega (arith, t, n))
+
+pub returns-clause-room : goal.returns-clause-room
+returns-clause-room c = c.loop-k.invariant.2
+
+pub count_item-tally-requires-clause-offer : goal.count_item-tally-requires-clause-offer
+count_item-tally-requires-clause-offer c = c.requires.offer
+
+pub count_item-tally-requires-clause-chosen : goal.count_item-tally-requires-clause-chosen
+count_item-tally-requires-clause-chosen c = c.requires.chosen
+
+pub count_item-tally-requires-clause-counted : goal.count_item-tally-requires-clause-counted
+count_item-tally-requires-clause-counted c = c.loop-k.invariant.1
+
+pub add_layer-requires-clause-offer : goal.add_layer-requires-clause-offer
+add_layer-requires-clause-offer c = c.requires.offer
+
+pub add_layer-requires-clause-known : goal.add_layer-requires-clause-known
+add_layer-requires-clause-known c = rw c.since.ensures.since c.requires.chosen.known
+
+pub add_layer-requires-clause-live : goal.add_layer-requires-clause-live
+add_layer-requires-clause-live c =
+    let o = c.args.offer.now in
+    let low : c.loop-k.k < length o.items.now.touches = let t = c.loop-k-test.true in let n = c.count-k-end.ensures.count in omega (arith, t, n) in
+    let key = ap (λ (x : ℕ × ℕ). x.0) c.key-price.ensures.key ∙ c.requires.chosen.order.priced c.loop-k.k low in
+    c.count_item-tally.ensures.counted.below ∙ ap (live_below o.graph.now.ends o.items.now.touches (price_in o)) (c.count_item-tally.ensures.price ∙ sym key)
+
+pub add_layer-requires-clause-raised : goal.add_layer-requires-clause-raised
+add_layer-requires-clause-raised c =
+    let o = c.args.offer.now in
+    let low : c.loop-k.k < length o.items.now.touches = let t = c.loop-k-test.true in let n = c.count-k-end.ensures.count in omega (arith, t, n) in
+    let key = ap (λ (x : ℕ × ℕ). x.0) c.key-price.ensures.key ∙ c.requires.chosen.order.priced c.loop-k.k low in
+    c.count_item-tally.ensures.counted.below_raised ∙ ap (raised_below o.graph.now.vertices o.graph.now.ends o.items.now.touches (price_in o)) (c.count_item-tally.ensures.price ∙ sym key)
+
+pub add_layer-requires-clause-layers : goal.add_layer-requires-clause-layers
+add_layer-requires-clause-layers c =
+    let t = c.loop-k-test.true in
+    let n = c.count-k-end.ensures.count in
+    let b = c.loop-k.invariant.0.bound in
+    let e = c.loop-k.invariant.2 in
+    omega (arith, t, n, b, e, c.requires.room)
+
+pub add_layer-requires-clause-inside : goal.add_layer-requires-clause-inside
+add_layer-requires-clause-inside c = let e = c.loop-k.invariant.2 in omega (arith, e, c.requires.room)
+
+pub add_layer-requires-clause-upto : goal.add_layer-requires-clause-upto
+add_layer-requires-clause-upto c = rw c.since.ensures.since c.loop-k.invariant.0.known

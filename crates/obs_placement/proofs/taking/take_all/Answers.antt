@@ -86,3 +86,21 @@ loop-k-init g c = (c.requires.begun, refl)
 
 pub returns-clause-same_sizes : goal.returns-clause-same_sizes
 returns-clause-same_sizes g c = c.loop-k.invariant.1
+
+pub bounds-raised-c : goal.bounds-raised-c
+bounds-raised-c g c =
+    let order = c.requires.order in
+    let t = c.loop-k-test.true in
+    let n = order.count in
+    let low = order.low c.loop-k.k (omega (arith, t, n)) in
+    let all = c.loop-k.invariant.0.way.raised_count in
+    omega (arith, low, all)
+
+pub live-requires-clause-item : goal.live-requires-clause-item
+live-requires-clause-item g c =
+    let t = c.loop-k-test.true in
+    let n = c.requires.order.count in
+    c.requires.order.low c.loop-k.k (omega (arith, t, n))
+
+pub live-requires-clause-in_range : goal.live-requires-clause-in_range
+live-requires-clause-in_range g c = c.requires.offer.in_range _ _ (live-requires-clause-item g c)

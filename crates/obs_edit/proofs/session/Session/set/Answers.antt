@@ -1,12 +1,13 @@
-use Rattle.std.proofs.Common.{ap, inl, ◌≡◌, ◌∙◌, refl, sym, subst}
+use Rattle.std.proofs.Common.{ap, inl, inr, ℕ, ◌+◌, ◌≡◌, ◌∙◌, length, refl, sym, subst}
 use Rattle.std.specs.Prelude.{take}
 use Rattle.obs_case.specs.Tables.{Tables}
-use Rattle.obs_assign.specs.Assignment.{StandsOver}
+use Rattle.obs_assign.specs.Assignment.{StandsOver, pairs}
 use Rattle.obs_network.specs.Network.{case_meters, network_of}
 use Rattle.obs_edit.specs.declared.hand.AtHand.{AtHand}
-use Rattle.obs_repair.specs.Edits.{HasRow, edited}
+use Rattle.obs_repair.specs.Edits.{HasRow, IsRepaired, TakesOne, edited}
 use Rattle.obs_repair.specs.Parts.{BoundsWhereKnown, HasRoomForParts}
 use Rattle.obs_repair.specs.Kept.{HasRoom}
+use Rattle.obs_edit.specs.Edits.{IsEdited}
 use Rattle.obs_edit.specs.Sessions.{HasRoomToAnswer, Session}
 use Rattle.obs_repair.proofs.Flagged.{valid_now}
 use Rattle.obs_repair.proofs.OfNetwork.{rank_of_longest}
@@ -68,3 +69,29 @@ invariant_of-self g c = record {
   placing = placing-edited c.self.inside.case c.set_flag.new.case c.args.edit c.self.inside.offered c.self.inside.answers.hand.placed c.nothing-self-inside.result.placed c.self.inside.placing c.set_flag.ensures.edited
       (ap (λ (h : AtHand). h.placed) c.nothing-self-inside.ensures.nothing) c.self.invariant.placing;
 }
+
+pub set_flag-requires : goal.set_flag-requires
+set_flag-requires g c = record { row = subst (λ (k : Session). HasRow k.tables c.args.edit) (sym c.self.view_is) c.requires.row }
+
+pub returns-clause-ticks : goal.returns-clause-ticks
+returns-clause-ticks g c = c.repair-searches.ensures.ticks ∙ ap (λ (n : ℕ). c.args.steps.now + n) (sym c.applied-2.ensures.searches)
+
+pub returns-clause-edited : goal.returns-clause-edited
+returns-clause-edited g c =
+    let said = c.applied-2.ensures in
+    let done = c.repair-searches.ensures in
+    let t = c.set_flag.new.case in
+    let before = c.self.inside.held.pairs in
+    let after = c.repair-searches.new.a in
+    subst (λ (k : Session). IsEdited k c.args.edit (record { tables = t; offered = c.self.inside.offered; pairs = after; at_hand = c.nothing-self-inside.result }) c.applied-2.result) c.self.view_is (record {
+      tables = c.set_flag.ensures.edited;
+      offered = refl;
+      rank = said.rank;
+      computed = said.computed;
+      needed = said.needed;
+      repaired = subst (λ (r : ℕ). IsRepaired t before after r c.applied-2.result.searches) (sym said.length)
+          (subst (λ (s : ℕ). IsRepaired t before after (length (pairs after)) s) (sym said.searches) done.repaired);
+      meter = subst (λ (s : ℕ). TakesOne c.args.edit before after s) (sym said.searches) done.meter;
+      without_pair = λ at is none. let w = done.without_pair at is none in (said.searches ∙ w.0, w.1);
+      flag = inr (λ k. c.if-is_set.ensures.set (sym c.set_flag.ensures.edited ∙ k), c.nothing-self-inside.ensures.nothing);
+    })
