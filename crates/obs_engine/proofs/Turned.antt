@@ -7,7 +7,7 @@ use Rattle.std.proofs.lemmas.List.Elements.{All-head, All-tail}
 use Rattle.std.proofs.lemmas.List.FromFn.{length-range_with_len}
 use Rattle.obs_case.specs.declared.rows.Meter.{Meter}
 use Rattle.obs_case.specs.Flags.{changed_at, with_meter_inservice}
-use Rattle.obs_case.specs.Tables.{Tables}
+use Rattle.obs_case.specs.Tables.{IsValid, Tables}
 use Rattle.obs_case.proofs.RowLemmas.{length-changed}
 use Rattle.obs_assign.specs.Assignment.{Assignment, pairs}
 use Rattle.obs_assign.specs.Still.{is_still}
@@ -21,6 +21,7 @@ use Rattle.obs_repair.specs.Kept.{AreLongest}
 use Rattle.obs_edit.specs.Sessions.{Session}
 use Rattle.obs_engine.specs.Trials.{AreInService, dip_meters, dips_of, edits_of, is_dip, is_first_of_island, island_count, trial_text}
 use Rattle.obs_engine.specs.Turns.{AreSearches, AreTurns, IsTurn}
+use Rattle.obs_network.proofs.OfCase.{few_meters}
 use Rattle.obs_claimed.proofs.Small.{filter_few}
 
 module _ (p : ℕ → Bool) where
@@ -50,6 +51,9 @@ pub record AreTurned (p : ℕ → Bool) (n i dips searches : ℕ) : Type 0 where
   pub few : i ≤ n
 
 module _ (p : ℕ → Bool) (n : ℕ) where
+  pub turned_none : AreTurned p n 0 0 0
+  turned_none = let a = left_all p n in record { counted = omega (arith, a); least = omega arith; most = omega arith; few = omega arith }
+
   pub turned_one : (i dips searches one more : ℕ) → AreTurned p n i dips searches → i < n → one ≡ (if p i then 1 else 0) → one ≤ more → more ≤ 2
       → AreTurned p n (i + 1) (dips + one) (searches + more)
   turned_one i dips searches one more h low is least most =
@@ -75,6 +79,16 @@ turns_more before at after i searches more h turn =
 
 pub turns_all : (before after : Session) (i n searches : ℕ) → AreTurns i before after searches → i ≤ n → n ≤ i → AreTurns n before after searches
 turns_all before after i n searches h few past = let same : i ≡ n = omega (arith, few, past) in subst (λ (k : ℕ). AreTurns k before after searches) same h
+
+-- with one turn more there are still few of both
+pub turned_few : (t : Tables) (p : ℕ → Bool) (i dips searches one more : ℕ) → IsValid t → AreTurned p (length t.meters) i dips searches → one ≤ more → more ≤ 2
+    → (dips + one < 4294967296) × (searches + more < 4294967296)
+turned_few t p i dips searches one more v h less two =
+    let rows = few_meters t v in
+    let least = h.least in
+    let most = h.most in
+    let few = h.few in
+    (omega (arith, rows, least, most, few, less, two), omega (arith, rows, most, few, two))
 
 -- which are the searches of a trial
 pub searches_are : (before after : Session) (dips searches : ℕ) → AreTurns (length before.tables.meters) before after searches → dips ≡ dips_of before.tables → dips ≤ searches

@@ -1,9 +1,48 @@
-use Rattle.std.proofs.Common.{◌∙◌, ◌<◌, ◌≤◌, ap, arith, length}
+use Rattle.std.proofs.Common.{◌∙◌, ◌<◌, ◌≤◌, ap, arith, length, refl, subst, sym}
 use Rattle.std.specs.Prelude.{if◌then◌else◌}
-use Rattle.obs_case.specs.Tables.{Tables}
-use Rattle.obs_engine.specs.Trials.{is_dip}
-use Rattle.obs_engine.proofs.Turned.{dips_are_counted, turned_all, turned_one, turns_all, turns_more}
+use Rattle.obs_case.specs.Tables.{IsValid, Tables}
+use Rattle.obs_network.specs.Observable.{case_rank}
+use Rattle.obs_network.proofs.OfCase.{few_meters}
+use Rattle.obs_engine.specs.Trials.{AreInService, is_dip}
+use Rattle.obs_engine.proofs.Turned.{dips_are_counted, turned_all, turned_few, turned_none, turned_one, turns_all, turns_more}
 use Rattle.obs_engine.proofs.trial.turn_meters.Goals as goal
+
+pub overflow_cast-count : goal.overflow_cast-count
+overflow_cast-count g c =
+    let t = c.args.session.now.tables in
+    let few = few_meters t (subst IsValid c.present.ensures.case c.meters.ensures.valid) in
+    omega (arith, few, ap (λ xs. length xs) c.meters.ensures.rows, ap (λ (x : Tables). length x.meters) c.present.ensures.case)
+
+pub loop-at-init : goal.loop-at-init
+loop-at-init g c = record { tables = refl; turns = (refl, refl); turned = turned_none (is_dip c.args.session.now.tables) (length c.args.session.now.tables.meters); ticks = omega arith }
+
+pub turn_meter-turn-requires-clause-meter : goal.turn_meter-turn-requires-clause-meter
+turn_meter-turn-requires-clause-meter g c =
+    omega (arith, c.loop-at-test.true, ap (λ xs. length xs) c.meters.ensures.rows, ap (λ (x : Tables). length x.meters) (c.present.ensures.case ∙ sym c.loop-at.invariant.tables))
+
+pub turn_meter-turn-requires-clause-inservice : goal.turn_meter-turn-requires-clause-inservice
+turn_meter-turn-requires-clause-inservice g c = subst AreInService (sym c.loop-at.invariant.tables) c.requires.inservice
+
+pub turn_meter-turn-requires-clause-first : goal.turn_meter-turn-requires-clause-first
+turn_meter-turn-requires-clause-first g c = c.state-first.ensures.computed ∙ ap case_rank (sym c.loop-at.invariant.tables)
+
+pub overflow_add-turns : goal.overflow_add-turns
+overflow_add-turns g c =
+    let t = c.args.session.now.tables in
+    let v = subst IsValid c.present.ensures.case c.meters.ensures.valid in
+    let few =
+        turned_few t (is_dip t) c.loop-at.at c.loop-at.turns.dips c.loop-at.turns.searches c.turn_meter-turn.result.dips c.turn_meter-turn.result.searches v c.loop-at.invariant.turned
+        c.turn_meter-turn.ensures.least c.turn_meter-turn.ensures.most in
+    omega (arith, few.0)
+
+pub overflow_add-turns-in-loop-at : goal.overflow_add-turns-in-loop-at
+overflow_add-turns-in-loop-at g c =
+    let t = c.args.session.now.tables in
+    let v = subst IsValid c.present.ensures.case c.meters.ensures.valid in
+    let few =
+        turned_few t (is_dip t) c.loop-at.at c.loop-at.turns.dips c.loop-at.turns.searches c.turn_meter-turn.result.dips c.turn_meter-turn.result.searches v c.loop-at.invariant.turned
+        c.turn_meter-turn.ensures.least c.turn_meter-turn.ensures.most in
+    omega (arith, few.1)
 
 pub loop-at-preserved : goal.loop-at-preserved
 loop-at-preserved g c =
