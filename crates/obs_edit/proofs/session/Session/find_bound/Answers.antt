@@ -14,6 +14,7 @@ invariant_of-self c =
     let count : length inside ≡ length kept.items = c.find_bound-self-inside.auto.inside ∙ ap length c.deref_mut.ensures.value in
     let back : take kept.len (inside ++ drop (length inside) kept.items) ≡ inside = written_back kept.len inside kept.items count kept.ok.0 in
     rw back (record {
+      valid = was.valid;
       network = was.network;
       longest = was.longest;
       room = was.room;

@@ -12,6 +12,7 @@ invariant_of-self g c =
     let count : length marks ≡ length kept.items = c.find_critical.auto.marks ∙ ap length c.deref_mut.ensures.value in
     let back : take kept.len (marks ++ drop (length marks) kept.items) ≡ marks = written_back kept.len marks kept.items count kept.ok.0 in
     rw (back, found.same) (record {
+      valid = was.valid;
       network = was.network;
       longest = was.longest;
       room = record { pair_meters = was.room.pair_meters; pair_branches = was.room.pair_branches; pair_vertices = was.room.pair_vertices; work = found.same_sizes ∙ was.room.work };

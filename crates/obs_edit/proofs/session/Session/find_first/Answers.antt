@@ -5,6 +5,7 @@ invariant_of-self g c =
     let was = c.self.invariant in
     let found = c.find_first.ensures in
     record {
+      valid = was.valid;
       network = was.network;
       longest = found.longest;
       room = found.room;

@@ -7,6 +7,7 @@ invariant_of-self g c =
     let found = c.find_islands.ensures in
     let room = was.answer_room in
     record {
+      valid = was.valid;
       network = was.network;
       longest = was.longest;
       room = was.room;
