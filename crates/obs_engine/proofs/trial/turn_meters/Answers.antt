@@ -31,8 +31,8 @@ overflow_add-turns g c =
     let t = c.args.session.now.tables in
     let v = subst IsValid c.present.ensures.case c.meters.ensures.valid in
     let few =
-        turned_few t (is_dip t) c.loop-at.at c.loop-at.turns.dips c.loop-at.turns.searches c.turn_meter-turn.result.dips c.turn_meter-turn.result.searches v c.loop-at.invariant.turned
-        c.turn_meter-turn.ensures.least c.turn_meter-turn.ensures.most in
+    turned_few t (is_dip t) c.loop-at.at c.loop-at.turns.dips c.loop-at.turns.searches c.turn_meter-turn.result.dips c.turn_meter-turn.result.searches v c.loop-at.invariant.turned
+    c.turn_meter-turn.ensures.least c.turn_meter-turn.ensures.most in
     omega (arith, few.0)
 
 pub overflow_add-turns-in-loop-at : goal.overflow_add-turns-in-loop-at
@@ -40,8 +40,8 @@ overflow_add-turns-in-loop-at g c =
     let t = c.args.session.now.tables in
     let v = subst IsValid c.present.ensures.case c.meters.ensures.valid in
     let few =
-        turned_few t (is_dip t) c.loop-at.at c.loop-at.turns.dips c.loop-at.turns.searches c.turn_meter-turn.result.dips c.turn_meter-turn.result.searches v c.loop-at.invariant.turned
-        c.turn_meter-turn.ensures.least c.turn_meter-turn.ensures.most in
+    turned_few t (is_dip t) c.loop-at.at c.loop-at.turns.dips c.loop-at.turns.searches c.turn_meter-turn.result.dips c.turn_meter-turn.result.searches v c.loop-at.invariant.turned
+    c.turn_meter-turn.ensures.least c.turn_meter-turn.ensures.most in
     omega (arith, few.1)
 
 pub loop-at-preserved : goal.loop-at-preserved
