@@ -1,3 +1,4 @@
+pub mod AfterLemmas
 pub mod AmongLemmas
 pub mod CaseLemmas
 pub mod ExactLemmas

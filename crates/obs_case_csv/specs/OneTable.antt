@@ -1,5 +1,5 @@
 -- When the bytes of one table are rows of a case, and when those of two are a case of nodes and switches alone.
-use Rattle.std.specs.Prelude.{ℕ, ◌≡◌, List, [], ◌∷◌, None}
+use Rattle.std.specs.Prelude.{ℕ, ◌≡◌, List, [], ◌∷◌, Option, None, Some}
 use Rattle.obs_case.specs.Tables.{IsValid, Tables}
 use Rattle.obs_case_csv.specs.declared.faults.Table.{Table}
 use Rattle.obs_case_csv.specs.declared.faults.Table.TheVariants.{Nodes, Switches, Branches, Meters, Candidates}
@@ -24,6 +24,11 @@ pub record IsTableOf (table : Table) (bytes : List ℕ) (t u : Tables) : Type 0 
   pub columns : header_fault table header ≡ None
   pub valid : IsValid u
   pub rows : HasRows table header records t u
+
+-- tables have the candidates of these bytes, or none where no bytes are given, and else are those before
+abbrev pub HasCandidates : Option (List ℕ) → Tables → Tables → Type 0
+HasCandidates None before tables = tables ≡ before
+HasCandidates (Some bytes) before tables = IsTableOf Candidates bytes before tables
 
 -- the bytes are a case of nodes and switches alone: it is valid, and each table's bytes are its rows
 pub record IsSwitchingCase (nodes switches : List ℕ) (t : Tables) : Type 0 where

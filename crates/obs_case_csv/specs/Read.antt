@@ -89,6 +89,10 @@ abbrev pub then_read_given : Table → Option (List ℕ) → Result Tables Table
 then_read_given table None before = before
 then_read_given table (Some bytes) before = then_read table bytes before
 
+-- the meters, and the candidates if they are given, read after other tables
+abbrev pub tables_after : List ℕ → Option (List ℕ) → Tables → Result Tables TableFault
+tables_after meters candidates tables = then_read_given Candidates candidates (then_read Meters meters (Ok tables))
+
 -- the case that the bytes of five tables are, or the first fault
 abbrev pub tables_in : List ℕ → List ℕ → List ℕ → List ℕ → Option (List ℕ) → Result Tables TableFault
 tables_in nodes switches branches meters candidates =

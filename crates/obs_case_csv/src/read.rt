@@ -4,7 +4,7 @@ ghost use Rattle.csv.specs.Records.{fields_of};
 ghost use Rattle.obs_case.specs.Tables.{most_rows, no_rows};
 ghost use Rattle.obs_case_csv.specs.Columns.{ArePlaces};
 ghost use Rattle.obs_case_csv.specs.Fields.{Record};
-ghost use Rattle.obs_case_csv.specs.Read.{Ends, EndsAll, HoldsFirstRows, UnlessNoMemory, fault_at, fault_in, most_records, rows_in, table_records, tables_in};
+ghost use Rattle.obs_case_csv.specs.Read.{Ends, EndsAll, HoldsFirstRows, UnlessNoMemory, fault_at, fault_in, most_records, rows_in, table_records, tables_after, tables_in};
 ghost use Rattle.obs_case_csv.specs.Records.{Gives};
 ghost use Rattle.obs_case_csv.specs.Rows.{names_in, next_row, row_fault, with_record};
 
@@ -107,6 +107,27 @@ pub fn read_table(
     read_records(&mut reader, &mut row, case, table, bytes)
 }
 
+/// Adds the rows of the tables that are given to a case that has none of them.
+pub fn add_tables(
+    alloc: Global,
+    case: &mut Case,
+    meters: &[u8],
+    candidates: Option<&[u8]>,
+) -> Result<(), TableEnd>
+    requires meters { case.old.meters ≡ [] }
+    requires candidates { case.old.candidates ≡ [] }
+    ensures read { OnOk result
+        (tables_after meters.now (option_map (λ bytes. bytes.now) candidates.entry) case.old ≡ Ok case.new) }
+    ensures refused { IfErr result
+        (EndsAll (tables_after meters.now (option_map (λ bytes. bytes.now) candidates.entry) case.old)) }
+{
+    read_table(alloc, case, Table::Meters, meters)?;
+    match candidates {
+        Some(bytes) => read_table(alloc, case, Table::Candidates, bytes),
+        None => Ok(()),
+    }
+}
+
 // Reads the five tables in their order into a case without rows, up to the first fault.
 fn fill_case(
     alloc: Global,
@@ -126,11 +147,7 @@ fn fill_case(
     read_table(alloc, case, Table::Nodes, nodes)?;
     read_table(alloc, case, Table::Switches, switches)?;
     read_table(alloc, case, Table::Branches, branches)?;
-    read_table(alloc, case, Table::Meters, meters)?;
-    if let Some(candidates) = candidates {
-        read_table(alloc, case, Table::Candidates, candidates)?;
-    }
-    Ok(())
+    add_tables(alloc, case, meters, candidates)
 }
 
 /// Reads the five tables in their order, and answers the first fault. A table of candidates that

@@ -15,10 +15,10 @@ use Rattle.obs_files.specs.declared.taken.CaseError.{CaseError}
 use Rattle.obs_files.specs.declared.taken.CaseError.TheVariants.{Refused, Read, NoMemory}
 use Rattle.obs_text.specs.declared.faults.InputFault.{InputFault}
 use Rattle.obs_case.specs.Tables.{Tables}
+use Rattle.obs_case_csv.specs.Read.{tables_after}
 use Rattle.obs_ieee_cdf.specs.Faults.{cdf_fault}
 use Rattle.obs_ieee_cdf.specs.Rows.{cdf_of}
 use Rattle.obs_case_csv.specs.declared.faults.TableFault.{TableFault}
-use Rattle.obs_ieee_cdf.specs.Read.{tables_after}
 use Rattle.obs_matpower.specs.declared.fault.MatEnd.{MatEnd}
 use Rattle.obs_matpower.specs.declared.fault.MatEnd.TheVariants.{Mat}
 use Rattle.obs_matpower.specs.declared.fault.MatFault.{MatFault}

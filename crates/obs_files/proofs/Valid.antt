@@ -4,12 +4,11 @@ use Rattle.std.specs.Result.{MatchResult}
 use Rattle.obs_case.specs.Tables.{IsValid, Tables, no_rows}
 use Rattle.obs_case_csv.specs.declared.faults.Table.TheVariants.{Nodes, Switches}
 use Rattle.obs_case_csv.specs.declared.faults.TableFault.{TableFault}
-use Rattle.obs_case_csv.specs.Read.{tables_in, then_read}
+use Rattle.obs_case_csv.specs.Read.{tables_after, tables_in, then_read}
 use Rattle.obs_case_csv.proofs.ExactLemmas.{ReadExactly-holds}
 use Rattle.obs_case_csv.proofs.TableLemmas.{SwitchingIsRead-holds}
 use Rattle.obs_ieee_cdf.specs.declared.fault.CdfFault.{CdfFault}
 use Rattle.obs_ieee_cdf.specs.Faults.{cdf_fault}
-use Rattle.obs_ieee_cdf.specs.Read.{tables_after}
 use Rattle.obs_ieee_cdf.specs.Read as cdf
 use Rattle.obs_matpower.specs.declared.fault.MatFault.{MatFault}
 use Rattle.obs_matpower.specs.Faults.{mat_fault}

@@ -6,9 +6,8 @@ use Rattle.obs_case.specs.Tables.{Tables, no_rows}
 use Rattle.obs_case_csv.specs.declared.faults.TableFault.{TableFault}
 use Rattle.obs_case_csv.specs.declared.faults.Table.TheVariants.{Nodes, Switches}
 use Rattle.obs_case_csv.specs.Faults.{table_fault}
-use Rattle.obs_case_csv.specs.Read.{tables_in, then_read}
+use Rattle.obs_case_csv.specs.Read.{tables_after, tables_in, then_read}
 use Rattle.obs_ieee_cdf.specs.Faults.{cdf_fault}
-use Rattle.obs_ieee_cdf.specs.Read.{tables_after}
 use Rattle.obs_ieee_cdf.specs.Rows.{cdf_of}
 use Rattle.obs_matpower.specs.Faults.{mat_fault}
 use Rattle.obs_matpower.specs.Read.{mat_of}

@@ -1,33 +1,11 @@
--- Bytes and their lines with their ends.
-use Rattle.std.proofs.Common.{◌≡◌, ℕ, suc, zero, false, inl, inr, List, [], ◌∷◌, ◌++◌, map, take, drop, refl, sym, ap, ◌∙◌, add-one}
-use Rattle.std.proofs.lemmas.List.{take-append-drop}
+-- Some of the lines of bytes, with their ends.
+use Rattle.std.proofs.Common.{◌≡◌, ℕ, suc, zero, false, inl, inr, List, [], ◌∷◌, take, drop, refl, sym, ap, ◌∙◌}
 use Rattle.std.proofs.Math.Seq.{take-nil}
 use Rattle.std.proofs.lemmas.Bool.{cases_Bool}
 use Rattle.std.specs.List.{concat, onto_first}
-use Rattle.obs_text.specs.Lines.{after_line, content, ended_lines, is_feed, lines_of}
+use Rattle.obs_text.specs.Lines.{ended_lines, is_feed}
 use Rattle.obs_text.proofs.LineLemmas.{ended_lines-first, feed_at}
 use Rattle.obs_text.proofs.LineLaws.{joined, onto_first-joined}
-
--- the first line of bytes: with its end, and without it
-pub record IsNextLine (all line rest ended : List ℕ) : Type 0 where
-  pub lines : ended_lines all ≡ ended ∷ ended_lines rest
-  pub content : content ended ≡ line
-  pub bytes : all ≡ ended ++ rest
-
-pub next_line : (bytes line rest : List ℕ) → lines_of bytes ≡ line ∷ lines_of rest → rest ≡ after_line bytes → (ended : List ℕ) × IsNextLine bytes line rest ended
-next_line [] line rest is after = absurd (let e : lines_of [] ≡ line ∷ lines_of rest = is in cc)
-next_line (b ∷ bs) line rest is after =
-    let whole = b ∷ bs in
-    let n = suc (feed_at whole) in
-    let here : rest ≡ drop n whole = after ∙ ap (λ k. drop k whole) (add-one (feed_at whole)) in
-    let lines : ended_lines whole ≡ take n whole ∷ ended_lines rest = ended_lines-first b bs ∙ ap (λ r. take n whole ∷ ended_lines r) (sym here) in (
-      take n whole,
-      record {
-        lines = lines;
-        content = (let both : content (take n whole) ∷ map content (ended_lines rest) ≡ line ∷ lines_of rest = sym (ap (map content) lines) ∙ is in cc);
-        bytes = sym (take-append-drop n whole) ∙ ap (λ r. take n whole ++ r) (sym here);
-      },
-    )
 
 take-onto_first : (b n : ℕ) (parts : List (List ℕ)) → take (suc n) (onto_first b parts) ≡ onto_first b (take (suc n) parts)
 take-onto_first b n [] = ap (λ r. (b ∷ []) ∷ r) (take-nil n)

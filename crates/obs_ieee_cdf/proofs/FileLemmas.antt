@@ -5,18 +5,20 @@ use Rattle.std.proofs.lemmas.List.Folds.{concat-append}
 use Rattle.std.specs.List.{after_first, before_first, concat, list_any, position_or_len}
 use Rattle.obs_text.specs.Lines.{content, ended_lines, lines_of}
 use Rattle.obs_case.specs.Tables.{Tables}
+use Rattle.obs_bus_branch.specs.Buses.{Bus, tables_of_rows}
+use Rattle.obs_bus_branch.specs.Rows.{at_end, on_ok, read_rows}
+use Rattle.obs_bus_branch.proofs.NumberLemmas.{AreBuses-none}
+use Rattle.obs_bus_branch.proofs.RowsRead.{read_rows-good}
 use Rattle.obs_ieee_cdf.specs.declared.fault.CdfFault.{CdfFault}
 use Rattle.obs_ieee_cdf.specs.declared.stop.Stop.{Stop}
 use Rattle.obs_ieee_cdf.specs.declared.stop.Stop.TheVariants.{Fault, NoMemory}
 use Rattle.obs_ieee_cdf.specs.Reading.{Answers, AreBuses}
-use Rattle.obs_ieee_cdf.specs.Rows.{Bus, at_end, branch_rows, bus_rows, cdf_of, numbered, on_ok, read_branch, read_bus, read_rows, tables_of_rows}
+use Rattle.obs_ieee_cdf.specs.Rows.{branch_rows, bus_rows, cdf_of, numbered, read_branch, read_bus}
 use Rattle.obs_text.specs.Limits.{most_file_bytes}
 use Rattle.obs_text.proofs.LineLaws.{joined, length-ended_lines}
 use Rattle.obs_ieee_cdf.specs.Sections.{after_branch_heading, after_bus_heading, after_buses, branch_lines, branches_from, bus_lines, buses_from, end_fault, is_branch_heading, is_bus_heading, is_end}
 use Rattle.obs_ieee_cdf.proofs.EndedLemmas.{ended_lines-drop, ended_lines-take}
-use Rattle.obs_ieee_cdf.proofs.NumberLemmas.{AreBuses-none}
 use Rattle.obs_ieee_cdf.proofs.ReadLemmas.{read_bus-good}
-use Rattle.obs_ieee_cdf.proofs.RowsRead.{read_rows-good}
 use Rattle.obs_ieee_cdf.proofs.SectionLemmas.{AreSections}
 
 -- lines that are the lines of what they are joined

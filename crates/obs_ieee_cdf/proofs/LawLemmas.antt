@@ -1,33 +1,24 @@
 -- What is read from lines, and what lines are.
-use Rattle.std.proofs.Common.{◌≡◌, ℕ, ◌+◌, ◌<◌, ◌≤◌, Bool, true, false, eqb, List, [], ◌∷◌, ◌++◌, length, map, Option, Some, None, Result, Ok, Err, refl, sym, ap, ◌∙◌, subst, length-append, arith}
+use Rattle.std.proofs.Common.{◌≡◌, ℕ, ◌+◌, ◌<◌, ◌≤◌, true, false, eqb, List, [], ◌∷◌, length, map, Option, Some, None, Result, Ok, Err, refl, sym, ap, ◌∙◌, subst, length-append, arith}
 use Rattle.std.proofs.lemmas.Bool.{lt-leb}
-use Rattle.std.specs.List.{AllByRecursion, IsDistinct, list_any}
+use Rattle.std.specs.List.{IsDistinct}
 use Rattle.obs_text.specs.Lines.{ended_lines}
 use Rattle.obs_case.specs.Tables.{Tables, most_rows}
 use Rattle.obs_case.specs.declared.rows.Branch.{Branch}
+use Rattle.obs_bus_branch.specs.Buses.{Bus, branch_name, has_bus, place_of_bus, tables_of_rows}
+use Rattle.obs_bus_branch.specs.Rows.{at_end, on_ok, read_rows}
+use Rattle.obs_bus_branch.proofs.NumberLemmas.{fresh_number, same_branch}
+use Rattle.obs_bus_branch.proofs.RowsRead.{are-read_rows, read_rows-are, read_rows-few, same_length}
 use Rattle.obs_ieee_cdf.specs.declared.fault.CdfFault.{CdfFault}
 use Rattle.obs_ieee_cdf.specs.Case.{AreBranchLines, IsBranchLine, IsBusLine, IsFile}
 use Rattle.obs_ieee_cdf.specs.IsFault.{AreAllBuses}
 use Rattle.obs_ieee_cdf.specs.Laws.{FileIsRead}
-use Rattle.obs_ieee_cdf.specs.Rows.{Bus, at_end, branch_name, branch_rows, bus_rows, cdf_of, has_bus, on_ok, place_of_bus, read_branch, read_bus, read_rows, tables_of_rows}
+use Rattle.obs_ieee_cdf.specs.Rows.{branch_rows, bus_rows, cdf_of, read_branch, read_bus}
 use Rattle.obs_ieee_cdf.specs.Sections.{end_fault}
 use Rattle.obs_ieee_cdf.proofs.FileLemmas.{read_rows-buses}
 use Rattle.obs_ieee_cdf.proofs.ReadLemmas.{read_branch-line, read_bus-line}
-use Rattle.obs_ieee_cdf.proofs.RowsRead.{are-read_rows, read_rows-are, read_rows-few, same_length}
 
 -- ---- bus lines
-
--- a number that is different from all others is new among the earlier
-all_at : {A R : Type 0} (P : A → Type 0) (f : R → A) (xs : List R) (y : R) (ys : List R) → AllByRecursion P (map f (xs ++ y ∷ ys)) → P (f y)
-all_at P f [] y ys all = all.0
-all_at P f (x ∷ xs) y ys all = all_at P f xs y ys all.1
-
-pub fresh_number : {R : Type 0} (number : R → ℕ) (earlier : List R) (r : R) (later : List R) → IsDistinct eqb (map number (earlier ++ r ∷ later)) → list_any (λ e. eqb (number e) (number r)) earlier ≡ false
-unfolding IsDistinct
-fresh_number number [] r later different = refl
-fresh_number number (first ∷ earlier) r later different =
-    let here : eqb (number first) (number r) ≡ false = all_at (λ n. eqb (number first) n ≡ false) number earlier r later different.0 in
-    rw here (fresh_number number earlier r later different.1)
 
 read-bus_line : (earlier : List Bus) (at : ℕ) (line : List ℕ) (bus : Bus) → IsBusLine line bus → has_bus earlier bus.number ≡ false → read_bus earlier at line ≡ Ok bus
 read-bus_line earlier at line bus is fresh = rw (is.number, is.source, fresh) refl
@@ -46,14 +37,6 @@ buses_read lines buses all =
     lines all.are
 
 -- ---- branch lines
-
--- a branch is its four fields
-pub same_branch : (branch : Branch) (name : List ℕ) (from to : ℕ) (inservice : Bool) → branch.name ≡ name → branch.from ≡ from → branch.to ≡ to → branch.inservice ≡ inservice → record { name = name; from = from; to = to; inservice = inservice } ≡ branch
-same_branch branch name from to inservice n f t s =
-    ap (λ (x : List ℕ). record branch { name = x; from = from; to = to; inservice = inservice }) (sym n)
-    ∙ ap (λ (x : ℕ). record branch { from = x; to = to; inservice = inservice }) (sym f)
-    ∙ ap (λ (x : ℕ). record branch { to = x; inservice = inservice }) (sym t)
-    ∙ ap (λ (x : Bool). record branch { inservice = x }) (sym s)
 
 read_branch-is_line : (buses : List Bus) (earlier : List Branch) (at : ℕ) (line : List ℕ) (branch : Branch) → length earlier < most_rows → IsBranchLine buses (length earlier + 1) line branch → read_branch buses earlier at line ≡ Ok branch
 read_branch-is_line buses earlier at line branch few is =

@@ -7,8 +7,6 @@ pub mod LawLemmas
 pub mod NumberLemmas
 pub mod ReadLemmas
 pub mod RowLemmas
-pub mod RowsRead
 pub mod SearchLemmas
 pub mod SectionLemmas
-pub mod TableLemmas
 pub mod ValidLemmas

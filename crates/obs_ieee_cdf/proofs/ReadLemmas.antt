@@ -4,11 +4,13 @@ use Rattle.std.proofs.lemmas.Bool.{and_parts, cases_Bool, leb-false}
 use Rattle.obs_text.specs.Lines.{lines_of}
 use Rattle.obs_case.specs.Tables.{most_rows}
 use Rattle.obs_case.specs.declared.rows.Branch.{Branch}
+use Rattle.obs_bus_branch.specs.Buses.{AreNamed, Bus, branch_name, has_bus, place_of_bus}
+use Rattle.obs_bus_branch.proofs.NumberLemmas.{AreBuses-push, AreNamed-push}
 use Rattle.obs_ieee_cdf.specs.Case.{IsBranchLine, IsBusLine}
 use Rattle.obs_ieee_cdf.specs.Fields.{bus_field, is_blank_line, number_of, source_of, tap_field, type_field, z_field}
-use Rattle.obs_ieee_cdf.specs.Reading.{AreBuses, AreNamed}
-use Rattle.obs_ieee_cdf.specs.Rows.{Bus, branch_name, branch_of, bus_of, has_bus, numbered, place_of_bus, read_branch, read_bus}
-use Rattle.obs_ieee_cdf.proofs.NumberLemmas.{AreBuses-push, AreNamed-push, number_of-lt}
+use Rattle.obs_ieee_cdf.specs.Reading.{AreBuses}
+use Rattle.obs_ieee_cdf.specs.Rows.{branch_of, bus_of, numbered, read_branch, read_bus}
+use Rattle.obs_ieee_cdf.proofs.NumberLemmas.{number_of-lt}
 
 -- the lines that are left begin with one that is passed over, or with a row
 pub numbered_next : (at : ℕ) (left line rest : List ℕ) → lines_of left ≡ line ∷ lines_of rest → (blank : Bool) → is_blank_line line ≡ blank

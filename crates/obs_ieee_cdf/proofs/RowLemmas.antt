@@ -1,6 +1,6 @@
 -- What a case answers to the rows that lines are.
 use Rattle.std.proofs.Common.{◌≡◌, ℕ, ◌+◌, ◌<◌, Bool, true, false, ◌&&◌, ◌⊎◌, cond, List, [], ◌∷◌, ◌++◌, length, map, decimal, Some, None, Result, Ok, Err, refl, sym, ap, ◌∙◌, subst, inl, inr, arith}
-use Rattle.std.proofs.lemmas.Bool.{ne_eqb, lt-leb}
+use Rattle.std.proofs.lemmas.Bool.{lt-leb}
 use Rattle.std.proofs.lemmas.List.{length-map, map-append}
 use Rattle.obs_case.specs.Adds.{Refuses, branch_fault, first_fault, name_fault, ends_fault, node_fault, node_of, with_branch, with_node}
 use Rattle.obs_case.specs.Adds as case
@@ -9,30 +9,14 @@ use Rattle.obs_case.specs.declared.rows.Branch.{Branch}
 use Rattle.obs_case.specs.declared.rows.Node.{Node}
 use Rattle.obs_case.specs.declared.table.AddFault.{AddFault}
 use Rattle.obs_case.specs.declared.table.AddFault.TheVariants.{NameTwice, UnknownNode, UnknownPlace, TooMany, NoMemory}
+use Rattle.obs_bus_branch.specs.Buses.{AreNamed, Bus, branch_name, has_bus, node_of_bus, place_of_bus, tables_of_rows}
+use Rattle.obs_bus_branch.proofs.NumberLemmas.{has_name-branch, has_name-bus, name_fault-open, new_name, old_name, place_of-bus}
 use Rattle.obs_ieee_cdf.specs.declared.fault.CdfFault.{CdfFault}
 use Rattle.obs_ieee_cdf.specs.declared.fault.CdfFault.TheVariants as cdf
 use Rattle.obs_ieee_cdf.specs.Fields.{bus_field, number_of, source_of, tap_field, type_field, z_field}
-use Rattle.obs_ieee_cdf.specs.Reading.{Answers, AreBuses, AreNamed, stop_of}
-use Rattle.obs_ieee_cdf.specs.Rows.{Bus, branch_name, has_bus, node_of_bus, place_of_bus, read_branch, read_bus, tables_of_rows}
-use Rattle.obs_ieee_cdf.proofs.NumberLemmas.{has_name-branch, has_name-bus, length-buses, number_of-lt, place_of-bus}
-
--- a table that isn't full refuses just a name that it has
-pub name_fault-open : (names : List (List ℕ)) (name : List ℕ) (there : Bool) → length names < most_rows → has_name names name ≡ there → name_fault names name ≡ cond there (Some NameTwice) None
-name_fault-open names name there few is = rw (ne_eqb (length names) most_rows (omega arith), is) refl
-
--- a row that is accepted has a new name
-pub new_name : (there : Bool) → cond there (Some NameTwice) None ≡ None → there ≡ false
-new_name true is = cc
-new_name false is = refl
-
--- one that is refused has an old one, or memory is wanting
-pub old_name : (there : Bool) (fault : AddFault) → Refuses (cond there (Some NameTwice) None) fault → (fault ≡ NoMemory) ⊎ (there ≡ true)
-old_name true fault is = inr refl
-old_name false NoMemory is = inl refl
-old_name false NameTwice is = cc
-old_name false UnknownNode is = cc
-old_name false UnknownPlace is = cc
-old_name false TooMany is = cc
+use Rattle.obs_ieee_cdf.specs.Reading.{Answers, AreBuses, stop_of}
+use Rattle.obs_ieee_cdf.specs.Rows.{read_branch, read_bus}
+use Rattle.obs_ieee_cdf.proofs.NumberLemmas.{length-buses, number_of-lt}
 
 -- an answer for a cause that was met
 stopped : {A : Type 0} (stated : Result A CdfFault) (tables : A → Tables) (after : Tables) (fault : AddFault) (cause : CdfFault) → stated ≡ Err cause → Answers stated tables after (Err (stop_of fault cause))

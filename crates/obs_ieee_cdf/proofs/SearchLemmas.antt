@@ -1,73 +1,11 @@
--- The search for a line.
-use Rattle.std.proofs.Common.{◌≡◌, ℕ, suc, ◌+◌, ◌-◌, ◌≤◌, Bool, true, false, ◌||◌, nat_eq, inl, inr, List, [], ◌∷◌, ◌++◌, length, take, drop, refl, sym, ap, ◌∙◌, append_assoc, append-nil, length-append, arith}
-use Rattle.std.proofs.Math.Numerals.{one-add}
-use Rattle.std.proofs.Math.Seq.{take-append_seam, drop-append-add}
-use Rattle.std.proofs.lemmas.Bool.{cases_Bool}
-use Rattle.std.proofs.lemmas.List.Folds.{list_any-append, concat-append}
-use Rattle.std.specs.List.{after_first, before_first, concat, list_any, position_or_len, starts_with}
-use Rattle.obs_text.specs.Lines.{after_line, ended_lines, lines_of}
-use Rattle.obs_text.specs.Limits.{most_file_bytes}
-use Rattle.obs_text.proofs.LineLaws.{joined, length-ended_lines}
-use Rattle.obs_ieee_cdf.specs.Sections.{IsFirstLine, begins}
-use Rattle.obs_ieee_cdf.proofs.EndedLemmas.{IsNextLine, next_line}
+-- The search for a line that begins with a text.
+use Rattle.std.proofs.Common.{◌≡◌, ℕ, ◌+◌, ◌-◌, true, false, nat_eq, List, ◌∷◌, length, take, ap, ◌∙◌}
+use Rattle.std.specs.List.{starts_with}
+use Rattle.obs_text.specs.Lines.{after_line, lines_of}
+use Rattle.obs_bus_branch.specs.Search.{IsFirstLine}
+use Rattle.obs_bus_branch.proofs.SearchLemmas.{Searched, found, next_line, passed_more}
+use Rattle.obs_ieee_cdf.specs.Sections.{begins}
 
--- the lines passed so far, none of which passes the test, and the bytes that are left
-pub record Passed (p : List ℕ → Bool) (all left : List ℕ) (passed : ℕ) (front : List (List ℕ)) : Type 0 where
-  pub lines : ended_lines all ≡ front ++ ended_lines left
-  pub none : list_any p front ≡ false
-  pub count : length front ≡ passed
-  pub bytes : all ≡ concat front ++ left
-
-abbrev pub Searched : (List ℕ → Bool) → List ℕ → List ℕ → ℕ → Type 0
-Searched p bytes left passed = (front : List (List ℕ)) × Passed p bytes left passed front
-
-module _ (p : List ℕ → Bool) where
-  -- where a test first passes
-  first_at : (front : List (List ℕ)) (line : List ℕ) (rest : List (List ℕ)) → list_any p front ≡ false → p line ≡ true → position_or_len p (front ++ line ∷ rest) ≡ length front
-  first_at [] line rest none here = rw here refl
-  first_at (x ∷ front) line rest none here =
-      elim (cases_Bool (p x)) [
-        | inl e ↦ absurd (let e' : (p x || list_any p front) ≡ false = none in let t : (true || list_any p front) ≡ false = rw e at e' in cc)
-        | inr e ↦
-            let others : list_any p front ≡ false = (let e' : (p x || list_any p front) ≡ false = none in rw e at e') in
-            rw e (one-add _ ∙ ap suc (first_at front line rest others here))
-      ]
-
-  pub passed_more : (all left line rest : List ℕ) (passed : ℕ) (ended : List ℕ) → Searched p all left passed → IsNextLine left line rest ended → p ended ≡ false → Searched p all rest (passed + 1)
-  passed_more all left line rest passed ended (front, so_far) next other = (
-    front ++ ended ∷ [],
-    record {
-      lines = so_far.lines ∙ ap (λ r. front ++ r) next.lines ∙ sym (append_assoc front (ended ∷ []) (ended_lines rest));
-      none = list_any-append p front (ended ∷ []) ∙ rw (so_far.none, other) refl;
-      count = omega (arith, so_far.count, length-append front (ended ∷ []));
-      bytes = so_far.bytes ∙ ap (λ r. concat front ++ r) next.bytes ∙ sym (append_assoc (concat front) ended rest)
-          ∙ ap (λ r. (concat front ++ r) ++ rest) (sym (append-nil ended)) ∙ ap (λ r. r ++ rest) (sym (concat-append front (ended ∷ [])));
-    },
-  )
-
-  pub passed_room : (all left : List ℕ) (passed : ℕ) → Searched p all left passed → length all ≤ most_file_bytes → passed ≤ most_file_bytes
-  passed_room all left passed (front, so_far) few = omega (arith, so_far.count, ap length so_far.lines, length-append front (ended_lines left), length-ended_lines all)
-
-  -- the line looked for is the next one
-  pub found : (all left line rest : List ℕ) (passed : ℕ) (ended : List ℕ) → Searched p all left passed → IsNextLine left line rest ended → p ended ≡ true → IsFirstLine p all (take (length all - length left) all) rest (passed + 1)
-  found all left line rest passed ended (front, so_far) next here =
-      let lines : ended_lines all ≡ front ++ ended ∷ ended_lines rest = so_far.lines ∙ ap (λ r. front ++ r) next.lines in
-      let at : position_or_len p (ended_lines all) ≡ length front = ap (position_or_len p) lines ∙ first_at front ended (ended_lines rest) so_far.none here in
-      let before : before_first p (ended_lines all) ≡ front =
-      ap (λ n. take n (ended_lines all)) at ∙ ap (take (length front)) lines ∙ take-append_seam front (ended ∷ ended_lines rest) in
-      let after : after_first p (ended_lines all) ≡ ended_lines rest =
-      ap (λ n. drop (n + 1) (ended_lines all)) at ∙ ap (drop (length front + 1)) lines ∙ drop-append-add front (ended ∷ ended_lines rest) 1 in
-      record {
-        some = ap (list_any p) lines ∙ list_any-append p front (ended ∷ ended_lines rest) ∙ rw (so_far.none, here) refl;
-        before = (let size : length all ≡ length (concat front) + length left = ap length so_far.bytes ∙ length-append (concat front) left in
-            let n : length all - length left ≡ length (concat front) = omega arith in
-            ap (λ k. take k all) n ∙ ap (take (length (concat front))) so_far.bytes ∙ take-append_seam (concat front) left ∙ ap concat (sym before));
-        after = sym (ap concat after ∙ joined rest);
-        within = omega (arith, ap length so_far.bytes, length-append (concat front) left, ap length next.bytes, length-append ended rest);
-        number = omega (arith, so_far.count, ap length after, ap length lines, length-append front (ended ∷ ended_lines rest));
-      }
-
--- the same, said of the text that a line begins with
 module _ (text all left line rest : List ℕ) (passed : ℕ) where
   pub searched_on : Searched (begins text) all left passed → lines_of left ≡ line ∷ lines_of rest → rest ≡ after_line left → starts_with nat_eq line text ≡ false → Searched (begins text) all rest (passed + 1)
   searched_on so_far is after other =

@@ -6,11 +6,12 @@ use Rattle.std.proofs.lemmas.Bool.{cases_Bool}
 use Rattle.std.proofs.lemmas.List.{drop_all}
 use Rattle.std.specs.List.{after_first, before_first, concat, list_any, position_or_len}
 use Rattle.obs_text.specs.Lines.{ended_lines}
+use Rattle.obs_bus_branch.specs.Search.{IsFirstLine}
 use Rattle.obs_ieee_cdf.specs.declared.fault.CdfFault.{CdfFault}
 use Rattle.obs_ieee_cdf.specs.declared.fault.CdfFault.TheVariants.{NoBusSection, BusSectionOpen, NoBranchSection, BranchSectionOpen}
 use Rattle.obs_text.specs.Limits.{most_file_bytes}
 use Rattle.obs_text.proofs.LineLaws.{length-ended_lines}
-use Rattle.obs_ieee_cdf.specs.Sections.{IsFirstLine, after_branch_heading, after_bus_heading, after_buses, branch_lines, branches_from, bus_lines, buses_from, end_fault, is_branch_heading, is_bus_heading, is_end}
+use Rattle.obs_ieee_cdf.specs.Sections.{after_branch_heading, after_bus_heading, after_buses, branch_lines, branches_from, bus_lines, buses_from, end_fault, is_branch_heading, is_bus_heading, is_end}
 use Rattle.obs_ieee_cdf.proofs.EndedLemmas.{ended_lines-drop}
 
 -- what `sections` gives

@@ -1,13 +1,15 @@
 -- When bytes are the nodes and branches of a case: a relation on the whole lists of lines.
-use Rattle.std.specs.Prelude.{◌≡◌, ℕ, suc, ◌≤◌, true, nat_eq, List, [], ◌∷◌, length, map, Option, None, Some}
+use Rattle.std.specs.Prelude.{◌≡◌, ℕ, ◌≤◌, true, nat_eq, List, length, map, Option, None, Some}
 use Rattle.std.specs.List.{IsDistinct}
 use Rattle.obs_text.specs.Lines.{ended_lines}
 use Rattle.obs_case.specs.Tables.{Tables, most_rows}
 use Rattle.obs_case.specs.declared.rows.Branch.{Branch}
-use Rattle.obs_case_csv.specs.declared.faults.Table.TheVariants.{Meters, Candidates}
-use Rattle.obs_case_csv.specs.OneTable.{IsTableOf}
+use Rattle.obs_case_csv.specs.declared.faults.Table.TheVariants.{Meters}
+use Rattle.obs_case_csv.specs.OneTable.{HasCandidates, IsTableOf}
+use Rattle.obs_bus_branch.specs.Buses.{Bus, IsEnd, branch_name, tables_of_rows}
+use Rattle.obs_bus_branch.specs.Rows.{AreRows}
 use Rattle.obs_ieee_cdf.specs.Fields.{bus_field, number_of, source_of, tap_field, type_field, z_field}
-use Rattle.obs_ieee_cdf.specs.Rows.{Bus, branch_name, branch_rows, bus_rows, has_bus, place_of_bus, tables_of_rows}
+use Rattle.obs_ieee_cdf.specs.Rows.{branch_rows, bus_rows}
 use Rattle.obs_ieee_cdf.specs.Sections.{end_fault}
 
 -- a bus line is this bus
@@ -15,23 +17,9 @@ pub record IsBusLine (line : List ℕ) (bus : Bus) : Type 0 where
   pub number : number_of (bus_field line) ≡ Some bus.number
   pub source : source_of (type_field line) ≡ Some bus.source
 
--- each row is what stands at its place, where places are counted from k
-abbrev pub AreRows : {R : Type 0} → (ℕ → List ℕ → R → Type 0) → ℕ → List (ℕ × List ℕ) → List R → Type 0
-AreRows Is k [] [] = Unit {0}
-AreRows Is k [] (r ∷ rs) = ⊥
-AreRows Is k (row ∷ rows) [] = ⊥
-AreRows Is k (row ∷ rows) (r ∷ rs) = Is k row.1 r × AreRows Is (suc k) rows rs
-
 -- each bus line is the bus at its place
 abbrev pub AreBusLines : List (ℕ × List ℕ) → List Bus → Type 0
 AreBusLines lines buses = AreRows (λ k. IsBusLine) 1 lines buses
-
--- a number that is said is that of the bus at this position
-pub record IsEnd (buses : List Bus) (said : Option ℕ) (position : ℕ) : Type 0 where
-  pub number : ℕ
-  pub named : said ≡ Some number
-  pub there : has_bus buses number ≡ true
-  pub place : position ≡ place_of_bus buses number
 
 -- a branch line is this branch, the k-th
 pub record IsBranchLine (buses : List Bus) (k : ℕ) (line : List ℕ) (branch : Branch) : Type 0 where
@@ -56,11 +44,6 @@ pub record AreLines (file : List (List ℕ)) (buses : List Bus) (branches : List
 abbrev pub IsFile : List ℕ → Tables → Type 0
 IsFile bytes tables =
     (buses : List Bus) × (branches : List Branch) × AreLines (ended_lines bytes) buses branches × (tables ≡ tables_of_rows buses branches)
-
--- tables have the candidates of these bytes, or none where no bytes are given, and else are those before
-abbrev pub HasCandidates : Option (List ℕ) → Tables → Tables → Type 0
-HasCandidates None before tables = tables ≡ before
-HasCandidates (Some bytes) before tables = IsTableOf Candidates bytes before tables
 
 -- a file's bytes and those of its tables are this case: it has the file's nodes and branches, and the rows of the tables
 abbrev pub IsCase : List ℕ → List ℕ → Option (List ℕ) → Tables → Type 0

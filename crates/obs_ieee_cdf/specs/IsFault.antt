@@ -1,15 +1,17 @@
 -- Which lines of a file have which faults, given that the lines before them have none; sections have theirs where no line has one.
-use Rattle.std.specs.Prelude.{◌≡◌, ◌<◌, ◌≤◌, ◌⊎◌, ℕ, true, false, nat_eq, List, ◌∷◌, ◌++◌, length, map, None, Some}
+use Rattle.std.specs.Prelude.{◌≡◌, ◌<◌, ◌≤◌, ◌⊎◌, ℕ, true, false, nat_eq, List, length, map, None, Some}
 use Rattle.std.specs.List.{IsDistinct, list_any}
 use Rattle.obs_text.specs.Lines.{ended_lines}
 use Rattle.obs_case.specs.Tables.{most_rows}
 use Rattle.obs_case.specs.declared.rows.Branch.{Branch}
+use Rattle.obs_bus_branch.specs.Buses.{Bus, has_bus}
+use Rattle.obs_bus_branch.specs.Rows.{HasRowFault}
 use Rattle.obs_ieee_cdf.specs.declared.fault.CdfFault.{CdfFault}
 use Rattle.obs_ieee_cdf.specs.declared.fault.CdfFault.TheVariants.{NoBusSection, BusSectionOpen, NoBranchSection, BranchSectionOpen, BadBusNumber, BadType, BusTwice, UnknownBus, TooMany}
 use Rattle.obs_ieee_cdf.specs.Case.{AreBranchLines, AreBusLines}
 use Rattle.obs_ieee_cdf.specs.Faults.{cdf_code, cdf_line}
 use Rattle.obs_ieee_cdf.specs.Fields.{bus_field, number_of, source_of, tap_field, type_field, z_field}
-use Rattle.obs_ieee_cdf.specs.Rows.{Bus, branch_rows, bus_rows, has_bus}
+use Rattle.obs_ieee_cdf.specs.Rows.{branch_rows, bus_rows}
 use Rattle.obs_ieee_cdf.specs.Sections.{after_branch_heading, after_bus_heading, after_buses, is_branch_heading, is_bus_heading, is_end}
 
 -- a bus line with this number has the fault: its number or its type is none, or an earlier bus has its number
@@ -60,18 +62,6 @@ SectionHas file (TooMany n) = ⊥
 pub record AreAllBuses (lines : List (ℕ × List ℕ)) (buses : List Bus) : Type 0 where
   pub are : AreBusLines lines buses
   pub different : IsDistinct nat_eq (map (λ (bus : Bus). bus.number) buses)
-
--- a row of these has the fault, and the rows before it have none. `Are` says what rows without a fault are, and `Has` which fault a row
--- has that stands after what these are
-pub record HasRowFault {R F : Type 0} (Are : List (ℕ × List ℕ) → List R → Type 0) (Has : List R → ℕ → List ℕ → F → Type 0) (rows : List (ℕ × List ℕ)) (fault : F) : Type 0 where
-  pub before : List (ℕ × List ℕ)
-  pub at : ℕ
-  pub row : List ℕ
-  pub after : List (ℕ × List ℕ)
-  pub rows_are : rows ≡ before ++ (at, row) ∷ after
-  pub done : List R
-  pub done_are : Are before done
-  pub has : Has done at row fault
 
 -- a bus line has the fault, and the bus lines before it are buses
 abbrev pub HasBusFault : List (ℕ × List ℕ) → CdfFault → Type 0

@@ -1,9 +1,8 @@
 -- The case that a file with its tables is, or the first fault.
 use Rattle.std.specs.Prelude.{◌≡◌, List, ℕ, Option, Result, Ok, Err}
 use Rattle.obs_case.specs.Tables.{Tables}
-use Rattle.obs_case_csv.specs.Read.{then_read, then_read_given}
-use Rattle.obs_case_csv.specs.declared.faults.Table.TheVariants.{Meters, Candidates}
 use Rattle.obs_case_csv.specs.declared.faults.TableFault.{TableFault}
+use Rattle.obs_case_csv.specs.Read.{tables_after}
 use Rattle.obs_ieee_cdf.specs.declared.fault.CdfEnd.{CdfEnd}
 use Rattle.obs_ieee_cdf.specs.declared.fault.CdfEnd.TheVariants.{Cdf, Table, NoMemory}
 use Rattle.obs_ieee_cdf.specs.declared.fault.CdfFault.{CdfFault}
@@ -13,10 +12,6 @@ use Rattle.obs_ieee_cdf.specs.Rows.{cdf_of}
 abbrev pub as_end : Result Tables TableFault → Result Tables CdfEnd
 as_end (Ok tables) = Ok tables
 as_end (Err fault) = Err (Table fault)
-
--- the meters, and the candidates if they are given, read after other tables
-abbrev pub tables_after : List ℕ → Option (List ℕ) → Tables → Result Tables TableFault
-tables_after meters candidates tables = then_read_given Candidates candidates (then_read Meters meters (Ok tables))
 
 -- the tables read after the nodes and branches of a file
 abbrev pub with_tables : List ℕ → Option (List ℕ) → Result Tables CdfFault → Result Tables CdfEnd

@@ -1,14 +1,12 @@
 -- What reading one line, or the lines of a section, answers and leaves.
-use Rattle.std.specs.Prelude.{◌≡◌, ℕ, suc, ◌<◌, nat_eq, List, [], ◌∷◌, map, Result, Ok, Err}
-use Rattle.std.specs.List.{AllByRecursion, IsDistinct}
+use Rattle.std.specs.Prelude.{◌≡◌, List, Result, Ok, Err}
 use Rattle.obs_case.specs.Tables.{Tables}
-use Rattle.obs_case.specs.declared.rows.Branch.{Branch}
 use Rattle.obs_case.specs.declared.table.AddFault.{AddFault}
 use Rattle.obs_case.specs.declared.table.AddFault.TheVariants as add
+use Rattle.obs_bus_branch.specs.Buses.{AreBusesBelow, Bus}
 use Rattle.obs_ieee_cdf.specs.declared.fault.CdfFault.{CdfFault}
 use Rattle.obs_ieee_cdf.specs.declared.stop.Stop.{Stop}
 use Rattle.obs_ieee_cdf.specs.declared.stop.Stop.TheVariants.{Fault, NoMemory}
-use Rattle.obs_ieee_cdf.specs.Rows.{Bus, branch_name}
 
 -- what is stated was read and stands in the tables, or the stated fault was met; memory may be wanting at any point
 abbrev pub Answers : {A : Type 0} → Result A CdfFault → (A → Tables) → Tables → Result (Unit {0}) Stop → Type 0
@@ -16,19 +14,9 @@ Answers {A} stated tables after (Ok done) = (rows : A) × (stated ≡ Ok rows) �
 Answers stated tables after (Err (Fault fault)) = stated ≡ Err fault
 Answers stated tables after (Err NoMemory) = Unit {0}
 
--- buses with numbers below a limit, no two of which are equal
-pub record AreBusesBelow (limit : ℕ) (buses : List Bus) : Type 0 where
-  pub small : AllByRecursion (λ (bus : Bus). bus.number < limit) buses
-  pub different : IsDistinct nat_eq (map (λ (bus : Bus). bus.number) buses)
-
 -- buses with numbers of at most four digits, no two of which are equal
 abbrev pub AreBuses : List Bus → Type 0
 AreBuses buses = AreBusesBelow 10000 buses
-
--- branches that are named in order, from this number on
-abbrev pub AreNamed : ℕ → List Branch → Type 0
-AreNamed k [] = Unit {0}
-AreNamed k (branch ∷ branches) = (branch.name ≡ branch_name k) × AreNamed (suc k) branches
 
 -- why reading stops at a row that a case refuses for this cause
 abbrev pub stop_of : AddFault → CdfFault → Stop

@@ -1,42 +1,19 @@
 -- The buses and branches that a file's lines are, or its first fault.
-use Rattle.std.specs.Prelude.{ℕ, ◌+◌, ◌==◌, ◌&&◌, Bool, true, false, nat_le, List, [], ◌∷◌, ◌++◌, length, map, decimal, Option, None, Some, Result, Ok, Err, if◌then◌else◌}
-use Rattle.std.specs.List.{list_any, position_or_len}
+use Rattle.std.specs.Prelude.{ℕ, ◌+◌, ◌&&◌, Bool, true, nat_le, List, [], ◌∷◌, length, map, Option, None, Some, Result, Ok, Err, if◌then◌else◌}
 use Rattle.obs_text.specs.Lines.{content, ended_lines}
 use Rattle.obs_case.specs.Tables.{Tables, most_rows}
 use Rattle.obs_case.specs.declared.rows.Branch.{Branch}
-use Rattle.obs_case.specs.declared.rows.Node.{Node}
+use Rattle.obs_bus_branch.specs.Buses.{Bus, branch_name, has_bus, place_of_bus, tables_of_rows}
+use Rattle.obs_bus_branch.specs.Rows.{at_end, on_ok, read_rows}
 use Rattle.obs_ieee_cdf.specs.declared.fault.CdfFault.{CdfFault}
 use Rattle.obs_ieee_cdf.specs.declared.fault.CdfFault.TheVariants.{BadBusNumber, BadType, BusTwice, UnknownBus, TooMany}
 use Rattle.obs_ieee_cdf.specs.Fields.{bus_field, number_of, is_blank_line, source_of, tap_field, type_field, z_field}
 use Rattle.obs_ieee_cdf.specs.Sections.{branch_lines, branches_from, bus_lines, buses_from, end_fault}
 
--- what comes after an answer, where that is no fault
-abbrev pub on_ok : {A B F : Type 0} → Result A F → (A → Result B F) → Result B F
-on_ok (Ok x) next = next x
-on_ok (Err fault) next = Err fault
-
 -- lines with their numbers, without those that are passed over
 abbrev pub numbered : ℕ → List (List ℕ) → List (ℕ × List ℕ)
 numbered at [] = []
 numbered at (line ∷ lines) = if is_blank_line line then numbered (at + 1) lines else (at, line) ∷ numbered (at + 1) lines
-
--- what rows with the numbers of their lines are, each read after those before it, or the first fault
-abbrev pub read_rows : {R F : Type 0} → (List R → ℕ → List ℕ → Result R F) → List R → List (ℕ × List ℕ) → Result (List R) F
-read_rows read earlier [] = Ok earlier
-read_rows read earlier (row ∷ rows) = on_ok (read earlier row.0 row.1) (λ r. read_rows read (earlier ++ r ∷ []) rows)
-
--- a bus: its number, and whether it has a source
-pub record Bus : Type 0 where
-  pub number : ℕ
-  pub source : Bool
-
--- whether one of these buses has the number
-abbrev pub has_bus : List Bus → ℕ → Bool
-has_bus buses number = list_any (λ (bus : Bus). bus.number == number) buses
-
--- its position among them
-abbrev pub place_of_bus : List Bus → ℕ → ℕ
-place_of_bus buses number = position_or_len (λ (bus : Bus). bus.number == number) buses
 
 -- the bus of a number and a type, after those before it
 abbrev pub bus_of : List Bus → ℕ → Option ℕ → Option Bool → Result Bus CdfFault
@@ -48,10 +25,6 @@ bus_of earlier at (Some number) (Some source) =
 -- the bus that a bus line is
 abbrev pub read_bus : List Bus → ℕ → List ℕ → Result Bus CdfFault
 read_bus earlier at line = bus_of earlier at (number_of (bus_field line)) (source_of (type_field line))
-
--- the name of the k-th branch, counted from 1
-abbrev pub branch_name : ℕ → List ℕ
-branch_name k = 0x4C ∷ decimal k
 
 -- the k-th branch, between two numbers, in service
 abbrev pub branch_of : List Bus → ℕ → ℕ → Option ℕ → Option ℕ → Result Branch CdfFault
@@ -68,26 +41,12 @@ read_branch buses earlier at line =
     if nat_le most_rows (length earlier) then Err (TooMany at)
     else branch_of buses (length earlier + 1) at (number_of (tap_field line)) (number_of (z_field line))
 
--- the node that a bus is: its name is its number without leading zeros, and it isn't marked absolute
-abbrev pub node_of_bus : Bus → Node
-node_of_bus bus = record { name = decimal bus.number; source = bus.source; absolute = false }
-
--- the tables of these buses and branches
-abbrev pub tables_of_rows : List Bus → List Branch → Tables
-tables_of_rows buses branches =
-    record { nodes = map node_of_bus buses; switches = []; branches = branches; meters = []; candidates = [] }
-
 -- the bus lines and the branch lines of a file, numbered
 abbrev pub bus_rows : List (List ℕ) → List (ℕ × List ℕ)
 bus_rows file = numbered (buses_from file) (map content (bus_lines file))
 
 abbrev pub branch_rows : List (List ℕ) → List (ℕ × List ℕ)
 branch_rows file = numbered (branches_from file) (map content (branch_lines file))
-
--- the answer, unless there is a fault at its end
-abbrev pub at_end : {A F : Type 0} → Option F → A → Result A F
-at_end None x = Ok x
-at_end (Some fault) x = Err fault
 
 -- the nodes and branches that a file's bytes are, or the first fault from its top
 abbrev pub cdf_of : List ℕ → Result Tables CdfFault

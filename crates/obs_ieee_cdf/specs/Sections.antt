@@ -1,7 +1,7 @@
 -- Which lines of a file are its bus lines and its branch lines.
-use Rattle.std.specs.Prelude.{◌≡◌, ℕ, ◌+◌, ◌-◌, ◌≤◌, Bool, true, List, length, codes, Option, None, Some, if◌then◌else◌, nat_eq, not}
-use Rattle.std.specs.List.{after_first, before_first, concat, list_any, starts_with}
-use Rattle.obs_text.specs.Lines.{content, ended_lines}
+use Rattle.std.specs.Prelude.{ℕ, ◌+◌, ◌-◌, Bool, List, length, codes, Option, None, Some, if◌then◌else◌, nat_eq, not}
+use Rattle.std.specs.List.{after_first, before_first, list_any, starts_with}
+use Rattle.obs_text.specs.Lines.{content}
 use Rattle.obs_ieee_cdf.specs.declared.fault.CdfFault.{CdfFault}
 use Rattle.obs_ieee_cdf.specs.declared.fault.CdfFault.TheVariants.{NoBusSection, BusSectionOpen, NoBranchSection, BranchSectionOpen}
 
@@ -58,11 +58,3 @@ end_fault file =
     else if not (list_any is_branch_heading (after_buses file)) then Some NoBranchSection
     else if not (list_any is_end (after_branch_heading file)) then Some BranchSectionOpen
     else None
-
--- the first line of some bytes that passes a test: what stands before it and after it, and its number from 1
-pub record IsFirstLine (p : List ℕ → Bool) (bytes front rest : List ℕ) (at : ℕ) : Type 0 where
-  pub some : list_any p (ended_lines bytes) ≡ true
-  pub before : front ≡ concat (before_first p (ended_lines bytes))
-  pub after : rest ≡ concat (after_first p (ended_lines bytes))
-  pub within : length rest ≤ length bytes
-  pub number : at + length (after_first p (ended_lines bytes)) ≡ length (ended_lines bytes)

@@ -16,6 +16,5 @@ mod values;
 pub use fault::{CdfEnd, CdfFault};
 pub use fields::{BranchFields, BusFields, branch_fields, bus_fields};
 pub use parts::Sections;
-pub use read::{add_tables, read_cdf};
-pub use rows::{NAME_ROOM, branch_name};
+pub use read::read_cdf;
 pub use section::sections;

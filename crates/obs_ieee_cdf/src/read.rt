@@ -1,8 +1,7 @@
 // Cases from bytes.
-ghost use Rattle.std.specs.Prelude.{◌≡◌, ◌≤◌, [], Ok, length, option_map, IfErr, IfOk, OnOk};
+ghost use Rattle.std.specs.Prelude.{◌≡◌, ◌≤◌, Ok, length, option_map, IfErr, IfOk, OnOk};
 ghost use Rattle.obs_case.specs.Tables.{no_rows};
-ghost use Rattle.obs_case_csv.specs.Read.{EndsAll};
-ghost use Rattle.obs_ieee_cdf.specs.Read.{EndsCase, case_in, tables_after};
+ghost use Rattle.obs_ieee_cdf.specs.Read.{EndsCase, case_in};
 ghost use Rattle.obs_ieee_cdf.specs.Reading.{Answers};
 ghost use Rattle.obs_ieee_cdf.specs.Rows.{cdf_of};
 ghost use Rattle.obs_text.specs.Limits.{most_file_bytes};
@@ -12,7 +11,7 @@ use crate::rows::{add_branches, add_buses};
 use crate::section::sections;
 use crate::stop::Stop;
 use obs_case::Case;
-use obs_case_csv::{Table, TableEnd, read_table};
+use obs_case_csv::add_tables;
 use std::alloc::Global;
 
 // Adds the nodes and branches of a file to an empty case.
@@ -26,27 +25,6 @@ fn add_file(case: &mut Case, cdf: &[u8]) -> Result<(), Stop>
     add_branches(case, parts.branches, parts.branches_from)?;
     match parts.end {
         Some(fault) => Err(Stop::Fault(fault)),
-        None => Ok(()),
-    }
-}
-
-/// Adds the rows of the tables that are given to a case that has none of them.
-pub fn add_tables(
-    alloc: Global,
-    case: &mut Case,
-    meters: &[u8],
-    candidates: Option<&[u8]>,
-) -> Result<(), TableEnd>
-    requires meters { case.old.meters ≡ [] }
-    requires candidates { case.old.candidates ≡ [] }
-    ensures read { OnOk result
-        (tables_after meters.now (option_map (λ bytes. bytes.now) candidates.entry) case.old ≡ Ok case.new) }
-    ensures refused { IfErr result
-        (EndsAll (tables_after meters.now (option_map (λ bytes. bytes.now) candidates.entry) case.old)) }
-{
-    read_table(alloc, case, Table::Meters, meters)?;
-    match candidates {
-        Some(bytes) => read_table(alloc, case, Table::Candidates, bytes),
         None => Ok(()),
     }
 }

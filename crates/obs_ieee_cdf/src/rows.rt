@@ -3,21 +3,21 @@ ghost use Rattle.std.specs.Prelude.{◌≡◌, ◌+◌, ◌<◌, ◌^◌, List, 
 ghost use Rattle.obs_text.specs.Lines.{lines_of};
 ghost use Rattle.obs_case.specs.Tables.{no_rows};
 ghost use Rattle.obs_case.specs.declared.rows.Branch.{Branch};
-ghost use Rattle.obs_ieee_cdf.specs.Reading.{Answers, AreBuses, AreNamed, stop_of};
-ghost use Rattle.obs_ieee_cdf.specs.Rows.{Bus, branch_name, numbered, read_branch, read_bus, read_rows, tables_of_rows};
+ghost use Rattle.obs_bus_branch.specs.Buses.{AreNamed, Bus, tables_of_rows};
+ghost use Rattle.obs_bus_branch.specs.Rows.{read_rows};
+ghost use Rattle.obs_ieee_cdf.specs.Reading.{Answers, AreBuses, stop_of};
+ghost use Rattle.obs_ieee_cdf.specs.Rows.{numbered, read_branch, read_bus};
 
 use crate::fault::CdfFault;
 use crate::fields::{branch_fields, bus_fields};
 use crate::stop::Stop;
 use crate::values::{bus_number, has_source, is_passed_over};
+use obs_bus_branch::{NAME_ROOM, branch_name};
 use obs_case::{AddFault, Case, MOST_ROWS};
 use obs_text::{Digits, lines};
 
 /// The most branches of a file.
 const MOST_BRANCHES: usize = MOST_ROWS;
-
-/// Room for the name of a branch: a letter and the digits of a number.
-pub const NAME_ROOM: usize = 21;
 
 // Why reading stops at a row that the case refuses for this cause.
 fn stop(fault: AddFault, cause: CdfFault) -> Stop
@@ -64,17 +64,6 @@ pub(crate) fn add_buses(case: &mut Case, section: &[u8], first: u32) -> Result<(
         at += 1;
     }
     Ok(())
-}
-
-/// `L` and the number in decimal digits, written into the room.
-pub fn branch_name(room: &mut [u8; NAME_ROOM], number: u64) -> &[u8]
-    ensures name { result.now ≡ branch_name number }
-{
-    let mut digits = Digits::new();
-    let text = digits.text(number);
-    room[0] = b'L';
-    room[1..=text.len()].copy_from_slice(text);
-    &room[..=text.len()]
 }
 
 // Adds the branch that a branch line is.

@@ -11,9 +11,8 @@ use Rattle.obs_case.specs.declared.rows.Node.{Node}
 use Rattle.obs_case.specs.declared.table.AddFault.{AddFault}
 use Rattle.obs_case.specs.declared.table.AddFault.TheVariants.{NameTwice, UnknownNode, UnknownPlace, TooMany, NoMemory}
 use Rattle.obs_case.proofs.NameLemmas.{missed, position-some}
-use Rattle.obs_ieee_cdf.specs.Rows.{branch_name, has_bus, node_of_bus, place_of_bus, tables_of_rows}
-use Rattle.obs_ieee_cdf.proofs.NumberLemmas.{has_name-bus, place_of-bus}
-use Rattle.obs_ieee_cdf.proofs.RowLemmas.{name_fault-open, new_name, old_name}
+use Rattle.obs_bus_branch.specs.Buses.{branch_name, has_bus, node_of_bus, place_of_bus, tables_of_rows}
+use Rattle.obs_bus_branch.proofs.NumberLemmas.{has_name-bus, name_fault-open, new_name, old_name, place_of-bus}
 use Rattle.obs_matpower.specs.declared.fault.MatFault.{MatFault}
 use Rattle.obs_matpower.specs.declared.fault.MatFault.TheVariants as mat
 use Rattle.obs_matpower.specs.declared.fields.BusType.{BusType}

@@ -3,10 +3,9 @@ use Rattle.std.proofs.Common.{◌≡◌, ℕ, List, [], Option, Result, Ok, Err,
 use Rattle.obs_case.specs.Tables.{IsValid, Tables}
 use Rattle.obs_case_csv.specs.declared.faults.Table.TheVariants.{Meters, Candidates}
 use Rattle.obs_case_csv.specs.declared.faults.TableFault.{TableFault}
-use Rattle.obs_case_csv.specs.Read.{then_read}
+use Rattle.obs_case_csv.specs.Read.{tables_after, then_read}
 use Rattle.obs_case_csv.specs.Rows.{names_in}
-use Rattle.obs_ieee_cdf.specs.Read.{tables_after}
-use Rattle.obs_ieee_cdf.proofs.CaseLemmas.{fault_where_none, given_valid, tables_are, tables_read}
+use Rattle.obs_case_csv.proofs.AfterLemmas.{fault_where_none, given_valid, tables_are, tables_read}
 use Rattle.obs_matpower.specs.declared.fault.MatFault.{MatFault}
 use Rattle.obs_matpower.specs.declared.part.MatTable.TheVariants as table
 use Rattle.obs_matpower.specs.Case.{IsCase, IsFile}

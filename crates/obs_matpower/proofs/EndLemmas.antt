@@ -1,14 +1,13 @@
 -- How reading a file with its tables ends.
 use Rattle.std.proofs.Common.{◌≡◌, ◌∙◌, ap, sym, ℕ, List, Option, Ok, Err}
 use Rattle.obs_case.specs.Tables.{Tables}
-use Rattle.obs_case_csv.specs.Read.{EndsAll}
+use Rattle.obs_case_csv.specs.Read.{EndsAll, tables_after}
 use Rattle.obs_case_csv.specs.declared.faults.TableEnd.{TableEnd}
 use Rattle.obs_case_csv.specs.declared.faults.TableEnd.TheVariants as table
 use Rattle.obs_matpower.specs.declared.fault.MatEnd.{MatEnd}
 use Rattle.obs_matpower.specs.declared.stop.Stop.{Stop}
 use Rattle.obs_matpower.specs.declared.stop.Stop.TheVariants as stop
 use Rattle.obs_matpower.specs.Ends.{IsEndOfStop, IsEndOfTable}
-use Rattle.obs_ieee_cdf.specs.Read.{tables_after}
 use Rattle.obs_matpower.specs.Read.{EndsCase, as_end, case_in, mat_of, with_tables}
 use Rattle.obs_matpower.specs.Reading.{Answers}
 

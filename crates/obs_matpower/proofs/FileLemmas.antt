@@ -9,9 +9,10 @@ use Rattle.obs_text.specs.Lines.{ended_lines}
 use Rattle.obs_text.proofs.LineLaws.{joined, length-ended_lines}
 use Rattle.obs_case.specs.Tables.{Tables}
 use Rattle.obs_case.proofs.NameLemmas.{place-there}
-use Rattle.obs_ieee_cdf.specs.Rows.{at_end, on_ok, read_rows, tables_of_rows}
-use Rattle.obs_ieee_cdf.proofs.NumberLemmas.{AreBuses-none}
-use Rattle.obs_ieee_cdf.proofs.RowsRead.{read_rows-good}
+use Rattle.obs_bus_branch.specs.Buses.{tables_of_rows}
+use Rattle.obs_bus_branch.specs.Rows.{at_end, on_ok, read_rows}
+use Rattle.obs_bus_branch.proofs.NumberLemmas.{AreBuses-none}
+use Rattle.obs_bus_branch.proofs.RowsRead.{read_rows-good}
 use Rattle.obs_matpower.specs.declared.fault.MatFault.{MatFault}
 use Rattle.obs_matpower.specs.declared.part.MatTable.{MatTable}
 use Rattle.obs_matpower.specs.declared.part.MatTable.TheVariants as table

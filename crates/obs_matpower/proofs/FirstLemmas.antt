@@ -1,8 +1,9 @@
 -- The first fault of a file.
 use Rattle.std.proofs.Common.{◌≡◌, ℕ, ◌⊎◌, Bool, true, false, not, cond, List, [], Option, Some, None, Result, Ok, Err, refl, ap, ◌∙◌, subst, inl, inr, arith}
 use Rattle.obs_case.specs.declared.rows.Branch.{Branch}
-use Rattle.obs_ieee_cdf.specs.Rows.{at_end, on_ok, read_rows, tables_of_rows}
-use Rattle.obs_ieee_cdf.proofs.RowsRead.{Met, Stops, ends, first_met, has_fault, row_met, stops}
+use Rattle.obs_bus_branch.specs.Buses.{tables_of_rows}
+use Rattle.obs_bus_branch.specs.Rows.{at_end, on_ok, read_rows}
+use Rattle.obs_bus_branch.proofs.RowsRead.{Met, Stops, ends, first_met, has_fault, row_met, stops}
 use Rattle.obs_matpower.specs.declared.fault.MatFault.{MatFault}
 use Rattle.obs_matpower.specs.declared.fault.MatFault.TheVariants.{NoBusTable, BusTableOpen, NoBranchTable, BranchTableOpen, BadBusNumber, BadType, BusTwice, UnknownBus, TooMany, ShortRow, BadStatus}
 use Rattle.obs_matpower.specs.declared.part.MatTable.{MatTable}

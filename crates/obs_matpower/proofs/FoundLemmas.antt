@@ -10,8 +10,7 @@ use Rattle.std.specs.Str.Lines.{strip_carriage_return}
 use Rattle.obs_text.specs.Lines.{after_line, content, ended_lines, is_feed, lines_of}
 use Rattle.obs_text.proofs.LineLaws.{joined}
 use Rattle.obs_case.proofs.NameLemmas.{place-absent, place-there}
-use Rattle.obs_ieee_cdf.proofs.EndedLemmas.{IsNextLine, next_line}
-use Rattle.obs_ieee_cdf.proofs.SearchLemmas.{Searched, found, passed_more}
+use Rattle.obs_bus_branch.proofs.SearchLemmas.{IsNextLine, Searched, found, next_line, passed_more}
 use Rattle.obs_matpower.specs.declared.part.MatTable.{MatTable}
 use Rattle.obs_matpower.specs.Lines.{closes, is_closing, is_opening, is_percent, opens}
 use Rattle.obs_matpower.specs.Table.{IsFound, from_first, is_there, text_of, until_closing}

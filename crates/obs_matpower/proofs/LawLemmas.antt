@@ -4,10 +4,10 @@ use Rattle.std.proofs.lemmas.Bool.{lt-leb}
 use Rattle.std.specs.List.{IsDistinct, list_any}
 use Rattle.obs_case.specs.Tables.{Tables, most_rows}
 use Rattle.obs_case.specs.declared.rows.Branch.{Branch}
-use Rattle.obs_ieee_cdf.specs.Rows.{Bus, at_end, branch_name, has_bus, on_ok, place_of_bus, read_rows, tables_of_rows}
-use Rattle.obs_ieee_cdf.proofs.LawLemmas.{fresh_number, same_branch}
-use Rattle.obs_ieee_cdf.proofs.NumberLemmas.{AreBuses-none}
-use Rattle.obs_ieee_cdf.proofs.RowsRead.{are-read_rows, read_rows-are, read_rows-few, read_rows-good, same_length}
+use Rattle.obs_bus_branch.specs.Buses.{Bus, branch_name, has_bus, place_of_bus, tables_of_rows}
+use Rattle.obs_bus_branch.specs.Rows.{at_end, on_ok, read_rows}
+use Rattle.obs_bus_branch.proofs.NumberLemmas.{AreBuses-none, fresh_number, same_branch}
+use Rattle.obs_bus_branch.proofs.RowsRead.{are-read_rows, read_rows-are, read_rows-few, read_rows-good, same_length}
 use Rattle.obs_matpower.specs.declared.fault.MatFault.{MatFault}
 use Rattle.obs_matpower.specs.declared.part.MatTable.{MatTable}
 use Rattle.obs_matpower.specs.declared.part.MatTable.TheVariants as table

@@ -4,9 +4,8 @@ use Rattle.std.proofs.lemmas.Bool.{and_parts, cases_Bool, leb-false}
 use Rattle.std.proofs.lemmas.List.{map-append}
 use Rattle.obs_case.specs.Tables.{most_rows}
 use Rattle.obs_case.specs.declared.rows.Branch.{Branch}
-use Rattle.obs_ieee_cdf.specs.Reading.{AreNamed}
-use Rattle.obs_ieee_cdf.specs.Rows.{branch_name, has_bus}
-use Rattle.obs_ieee_cdf.proofs.NumberLemmas.{AreBuses-push, AreNamed-push}
+use Rattle.obs_bus_branch.specs.Buses.{AreNamed, branch_name, has_bus}
+use Rattle.obs_bus_branch.proofs.NumberLemmas.{AreBuses-push, AreNamed-push}
 use Rattle.obs_matpower.specs.declared.fields.BusType.{BusType}
 use Rattle.obs_matpower.specs.Case.{IsBranchRow, IsBusRow}
 use Rattle.obs_matpower.specs.Fields.{is_short, is_source, number_in, status_in, type_in}

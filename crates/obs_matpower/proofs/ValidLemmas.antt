@@ -3,10 +3,11 @@ use Rattle.std.proofs.Common.{◌≡◌, ℕ, List, [], ◌∷◌, ◌++◌, Ok,
 use Rattle.obs_case.specs.Tables.{IsValid}
 use Rattle.obs_case.specs.declared.rows.Branch.{Branch}
 use Rattle.obs_case.proofs.ValidLemmas.{valid-no_rows}
-use Rattle.obs_ieee_cdf.specs.Rows.{read_rows, tables_of_rows}
-use Rattle.obs_ieee_cdf.proofs.NumberLemmas.{AreBuses-none}
-use Rattle.obs_ieee_cdf.proofs.RowsRead.{read_rows-good}
-use Rattle.obs_ieee_cdf.proofs.ValidLemmas.{GoodBranches, GoodBranches-push, GoodBuses, GoodBuses-push}
+use Rattle.obs_bus_branch.specs.Buses.{tables_of_rows}
+use Rattle.obs_bus_branch.specs.Rows.{read_rows}
+use Rattle.obs_bus_branch.proofs.NumberLemmas.{AreBuses-none}
+use Rattle.obs_bus_branch.proofs.RowsRead.{read_rows-good}
+use Rattle.obs_bus_branch.proofs.ValidLemmas.{GoodBranches, GoodBranches-push, GoodBuses, GoodBuses-push}
 use Rattle.obs_matpower.specs.Fields.{is_source, number_in}
 use Rattle.obs_matpower.specs.Read.{BusRow, buses_of, read_branch, read_bus}
 use Rattle.obs_matpower.proofs.AddLemmas.{nodes-length}

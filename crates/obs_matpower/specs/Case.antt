@@ -4,9 +4,9 @@ use Rattle.std.specs.List.{IsDistinct}
 use Rattle.obs_case.specs.Tables.{Tables, most_rows}
 use Rattle.obs_case.specs.declared.rows.Branch.{Branch}
 use Rattle.obs_case_csv.specs.declared.faults.Table.TheVariants.{Meters}
-use Rattle.obs_case_csv.specs.OneTable.{IsTableOf}
-use Rattle.obs_ieee_cdf.specs.Case.{AreRows, HasCandidates, IsEnd}
-use Rattle.obs_ieee_cdf.specs.Rows.{branch_name, tables_of_rows}
+use Rattle.obs_case_csv.specs.OneTable.{HasCandidates, IsTableOf}
+use Rattle.obs_bus_branch.specs.Buses.{IsEnd, branch_name, tables_of_rows}
+use Rattle.obs_bus_branch.specs.Rows.{AreRows}
 use Rattle.obs_matpower.specs.declared.part.MatTable.TheVariants as table
 use Rattle.obs_matpower.specs.Fields.{is_short, number_in, status_in, type_in}
 use Rattle.obs_matpower.specs.Read.{BusRow, buses_of, isolated_of}

@@ -2,8 +2,8 @@
 use Rattle.std.specs.Prelude.{◌≡◌, ◌<◌, ◌≤◌, ◌⊎◌, ℕ, true, false, List, length, None, Some}
 use Rattle.obs_case.specs.Tables.{most_rows}
 use Rattle.obs_case.specs.declared.rows.Branch.{Branch}
-use Rattle.obs_ieee_cdf.specs.IsFault.{HasRowFault}
-use Rattle.obs_ieee_cdf.specs.Rows.{has_bus}
+use Rattle.obs_bus_branch.specs.Buses.{has_bus}
+use Rattle.obs_bus_branch.specs.Rows.{HasRowFault}
 use Rattle.obs_matpower.specs.declared.fault.MatFault.{MatFault}
 use Rattle.obs_matpower.specs.declared.fault.MatFault.TheVariants.{NoBusTable, BusTableOpen, NoBranchTable, BranchTableOpen, BadBusNumber, BadType, BusTwice, UnknownBus, TooMany, ShortRow, BadStatus}
 use Rattle.obs_matpower.specs.declared.part.MatTable.TheVariants as table

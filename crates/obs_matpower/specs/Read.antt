@@ -3,8 +3,9 @@ use Rattle.std.specs.Prelude.{◌≡◌, ℕ, ◌+◌, ◌&&◌, Bool, false, no
 use Rattle.obs_case.specs.Tables.{Tables, most_rows}
 use Rattle.obs_case.specs.declared.rows.Branch.{Branch}
 use Rattle.obs_case_csv.specs.declared.faults.TableFault.{TableFault}
-use Rattle.obs_ieee_cdf.specs.Read.{tables_after}
-use Rattle.obs_ieee_cdf.specs.Rows.{Bus, at_end, branch_name, has_bus, on_ok, place_of_bus, read_rows, tables_of_rows}
+use Rattle.obs_case_csv.specs.Read.{tables_after}
+use Rattle.obs_bus_branch.specs.Buses.{Bus, branch_name, has_bus, place_of_bus, tables_of_rows}
+use Rattle.obs_bus_branch.specs.Rows.{at_end, on_ok, read_rows}
 use Rattle.obs_matpower.specs.declared.fault.MatEnd.{MatEnd}
 use Rattle.obs_matpower.specs.declared.fault.MatEnd.TheVariants.{Mat, Table, NoMemory}
 use Rattle.obs_matpower.specs.declared.fault.MatFault.{MatFault}

@@ -4,8 +4,8 @@ use Rattle.obs_case.specs.Tables.{Tables}
 use Rattle.obs_case.specs.declared.rows.Branch.{Branch}
 use Rattle.obs_case.specs.declared.table.AddFault.{AddFault}
 use Rattle.obs_case.specs.declared.table.AddFault.TheVariants as add
-use Rattle.obs_ieee_cdf.specs.Reading.{AreBusesBelow}
-use Rattle.obs_ieee_cdf.specs.Rows.{Bus, at_end, on_ok, read_rows, tables_of_rows}
+use Rattle.obs_bus_branch.specs.Buses.{AreBusesBelow, Bus, tables_of_rows}
+use Rattle.obs_bus_branch.specs.Rows.{at_end, on_ok, read_rows}
 use Rattle.obs_matpower.specs.declared.fault.MatFault.{MatFault}
 use Rattle.obs_matpower.specs.declared.stop.Stop.{Stop}
 use Rattle.obs_matpower.specs.declared.stop.Stop.TheVariants.{Fault, NoMemory}

@@ -3,7 +3,7 @@ ghost use Rattle.std.specs.Prelude.{◌≡◌, ◌≤◌, ◌<◌, ◌+◌, ◌&
 ghost use Rattle.obs_text.specs.Limits.{most_file_bytes};
 ghost use Rattle.obs_case.specs.Tables.{most_rows, no_rows};
 ghost use Rattle.obs_case.specs.declared.rows.Branch.{Branch};
-ghost use Rattle.obs_ieee_cdf.specs.Reading.{AreNamed};
+ghost use Rattle.obs_bus_branch.specs.Buses.{AreNamed};
 ghost use Rattle.obs_matpower.specs.Read.{BusRow, branch_of, buses_of, isolated_of, read_branch, read_bus};
 ghost use Rattle.obs_matpower.specs.Reading.{Answers, AreBuses, held_branches, held_buses, read_text, stop_of};
 
@@ -12,8 +12,8 @@ use crate::fields::{is_short, number_in, status_in, type_in};
 use crate::part::MatPart;
 use crate::row_start::rows;
 use crate::stop::Stop;
+use obs_bus_branch::{NAME_ROOM, branch_name};
 use obs_case::{AddFault, Case, MOST_ROWS};
-use obs_ieee_cdf::{NAME_ROOM, branch_name};
 use obs_text::Digits;
 
 /// The fewest values of a bus row, the last of which is the type.

@@ -11,7 +11,7 @@ use crate::part::MatTable;
 use crate::search::table;
 use crate::stop::Stop;
 use obs_case::Case;
-use obs_ieee_cdf::add_tables;
+use obs_case_csv::add_tables;
 use std::alloc::Global;
 
 // Adds the nodes and branches of a file to an empty case.

@@ -1,7 +1,8 @@
 use Rattle.std.proofs.Common.{◌≤◌, sym, ◌∙◌, arith}
 use Rattle.obs_text.specs.Limits.{most_file_bytes}
+use Rattle.obs_bus_branch.proofs.SearchLemmas.{passed_room}
 use Rattle.obs_ieee_cdf.specs.Sections.{begins}
-use Rattle.obs_ieee_cdf.proofs.SearchLemmas.{line_found, passed_room, searched_on}
+use Rattle.obs_ieee_cdf.proofs.SearchLemmas.{line_found, searched_on}
 use Rattle.obs_ieee_cdf.proofs.find.find_line.Goals as goal
 
 pub overflow_add-passed : goal.overflow_add-passed

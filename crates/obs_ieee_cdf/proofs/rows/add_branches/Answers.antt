@@ -1,10 +1,10 @@
 use Rattle.std.proofs.Common.{◌+◌, true, false, length, sym, ap, ◌∙◌, subst, arith}
 use Rattle.obs_text.specs.Lines.{lines_of}
 use Rattle.obs_text.proofs.LineLaws.{length-lines_of}
-use Rattle.obs_ieee_cdf.specs.Reading.{AreNamed}
-use Rattle.obs_ieee_cdf.specs.Rows.{numbered, read_branch, tables_of_rows}
+use Rattle.obs_bus_branch.specs.Buses.{AreNamed, tables_of_rows}
+use Rattle.obs_bus_branch.proofs.RowsRead.{ReadSoFar, read_one}
+use Rattle.obs_ieee_cdf.specs.Rows.{numbered, read_branch}
 use Rattle.obs_ieee_cdf.proofs.ReadLemmas.{numbered_next, read_branch-good}
-use Rattle.obs_ieee_cdf.proofs.RowsRead.{ReadSoFar, read_one}
 use Rattle.obs_ieee_cdf.proofs.rows.add_branches.Goals as goal
 use Rattle.obs_ieee_cdf.proofs.rows.add_branches.Goals.{then-not-is_passed_over+in_ok-add_branch, else-not-is_passed_over}
 

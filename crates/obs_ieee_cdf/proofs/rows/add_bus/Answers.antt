@@ -1,10 +1,12 @@
 use Rattle.std.proofs.Common.{◌≡◌, None, Some, Err, [], ◌∷◌, ◌++◌, sym, ap, ◌∙◌, subst, arith}
 use Rattle.obs_text.specs.Names.{is_name}
 use Rattle.obs_case.specs.Adds.{Refuses, node_fault, node_of, with_node}
+use Rattle.obs_bus_branch.specs.Buses.{tables_of_rows}
+use Rattle.obs_bus_branch.proofs.NumberLemmas.{is_name-decimal}
 use Rattle.obs_ieee_cdf.specs.Fields.{bus_field, number_of, source_of, type_field}
 use Rattle.obs_ieee_cdf.specs.Reading.{Answers}
-use Rattle.obs_ieee_cdf.specs.Rows.{read_bus, tables_of_rows}
-use Rattle.obs_ieee_cdf.proofs.NumberLemmas.{is_name-decimal, number_of-lt}
+use Rattle.obs_ieee_cdf.specs.Rows.{read_bus}
+use Rattle.obs_ieee_cdf.proofs.NumberLemmas.{number_of-lt}
 use Rattle.obs_ieee_cdf.proofs.RowLemmas.{bus_accepted, bus_refused}
 use Rattle.obs_ieee_cdf.proofs.rows.add_bus.Goals as goal
 

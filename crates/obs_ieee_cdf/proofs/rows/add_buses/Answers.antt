@@ -1,11 +1,12 @@
 use Rattle.std.proofs.Common.{◌≡◌, ◌+◌, true, false, [], length, sym, ap, ◌∙◌, subst, arith}
 use Rattle.obs_text.specs.Lines.{lines_of}
 use Rattle.obs_text.proofs.LineLaws.{length-lines_of}
+use Rattle.obs_bus_branch.specs.Buses.{tables_of_rows}
+use Rattle.obs_bus_branch.proofs.NumberLemmas.{AreBuses-none}
+use Rattle.obs_bus_branch.proofs.RowsRead.{ReadSoFar, read_none, read_one}
 use Rattle.obs_ieee_cdf.specs.Reading.{AreBuses}
-use Rattle.obs_ieee_cdf.specs.Rows.{numbered, read_bus, tables_of_rows}
-use Rattle.obs_ieee_cdf.proofs.NumberLemmas.{AreBuses-none}
+use Rattle.obs_ieee_cdf.specs.Rows.{numbered, read_bus}
 use Rattle.obs_ieee_cdf.proofs.ReadLemmas.{numbered_next, read_bus-good}
-use Rattle.obs_ieee_cdf.proofs.RowsRead.{ReadSoFar, read_none, read_one}
 use Rattle.obs_ieee_cdf.proofs.rows.add_buses.Goals as goal
 use Rattle.obs_ieee_cdf.proofs.rows.add_buses.Goals.{then-not-is_passed_over+in_ok-add_bus, else-not-is_passed_over}
 

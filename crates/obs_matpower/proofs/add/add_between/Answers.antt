@@ -4,8 +4,8 @@ use Rattle.obs_case.specs.Adds.{with_branch}
 use Rattle.obs_case.specs.Adds as case
 use Rattle.obs_case.specs.Tables.{node_names, position_of}
 use Rattle.obs_case.specs.declared.rows.Branch.{Branch}
-use Rattle.obs_ieee_cdf.specs.Rows.{branch_name}
-use Rattle.obs_ieee_cdf.proofs.NumberLemmas.{is_name-branch}
+use Rattle.obs_bus_branch.specs.Buses.{branch_name}
+use Rattle.obs_bus_branch.proofs.NumberLemmas.{is_name-branch}
 use Rattle.obs_matpower.specs.Read.{branch_of, with_status}
 use Rattle.obs_matpower.specs.Reading.{Answers, held_branches}
 use Rattle.obs_matpower.proofs.AddLemmas.{both_known, branch_added, first_unknown, second_unknown}

@@ -1,6 +1,6 @@
 use Rattle.std.proofs.Common.{◌≡◌, List, [], is_none}
-use Rattle.obs_ieee_cdf.specs.Reading.{AreNamed}
-use Rattle.obs_ieee_cdf.proofs.RowsRead.{ReadSoFar}
+use Rattle.obs_bus_branch.specs.Buses.{AreNamed}
+use Rattle.obs_bus_branch.proofs.RowsRead.{ReadSoFar}
 use Rattle.obs_matpower.specs.Left.{rows_left}
 use Rattle.obs_matpower.specs.Read.{BusRow, buses_of, isolated_of, read_branch}
 use Rattle.obs_matpower.specs.Reading.{AreBuses, held_branches}

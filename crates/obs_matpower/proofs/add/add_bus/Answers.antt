@@ -2,7 +2,7 @@ use Rattle.std.proofs.Common.{◌≡◌, ◌<◌, None, Some, Err, [], ◌∷◌
 use Rattle.obs_text.specs.Names.{is_name}
 use Rattle.obs_case.specs.Adds.{Refuses, node_fault, node_of, with_node}
 use Rattle.obs_case.specs.Tables.{most_rows}
-use Rattle.obs_ieee_cdf.proofs.NumberLemmas.{is_name-decimal}
+use Rattle.obs_bus_branch.proofs.NumberLemmas.{is_name-decimal}
 use Rattle.obs_matpower.specs.Fields.{is_short, number_in, type_in}
 use Rattle.obs_matpower.specs.Read.{BusRow, read_bus}
 use Rattle.obs_matpower.specs.Reading.{Answers, held_buses}

@@ -1,7 +1,7 @@
 use Rattle.std.proofs.Common.{is_none, ap, ◌∙◌}
 use Rattle.obs_case.specs.Tables.{no_rows}
-use Rattle.obs_ieee_cdf.proofs.NumberLemmas.{AreBuses-none}
-use Rattle.obs_ieee_cdf.proofs.RowsRead.{read_none, read_one}
+use Rattle.obs_bus_branch.proofs.NumberLemmas.{AreBuses-none}
+use Rattle.obs_bus_branch.proofs.RowsRead.{read_none, read_one}
 use Rattle.obs_matpower.specs.Left.{rows_left}
 use Rattle.obs_matpower.specs.Read.{buses_of, read_bus}
 use Rattle.obs_matpower.specs.Reading.{AreBuses, held_buses}

@@ -1,5 +1,5 @@
 use Rattle.std.proofs.Common.{is_none}
-use Rattle.obs_ieee_cdf.proofs.RowsRead.{ReadSoFar}
+use Rattle.obs_bus_branch.proofs.RowsRead.{ReadSoFar}
 use Rattle.obs_matpower.specs.Left.{rows_left}
 use Rattle.obs_matpower.specs.Read.{buses_of, read_bus}
 use Rattle.obs_matpower.specs.Reading.{AreBuses, held_buses}

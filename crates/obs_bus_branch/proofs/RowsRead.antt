@@ -1,8 +1,6 @@
 -- Rows that are read one after the other, and the fault that ends the reading.
 use Rattle.std.proofs.Common.{◌≡◌, ℕ, suc, ◌+◌, ◌<◌, ◌≤◌, List, [], ◌∷◌, ◌++◌, length, Result, Ok, Err, MatchResult, refl, sym, ap, ◌∙◌, subst, append_assoc, append-nil, length-append, arith}
-use Rattle.obs_ieee_cdf.specs.Case.{AreRows}
-use Rattle.obs_ieee_cdf.specs.IsFault.{HasRowFault}
-use Rattle.obs_ieee_cdf.specs.Rows.{on_ok, read_rows}
+use Rattle.obs_bus_branch.specs.Rows.{AreRows, HasRowFault, on_ok, read_rows}
 
 -- one row more
 one_longer : {R : Type 0} (earlier : List R) (r : R) → length (earlier ++ r ∷ []) + 1 ≡ suc (length earlier + 1)

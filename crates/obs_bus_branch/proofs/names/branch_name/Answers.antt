@@ -3,7 +3,7 @@ use Rattle.std.proofs.Math.ListN.{length-set}
 use Rattle.std.proofs.lemmas.Slice.{take-put_mid}
 use Rattle.obs_text.proofs.DecimalLemmas.{length-decimal}
 use Rattle.obs_text.proofs.ByteLemmas.{first_set}
-use Rattle.obs_ieee_cdf.proofs.rows.branch_name.Goals as goal
+use Rattle.obs_bus_branch.proofs.names.branch_name.Goals as goal
 
 pub slice_bounds-copy_from_slice-end : goal.slice_bounds-copy_from_slice-end
 slice_bounds-copy_from_slice-end c = omega (arith, length-decimal c.args.number c.ranges.number.fits, ap length c.text-text.ensures.decimal)

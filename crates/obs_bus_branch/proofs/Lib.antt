@@ -1,0 +1,4 @@
+pub mod NumberLemmas
+pub mod RowsRead
+pub mod SearchLemmas
+pub mod ValidLemmas
