@@ -1,4 +1,4 @@
-use Rattle.std.proofs.Common.{arith, ◌∙◌, ◌<◌, List, ℕ, length, map, sym, ap}
+use Rattle.std.proofs.Common.{arith, ◌∙◌, ◌<◌, length, map, sym, ap}
 use Rattle.std.specs.Str.{bytes_eq}
 use Rattle.obs_case.specs.Tables.{position_of}
 use Rattle.obs_case.proofs.NameLemmas.{has_name-long, position-absent}

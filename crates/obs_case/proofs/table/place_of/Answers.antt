@@ -1,7 +1,7 @@
 use Rattle.std.proofs.Common.{◌∙◌, map, sym}
 use Rattle.std.specs.Str.{bytes_eq}
 use Rattle.std.proofs.lemmas.List.{length-map}
-use Rattle.obs_case.proofs.NameLemmas.{missed, place-absent, position-some}
+use Rattle.obs_case.proofs.NameLemmas.{missed, place-absent}
 use Rattle.obs_case.proofs.table.place_of.Goals as goal
 
 pub returns-in-None : goal.returns-in-None

@@ -1,4 +1,4 @@
-use Rattle.std.proofs.Common.{◌∙◌, ap, arith, length}
+use Rattle.std.proofs.Common.{ap, arith, length}
 use Rattle.obs_network.proofs.OfCase.{few_branches, few_candidates, few_meters}
 use Rattle.obs_network.proofs.network.lengthen.Goals as goal
 
