@@ -1,3 +1,4 @@
 pub mod NameLemmas
 pub mod RowLemmas
 pub mod ValidLemmas
+mod AddLemmas

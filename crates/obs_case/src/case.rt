@@ -1,15 +1,14 @@
 // The tables together.
-ghost use Rattle.std.specs.Prelude.{◌≡◌, ◌≢◌, ◌<◌, ◌≤◌, length, is_some, None, Err, IsTrue, IfOk, IfErr, IfSome, OnOk, OnErr};
+ghost use Rattle.std.specs.Prelude.{◌≡◌, ◌≢◌, ◌<◌, ◌≤◌, length, None, Err, IsTrue, IfOk, IfErr, OnOk, OnErr};
 ghost use Rattle.obs_text.specs.Names.{is_name};
-ghost use Rattle.obs_case.specs.Adds.{Refuses, branch_fault, branch_of, candidate_fault, candidate_of, meter_fault, meter_of, node_fault, node_of, switch_fault, switch_of, with_branch, with_candidate, with_meter, with_node, with_switch};
+ghost use Rattle.obs_case.specs.Adds.{Refuses, branch_fault, branch_of, candidate_fault, candidate_of, meter_fault, meter_of, node_fault, node_of, place_fault, switch_fault, switch_of, with_branch, with_candidate, with_meter, with_node, with_switch};
 ghost use Rattle.obs_case.specs.Flags.{with_absolute, with_branch_inservice, with_closed, with_meter_inservice};
 ghost use Rattle.obs_case.specs.Items.{is_angle, is_angle_kind};
-ghost use Rattle.obs_case.specs.Tables.{IsValid, branch_names, candidate_names, has_name, meter_names, most_price, no_rows, node_names, place_names, places, position_of, switch_names};
+ghost use Rattle.obs_case.specs.Tables.{IsValid, branch_names, candidate_names, meter_names, most_price, no_rows, node_names, place_names, place_of, position_of, switch_names};
 
-use crate::limits::MOST_ROWS;
 use crate::name::Name;
 use crate::rows::{Branch, Candidate, Kind, Meter, Node, Switch};
-use crate::table::{AddFault, add, find, find_both, let_go, put, refusal};
+use crate::table::{AddFault, FoundPlace, add, find, find_ends, find_place, let_go, put};
 use indexmap::IndexSet;
 use std::alloc::Global;
 use std::marker::Model;
@@ -161,15 +160,14 @@ impl Case {
         }
     }
 
-    // The position of what a meter of this kind stands at.
-    fn find_place(&self, kind: Kind, at: &[u8]) -> Option<u32>
-        ensures position { result ≡ position_of (place_names self.now kind) at.now }
-        ensures there { is_some result ≡ has_name (place_names self.now kind) at.now }
-        ensures within { IfSome result (λ at. at < places self.now kind) }
+    // What a meter of this kind stands at.
+    fn find_place(&self, kind: Kind, at: &[u8]) -> FoundPlace
+        ensures at { result.at ≡ place_of (place_names self.now kind) at.now }
+        ensures fault { result.fault ≡ place_fault self.now kind at.now }
     {
         match kind {
-            Kind::Flow => find(&self.branches, at),
-            Kind::Injection | Kind::Zero | Kind::Angle => find(&self.nodes, at),
+            Kind::Flow => find_place(&self.branches, at),
+            Kind::Injection | Kind::Zero | Kind::Angle => find_place(&self.nodes, at),
         }
     }
 
@@ -184,17 +182,12 @@ impl Case {
         ensures added { OnOk result (self.new ≡ with_node self.old (node_of name.now source)) }
         ensures unchanged { OnErr result (self.new ≡ self.old) }
     {
-        if self.nodes.len() == MOST_ROWS {
-            return Err(AddFault::TooMany);
-        }
-        add(
-            &mut self.nodes,
-            Node {
-                name: Name::new(name),
-                source,
-                absolute: false,
-            },
-        )
+        let row = Node {
+            name: Name::new(name),
+            source,
+            absolute: false,
+        };
+        add(&mut self.nodes, row, None)
     }
 
     /// Adds a switch between two nodes, which may be one, and answers its position.
@@ -214,21 +207,14 @@ impl Case {
             (self.new ≡ with_switch self.old (switch_of self.old name.now from.now to.now closed)) }
         ensures unchanged { OnErr result (self.new ≡ self.old) }
     {
-        if self.switches.len() == MOST_ROWS {
-            return Err(AddFault::TooMany);
-        }
-        let Some((from, to)) = find_both(&self.nodes, from, to) else {
-            return Err(refusal(&self.switches, name, AddFault::UnknownNode));
+        let ends = find_ends(&self.nodes, from, to);
+        let row = Switch {
+            name: Name::new(name),
+            from: ends.from,
+            to: ends.to,
+            closed,
         };
-        add(
-            &mut self.switches,
-            Switch {
-                name: Name::new(name),
-                from,
-                to,
-                closed,
-            },
-        )
+        add(&mut self.switches, row, ends.fault)
     }
 
     /// Adds a branch between two nodes, which may be one, and answers its position.
@@ -248,21 +234,14 @@ impl Case {
             (self.new ≡ with_branch self.old (branch_of self.old name.now from.now to.now inservice)) }
         ensures unchanged { OnErr result (self.new ≡ self.old) }
     {
-        if self.branches.len() == MOST_ROWS {
-            return Err(AddFault::TooMany);
-        }
-        let Some((from, to)) = find_both(&self.nodes, from, to) else {
-            return Err(refusal(&self.branches, name, AddFault::UnknownNode));
+        let ends = find_ends(&self.nodes, from, to);
+        let row = Branch {
+            name: Name::new(name),
+            from: ends.from,
+            to: ends.to,
+            inservice,
         };
-        add(
-            &mut self.branches,
-            Branch {
-                name: Name::new(name),
-                from,
-                to,
-                inservice,
-            },
-        )
+        add(&mut self.branches, row, ends.fault)
     }
 
     /// Adds a meter at a branch, where it measures a flow, and else at a node, and answers its position.
@@ -282,21 +261,14 @@ impl Case {
             (self.new ≡ with_meter self.old (meter_of self.old name.now kind at.now inservice)) }
         ensures unchanged { OnErr result (self.new ≡ self.old) }
     {
-        if self.meters.len() == MOST_ROWS {
-            return Err(AddFault::TooMany);
-        }
-        let Some(at) = self.find_place(kind, at) else {
-            return Err(refusal(&self.meters, name, AddFault::UnknownPlace));
+        let place = self.find_place(kind, at);
+        let row = Meter {
+            name: Name::new(name),
+            kind,
+            at: place.at,
+            inservice,
         };
-        add(
-            &mut self.meters,
-            Meter {
-                name: Name::new(name),
-                kind,
-                at,
-                inservice,
-            },
-        )
+        add(&mut self.meters, row, place.fault)
     }
 
     /// Adds a candidate at a branch, where it measures a flow, and else at a node, and answers its position.
@@ -317,21 +289,14 @@ impl Case {
             (self.new ≡ with_candidate self.old (candidate_of self.old name.now kind at.now price)) }
         ensures unchanged { OnErr result (self.new ≡ self.old) }
     {
-        if self.candidates.len() == MOST_ROWS {
-            return Err(AddFault::TooMany);
-        }
-        let Some(at) = self.find_place(kind, at) else {
-            return Err(refusal(&self.candidates, name, AddFault::UnknownPlace));
+        let place = self.find_place(kind, at);
+        let row = Candidate {
+            name: Name::new(name),
+            kind,
+            at: place.at,
+            price,
         };
-        add(
-            &mut self.candidates,
-            Candidate {
-                name: Name::new(name),
-                kind,
-                at,
-                price,
-            },
-        )
+        add(&mut self.candidates, row, place.fault)
     }
 
     /// Marks a node absolute, or takes the mark away. Takes no memory.

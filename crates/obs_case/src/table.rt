@@ -1,12 +1,13 @@
 // One table of rows, found by their names.
-ghost use Rattle.std.specs.Prelude.{◌≡◌, ◌<◌, ◌≤◌, ◌&&◌, ◌∷◌, ◌++◌, [], List, ℕ, length, map, is_some, true, false, ◌⊎◌, IsTrue, IfOk, IfErr, Err, IfSome, OnOk, OnErr, if◌then◌else◌};
+ghost use Rattle.std.specs.Prelude.{◌≡◌, ◌≢◌, ◌≤◌, ◌&&◌, ◌∷◌, ◌++◌, [], List, ℕ, None, Some, length, map, true, IsTrue, IfOk, IfErr, IfSome, OnOk, OnErr, if◌then◌else◌};
 ghost use Rattle.std.specs.List.{list_all};
 ghost use Rattle.std.specs.Set.{swap_key};
 ghost use Rattle.std.specs.Str.{bytes_eq};
 ghost use Rattle.obs_text.specs.Names.{is_name};
-ghost use Rattle.obs_case.specs.Adds.{add_fault_code};
+ghost use Rattle.obs_case.specs.Adds.{Refuses, add_fault_code, first_fault, name_fault};
 ghost use Rattle.obs_case.specs.Tables.{has_name, most_rows, place_of, position_of};
 
+use crate::limits::MOST_ROWS;
 use crate::name::{LONGEST, Name};
 use crate::rows::{Branch, Candidate, Kind, Meter, Node, Switch};
 use indexmap::IndexSet;
@@ -137,8 +138,6 @@ pub(crate) fn find<R: Row>(rows: &IndexSet<R>, name: &[u8]) -> Option<u32>
     requires named { IsTrue (list_all is_name (map R.own_name rows.now.keys)) }
     requires few { length rows.now.keys ≤ most_rows }
     ensures position { result ≡ position_of (map R.own_name rows.now.keys) name.now }
-    ensures there { is_some result ≡ has_name (map R.own_name rows.now.keys) name.now }
-    ensures within { IfSome result (λ at. at < length rows.now.keys) }
 {
     if name.len() > LONGEST {
         return None;
@@ -150,48 +149,105 @@ pub(crate) fn find<R: Row>(rows: &IndexSet<R>, name: &[u8]) -> Option<u32>
     }
 }
 
-// The positions of two rows of these names.
-pub(crate) fn find_both<R: Row>(rows: &IndexSet<R>, from: &[u8], to: &[u8]) -> Option<(u32, u32)>
+// The position of the row of that name, and the number of rows where none has it.
+fn place_of<R: Row>(rows: &IndexSet<R>, name: &[u8]) -> u32
     requires named { IsTrue (list_all is_name (map R.own_name rows.now.keys)) }
     requires few { length rows.now.keys ≤ most_rows }
-    ensures both { let names = map R.own_name rows.now.keys in
-        is_some result ≡ (has_name names from.now && has_name names to.now) }
-    ensures from { IfSome result (λ ends. ends.0 ≡ place_of (map R.own_name rows.now.keys) from.now) }
-    ensures to { IfSome result (λ ends. ends.1 ≡ place_of (map R.own_name rows.now.keys) to.now) }
-    ensures within { IfSome result (λ ends. (ends.0 < length rows.now.keys) × (ends.1 < length rows.now.keys)) }
-{
-    let Some(from) = find(rows, from) else {
-        return None;
-    };
-    let Some(to) = find(rows, to) else {
-        return None;
-    };
-    Some((from, to))
-}
-
-// Why a row of that name isn't added, where there is this other fault too: a name that the table
-// has stands first.
-pub(crate) fn refusal<R: Row>(rows: &IndexSet<R>, name: &[u8], other: AddFault) -> AddFault
-    requires named { IsTrue (list_all is_name (map R.own_name rows.now.keys)) }
-    requires few { length rows.now.keys ≤ most_rows }
-    ensures first { result ≡ (if has_name (map R.own_name rows.now.keys) name.now then AddFault.NameTwice else other) }
+    ensures place { result ≡ place_of (map R.own_name rows.now.keys) name.now }
 {
     match find(rows, name) {
-        Some(_) => AddFault::NameTwice,
-        None => other,
+        Some(at) => at,
+        None => rows.len() as u32,
     }
 }
 
-// Adds a row at the end, where no row has its name, and answers its position.
-pub(crate) fn add<R: Row>(rows: &mut IndexSet<R>, row: R) -> Result<u32, AddFault>
-    requires few { length rows.old.keys < most_rows }
-    ensures new { OnOk result (has_name (map R.own_name rows.old.keys) (R.own_name row) ≡ false) }
-    ensures twice { result ≡ Err AddFault.NameTwice → has_name (map R.own_name rows.old.keys) (R.own_name row) ≡ true }
-    ensures fault { IfErr result (λ e. (e ≡ AddFault.NameTwice) ⊎ (e ≡ AddFault.NoMemory)) }
+// Where a meter stands, and the fault where it can't stand there.
+#[derive(Clone, Copy)]
+pub(crate) struct FoundPlace {
+    pub(crate) at: u32,
+    pub(crate) fault: Option<AddFault>,
+}
+
+// What a meter stands at that stands at the row of this name.
+pub(crate) fn find_place<R: Row>(rows: &IndexSet<R>, name: &[u8]) -> FoundPlace
+    requires named { IsTrue (list_all is_name (map R.own_name rows.now.keys)) }
+    requires few { length rows.now.keys ≤ most_rows }
+    ensures at { result.at ≡ place_of (map R.own_name rows.now.keys) name.now }
+    ensures fault { result.fault
+        ≡ (if has_name (map R.own_name rows.now.keys) name.now then None else Some AddFault.UnknownPlace) }
+{
+    let at = place_of(rows, name);
+    let fault = if (at as usize) < rows.len() {
+        None
+    } else {
+        Some(AddFault::UnknownPlace)
+    };
+    FoundPlace { at, fault }
+}
+
+// The ends of a row between two nodes, and the fault where one of them is none.
+#[derive(Clone, Copy)]
+pub(crate) struct FoundEnds {
+    pub(crate) from: u32,
+    pub(crate) to: u32,
+    pub(crate) fault: Option<AddFault>,
+}
+
+// The ends of a row between the nodes of these names.
+pub(crate) fn find_ends(nodes: &IndexSet<Node>, from: &[u8], to: &[u8]) -> FoundEnds
+    requires named { IsTrue (list_all is_name (map (λ row. row.name) nodes.now.keys)) }
+    requires few { length nodes.now.keys ≤ most_rows }
+    ensures from { result.from ≡ place_of (map (λ row. row.name) nodes.now.keys) from.now }
+    ensures to { result.to ≡ place_of (map (λ row. row.name) nodes.now.keys) to.now }
+    ensures fault { let names = map (λ row. row.name) nodes.now.keys in
+        result.fault ≡ (if has_name names from.now && has_name names to.now then None else Some AddFault.UnknownNode) }
+{
+    let count = nodes.len() as u32;
+    let from = place_of(nodes, from);
+    let to = place_of(nodes, to);
+    let fault = if from < count && to < count {
+        None
+    } else {
+        Some(AddFault::UnknownNode)
+    };
+    FoundEnds { from, to, fault }
+}
+
+// Why a row isn't added, as far as that is told before it is tried: the table is full, or there is another fault, and a name
+// that the table has stands before that one.
+fn refusal<R: Row>(rows: &IndexSet<R>, row: &R, other: Option<AddFault>) -> Option<AddFault>
+    ensures fault { IfSome result (λ fault.
+        first_fault (name_fault (map R.own_name rows.now.keys) (R.own_name row.now)) other ≡ Some fault) }
+    ensures none { result ≡ None → (other ≡ None) × (length rows.now.keys ≢ most_rows) }
+{
+    if rows.len() == MOST_ROWS {
+        return Some(AddFault::TooMany);
+    }
+    if other.is_some() && rows.contains(row) {
+        return Some(AddFault::NameTwice);
+    }
+    other
+}
+
+// Adds a row at the end, where it has no fault, and answers its position. What is wrong with the row but for its name is
+// given.
+pub(crate) fn add<R: Row>(
+    rows: &mut IndexSet<R>,
+    row: R,
+    other: Option<AddFault>,
+) -> Result<u32, AddFault>
+    requires few { length rows.old.keys ≤ most_rows }
+    ensures accepted { OnOk result
+        (first_fault (name_fault (map R.own_name rows.old.keys) (R.own_name row)) other ≡ None) }
+    ensures refused { IfErr result
+        (Refuses (first_fault (name_fault (map R.own_name rows.old.keys) (R.own_name row)) other)) }
     ensures position { IfOk result (λ at. at ≡ length rows.old.keys) }
     ensures added { OnOk result (rows.new.keys ≡ rows.old.keys ++ row ∷ []) }
     ensures unchanged { OnErr result (rows.new.keys ≡ rows.old.keys) }
 {
+    if let Some(fault) = refusal(rows, &row, other) {
+        return Err(fault);
+    }
     let Ok((at, new)) = rows.insert_full(row) else {
         return Err(AddFault::NoMemory);
     };

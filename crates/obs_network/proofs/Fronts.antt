@@ -3,7 +3,7 @@ use Rattle.std.proofs.Common.{◌≡◌, ◌≢◌, ℕ, ◌+◌, ◌-◌, ◌<�
 use Rattle.std.specs.Prelude.{AllPairs, nat_lt}
 use Rattle.std.specs.List.Sorted.{IsPartitionPoint, IsPartitionedBy}
 use Rattle.std.proofs.lemmas.Bool.{cases_lt, ltb-false, ltb-true}
-use Rattle.std.proofs.lemmas.List.{ext_get_or, get_or-append_right, get_or_append_left, length-take-le, take-append-drop, take_all}
+use Rattle.std.proofs.lemmas.List.{ext_get_or, get_or-append_right, get_or_append_left, length-take-le, take-append-drop, take-append-le, take_all}
 use Rattle.std.proofs.Math.Seq.{take-append_seam}
 use Rattle.std.proofs.lemmas.List.Sums.{count_by-le-length}
 use Rattle.std.proofs.lemmas.List.Sorted.{IsPartitionedBy-ltb}
@@ -113,3 +113,11 @@ touch_at_row t m row low is =
 -- what is no flow stands at a node
 pub row_at_node : (t : Tables) → IsValid t → (m : ℕ) → m < length t.meters → (row : Meter) → row ≡ get_or t.meters m row → row.kind ≢ Flow → row.at < length t.nodes
 row_at_node t valid m low row is other = subst (λ (r : Meter). r.kind ≢ Flow → r.at < length t.nodes) (sym is) (meters-at_nodes t valid m row low) other
+
+-- two lists written one behind the other have room where their numbers have
+pub both_fit : {X : Type 0} (m n : ℕ) (xs ys : List X) (most : ℕ) → length xs ≡ m → length ys ≡ n → m + n ≤ most → length (xs ++ ys) ≤ most
+both_fit m n xs ys most one other few = omega (arith, length-append xs ys, one, other, few)
+
+-- what was written at the front of a longer list
+pub front : {X : Type 0} (n : ℕ) (xs ys : List X) → n ≡ length xs → take n (xs ++ ys) ≡ xs
+front n xs ys long = take-append-le n xs ys (omega (arith, long)) ∙ take_all n xs (omega (arith, long))

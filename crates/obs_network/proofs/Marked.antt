@@ -1,11 +1,11 @@
 -- What loops over buses and nodes find.
-use Rattle.std.proofs.Common.{◌≡◌, ℕ, zero, suc, ◌+◌, ◌<◌, ◌≤◌, ◌||◌, Bool, true, false, Option, None, List, [], ◌∷◌, ◌++◌, length, map, filter, take, get_or, set, refl, sym, ap, ◌∙◌, inl, inr, arith, add-one, length-append}
+use Rattle.std.proofs.Common.{◌≡◌, ℕ, zero, suc, ◌+◌, ◌<◌, ◌≤◌, ◌||◌, Bool, true, false, Option, None, List, [], ◌∷◌, ◌++◌, length, map, filter, take, get_or, set, refl, sym, subst, ap, ◌∙◌, inl, inr, arith, add-one, length-append}
 use Rattle.std.specs.List.{range_with_len}
 use Rattle.std.specs.Prelude.{cond, count_by, sum_by, ◌==◌}
 use Rattle.std.proofs.lemmas.Bool.{cases_Bool, cases_eq, eq-eqb, ne_eqb}
 use Rattle.std.proofs.lemmas.Grind.{same_number_lists}
-use Rattle.std.proofs.lemmas.List.{ext_get_or, get_or-map, get_or_append_left, length-map, take_all, take_more_set}
-use Rattle.std.proofs.lemmas.List.Sums.{sum_by-append}
+use Rattle.std.proofs.lemmas.List.{ext_get_or, get_or-map, get_or-set_other, get_or-set_same, get_or_append_left, length-map, take_all, take_more_set}
+use Rattle.std.proofs.lemmas.List.Sums.{count_by_more_no, count_by_more_yes, sum_by-append}
 use Rattle.std.proofs.lemmas.List.FromFn.{filter_of_map_range_with_len_more, get_or-map-range_with_len, length-map-range_with_len}
 use Rattle.obs_matroid.specs.Lists.{In}
 use Rattle.obs_matroid.proofs.Lists.{In-filter_from}
@@ -58,6 +58,21 @@ pub sized_all : (count : ℕ) (numbers sizes : List ℕ) → length sizes ≡ co
 sized_all count numbers sizes len at =
     let f : ℕ → ℕ = λ c. count_by (λ x. x == c) numbers in
     same_number_lists sizes (sizes_of count numbers) (len ∙ sym (length-map-range_with_len f 0 count)) (λ k l. at k (omega arith) ∙ sym (get_or-map-range_with_len f 0 count k k 0 (omega arith) (omega arith)))
+
+-- one bus more counted
+pub sized_more : (numbers sizes : List ℕ) (i c : ℕ) → i < length numbers → c < length sizes → get_or sizes c 0 ≡ count_by (λ x. x == c) (take i numbers)
+    → get_or (set sizes (get_or numbers i 0) (get_or sizes (get_or numbers i 0) 0 + 1)) c 0 ≡ count_by (λ x. x == c) (take (i + 1) numbers)
+sized_more numbers sizes i c low few counted = by (get_or numbers i 0) refl
+  where
+    by : (x : ℕ) → get_or numbers i 0 ≡ x → get_or (set sizes x (get_or sizes x 0 + 1)) c 0 ≡ count_by (λ x. x == c) (take (i + 1) numbers)
+    by x is =
+        elim (cases_eq x c) [
+          | inl e ↦ subst (λ y. get_or (set sizes y (get_or sizes y 0 + 1)) c 0 ≡ count_by (λ x. x == c) (take (i + 1) numbers)) (sym e)
+              (get_or-set_same sizes c (get_or sizes c 0 + 1) 0 few
+              ∙ (ap (λ n. n + 1) counted ∙ sym (count_by_more_yes (λ x. x == c) numbers i 0 low (eq-eqb (get_or numbers i 0) c (is ∙ e)))))
+          | inr e ↦ get_or-set_other sizes x c (get_or sizes x 0 + 1) 0 (λ (same : c ≡ x). e (sym same))
+              ∙ (counted ∙ sym (count_by_more_no (λ x. x == c) numbers i 0 low (ne_eqb (get_or numbers i 0) c (λ same. e (sym is ∙ same)))))
+        ]
 
 -- each component has its mark
 pub marked_all : (flag : Node → Bool) (count : ℕ) (numbers buses : List ℕ) (nodes : List Node) (marks : List Bool) → length marks ≡ count → ((c : ℕ) → c < count → get_or marks c false ≡ is_marked flag numbers buses nodes c) → marks ≡ marked_of flag count numbers buses nodes

@@ -219,6 +219,9 @@ length-case_offered t =
     length-append (meter_touches (case_rows t) (case_buses t) 0 t.meters) (candidate_touches (case_rows t) (case_buses t) (length t.meters) t.candidates)
     ∙ omega (arith, meters, candidates)
 
+pub few_switches : (t : Tables) → IsValid t → length t.switches ≤ most_rows
+few_switches t v = let few = v.switches.few in omega (arith, few, length-map t.switches (λ row. row.name))
+
 pub few_branches : (t : Tables) → IsValid t → length t.branches ≤ most_rows
 few_branches t v = let few = v.branches.few in omega (arith, few, length-map t.branches (λ row. row.name))
 

@@ -1,8 +1,6 @@
 -- The parts of a network agree before it has a bus.
-use Rattle.std.proofs.Common.{◌≡◌, ◌+◌, ◌*◌, ◌≤◌, ℕ, Option, List, [], length, refl, sym, ap, ◌∙◌, arith}
-use Rattle.std.proofs.lemmas.List.{length-map}
+use Rattle.std.proofs.Common.{◌≡◌, ◌+◌, ◌*◌, ◌≤◌, ℕ, Option, List, [], length, refl, sym, ap, ◌∙◌}
 use Rattle.std.proofs.lemmas.List.Elements.{All-nil}
-use Rattle.obs_case.specs.Tables.{IsValid, Tables, most_rows}
 use Rattle.obs_graph.specs.declared.Ends.{Ends}
 use Rattle.obs_graph.specs.Graph.{Graph}
 use Rattle.obs_graph.specs.Search.{State, room_of}
@@ -51,16 +49,3 @@ parts_without_bus n b m o links live kept touches walk sides lives keeps touch f
   listed_count = refl;
   lists = refl;
 }
-
--- a table has few rows
-pub few_switches : (t : Tables) → IsValid t → length t.switches ≤ most_rows
-few_switches t v = let few = v.switches.few in omega (arith, few, length-map t.switches (λ row. row.name))
-
-pub few_branches : (t : Tables) → IsValid t → length t.branches ≤ most_rows
-few_branches t v = let few = v.branches.few in omega (arith, few, length-map t.branches (λ row. row.name))
-
-pub few_meters : (t : Tables) → IsValid t → length t.meters ≤ most_rows
-few_meters t v = let few = v.meters.few in omega (arith, few, length-map t.meters (λ row. row.name))
-
-pub few_candidates : (t : Tables) → IsValid t → length t.candidates ≤ most_rows
-few_candidates t v = let few = v.candidates.few in omega (arith, few, length-map t.candidates (λ row. row.name))

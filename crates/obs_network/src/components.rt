@@ -139,14 +139,29 @@ impl Components {
         }) }
     {
         let room = most_buses as usize;
+        let Ok(numbers) = vec![in alloc; 0; room] else {
+            return Err(NoMemory);
+        };
+        let Ok(first_buses) = vec![in alloc; 0; room] else {
+            return Err(NoMemory);
+        };
+        let Ok(sizes) = vec![in alloc; 0; room] else {
+            return Err(NoMemory);
+        };
+        let Ok(energised) = vec![in alloc; false; room] else {
+            return Err(NoMemory);
+        };
+        let Ok(absolute) = vec![in alloc; false; room] else {
+            return Err(NoMemory);
+        };
         Ok(Components {
             buses: 0,
             count: 0,
-            numbers: vec![in alloc; 0; room]?,
-            first_buses: vec![in alloc; 0; room]?,
-            sizes: vec![in alloc; 0; room]?,
-            energised: vec![in alloc; false; room]?,
-            absolute: vec![in alloc; false; room]?,
+            numbers,
+            first_buses,
+            sizes,
+            energised,
+            absolute,
         })
     }
 

@@ -161,13 +161,22 @@ impl LiveMeters {
           most_components = most_components;
         }) }
     {
+        let Ok(lists) = vec![in alloc; 0; most_meters as usize] else {
+            return Err(NoMemory);
+        };
+        let Ok(members) = vec![in alloc; 0; most_meters as usize] else {
+            return Err(NoMemory);
+        };
+        let Ok(starts) = vec![in alloc; 0; most_components as usize + 1] else {
+            return Err(NoMemory);
+        };
         Ok(LiveMeters {
             meters: 0,
             components: 0,
             most_components,
-            lists: vec![in alloc; 0; most_meters as usize]?,
-            members: vec![in alloc; 0; most_meters as usize]?,
-            starts: vec![in alloc; 0; most_components as usize + 1]?,
+            lists,
+            members,
+            starts,
         })
     }
 

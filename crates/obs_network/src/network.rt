@@ -100,26 +100,35 @@ impl Drop for Network {
     }
 }
 
-// Makes the arrays of a network as long as so many switches, branches and items need.
+// Makes the arrays of a network as long as the tables of the case need.
 fn lengthen(
-    switches: u32,
-    branches: u32,
-    offered: u32,
+    case: &Case,
     links: &mut Vec<Link>,
     live: &mut Vec<Option<Ends>>,
     kept: &mut Vec<Option<Ends>>,
     touches: &mut Vec<Touch>,
 ) -> Result<(), NoMemory>
-    requires few { branches + offered < 2 ^ 32 }
-    ensures links { IfOk result (λ _. length links.new.items ≡ switches) }
-    ensures live { IfOk result (λ _. length live.new.items ≡ branches) }
-    ensures kept { IfOk result (λ _. length kept.new.items ≡ branches + offered) }
-    ensures touches { IfOk result (λ _. length touches.new.items ≡ offered) }
+    ensures links { IfOk result (λ _. length links.new.items ≡ length case.now.switches) }
+    ensures live { IfOk result (λ _. length live.new.items ≡ length case.now.branches) }
+    ensures kept { IfOk result (λ _. length kept.new.items
+        ≡ length case.now.branches + (length case.now.meters + length case.now.candidates)) }
+    ensures touches { IfOk result (λ _. length touches.new.items
+        ≡ length case.now.meters + length case.now.candidates) }
 {
-    links.resize(switches as usize, Link { from: 0, to: 0 })?;
-    live.resize(branches as usize, None)?;
-    kept.resize((branches + offered) as usize, None)?;
-    touches.resize(offered as usize, Touch::Nothing)?;
+    let branches = case.branches().len();
+    let items = case.meters().len() + case.candidates().len();
+    let Ok(()) = links.resize(case.switches().len(), Link { from: 0, to: 0 }) else {
+        return Err(NoMemory);
+    };
+    let Ok(()) = live.resize(branches, None) else {
+        return Err(NoMemory);
+    };
+    let Ok(()) = kept.resize(branches + items, None) else {
+        return Err(NoMemory);
+    };
+    let Ok(()) = touches.resize(items, Touch::Nothing) else {
+        return Err(NoMemory);
+    };
     Ok(())
 }
 
@@ -139,21 +148,19 @@ impl Network {
         let search = Search::make(alloc, nodes)?;
         let live_meters = LiveMeters::make(alloc, meters, nodes)?;
         let sides = Sides::make(alloc, 2 * nodes)?;
-        let live_items = Meters::make(alloc, meters)?;
-        let items = Meters::make(alloc, offered)?;
+        let Ok(live_items) = Meters::make(alloc, meters) else {
+            return Err(NoMemory);
+        };
+        let Ok(items) = Meters::make(alloc, offered) else {
+            return Err(NoMemory);
+        };
         let mut links = Vec::new(alloc);
         let mut live = Vec::new(alloc);
         let mut kept = Vec::new(alloc);
         let mut touches = Vec::new(alloc);
-        lengthen(
-            switches,
-            branches,
-            offered,
-            &mut links,
-            &mut live,
-            &mut kept,
-            &mut touches,
-        )?;
+        let Ok(()) = lengthen(case, &mut links, &mut live, &mut kept, &mut touches) else {
+            return Err(NoMemory);
+        };
         Ok(Network {
             buses,
             components,

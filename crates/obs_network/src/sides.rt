@@ -288,9 +288,15 @@ impl Sides {
     pub fn make(alloc: Global, most_vertices: u32) -> Result<Sides, NoMemory>
         ensures room { IfOk result (λ s. s.most_vertices ≡ most_vertices) }
     {
-        let labels = vec![in alloc; None; most_vertices as usize]?;
-        let queue = vec![in alloc; 0; most_vertices as usize]?;
-        let queue_there = vec![in alloc; 0; most_vertices as usize]?;
+        let Ok(labels) = vec![in alloc; None; most_vertices as usize] else {
+            return Err(NoMemory);
+        };
+        let Ok(queue) = vec![in alloc; 0; most_vertices as usize] else {
+            return Err(NoMemory);
+        };
+        let Ok(queue_there) = vec![in alloc; 0; most_vertices as usize] else {
+            return Err(NoMemory);
+        };
         Ok(Sides {
             labels,
             queue,

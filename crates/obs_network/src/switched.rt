@@ -14,8 +14,12 @@ pub fn buses_of_case(alloc: Global, case: &Case) -> Result<Buses, NoMemory>
     ensures count { IfOk result (λ b. b.count ≡ case_bus_count case.now) }
 {
     let nodes = case.nodes().len() as u32;
-    let mut links = vec![in alloc; Link { from: 0, to: 0 }; case.switches().len()]?;
-    let mut buses = Buses::make(alloc, nodes, 0)?;
+    let Ok(mut buses) = Buses::make(alloc, nodes, 0) else {
+        return Err(NoMemory);
+    };
+    let Ok(mut links) = vec![in alloc; Link { from: 0, to: 0 }; case.switches().len()] else {
+        return Err(NoMemory);
+    };
     relabel(case, &mut links, &mut buses);
     Ok(buses)
 }

@@ -1,5 +1,6 @@
-use Rattle.std.proofs.Common.{◌∙◌, sym, take, arith}
+use Rattle.std.proofs.Common.{subst, length, ℕ, ◌≤◌, ◌≡◌, ◌∙◌, sym, take, arith}
 use Rattle.obs_network.proofs.FollowedLoops.{Meters-all, Meters-far, Meters-in_range, Meters-listed, Meters-near, Meters-read}
+use Rattle.obs_network.specs.Following.{AreFollowed, followed}
 use Rattle.obs_network.proofs.following.follow_meters.Goals as goal
 use Rattle.obs_network.proofs.following.follow_meters.Goals.{then-is_near, else-is_near}
 
@@ -61,3 +62,14 @@ returns-clause-most_meters c = c.loop-m.invariant.most_meters
 
 pub returns-clause-most_components : goal.returns-clause-most_components
 returns-clause-most_components c = c.loop-m.invariant.most_components
+
+-- the loop ends behind the last
+ended : (m end n : ℕ) → m ≤ end → end ≤ m → end ≡ n → m ≡ n
+ended m end n low high is = omega (arith, low, high, is)
+
+pub returns-clause-offered : goal.returns-clause-offered
+returns-clause-offered c =
+    let a = c.args in
+    let l = c.loop-m in
+    subst (λ n. AreFollowed (followed (take a.rows a.graph.now.ends) a.change.before a.change.after) a.offered.now l.offered 0 n)
+    (ended l.m c.count-m-end.result (length a.meters.now.touches) l.auto.m-end c.loop-m-test.false c.count-m-end.ensures.count) l.invariant.offered_follow

@@ -1,7 +1,8 @@
-use Rattle.std.proofs.Common.{ℕ, None, get_or, ap, ◌∙◌, arith}
-use Rattle.obs_network.specs.Sides.{rows_but}
+use Rattle.std.proofs.Common.{false, true, sym, refl, Some, Option, Bool, ◌≡◌, ℕ, None, get_or, ap, ◌∙◌, arith}
+use Rattle.obs_network.specs.Sides.{label_at, rows_but}
 use Rattle.obs_network.proofs.Walking.{tail_room}
 use Rattle.obs_network.proofs.FollowedRows.{Following-come, Following-come_met, Following-end, Following-skip, Following-stop, but_itself, but_past, but_reaches, end_at_entry, rows_but-IsPart}
+use Rattle.std.proofs.lemmas.Bool.{false≢true, true≢false}
 use Rattle.obs_network.proofs.sides.follow.Goals as goal
 use Rattle.obs_network.proofs.sides.follow.Goals.{else-p-e-via-then-p-e+else-come, else-p-e-via-else-p-e}
 
@@ -77,3 +78,28 @@ returns-clause-queue c = c.loop-p.invariant.here
 
 pub returns-clause-grown : goal.returns-clause-grown
 returns-clause-grown c = c.loop-p.invariant.grown
+
+pub returns-then-p-rows-clause-met : goal.returns-then-p-rows-clause-met
+returns-then-p-rows-clause-met c = λ met. absurd (false≢true met)
+
+pub returns-clause-met : goal.returns-clause-met
+returns-clause-met c = λ met. absurd (false≢true met)
+
+-- where the ends meet, the vertex was reached before, and nothing is queued
+still : {K : Type 0} (label : Option ℕ) (result : Bool) → (label ≡ None → result ≡ false) → ((u : ℕ) → label ≡ Some u → K) → result ≡ true → K
+still None result new known met = absurd (true≢false (sym met ∙ new refl))
+still (Some u) result new known met = known u refl
+
+same : (c : goal.Then-come) → (c.come.new.labels ≡ c.loop-p.labels) × (c.come.new.queue ≡ c.loop-p.queue) × (c.come.new.tail ≡ c.loop-p.tail)
+same c =
+    still (label_at c.loop-p.labels c.across.result) c.come.result (λ (bare : label_at c.loop-p.labels c.across.result ≡ None). (c.come.ensures.new bare).0)
+    (λ (u : ℕ) (is : label_at c.loop-p.labels c.across.result ≡ Some u). let k = c.come.ensures.known u is in (k.0, k.1, k.2)) c.if-come.true
+
+pub returns-then-come-clause-queue : goal.returns-then-come-clause-queue
+returns-then-come-clause-queue c = let s = same c in rw (s.0, s.1, s.2) c.loop-p.invariant.here
+
+pub returns-then-come-clause-followed : goal.returns-then-come-clause-followed
+returns-then-come-clause-followed c = λ met. absurd (true≢false met)
+
+pub returns-then-come-clause-grown : goal.returns-then-come-clause-grown
+returns-then-come-clause-grown c = rw (same c).0 c.loop-p.invariant.grown

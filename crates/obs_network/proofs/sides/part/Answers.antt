@@ -2,6 +2,7 @@ use Rattle.std.proofs.Common.{◌≡◌, Some, None, get_or, take, sym, ◌∙�
 use Rattle.std.proofs.lemmas.List.{get_or-take, get_or_default}
 use Rattle.obs_network.specs.Sides.{rows_but}
 use Rattle.obs_network.proofs.FoundSides.{AreClear-after, leads_apart, queued_below, walked_parts}
+use Rattle.obs_graph.specs.declared.Ends.{Ends}
 use Rattle.obs_network.proofs.sides.part.Goals as goal
 
 pub returns-clause-clear : goal.returns-clause-clear
@@ -41,3 +42,15 @@ pub keep-requires-clause-room_there : goal.keep-requires-clause-room_there
 keep-requires-clause-room_there c =
     let s = c.spread-walked in
     omega (arith, s.ensures.walked.there.few, s.auto.queue, s.auto.queue_there, c.requires.places, c.requires.places_there)
+
+pub keep-requires-clause-places : goal.keep-requires-clause-places
+keep-requires-clause-places c =
+    let s = c.spread-walked in
+    s.auto.queue ∙ (c.requires.places ∙ (sym c.requires.places_there ∙ sym s.auto.queue_there))
+
+none_some : {P : Type 0} (x : Ends) → Some x ≡ None → P
+none_some x clash = cc
+
+pub returns-in_default-clause-parted : goal.returns-in_default-clause-parted
+returns-in_default-clause-parted c = λ x is.
+    none_some x (sym is ∙ (get_or-take c.args.rows c.args.g.now.ends c.args.e None c.requires.row ∙ sym c.in_default.ensures.ends))

@@ -1,14 +1,72 @@
-use Rattle.std.proofs.Common.{◌∙◌, ◌<◌, ap, sym, subst}
+use Rattle.std.proofs.Common.{Bool, length, ℕ, IfOk, IfErr, OnOk, List, ◌∙◌, ◌<◌, ◌≡◌, ◌∷◌, ◌++◌, [], ap, refl, subst, sym, Ok, None}
+use Rattle.std.proofs.lemmas.List.{length-map}
 use Rattle.obs_text.specs.Names.{is_name}
+use Rattle.obs_case.specs.declared.rows.Meter.{Meter}
+use Rattle.obs_case.specs.Adds.{Refuses, first_fault, name_fault, place_fault, meter_fault, meter_of, with_meter}
 use Rattle.obs_case.specs.Case.{tables_of}
-use Rattle.obs_case.specs.Tables.{places}
+use Rattle.obs_case.specs.Tables.{IsValid, Tables, meter_names, place_names, place_of, places}
+use Rattle.obs_case.proofs.AddLemmas.{either, never_node, never_node_of_place, no_fault, place_low}
 use Rattle.obs_case.proofs.ValidLemmas.{valid-meters}
+use Rattle.std.proofs.lemmas.Result.{on_err_weaker, on_ok_weaker}
+use Rattle.obs_case.specs.declared.rows.Kind.{Kind}
 use Rattle.obs_case.proofs.case.Case.add_meter.Goals as goal
+use Rattle.obs_case.proofs.case.Case.add_meter.Goals.{After-add}
 
 pub invariant_of-self : goal.invariant_of-self
 invariant_of-self c =
     let t = tables_of c.self.inside in
+    let place = c.find_place-place in
+    let view = sym c.self.view_is in
+    let row : Meter = record { name = c.new.result; kind = c.args.kind; at = place.result.at; inservice = c.args.inservice } in
     let good = ap is_name c.new.ensures.bytes ∙ c.requires.name in
-    let within : c.in-Some.at < places t c.args.kind = subst (λ u. c.in-Some.at < places u c.args.kind) (sym c.self.view_is) c.in-Some.ensures.within in
-    valid-meters t c.self.invariant c.add.result (record { name = c.new.result; kind = c.args.kind; at = c.in-Some.at; inservice = c.args.inservice }) c.add.new.rows.keys
-    good (λ full. c.if-len-eq-MOST_ROWS.false (c.len.ensures.len ∙ full)) within c.add.ensures.new c.add.ensures.added c.add.ensures.unchanged
+    let at = place.ensures.at ∙ ap (λ u. place_of (place_names u c.args.kind) c.args.at.now) view in
+    let fault = place.ensures.fault ∙ ap (λ u. place_fault u c.args.kind c.args.at.now) view in
+    either (λ rows. IsValid (record t { meters = rows })) t.meters c.add.new.rows.keys row c.add.result (first_fault (name_fault (meter_names t) c.new.result) place.result.fault) c.self.invariant
+    (λ free. let f = no_fault (meter_names t) c.new.result place.result.fault free in
+    let within : place.result.at < places t c.args.kind = subst (λ k. k < places t c.args.kind) (sym at) (place_low t c.args.kind c.args.at.now (sym fault ∙ f.2)) in
+    valid-meters t c.self.invariant (Ok 0) row (t.meters ++ row ∷ []) good (λ full. f.0 (length-map t.meters (λ (r : Meter). r.name) ∙ full)) within f.1 refl tt)
+    c.add.ensures.accepted c.add.ensures.added c.add.ensures.unchanged
+
+abbrev as_row : List ℕ → Kind → ℕ → Bool → Meter
+as_row name kind at inservice = record { name = name; kind = kind; at = at; inservice = inservice }
+
+-- the fault of the row, and the row itself
+fault_is : (c : After-add) → first_fault (name_fault (meter_names (tables_of c.self.inside)) c.new.result) c.find_place-place.result.fault ≡ meter_fault c.args.self.now c.args.name.now c.args.kind c.args.at.now
+fault_is c =
+    let t = tables_of c.self.inside in
+    ap (λ n. first_fault (name_fault (meter_names t) n) c.find_place-place.result.fault) c.new.ensures.bytes
+    ∙ (ap (λ f. first_fault (name_fault (meter_names t) c.args.name.now) f) c.find_place-place.ensures.fault
+    ∙ ap (λ u. first_fault (name_fault (meter_names u) c.args.name.now) (place_fault c.args.self.now c.args.kind c.args.at.now)) c.self.view_is)
+
+row_is : (c : After-add) → as_row c.new.result c.args.kind c.find_place-place.result.at c.args.inservice ≡ meter_of c.args.self.now c.args.name.now c.args.kind c.args.at.now c.args.inservice
+row_is c =
+    ap (λ n. as_row n c.args.kind c.find_place-place.result.at c.args.inservice) c.new.ensures.bytes
+    ∙ ap (λ a. as_row c.args.name.now c.args.kind a c.args.inservice) c.find_place-place.ensures.at
+
+pub returns-clause-accepted : goal.returns-clause-accepted
+returns-clause-accepted c = subst (λ f. OnOk c.add.result (f ≡ None)) (fault_is c) c.add.ensures.accepted
+
+pub returns-clause-refused : goal.returns-clause-refused
+returns-clause-refused c = subst (λ f. IfErr c.add.result (Refuses f)) (fault_is c) c.add.ensures.refused
+
+pub returns-clause-never_unknown_node : goal.returns-clause-never_unknown_node
+returns-clause-never_unknown_node c =
+    never_node (meter_names (tables_of c.self.inside)) c.new.result c.find_place-place.result.fault c.add.result c.add.ensures.refused
+    (never_node_of_place _ c.find_place-place.result.fault c.find_place-place.ensures.fault)
+
+pub returns-clause-position : goal.returns-clause-position
+returns-clause-position c = subst (λ (u : Tables). IfOk c.add.result (λ at. at ≡ length u.meters)) c.self.view_is c.add.ensures.position
+
+pub returns-clause-added : goal.returns-clause-added
+returns-clause-added c =
+    let t = tables_of c.self.inside in
+    on_ok_weaker c.add.result
+    (λ e. ap (λ (rows : List Meter). record t { meters = rows }) e
+    ∙ (ap (λ (row : Meter). with_meter t row) (row_is c)
+    ∙ ap (λ (u : Tables). with_meter u (meter_of c.args.self.now c.args.name.now c.args.kind c.args.at.now c.args.inservice)) c.self.view_is))
+    c.add.ensures.added
+
+pub returns-clause-unchanged : goal.returns-clause-unchanged
+returns-clause-unchanged c =
+    let t = tables_of c.self.inside in
+    on_err_weaker c.add.result (λ e. ap (λ (rows : List Meter). record t { meters = rows }) e ∙ c.self.view_is) c.add.ensures.unchanged

@@ -26,11 +26,11 @@ invariant_of-self c =
     let a4 = k.auto.energised in
     let a5 = k.auto.absolute in
     rw (
-      written_back s.numbers.len g.new.numbers s.numbers.items (omega arith) (omega arith),
-      written_back s.first_buses.len g.new.first_buses s.first_buses.items (omega arith) (omega arith),
-      written_back s.sizes.len g.new.sizes s.sizes.items (omega arith) (omega arith),
-      written_back s.energised.len k.new.energised s.energised.items (omega arith) (omega arith),
-      written_back s.absolute.len k.new.absolute s.absolute.items (omega arith) (omega arith),
+      written_back s.numbers.len g.new.numbers s.numbers.items (c.group-count.auto.numbers ∙ ap length c.deref_mut.ensures.value) s.numbers.ok.0,
+      written_back s.first_buses.len g.new.first_buses s.first_buses.items (c.group-count.auto.first_buses ∙ ap length c.deref_mut-2.ensures.value) s.first_buses.ok.0,
+      written_back s.sizes.len g.new.sizes s.sizes.items (c.group-count.auto.sizes ∙ ap length c.deref_mut-3.ensures.value) s.sizes.ok.0,
+      written_back s.energised.len k.new.energised s.energised.items (c.mark.auto.energised ∙ ap length c.deref_mut-4.ensures.value) s.energised.ok.0,
+      written_back s.absolute.len k.new.absolute s.absolute.items (c.mark.auto.absolute ∙ ap length c.deref_mut-5.ensures.value) s.absolute.ok.0,
     )
     (grouped_whole n g.result (present c.args.live.now) g.new.numbers g.new.first_buses g.new.sizes k.new.energised k.new.absolute
     (omega arith) (omega arith) (omega arith) (omega arith) (omega arith) (omega arith) g.ensures.few g.ensures.below g.ensures.firsts g.ensures.numbers g.ensures.count g.ensures.sizes)
@@ -40,21 +40,21 @@ mark-requires-clause-below c =
     let g = c.group-count in
     let s = c.self.inside in
     let a1 = g.auto.numbers in
-    rw (c.requires.buses, c.deref.ensures.value, written_back s.numbers.len g.new.numbers s.numbers.items (omega arith) (omega arith)) g.ensures.below
+    rw (c.requires.buses, c.deref.ensures.value, written_back s.numbers.len g.new.numbers s.numbers.items (c.group-count.auto.numbers ∙ ap length c.deref_mut.ensures.value) s.numbers.ok.0) g.ensures.below
 
 pub returns-clause-of_buses : goal.returns-clause-of_buses
 returns-clause-of_buses c =
     let g = c.group-count in
     let s = c.self.inside in
     let a1 = g.auto.numbers in
-    rw (written_back s.numbers.len g.new.numbers s.numbers.items (omega arith) (omega arith)) g.ensures.numbers
+    rw (written_back s.numbers.len g.new.numbers s.numbers.items (c.group-count.auto.numbers ∙ ap length c.deref_mut.ensures.value) s.numbers.ok.0) g.ensures.numbers
 
 pub returns-clause-first_buses : goal.returns-clause-first_buses
 returns-clause-first_buses c =
     let g = c.group-count in
     let s = c.self.inside in
     let a1 = g.auto.first_buses in
-    rw (written_back s.first_buses.len g.new.first_buses s.first_buses.items (omega arith) (omega arith)) g.ensures.first_buses
+    rw (written_back s.first_buses.len g.new.first_buses s.first_buses.items (c.group-count.auto.first_buses ∙ ap length c.deref_mut-2.ensures.value) s.first_buses.ok.0) g.ensures.first_buses
 
 pub returns-clause-sizes : goal.returns-clause-sizes
 returns-clause-sizes c =
@@ -63,8 +63,8 @@ returns-clause-sizes c =
     let a1 = g.auto.numbers in
     let a2 = g.auto.sizes in
     rw (
-      written_back s.sizes.len g.new.sizes s.sizes.items (omega arith) (omega arith),
-      written_back s.numbers.len g.new.numbers s.numbers.items (omega arith) (omega arith),
+      written_back s.sizes.len g.new.sizes s.sizes.items (c.group-count.auto.sizes ∙ ap length c.deref_mut-3.ensures.value) s.sizes.ok.0,
+      written_back s.numbers.len g.new.numbers s.numbers.items (c.group-count.auto.numbers ∙ ap length c.deref_mut.ensures.value) s.numbers.ok.0,
     )
     (g.ensures.sizes ∙ ap (λ k. sizes_of k (take (length c.args.firsts.now) g.new.numbers)) g.ensures.count)
 
@@ -75,8 +75,8 @@ returns-clause-energised c =
     let n = length c.args.firsts.now in
     let a1 = g.auto.numbers in
     let a2 = c.mark.auto.energised in
-    let whole = written_back s.numbers.len g.new.numbers s.numbers.items (omega arith) (omega arith) in
-    rw (written_back s.energised.len c.mark.new.energised s.energised.items (omega arith) (omega arith), whole)
+    let whole = written_back s.numbers.len g.new.numbers s.numbers.items (c.group-count.auto.numbers ∙ ap length c.deref_mut.ensures.value) s.numbers.ok.0 in
+    rw (written_back s.energised.len c.mark.new.energised s.energised.items (c.mark.auto.energised ∙ ap length c.deref_mut-4.ensures.value) s.energised.ok.0, whole)
     (c.mark.ensures.energised
     ∙ (ap (λ k. energised_of k (take c.args.buses.now.count c.deref.result.now) c.args.buses.now.buses c.args.nodes.now) g.ensures.count
     ∙ ap (λ xs. energised_of (component_count n (present c.args.live.now)) xs c.args.buses.now.buses c.args.nodes.now)
@@ -89,8 +89,8 @@ returns-clause-absolute c =
     let n = length c.args.firsts.now in
     let a1 = g.auto.numbers in
     let a2 = c.mark.auto.absolute in
-    let whole = written_back s.numbers.len g.new.numbers s.numbers.items (omega arith) (omega arith) in
-    rw (written_back s.absolute.len c.mark.new.absolute s.absolute.items (omega arith) (omega arith), whole)
+    let whole = written_back s.numbers.len g.new.numbers s.numbers.items (c.group-count.auto.numbers ∙ ap length c.deref_mut.ensures.value) s.numbers.ok.0 in
+    rw (written_back s.absolute.len c.mark.new.absolute s.absolute.items (c.mark.auto.absolute ∙ ap length c.deref_mut-5.ensures.value) s.absolute.ok.0, whole)
     (c.mark.ensures.absolute
     ∙ (ap (λ k. absolute_of k (take c.args.buses.now.count c.deref.result.now) c.args.buses.now.buses c.args.nodes.now) g.ensures.count
     ∙ ap (λ xs. absolute_of (component_count n (present c.args.live.now)) xs c.args.buses.now.buses c.args.nodes.now)
@@ -102,4 +102,4 @@ returns-clause-room c =
     let s = c.self.inside in
     let a1 = g.auto.numbers in
     let most = ap (λ (x : Components). x.most_buses) c.self.view_is in
-    rw (written_back s.numbers.len g.new.numbers s.numbers.items (omega arith) (omega arith)) (omega (arith, a1, most))
+    rw (written_back s.numbers.len g.new.numbers s.numbers.items (c.group-count.auto.numbers ∙ ap length c.deref_mut.ensures.value) s.numbers.ok.0) (omega (arith, a1, most))

@@ -1,4 +1,4 @@
-use Rattle.std.proofs.Common.{length, ap, arith}
+use Rattle.std.proofs.Common.{◌∙◌, length, ap, arith}
 use Rattle.obs_graph.proofs.Stored.{written_back}
 use Rattle.obs_network.specs.Kept.{Listed}
 use Rattle.obs_network.proofs.live_meters.LiveMeters.refill.Goals as goal
@@ -27,9 +27,9 @@ invariant_of-self c =
     let meters = c.requires.meters in
     let components = c.requires.components in
     rw (
-      written_back s.lists.len k.new.lists s.lists.items (omega arith) (omega arith),
-      written_back s.members.len k.new.members s.members.items (omega arith) (omega arith),
-      written_back s.starts.len k.new.starts s.starts.items (omega arith) (omega arith),
+      written_back s.lists.len k.new.lists s.lists.items (c.write_members.auto.lists ∙ ap length c.deref_mut.ensures.value) s.lists.ok.0,
+      written_back s.members.len k.new.members s.members.items (c.write_members.auto.members ∙ ap length c.deref_mut-2.ensures.value) s.members.ok.0,
+      written_back s.starts.len k.new.starts s.starts.items (c.write_members.auto.starts ∙ ap length c.deref_mut-3.ensures.value) s.starts.ok.0,
       c.count.ensures.count,
       c.count-self-inside.ensures.count,
     )
@@ -48,7 +48,7 @@ returns-clause-lists c =
     let k = c.write_members in
     let s = c.self.inside in
     let a1 = k.auto.lists in
-    rw (written_back s.lists.len k.new.lists s.lists.items (omega arith) (omega arith), c.count.ensures.count) k.ensures.lists
+    rw (written_back s.lists.len k.new.lists s.lists.items (c.write_members.auto.lists ∙ ap length c.deref_mut.ensures.value) s.lists.ok.0, c.count.ensures.count) k.ensures.lists
 
 pub returns-clause-components : goal.returns-clause-components
 returns-clause-components c = c.count-self-inside.ensures.count
@@ -59,7 +59,7 @@ returns-clause-most_meters c =
     let s = c.self.inside in
     let a1 = k.auto.lists in
     let most = ap (λ (l : Listed). l.most_meters) c.self.view_is in
-    rw (written_back s.lists.len k.new.lists s.lists.items (omega arith) (omega arith)) (omega (arith, a1, most))
+    rw (written_back s.lists.len k.new.lists s.lists.items (c.write_members.auto.lists ∙ ap length c.deref_mut.ensures.value) s.lists.ok.0) (omega (arith, a1, most))
 
 pub returns-clause-most_components : goal.returns-clause-most_components
 returns-clause-most_components c = ap (λ (l : Listed). l.most_components) c.self.view_is

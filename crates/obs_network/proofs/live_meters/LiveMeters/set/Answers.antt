@@ -1,4 +1,4 @@
-use Rattle.std.proofs.Common.{set, take, ap, ◌∙◌, arith}
+use Rattle.std.proofs.Common.{length, set, take, ap, ◌∙◌, arith}
 use Rattle.obs_graph.proofs.Stored.{written_back}
 use Rattle.obs_network.specs.Kept.{Listed}
 use Rattle.obs_network.proofs.live_meters.LiveMeters.set.Goals as goal
@@ -26,9 +26,9 @@ invariant_of-self c =
     let members_len = v.members_len in
     let starts_len = v.starts_len in
     rw (
-      written_back s.lists.len k.new.lists s.lists.items (omega arith) (omega arith),
-      written_back s.members.len k.new.members s.members.items (omega arith) (omega arith),
-      written_back s.starts.len k.new.starts s.starts.items (omega arith) (omega arith),
+      written_back s.lists.len k.new.lists s.lists.items (c.change_list.auto.lists ∙ ap length c.deref_mut.ensures.value) s.lists.ok.0,
+      written_back s.members.len k.new.members s.members.items (c.change_list.auto.members ∙ ap length c.deref_mut-2.ensures.value) s.members.ok.0,
+      written_back s.starts.len k.new.starts s.starts.items (c.change_list.auto.starts ∙ ap length c.deref_mut-3.ensures.value) s.starts.ok.0,
     )
     record {
       small = omega arith;
@@ -46,7 +46,7 @@ returns-clause-lists c =
     let s = c.self.inside in
     let a1 = k.auto.lists in
     let was = ap (take s.meters) c.deref_mut.ensures.value ∙ ap (λ (l : Listed). l.lists) c.self.view_is in
-    rw (written_back s.lists.len k.new.lists s.lists.items (omega arith) (omega arith))
+    rw (written_back s.lists.len k.new.lists s.lists.items (c.change_list.auto.lists ∙ ap length c.deref_mut.ensures.value) s.lists.ok.0)
     (k.ensures.lists ∙ (ap (λ xs. set xs c.args.m c.list_of-list.result) was ∙ ap (λ x. set c.args.self.now.lists c.args.m x) c.list_of-list.ensures.list))
 
 pub returns-clause-components : goal.returns-clause-components
@@ -58,7 +58,7 @@ returns-clause-most_meters c =
     let s = c.self.inside in
     let a1 = k.auto.lists in
     let most = ap (λ (l : Listed). l.most_meters) c.self.view_is in
-    rw (written_back s.lists.len k.new.lists s.lists.items (omega arith) (omega arith)) (omega (arith, a1, most))
+    rw (written_back s.lists.len k.new.lists s.lists.items (c.change_list.auto.lists ∙ ap length c.deref_mut.ensures.value) s.lists.ok.0) (omega (arith, a1, most))
 
 pub returns-clause-most_components : goal.returns-clause-most_components
 returns-clause-most_components c = ap (λ (l : Listed). l.most_components) c.self.view_is

@@ -1,4 +1,4 @@
-use Rattle.std.proofs.Common.{◌∙◌, ◌<◌, length, sym, ap, subst, take, arith}
+use Rattle.std.proofs.Common.{◌+◌, ◌∙◌, ◌<◌, length, sym, ap, subst, take, arith}
 use Rattle.obs_graph.specs.Graph.{Graph}
 use Rattle.obs_graph.proofs.Stored.{written_back}
 use Rattle.obs_meter.specs.Held.{Meters}
@@ -11,8 +11,9 @@ use Rattle.obs_network.proofs.FollowedCase.{IsFollowed, follows, listed_far}
 use Rattle.obs_network.proofs.Items.{meters-in_range, offered-in_range}
 use Rattle.obs_network.specs.Switched.{case_bus_count}
 use Rattle.obs_network.proofs.LoneChange.{branch_edited, live_is_branch, lone}
-use Rattle.obs_network.proofs.OfCase.{case_bus_count-le, case_component_count-le, length-case_first_buses, length-case_meters, more_vertices}
+use Rattle.obs_network.proofs.OfCase.{case_bus_count-le, case_component_count-le, few_branches, length-case_first_buses, length-case_meters, more_vertices}
 use Rattle.obs_network.proofs.Whole.{items_are, network_is, rows_are, shape_is}
+use Rattle.obs_network.proofs.RefreshedMeter.{length-lists_of}
 use Rattle.obs_network.proofs.network.Network.change_branch.Goals as goal
 use Rattle.obs_network.proofs.network.Network.change_branch.Goals.{After-follow_items}
 
@@ -95,7 +96,7 @@ invariant_of-self c =
     let most_offered = ap (λ (x : Meters). x.most) items.offered in
     let most_branches = ap (λ (g : Graph). g.most_branches) row.graph in
     let keeps = c.change_row.auto.kept in
-    rw (written_back s.kept.len c.change_row.new.kept s.kept.items (omega arith) (omega arith))
+    rw (written_back s.kept.len c.change_row.new.kept s.kept.items (c.change_row.auto.kept ∙ ap length c.deref_mut.ensures.value) s.kept.ok.0)
     record {
       buses_room = v.buses_room;
       vertices_room = ap (λ (g : Graph). g.most_vertices) row.graph ∙ v.vertices_room;
@@ -151,3 +152,21 @@ pub returns-clause-alone : goal.returns-clause-alone
 returns-clause-alone c =
     let alone = lone c.args.self.now c.args.at c.args.case.now c.branches.ensures.valid c.requires.branch c.requires.before c.requires.alone in
     subst (λ (x : Network). AreSameBut c.args.at c.args.self.now x) (sym (whole c)) alone.same
+
+pub overflow_cast-rows : goal.overflow_cast-rows
+overflow_cast-rows c = omega (arith, ap (λ l. length l) c.branches.ensures.rows, few_branches c.args.case.now c.branches.ensures.valid)
+
+pub change_row-requires-clause-kept : goal.change_row-requires-clause-kept
+change_row-requires-clause-kept c = ap (take (length c.self.inside.graph.ends)) c.deref_mut.ensures.value ∙ c.self.invariant.kept_ends
+
+pub follow_items-requires-clause-vertices : goal.follow_items-requires-clause-vertices
+follow_items-requires-clause-vertices c =
+    ap (λ (g : Graph). g.vertices) c.change_row.ensures.graph
+    ∙ (c.self.invariant.vertices ∙ ap (λ n. n + length c.self.inside.components.first_buses) (sym c.self.invariant.of_buses))
+
+pub follow_items-requires-clause-components : goal.follow_items-requires-clause-components
+follow_items-requires-clause-components c = c.self.invariant.listed_count
+
+pub follow_items-requires-clause-one_each : goal.follow_items-requires-clause-one_each
+follow_items-requires-clause-one_each c =
+    ap length c.self.invariant.lists ∙ length-lists_of c.self.inside.components c.self.inside.graph c.self.inside.meters

@@ -1,4 +1,4 @@
-use Rattle.std.proofs.Common.{◌∙◌, sym, ap, length, subst, arith, refl}
+use Rattle.std.proofs.Common.{◌+◌, ◌-◌, ◌*◌, ◌≤◌, ◌≡◌, ℕ, ◌∙◌, sym, ap, length, subst, arith, refl}
 use Rattle.obs_graph.specs.Graph.{Graph}
 use Rattle.obs_switch.specs.Held.{Buses}
 use Rattle.obs_network.specs.declared.rebuild.Known.{Known}
@@ -7,8 +7,31 @@ use Rattle.obs_network.specs.Network.{Network, Rows, case_needed, network_of}
 use Rattle.obs_network.proofs.Items.{meters-in_range, offered-in_range}
 use Rattle.obs_network.proofs.OfCase.{case_bus_count-le, case_component_count-le, case_vertex_count-le, few_nodes, length-case_components, length-case_first_buses, length-case_meters}
 use Rattle.obs_network.proofs.Whole.{labelled_is, grouped_is, shape_is, items_are, rows_are, network_is}
+use Rattle.std.proofs.lemmas.Bool.{false≢true}
 use Rattle.obs_network.proofs.network.Network.remake.Goals as goal
 use Rattle.obs_graph.proofs.Stored.{written_back}
+
+-- sums, bounds and differences of numbers that are equal
+sums : (a b m n : ℕ) → a ≡ b → m ≡ n → a + m ≡ b + n
+sums a b m n one other = omega (arith, one, other)
+
+as_few : (m n : ℕ) → m ≡ n → n ≤ m
+as_few m n same = omega (arith, same)
+
+low : (b n r : ℕ) → b ≤ n → r ≡ n → b ≤ r
+low b n r few same = omega (arith, few, same)
+
+low_twice : (b n r m : ℕ) → b ≤ n → r ≡ n → m ≡ 2 * r → b ≤ m
+low_twice b n r m few same twice = omega (arith, few, same, twice)
+
+still_fewer : (a b m n : ℕ) → m ≡ a → n ≡ b → a ≤ b → m ≤ n
+still_fewer a b m n one other few = omega (arith, one, other, few)
+
+still_left : (a b m n k : ℕ) → m ≡ a → n ≡ b → b - a ≡ k → n - m ≡ k
+still_left a b m n k one other left = omega (arith, one, other, left)
+
+all_items : (a b m n : ℕ) → b ≤ a → b ≡ m → a - b ≡ n → a ≡ m + n
+all_items a b m n few one left = omega (arith, few, one, left)
 
 pub relabel_unless-requires-clause-kept : goal.relabel_unless-requires-clause-kept
 relabel_unless-requires-clause-kept c = λ known.
@@ -19,21 +42,18 @@ pub find_components-requires-clause-vertices : goal.find_components-requires-cla
 find_components-requires-clause-vertices c =
     let rows = ap (λ (n : Network). n.rows) c.self.view_is ∙ c.requires.rows in
     let nodes = ap (λ (r : Rows). r.nodes) rows in
-    let room = c.self.invariant.vertices_room in
-    omega (arith, nodes, room, case_bus_count-le c.args.case.now)
+    low_twice _ _ _ _ (case_bus_count-le c.args.case.now) nodes c.self.invariant.vertices_room
 
 pub find_components-requires-clause-room : goal.find_components-requires-clause-room
 find_components-requires-clause-room c =
     let rows = ap (λ (n : Network). n.rows) c.self.view_is ∙ c.requires.rows in
-    let nodes = ap (λ (r : Rows). r.nodes) rows in
-    omega (arith, nodes, case_bus_count-le c.args.case.now)
+    low _ _ _ (case_bus_count-le c.args.case.now) (ap (λ (r : Rows). r.nodes) rows)
 
 pub find_components-requires-clause-search_room : goal.find_components-requires-clause-search_room
 find_components-requires-clause-search_room c =
     let rows = ap (λ (n : Network). n.rows) c.self.view_is ∙ c.requires.rows in
     let nodes = ap (λ (r : Rows). r.nodes) rows in
-    let room = c.self.invariant.search_room in
-    omega (arith, nodes, room, case_bus_count-le c.args.case.now)
+    low _ _ _ (case_bus_count-le c.args.case.now) (c.self.invariant.search_room ∙ nodes)
 
 pub refill_graph-requires-clause-few : goal.refill_graph-requires-clause-few
 refill_graph-requires-clause-few c =
@@ -141,9 +161,9 @@ invariant_of-self-2 c =
     let kept = c.refill_graph.ensures in
     let items = c.refill_items.ensures in
     let links = c.relabel_unless.auto.links in
-    let live = c.find_live.auto.live in
-    let keeps = c.refill_graph.auto.kept in
-    let touches = c.refill_items.auto.touches in
+    let live = c.find_live.auto.live ∙ ap length c.deref_mut-2.ensures.value in
+    let keeps = c.refill_graph.auto.kept ∙ ap length c.deref_mut-3.ensures.value in
+    let touches = c.refill_items.auto.touches ∙ ap length c.deref_mut-4.ensures.value in
     let listed = c.refill.ensures in
     rw (
       written_back s.links.len c.relabel_unless.new.links s.links.items (c.relabel_unless.auto.links ∙ ap length c.deref_mut.ensures.value) s.links.ok.0,
@@ -152,21 +172,21 @@ invariant_of-self-2 c =
       written_back s.touches.len c.refill_items.new.touches s.touches.items (c.refill_items.auto.touches ∙ ap length c.deref_mut-4.ensures.value) s.touches.ok.0,
     )
     record {
-      buses_room = omega (arith, v.buses_room, c.relabel_unless.ensures.room, found.room);
-      vertices_room = omega (arith, v.vertices_room, most_vertices, found.room, kept.most_vertices);
-      branches_room = omega (arith, v.branches_room, most_branches, kept.most_branches, live, items.most_offered);
-      kept_len = omega (arith, v.kept_len, live, keeps, items.most_offered);
+      buses_room = c.relabel_unless.ensures.room ∙ (v.buses_room ∙ sym found.room);
+      vertices_room = kept.most_vertices ∙ (most_vertices ∙ (v.vertices_room ∙ ap (λ n. 2 * n) (sym found.room)));
+      branches_room = kept.most_branches ∙ (most_branches ∙ (v.branches_room ∙ sums _ _ _ _ (sym live) (sym items.most_offered)));
+      kept_len = keeps ∙ (v.kept_len ∙ sums _ _ _ _ (sym live) (sym items.most_offered));
       kept_ends = kept.kept_ends;
-      touches_len = omega (arith, v.touches_len, touches, items.most_offered);
-      fewer = omega (arith, v.fewer, items.most_meters, items.most_offered);
-      search_room = omega (arith, v.search_room, found.search_room, found.room);
-      sides_room = omega (arith, v.sides_room, found.room);
-      vertices = omega (arith, kept.vertices, c.relabel_unless.ensures.count, ap (λ l. length l) found.first_buses, length-case_first_buses t);
+      touches_len = touches ∙ (v.touches_len ∙ sym items.most_offered);
+      fewer = still_fewer _ _ _ _ items.most_meters items.most_offered v.fewer;
+      search_room = found.search_room ∙ (v.search_room ∙ sym found.room);
+      sides_room = v.sides_room ∙ ap (λ n. 2 * n) (sym found.room);
+      vertices = kept.vertices ∙ sums _ _ _ _ (sym c.relabel_unless.ensures.count) (sym (ap length found.first_buses ∙ length-case_first_buses t));
       of_buses = ap length found.of_buses ∙ (length-case_components t ∙ sym c.relabel_unless.ensures.count);
       meters_in_range = rw items.meters (meters-in_range t valid c.refill_graph.new.graph kept.vertices kept.ends);
       offered_in_range = rw items.offered (offered-in_range t valid c.refill_graph.new.graph kept.vertices kept.ends);
-      listed_meters = omega (arith, v.listed_meters, listed.most_meters, items.most_meters);
-      listed_components = omega (arith, v.listed_components, listed.most_components, found.room);
+      listed_meters = listed.most_meters ∙ (v.listed_meters ∙ sym items.most_meters);
+      listed_components = listed.most_components ∙ (v.listed_components ∙ sym found.room);
       listed_count = listed.components;
       lists = listed.lists;
     }
@@ -188,19 +208,20 @@ returns-clause-whole c =
     let meters = ap (λ (r : Rows). r.meters) rows in
     let candidates = ap (λ (r : Rows). r.candidates) rows in
     let switches = ap (λ (r : Rows). r.switches) rows in
-    let links = c.relabel_unless.auto.links in
-    let live = c.find_live.auto.live in
+    let links = c.relabel_unless.auto.links ∙ ap length c.deref_mut.ensures.value in
+    let live = c.find_live.auto.live ∙ ap length c.deref_mut-2.ensures.value in
+    let offered = all_items _ _ _ _ v.fewer meters candidates in
     let wrote_links = ap length (written_back s.links.len c.relabel_unless.new.links s.links.items (c.relabel_unless.auto.links ∙ ap length c.deref_mut.ensures.value) s.links.ok.0) in
     let wrote_live = ap length (written_back s.live.len c.find_live.new.live s.live.items (c.find_live.auto.live ∙ ap length c.deref_mut-2.ensures.value) s.live.ok.0) in
     let count = length-case_first_buses t in
     network_is _ _
-    (rows_are _ _ (found.room ∙ nodes) (omega (arith, wrote_links, links, switches)) (omega (arith, wrote_live, live, branches)) (items.most_meters ∙ meters)
-    (omega (arith, items.most_meters, items.most_offered, candidates)))
+    (rows_are _ _ (found.room ∙ nodes) (wrote_links ∙ (links ∙ switches)) (wrote_live ∙ (live ∙ branches)) (items.most_meters ∙ meters)
+    (still_left _ _ _ _ _ items.most_meters items.most_offered candidates))
     (labelled_is _ _ c.relabel_unless.ensures.buses c.relabel_unless.ensures.count (c.relabel_unless.ensures.room ∙ (v.buses_room ∙ nodes)))
     (grouped_is _ _ found.of_buses found.first_buses found.sizes found.energised found.absolute (found.room ∙ nodes))
-    (shape_is _ _ kept.vertices kept.ends (omega (arith, kept.most_vertices, most_vertices, v.vertices_room, nodes)) (omega (arith, kept.most_branches, most_branches, v.branches_room, branches, v.fewer, meters, candidates)))
+    (shape_is _ _ kept.vertices kept.ends (kept.most_vertices ∙ (most_vertices ∙ (v.vertices_room ∙ ap (λ n. 2 * n) nodes))) (kept.most_branches ∙ (most_branches ∙ (v.branches_room ∙ sums _ _ _ _ branches offered))))
     (items_are _ _ items.meters (items.most_meters ∙ meters))
-    (items_are _ _ items.offered (items.most_offered ∙ omega (arith, v.fewer, meters, candidates)))
+    (items_are _ _ items.offered (items.most_offered ∙ offered))
     (c.needed-self-inside.ensures.needed ∙ rw (found.sizes, found.energised, found.absolute, found.first_buses, count) refl)
 
 pub relabel_unless-requires-clause-links : goal.relabel_unless-requires-clause-links
@@ -250,3 +271,65 @@ pub refill_items-requires-clause-offered : goal.refill_items-requires-clause-off
 refill_items-requires-clause-offered c =
     let rows = ap (λ (n : Network). n.rows) c.self.view_is ∙ c.requires.rows in
     omega (arith, c.self.invariant.fewer, ap (λ (r : Rows). r.meters) rows, ap (λ (r : Rows). r.candidates) rows)
+
+pub refill_items-requires-clause-meters : goal.refill_items-requires-clause-meters
+refill_items-requires-clause-meters c = as_few _ _ (ap (λ (n : Network). n.rows.meters) c.self.view_is ∙ ap (λ (r : Rows). r.meters) c.requires.rows)
+
+pub returns-clause-same : goal.returns-clause-same
+returns-clause-same c = λ same. absurd (false≢true same)
+
+pub relabel_unless-requires-clause-room : goal.relabel_unless-requires-clause-room
+relabel_unless-requires-clause-room c =
+    as_few _ _ (c.self.invariant.buses_room ∙ (ap (λ (n : Network). n.rows.nodes) c.self.view_is ∙ ap (λ (r : Rows). r.nodes) c.requires.rows))
+
+pub find_live-requires-clause-buses : goal.find_live-requires-clause-buses
+find_live-requires-clause-buses c = c.relabel_unless.ensures.buses
+
+pub find_components-requires-clause-buses : goal.find_components-requires-clause-buses
+find_components-requires-clause-buses c = c.relabel_unless.ensures.buses
+
+pub find_components-requires-clause-count : goal.find_components-requires-clause-count
+find_components-requires-clause-count c = c.relabel_unless.ensures.count
+
+pub refill_graph-requires-clause-buses : goal.refill_graph-requires-clause-buses
+refill_graph-requires-clause-buses c = c.relabel_unless.ensures.buses
+
+pub refill_graph-requires-clause-count : goal.refill_graph-requires-clause-count
+refill_graph-requires-clause-count c = c.relabel_unless.ensures.count
+
+pub refill_graph-requires-clause-of_buses : goal.refill_graph-requires-clause-of_buses
+refill_graph-requires-clause-of_buses c = c.find_components.ensures.of_buses
+
+pub refill_graph-requires-clause-first_buses : goal.refill_graph-requires-clause-first_buses
+refill_graph-requires-clause-first_buses c = c.find_components.ensures.first_buses
+
+pub refill_graph-requires-clause-energised : goal.refill_graph-requires-clause-energised
+refill_graph-requires-clause-energised c = c.find_components.ensures.energised
+
+pub refill_graph-requires-clause-absolute : goal.refill_graph-requires-clause-absolute
+refill_graph-requires-clause-absolute c = c.find_components.ensures.absolute
+
+pub refill_graph-requires-clause-bus_vertices : goal.refill_graph-requires-clause-bus_vertices
+refill_graph-requires-clause-bus_vertices c = ap (λ (g : Graph). g.vertices) c.find_components.ensures.graph
+
+pub refill_graph-requires-clause-kept : goal.refill_graph-requires-clause-kept
+refill_graph-requires-clause-kept c =
+    let s = c.self.inside in
+    let v = c.self.invariant in
+    let rows = ap (λ (n : Network). n.rows) c.self.view_is ∙ c.requires.rows in
+    let live = c.find_live.auto.live ∙ ap length c.deref_mut-2.ensures.value in
+    let whole = ap length (c.deref-2.ensures.value ∙ written_back s.live.len c.find_live.new.live s.live.items live s.live.ok.0) in
+    let offered = all_items _ _ _ _ v.fewer (ap (λ (r : Rows). r.meters) rows) (ap (λ (r : Rows). r.candidates) rows) in
+    ap length c.deref_mut-3.ensures.value ∙ (v.kept_len ∙ sums _ _ _ _ (sym (whole ∙ live)) offered)
+
+pub refill_items-requires-clause-buses : goal.refill_items-requires-clause-buses
+refill_items-requires-clause-buses c = c.relabel_unless.ensures.buses
+
+pub refill_items-requires-clause-count : goal.refill_items-requires-clause-count
+refill_items-requires-clause-count c = c.relabel_unless.ensures.count
+
+pub refill_items-requires-clause-vertices : goal.refill_items-requires-clause-vertices
+refill_items-requires-clause-vertices c = c.refill_graph.ensures.vertices
+
+pub refill_items-requires-clause-ends : goal.refill_items-requires-clause-ends
+refill_items-requires-clause-ends c = c.refill_graph.ensures.ends
