@@ -117,21 +117,6 @@ pub outages_short : (t : Tables) → are_met (outages_of t) ≡ false → Short 
 unfolding outages_status
 outages_short t e = rw e refl
 
--- the status of a reply that was printed
-abbrev IsPrinted : Status → Type 0
-IsPrinted s = (s ≡ ReadFault → ⊥) × (s ≡ WriteFault → ⊥)
-
-is_printed : (s : Status) → IsVerdict s → IsPrinted s
-is_printed s (inl d) = ((λ e. absurd (cc (d, e))), (λ e. absurd (cc (d, e))))
-is_printed s (inr d) = ((λ e. absurd (cc (d, e))), (λ e. absurd (cc (d, e))))
-
--- a study was printed whole
-pub study_printed : {T E : Type 0} {x : T} {a b : Option (List ℕ)} {f k : ℕ} {p q : ℕ → Type 0} (s : Status) (reply : Reply) → s ≡ reply.status → IsVerdict reply.status
-    → AppendsAt {E = E} a b f k p q (Ok x) reply.text → RepliedAt a b f k p s reply
-study_printed {a = a} {b = b} {f = f} {k = k} {p = p} s reply e v call =
-    let i = is_printed reply.status v in
-    subst (λ (z : Status). RepliedAt a b f k p z reply) (sym e) (replied_whole reply i.0 i.1 call)
-
 pub stations_met : (t : Tables) (n : ℕ) (s : Status) → n ≡ case_needed t → are_borne n (losses_of t) ≡ true → s ≡ report_status t → s ≡ stations_status t
 unfolding stations_status
 stations_met t n s is e same = let here : are_borne (case_needed t) (losses_of t) ≡ true = ap (λ (k : ℕ). are_borne k (losses_of t)) (sym is) ∙ e in rw here same
