@@ -82,6 +82,13 @@ module _ (trees bounds : Bool) (t : Tables) (v : IsValid t) (c : ℕ) (low : c <
   unfolding component_claim
   claim_short short = let e = ne_eqb (component_rank t c) (case_need t c) (λ same. short (observable-from t v c same)) in rw (energised, e) refl
 
+  -- where its kind is asked for, or isn't
+  pub tree_claimed : IsObservable t c → (b : Bool) → trees ≡ b → text_if b (tree_claim t c) ≡ component_claim trees bounds t c
+  tree_claimed o b e = sym (claim_observable o ∙ ap (λ (x : Bool). text_if x (tree_claim t c)) e)
+
+  pub bound_claimed : (r : Bool) → (IsObservable t c → r ≡ true) → r ≡ false → (b : Bool) → bounds ≡ b → text_if b (bound_claim t c) ≡ component_claim trees bounds t c
+  bound_claimed r is not b e = sym (claim_short (λ o. absurd (cc (is o, not))) ∙ ap (λ (x : Bool). text_if x (bound_claim t c)) e)
+
 -- the texts of the numbers below n, one after the other
 abbrev pub texts_below : (ℕ → List ℕ) → ℕ → List ℕ
 texts_below text n = flat_map text (range_with_len 0 n)

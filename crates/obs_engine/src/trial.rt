@@ -167,5 +167,8 @@ pub(crate) fn answer_trial<W: Sink, L: Ledger>(
 {
     let turns = turn_meters(session, steps);
     let status = verdict(session);
-    printed_status(print_turns(output, session, rows, seed, islands, turns), status)
+    printed_status(
+        print_turns(output, session, rows, seed, islands, turns),
+        status,
+    )
 }
