@@ -29,17 +29,14 @@ use Rattle.obs_pairs.specs.PairWork.{PairWork, has_another}
 use Rattle.obs_pairs.specs.Partners.{class_at, classes_of}
 use Rattle.obs_station.specs.declared.losses.Loss.{Loss}
 use Rattle.obs_station.specs.Stations.{all_links, case_station_count, has_live, loss_of, loss_stations, losses_of, station_node}
-use Rattle.obs_report.specs.Printed.{AppendsAt, PrintsAt}
+use Rattle.obs_report.specs.Printed.{PrintsAt}
 use Rattle.obs_report.proofs.Printing.{nothing_printed}
 use Rattle.obs_files.specs.declared.status.Status.{Status}
-use Rattle.obs_files.specs.declared.status.Status.TheVariants.{Short, ReadFault, WriteFault}
+use Rattle.obs_files.specs.declared.status.Status.TheVariants.{Short}
 use Rattle.obs_engine.specs.Asks.{report_status}
 use Rattle.obs_engine.specs.OutageReply.{are_met, outages_status}
 use Rattle.obs_engine.specs.PairReply.{case_classes, class_line, class_lines}
 use Rattle.obs_engine.specs.StationReply.{are_borne, stations_status}
-use Rattle.obs_engine.specs.Replies.{RepliedAt, Reply}
-use Rattle.obs_engine.proofs.Endings.{replied_whole}
-use Rattle.obs_engine.proofs.Replied.{IsVerdict}
 
 -- a longest assignment has as many pairs as the rank says
 pub kept_rank : (t : Tables) (a : Assignment) → IsValid t → AreLongest t a → length (pairs a) ≡ case_rank t
