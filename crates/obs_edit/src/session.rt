@@ -1,5 +1,6 @@
 //! A session.
 ghost use Rattle.std.specs.Prelude.{◌≡◌, ◌+◌, ◌<◌, ◌↔◌, true, Err, IfErr, IfOk, OnErr, IsTrue, length};
+ghost use Rattle.obs_case.specs.Tables.{IsValid};
 ghost use Rattle.obs_assign.specs.Assignment.{pairs};
 ghost use Rattle.obs_network.specs.Network.{case_component_count, case_needed, network_of};
 ghost use Rattle.obs_network.specs.Observable.{IsObservable, IsRankOf, case_rank, is_energised_component};
@@ -136,6 +137,7 @@ impl Session {
     /// The present case.
     pub fn present(&self) -> &Case
         ensures case { result.now ≡ self.now.tables }
+        ensures valid { IsValid self.now.tables }
     {
         &self.case
     }
@@ -143,6 +145,7 @@ impl Session {
     /// The network of the present case.
     pub fn network(&self) -> &Network
         ensures network { result.now ≡ network_of self.now.tables }
+        ensures valid { IsValid self.now.tables }
     {
         &self.network
     }

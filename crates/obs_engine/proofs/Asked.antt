@@ -1,9 +1,9 @@
 -- The texts of asks, piece by piece.
-use Rattle.std.proofs.Common.{◌≡◌, ℕ, zero, suc, ◌+◌, ◌-◌, ◌<◌, ◌≤◌, Bool, true, false, List, [], ◌++◌, length, refl, sym, ap, ◌∙◌, subst, arith, append_assoc, drop, get_or, take, Option, Ok, Result}
+use Rattle.std.proofs.Common.{◌≡◌, ℕ, zero, suc, ◌+◌, ◌-◌, ◌<◌, ◌≤◌, Bool, true, false, List, [], ◌∷◌, ◌++◌, length, refl, sym, ap, ◌∙◌, subst, arith, add-one, append_assoc, drop, get_or, take, Option, Ok, Result}
 use Rattle.std.specs.Prelude.{flat_map, slice_index}
 use Rattle.std.specs.List.{range_with_len}
 use Rattle.std.proofs.lemmas.Bool.{eq-eqb, ne_eqb}
-use Rattle.std.proofs.Math.Seq.{drop-cons}
+use Rattle.std.proofs.Math.Seq.{drop-cons, take-suc}
 use Rattle.std.proofs.lemmas.Grind.{flat_map-append}
 use Rattle.std.proofs.lemmas.List.{append-nil, length-map, take-append-drop}
 use Rattle.std.proofs.lemmas.List.FromFn.{get_or-map-range_with_len, length-range_with_len}
@@ -82,6 +82,13 @@ module _ (trees bounds : Bool) (t : Tables) (v : IsValid t) (c : ℕ) (low : c <
   unfolding component_claim
   claim_short short = let e = ne_eqb (component_rank t c) (case_need t c) (λ same. short (observable-from t v c same)) in rw (energised, e) refl
 
+  -- where its kind is asked for, or isn't
+  pub tree_claimed : IsObservable t c → (b : Bool) → trees ≡ b → text_if b (tree_claim t c) ≡ component_claim trees bounds t c
+  tree_claimed o b e = sym (claim_observable o ∙ ap (λ (x : Bool). text_if x (tree_claim t c)) e)
+
+  pub bound_claimed : (r : Bool) → (IsObservable t c → r ≡ true) → r ≡ false → (b : Bool) → bounds ≡ b → text_if b (bound_claim t c) ≡ component_claim trees bounds t c
+  bound_claimed r is not b e = sym (claim_short (λ o. absurd (cc (is o, not))) ∙ ap (λ (x : Bool). text_if x (bound_claim t c)) e)
+
 -- the texts of the numbers below n, one after the other
 abbrev pub texts_below : (ℕ → List ℕ) → ℕ → List ℕ
 texts_below text n = flat_map text (range_with_len 0 n)
@@ -137,6 +144,14 @@ claimed_are t = (refl, refl, refl)
 abbrev pub ArePrinted : Tables → Option (List ℕ) → Option (List ℕ) → ℕ → ℕ → (ℕ → Type 0) → (ℕ → Type 0) → List Block → Type 0
 ArePrinted t before now faults_before faults_now room_before room_now blocks =
     AppendsAt {T = Unit {0}} {E = Failed} before now faults_before faults_now room_before room_now (Ok tt) (blocks_text blocks t)
+
+-- one more
+pub blocks_more : (t : Tables) (blocks : List Block) (k : ℕ) (d : Block) → k < length blocks → blocks_text (take k blocks) t ++ block_text (get_or blocks k d) t ≡ blocks_text (take (k + 1) blocks) t
+blocks_more t blocks k d low =
+    let more : take (k + 1) blocks ≡ take k blocks ++ (get_or blocks k d ∷ []) = rw add-one (take-suc blocks k d low) in
+    ap (λ (text : List ℕ). blocks_text (take k blocks) t ++ text) (sym (append-nil (block_text (get_or blocks k d) t)))
+    ∙ (sym (flat_map-append (λ (block : Block). block_text block t) (take k blocks) (get_or blocks k d ∷ []))
+    ∙ ap (λ (all : List Block). blocks_text all t) (sym more))
 
 -- all of them, of which one is in the middle
 pub blocks_around : (t : Tables) (blocks : List Block) (k : ℕ) (d : Block) → k < length blocks

@@ -1,5 +1,5 @@
 -- How runs end.
-use Rattle.std.proofs.Common.{ℕ, ◌≡◌, ◌∙◌, ◌⊎◌, inl, inr, sym, refl, subst, List, [], Option, None, Ok, Err, IsOk}
+use Rattle.std.proofs.Common.{ℕ, ◌≡◌, ◌∙◌, ◌⊎◌, inl, inr, sym, refl, subst, List, [], Option, None, Result, Ok, Err, IsOk}
 use Rattle.obs_io.specs.Bytes.{Wrote}
 use Rattle.obs_report.specs.Printed.{AppendsAt}
 use Rattle.obs_report.proofs.Printing.{and_then_none}
@@ -7,7 +7,7 @@ use Rattle.obs_files.specs.declared.status.Status.{Status}
 use Rattle.obs_files.specs.declared.status.Status.TheVariants.{Done, Short, Usage, InputFault, ReadFault, WriteFault, NoMemory, SessionTooLong}
 use Rattle.obs_files.specs.declared.words.Form.{Form}
 use Rattle.obs_engine.specs.Ending.{Answers, AnswersPart, Ends, HasRoom, answered_before}
-use Rattle.obs_engine.specs.Replies.{EndsBehind, EndsWith, RepliedAt, Reply, usage_reply}
+use Rattle.obs_engine.specs.Replies.{EndsBehind, EndsWith, RepliedAt, Reply, printed_status, usage_reply}
 use Rattle.obs_engine.specs.Stated.{Told, IsStated}
 
 -- a reply that was written whole
@@ -28,6 +28,23 @@ replied_failed {T = T} {E = E} {e = e} reply call = record {
   where
     clash : IsOk {T = T} {E = E} (Err e) → ⊥
     clash ok = absurd cc
+
+-- a reply, by whether all of it was printed
+pub replied_so : {T E : Type 0} {a b : Option (List ℕ)} {f k : ℕ} {p q : ℕ → Type 0} (reply : Reply) (r : Result T E) (own status : Status) → status ≡ printed_status r own → own ≡ reply.status
+    → (reply.status ≡ ReadFault → ⊥) → (reply.status ≡ WriteFault → ⊥) → AppendsAt a b f k p q r reply.text → RepliedAt a b f k p status reply
+replied_so {a = a} {b = b} {f = f} {k = k} {p = p} reply (Ok x) own status e same not_read not_write call =
+    subst (λ (s : Status). RepliedAt a b f k p s reply) (sym (e ∙ same)) (replied_whole reply not_read not_write call)
+replied_so {a = a} {b = b} {f = f} {k = k} {p = p} reply (Err x) own status e same not_read not_write call =
+    subst (λ (s : Status). RepliedAt a b f k p s reply) (sym e) (replied_failed reply call)
+
+-- the same reply under another name
+pub replied_as : {a b : Option (List ℕ)} {f k : ℕ} {p : ℕ → Type 0} {status : Status} {one two : Reply} → one ≡ two → RepliedAt a b f k p status one → RepliedAt a b f k p status two
+replied_as {a = a} {b = b} {f = f} {k = k} {p = p} {status = status} e h = subst (λ (r : Reply). RepliedAt a b f k p status r) e h
+
+-- it is its own, or says that a write failed
+pub printed_either : {T E : Type 0} (r : Result T E) (own status : Status) → status ≡ printed_status r own → (status ≡ own) ⊎ (status ≡ WriteFault)
+printed_either (Ok x) own status e = inl e
+printed_either (Err x) own status e = inr e
 
 -- no memory, and nothing was written
 pub replied_memory : {a : Option (List ℕ)} {f : ℕ} {p : ℕ → Type 0} (reply : Reply) → RepliedAt a a f f p NoMemory reply

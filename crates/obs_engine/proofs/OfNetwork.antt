@@ -1,5 +1,5 @@
 -- What is read off the network of a case.
-use Rattle.std.proofs.Common.{◌≡◌, ◌≢◌, ℕ, ◌<◌, false, not, All, length, refl, ap, arith}
+use Rattle.std.proofs.Common.{◌≡◌, ◌≢◌, ◌∙◌, ℕ, ◌<◌, Bool, false, not, All, length, refl, sym, ap, arith}
 use Rattle.std.specs.Prelude.{slice_index_or}
 use Rattle.std.proofs.lemmas.Bool.{eq-eqb, ne_eqb}
 use Rattle.obs_case.specs.Tables.{Tables}
@@ -16,8 +16,9 @@ use Rattle.obs_repair.specs.Bounds.{bound_meters, case_critical_meters, componen
 use Rattle.obs_engine.specs.Asks.{report_status}
 use Rattle.obs_network.proofs.OfCase.{length-case_meters}
 
-pub energised_in : (n : Network) (t : Tables) (c : ℕ) → n ≡ network_of t → slice_index_or n.components.energised c false ≡ is_energised_component t c
-energised_in n t c same = ap (λ (x : Network). slice_index_or x.components.energised c false) same
+-- what a network of a case says of a component
+pub energised_so : (n : Network) (t : Tables) (c : ℕ) (r b : Bool) → n ≡ network_of t → r ≡ slice_index_or n.components.energised c false → r ≡ b → is_energised_component t c ≡ b
+energised_so n t c r b same is said = ap (λ (x : Network). slice_index_or x.components.energised c false) (sym same) ∙ (sym is ∙ said)
 
 -- the verdict
 pub verdict_done : (t : Tables) → case_rank t ≡ case_needed t → Done ≡ report_status t

@@ -15,6 +15,7 @@ use Rattle.obs_placement.specs.Placed.{Placed}
 use Rattle.obs_placement.specs.Placed.Placed.{cheapest, shortfall}
 use Rattle.obs_script.specs.declared.command.Ask.{Ask}
 use Rattle.obs_script.specs.declared.command.Ask.TheVariants.{Status as StatusAsk, Tree, Bound, Islands, Critical, Report as ReportAsk, Place as PlaceAsk, Cert}
+use Rattle.obs_report.specs.Printed.{AppendsAt}
 use Rattle.obs_text.specs.Faults.{Fault}
 use Rattle.obs_text.specs.Lines.{lines_of}
 use Rattle.obs_network.specs.Observable.{case_rank}
@@ -34,14 +35,14 @@ use Rattle.obs_engine.specs.Forms.{CanEnd, TakesInput}
 use Rattle.obs_engine.specs.Lines.{lines_case}
 use Rattle.obs_engine.specs.Sessions.{most_input_bytes, session_reply}
 use Rattle.obs_engine.specs.Stated.{Told}
-use Rattle.obs_engine.specs.Replies.{IsRefused, IsReplyTo, Reply, fault_reply}
+use Rattle.obs_engine.specs.Replies.{IsRefused, IsReplyTo, RepliedAt, Reply, fault_reply, printed_status}
 use Rattle.obs_engine.specs.OutageReply.{are_met, outages_status}
 use Rattle.obs_engine.specs.StationReply.{are_borne, stations_status}
 use Rattle.obs_engine.specs.Studies.{study_reply}
 use Rattle.obs_engine.specs.Topology.{topology_reply}
 use Rattle.obs_engine.specs.Trials.{dips_of, trial_reply}
 use Rattle.obs_engine.specs.Verify.{checked_reply, claims_reply, verify_reply}
-use Rattle.obs_engine.proofs.Endings.{IsFailure}
+use Rattle.obs_engine.proofs.Endings.{IsFailure, replied_so}
 use Rattle.obs_engine.proofs.Turned.{dips_few}
 
 -- a status that the reply of a session can have
@@ -139,6 +140,12 @@ verdict_no_failure status (inl s) (inr (inr e)) = absurd cc
 verdict_no_failure status (inr s) (inl e) = absurd cc
 verdict_no_failure status (inr s) (inr (inl e)) = absurd cc
 verdict_no_failure status (inr s) (inr (inr e)) = absurd cc
+
+-- a reply with a verdict, by whether all of it was printed
+pub replied_verdict : {T E : Type 0} {a b : Option (List ℕ)} {f k : ℕ} {p q : ℕ → Type 0} (reply : Reply) (r : Result T E) (own status : Status) → status ≡ printed_status r own → own ≡ reply.status
+    → IsVerdict reply.status → AppendsAt a b f k p q r reply.text → RepliedAt a b f k p status reply
+replied_verdict reply r own status e same v call =
+    replied_so reply r own status e same (λ s. verdict_no_failure reply.status v (inl s)) (λ s. verdict_no_failure reply.status v (inr (inl s))) call
 
 reply_no_failure : (status : Status) → CanReply status → IsFailure status → ⊥
 reply_no_failure status (inl s) f = verdict_no_failure status (inl s) f

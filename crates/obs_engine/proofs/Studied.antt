@@ -29,17 +29,14 @@ use Rattle.obs_pairs.specs.PairWork.{PairWork, has_another}
 use Rattle.obs_pairs.specs.Partners.{class_at, classes_of}
 use Rattle.obs_station.specs.declared.losses.Loss.{Loss}
 use Rattle.obs_station.specs.Stations.{all_links, case_station_count, has_live, loss_of, loss_stations, losses_of, station_node}
-use Rattle.obs_report.specs.Printed.{AppendsAt, PrintsAt}
+use Rattle.obs_report.specs.Printed.{PrintsAt}
 use Rattle.obs_report.proofs.Printing.{nothing_printed}
 use Rattle.obs_files.specs.declared.status.Status.{Status}
-use Rattle.obs_files.specs.declared.status.Status.TheVariants.{Short, ReadFault, WriteFault}
+use Rattle.obs_files.specs.declared.status.Status.TheVariants.{Short}
 use Rattle.obs_engine.specs.Asks.{report_status}
 use Rattle.obs_engine.specs.OutageReply.{are_met, outages_status}
 use Rattle.obs_engine.specs.PairReply.{case_classes, class_line, class_lines}
 use Rattle.obs_engine.specs.StationReply.{are_borne, stations_status}
-use Rattle.obs_engine.specs.Replies.{RepliedAt, Reply}
-use Rattle.obs_engine.proofs.Endings.{replied_whole}
-use Rattle.obs_engine.proofs.Replied.{IsVerdict}
 
 -- a longest assignment has as many pairs as the rank says
 pub kept_rank : (t : Tables) (a : Assignment) → IsValid t → AreLongest t a → length (pairs a) ≡ case_rank t
@@ -116,21 +113,6 @@ outages_met t s e is = rw e is
 pub outages_short : (t : Tables) → are_met (outages_of t) ≡ false → Short ≡ outages_status t
 unfolding outages_status
 outages_short t e = rw e refl
-
--- the status of a reply that was printed
-abbrev IsPrinted : Status → Type 0
-IsPrinted s = (s ≡ ReadFault → ⊥) × (s ≡ WriteFault → ⊥)
-
-is_printed : (s : Status) → IsVerdict s → IsPrinted s
-is_printed s (inl d) = ((λ e. absurd (cc (d, e))), (λ e. absurd (cc (d, e))))
-is_printed s (inr d) = ((λ e. absurd (cc (d, e))), (λ e. absurd (cc (d, e))))
-
--- a study was printed whole
-pub study_printed : {T E : Type 0} {x : T} {a b : Option (List ℕ)} {f k : ℕ} {p q : ℕ → Type 0} (s : Status) (reply : Reply) → s ≡ reply.status → IsVerdict reply.status
-    → AppendsAt {E = E} a b f k p q (Ok x) reply.text → RepliedAt a b f k p s reply
-study_printed {a = a} {b = b} {f = f} {k = k} {p = p} s reply e v call =
-    let i = is_printed reply.status v in
-    subst (λ (z : Status). RepliedAt a b f k p z reply) (sym e) (replied_whole reply i.0 i.1 call)
 
 pub stations_met : (t : Tables) (n : ℕ) (s : Status) → n ≡ case_needed t → are_borne n (losses_of t) ≡ true → s ≡ report_status t → s ≡ stations_status t
 unfolding stations_status

@@ -9,6 +9,11 @@ use Rattle.obs_files.specs.Words.{usage_text}
 use Rattle.obs_files.specs.declared.status.Status.{Status}
 use Rattle.obs_files.specs.declared.status.Status.TheVariants.{Usage, InputFault, ReadFault, WriteFault, NoMemory}
 
+-- the status of an answer, by whether all of it was printed
+abbrev pub printed_status : {T E : Type 0} → Result T E → Status → Status
+printed_status (Ok x) status = status
+printed_status (Err e) status = WriteFault
+
 -- a status and the whole text that goes with it
 pub record Reply : Type 0 where
   pub status : Status

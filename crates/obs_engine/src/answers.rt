@@ -5,10 +5,11 @@ ghost use Rattle.obs_engine.specs.Asks.{ask_reply, ask_status, report_status};
 ghost use Rattle.obs_engine.specs.Replies.{IsReplied};
 
 use crate::asks::print_ask;
+use crate::judged::printed_status;
 use obs_assign::Steps;
 use obs_edit::Session;
 use obs_files::Status;
-use obs_io::{Failed, Sink};
+use obs_io::Sink;
 use obs_placement::Placement;
 use obs_script::Ask;
 use std::sync::ledger::Ledger;
@@ -64,8 +65,5 @@ pub(crate) fn answer_session<W: Sink, L: Ledger>(
         (ask_reply ask session.old.tables) }
 {
     let status = status_of(session, ask, steps);
-    match print_ask(output, session, ask, steps) {
-        Ok(()) => status,
-        Err(Failed) => Status::WriteFault,
-    }
+    printed_status(print_ask(output, session, ask, steps), status)
 }

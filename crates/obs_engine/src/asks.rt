@@ -35,7 +35,6 @@ fn print_case_islands<W: Sink, L: Ledger>(
         (block_text Block.Islands session.old.tables) }
 {
     session.find_islands(steps);
-    let _nodes = session.present().nodes();
     print_islands(
         output,
         session.present(),

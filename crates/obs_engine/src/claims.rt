@@ -1,7 +1,6 @@
 // The claims on the components of a session's case, printed.
 // Each call finds what is not at hand, and leaves the case as it is.
 ghost use Rattle.std.specs.Prelude.{◌≡◌, ◌<◌, []};
-ghost use Rattle.obs_case.specs.Tables.{IsValid};
 ghost use Rattle.obs_network.specs.Located.{live_meters_of};
 ghost use Rattle.obs_network.specs.Network.{case_component_count, network_of};
 ghost use Rattle.obs_report.specs.Printed.{Appends};
@@ -15,7 +14,6 @@ use std::sync::ledger::Ledger;
 
 // Prints the tree of a component without a live meter: its line alone, since no pair lies in it.
 fn print_lone_tree<W: Sink>(output: &mut W, session: &Session, c: u32) -> Result<(), Failed>
-    requires valid { IsValid session.now.tables }
     requires component { c < case_component_count session.now.tables }
     requires lone { live_meters_of (network_of session.now.tables) c ≡ [] }
     ensures appends { Appends W.written W.faults W.has_room output.old output.new result
@@ -60,7 +58,6 @@ fn print_component_tree<W: Sink, L: Ledger>(
     c: u32,
     steps: &mut Steps<L>,
 ) -> Result<(), Failed>
-    requires valid { IsValid session.old.tables }
     requires component { c < case_component_count session.old.tables }
     ensures tables { session.new.tables ≡ session.old.tables }
     ensures offered { session.new.offered ≡ session.old.offered }
@@ -107,7 +104,6 @@ fn print_claim<W: Sink, L: Ledger>(
     ensures appends { Appends W.written W.faults W.has_room output.old output.new result
         (component_claim trees bounds session.old.tables c) }
 {
-    let _nodes = session.present().nodes();
     if !session.network().energised(c) {
         return Ok(());
     }

@@ -8,7 +8,7 @@ ghost use Rattle.obs_report.specs.Printed.{Appends, Prints};
 ghost use Rattle.obs_engine.specs.OutageReply.{are_met, outage_line, outages_reply, outages_status, outages_text};
 ghost use Rattle.obs_engine.specs.Replies.{IsReplied};
 
-use crate::judged::kept_verdict;
+use crate::judged::{kept_verdict, printed_status};
 use obs_assign::Steps;
 use obs_case::Case;
 use obs_files::Status;
@@ -122,8 +122,5 @@ pub(crate) fn answer_outages<W: Sink, L: Ledger>(
     };
     outages.find_list(case, steps);
     let status = status_of(case, &outages);
-    match print_outages(output, case, outages.found()) {
-        Ok(()) => status,
-        Err(Failed) => Status::WriteFault,
-    }
+    printed_status(print_outages(output, case, outages.found()), status)
 }

@@ -7,7 +7,7 @@ ghost use Rattle.obs_report.specs.Printed.{Appends, Prints};
 ghost use Rattle.obs_engine.specs.PairReply.{case_classes, class_line, class_lines, classes_text, pairs_reply};
 ghost use Rattle.obs_engine.specs.Replies.{IsReplied};
 
-use crate::judged::kept_verdict;
+use crate::judged::{kept_verdict, printed_status};
 use obs_assign::Steps;
 use obs_case::Case;
 use obs_files::Status;
@@ -113,8 +113,5 @@ pub(crate) fn answer_pairs<W: Sink, L: Ledger>(
     };
     find_case_classes(case, &mut kept, &mut work, steps);
     let status = kept_verdict(case, &kept.network, &kept.pairs);
-    match print_classes(output, case, &work) {
-        Ok(()) => status,
-        Err(Failed) => Status::WriteFault,
-    }
+    printed_status(print_classes(output, case, &work), status)
 }

@@ -6,8 +6,9 @@ ghost use Rattle.obs_text.specs.Faults.{Fault, fault_of};
 ghost use Rattle.obs_engine.specs.Replies.{EndsWith, IsRefused, IsReplied, Reply, fault_reply, usage_reply};
 ghost use Rattle.obs_files.specs.Taken.{IsCaseError};
 
+use crate::judged::printed_status;
 use obs_files::{CaseError, Status};
-use obs_io::{Failed, Sink, write_all};
+use obs_io::{Sink, write_all};
 use obs_report::print_fault;
 use obs_text::InputFault;
 
@@ -21,10 +22,7 @@ pub(crate) fn refuse_words<W: Sink>(output: &mut W) -> Status
     ensures replied { IsReplied W.written W.faults W.has_room output.old output.new result usage_reply }
     ensures statuses { (result ≡ Status.Usage) ⊎ (result ≡ Status.WriteFault) }
 {
-    match write_all(output, USAGE) {
-        Ok(()) => Status::Usage,
-        Err(Failed) => Status::WriteFault,
-    }
+    printed_status(write_all(output, USAGE), Status::Usage)
 }
 
 /// Answers files that have this fault, which is the first one.
@@ -33,10 +31,8 @@ pub(crate) fn refuse<W: Sink>(output: &mut W, fault: InputFault) -> Status
         (fault_reply (fault_of fault)) }
 {
     let place = u64::from(fault.place);
-    match print_fault(output, fault.part, place, u64::from(fault.code), fault.name) {
-        Ok(()) => Status::InputFault,
-        Err(Failed) => Status::WriteFault,
-    }
+    let outcome = print_fault(output, fault.part, place, u64::from(fault.code), fault.name);
+    printed_status(outcome, Status::InputFault)
 }
 
 /// Answers files from which nothing was taken. After a failed read, and for want of memory, nothing is written.

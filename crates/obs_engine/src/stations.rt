@@ -8,7 +8,7 @@ ghost use Rattle.obs_station.specs.Stations.{losses_of};
 ghost use Rattle.obs_engine.specs.Replies.{IsReplied};
 ghost use Rattle.obs_engine.specs.StationReply.{are_borne, loss_line, losses_text, stations_reply, stations_status};
 
-use crate::judged::kept_verdict;
+use crate::judged::{kept_verdict, printed_status};
 use obs_assign::Steps;
 use obs_case::Case;
 use obs_files::Status;
@@ -136,8 +136,6 @@ pub(crate) fn answer_stations<W: Sink, L: Ledger>(
     };
     work.find_losses(case, &kept.network, &mut kept.pairs, steps);
     let status = status_of(case, &kept, work.list());
-    match print_losses(output, case, kept.network.needed(), work.list()) {
-        Ok(()) => status,
-        Err(Failed) => Status::WriteFault,
-    }
+    let outcome = print_losses(output, case, kept.network.needed(), work.list());
+    printed_status(outcome, status)
 }

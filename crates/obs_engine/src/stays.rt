@@ -11,6 +11,7 @@ ghost use Rattle.obs_engine.specs.Stays.{Begins, IsNotBegun, line_reply};
 ghost use Rattle.obs_files.specs.Words.{file_words, form_of};
 
 use crate::answers::verdict;
+use crate::judged::printed_status;
 use crate::lines::answer_content;
 use crate::refused::{refuse_files, refuse_words};
 use obs_assign::Steps;
@@ -127,8 +128,6 @@ pub fn answer_one<W: Sink>(output: &mut W, session: &mut Session, line: &[u8]) -
         (line_reply session.old.offered session.old.tables line.now) }
     ensures statuses { (result ≡ report_status session.new.tables) ⊎ (result ≡ Status.WriteFault) }
 {
-    match answer_counted::<W, Brand>(output, session, line, Blank::new(1)) {
-        Ok(()) => verdict(session),
-        Err(Failed) => Status::WriteFault,
-    }
+    let outcome = answer_counted::<W, Brand>(output, session, line, Blank::new(1));
+    printed_status(outcome, verdict(session))
 }

@@ -6,6 +6,7 @@ ghost use Rattle.obs_report.specs.Printed.{Appends};
 ghost use Rattle.obs_engine.specs.Replies.{IsReplied};
 ghost use Rattle.obs_engine.specs.Topology.{topology_reply, topology_text};
 
+use crate::judged::printed_status;
 use obs_case::Case;
 use obs_files::Status;
 use obs_io::{Failed, Sink};
@@ -44,8 +45,5 @@ pub(crate) fn answer_topology<W: Sink>(alloc: Global, output: &mut W, case: &Cas
     let Ok(buses) = buses_of_case(alloc, case) else {
         return Status::NoMemory;
     };
-    match print_topology(output, case, &buses) {
-        Ok(()) => Status::Done,
-        Err(Failed) => Status::WriteFault,
-    }
+    printed_status(print_topology(output, case, &buses), Status::Done)
 }

@@ -11,6 +11,7 @@ ghost use Rattle.obs_engine.specs.Trials.{AreInService, dips_of, edits_of, is_di
 ghost use Rattle.obs_engine.specs.Turns.{AreSearches, AreTurns, IsTurn};
 
 use crate::answers::verdict;
+use crate::judged::printed_status;
 use obs_assign::Steps;
 use obs_edit::{Edit, Session};
 use obs_files::Status;
@@ -166,8 +167,8 @@ pub(crate) fn answer_trial<W: Sink, L: Ledger>(
 {
     let turns = turn_meters(session, steps);
     let status = verdict(session);
-    match print_turns(output, session, rows, seed, islands, turns) {
-        Ok(()) => status,
-        Err(Failed) => Status::WriteFault,
-    }
+    printed_status(
+        print_turns(output, session, rows, seed, islands, turns),
+        status,
+    )
 }

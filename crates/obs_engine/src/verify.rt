@@ -10,11 +10,12 @@ ghost use Rattle.obs_text.specs.Limits.{most_file_bytes};
 ghost use Rattle.obs_engine.specs.Replies.{IsReplied};
 ghost use Rattle.obs_engine.specs.Verify.{checked_reply, claims_reply, flaw_reply, valid_reply, verify_reply};
 
+use crate::judged::printed_status;
 use crate::refused::refuse;
 use obs_case::Case;
 use obs_cert::{Cert, CertEnd, Checker, Flaw, read_cert};
 use obs_files::Status;
-use obs_io::{Failed, Sink};
+use obs_io::Sink;
 use obs_report::{print_flaw, print_valid};
 use std::alloc::Global;
 
@@ -33,10 +34,7 @@ fn refuse_certificate<W: Sink>(output: &mut W, end: CertEnd) -> Status
 fn accept_claims<W: Sink>(output: &mut W, claims: u32) -> Status
     ensures replied { IsReplied W.written W.faults W.has_room output.old output.new result (valid_reply claims) }
 {
-    match print_valid(output, u64::from(claims)) {
-        Ok(()) => Status::Done,
-        Err(Failed) => Status::WriteFault,
-    }
+    printed_status(print_valid(output, u64::from(claims)), Status::Done)
 }
 
 // Answers claims of which this is the first flaw.
@@ -44,10 +42,8 @@ fn refuse_claims<W: Sink>(output: &mut W, flaw: Flaw) -> Status
     ensures replied { IsReplied W.written W.faults W.has_room output.old output.new result (flaw_reply flaw) }
 {
     let claim = u64::from(flaw.claim);
-    match print_flaw(output, claim, u64::from(flaw.code.code()), flaw.code.name()) {
-        Ok(()) => Status::Short,
-        Err(Failed) => Status::WriteFault,
-    }
+    let outcome = print_flaw(output, claim, u64::from(flaw.code.code()), flaw.code.name());
+    printed_status(outcome, Status::Short)
 }
 
 // Answers the claims of a certificate.

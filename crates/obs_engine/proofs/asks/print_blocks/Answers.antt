@@ -1,4 +1,5 @@
-use Rattle.std.proofs.Common.{◌∙◌, ap, drop, get_or, subst, suc}
+use Rattle.std.proofs.Common.{◌∙◌, List, ap, drop, get_or, refl, subst, suc}
+use Rattle.std.proofs.lemmas.List.{take_all}
 use Rattle.obs_case.specs.Tables.{Tables}
 use Rattle.obs_matroid.proofs.Contained.{In-get_or}
 use Rattle.obs_matroid.specs.Lists.{In}
@@ -6,7 +7,7 @@ use Rattle.obs_report.proofs.Printing.{failed_call, then_call}
 use Rattle.obs_engine.specs.declared.blocks.Block.{Block}
 use Rattle.obs_engine.specs.declared.blocks.Block.TheVariants.{Counts}
 use Rattle.obs_engine.specs.Asks.{block_text, blocks_text}
-use Rattle.obs_engine.proofs.Asked.{appends_as, blocks_around}
+use Rattle.obs_engine.proofs.Asked.{appends_as, appends_nothing, blocks_around, blocks_more}
 use Rattle.obs_engine.proofs.asks.print_blocks.Goals as goal
 
 pub print_block-requires : goal.print_block-requires
@@ -22,3 +23,22 @@ returns-in-Err-clause-appends g c =
     appends_as (blocks_around t blocks k Counts c.loop-k-test.true)
     (failed_call (blocks_text (drop (suc k) blocks) t)
     (then_call c.loop-k.invariant.2 (appends_as (ap (λ (x : Tables). block_text (get_or blocks k Counts) x) c.loop-k.invariant.0) c.in-Err.ensures.appends)))
+
+pub loop-k-init : goal.loop-k-init
+loop-k-init g c = (refl, refl, appends_nothing tt _ _ _)
+
+pub loop-k-preserved : goal.loop-k-preserved
+loop-k-preserved g c =
+    let t = c.args.session.now.tables in
+    let blocks = c.args.blocks.now in
+    let k = c.loop-k.k in (
+      c.in-Ok.ensures.tables ∙ c.loop-k.invariant.0,
+      c.in-Ok.ensures.offered ∙ c.loop-k.invariant.1,
+      appends_as (blocks_more t blocks k Counts c.loop-k-test.true)
+          (then_call c.loop-k.invariant.2 (appends_as (ap (λ (x : Tables). block_text (get_or blocks k Counts) x) c.loop-k.invariant.0) c.in-Ok.ensures.appends)),
+    )
+
+pub returns-clause-appends : goal.returns-clause-appends
+returns-clause-appends g c =
+    let t = c.args.session.now.tables in
+    appends_as (ap (λ (all : List Block). blocks_text all t) (take_all c.loop-k.k c.args.blocks.now c.loop-k-test.false)) c.loop-k.invariant.2

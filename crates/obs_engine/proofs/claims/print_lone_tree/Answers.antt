@@ -17,6 +17,6 @@ returns g c =
     record {
       appends = appends_as
           (ap (λ (x : Tables). tree_text x c.args.c (pairs c.pairs.result.now)) c.present.ensures.case
-          ∙ (ap (λ (a : Assignment). tree_text t c.args.c (pairs a)) c.pairs.ensures.pairs ∙ lone_tree_is t c.requires.valid c.args.c c.requires.lone c.args.session.now.pairs c.pairs.ensures.longest))
+          ∙ (ap (λ (a : Assignment). tree_text t c.args.c (pairs a)) c.pairs.ensures.pairs ∙ lone_tree_is t c.network.ensures.valid c.args.c c.requires.lone c.args.session.now.pairs c.pairs.ensures.longest))
           c.print_tree.ensures.appends;
     }

@@ -3,9 +3,9 @@ use Rattle.obs_case.specs.Tables.{Tables}
 use Rattle.obs_outage.specs.declared.outages.Outage.{Outage}
 use Rattle.obs_engine.specs.OutageReply.{outages_reply, outages_status, outages_text}
 use Rattle.obs_engine.proofs.Asked.{appends_as}
-use Rattle.obs_engine.proofs.Endings.{replied_failed}
-use Rattle.obs_engine.proofs.Replied.{outages_status-is}
-use Rattle.obs_engine.proofs.Studied.{outages_below, study_printed}
+use Rattle.obs_engine.proofs.Endings.{replied_memory}
+use Rattle.obs_engine.proofs.Replied.{outages_status-is, replied_verdict}
+use Rattle.obs_engine.proofs.Studied.{outages_below}
 use Rattle.obs_engine.proofs.outages.answer_outages.Goals as goal
 
 pub print_outages-requires : goal.print_outages-requires
@@ -18,17 +18,16 @@ print_outages-requires g c =
           (subst (λ (os : List Outage). All (λ (o : Outage). o.branch < length t.branches) os) (sym listed) (outages_below t));
     }
 
-pub returns-in-Ok-print_outages : goal.returns-in-Ok-print_outages
-returns-in-Ok-print_outages g c =
-    let t = c.args.case.now in
-    let listed = c.found.ensures.found ∙ c.find_list.ensures.list in
-    let text = ap (λ (u : Tables). outages_text u c.found.result.now) c.find_list.ensures.case ∙ ap (λ (os : List Outage). outages_text t os) listed in
-    let status = c.status_of-status.ensures.status ∙ ap (λ (u : Tables). outages_status u) c.find_list.ensures.case in
-    record { replied = study_printed c.status_of-status.result (outages_reply t) status (outages_status-is t) (appends_as text c.in-Ok-print_outages.ensures.appends) }
+pub returns-in_default : goal.returns-in_default
+returns-in_default g c = record { replied = replied_memory (outages_reply c.args.case.now) }
 
 pub returns : goal.returns
 returns g c =
     let t = c.args.case.now in
     let listed = c.found.ensures.found ∙ c.find_list.ensures.list in
     let text = ap (λ (u : Tables). outages_text u c.found.result.now) c.find_list.ensures.case ∙ ap (λ (os : List Outage). outages_text t os) listed in
-    record { replied = replied_failed (outages_reply t) (appends_as text c.in-Err.ensures.appends) }
+    let status = c.status_of-status.ensures.status ∙ ap (λ (u : Tables). outages_status u) c.find_list.ensures.case in
+    record {
+      replied = replied_verdict (outages_reply t) c.print_outages.result c.status_of-status.result c.printed_status.result c.printed_status.ensures.status
+          status (outages_status-is t) (appends_as text c.print_outages.ensures.appends);
+    }

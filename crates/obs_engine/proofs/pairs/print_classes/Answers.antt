@@ -1,11 +1,17 @@
-use Rattle.std.proofs.Common.{◌<◌, ◌≤◌, [], ◌∷◌, ◌++◌, ap, arith, length}
+use Rattle.std.proofs.Common.{◌≡◌, ◌<◌, ◌≤◌, ◌-◌, [], ◌∷◌, ◌++◌, ℕ, ap, arith, length}
 use Rattle.std.specs.Prelude.{slice_index}
 use Rattle.std.specs.List.{range_with_len}
 use Rattle.obs_pairs.specs.PairWork.{has_another}
 use Rattle.obs_report.proofs.Passed.{row_all, row_more}
-use Rattle.obs_report.proofs.Printing.{finished, then_printed}
+use Rattle.obs_report.proofs.Printing.{finished, nothing_printed, then_printed}
 use Rattle.obs_engine.specs.PairReply.{class_line, class_lines}
 use Rattle.obs_engine.proofs.pairs.print_classes.Goals as goal
+
+pub loop-m-init : goal.loop-m-init
+loop-m-init g c =
+    let t = c.args.case.now in
+    let all : length t.meters - 0 ≡ length t.meters = omega arith in
+    ([], nothing_printed _, ap (λ (n : ℕ). class_lines t c.args.work.now.list (range_with_len 0 n)) all)
 
 pub loop-m-preserved : goal.loop-m-preserved
 loop-m-preserved g c =

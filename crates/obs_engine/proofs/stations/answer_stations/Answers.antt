@@ -3,23 +3,21 @@ use Rattle.obs_network.specs.Network.{Network, case_needed}
 use Rattle.obs_station.specs.declared.losses.Loss.{Loss}
 use Rattle.obs_engine.specs.StationReply.{losses_text, stations_reply}
 use Rattle.obs_engine.proofs.Asked.{appends_as}
-use Rattle.obs_engine.proofs.Endings.{replied_failed}
-use Rattle.obs_engine.proofs.Replied.{stations_status-is}
-use Rattle.obs_engine.proofs.Studied.{losses_below, study_printed}
+use Rattle.obs_engine.proofs.Endings.{replied_memory}
+use Rattle.obs_engine.proofs.Replied.{replied_verdict, stations_status-is}
+use Rattle.obs_engine.proofs.Studied.{losses_below}
 use Rattle.obs_engine.proofs.stations.answer_stations.Goals as goal
 
-pub print_losses-requires : goal.print_losses-requires
-print_losses-requires g c =
+pub print_losses-outcome-requires : goal.print_losses-outcome-requires
+print_losses-outcome-requires g c =
     let t = c.args.case.now in
     record { nodes = subst (λ (ls : List Loss). All (λ (l : Loss). l.node < length t.nodes) ls) (sym (c.list-2.ensures.list ∙ c.find_losses.ensures.losses)) (losses_below t) }
 
-pub returns-in-Ok-print_losses : goal.returns-in-Ok-print_losses
-returns-in-Ok-print_losses g c =
-    let t = c.args.case.now in
-    let listed = c.list-2.ensures.list ∙ c.find_losses.ensures.losses in
-    let need = c.needed.ensures.needed ∙ ap (λ (n : Network). n.needed) c.in-Ok.ensures.network in
-    let text = ap (λ (n : ℕ). losses_text t n c.list-2.result.now) need ∙ ap (λ (ls : List Loss). losses_text t (case_needed t) ls) listed in
-    record { replied = study_printed c.status_of-status.result (stations_reply t) c.status_of-status.ensures.status (stations_status-is t) (appends_as text c.in-Ok-print_losses.ensures.appends) }
+pub returns-in_default : goal.returns-in_default
+returns-in_default g c = record { replied = replied_memory (stations_reply c.args.case.now) }
+
+pub returns-in_default-make : goal.returns-in_default-make
+returns-in_default-make g c = record { replied = replied_memory (stations_reply c.args.case.now) }
 
 pub returns : goal.returns
 returns g c =
@@ -27,4 +25,7 @@ returns g c =
     let listed = c.list-2.ensures.list ∙ c.find_losses.ensures.losses in
     let need = c.needed.ensures.needed ∙ ap (λ (n : Network). n.needed) c.in-Ok.ensures.network in
     let text = ap (λ (n : ℕ). losses_text t n c.list-2.result.now) need ∙ ap (λ (ls : List Loss). losses_text t (case_needed t) ls) listed in
-    record { replied = replied_failed (stations_reply t) (appends_as text c.in-Err.ensures.appends) }
+    record {
+      replied = replied_verdict (stations_reply t) c.print_losses-outcome.result c.status_of-status.result c.printed_status.result c.printed_status.ensures.status
+          c.status_of-status.ensures.status (stations_status-is t) (appends_as text c.print_losses-outcome.ensures.appends);
+    }
