@@ -1,12 +1,12 @@
 -- The flaw of a claim, where the clauses before are true.
-use Rattle.std.proofs.Common.{◌≡◌, ℕ, suc, ◌+◌, ◌-◌, ◌^◌, ◌<◌, ◌≤◌, ◌||◌, min, Bool, true, false, Option, Some, None, Vec, List, [], length, refl, sym, ap, ◌∙◌, subst, arith}
+use Rattle.std.proofs.Common.{◌≡◌, ℕ, suc, ◌+◌, ◌-◌, ◌^◌, ◌<◌, ◌≤◌, ◌||◌, min, Bool, true, false, Option, Some, None, Vec, List, [], ◌∷◌, length, refl, sym, ap, ◌∙◌, subst, arith}
 use Rattle.std.specs.Option.{IfNone, IfSome}
 use Rattle.std.specs.List.{list_any, sum_by}
 use Rattle.std.proofs.lemmas.Bool.{eq-eqb, ne_eqb, lt-ltb, le-ltb, or_parts}
 use Rattle.obs_case.specs.Tables.{Tables, has_name, node_names}
 use Rattle.obs_matroid.specs.Assignments.{Pair as NumberPair}
 use Rattle.obs_cert.specs.declared.flaw.FlawCode.{FlawCode}
-use Rattle.obs_cert.specs.declared.flaw.FlawCode.TheVariants.{WrongOutside, NotBelow, NotInside, NotTouched, Twice}
+use Rattle.obs_cert.specs.declared.flaw.FlawCode.TheVariants.{UnknownName, NotComponent, NotInside, NotTouched, Twice, WrongRank, WrongOutside, NotBelow}
 use Rattle.obs_cert.specs.declared.work.Work.{Work}
 use Rattle.obs_cert.specs.Claims.{BoundClaim, CostClaim, Layer, ShortfallClaim, TreeClaim}
 use Rattle.obs_cert.specs.Flaws.{Listed, bound_clauses, bound_flaw, cost_flaw, costs_clauses, first_true, forest_clauses, layers_clauses, list_clauses, listed_layers, not_below, not_inside, not_touched, outside_of, paired_twice, rank_of_items, runs_on, shortfall_flaw, shows, tree_flaw, twice, unknown_item, unknown_pair, wrong_rank, wrong_outside}
@@ -61,6 +61,23 @@ pub forest_end : (t : Tables) (pairs : List NumberPair) (need : ℕ) (r : Option
 forest_end t pairs need None none some = sym (none [])
 forest_end t pairs need (Some code) none some = sym (some [])
 
+pub tree_nameless : (t : Tables) (c : TreeClaim) → has_name (node_names t) c.component ≡ false → Some UnknownName ≡ tree_flaw t c
+tree_nameless t c k = rw k refl
+
+pub tree_unknown : (t : Tables) (c : TreeClaim) → has_name (node_names t) c.component ≡ true → unknown_pair t c.pairs ≡ true → Some UnknownName ≡ tree_flaw t c
+tree_unknown t c k u = rw (k, u) refl
+
+pub tree_dead : (t : Tables) (c : TreeClaim) → has_name (node_names t) c.component ≡ true → unknown_pair t c.pairs ≡ false → names_component t c.component ≡ false → Some NotComponent ≡ tree_flaw t c
+tree_dead t c k u n = rw (k, u, n) refl
+
+pub tree_outside : (t : Tables) (c : TreeClaim) → has_name (node_names t) c.component ≡ true → unknown_pair t c.pairs ≡ false → names_component t c.component ≡ true
+    → not_inside (is_meter_in t (named_component t c.component)) (items_of t (paired_items c.pairs)) ≡ true → Some NotInside ≡ tree_flaw t c
+tree_outside t c k u n i = rw (k, u, n, i) refl
+
+pub tree_touched : (t : Tables) (c : TreeClaim) → has_name (node_names t) c.component ≡ true → unknown_pair t c.pairs ≡ false → names_component t c.component ≡ true
+    → not_inside (is_meter_in t (named_component t c.component)) (items_of t (paired_items c.pairs)) ≡ false → not_touched t (pairs_of t c.pairs) ≡ true → Some NotTouched ≡ tree_flaw t c
+tree_touched t c k u n i d = rw (k, u, n, i, d) refl
+
 pub tree_rest : (t : Tables) (c : TreeClaim) → has_name (node_names t) c.component ≡ true → unknown_pair t c.pairs ≡ false → names_component t c.component ≡ true
     → not_inside (is_meter_in t (named_component t c.component)) (items_of t (paired_items c.pairs)) ≡ false → not_touched t (pairs_of t c.pairs) ≡ false → paired_twice t c.pairs ≡ false
     → tree_flaw t c ≡ first_true (forest_clauses t (pairs_of t c.pairs) (named_need t c.component) [])
@@ -72,6 +89,10 @@ pub tree_twice : (t : Tables) (c : TreeClaim) → has_name (node_names t) c.comp
 tree_twice t c k u n i d w = rw (k, u, n, i, d, w) refl
 
 -- the clauses on stated numbers, one after the other
+pub bound_rank : (t : Tables) (test : ℕ → Bool) (list : List ℕ) (rank outside need : ℕ) → (rank_of_items t list ≡ rank → ⊥)
+    → Some WrongRank ≡ first_true (bound_clauses t test list rank outside need)
+bound_rank t test list rank outside need r = rw (ne_eqb (rank_of_items t list) rank r) refl
+
 pub bound_wrong : (t : Tables) (test : ℕ → Bool) (list : List ℕ) (rank outside need : ℕ) → rank_of_items t list ≡ rank → (outside_of t test list ≡ outside → ⊥)
     → Some WrongOutside ≡ first_true (bound_clauses t test list rank outside need)
 bound_wrong t test list rank outside need r o = rw (eq-eqb (rank_of_items t list) rank r, ne_eqb (outside_of t test list) outside o) refl
@@ -208,18 +229,38 @@ costs_right t c chosen shown n r a b =
 pub counted_right : (sum number : ℕ) → min sum (2 ^ 128 - 1) ≡ number → number < 2 ^ 64 → sum ≡ number
 counted_right sum number e l = grind (arith, e, l)
 
+pub bound_nameless : (t : Tables) (c : BoundClaim) → has_name (node_names t) c.component ≡ false → Some UnknownName ≡ bound_flaw t c
+bound_nameless t c k = rw k refl
+
+pub bound_unknown : (t : Tables) (c : BoundClaim) → has_name (node_names t) c.component ≡ true → unknown_item t c.inside ≡ true → Some UnknownName ≡ bound_flaw t c
+bound_unknown t c k u = rw (k, u) refl
+
+pub bound_dead : (t : Tables) (c : BoundClaim) → has_name (node_names t) c.component ≡ true → unknown_item t c.inside ≡ false → names_component t c.component ≡ false → Some NotComponent ≡ bound_flaw t c
+bound_dead t c k u n = rw (k, u, n) refl
+
+pub bound_list : (t : Tables) (c : BoundClaim) (k need : ℕ) → k ≡ named_component t c.component → need ≡ named_need t c.component
+    → has_name (node_names t) c.component ≡ true → unknown_item t c.inside ≡ false → names_component t c.component ≡ true
+    → first_true ((not_inside (is_meter_in t k) (items_of t c.inside), NotInside) ∷ list_clauses t (is_meter_in t k) (items_of t c.inside) c.rank c.outside need) ≡ bound_flaw t c
+bound_list t c k need is same known unknown names =
+    ap (λ (x : ℕ). first_true ((not_inside (is_meter_in t x) (items_of t c.inside), NotInside) ∷ list_clauses t (is_meter_in t x) (items_of t c.inside) c.rank c.outside need)) is
+    ∙ ap (λ (x : ℕ). first_true ((not_inside (is_meter_in t (named_component t c.component)) (items_of t c.inside), NotInside)
+    ∷ list_clauses t (is_meter_in t (named_component t c.component)) (items_of t c.inside) c.rank c.outside x)) same
+    ∙ sym (rw (known, unknown, names) refl)
+
 pub bound_rest : (t : Tables) (c : BoundClaim) (k need : ℕ) → k ≡ named_component t c.component → need ≡ named_need t c.component
     → has_name (node_names t) c.component ≡ true → unknown_item t c.inside ≡ false → names_component t c.component ≡ true
     → not_inside (is_meter_in t k) (items_of t c.inside) ≡ false
     → first_true (list_clauses t (is_meter_in t k) (items_of t c.inside) c.rank c.outside need) ≡ bound_flaw t c
 bound_rest t c k need is same known unknown names inside =
-    ap (λ (x : ℕ). first_true (list_clauses t (is_meter_in t x) (items_of t c.inside) c.rank c.outside need)) is
-    ∙ ap (λ (x : ℕ). first_true (list_clauses t (is_meter_in t (named_component t c.component)) (items_of t c.inside) c.rank c.outside x)) same
-    ∙ sym (let i = ap (λ (x : ℕ). not_inside (is_meter_in t x) (items_of t c.inside)) (sym is) ∙ inside in rw (known, unknown, names, i) refl)
+    ap (λ (b : Bool). first_true ((b, NotInside) ∷ list_clauses t (is_meter_in t k) (items_of t c.inside) c.rank c.outside need)) (sym inside)
+    ∙ bound_list t c k need is same known unknown names
 
-pub shortfall_rest : (t : Tables) (c : ShortfallClaim) → unknown_item t c.inside ≡ false → not_inside (is_live_item t) (items_of t c.inside) ≡ false
-    → first_true (list_clauses t (is_live_item t) (items_of t c.inside) c.rank c.outside (case_needed t)) ≡ shortfall_flaw t c
-shortfall_rest t c known inside = rw (known, inside) refl
+pub shortfall_rest : (t : Tables) (c : ShortfallClaim) → unknown_item t c.inside ≡ false
+    → first_true ((not_inside (is_live_item t) (items_of t c.inside), NotInside) ∷ list_clauses t (is_live_item t) (items_of t c.inside) c.rank c.outside (case_needed t)) ≡ shortfall_flaw t c
+shortfall_rest t c known = rw known refl
+
+pub layers_rank : (t : Tables) (c : CostClaim) → list_any (λ (l : Listed). wrong_rank t l.list l.layer.rank) (listed_layers t c.layers) ≡ true → Some WrongRank ≡ first_true (layers_clauses t c)
+layers_rank t c r = rw r refl
 
 pub layers_outside : (t : Tables) (c : CostClaim) → list_any (λ (l : Listed). wrong_rank t l.list l.layer.rank) (listed_layers t c.layers) ≡ false
     → list_any (λ (l : Listed). wrong_outside t (is_below t l.layer.to) l.list l.layer.outside) (listed_layers t c.layers) ≡ true → Some WrongOutside ≡ first_true (layers_clauses t c)

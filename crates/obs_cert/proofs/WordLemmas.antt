@@ -1,10 +1,12 @@
 -- The words of a line, by where a tab stands.
 use denote.Ref.{Bor}
-use Rattle.std.proofs.Common.{◌≡◌, ℕ, suc, ◌<◌, true, false, List, [], ◌∷◌, length, take, drop, Option, None, Some, IfSome, refl, sym, ap, ◌∙◌, subst, inl, inr, arith}
+use Rattle.std.proofs.Common.{◌≡◌, ℕ, codes, suc, ◌<◌, true, false, List, [], ◌∷◌, length, take, drop, Option, None, Some, IfSome, refl, sym, ap, ◌∙◌, subst, inl, inr, arith}
 use Rattle.std.proofs.Math.Numerals.{one-add}
 use Rattle.std.proofs.lemmas.Bool.{cases_Bool}
 use Rattle.std.specs.List.{onto_first, position_or_len}
-use Rattle.obs_cert.specs.Words.{is_tab, line_of_words, words_of}
+use Rattle.std.specs.Str.{bytes_eq}
+use Rattle.obs_text.specs.Names.{is_name}
+use Rattle.obs_cert.specs.Words.{is_tab, item_in, line_of_words, of_two, words_of}
 
 -- the place of the first tab
 abbrev tab_at : List ℕ → ℕ
@@ -51,3 +53,26 @@ six_words kind a b c d bytes = let some = some_word bytes in ap (λ words. line_
 -- a word that others follow
 pub word_more : (bytes word : List ℕ) (o : Option (Bor (List ℕ))) (rest : Bor (List ℕ)) → IfSome o (λ (r : Bor (List ℕ)). words_of bytes ≡ word ∷ words_of r.now) → o ≡ Some rest → words_of bytes ≡ word ∷ words_of rest.now
 word_more bytes word o rest more is = subst (λ o. IfSome o (λ (r : Bor (List ℕ)). words_of bytes ≡ word ∷ words_of r.now)) is more
+
+-- bytes that are no name make no item, and with a word no line but one of a cost
+pub no_item : (sort name : List ℕ) → false ≡ is_name name → item_in sort name ≡ None
+no_item sort name none =
+    elim (cases_Bool (bytes_eq sort (codes "meter"))) [
+      | inl e ↦ rw (e, sym none) refl
+      | inr e ↦
+          elim (cases_Bool (bytes_eq sort (codes "candidate"))) [
+            | inl d ↦ rw (e, d, sym none) refl
+            | inr d ↦ rw (e, d) refl
+          ]
+    ]
+
+pub no_name : (kind a : List ℕ) → bytes_eq kind (codes "cost") ≡ false → false ≡ is_name a → of_two kind a ≡ None
+no_name kind a other none =
+    elim (cases_Bool (bytes_eq kind (codes "tree"))) [
+      | inl e ↦ rw (e, sym none) refl
+      | inr e ↦
+          elim (cases_Bool (bytes_eq kind (codes "chosen"))) [
+            | inl d ↦ rw (e, other, d, sym none) refl
+            | inr d ↦ rw (e, other, d) refl
+          ]
+    ]

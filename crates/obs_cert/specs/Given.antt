@@ -1,12 +1,11 @@
 -- What a call of `next` gives.
 use Rattle.std.specs.Prelude.{◌≡◌, List, [], ◌∷◌, Option, MatchOption}
 use Rattle.obs_cert.specs.declared.line.Item as program
-use Rattle.obs_cert.specs.declared.walk.ClaimLines.{ClaimLines}
 use Rattle.obs_cert.specs.declared.walk.LayerLines.{LayerLines}
 use Rattle.obs_cert.specs.declared.walk.PairLine.{PairLine}
-use Rattle.obs_cert.specs.Claims.{Claim, Item, Layer, Pair}
+use Rattle.obs_cert.specs.Claims.{Item, Layer, Pair}
 use Rattle.obs_cert.specs.Said.{item_said}
-use Rattle.obs_cert.specs.Walked.{claim_said, parts_in}
+use Rattle.obs_cert.specs.Walked.{parts_in}
 
 -- a pair and a layer of the program
 abbrev pub pair_said : PairLine → Pair
@@ -24,6 +23,3 @@ GivesPair before given after = MatchOption given (before ≡ []) (λ pair. befor
 
 abbrev pub GivesLayer : List Layer → Option LayerLines → List Layer → Type 0
 GivesLayer before given after = MatchOption given (before ≡ []) (λ layer. before ≡ layer_said layer ∷ after)
-
-abbrev pub GivesClaim : List Claim → Option ClaimLines → List Claim → Type 0
-GivesClaim before given after = MatchOption given (before ≡ []) (λ claim. before ≡ claim_said claim ∷ after)

@@ -1,5 +1,5 @@
 -- Where a line may stand, and what is wrong with one that may not.
-use Rattle.std.specs.Prelude.{ℕ, Bool, true, false, List, Option, None, Some, Result, Ok, Err, if◌then◌else◌}
+use Rattle.std.specs.Prelude.{◌≡◌, ℕ, Bool, true, false, List, Option, None, Some, Result, Ok, Err, if◌then◌else◌}
 use Rattle.obs_cert.specs.declared.fault.CertCode.{CertCode}
 use Rattle.obs_cert.specs.declared.fault.CertCode.TheVariants.{BadLine, OutOfPlace, AfterEnd}
 use Rattle.obs_cert.specs.declared.place.Place.{Place}
@@ -98,3 +98,7 @@ formed place (Some line) = in_place line (place_after place line)
 -- the line that bytes are at a place, with the place after it, or what is wrong with it
 abbrev pub step : Place → List ℕ → Result (Line × Place) CertCode
 step place bytes = if is_over place then Err AfterEnd else formed place (line_of bytes)
+
+-- bytes are a line at a place, which starts a claim or doesn't, with this place after it
+abbrev pub Steps : Place → List ℕ → Bool → Place → Type 0
+Steps place bytes starts next = (line : Line) × (step place bytes ≡ Ok (line, next)) × (starts ≡ is_start line)

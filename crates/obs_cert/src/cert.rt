@@ -2,10 +2,10 @@
 ghost use Rattle.std.specs.Prelude.{◌≡◌, ◌<◌, ◌≤◌, ◌^◌, Ok, Err, length, IfErr, IfOk};
 ghost use Rattle.obs_text.specs.Limits.{most_file_bytes};
 ghost use Rattle.obs_cert.specs.Read.{EndsCert, HasClaims, claims_of};
+ghost use Rattle.obs_cert.specs.Walked.{parts_in};
 
 use crate::fault::{CertCode, CertEnd, CertFault};
-use crate::place::{Place, is_over, starts, step};
-use crate::walk::{Claims, walk_claims};
+use crate::place::{Place, is_over, step};
 use obs_text::lines;
 use std::alloc::Global;
 use std::marker::Model;
@@ -43,12 +43,12 @@ impl Cert {
         self.claims
     }
 
-    /// The claims one after the other.
-    pub(crate) fn walk(&self) -> Claims<'_>
-        ensures claims { result ≡ self.now }
+    /// The bytes, whose lines are the claims one after the other.
+    pub(crate) fn bytes(&self) -> &[u8]
+        ensures claims { (parts_in result.now).claims ≡ self.now }
         ensures few { length self.now < 2 ^ 32 }
     {
-        walk_claims(&self.bytes)
+        &self.bytes
     }
 }
 
@@ -64,8 +64,8 @@ fn count_claims(bytes: &[u8]) -> Result<u32, CertFault>
     for line in lines(bytes) {
         at += 1;
         match step(place, line) {
-            Ok((line, next)) => {
-                claims += u32::from(starts(&line));
+            Ok((starts, next)) => {
+                claims += u32::from(starts);
                 place = next;
             }
             Err(code) => return Err(CertFault { line: at, code }),

@@ -11,6 +11,7 @@ use crate::keys::sort_keys;
 use crate::layers::count_live;
 use crate::memory::NoMemory;
 use crate::present::Present;
+use crate::walk::next_claim;
 use crate::work::Work;
 use obs_case::Case;
 use obs_network::Network;
@@ -106,7 +107,9 @@ fn first_flaw(
     let live = count_live(present);
     sort_keys(present, keys);
     let mut at = 0;
-    for claim in cert.walk() {
+    let mut rest = cert.bytes();
+    while let Some((claim, behind)) = next_claim(rest) {
+        rest = behind;
         at += 1;
         if let Some(code) = flaw_of(present, live, keys, claim, work, at) {
             return Some(Flaw { claim: at, code });

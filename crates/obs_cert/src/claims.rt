@@ -1,7 +1,9 @@
 // The flaw of a claim.
-ghost use Rattle.std.specs.Prelude.{◌≡◌, [], ℕ, Bool, false, suc, length};
+ghost use Rattle.std.specs.Prelude.{◌≡◌, ◌∷◌, [], ℕ, Bool, false, suc, length};
 ghost use Rattle.obs_network.specs.Network.{rows_of};
+ghost use Rattle.obs_cert.specs.declared.flaw.FlawCode.TheVariants.{NotInside};
 ghost use Rattle.obs_cert.specs.Flaws.{bound_clauses, bound_flaw, first_true, flaw_of, list_clauses, not_inside, shortfall_flaw, tree_flaw, twice};
+ghost use Rattle.obs_cert.specs.InScope.{in_scope};
 ghost use Rattle.obs_cert.specs.Joins.{AreJoined};
 ghost use Rattle.obs_cert.specs.Keys.{AreKeys};
 ghost use Rattle.obs_cert.specs.Numbered.{items_of};
@@ -83,8 +85,13 @@ fn numbers(
         stated.rank stated.outside stated.need) }
     ensures ready { (stamp : ℕ) → IsReady present.now stamp work.old → IsReady present.now stamp work.new }
 {
-    let (stars, ups, moved) = (&mut work.stars, &mut work.ups, &mut work.moved);
-    let rank = measure_listed(present, rest, stars, ups, moved);
+    let rank = measure_listed(
+        present,
+        rest,
+        &mut work.stars,
+        &mut work.ups,
+        &mut work.moved,
+    );
     if u64::from(rank) != stated.rank {
         return Some(FlawCode::WrongRank);
     }
@@ -98,28 +105,37 @@ fn numbers(
     None
 }
 
-// The flaw of a list and these numbers.
+// The flaw of a list and these numbers, in a scope of so many items.
 fn list(
     present: &Present<'_>,
     rest: &[u8],
-    scope: u32,
+    scope: Scope<'_>,
+    count: u32,
     stated: Stated,
     work: &mut Work,
     stamp: u32,
 ) -> Option<FlawCode>
+    requires count { count ≡ length (scope_of present.now (in_scope present.now scope)) }
+    requires items { OfItems present.now (in_scope present.now scope) }
     requires ready { IsReady present.now stamp work.old }
-    ensures flaw { (test : ℕ → Bool) → scope ≡ length (scope_of present.now test) → OfItems present.now test
-        → not_inside test (items_of present.now (parts_in rest.now).inside) ≡ false
-        → result ≡ first_true (list_clauses present.now test (items_of present.now (parts_in rest.now).inside)
+    ensures flaw { result ≡ first_true ((
+      not_inside (in_scope present.now scope.entry)
+          (items_of present.now (parts_in rest.now).inside),
+      NotInside,
+    )
+        ∷ list_clauses present.now (in_scope present.now scope.entry) (items_of present.now (parts_in rest.now).inside)
         stated.rank stated.outside stated.need) }
     ensures ready { IsReady present.now (suc stamp) work.new }
 {
     let case = present.case();
+    if has_outside(present, scope, walk_items(Sort::Inside, rest)) {
+        return Some(FlawCode::NotInside);
+    }
     let items = walk_items(Sort::Inside, rest);
     if has_twice(case, items, &mut work.listed, stamp) {
         return Some(FlawCode::Twice);
     }
-    numbers(present, rest, scope, stated, work)
+    numbers(present, rest, count, stated, work)
 }
 
 // The flaw of a bound claim.
@@ -152,16 +168,13 @@ fn bound(
         return Some(FlawCode::NotComponent);
     }
     let scope = Scope::Component(named.component);
-    if has_outside(present, scope, walk_items(Sort::Inside, rest)) {
-        return Some(FlawCode::NotInside);
-    }
     let stated = Stated {
         rank: numbers.0,
         outside: numbers.1,
         need: named.need,
     };
-    let scope = network.live_meters(named.component).len() as u32;
-    list(present, rest, scope, stated, work, stamp)
+    let count = network.live_meters(named.component).len() as u32;
+    list(present, rest, scope, count, stated, work, stamp)
 }
 
 // The flaw of a shortfall claim, where there are so many live items.
@@ -187,15 +200,12 @@ fn shortfall(
     if has_unknown(case, walk_items(Sort::Inside, rest)) {
         return Some(FlawCode::UnknownName);
     }
-    if has_outside(present, Scope::Live, walk_items(Sort::Inside, rest)) {
-        return Some(FlawCode::NotInside);
-    }
     let stated = Stated {
         rank: numbers.0,
         outside: numbers.1,
         need: network.needed(),
     };
-    list(present, rest, live, stated, work, stamp)
+    list(present, rest, Scope::Live, live, stated, work, stamp)
 }
 
 /// The flaw of a claim on a case with so many live items and these keys.

@@ -7,7 +7,7 @@ use obs_text::InputFault;
 
 /// Why a line can't stand in a certificate, or what a certificate lacks. Where several hold of one
 /// line, `AfterEnd` is answered before `BadLine`, and this before `OutOfPlace`.
-#[derive(Clone, Copy, Debug, PartialEq, Eq)]
+#[derive(Clone, Copy)]
 pub enum CertCode {
     /// The line has none of the nine forms.
     BadLine = 1,
@@ -41,7 +41,7 @@ impl CertCode {
 }
 
 /// The first fault of a certificate, by its line from 1; 0 where no line is faulty.
-#[derive(Clone, Copy, Debug, PartialEq, Eq)]
+#[derive(Clone, Copy)]
 pub struct CertFault {
     pub line: u32,
     pub code: CertCode,
@@ -61,7 +61,7 @@ impl From<CertFault> for InputFault {
 }
 
 /// Why a certificate isn't read.
-#[derive(Clone, Copy, Debug, PartialEq, Eq)]
+#[derive(Clone, Copy)]
 pub enum CertEnd {
     Fault(CertFault),
     NoMemory,

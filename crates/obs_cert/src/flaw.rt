@@ -3,7 +3,7 @@ ghost use Rattle.std.specs.Prelude.{◌≡◌};
 ghost use Rattle.obs_cert.specs.FlawNames.{flaw_code, flaw_name};
 
 /// What is false of a claim. Where several clauses are false, the one of the lowest number is answered.
-#[derive(Clone, Copy, Debug, PartialEq, Eq)]
+#[derive(Clone, Copy)]
 pub enum FlawCode {
     /// A name isn't in its table.
     UnknownName = 1,

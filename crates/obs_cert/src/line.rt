@@ -1,10 +1,10 @@
 // The line of a certificate that words are.
-ghost use Rattle.std.specs.Prelude.{◌≡◌};
+ghost use Rattle.std.specs.Prelude.{◌≡◌, ◌∷◌};
 ghost use Rattle.std.specs.Option.{option_map};
 ghost use Rattle.std.specs.Str.{bytes_eq};
 ghost use Rattle.obs_text.specs.Numbers.{whole_of};
 ghost use Rattle.obs_cert.specs.Said.{item_said, line_said};
-ghost use Rattle.obs_cert.specs.Words.{bound_of, item_in, line_of, name_in, of_five, of_four, of_one, of_three, of_two, pair_of};
+ghost use Rattle.obs_cert.specs.Words.{bound_of, item_in, line_of, line_of_words, name_in, of_five, of_four, of_one, of_three, of_two, pair_of, words_of};
 
 use crate::words::first_word;
 use obs_text::{name_of, whole};
@@ -50,11 +50,14 @@ pub(crate) fn is(word: &[u8], kind: &'static [u8]) -> bool
 fn named_item<'a>(sort: &[u8], name: &'a [u8]) -> Option<Item<'a>>
     ensures item { option_map item_said result ≡ item_in sort.now name.now }
 {
+    let Some(name) = name_of(name) else {
+        return None;
+    };
     if is(sort, b"meter") {
-        return name_of(name).map(Item::Meter);
+        return Some(Item::Meter(name));
     }
     if is(sort, b"candidate") {
-        return name_of(name).map(Item::Candidate);
+        return Some(Item::Candidate(name));
     }
     None
 }
@@ -72,17 +75,20 @@ fn one(kind: &[u8]) -> Option<Line<'static>>
 fn two<'a>(kind: &[u8], a: &'a [u8]) -> Option<Line<'a>>
     ensures line { option_map line_said result ≡ of_two kind.now a.now }
 {
-    if is(kind, b"tree") {
-        return name_of(a).map(Line::Tree);
-    }
     if is(kind, b"cost") {
         return match whole(a) {
             None => None,
             Some(number) => Some(Line::Cost(number)),
         };
     }
+    let Some(name) = name_of(a) else {
+        return None;
+    };
+    if is(kind, b"tree") {
+        return Some(Line::Tree(name));
+    }
     if is(kind, b"chosen") {
-        return name_of(a).map(Line::Chosen);
+        return Some(Line::Chosen(name));
     }
     None
 }
@@ -91,7 +97,10 @@ fn three<'a>(kind: &[u8], a: &[u8], b: &'a [u8]) -> Option<Line<'a>>
     ensures line { option_map line_said result ≡ of_three kind.now a.now b.now }
 {
     if is(kind, b"inside") {
-        return named_item(a, b).map(Line::Inside);
+        return match named_item(a, b) {
+            None => None,
+            Some(item) => Some(Line::Inside(item)),
+        };
     }
     if !is(kind, b"shortfall") {
         return None;
@@ -168,29 +177,63 @@ fn five(kind: &[u8], a: &[u8], b: &[u8], c: &[u8], d: &[u8]) -> Option<Line<'sta
     Some(Line::Layer(from, to, rank, outside))
 }
 
+// The line of four words and those that the bytes are.
+fn after_four<'a>(
+    kind: &[u8],
+    a: &'a [u8],
+    b: &'a [u8],
+    c: &'a [u8],
+    bytes: &[u8],
+) -> Option<Line<'a>>
+    ensures line { option_map line_said result ≡ line_of_words (kind.now ∷ a.now ∷ b.now ∷ c.now ∷ words_of bytes.now) }
+{
+    let (d, rest) = first_word(bytes);
+    match rest {
+        None => five(kind, a, b, c, d),
+        Some(_) => None,
+    }
+}
+
+// The line of three words and those that the bytes are.
+fn after_three<'a>(kind: &[u8], a: &'a [u8], b: &'a [u8], bytes: &'a [u8]) -> Option<Line<'a>>
+    ensures line { option_map line_said result ≡ line_of_words (kind.now ∷ a.now ∷ b.now ∷ words_of bytes.now) }
+{
+    let (c, rest) = first_word(bytes);
+    match rest {
+        None => four(kind, a, b, c),
+        Some(rest) => after_four(kind, a, b, c, rest),
+    }
+}
+
+// The line of two words and those that the bytes are.
+fn after_two<'a>(kind: &[u8], a: &'a [u8], bytes: &'a [u8]) -> Option<Line<'a>>
+    ensures line { option_map line_said result ≡ line_of_words (kind.now ∷ a.now ∷ words_of bytes.now) }
+{
+    let (b, rest) = first_word(bytes);
+    match rest {
+        None => three(kind, a, b),
+        Some(rest) => after_three(kind, a, b, rest),
+    }
+}
+
+// The line of a word and those that the bytes are.
+fn after_one<'a>(kind: &[u8], bytes: &'a [u8]) -> Option<Line<'a>>
+    ensures line { option_map line_said result ≡ line_of_words (kind.now ∷ words_of bytes.now) }
+{
+    let (a, rest) = first_word(bytes);
+    match rest {
+        None => two(kind, a),
+        Some(rest) => after_two(kind, a, rest),
+    }
+}
+
 /// The line that bytes are: words with one tab between them, that have one of the nine forms.
 pub(crate) fn read_line(bytes: &[u8]) -> Option<Line<'_>>
     ensures line { option_map line_said result ≡ line_of bytes.now }
 {
     let (kind, rest) = first_word(bytes);
-    let Some(rest) = rest else {
-        return one(kind);
-    };
-    let (a, rest) = first_word(rest);
-    let Some(rest) = rest else {
-        return two(kind, a);
-    };
-    let (b, rest) = first_word(rest);
-    let Some(rest) = rest else {
-        return three(kind, a, b);
-    };
-    let (c, rest) = first_word(rest);
-    let Some(rest) = rest else {
-        return four(kind, a, b, c);
-    };
-    let (d, rest) = first_word(rest);
     match rest {
-        Some(_) => None,
-        None => five(kind, a, b, c, d),
+        None => one(kind),
+        Some(rest) => after_one(kind, rest),
     }
 }

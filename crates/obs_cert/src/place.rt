@@ -1,6 +1,6 @@
 // Where a line may stand.
-ghost use Rattle.std.specs.Prelude.{◌≡◌, Ok, Err, IfErr, IfOk};
-ghost use Rattle.obs_cert.specs.Places.{chosen_after, inside_after, is_over, is_start, layer_after, pair_after, place_after, step};
+ghost use Rattle.std.specs.Prelude.{◌≡◌, Err, IfErr, IfOk};
+ghost use Rattle.obs_cert.specs.Places.{Steps, chosen_after, inside_after, is_over, is_start, layer_after, pair_after, place_after, step};
 ghost use Rattle.obs_cert.specs.Said.{line_said};
 
 use crate::fault::CertCode;
@@ -101,9 +101,9 @@ pub(crate) fn is_over(place: Place) -> bool
     }
 }
 
-/// The line that stands at a place and the place after it, or what is wrong with it.
-pub(crate) fn step(place: Place, bytes: &[u8]) -> Result<(Line<'_>, Place), CertCode>
-    ensures next { IfOk result (λ next. step place bytes.now ≡ Ok (line_said next.0, next.1)) }
+/// Whether the line that stands at a place starts a claim, and the place after it, or what is wrong with the line.
+pub(crate) fn step(place: Place, bytes: &[u8]) -> Result<(bool, Place), CertCode>
+    ensures next { IfOk result (λ next. Steps place bytes.now next.0 next.1) }
     ensures refused { IfErr result (λ code. step place bytes.now ≡ Err code) }
 {
     if is_over(place) {
@@ -113,7 +113,7 @@ pub(crate) fn step(place: Place, bytes: &[u8]) -> Result<(Line<'_>, Place), Cert
         return Err(CertCode::BadLine);
     };
     match after(place, &line) {
-        Some(next) => Ok((line, next)),
+        Some(next) => Ok((starts(&line), next)),
         None => Err(CertCode::OutOfPlace),
     }
 }

@@ -2,7 +2,7 @@
 ghost use Rattle.std.specs.Prelude.{◌≡◌, ◌||◌, [], ℕ, false, suc};
 ghost use Rattle.std.specs.List.{list_any};
 ghost use Rattle.obs_network.specs.Network.{case_needed, rows_of};
-ghost use Rattle.obs_cert.specs.Flaws.{all_inside, costs_clauses, cost_flaw, first_true, layers_clauses, listed_layers, not_inside, outside_of_plan, twice, unknown_in_plan};
+ghost use Rattle.obs_cert.specs.Flaws.{all_inside, costs_clauses, cost_flaw, first_true, layers_clauses, listed_layers, not_inside, outside_of_plan, twice, twice_in_plan, unknown_in_plan};
 ghost use Rattle.obs_cert.specs.Joins.{AreJoined};
 ghost use Rattle.obs_cert.specs.Keys.{AreKeys};
 ghost use Rattle.obs_cert.specs.Marks.{is_marked};
@@ -98,6 +98,23 @@ fn either(a: bool, b: bool, c: bool) -> bool
     a || (b || c)
 }
 
+// Whether a candidate is chosen twice, or an item or a branch stands in two pairs, or an item stands twice in the lists.
+// Marks them with the stamp.
+fn has_twice_in_plan(case: &Case, rest: &[u8], work: &mut Work, stamp: u32) -> bool
+    requires ready { IsReady case.now stamp work.old }
+    ensures twice { (number : ℕ) → result ≡ twice_in_plan case.now (cost_of number (parts_in rest.now)) }
+    ensures marked { (x : ℕ) → is_marked work.new.chosen.items stamp x
+        ≡ has (items_of case.now (chosen_items (parts_in rest.now).chosen)) x }
+    ensures ready { IsReady case.now (suc stamp) work.new }
+{
+    let chosen = walk_items(Sort::Chosen, rest);
+    let chosen_twice = has_twice(case, chosen, &mut work.chosen, stamp);
+    let pair_twice = has_pair_twice(case, rest, &mut work.paired, &mut work.taken, stamp);
+    let listed = walk_items(Sort::EachInside, rest);
+    let listed_twice = has_twice(case, listed, &mut work.listed, stamp);
+    either(chosen_twice, pair_twice, listed_twice)
+}
+
 /// The flaw of a cost claim.
 pub(crate) fn plan(
     present: &Present<'_>,
@@ -117,18 +134,14 @@ pub(crate) fn plan(
     if has_unknown_name(case, rest) {
         return Some(FlawCode::UnknownName);
     }
-    let chosen = walk_items(Sort::Chosen, rest);
-    let chosen_twice = has_twice(case, chosen, &mut work.chosen, stamp);
+    let twice = has_twice_in_plan(case, rest, work, stamp);
     if has_outside_item(present, rest, &work.chosen, stamp) {
         return Some(FlawCode::NotInside);
     }
     if has_untouched(present, walk_pairs(rest)) {
         return Some(FlawCode::NotTouched);
     }
-    let pair_twice = has_pair_twice(case, rest, &mut work.paired, &mut work.taken, stamp);
-    let listed = walk_items(Sort::EachInside, rest);
-    let listed_twice = has_twice(case, listed, &mut work.listed, stamp);
-    if either(chosen_twice, pair_twice, listed_twice) {
+    if twice {
         return Some(FlawCode::Twice);
     }
     if let Some(code) = forest(present, rest, network.needed(), work) {

@@ -1,7 +1,7 @@
 // Walks over the lines of a certificate: its claims, and the pairs, layers and items of a claim.
 ghost use Rattle.std.specs.Prelude.{◌≡◌, ◌∷◌, [], IfNone, IfSome, option_map};
 ghost use Rattle.std.specs.Iterator.{item_count};
-ghost use Rattle.obs_cert.specs.Given.{GivesClaim, GivesItem, GivesLayer, GivesPair, layer_said, pair_said};
+ghost use Rattle.obs_cert.specs.Given.{GivesItem, GivesLayer, GivesPair, layer_said, pair_said};
 ghost use Rattle.obs_cert.specs.Said.{item_said, line_said};
 ghost use Rattle.obs_cert.specs.Walked.{claim_on, claim_said, is_layer, item_on, items_of_sort, layer_on, lines_in, pair_on, parts_in, sort_after};
 
@@ -339,8 +339,8 @@ fn claim_on<'a>(line: &Line<'a>, rest: &'a [u8]) -> Option<ClaimLines<'a>>
     }
 }
 
-// The next claim, and the bytes after its first line.
-fn next_claim(bytes: &[u8]) -> Option<(ClaimLines<'_>, &[u8])>
+/// The next claim, and the bytes after its first line.
+pub(crate) fn next_claim(bytes: &[u8]) -> Option<(ClaimLines<'_>, &[u8])>
     ensures claim { IfSome result
         (λ found. (parts_in bytes.now).claims ≡ claim_said found.0 ∷ (parts_in found.1.now).claims) }
     ensures none { IfNone result ((parts_in bytes.now).claims ≡ []) }
@@ -353,45 +353,4 @@ fn next_claim(bytes: &[u8]) -> Option<(ClaimLines<'_>, &[u8])>
         }
     }
     None
-}
-
-/// The claims of a certificate. A contract sees those that are still to come.
-#[derive(Drop)]
-pub(crate) struct Claims<'a> {
-    rest: &'a [u8],
-}
-
-impl<'a> Model for Claims<'a> {
-    ghost use Rattle.std.specs.Prelude.{List};
-    ghost use Rattle.obs_cert.specs.Claims.{Claim};
-    ghost use Rattle.obs_cert.specs.Walked.{parts_in};
-
-    ghost Value = { List Claim };
-
-    ghost view = { λ w. (parts_in w.rest.now).claims };
-}
-
-impl<'a> Iterator for Claims<'a> {
-    type Item = ClaimLines<'a>;
-
-    ghost next_gives = { GivesClaim };
-
-    ghost remaining = { item_count (λ claims. claims) };
-
-    fn next(&mut self) -> Option<ClaimLines<'a>> {
-        match next_claim(self.rest) {
-            None => None,
-            Some((claim, rest)) => {
-                self.rest = rest;
-                Some(claim)
-            }
-        }
-    }
-}
-
-/// The claims that the bytes have.
-pub(crate) fn walk_claims(bytes: &[u8]) -> Claims<'_>
-    ensures claims { result ≡ (parts_in bytes.now).claims }
-{
-    Claims { rest: bytes }
 }

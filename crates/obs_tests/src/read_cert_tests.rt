@@ -181,6 +181,6 @@ fn a_certificate_of_a_megabyte(rt: HostRuntime) -> Result<(), Fail> {
         bytes.extend_from_slice(b"inside\tmeter\tf1\n")?;
     }
     bytes.extend_from_slice(b"end\n")?;
-    assert!(rt; count(rt.alloc(), bytes.as_slice()) == Ok(1));
+    assert!(rt; is_read_so(rt.alloc(), bytes.as_slice(), b"1"));
     Ok(())
 }

@@ -3,7 +3,6 @@ use Rattle.std.proofs.Common.{◌≡◌, ◌+◌, ◌≤◌, sym, ap, ◌∙◌,
 use Rattle.obs_text.specs.Lines.{lines_of}
 use Rattle.obs_text.proofs.LineLaws.{length-lines_of}
 use Rattle.obs_cert.specs.Places.{is_start}
-use Rattle.obs_cert.specs.Said.{line_said}
 use Rattle.obs_cert.proofs.CountLemmas.{all_counted, at-most-one, byte-one, count_one, counted_none, one, refused_end, refused_here, room_for_one}
 use Rattle.obs_cert.proofs.cert.count_claims.Goals as goal
 
@@ -15,8 +14,8 @@ overflow_add-at c =
 
 pub overflow_add-claims : goal.overflow_add-claims
 overflow_add-claims c =
-    let said = line_said c.in-Ok.line in
-    let value : c.from-claims.result ≡ one said = c.from-claims.ensures ∙ ap bool_byte c.starts.ensures.starts ∙ byte-one (is_start said) in
+    let said = c.in-Ok.ensures.next.0 in
+    let value : c.from-claims.result ≡ one said = c.from-claims.ensures ∙ ap bool_byte c.in-Ok.ensures.next.2 ∙ byte-one (is_start said) in
     let few : c.loop-line.claims ≤ c.loop-line.at = c.loop-line.invariant.few in
     let room : c.loop-line.at + 1 ≤ length (lines_of c.args.bytes.now) =
     room_for_one c.args.bytes.now c.loop-line.place c.loop-line.at c.loop-line.claims c.loop-line.line-iterator c.in-Some.line.now c.next.new.self c.loop-line.invariant c.in-Some.ensures.steps.first in
@@ -24,11 +23,11 @@ overflow_add-claims c =
 
 pub loop-line-preserved : goal.loop-line-preserved
 loop-line-preserved c =
-    let said = line_said c.in-Ok.line in
-    let value : c.from-claims.result ≡ one said = c.from-claims.ensures ∙ ap bool_byte c.starts.ensures.starts ∙ byte-one (is_start said) in
+    let said = c.in-Ok.ensures.next.0 in
+    let value : c.from-claims.result ≡ one said = c.from-claims.ensures ∙ ap bool_byte c.in-Ok.ensures.next.2 ∙ byte-one (is_start said) in
     let few : c.loop-line.claims ≤ c.loop-line.at = c.loop-line.invariant.few in
     count_one c.args.bytes.now c.loop-line.place c.loop-line.at c.loop-line.claims c.loop-line.line-iterator c.in-Some.line.now c.next.new.self c.loop-line.invariant c.in-Some.ensures.steps.first
-    said c.in-Ok.next (c.loop-line.claims + c.from-claims.result) c.in-Ok.ensures.next (ap (λ n. c.loop-line.claims + n) value) (omega (arith, value, few, at-most-one said))
+    said c.in-Ok.next (c.loop-line.claims + c.from-claims.result) c.in-Ok.ensures.next.1 (ap (λ n. c.loop-line.claims + n) value) (omega (arith, value, few, at-most-one said))
 
 pub returns-then-is_over-clause-count : goal.returns-then-is_over-clause-count
 returns-then-is_over-clause-count c =

@@ -3,7 +3,7 @@ use Rattle.obs_case.specs.Tables.{Tables}
 use Rattle.obs_cert.specs.Claims.{Claim}
 use Rattle.obs_cert.specs.declared.flaw.FlawCode.{FlawCode}
 use Rattle.obs_cert.specs.Flaws.{first_flaw, flaw_of}
-use Rattle.obs_cert.specs.Walked.{claim_said}
+use Rattle.obs_cert.specs.Walked.{claim_said, parts_in}
 use Rattle.obs_cert.proofs.checker.first_flaw.Goals as goal
 
 pub begin-requires : goal.begin-requires
@@ -39,21 +39,20 @@ fails t at claim claims code some = rw some refl
 pub loop-claim-init : goal.loop-claim-init
 loop-claim-init c =
     let t = c.args.present.now in
-    let whole : c.into_iter-claim-iterator.result ≡ c.args.cert.now = c.into_iter-claim-iterator.ensures.into_iter_gives ∙ c.walk-claim-items.ensures.claims in
-    (ap (first_flaw t 1) (sym whole), omega (arith, ap length whole), c.begin.ensures.ready t c.requires.room)
+    (ap (first_flaw t 1) (sym c.bytes-rest.ensures.claims), omega (arith, ap length c.bytes-rest.ensures.claims), c.begin.ensures.ready t c.requires.room)
 
 pub overflow_add-at : goal.overflow_add-at
-overflow_add-at c = omega (arith, c.loop-claim.invariant.1, ap length c.in-Some.ensures.steps, c.walk-claim-items.ensures.few)
+overflow_add-at c = omega (arith, c.loop-claim.invariant.1, ap length c.in-Some.ensures.claim, c.bytes-rest.ensures.few)
 
 pub loop-claim-smaller : goal.loop-claim-smaller
-loop-claim-smaller c = omega (arith, ap length c.in-Some.ensures.steps)
+loop-claim-smaller c = omega (arith, ap length c.in-Some.ensures.claim)
 
 pub loop-claim-preserved : goal.loop-claim-preserved
 loop-claim-preserved c =
     let t = c.args.present.now in
     let l = c.loop-claim in (
-      l.invariant.0 ∙ ap (first_flaw t (l.at + 1)) c.in-Some.ensures.steps ∙ passes t (l.at + 1) (claim_said c.in-Some.claim) c.next.new.self (sym c.flaw_of.ensures.flaw ∙ c.in_default.is),
-      omega (arith, l.invariant.1, ap length c.in-Some.ensures.steps),
+      l.invariant.0 ∙ ap (first_flaw t (l.at + 1)) c.in-Some.ensures.claim ∙ passes t (l.at + 1) (claim_said c.in-Some.claim) (parts_in c.in-Some.behind.now).claims (sym c.flaw_of.ensures.flaw ∙ c.in_default-flaw_of.is),
+      omega (arith, l.invariant.1, ap length c.in-Some.ensures.claim),
       c.flaw_of.ensures.ready,
     )
 
@@ -62,9 +61,9 @@ returns-in-Some-flaw_of-clause-flaw c =
     let t = c.args.present.now in
     let l = c.loop-claim in
     sym (
-    l.invariant.0 ∙ ap (first_flaw t (l.at + 1)) c.in-Some.ensures.steps
-    ∙ fails t (l.at + 1) (claim_said c.in-Some.claim) c.next.new.self c.in-Some-flaw_of.code (sym c.flaw_of.ensures.flaw ∙ c.in-Some-flaw_of.is)
+    l.invariant.0 ∙ ap (first_flaw t (l.at + 1)) c.in-Some.ensures.claim
+    ∙ fails t (l.at + 1) (claim_said c.in-Some.claim) (parts_in c.in-Some.behind.now).claims c.in-Some-flaw_of.code (sym c.flaw_of.ensures.flaw ∙ c.in-Some-flaw_of.is)
     )
 
 pub returns-clause-flaw : goal.returns-clause-flaw
-returns-clause-flaw c = sym (c.loop-claim.invariant.0 ∙ ap (first_flaw c.args.present.now (c.loop-claim.at + 1)) c.in-None.ensures.steps)
+returns-clause-flaw c = sym (c.loop-claim.invariant.0 ∙ ap (first_flaw c.args.present.now (c.loop-claim.at + 1)) c.in_default.ensures.none)

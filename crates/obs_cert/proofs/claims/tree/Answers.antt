@@ -1,11 +1,11 @@
 use Rattle.std.proofs.Common.{[], length, suc, sym, ap, ◌∙◌}
-use Rattle.std.proofs.lemmas.Bool.{not-false}
+use Rattle.std.proofs.lemmas.Bool.{not-false, not-true}
 use Rattle.obs_case.specs.Tables.{Tables}
 use Rattle.obs_cert.specs.Flaws.{first_true, forest_clauses, not_inside, paired_twice, unknown_pair}
 use Rattle.obs_cert.specs.Numbered.{items_of, paired_items, pairs_of}
 use Rattle.obs_cert.specs.Scopes.{is_meter_in}
 use Rattle.obs_cert.specs.Walked.{parts_in}
-use Rattle.obs_cert.proofs.ClaimLemmas.{forest_end, ready_later, ready_pairs, tree_rest, tree_twice}
+use Rattle.obs_cert.proofs.ClaimLemmas.{forest_end, ready_later, ready_pairs, tree_dead, tree_nameless, tree_outside, tree_rest, tree_touched, tree_twice, tree_unknown}
 use Rattle.obs_cert.proofs.claims.tree.Goals as goal
 
 pub returns-clause-flaw : goal.returns-clause-flaw
@@ -78,3 +78,29 @@ has_pair_twice-requires-clause-fresh_items c = rw c.deref_mut.ensures.value c.re
 
 pub has_pair_twice-requires-clause-fresh_branches : goal.has_pair_twice-requires-clause-fresh_branches
 has_pair_twice-requires-clause-fresh_branches c = rw c.deref_mut-2.ensures.value c.requires.ready.taken
+
+pub returns-in_default-clause-flaw : goal.returns-in_default-clause-flaw
+returns-in_default-clause-flaw c = tree_nameless c.args.present.now (record { component = c.args.name.now; pairs = (parts_in c.args.rest.now).pairs }) (sym c.in_default.ensures.known)
+
+pub returns-then-has_unknown_pair-clause-flaw : goal.returns-then-has_unknown_pair-clause-flaw
+returns-then-has_unknown_pair-clause-flaw c =
+    tree_unknown c.args.present.now (record { component = c.args.name.now; pairs = (parts_in c.args.rest.now).pairs }) (sym c.in-Some.ensures.known)
+    (sym (c.if-has_unknown_pair.ensures.unknown ∙ ap (λ (x : Tables). unknown_pair x (parts_in c.args.rest.now).pairs) c.case-case.ensures.case))
+
+pub returns-then-not-named-clause-flaw : goal.returns-then-not-named-clause-flaw
+returns-then-not-named-clause-flaw c =
+    tree_dead c.args.present.now (record { component = c.args.name.now; pairs = (parts_in c.args.rest.now).pairs }) (sym c.in-Some.ensures.known)
+    (sym (c.if-has_unknown_pair.ensures.unknown ∙ ap (λ (x : Tables). unknown_pair x (parts_in c.args.rest.now).pairs) c.case-case.ensures.case)) (sym c.in-Some.ensures.names ∙ not-true c.in-Some.named.energised c.if-not-named.true)
+
+pub returns-then-has_outside-clause-flaw : goal.returns-then-has_outside-clause-flaw
+returns-then-has_outside-clause-flaw c =
+    tree_outside c.args.present.now (record { component = c.args.name.now; pairs = (parts_in c.args.rest.now).pairs }) (sym c.in-Some.ensures.known)
+    (sym (c.if-has_unknown_pair.ensures.unknown ∙ ap (λ (x : Tables). unknown_pair x (parts_in c.args.rest.now).pairs) c.case-case.ensures.case)) (sym c.in-Some.ensures.names ∙ not-false c.in-Some.named.energised c.if-not-named.false)
+    (ap (λ k. not_inside (is_meter_in c.args.present.now k) (items_of c.args.present.now (paired_items (parts_in c.args.rest.now).pairs))) (sym c.in-Some.ensures.component) ∙ rw (sym c.walk_items.ensures.items) (sym c.if-has_outside.ensures.outside))
+
+pub returns-then-has_untouched-clause-flaw : goal.returns-then-has_untouched-clause-flaw
+returns-then-has_untouched-clause-flaw c =
+    tree_touched c.args.present.now (record { component = c.args.name.now; pairs = (parts_in c.args.rest.now).pairs }) (sym c.in-Some.ensures.known)
+    (sym (c.if-has_unknown_pair.ensures.unknown ∙ ap (λ (x : Tables). unknown_pair x (parts_in c.args.rest.now).pairs) c.case-case.ensures.case)) (sym c.in-Some.ensures.names ∙ not-false c.in-Some.named.energised c.if-not-named.false)
+    (ap (λ k. not_inside (is_meter_in c.args.present.now k) (items_of c.args.present.now (paired_items (parts_in c.args.rest.now).pairs))) (sym c.in-Some.ensures.component) ∙ rw (sym c.walk_items.ensures.items) (sym c.if-has_outside.ensures.outside))
+    (rw (sym c.walk_pairs.ensures.pairs) (sym c.if-has_untouched.ensures.untouched))

@@ -38,3 +38,6 @@ returns-then-m-count-clause-joined c = λ es joined.
 
 pub returns-then-m-count-clause-count : goal.returns-then-m-count-clause-count
 returns-then-m-count-clause-count c = c.join_all.ensures.count
+
+pub returns-else-m-count-clause-count : goal.returns-else-m-count-clause-count
+returns-else-m-count-clause-count c = c.requires.count

@@ -4,7 +4,7 @@ use Rattle.obs_case.specs.Tables.{Tables}
 use Rattle.obs_cert.specs.Flaws.{Listed, costs_clauses, first_true, listed_layers, wrong_outside}
 use Rattle.obs_cert.specs.Scopes.{is_below}
 use Rattle.obs_cert.specs.Walked.{cost_of, parts_in}
-use Rattle.obs_cert.proofs.ClaimLemmas.{layers_outside, layers_rest, ready_joined}
+use Rattle.obs_cert.proofs.ClaimLemmas.{layers_outside, layers_rank, layers_rest, ready_joined}
 use Rattle.obs_cert.proofs.plans.layers.Goals as goal
 
 pub returns-then-has_wrong_outside-clause-flaw : goal.returns-then-has_wrong_outside-clause-flaw
@@ -33,3 +33,25 @@ pub returns-clause-ready : goal.returns-clause-ready
 returns-clause-ready c stamp r =
     let j = c.has_wrong_rank in
     ready_joined c.args.present.now stamp c.args.work.now j.new.ups j.new.moved r (j.auto.ups ∙ ap length c.deref_mut.ensures.value) (j.auto.moved ∙ ap length c.deref_mut-2.ensures.value) j.ensures.clear
+
+pub has_wrong_rank-requires-clause-clear : goal.has_wrong_rank-requires-clause-clear
+has_wrong_rank-requires-clause-clear c = rw c.deref_mut.ensures.value c.requires.clear
+
+pub has_wrong_rank-requires-clause-vertices : goal.has_wrong_rank-requires-clause-vertices
+has_wrong_rank-requires-clause-vertices c = rw c.deref_mut.ensures.value c.requires.room.ups
+
+pub has_wrong_rank-requires-clause-room : goal.has_wrong_rank-requires-clause-room
+has_wrong_rank-requires-clause-room c = rw (c.deref_mut.ensures.value, c.deref_mut-2.ensures.value) c.requires.room.moved
+
+pub has_wrong_outside-requires-clause-keys : goal.has_wrong_outside-requires-clause-keys
+has_wrong_outside-requires-clause-keys c = rw c.case-case.ensures.case c.requires.keys
+
+pub has_wrong_outside-requires-clause-inside : goal.has_wrong_outside-requires-clause-inside
+has_wrong_outside-requires-clause-inside c = rw (c.case-case.ensures.case, c.walk_layers-2.ensures.layers) c.requires.inside
+
+pub has_wrong_outside-requires-clause-once : goal.has_wrong_outside-requires-clause-once
+has_wrong_outside-requires-clause-once c = rw (c.case-case.ensures.case, c.walk_layers-2.ensures.layers) c.requires.once
+
+pub returns-then-has_wrong_rank-clause-flaw : goal.returns-then-has_wrong_rank-clause-flaw
+returns-then-has_wrong_rank-clause-flaw c =
+    layers_rank c.args.present.now (cost_of c.args.number (parts_in c.args.rest.now)) (rw (sym c.walk_layers.ensures.layers) (sym c.if-has_wrong_rank.ensures.rank))

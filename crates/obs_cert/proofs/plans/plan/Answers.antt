@@ -1,5 +1,4 @@
-use Rattle.std.proofs.Common.{◌≡◌, ℕ, ◌||◌, Bool, true, false, length, suc, refl, sym, ap, ◌∙◌}
-use Rattle.std.specs.Vec.{with_items}
+use Rattle.std.proofs.Common.{◌≡◌, ℕ, ◌||◌, Bool, true, false, suc, refl, sym, ap, ◌∙◌, subst}
 use Rattle.obs_case.specs.Tables.{Tables}
 use Rattle.obs_cert.specs.Ready.{IsReady}
 use Rattle.obs_cert.specs.Flaws.{all_inside, layers_clauses, not_touched, paired_twice, twice, outside_of_plan, twice_in_plan, unknown_in_plan}
@@ -7,9 +6,9 @@ use Rattle.obs_cert.specs.Numbered.{chosen_items, items_of, pairs_of}
 use Rattle.obs_cert.specs.Walked.{cost_of, parts_in}
 use Rattle.obs_network.specs.Network.{Network, case_needed, network_of}
 use Rattle.obs_cert.specs.Flaws.{first_true, forest_clauses}
-use Rattle.obs_cert.proofs.ClaimLemmas.{plan_layers, plan_outside, plan_rest, plan_touched, plan_twice, ready_chosen, ready_later, ready_plan, three_same}
+use Rattle.obs_cert.proofs.ClaimLemmas.{plan_layers, plan_outside, plan_rest, plan_touched, plan_twice, ready_later}
 use Rattle.obs_cert.proofs.plans.plan.Goals as goal
-use Rattle.obs_cert.proofs.plans.plan.Goals.{After-has_unknown_name, After-has_outside_item, After-has_untouched, After-either}
+use Rattle.obs_cert.proofs.plans.plan.Goals.{After-has_unknown_name, After-has_outside_item, After-has_untouched, After-has_twice_in_plan-twice}
 
 known : (c : After-has_unknown_name) → c.has_unknown_name.result ≡ unknown_in_plan c.args.present.now (cost_of c.args.number (parts_in c.args.rest.now))
 known c = c.has_unknown_name.ensures.unknown c.args.number ∙ ap (λ (x : Tables). unknown_in_plan x (cost_of c.args.number (parts_in c.args.rest.now))) c.case-case.ensures.case
@@ -20,34 +19,11 @@ outside c = c.has_outside_item.ensures.outside c.args.number
 touched : (c : After-has_untouched) → c.has_untouched.result ≡ not_touched c.args.present.now (pairs_of c.args.present.now (parts_in c.args.rest.now).pairs)
 touched c = rw (sym c.walk_pairs.ensures.pairs) c.has_untouched.ensures.untouched
 
-again : (c : After-either) → c.either.result ≡ twice_in_plan c.args.present.now (cost_of c.args.number (parts_in c.args.rest.now))
-again c =
-    let t = c.args.present.now in
-    let parts = parts_in c.args.rest.now in
-    c.either.ensures.either
-    ∙ three_same c.has_twice-chosen_twice.result (twice (items_of t (chosen_items parts.chosen))) c.has_pair_twice-pair_twice.result (paired_twice t parts.pairs) c.has_twice-listed_twice.result (twice (items_of t (all_inside parts.layers)))
-    (rw (sym c.walk_items-chosen.ensures.items) (c.has_twice-chosen_twice.ensures.twice ∙ ap (λ (x : Tables). twice (items_of x c.walk_items-chosen.result)) c.case-case.ensures.case))
-    (c.has_pair_twice-pair_twice.ensures.twice ∙ ap (λ (x : Tables). paired_twice x parts.pairs) c.case-case.ensures.case)
-    (rw (sym c.walk_items-listed.ensures.items) (c.has_twice-listed_twice.ensures.twice ∙ ap (λ (x : Tables). twice (items_of x c.walk_items-listed.result)) c.case-case.ensures.case))
+again : (c : After-has_twice_in_plan-twice) → c.has_twice_in_plan-twice.result ≡ twice_in_plan c.args.present.now (cost_of c.args.number (parts_in c.args.rest.now))
+again c = c.has_twice_in_plan-twice.ensures.twice c.args.number ∙ ap (λ (x : Tables). twice_in_plan x (cost_of c.args.number (parts_in c.args.rest.now))) c.case-case.ensures.case
 
-ready : (c : After-either) → IsReady c.args.present.now (suc c.args.stamp) (record c.args.work.now {
-  chosen = with_items c.args.work.now.chosen c.has_twice-chosen_twice.new.marks;
-  paired = with_items c.args.work.now.paired c.has_pair_twice-pair_twice.new.paired;
-  listed = with_items c.args.work.now.listed c.has_twice-listed_twice.new.marks;
-  taken = with_items c.args.work.now.taken c.has_pair_twice-pair_twice.new.taken;
-})
-ready c =
-    let a = c.has_twice-chosen_twice in
-    let b = c.has_pair_twice-pair_twice in
-    let d = c.has_twice-listed_twice in
-    ready_plan c.args.present.now c.args.stamp c.args.work.now a.new.marks b.new.paired d.new.marks b.new.taken c.requires.ready
-    (a.auto.marks ∙ ap length c.deref_mut.ensures.value) (b.auto.paired ∙ ap length c.deref_mut-2.ensures.value) (d.auto.marks ∙ ap length c.deref_mut-4.ensures.value) (b.auto.taken ∙ ap length c.deref_mut-3.ensures.value)
-    a.ensures.below b.ensures.below_items d.ensures.below b.ensures.below_branches
-
-chosen_ready : (c : After-has_outside_item) → IsReady c.args.present.now (suc c.args.stamp) (record c.args.work.now { chosen = with_items c.args.work.now.chosen c.has_twice-chosen_twice.new.marks })
-chosen_ready c =
-    let a = c.has_twice-chosen_twice in
-    ready_chosen c.args.present.now c.args.stamp c.args.work.now a.new.marks c.requires.ready (a.auto.marks ∙ ap length c.deref_mut.ensures.value) a.ensures.below
+ready : (c : After-has_twice_in_plan-twice) → IsReady c.args.present.now (suc c.args.stamp) c.has_twice_in_plan-twice.new.work
+ready c = subst (λ (x : Tables). IsReady x (suc c.args.stamp) c.has_twice_in_plan-twice.new.work) c.case-case.ensures.case c.has_twice_in_plan-twice.ensures.ready
 
 need_is : (t : Tables) (n : Network) (k : ℕ) → n ≡ network_of t → k ≡ n.needed → case_needed t ≡ k
 need_is t n k is same = sym (same ∙ ap (λ (m : Network). m.needed) is)
@@ -73,13 +49,13 @@ returns-then-has_untouched-clause-flaw c =
 pub returns-then-has_unknown_name-clause-flaw : goal.returns-then-has_unknown_name-clause-flaw
 returns-then-has_unknown_name-clause-flaw c = rw (sym (known (goal.at.returns-then-has_unknown_name-clause-flaw c).After-has_unknown_name) ∙ c.if-has_unknown_name.true) refl
 
-pub returns-then-either-clause-flaw : goal.returns-then-either-clause-flaw
-returns-then-either-clause-flaw c =
+pub returns-then-twice-clause-flaw : goal.returns-then-twice-clause-flaw
+returns-then-twice-clause-flaw c =
     plan_twice c.args.present.now (cost_of c.args.number (parts_in c.args.rest.now))
-    (sym (known (goal.at.returns-then-either-clause-flaw c).After-has_unknown_name) ∙ c.if-has_unknown_name.false)
-    (sym (outside (goal.at.returns-then-either-clause-flaw c).After-has_outside_item) ∙ c.if-has_outside_item.false)
-    (sym (touched (goal.at.returns-then-either-clause-flaw c).After-has_untouched) ∙ c.if-has_untouched.false)
-    (sym (again (goal.at.returns-then-either-clause-flaw c).After-either) ∙ c.if-either.true)
+    (sym (known (goal.at.returns-then-twice-clause-flaw c).After-has_unknown_name) ∙ c.if-has_unknown_name.false)
+    (sym (outside (goal.at.returns-then-twice-clause-flaw c).After-has_outside_item) ∙ c.if-has_outside_item.false)
+    (sym (touched (goal.at.returns-then-twice-clause-flaw c).After-has_untouched) ∙ c.if-has_untouched.false)
+    (sym (again (goal.at.returns-then-twice-clause-flaw c).After-has_twice_in_plan-twice) ∙ c.if-twice.true)
 
 pub returns-in-Some-clause-flaw : goal.returns-in-Some-clause-flaw
 returns-in-Some-clause-flaw c =
@@ -93,10 +69,10 @@ returns-in-Some-clause-flaw c =
     (sym (known (goal.at.returns-in-Some-clause-flaw c).After-has_unknown_name) ∙ c.if-has_unknown_name.false)
     (sym (outside (goal.at.returns-in-Some-clause-flaw c).After-has_outside_item) ∙ c.if-has_outside_item.false)
     (sym (touched (goal.at.returns-in-Some-clause-flaw c).After-has_untouched) ∙ c.if-has_untouched.false)
-    (sym (again (goal.at.returns-in-Some-clause-flaw c).After-either) ∙ c.if-either.false)
+    (sym (again (goal.at.returns-in-Some-clause-flaw c).After-has_twice_in_plan-twice) ∙ c.if-twice.false)
 
 pub returns-in-Some-clause-ready : goal.returns-in-Some-clause-ready
-returns-in-Some-clause-ready c = c.forest.ensures.ready (suc c.args.stamp) (ready (goal.at.returns-in-Some-clause-ready c).After-either)
+returns-in-Some-clause-ready c = c.forest.ensures.ready (suc c.args.stamp) (ready (goal.at.returns-in-Some-clause-ready c).After-has_twice_in_plan-twice)
 
 pub layers-requires-clause-inside : goal.layers-requires-clause-inside
 layers-requires-clause-inside c =
@@ -116,28 +92,28 @@ returns-clause-flaw c =
     (sym (known (goal.at.returns-clause-flaw c).After-has_unknown_name) ∙ c.if-has_unknown_name.false)
     (sym (outside (goal.at.returns-clause-flaw c).After-has_outside_item) ∙ c.if-has_outside_item.false)
     (sym (touched (goal.at.returns-clause-flaw c).After-has_untouched) ∙ c.if-has_untouched.false)
-    (sym (again (goal.at.returns-clause-flaw c).After-either) ∙ c.if-either.false)
+    (sym (again (goal.at.returns-clause-flaw c).After-has_twice_in_plan-twice) ∙ c.if-twice.false)
 
 pub returns-clause-ready : goal.returns-clause-ready
-returns-clause-ready c = c.layers.ensures.ready (suc c.args.stamp) (c.forest.ensures.ready (suc c.args.stamp) (ready (goal.at.returns-clause-ready c).After-either))
+returns-clause-ready c = c.layers.ensures.ready (suc c.args.stamp) (c.forest.ensures.ready (suc c.args.stamp) (ready (goal.at.returns-clause-ready c).After-has_twice_in_plan-twice))
 
 pub returns-then-has_unknown_name-clause-ready : goal.returns-then-has_unknown_name-clause-ready
 returns-then-has_unknown_name-clause-ready c = ready_later c.args.present.now c.args.stamp c.args.work.now c.requires.ready
 
 pub returns-then-has_outside_item-clause-ready : goal.returns-then-has_outside_item-clause-ready
-returns-then-has_outside_item-clause-ready c = chosen_ready (goal.at.returns-then-has_outside_item-clause-ready c).After-has_outside_item
+returns-then-has_outside_item-clause-ready c = ready (goal.at.returns-then-has_outside_item-clause-ready c).After-has_twice_in_plan-twice
 
 pub returns-then-has_untouched-clause-ready : goal.returns-then-has_untouched-clause-ready
-returns-then-has_untouched-clause-ready c = chosen_ready (goal.at.returns-then-has_untouched-clause-ready c).After-has_outside_item
+returns-then-has_untouched-clause-ready c = ready (goal.at.returns-then-has_untouched-clause-ready c).After-has_twice_in_plan-twice
 
-pub returns-then-either-clause-ready : goal.returns-then-either-clause-ready
-returns-then-either-clause-ready c = ready (goal.at.returns-then-either-clause-ready c).After-either
+pub returns-then-twice-clause-ready : goal.returns-then-twice-clause-ready
+returns-then-twice-clause-ready c = ready (goal.at.returns-then-twice-clause-ready c).After-has_twice_in_plan-twice
 
 pub forest-requires-clause-room : goal.forest-requires-clause-room
-forest-requires-clause-room c = (ready (goal.at.forest-requires-clause-room c).After-either).room
+forest-requires-clause-room c = (ready (goal.at.forest-requires-clause-room c).After-has_twice_in_plan-twice).room
 
 pub forest-requires-clause-clear : goal.forest-requires-clause-clear
-forest-requires-clause-clear c = (ready (goal.at.forest-requires-clause-clear c).After-either).clear
+forest-requires-clause-clear c = (ready (goal.at.forest-requires-clause-clear c).After-has_twice_in_plan-twice).clear
 
 pub layers-requires-clause-keys : goal.layers-requires-clause-keys
 layers-requires-clause-keys c = c.requires.keys
@@ -148,33 +124,9 @@ layers-requires-clause-room c = c.forest.ensures.room
 pub layers-requires-clause-clear : goal.layers-requires-clause-clear
 layers-requires-clause-clear c = c.forest.ensures.clear
 
-pub has_twice-chosen_twice-requires-clause-room : goal.has_twice-chosen_twice-requires-clause-room
-has_twice-chosen_twice-requires-clause-room c = rw (c.case-case.ensures.case, c.deref_mut.ensures.value) c.requires.ready.room.chosen
-
-pub has_twice-chosen_twice-requires-clause-fresh : goal.has_twice-chosen_twice-requires-clause-fresh
-has_twice-chosen_twice-requires-clause-fresh c = rw c.deref_mut.ensures.value c.requires.ready.chosen
-
-pub has_pair_twice-pair_twice-requires-clause-items : goal.has_pair_twice-pair_twice-requires-clause-items
-has_pair_twice-pair_twice-requires-clause-items c = rw (c.case-case.ensures.case, c.deref_mut-2.ensures.value) c.requires.ready.room.paired
-
-pub has_pair_twice-pair_twice-requires-clause-branches : goal.has_pair_twice-pair_twice-requires-clause-branches
-has_pair_twice-pair_twice-requires-clause-branches c = rw (c.case-case.ensures.case, c.deref_mut-3.ensures.value) c.requires.ready.room.taken
-
-pub has_pair_twice-pair_twice-requires-clause-fresh_items : goal.has_pair_twice-pair_twice-requires-clause-fresh_items
-has_pair_twice-pair_twice-requires-clause-fresh_items c = rw c.deref_mut-2.ensures.value c.requires.ready.paired
-
-pub has_pair_twice-pair_twice-requires-clause-fresh_branches : goal.has_pair_twice-pair_twice-requires-clause-fresh_branches
-has_pair_twice-pair_twice-requires-clause-fresh_branches c = rw c.deref_mut-3.ensures.value c.requires.ready.taken
-
-pub has_twice-listed_twice-requires-clause-room : goal.has_twice-listed_twice-requires-clause-room
-has_twice-listed_twice-requires-clause-room c = rw (c.case-case.ensures.case, c.deref_mut-4.ensures.value) c.requires.ready.room.listed
-
-pub has_twice-listed_twice-requires-clause-fresh : goal.has_twice-listed_twice-requires-clause-fresh
-has_twice-listed_twice-requires-clause-fresh c = rw c.deref_mut-4.ensures.value c.requires.ready.listed
-
 pub layers-requires-clause-once : goal.layers-requires-clause-once
 layers-requires-clause-once c =
     let t = c.args.present.now in
     let parts = parts_in c.args.rest.now in
     last_false (twice (items_of t (chosen_items parts.chosen))) (paired_twice t parts.pairs) (twice (items_of t (all_inside parts.layers)))
-    (sym (again (goal.at.layers-requires-clause-once c).After-either) ∙ c.if-either.false)
+    (sym (again (goal.at.layers-requires-clause-once c).After-has_twice_in_plan-twice) ∙ c.if-twice.false)
