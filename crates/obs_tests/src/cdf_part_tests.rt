@@ -1,9 +1,9 @@
-// What is borrowed from a file, and faults as faults of an input.
+// What is borrowed from a file.
 
-use crate::cdf_read_tests::{front, full, ieee14};
-use obs_case_csv::{RowFault, Table, TableFault};
-use obs_ieee_cdf::{CdfEnd, CdfFault, Sections, branch_fields, bus_fields, sections};
-use obs_text::{InputFault, MOST_FILE_BYTES};
+use crate::cdf_read_tests::{full, ieee14};
+use crate::scripts::front;
+use obs_ieee_cdf::{CdfFault, Sections, branch_fields, bus_fields, sections};
+use obs_text::MOST_FILE_BYTES;
 
 fn is_between(text: &[u8], front: &[u8], back: &[u8]) -> bool {
     text.starts_with(front) && text.ends_with(back)
@@ -36,36 +36,4 @@ fn borrowed_fields(rt: HostRuntime) {
     assert!(rt; bus.number == b"1".as_slice() && bus.kind == b"3".as_slice());
     let branch = branch_fields(b"   1    2  1  1 1 0");
     assert!(rt; branch.from == b"1".as_slice() && branch.to == b"2".as_slice());
-}
-
-// A fault, and its line, number and name.
-fn fault_case(i: u8) -> (CdfFault, u32, u32, &'static [u8]) {
-    match i {
-        0 => (CdfFault::NoBranchSection, 0, 3, b"NoBranchSection"),
-        1 => (CdfFault::BusTwice(4), 4, 7, b"BusTwice"),
-        _ => (CdfFault::TooMany(20_005), 20_005, 9, b"TooMany"),
-    }
-}
-
-#[test]
-fn faults_become_input_faults(rt: HostRuntime) {
-    for i in 0..3u8 {
-        let (fault, line, number, name) = fault_case(i);
-        let given = InputFault::from(fault);
-        assert!(rt; given.part == b"cdf".as_slice() && given.name == name);
-        assert!(rt; given.place == line && given.code == number);
-        assert!(rt; fault.line() == line && fault.code() == number && fault.name() == name);
-        assert!(rt; CdfEnd::Cdf(fault).fault() == Some(given));
-    }
-}
-
-#[test]
-fn ends_have_faults(rt: HostRuntime) {
-    let table = TableFault {
-        table: Table::Meters,
-        row: 1,
-        code: RowFault::UnknownPlace,
-    };
-    assert!(rt; CdfEnd::Table(table).fault() == Some(InputFault::from(table)));
-    assert!(rt; CdfEnd::NoMemory.fault().is_none());
 }

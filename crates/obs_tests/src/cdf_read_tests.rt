@@ -1,6 +1,5 @@
 // Files that are read, and the first fault of those that are no case.
-ghost use Rattle.std.specs.Prelude.{◌≤◌, length};
-
+use crate::scripts::{all_end_so, front};
 use obs_case::Case;
 use obs_case_csv::{RowFault, Table, TableFault};
 use obs_ieee_cdf::{CdfEnd, CdfFault, read_cdf};
@@ -74,17 +73,6 @@ LOSS ZONES FOLLOWS                     1 ITEMS\r
 -99\r
 BUS DATA FOLLOWS\r
 "
-}
-
-// The file's first bytes.
-pub(crate) fn front(bytes: &[u8], count: usize) -> &[u8]
-    ensures short { length result.now ≤ count }
-{
-    if count <= bytes.len() {
-        &bytes[..count]
-    } else {
-        bytes
-    }
 }
 
 fn read(alloc: Global, cdf: &[u8], meters: &[u8]) -> Result<Case, CdfEnd> {
@@ -188,23 +176,6 @@ fn all_columns(rt: HostRuntime) {
     assert!(rt; is_full_case(rt.alloc()));
 }
 
-// What is met at the end of a file that is cut after so many bytes.
-#[test]
-fn cut_files(rt: HostRuntime) {
-    for (count, fault) in [
-        (0, Some(CdfFault::NoBusSection)),
-        (254, Some(CdfFault::BusSectionOpen)),
-        (112, Some(CdfFault::BadType(5))),
-        (421, Some(CdfFault::NoBranchSection)),
-        (447, Some(CdfFault::BadBusNumber(19))),
-        (641, Some(CdfFault::BranchSectionOpen)),
-        (644, Some(CdfFault::BadBusNumber(39))),
-        (645, None),
-    ] {
-        assert!(rt; end_of(rt.alloc(), front(ieee14(), count)) == fault.map(CdfEnd::Cdf));
-    }
-}
-
 // Each front of a file is refused until the whole end of its branch section stands in it.
 #[test]
 fn fronts_of_a_file(rt: HostRuntime) {
@@ -219,102 +190,112 @@ fn fronts_of_a_file(rt: HostRuntime) {
 }
 
 // Files with one fault, or with two of which the first counts.
-fn bus_case(i: u8) -> (&'static [u8], CdfFault) {
-    match i {
-        0 => (b" BUS DATA\n-999\n", CdfFault::NoBusSection),
-        1 => (
-            b"BUS DATA\n   1                    2\n",
-            CdfFault::BusSectionOpen,
-        ),
-        2 => (
-            b"BUS DATA\n-999\nBRANCH DAT\n-999\n",
-            CdfFault::NoBranchSection,
-        ),
-        3 => (
-            b"BUS DATA\n-999\nBRANCH DATA\n",
-            CdfFault::BranchSectionOpen,
-        ),
-        4 => (
-            b"BUS DATA\n    1                    3\n",
-            CdfFault::BadBusNumber(2),
-        ),
-        5 => (
-            b"BUS DATA\n 1 2                     3\n",
-            CdfFault::BadBusNumber(2),
-        ),
-        6 => (
-            b"BUS DATA\n\t  1                     3\n",
-            CdfFault::BadBusNumber(2),
-        ),
-        7 => (
-            b"BUS DATA\n   1                    10\n",
-            CdfFault::BadType(2),
-        ),
-        8 => (
-            b"BUS DATA\n   1                     4\n",
-            CdfFault::BadType(2),
-        ),
-        9 => (
-            b"BUS DATA\n   1                      3\n",
-            CdfFault::BadType(2),
-        ),
-        10 => (
-            b"BUS DATA\n   1                     3\n\n 001                     0\n",
-            CdfFault::BusTwice(4),
-        ),
-        11 => (
-            b"BUS DATA\n   x                     9\n",
-            CdfFault::BadBusNumber(2),
-        ),
-        12 => (
-            b"BUS DATA\n   1                     9\n   x                     3\n",
-            CdfFault::BadType(2),
-        ),
-        _ => (
-            b"BUS DATA\n   1                     3\n   1                     9\n",
-            CdfFault::BadType(3),
-        ),
-    }
-}
-
 #[test]
-fn bus_faults(rt: HostRuntime) {
-    for i in 0..14u8 {
-        let (cdf, fault) = bus_case(i);
-        assert!(rt; end_of(rt.alloc(), cdf) == Some(CdfEnd::Cdf(fault)));
-    }
+fn bus_faults(rt: HostRuntime) -> Result<(), Fail> {
+    all_end_so(
+        &rt,
+        rt.alloc(),
+        14,
+        b"+ m
+meter,kind,at,inservice
++ c
+ BUS DATA\n-999
+> 3 session cdf c m
+fault\tcdf\t0\t1\tNoBusSection
++ c
+BUS DATA\n   1                    2
+> 3 session cdf c m
+fault\tcdf\t0\t2\tBusSectionOpen
++ c
+BUS DATA\n-999\nBRANCH DAT\n-999
+> 3 session cdf c m
+fault\tcdf\t0\t3\tNoBranchSection
++ c
+BUS DATA\n-999\nBRANCH DATA
+> 3 session cdf c m
+fault\tcdf\t0\t4\tBranchSectionOpen
++ c
+BUS DATA\n    1                    3
+> 3 session cdf c m
+fault\tcdf\t2\t5\tBadBusNumber
++ c
+BUS DATA\n 1 2                     3
+> 3 session cdf c m
+fault\tcdf\t2\t5\tBadBusNumber
++ c
+BUS DATA\n\t  1                     3
+> 3 session cdf c m
+fault\tcdf\t2\t5\tBadBusNumber
++ c
+BUS DATA\n   1                    10
+> 3 session cdf c m
+fault\tcdf\t2\t6\tBadType
++ c
+BUS DATA\n   1                     4
+> 3 session cdf c m
+fault\tcdf\t2\t6\tBadType
++ c
+BUS DATA\n   1                      3
+> 3 session cdf c m
+fault\tcdf\t2\t6\tBadType
++ c
+BUS DATA\n   1                     3\n\n 001                     0
+> 3 session cdf c m
+fault\tcdf\t4\t7\tBusTwice
++ c
+BUS DATA\n   x                     9
+> 3 session cdf c m
+fault\tcdf\t2\t5\tBadBusNumber
++ c
+BUS DATA\n   1                     9\n   x                     3
+> 3 session cdf c m
+fault\tcdf\t2\t6\tBadType
++ c
+BUS DATA\n   1                     3\n   1                     9
+> 3 session cdf c m
+fault\tcdf\t3\t6\tBadType
+",
+    )
 }
 
-// Branch lines after two buses, and their fault. The first bus is `12345`, of which four columns
-// are read.
-fn branch_case(i: u8) -> (&'static [u8], Option<CdfFault>) {
-    match i {
-        0 => (b"1234    0\n-999\n", None),
-        1 => (b"1234 0\n-999", None),
-        2 => (b"   0\n-999\n", Some(CdfFault::BadBusNumber(6))),
-        3 => (b"1234    9\n-999\n", Some(CdfFault::UnknownBus(6))),
-        4 => (b"   9    x\n-999\n", Some(CdfFault::BadBusNumber(6))),
-        5 => (b"   0 0000\n\n   9    0\n", Some(CdfFault::UnknownBus(8))),
-        _ => (b"   0    0\n   0    0", Some(CdfFault::BranchSectionOpen)),
-    }
-}
-
+// Branch lines after two buses, and their fault. The first bus is `12345`, of which four columns are read. Without a fault the case is
+// short.
 #[test]
 fn branch_faults(rt: HostRuntime) -> Result<(), Fail> {
-    let head =
-        b"BUS DATA\n12345                    3\n   0                     0\n-999\nBRANCH DATA\n".as_slice();
-    for i in 0..7u8 {
-        let (branches, fault) = branch_case(i);
-        assert!(rt; end_of_parts(rt.alloc(), &[head, branches])? == fault.map(CdfEnd::Cdf));
-    }
-    Ok(())
-}
-
-#[test]
-fn a_number_again(rt: HostRuntime) -> Result<(), Fail> {
-    let parts = [front(ieee14(), 65), b"   1                     2\n-999\n"];
-    assert!(rt; end_of_parts(rt.alloc(), &parts)? == Some(CdfEnd::Cdf(CdfFault::BusTwice(4))));
-    Ok(())
+    all_end_so(
+        &rt,
+        rt.alloc(),
+        7,
+        b"+ m
+meter,kind,at,inservice
++ c
+BUS DATA\n12345                    3\n   0                     0\n-999\nBRANCH DATA\n1234    0\n-999
+> 1 session cdf c m
++ unended c
+BUS DATA\n12345                    3\n   0                     0\n-999\nBRANCH DATA\n1234 0\n-999
+> 1 session cdf c m
++ c
+BUS DATA\n12345                    3\n   0                     0\n-999\nBRANCH DATA\n   0\n-999
+> 3 session cdf c m
+fault\tcdf\t6\t5\tBadBusNumber
++ c
+BUS DATA\n12345                    3\n   0                     0\n-999\nBRANCH DATA\n1234    9\n-999
+> 3 session cdf c m
+fault\tcdf\t6\t8\tUnknownBus
++ c
+BUS DATA\n12345                    3\n   0                     0\n-999\nBRANCH DATA\n   9    x\n-999
+> 3 session cdf c m
+fault\tcdf\t6\t5\tBadBusNumber
++ c
+BUS DATA\n12345                    3\n   0                     0\n-999\nBRANCH DATA\n   0 0000\n\n   9    0
+> 3 session cdf c m
+fault\tcdf\t8\t8\tUnknownBus
++ unended c
+BUS DATA\n12345                    3\n   0                     0\n-999\nBRANCH DATA\n   0    0\n   0    0
+> 3 session cdf c m
+fault\tcdf\t0\t4\tBranchSectionOpen
+",
+    )
 }
 
 // What follows 20,000 branch lines, of which the first is line 5, and the fault.

@@ -1,7 +1,8 @@
-use crate::csv_fault_tests::{fault_in, is_fault_of};
+use crate::scripts::all_end_so;
 use obs_case::{Case, Kind};
-use obs_case_csv::{RowFault, Table, read_table, read_tables};
+use obs_case_csv::{Table, read_table, read_tables};
 use std::alloc::Global;
+use std::test::Fail;
 
 // Whether a node is there with these flags.
 fn has_node(case: &Case, name: &[u8], source: bool, absolute: bool) -> bool {
@@ -56,77 +57,119 @@ fn nodes_are_marked_under_the_column_absolute(rt: HostRuntime) {
     }
 }
 
-const FAULTS: &[(&[u8], u32, RowFault)] = &[
-    (
-        b"node,source,absolute,absolute\na,1,1,1\n",
-        0,
-        RowFault::ColumnTwice,
-    ),
-    (
-        b"absolute,node,source,absolute\na,1\n",
-        0,
-        RowFault::ColumnTwice,
-    ),
-    (
-        b"node,absolute,absolute\na,1,1\n",
-        0,
-        RowFault::ColumnMissing,
-    ),
-    (b"absolute\n1\n", 0, RowFault::ColumnMissing),
-    (b"node,source,absolute\na,1\n", 1, RowFault::ShortRow),
-    (b"node,source,absolute\na,1,1\n,2\n", 2, RowFault::ShortRow),
-    (b"absolute,node,source\n1,a\n", 1, RowFault::ShortRow),
-    (b"node,source,absolute\na,1,\n", 1, RowFault::BadFlag),
-    (b"node,source,absolute\na,1,2\n", 1, RowFault::BadFlag),
-    (b"node,source,absolute\na,1, 1\n", 1, RowFault::BadFlag),
-    (b"node,source,absolute\na,2,1\n", 1, RowFault::BadFlag),
-    (b"node,source,absolute\n,1,2\n", 1, RowFault::BadName),
-    (
-        b"node,source,absolute\na,1,0\na,0,true\n",
-        2,
-        RowFault::BadFlag,
-    ),
-    (
-        b"node,source,absolute\na,1,0\na,0,1\n",
-        2,
-        RowFault::NameTwice,
-    ),
-];
-
 #[test]
-fn faults_of_the_column_absolute(rt: HostRuntime) {
-    for case in FAULTS {
-        let (bytes, row, code) = *case;
-        assert!(rt; is_fault_of(rt.alloc(), Table::Nodes, bytes, row, code));
-    }
+fn faults_of_the_column_absolute(rt: HostRuntime) -> Result<(), Fail> {
+    all_end_so(
+        &rt,
+        rt.alloc(),
+        14,
+        b"+ n
+node,source\na,1\nb,0\nc,0\nd,0
++ s
+switch,from,to,closed
++ b
+branch,from,to,inservice\nL1,a,b,1\nL2,b,c,1\nL3,c,d,1
++ m
+meter,kind,at,inservice\nf1,flow,L1,1\nib,injection,b,1
++ c
+candidate,kind,at,price\np1,flow,L2,0\np2,zero,c,1000000000
++ n
+node,source,absolute,absolute\na,1,1,1
+> 3 place tables n s b m c
+fault\tnodes\t0\t3\tColumnTwice
++ n
+absolute,node,source,absolute\na,1
+> 3 place tables n s b m c
+fault\tnodes\t0\t3\tColumnTwice
++ n
+node,absolute,absolute\na,1,1
+> 3 place tables n s b m c
+fault\tnodes\t0\t2\tColumnMissing
++ n
+absolute\n1
+> 3 place tables n s b m c
+fault\tnodes\t0\t2\tColumnMissing
++ n
+node,source,absolute\na,1
+> 3 place tables n s b m c
+fault\tnodes\t1\t4\tShortRow
++ n
+node,source,absolute\na,1,1\n,2
+> 3 place tables n s b m c
+fault\tnodes\t2\t4\tShortRow
++ n
+absolute,node,source\n1,a
+> 3 place tables n s b m c
+fault\tnodes\t1\t4\tShortRow
++ n
+node,source,absolute\na,1,
+> 3 place tables n s b m c
+fault\tnodes\t1\t6\tBadFlag
++ n
+node,source,absolute\na,1,2
+> 3 place tables n s b m c
+fault\tnodes\t1\t6\tBadFlag
++ n
+node,source,absolute\na,1, 1
+> 3 place tables n s b m c
+fault\tnodes\t1\t6\tBadFlag
++ n
+node,source,absolute\na,2,1
+> 3 place tables n s b m c
+fault\tnodes\t1\t6\tBadFlag
++ n
+node,source,absolute\n,1,2
+> 3 place tables n s b m c
+fault\tnodes\t1\t5\tBadName
++ n
+node,source,absolute\na,1,0\na,0,true
+> 3 place tables n s b m c
+fault\tnodes\t2\t6\tBadFlag
++ n
+node,source,absolute\na,1,0\na,0,1
+> 3 place tables n s b m c
+fault\tnodes\t2\t9\tNameTwice
+",
+    )
 }
 
-const PASSED: &[(Table, &[u8])] = &[
-    (
-        Table::Switches,
-        b"absolute,switch,from,to,closed,absolute\n7,S1,a,b,1\n",
-    ),
-    (
-        Table::Branches,
-        b"branch,from,to,inservice,absolute\nL1,a,b,1,x\nL2,b,c,1\nL3,c,d,1\n",
-    ),
-    (
-        Table::Meters,
-        b"meter,kind,at,inservice,absolute,absolute\ni1,angle,a,1\n",
-    ),
-    (
-        Table::Candidates,
-        b"candidate,kind,at,price,absolute\nc1,angle,a,7,2\n",
-    ),
-];
-
-// The other tables have no such column: theirs is passed over.
+// The other tables have no such column: theirs is passed over, and a session begins, of a case that is short.
 #[test]
-fn only_nodes_have_the_column_absolute(rt: HostRuntime) {
-    for case in PASSED {
-        let (table, bytes) = *case;
-        assert!(rt; fault_in(rt.alloc(), table, bytes).is_none());
-    }
+fn only_nodes_have_the_column_absolute(rt: HostRuntime) -> Result<(), Fail> {
+    all_end_so(
+        &rt,
+        rt.alloc(),
+        4,
+        b"+ n
+node,source\na,1\nb,0\nc,0\nd,0
++ s
+switch,from,to,closed
++ b
+branch,from,to,inservice\nL1,a,b,1\nL2,b,c,1\nL3,c,d,1
++ m
+meter,kind,at,inservice\nf1,flow,L1,1\nib,injection,b,1
++ c
+candidate,kind,at,price\np1,flow,L2,0\np2,zero,c,1000000000
++ s
+absolute,switch,from,to,closed,absolute\n7,S1,a,b,1
+> 1 session tables n s b m with c
++ s
+switch,from,to,closed
++ b
+branch,from,to,inservice,absolute\nL1,a,b,1,x\nL2,b,c,1\nL3,c,d,1
+> 1 session tables n s b m with c
++ b
+branch,from,to,inservice\nL1,a,b,1\nL2,b,c,1\nL3,c,d,1
++ m
+meter,kind,at,inservice,absolute,absolute\ni1,angle,a,1
+> 1 session tables n s b m with c
++ m
+meter,kind,at,inservice\nf1,flow,L1,1\nib,injection,b,1
++ c
+candidate,kind,at,price,absolute\nc1,angle,a,7,2
+> 1 session tables n s b m with c
+",
+    )
 }
 
 // Whether a case has one meter, out of service, and it measures the angle at the second node.
@@ -169,38 +212,44 @@ fn angles_stand_at_nodes(rt: HostRuntime) {
     assert!(rt; are_angles_read(rt.alloc()));
 }
 
-const ANGLE_FAULTS: &[(Table, &[u8], RowFault)] = &[
-    (
-        Table::Meters,
-        b"meter,kind,at,inservice\ng1,angle,L1,1\n",
-        RowFault::UnknownPlace,
-    ),
-    (
-        Table::Meters,
-        b"meter,kind,at,inservice\ng1,Angle,a,1\n",
-        RowFault::BadKind,
-    ),
-    (
-        Table::Meters,
-        b"meter,kind,at,inservice\ng1,angle ,a,1\n",
-        RowFault::BadKind,
-    ),
-    (
-        Table::Candidates,
-        b"candidate,kind,at,price\nc1,angle,L1,7\n",
-        RowFault::UnknownPlace,
-    ),
-    (
-        Table::Candidates,
-        b"candidate,kind,at,price\nc1,angles,a,7\n",
-        RowFault::BadKind,
-    ),
-];
-
 #[test]
-fn faults_of_angles(rt: HostRuntime) {
-    for case in ANGLE_FAULTS {
-        let (table, bytes, code) = *case;
-        assert!(rt; is_fault_of(rt.alloc(), table, bytes, 1, code));
-    }
+fn faults_of_angles(rt: HostRuntime) -> Result<(), Fail> {
+    all_end_so(
+        &rt,
+        rt.alloc(),
+        5,
+        b"+ n
+node,source\na,1\nb,0\nc,0\nd,0
++ s
+switch,from,to,closed
++ b
+branch,from,to,inservice\nL1,a,b,1\nL2,b,c,1\nL3,c,d,1
++ m
+meter,kind,at,inservice\nf1,flow,L1,1\nib,injection,b,1
++ c
+candidate,kind,at,price\np1,flow,L2,0\np2,zero,c,1000000000
++ m
+meter,kind,at,inservice\ng1,angle,L1,1
+> 3 place tables n s b m c
+fault\tmeters\t1\t11\tUnknownPlace
++ m
+meter,kind,at,inservice\ng1,Angle,a,1
+> 3 place tables n s b m c
+fault\tmeters\t1\t7\tBadKind
++ m
+meter,kind,at,inservice\ng1,angle ,a,1
+> 3 place tables n s b m c
+fault\tmeters\t1\t7\tBadKind
++ m
+meter,kind,at,inservice\nf1,flow,L1,1\nib,injection,b,1
++ c
+candidate,kind,at,price\nc1,angle,L1,7
+> 3 place tables n s b m c
+fault\tcandidates\t1\t11\tUnknownPlace
++ c
+candidate,kind,at,price\nc1,angles,a,7
+> 3 place tables n s b m c
+fault\tcandidates\t1\t7\tBadKind
+",
+    )
 }

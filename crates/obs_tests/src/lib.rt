@@ -26,15 +26,21 @@ mod failure_tests;
 #[cfg(test)]
 mod full_tests;
 #[cfg(test)]
+mod grid_tests;
+#[cfg(test)]
 mod grids;
 #[cfg(test)]
 mod line_tests;
+#[cfg(test)]
+mod matpower_fault_tests;
 #[cfg(test)]
 mod matpower_part_tests;
 #[cfg(test)]
 mod matpower_read_tests;
 #[cfg(test)]
 mod matpower_tests;
+#[cfg(test)]
+mod notice_tests;
 #[cfg(test)]
 mod outside_tests;
 #[cfg(test)]

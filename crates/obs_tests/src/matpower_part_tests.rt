@@ -1,9 +1,9 @@
-// What is borrowed from a file, and faults as faults of an input.
+// What is borrowed from a file.
 
-use crate::matpower_read_tests::{front, with_tabs};
-use obs_case_csv::{RowFault, Table, TableFault};
-use obs_matpower::{MatEnd, MatFault, MatPart, MatRow, MatTable, rows, table, values};
-use obs_text::{InputFault, MOST_FILE_BYTES};
+use crate::matpower_tests::with_tabs;
+use crate::scripts::front;
+use obs_matpower::{MatFault, MatPart, MatRow, MatTable, rows, table, values};
+use obs_text::MOST_FILE_BYTES;
 
 // Whether a table of a file has this text and starts on this line.
 fn is_part(bytes: &[u8], of: MatTable, text: &[u8], line: u32) -> bool {
@@ -62,43 +62,4 @@ fn borrowed_rows(rt: HostRuntime) {
     let wanted = [(2, b" 1,2 ".as_slice()), (4, b"3\t"), (4, b"4\r")];
     assert!(rt; are_rows(b" 1,2 % ]\n\n3\t;;4\r", &wanted));
     assert!(rt; are_values(b", 1,2 \t3", &[b"1".as_slice(), b"2", b"3"]));
-}
-
-// A fault, and its line, number and name.
-fn fault_case(i: u8) -> (MatFault, u32, u32, &'static [u8]) {
-    match i {
-        0 => (MatFault::NoBusTable, 0, 1, b"NoBusTable"),
-        1 => (MatFault::BusTableOpen, 0, 2, b"BusTableOpen"),
-        2 => (MatFault::NoBranchTable, 0, 3, b"NoBranchTable"),
-        3 => (MatFault::BranchTableOpen, 0, 4, b"BranchTableOpen"),
-        4 => (MatFault::BadBusNumber(4), 4, 5, b"BadBusNumber"),
-        5 => (MatFault::BadType(4), 4, 6, b"BadType"),
-        6 => (MatFault::BusTwice(5), 5, 7, b"BusTwice"),
-        7 => (MatFault::UnknownBus(4), 4, 8, b"UnknownBus"),
-        8 => (MatFault::TooMany(20_005), 20_005, 9, b"TooMany"),
-        9 => (MatFault::ShortRow(9), 9, 10, b"ShortRow"),
-        _ => (MatFault::BadStatus(9), 9, 11, b"BadStatus"),
-    }
-}
-
-#[test]
-fn faults_become_input_faults(rt: HostRuntime) {
-    for i in 0..11u8 {
-        let (fault, line, number, name) = fault_case(i);
-        let given = InputFault::from(fault);
-        assert!(rt; given.part == b"matpower".as_slice() && given.name == name);
-        assert!(rt; given.place == line && given.code == number);
-        assert!(rt; MatEnd::Mat(fault).fault() == Some(given));
-    }
-}
-
-#[test]
-fn ends_have_faults(rt: HostRuntime) {
-    let fault = TableFault {
-        table: Table::Meters,
-        row: 1,
-        code: RowFault::UnknownPlace,
-    };
-    assert!(rt; MatEnd::Table(fault).fault() == Some(InputFault::from(fault)));
-    assert!(rt; MatEnd::NoMemory.fault().is_none());
 }

@@ -12,7 +12,7 @@ const MATPOWER: [&str; 4] = ["report", "matpower", "c", "m"];
 const METERS: &[u8] = b"meter,kind,at,inservice\nf1,flow,L1,1\nf2,flow,L2,1\n";
 
 // Four buses, of which the last one is isolated, and four branches, of which one is out of service and one ends at that bus.
-fn three() -> &'static [u8] {
+pub(crate) fn three() -> &'static [u8] {
     b"function mpc = three
 mpc.version = '2';
 mpc.bus = [
@@ -30,7 +30,7 @@ mpc.branch = [
 }
 
 // The same with tabs, carriage returns and comments.
-fn with_tabs() -> &'static [u8] {
+pub(crate) fn with_tabs() -> &'static [u8] {
     b"function mpc = three\r
 mpc.version = '2';\r
 %% bus data\r

@@ -1,9 +1,9 @@
 // Cases of runs, written as one text.
 //
-// A line `+ WORD` begins the file of a word, `+ input` the input, and `+ unended input` one whose last line feed is left out. A
-// line `> NUMBER WORDS` asks for a run with these words, which ends with this exit status, and begins the text that it prints. A
-// line that begins with `=` says what comes. What a line begins goes on up to the next of these lines. A run has of each word the
-// file that stands last before it.
+// A line `+ WORD` begins the file of a word, and `+ input` the input; with `unended` before the word its last line feed is left
+// out. A line `> NUMBER WORDS` asks for a run with these words, which ends with this exit status, and begins the text that it
+// prints. A line that begins with `=` says what comes. What a line begins goes on up to the next of these lines. A run has of each
+// word the file that stands last before it.
 
 ghost use Rattle.std.specs.Prelude.{◌≤◌, length};
 
@@ -78,6 +78,18 @@ fn first_part(text: &[u8]) -> Part<'_> {
     Part { line, body, rest }
 }
 
+// What a part has as the file of a word, if it has it.
+fn body_of<'a>(part: Part<'a>, word: &[u8]) -> Option<&'a [u8]> {
+    let name = part.line.strip_prefix(b"+ ".as_slice())?;
+    if name == word {
+        return Some(part.body);
+    }
+    if name.strip_prefix(b"unended ".as_slice()) == Some(word) {
+        return part.body.strip_suffix(b"\n".as_slice());
+    }
+    None
+}
+
 // The last file of a word.
 pub(crate) fn file_of<'a>(text: &'a [u8], word: &[u8]) -> Option<&'a [u8]> {
     let mut found = None;
@@ -87,8 +99,8 @@ pub(crate) fn file_of<'a>(text: &'a [u8], word: &[u8]) -> Option<&'a [u8]> {
             break;
         }
         let part = first_part(rest);
-        if part.line.strip_prefix(b"+ ".as_slice()) == Some(word) {
-            found = Some(part.body);
+        if let Some(body) = body_of(part, word) {
+            found = Some(body);
         }
         rest = part.rest;
     }
@@ -128,11 +140,7 @@ pub(crate) fn nth_run(text: &[u8], number: u32) -> Option<Run<'_>> {
 }
 
 pub(crate) fn input_of<'a>(run: Run<'a>) -> &'a [u8] {
-    let input = file_of(run.before, b"input").unwrap_or(b"");
-    match file_of(run.before, b"unended input") {
-        Some(line) => line.strip_suffix(b"\n".as_slice()).unwrap_or(line),
-        None => input,
-    }
+    file_of(run.before, b"input").unwrap_or(b"")
 }
 
 fn words_of(alloc: Global, line: &[u8]) -> Result<Vec<String>, Fail> {

@@ -1,6 +1,6 @@
 // Runs over the forms in memory, and how they end.
 use obs_engine::{Status, run};
-use obs_io::{Entry, MemFiles, MemSink, MemSource};
+use obs_io::{Entry, Files, MemFiles, MemSink, MemSource};
 use std::alloc::Global;
 use std::process::Abort;
 use std::test::Fail;
@@ -74,7 +74,7 @@ fn source(alloc: Global, outside: Outside<'_>) -> Result<MemSource, Fail> {
     Ok(MemSource::new(bytes, outside.taken.max(1), fails))
 }
 
-fn sink(alloc: Global, outside: Outside<'_>) -> Result<MemSink, Fail> {
+pub(crate) fn sink(alloc: Global, outside: Outside<'_>) -> Result<MemSink, Fail> {
     let fails = Vec::from_slice(alloc, outside.write_fails)?;
     let sink = MemSink::with_room(alloc, outside.room, outside.written.max(1), fails);
     Ok(sink.ok().ok_or("no room")?)
@@ -87,10 +87,10 @@ fn kept(alloc: Global, status: Status, text: &[u8]) -> Result<Ended, Fail> {
 }
 
 // A run is begun piece by piece: each of these calls owns one value, and has one place where it ends early.
-fn run_with_output(
+fn run_with_output<F: Files>(
     alloc: Global,
     words: &[String],
-    files: &mut MemFiles,
+    files: &mut F,
     input: &mut MemSource,
     outside: Outside<'_>,
 ) -> Result<Ended, Fail> {
@@ -99,10 +99,10 @@ fn run_with_output(
     kept(alloc, status, output.written())
 }
 
-fn run_with_input(
+pub(crate) fn run_with_input<F: Files>(
     alloc: Global,
     words: &[String],
-    files: &mut MemFiles,
+    files: &mut F,
     outside: Outside<'_>,
 ) -> Result<Ended, Fail> {
     let mut input = source(alloc, outside)?;

@@ -1,6 +1,7 @@
 -- Statements of laws.
-use Rattle.std.specs.Prelude.{◌≡◌, ℕ, ◌*◌, ◌-◌, ◌≤◌, length}
+use Rattle.std.specs.Prelude.{◌≡◌, ℕ, ◌*◌, ◌-◌, ◌≤◌, [], ◌∷◌, length, map}
 use Rattle.obs_case.specs.Tables.{IsValid}
+use Rattle.obs_trial.specs.Draws.{draw_at}
 use Rattle.obs_trial.specs.Trial.{trial_of}
 
 -- how many nodes, branches and meters there are
@@ -15,3 +16,7 @@ TrialCounts = (n seed : ℕ) → 1 ≤ n → HasCounts n seed
 -- it is a case that a `Case` can hold
 abbrev pub TrialIsValid : Type 0
 TrialIsValid = (n seed : ℕ) → 1 ≤ n → n ≤ 100 → IsValid (trial_of n seed)
+
+-- the first draws of seed 1
+abbrev pub FirstDraws : Type 0
+FirstDraws = map (draw_at 1) (0 ∷ 1 ∷ 2 ∷ 3 ∷ []) ≡ 16838 ∷ 5758 ∷ 10113 ∷ 17515 ∷ []

@@ -1,5 +1,5 @@
 //! What a reader expects of a generated case.
-ghost use Rattle.obs_trial.specs.Laws.{TrialCounts, TrialIsValid};
+ghost use Rattle.obs_trial.specs.Laws.{FirstDraws, TrialCounts, TrialIsValid};
 
 /// A grid of n rows has n * n nodes, and 2 * n * (n - 1) branches and as many meters.
 pub fn counts()
@@ -10,4 +10,9 @@ pub fn counts()
 /// and no table is too long.
 pub fn valid()
     ensures valid { TrialIsValid }
+{}
+
+/// The generator gives seed 1 these draws first.
+pub fn first_draws()
+    ensures draws { FirstDraws }
 {}

@@ -11,6 +11,3 @@ mod trial;
 
 pub use memory::NoMemory;
 pub use trial::make;
-
-#[cfg(test)]
-mod tests;

@@ -1,16 +1,8 @@
-use crate::draws::{drawn, first_state, next_state};
-use crate::{NoMemory, make};
-use obs_case::{Case, Kind};
-use std::process::Abort;
+// The cases that a number of rows and a seed generate: that the definition means what was wanted, and that they are made.
 
-#[test]
-fn first_draws(rt: HostRuntime) {
-    let mut state = first_state(1);
-    for want in [16_838, 5_758, 10_113, 17_515] {
-        state = next_state(state);
-        assert_eq!(rt; drawn(state), want);
-    }
-}
+use obs_case::{Case, Kind};
+use obs_trial::{NoMemory, make};
+use std::process::Abort;
 
 fn check_node(rt: &impl Abort, case: &Case, i: usize, name: &[u8], source: bool) {
     assert!(rt; i < case.nodes().len());
@@ -52,33 +44,14 @@ fn two_rows(rt: HostRuntime) -> Result<(), NoMemory> {
     check_node(&rt, &case, 0, b"n0", true);
     check_node(&rt, &case, 1, b"n1", false);
     check_node(&rt, &case, 3, b"n3", false);
-    Ok(())
-}
-
-#[test]
-fn branches_of_two_rows(rt: HostRuntime) -> Result<(), NoMemory> {
-    let case = make(rt.alloc(), 2, 1)?;
     check_branch(&rt, &case, 0, b"b0", 0, 1);
     check_branch(&rt, &case, 1, b"b1", 0, 2);
     check_branch(&rt, &case, 2, b"b2", 1, 3);
     check_branch(&rt, &case, 3, b"b3", 2, 3);
-    Ok(())
-}
-
-#[test]
-fn meters_of_two_rows(rt: HostRuntime) -> Result<(), NoMemory> {
-    let case = make(rt.alloc(), 2, 1)?;
     check_meter(&rt, &case, 0, b"m0", Kind::Injection, 1);
     check_meter(&rt, &case, 1, b"m1", Kind::Injection, 0);
     check_meter(&rt, &case, 2, b"m2", Kind::Flow, 2);
     check_meter(&rt, &case, 3, b"m3", Kind::Injection, 2);
-    Ok(())
-}
-
-#[test]
-fn one_row(rt: HostRuntime) -> Result<(), NoMemory> {
-    let case = make(rt.alloc(), 1, 0)?;
-    check_counts(&rt, &case, 1, 0);
     Ok(())
 }
 
@@ -91,21 +64,11 @@ fn the_largest(rt: HostRuntime) -> Result<(), NoMemory> {
 }
 
 #[test]
-fn every_tenth_size(rt: HostRuntime) -> Result<(), NoMemory> {
-    for (n, nodes, branches) in [
-        (10u32, 100, 180),
-        (20, 400, 760),
-        (30, 900, 1_740),
-        (40, 1_600, 3_120),
-        (50, 2_500, 4_900),
-        (60, 3_600, 7_080),
-        (70, 4_900, 9_660),
-        (80, 6_400, 12_640),
-        (90, 8_100, 16_020),
-        (100, 10_000, 19_800),
-    ] {
-        let case = make(rt.alloc(), n.clamp(1, 100), 7)?;
-        check_counts(&rt, &case, nodes, branches);
+fn each_small_size(rt: HostRuntime) -> Result<(), NoMemory> {
+    for n in 1..31_u32 {
+        let case = make(rt.alloc(), n, 7)?;
+        let rows = n as usize;
+        check_counts(&rt, &case, rows * rows, 2 * rows * (rows - 1));
     }
     Ok(())
 }
