@@ -76,7 +76,8 @@ uint8_t obs_session_begin(struct obs_session *session,
                           size_t *written);
 
 /* Does what one line says, and writes its answer: the answers to lines, one behind another, are what obs_run would write for them all. The
- * line has no line end; an empty one, and one that begins with `#`, has no answer.
+ * line has no line end: no line feed, and no carriage return behind it, which obs_run would drop and this call reads. An empty line, and one
+ * that begins with `#`, has no answer.
  *
  * OBS_DONE, OBS_SHORT   the verdict on the case behind the line, also where the line was refused. The whole answer is written.
  * OBS_TEXT_TOO_LONG     the line is done, and text has a front of its answer. Say the line again with a longer block: that changes nothing

@@ -14,7 +14,7 @@ use Rattle.obs_engine.specs.Replies.{EndsWith, Reply}
 use Rattle.obs_engine.specs.Stays.{Begins, IsNotBegun, line_reply}
 use Rattle.obs_files.specs.Words.{form_of}
 use Rattle.obs_c.specs.Blocks.{AreLengths, IsCall, malformed, words_in}
-use Rattle.obs_c.specs.Stays.{IsAnswered, IsBegun, IsGiven, out_of_turn}
+use Rattle.obs_c.specs.Stays.{IsLineAnswered, IsBeginning, IsGiven, out_of_turn}
 use Rattle.obs_c.proofs.Blocked.{tells}
 
 some_is : (xs ys : List ℕ) → Some xs ≡ Some ys → xs ≡ ys
@@ -82,9 +82,9 @@ module _ (words contents lengths : List ℕ) (room : ℕ) (list : List (List ℕ
   -- a session began
   pub opened : (s : Session) (before after : Option (List ℕ)) (stands : List ℕ) (number : ℕ) (was now : Option Session) → was ≡ None → now ≡ Some s → number ≡ code_of Done → stands ≡ []
       → ((file : ℕ → List ℕ) → AreFiles (form_of list) content file → Begins (form_of list) file (Ok s) before after)
-      → IsBegun words contents lengths room was now number stands
+      → IsBeginning words contents lengths room was now number stands
   opened s before after stands number was now none is number_is silent begins =
-      subst (λ (w : Option Session). IsBegun words contents lengths room w now number stands) (sym none)
+      subst (λ (w : Option Session). IsBeginning words contents lengths room w now number stands) (sym none)
       (inr (inl (record {
         call = call;
         session = s;
@@ -97,7 +97,7 @@ module _ (words contents lengths : List ℕ) (room : ℕ) (list : List (List ℕ
   refused_so : (status : Status) (bytes stands : List ℕ) (number : ℕ) (now : Option Session) → now ≡ None → IsDelivered bytes stands room number status → status ≢ ReadFault
       → ((reply : Reply) → IsNotBegun (form_of list) (content_at contents lengths) reply → length reply.text ≤ room → status ≢ WriteFault)
       → Begins (form_of list) (content_at contents lengths) (Err status) (Some []) (Some bytes)
-      → IsBegun words contents lengths room None now number stands
+      → IsBeginning words contents lengths room None now number stands
   refused_so status bytes stands number now none d read roomy (inl (reply, not, ends)) =
       ⊎_elim
       (λ (g : IsGiven reply room number stands). inr (inr (record {
@@ -120,9 +120,9 @@ module _ (words contents lengths : List ℕ) (room : ℕ) (list : List (List ℕ
       → before ≡ Some [] → after ≡ Some bytes → IsDelivered bytes stands room number status → status ≢ ReadFault
       → ((file : ℕ → List ℕ) → AreFiles (form_of list) content file → (reply : Reply) → IsNotBegun (form_of list) file reply → length reply.text ≤ room → status ≢ WriteFault)
       → ((file : ℕ → List ℕ) → AreFiles (form_of list) content file → Begins (form_of list) file (Err status) before after)
-      → IsBegun words contents lengths room was now number stands
+      → IsBeginning words contents lengths room was now number stands
   refused status before after bytes stands number was now none none_now start end d read roomy begins =
-      subst (λ (w : Option Session). IsBegun words contents lengths room w now number stands) (sym none)
+      subst (λ (w : Option Session). IsBeginning words contents lengths room w now number stands) (sym none)
       (refused_so status bytes stands number now none_now d read (λ reply not. roomy (content_at contents lengths) told reply not)
       (subst (λ (b : Option (List ℕ)). Begins (form_of list) (content_at contents lengths) (Err status) b (Some bytes)) start
       (subst (λ (a : Option (List ℕ)). Begins (form_of list) (content_at contents lengths) (Err status) before a) end (begins (content_at contents lengths) told))))
@@ -137,37 +137,37 @@ no_call words contents lengths list count same counted wrong call = wrong (recor
 
 -- a begin that leaves all as it was
 pub begun_already : (words contents lengths stands : List ℕ) (room number : ℕ) (s : Session) (was now : Option Session) → was ≡ Some s → now ≡ Some s → number ≡ out_of_turn → stands ≡ []
-    → IsBegun words contents lengths room was now number stands
+    → IsBeginning words contents lengths room was now number stands
 begun_already words contents lengths stands room number s was now some same number_is silent =
-    subst (λ (w : Option Session). IsBegun words contents lengths room w now number stands) (sym some) (number_is, same, silent)
+    subst (λ (w : Option Session). IsBeginning words contents lengths room w now number stands) (sym some) (number_is, same, silent)
 
 pub begun_malformed : (words contents lengths stands : List ℕ) (room number : ℕ) (was now : Option Session) → was ≡ None → now ≡ None → (IsCall words contents lengths → ⊥) → number ≡ malformed → stands ≡ []
-    → IsBegun words contents lengths room was now number stands
+    → IsBeginning words contents lengths room was now number stands
 begun_malformed words contents lengths stands room number was now none none_now wrong number_is silent =
-    subst (λ (w : Option Session). IsBegun words contents lengths room w now number stands) (sym none) (inl (inl (wrong, (number_is, none_now, silent))))
+    subst (λ (w : Option Session). IsBeginning words contents lengths room w now number stands) (sym none) (inl (inl (wrong, (number_is, none_now, silent))))
 
 pub begun_starved : (words contents lengths stands : List ℕ) (room number : ℕ) (was now : Option Session) → was ≡ None → now ≡ None → number ≡ code_of NoMemory → stands ≡ []
-    → IsBegun words contents lengths room was now number stands
+    → IsBeginning words contents lengths room was now number stands
 begun_starved words contents lengths stands room number was now none none_now number_is silent =
-    subst (λ (w : Option Session). IsBegun words contents lengths room w now number stands) (sym none) (inl (inr (number_is, none_now, silent)))
+    subst (λ (w : Option Session). IsBeginning words contents lengths room w now number stands) (sym none) (inl (inr (number_is, none_now, silent)))
 
 -- a line of no session, one that found no memory, and one that was done
 module _ (line stands : List ℕ) (room number : ℕ) (was now : Option Session) where
-  pub line_unbegun : was ≡ None → now ≡ None → number ≡ out_of_turn → stands ≡ [] → IsAnswered line room was now number stands
-  line_unbegun none none_now number_is silent = subst (λ (w : Option Session). IsAnswered line room w now number stands) (sym none) (number_is, none_now, silent)
+  pub line_unbegun : was ≡ None → now ≡ None → number ≡ out_of_turn → stands ≡ [] → IsLineAnswered line room was now number stands
+  line_unbegun none none_now number_is silent = subst (λ (w : Option Session). IsLineAnswered line room w now number stands) (sym none) (number_is, none_now, silent)
 
-  pub line_starved : (s : Session) → was ≡ Some s → now ≡ Some s → number ≡ code_of NoMemory → stands ≡ [] → IsAnswered line room was now number stands
-  line_starved s some same number_is silent = subst (λ (w : Option Session). IsAnswered line room w now number stands) (sym some) (inl (number_is, same, silent))
+  pub line_starved : (s : Session) → was ≡ Some s → now ≡ Some s → number ≡ code_of NoMemory → stands ≡ [] → IsLineAnswered line room was now number stands
+  line_starved s some same number_is silent = subst (λ (w : Option Session). IsLineAnswered line room w now number stands) (sym some) (inl (number_is, same, silent))
 
   pub line_done : (s after : Session) (status : Status) (before_bytes after_bytes : Option (List ℕ)) (bytes : List ℕ) → was ≡ Some s → now ≡ Some after
       → after.offered ≡ s.offered → after.tables ≡ line_case s.offered s.tables line
       → before_bytes ≡ Some [] → after_bytes ≡ Some bytes → IsDelivered bytes stands room number status → status ≢ ReadFault → status ≢ NoMemory
       → (length (line_reply s.offered s.tables line).text ≤ room → status ≢ WriteFault)
       → EndsWith (line_reply s.offered s.tables line) status before_bytes after_bytes
-      → IsAnswered line room was now number stands
+      → IsLineAnswered line room was now number stands
   line_done s after status before_bytes after_bytes bytes some same offered tables start end d read memory roomy ends =
       let reply = line_reply s.offered s.tables line in
-      subst (λ (w : Option Session). IsAnswered line room w now number stands) (sym some)
+      subst (λ (w : Option Session). IsLineAnswered line room w now number stands) (sym some)
       (⊎_elim
       (λ (g : IsGiven reply room number stands). inr (record { session = after; stays = same; offered = offered; tables = tables; given = g }))
       (λ (m : (status ≡ NoMemory) × (number ≡ code_of NoMemory) × (stands ≡ [])). absurd (memory m.0))

@@ -6,7 +6,7 @@ use Rattle.obs_files.specs.declared.status.Status.TheVariants.{Done, NoMemory, W
 use Rattle.obs_files.specs.Codes.{code_of}
 use Rattle.obs_engine.specs.Lines.{line_case}
 use Rattle.obs_engine.specs.Replies.{Reply}
-use Rattle.obs_engine.specs.Stays.{IsBegun as IsBegunWith, IsNotBegun, line_reply}
+use Rattle.obs_engine.specs.Stays.{IsBegun, IsNotBegun, line_reply}
 use Rattle.obs_files.specs.Words.{form_of}
 use Rattle.obs_c.specs.Blocks.{IsCall, malformed, words_in}
 
@@ -29,12 +29,12 @@ pub record IsOpened (words contents lengths : List ℕ) (after : Option Session)
   pub call : IsCall words contents lengths
   pub session : Session
   pub stays : after ≡ Some session
-  pub begun : IsBegunWith (form_of (words_in words)) (content_at contents lengths) session.offered session.tables
+  pub begun : IsBegun (form_of (words_in words)) (content_at contents lengths) session.offered session.tables
   pub number_is : number ≡ code_of Done
   pub silent : bytes ≡ []
 
 -- the words are no session's, or the files no case: none stays, and the reply to them is given
-pub record IsRefused (words contents lengths : List ℕ) (room : ℕ) (after : Option Session) (number : ℕ) (bytes : List ℕ) : Type 0 where
+pub record IsTurnedAway (words contents lengths : List ℕ) (room : ℕ) (after : Option Session) (number : ℕ) (bytes : List ℕ) : Type 0 where
   pub call : IsCall words contents lengths
   pub none : after ≡ None
   pub reply : Reply
@@ -43,11 +43,11 @@ pub record IsRefused (words contents lengths : List ℕ) (room : ℕ) (after : O
 
 -- how a begin ends: where a session stays it is left as it is, and where there is none and the blocks are no call, or there is no
 -- memory, none stays
-abbrev pub IsBegun : List ℕ → List ℕ → List ℕ → ℕ → Option Session → Option Session → ℕ → List ℕ → Type 0
-IsBegun words contents lengths room (Some s) after number bytes = IsLeft (Some s) after number bytes out_of_turn
-IsBegun words contents lengths room None after number bytes =
+abbrev pub IsBeginning : List ℕ → List ℕ → List ℕ → ℕ → Option Session → Option Session → ℕ → List ℕ → Type 0
+IsBeginning words contents lengths room (Some s) after number bytes = IsLeft (Some s) after number bytes out_of_turn
+IsBeginning words contents lengths room None after number bytes =
     (((IsCall words contents lengths → ⊥) × IsLeft None after number bytes malformed) ⊎ IsLeft None after number bytes (code_of NoMemory))
-    ⊎ (IsOpened words contents lengths after number bytes ⊎ IsRefused words contents lengths room after number bytes)
+    ⊎ (IsOpened words contents lengths after number bytes ⊎ IsTurnedAway words contents lengths room after number bytes)
 
 -- a line was done: the session behind it has the case behind the line, and the line's reply is given
 pub record IsDone (line : List ℕ) (room : ℕ) (s : Session) (after : Option Session) (number : ℕ) (bytes : List ℕ) : Type 0 where
@@ -58,6 +58,6 @@ pub record IsDone (line : List ℕ) (room : ℕ) (s : Session) (after : Option S
   pub given : IsGiven (line_reply s.offered s.tables line) room number bytes
 
 -- what one line does: nothing where there is no session, and nothing for want of memory
-abbrev pub IsAnswered : List ℕ → ℕ → Option Session → Option Session → ℕ → List ℕ → Type 0
-IsAnswered line room None after number bytes = IsLeft None after number bytes out_of_turn
-IsAnswered line room (Some s) after number bytes = IsLeft (Some s) after number bytes (code_of NoMemory) ⊎ IsDone line room s after number bytes
+abbrev pub IsLineAnswered : List ℕ → ℕ → Option Session → Option Session → ℕ → List ℕ → Type 0
+IsLineAnswered line room None after number bytes = IsLeft None after number bytes out_of_turn
+IsLineAnswered line room (Some s) after number bytes = IsLeft (Some s) after number bytes (code_of NoMemory) ⊎ IsDone line room s after number bytes

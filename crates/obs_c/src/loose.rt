@@ -17,14 +17,14 @@ impl<T, A: Allocator> Model for Loose<T, A> {
 
 impl<T: Drop, A: Allocator> Loose<T, A> {
     pub(crate) fn of(value: Box<T, A>) -> Loose<T, A>
-        ensures { result.value ≡ value.value }
+        ensures value { result.value ≡ value.value }
     {
         let (at, alloc) = Box::into_raw_with_allocator(value);
         Loose { at, alloc }
     }
 
     pub(crate) fn into_box(self) -> Box<T, A>
-        ensures { result.value ≡ self.value }
+        ensures value { result.value ≡ self.value }
     {
         let Loose { at, alloc } = self;
         unsafe { Box::from_raw(alloc, at) }

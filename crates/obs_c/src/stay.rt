@@ -1,7 +1,7 @@
 // A session that stays between calls.
 ghost use Rattle.std.specs.Prelude.{◌≡◌, ◌<◌, ◌≤◌, None, drop, length, take};
 ghost use Rattle.obs_files.specs.Codes.{code_of};
-ghost use Rattle.obs_c.specs.Stays.{IsAnswered, IsBegun};
+ghost use Rattle.obs_c.specs.Stays.{IsLineAnswered, IsBeginning};
 
 use crate::lengths::are_lengths;
 use crate::slot::Slot;
@@ -36,8 +36,8 @@ fn deliver(bytes: &[u8], status: Status, text: &mut [u8], written: &mut usize) -
 }
 
 /// Begins a session, which stays. The words, the contents and the lengths are those of `obs_run`, with the words of a
-/// session. The answer is 0 where it began, and nothing is written; else what `obs_run` answers to these words and
-/// files, or 9 where a session stays already, which is left as it is.
+/// session. The answer is 0 where it began, and nothing is written; 2 with the usage line for other words; else what
+/// `obs_run` answers to these words and files, or 9 where a session stays already, which is left as it is.
 #[unsafe(no_mangle)]
 pub extern "C" fn obs_session_begin(
     alloc: Global,
@@ -48,7 +48,7 @@ pub extern "C" fn obs_session_begin(
     text: &mut [u8],
     written: &mut usize,
 ) -> u8
-    ensures begun { IsBegun words.now contents.now lengths.now (length text.old)
+    ensures begun { IsBeginning words.now contents.now lengths.now (length text.old)
         slot.old.handle.value slot.new.handle.value result (take written.new text.new) }
 
     // Behind what was written the block is as it was.
@@ -84,7 +84,8 @@ pub extern "C" fn obs_session_begin(
     }
 }
 
-/// Does what one line of a session says, and writes its answer. The line has no line end. The answer is 0 or 1, the
+/// Does what one line of a session says, and writes its answer. The line has no line end, and no carriage return
+/// behind it. The answer is 0 or 1, the
 /// verdict on the case behind the line, or 5 where the text is too short; 6 where there is no memory, or 9 where no
 /// session stays, and nothing is done.
 #[unsafe(no_mangle)]
@@ -95,7 +96,7 @@ pub extern "C" fn obs_session_line(
     text: &mut [u8],
     written: &mut usize,
 ) -> u8
-    ensures answered { IsAnswered line.now (length text.old)
+    ensures answered { IsLineAnswered line.now (length text.old)
         slot.old.handle.value slot.new.handle.value result (take written.new text.new) }
 
     // Behind what was written the block is as it was.
