@@ -35,10 +35,10 @@ pub(crate) fn serve<F: Files, S: Source, W: Sink, E: Sink>(
         (length (notice (map string_bytes words.now) result (failed_word files.new.faults)) + rest)
         → Wrote (E.written errors.old) (E.written errors.new)
         (notice (map string_bytes words.now) result (failed_word files.new.faults)) }
-    // after a failed read the named word is one of whose file a read failed,
+    // after a failed read the named word is one of whose file a read failed beneath,
     // and none is named only where one of the input failed
     ensures named { result ≡ Status.ReadFault
-        → NamesFailure files.new.faults (S.faults input.old) (S.faults input.new) (failed_word files.new.faults) }
+        → NamesFailure (F.faults files.new.inner) (S.faults input.old) (S.faults input.new) (failed_word files.new.faults) }
     // where a run doesn't end for a failed read, no read of the files beneath has failed since they were noted
     ensures beneath { result ≢ Status.ReadFault → (w : ℕ) → F.faults files.new.inner w ≡ 0 }
 {

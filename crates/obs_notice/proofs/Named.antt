@@ -42,17 +42,18 @@ none_failed counts w none = all_zero counts w (cond_none _ _ none)
 no_rise : (start now : ℕ) → start ≡ 0 → now ≡ 0 → Rose start now → ⊥
 no_rise start now e f rose = absurd (omega (arith, e, f, rose))
 
-named_at : (counts : List ℕ) (before now : ℕ) (found : Option ℕ) → failed_word counts ≡ found
-    → (found ≡ None → Rose before now) → NamesFailure counts before now found
-named_at counts before now None e input = input refl
-named_at counts before now (Some w) e input = let found = position-Some (λ count. nat_lt 0 count) counts w 0 e in above_zero _ found.1
+-- counts of failed reads, of which each that isn't 0 is one of a word of which a read failed beneath
+module _ (counts : List ℕ) (beneath : ℕ → ℕ) (noted : (w : ℕ) → 0 < slice_index counts w → 0 < beneath w) (before now : ℕ) where
+  named_at : (found : Option ℕ) → failed_word counts ≡ found → (found ≡ None → Rose before now) → NamesFailure beneath before now found
+  named_at None e input = input refl
+  named_at (Some w) e input = let found = position-Some (λ count. nat_lt 0 count) counts w 0 e in noted w (above_zero _ found.1)
 
--- a failed read of a file is named
-pub named_file : (words counts : List ℕ) (content : ℕ → Option (List ℕ)) (start : ℕ → ℕ) (before now : ℕ) → ((w : ℕ) → start w ≡ 0)
-    → ReadFailed words content start (λ w. slice_index counts w) → NamesFailure counts before now (failed_word counts)
-named_file words counts content start before now fresh failed =
-    named_at counts before now (failed_word counts) refl (λ none. absurd (no_rise _ _ (fresh failed.word) (none_failed counts failed.word none) failed.rose))
+  -- a failed read of a file is named
+  pub named_file : (words : List ℕ) (content : ℕ → Option (List ℕ)) (start : ℕ → ℕ) → ((w : ℕ) → start w ≡ 0)
+      → ReadFailed words content start (λ w. slice_index counts w) → NamesFailure beneath before now (failed_word counts)
+  named_file words content start fresh failed =
+      named_at (failed_word counts) refl (λ none. absurd (no_rise _ _ (fresh failed.word) (none_failed counts failed.word none) failed.rose))
 
--- where one of the input failed, that is said, unless a file is named
-pub named_input : (counts : List ℕ) (before now : ℕ) → Rose before now → NamesFailure counts before now (failed_word counts)
-named_input counts before now rose = named_at counts before now (failed_word counts) refl (λ none. rose)
+  -- where one of the input failed, that is said, unless a file is named
+  pub named_input : Rose before now → NamesFailure beneath before now (failed_word counts)
+  named_input rose = named_at (failed_word counts) refl (λ none. rose)

@@ -1,5 +1,5 @@
 -- What is said on standard error: where no answer was given or not the whole one, what happened and what to do.
-use Rattle.std.specs.Prelude.{ℕ, ◌+◌, ◌/◌, ◌%◌, ◌<◌, ◌==◌, ◌||◌, nat_lt, if◌then◌else◌, List, [], ◌∷◌, ◌++◌, codes, Option, None, Some, position, slice_index, slice_index_or}
+use Rattle.std.specs.Prelude.{ℕ, ◌+◌, ◌/◌, ◌%◌, ◌<◌, ◌==◌, ◌||◌, nat_lt, if◌then◌else◌, List, [], ◌∷◌, ◌++◌, codes, Option, None, Some, position, slice_index_or}
 use Rattle.obs_files.specs.declared.status.Status.{Status}
 use Rattle.obs_files.specs.declared.status.Status.TheVariants.{Done, Short, Usage, InputFault, ReadFault, WriteFault, NoMemory, SessionTooLong}
 use Rattle.obs_io.specs.Causes.{Rose}
@@ -49,7 +49,7 @@ notice words SessionTooLong failed =
     codes "obs: the session's input has more than 16,777,216 bytes. Only the lines that ended within these were answered.\n"
     ++ codes "obs: begin a new session for the rest, and repeat the edits that are to hold there.\n"
 
--- the word is one of whose file a read failed; where there is none, a read of the input failed
-abbrev pub NamesFailure : List ℕ → ℕ → ℕ → Option ℕ → Type 0
-NamesFailure counts before now (Some word) = 0 < slice_index counts word
-NamesFailure counts before now None = Rose before now
+-- the word is one of whose file a read failed, by how often that is so of each word; where there is none, a read of the input failed
+abbrev pub NamesFailure : (ℕ → ℕ) → ℕ → ℕ → Option ℕ → Type 0
+NamesFailure failures before now (Some word) = 0 < failures word
+NamesFailure failures before now None = Rose before now

@@ -1,5 +1,5 @@
 // Files that note which of them could not be read.
-ghost use Rattle.std.specs.Prelude.{◌≡◌, ℕ, length, slice_index};
+ghost use Rattle.std.specs.Prelude.{◌≡◌, ◌<◌, ℕ, length, slice_index};
 ghost use Rattle.obs_notice.specs.Notices.{failed_word};
 
 use obs_io::{Failed, Files};
@@ -12,6 +12,8 @@ pub struct Noted<F: Files> {
     ghost counts: { length faults ≡ 16 },
     // no read has failed beneath but of the words of which one is noted
     ghost noted: { (w : ℕ) → slice_index faults w ≡ 0 → F.faults inner w ≡ 0 },
+    // and of each of these one has
+    ghost failed: { (w : ℕ) → 0 < slice_index faults w → 0 < F.faults inner w },
 }
 
 impl<F: Files> Noted<F> {

@@ -8,10 +8,10 @@ returns-clause-says g c = rw (sym c.failed.ensures.word) (writes_part _ _ c.say-
 
 pub returns-clause-named : goal.returns-clause-named
 returns-clause-named g c = λ e.
-    let counts = c.run-status.new.files.faults in
+    let files = c.run-status.new.files in
     elim (c.run-status.ensures.read e) [
-      | inl failed ↦ named_file _ counts _ _ _ _ c.requires.fresh failed.file
-      | inr failed ↦ named_input counts _ _ failed.rose
+      | inl failed ↦ named_file files.faults _ files.failed _ _ _ _ _ c.requires.fresh failed.file
+      | inr failed ↦ named_input files.faults _ files.failed _ _ failed.rose
     ]
 
 pub returns-clause-beneath : goal.returns-clause-beneath
