@@ -68,7 +68,7 @@ input_of [] = []
 input_of (line ∷ lines) = line ++ (line_feed ∷ input_of lines)
 
 -- a session that stays answers what `run` answers: the replies to its lines, as one, are the reply that is stated for the same words and
--- files and the input of these lines
+-- files and the input of these lines, where each is the content of a line and `run` reads that many bytes
 abbrev pub AnswersAsRun : Type 0
 AnswersAsRun =
     (form : Option Form) (file : ℕ → List ℕ) (offered : Bool) (t : Tables) (lines : List (List ℕ))

@@ -132,7 +132,8 @@ pub fn lines_end_or_are_last()
 {}
 
 /// A session that stays between calls answers what `run` answers: the replies to its lines, as one, are the reply of `run`
-/// to the same words and files and the input of these lines. Where none begins, `run` has the same reply.
+/// to the same words and files and the input of these lines, as far as these are lines of an input: without a line feed
+/// or a carriage return at the end, and together no more than `run` reads. Where none begins, `run` has the same reply.
 pub fn sessions_answer_as_run()
     ensures answers { AnswersAsRun }
     ensures refuses { RefusesAsRun }

@@ -2,35 +2,31 @@
 ghost use Rattle.std.specs.Prelude.{◌≡◌, ◌≢◌, ◌↔◌, ◌⊎◌, ℕ, true, false, Option, List};
 ghost use Rattle.obs_graph.specs.declared.Ends.{Ends};
 ghost use Rattle.obs_graph.specs.Positions.{AreBranches};
-ghost use Rattle.obs_matroid.specs.Lists.{In, without};
+ghost use Rattle.obs_matroid.specs.Lists.{In, IsDistinct, without};
 ghost use Rattle.obs_meter.specs.declared.Touch.{Touch};
 ghost use Rattle.obs_meter.specs.Touches.{is_live, live_items};
 ghost use Rattle.obs_exchange.specs.Critical.{IsCriticalAt, critical_at};
 ghost use Rattle.obs_pairs.specs.Partners.{ArePartnersAt, class_at, partner_at};
 
 /// The computed partners are the meters without which, both lost, the greatest length falls, though neither is
-/// critical. The partners of a meter that isn't critical are those that become critical without it.
+/// critical. In any list of meters the partners of one that isn't critical are those that become critical without it.
 pub fn partners()
     ensures computed { (n : ℕ) (ends : List (Option Ends)) (touches : List Touch) (m k : ℕ) → AreBranches n ends →
         (partner_at n ends touches m k ≡ true) ↔ ArePartnersAt ends touches (live_items ends touches) m k }
-    ensures newly_critical { (n : ℕ) (ends : List (Option Ends)) (touches : List Touch) (m k : ℕ) →
-        AreBranches n ends → In m (live_items ends touches) →
-        (IsCriticalAt ends touches (live_items ends touches) m → ⊥) →
-        (IsCriticalAt ends touches (without m (live_items ends touches)) k
-        × (IsCriticalAt ends touches (live_items ends touches) k → ⊥))
-        ↔ ArePartnersAt ends touches (live_items ends touches) m k }
+    ensures newly_critical { (n : ℕ) (ends : List (Option Ends)) (touches : List Touch) (M : List ℕ) (m k : ℕ) →
+        AreBranches n ends → IsDistinct M → In m M → (IsCriticalAt ends touches M m → ⊥) →
+        (IsCriticalAt ends touches (without m M) k × (IsCriticalAt ends touches M k → ⊥))
+        ↔ ArePartnersAt ends touches M m k }
 {}
 
-/// A partner is one both ways, and different partners of one meter are partners of each other. So classes are a
-/// partition: two meters have one class exactly where they are the same or partners.
+/// In any list of meters a partner is one both ways, and different partners of one meter are partners of each other. So
+/// classes are a partition: two meters have one class exactly where they are the same or partners.
 pub fn classes_are_a_partition()
-    ensures both_ways { (n : ℕ) (ends : List (Option Ends)) (touches : List Touch) (m k : ℕ) → AreBranches n ends →
-        ArePartnersAt ends touches (live_items ends touches) m k →
-        ArePartnersAt ends touches (live_items ends touches) k m }
-    ensures together { (n : ℕ) (ends : List (Option Ends)) (touches : List Touch) (m k x : ℕ) → AreBranches n ends →
-        ArePartnersAt ends touches (live_items ends touches) m k →
-        ArePartnersAt ends touches (live_items ends touches) m x → k ≢ x →
-        ArePartnersAt ends touches (live_items ends touches) k x }
+    ensures both_ways { (n : ℕ) (ends : List (Option Ends)) (touches : List Touch) (M : List ℕ) (m k : ℕ) →
+        AreBranches n ends → IsDistinct M → ArePartnersAt ends touches M m k → ArePartnersAt ends touches M k m }
+    ensures together { (n : ℕ) (ends : List (Option Ends)) (touches : List Touch) (M : List ℕ) (m k x : ℕ) →
+        AreBranches n ends → IsDistinct M → ArePartnersAt ends touches M m k → ArePartnersAt ends touches M m x →
+        k ≢ x → ArePartnersAt ends touches M k x }
     ensures classes { (n : ℕ) (ends : List (Option Ends)) (touches : List Touch) (m k : ℕ) → AreBranches n ends →
         (class_at n ends touches m ≡ class_at n ends touches k)
         ↔ ((m ≡ k) ⊎ ArePartnersAt ends touches (live_items ends touches) m k) }
