@@ -37,6 +37,7 @@ use Rattle.obs_files.specs.declared.words.Form.TheVariants.{Topology, Case, Tria
 use Rattle.obs_engine.specs.Asks.{report_status}
 use Rattle.obs_engine.specs.Commands.{IsCaseReply}
 use Rattle.obs_files.specs.Files.{case_in_files, certificate_in}
+use Rattle.obs_engine.specs.Forms.{CanRefuse}
 use Rattle.obs_engine.specs.Lines.{answer_to, case_after, line_case, line_text, lines_case, lines_text}
 use Rattle.obs_engine.specs.Replies.{EndsWith, IsRefused, IsReplyTo, Reply, fault_reply, usage_reply}
 use Rattle.obs_engine.specs.Sessions.{most_input_bytes, session_reply}
@@ -75,6 +76,15 @@ begins-refused form x file offered (Refused fault) status a b is some stated end
     inl (reply, inr (offered, fault_of fault, sym some, stated, refl), ends (case_in_files x file) reply stated (subst (λ (r : Result Tables Fault). IsRefused r reply) (sym stated) refl)))
 begins-refused form x file offered Read status a b is some stated ends read unread starved memory = inr (inl (read refl), unread (read refl))
 begins-refused form x file offered NoMemoryForIt status a b is some stated ends read unread starved memory = inr (inr (starved refl), memory (starved refl))
+
+-- with which statuses none begins
+pub refuses : (form : Option Form) (x : Form) (o : Option Bool) (status : Status) → Some x ≡ form → o ≡ offers (Some x) → CanRefuse o status → CanRefuse (offers form) status
+refuses form x o status is said can = subst (λ (f : Option Form). CanRefuse (offers f) status) is (subst (λ (p : Option Bool). CanRefuse p status) said can)
+
+pub refuses-counted : (form : Option Form) (x : Form) (offered : Bool) (result : Result Kept Status) → Some x ≡ form → Some offered ≡ offers (Some x)
+    → IfErr result (λ status. status ≡ NoMemory) → IfErr result (CanRefuse (offers form))
+refuses-counted form x offered (Ok s) is said memory = tt
+refuses-counted form x offered (Err status) is said memory = refuses form x (Some offered) status is said (inr (inr (inr memory)))
 
 -- which reply is stated where none begins
 pub usage_of_words : (form : Option Form) (file : ℕ → List ℕ) (reply : Reply) → None ≡ form → IsNotBegun form file reply → reply ≡ usage_reply

@@ -5,10 +5,11 @@ ghost use Rattle.obs_script.specs.Gathered.{is_comment};
 ghost use Rattle.obs_report.specs.Printed.{Appends};
 ghost use Rattle.obs_engine.specs.Asks.{report_status};
 ghost use Rattle.obs_files.specs.Outside.{AreFiles, IsFileWord, ReadFailed};
+ghost use Rattle.obs_engine.specs.Forms.{CanRefuse};
 ghost use Rattle.obs_engine.specs.Lines.{line_case, line_text};
 ghost use Rattle.obs_engine.specs.Replies.{IsReplied, Reply};
 ghost use Rattle.obs_engine.specs.Stays.{Begins, IsNotBegun, line_reply};
-ghost use Rattle.obs_files.specs.Words.{file_words, form_of};
+ghost use Rattle.obs_files.specs.Words.{file_words, form_of, offers};
 
 use crate::answers::verdict;
 use crate::judged::printed_status;
@@ -60,8 +61,12 @@ pub fn begin_session<F: Files, W: Sink>(
         → (reply : Reply) (rest : ℕ) → IsNotBegun form file reply
         → W.has_room output.old (length reply.text + rest) → IsErrOf result Status.WriteFault → ⊥ }
 
-    // Where it has begun, or there was no memory, nothing is written.
+    // What words of no session can be answered, and what the others, where none begins.
+    ensures statuses { IfErr result (CanRefuse (offers (form_of (map string_bytes words.now)))) }
+
+    // Where it has begun, a read failed or there was no memory, nothing is written.
     ensures silent { IfOk result (λ _. W.written output.new ≡ W.written output.old) }
+    ensures unread { IsErrOf result Status.ReadFault → W.written output.new ≡ W.written output.old }
     ensures memory { IsErrOf result Status.NoMemory → W.written output.new ≡ W.written output.old }
 
     // A call that failed has a cause, and isn't passed over.

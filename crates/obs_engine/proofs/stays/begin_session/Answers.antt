@@ -2,9 +2,10 @@ use Rattle.std.proofs.Common.{◌+◌, length, ap, subst, sym, Err, Option}
 use Rattle.obs_files.specs.declared.status.Status.TheVariants.{NoMemory, ReadFault}
 use Rattle.obs_files.specs.declared.words.Form.{Form}
 use Rattle.obs_files.specs.Outside.{AreFiles, IsFileWord, ReadFailed}
+use Rattle.obs_engine.specs.Forms.{CanRefuse}
 use Rattle.obs_engine.specs.Replies.{Reply}
-use Rattle.obs_files.specs.Words.{file_words}
-use Rattle.obs_engine.proofs.Staying.{begins-counted, begins-other, begins-refused, begins-usage, no_read, no_write, refused_by_files, status_is, usage_no_memory, usage_no_read, usage_of_others, usage_of_words}
+use Rattle.obs_files.specs.Words.{file_words, offers}
+use Rattle.obs_engine.proofs.Staying.{begins-counted, begins-other, begins-refused, begins-usage, no_read, no_write, refused_by_files, refuses, refuses-counted, status_is, usage_no_memory, usage_no_read, usage_of_others, usage_of_words}
 use Rattle.obs_files.proofs.Taking.{ok_not_read, read_is}
 use Rattle.obs_engine.proofs.stays.begin_session.Goals as goal
 
@@ -15,6 +16,12 @@ pub returns-in_default-clause-room : goal.returns-in_default-clause-room
 returns-in_default-clause-room g c = λ file told reply rest not has e.
     c.refuse_words.ensures.replied.room rest
     (subst (λ (r : Reply). g.W.Sink.has_room c.args.output.now (length r.text + rest)) (usage_of_words _ file reply c.in_default.ensures.form not) has) (status_is _ _ e)
+
+pub returns-in_default-clause-statuses : goal.returns-in_default-clause-statuses
+returns-in_default-clause-statuses g c = subst (λ (f : Option Form). CanRefuse (offers f) c.refuse_words.result) c.in_default.ensures.form c.refuse_words.ensures.statuses
+
+pub returns-in_default-clause-unread : goal.returns-in_default-clause-unread
+returns-in_default-clause-unread g c = λ e. absurd (usage_no_read _ c.refuse_words.ensures.statuses (status_is _ ReadFault e))
 
 pub returns-in_default-clause-memory : goal.returns-in_default-clause-memory
 returns-in_default-clause-memory g c = λ e. absurd (usage_no_memory _ c.refuse_words.ensures.statuses (status_is _ NoMemory e))
@@ -40,6 +47,12 @@ returns-in_default-offers-clause-room g c = λ file told reply rest not has e.
     c.refuse_words-in_default-offers.ensures.replied.room rest
     (subst (λ (r : Reply). g.W.Sink.has_room c.args.output.now (length r.text + rest)) (usage_of_others _ _ file reply c.in-Some.ensures.form c.in_default-offers.ensures.offers not) has) (status_is _ _ e)
 
+pub returns-in_default-offers-clause-statuses : goal.returns-in_default-offers-clause-statuses
+returns-in_default-offers-clause-statuses g c = refuses _ _ _ _ c.in-Some.ensures.form c.in_default-offers.ensures.offers c.refuse_words-in_default-offers.ensures.statuses
+
+pub returns-in_default-offers-clause-unread : goal.returns-in_default-offers-clause-unread
+returns-in_default-offers-clause-unread g c = λ e. absurd (usage_no_read _ c.refuse_words-in_default-offers.ensures.statuses (status_is _ ReadFault e))
+
 pub returns-in_default-offers-clause-memory : goal.returns-in_default-offers-clause-memory
 returns-in_default-offers-clause-memory g c = λ e. absurd (usage_no_memory _ c.refuse_words-in_default-offers.ensures.statuses (status_is _ NoMemory e))
 
@@ -64,6 +77,12 @@ returns-in-Ok-clause-begins g c = λ file told.
 pub returns-in-Ok-clause-room : goal.returns-in-Ok-clause-room
 returns-in-Ok-clause-room g c = λ file told reply rest not has e. no_write c.begin_counted.result c.begin_counted.ensures.memory e
 
+pub returns-in-Ok-clause-statuses : goal.returns-in-Ok-clause-statuses
+returns-in-Ok-clause-statuses g c = refuses-counted _ _ _ c.begin_counted.result c.in-Some.ensures.form c.in-Some-offers.ensures.offers c.begin_counted.ensures.memory
+
+pub returns-in-Ok-clause-unread : goal.returns-in-Ok-clause-unread
+returns-in-Ok-clause-unread g c = λ e. absurd (no_read c.begin_counted.result c.begin_counted.ensures.memory e)
+
 pub returns-in-Ok-clause-read : goal.returns-in-Ok-clause-read
 returns-in-Ok-clause-read g c = λ e. absurd (no_read c.begin_counted.result c.begin_counted.ensures.memory e)
 
@@ -87,6 +106,12 @@ pub returns-in-Err-clause-room : goal.returns-in-Err-clause-room
 returns-in-Err-clause-room g c = λ file told reply rest not has e.
     let here = subst (λ (f : Option Form). AreFiles f (g.F.Files.content c.args.files.now) file) (sym c.in-Some.ensures.form) told in
     c.refuse_files.ensures.room _ reply rest (c.in-Err.ensures.stated file here) (refused_by_files _ _ file _ reply c.in-Some.ensures.form c.in-Some-offers.ensures.offers not) has (status_is _ _ e)
+
+pub returns-in-Err-clause-statuses : goal.returns-in-Err-clause-statuses
+returns-in-Err-clause-statuses g c = refuses _ _ _ _ c.in-Some.ensures.form c.in-Some-offers.ensures.offers c.refuse_files.ensures.statuses
+
+pub returns-in-Err-clause-unread : goal.returns-in-Err-clause-unread
+returns-in-Err-clause-unread g c = λ e. c.refuse_files.ensures.unread (status_is _ _ e)
 
 pub returns-in-Err-clause-memory : goal.returns-in-Err-clause-memory
 returns-in-Err-clause-memory g c = λ e. c.refuse_files.ensures.memory (status_is _ _ e)
