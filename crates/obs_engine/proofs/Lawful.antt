@@ -4,10 +4,10 @@ use Rattle.std.specs.Prelude.{◌==◌}
 use Rattle.std.specs.List.{range_with_len}
 use Rattle.std.proofs.lemmas.Bool.{and_from, and_parts, cases_Bool, eq-eqb, eqb-true, ne_eqb}
 use Rattle.obs_case.specs.Tables.{Tables, IsValid}
-use Rattle.obs_matroid.specs.Lists.{In, IsDistinct}
+use Rattle.obs_matroid.specs.Lists.{In, IsDistinct, IsRising}
 use Rattle.obs_matroid.specs.Assignments.{Pair}
 use Rattle.obs_matroid.proofs.Lists.{In-filter, In-filter_from, IsDistinct-filter, clash}
-use Rattle.obs_matroid.proofs.Ranges.{range_in}
+use Rattle.obs_matroid.proofs.Ranges.{range_in, range_rising}
 use Rattle.obs_meter.specs.Assignments.{IsAssignmentAt, IsRhoAt}
 use Rattle.obs_meter.specs.Touches.{every_item, is_live}
 use Rattle.obs_meter.proofs.Assigned.{live_items-distinct, rho_at-is}
@@ -15,6 +15,7 @@ use Rattle.obs_exchange.specs.Critical.{IsCriticalAt, critical_at}
 use Rattle.obs_exchange.proofs.Lawful.{critical_at-exactly}
 use Rattle.obs_network.specs.Network.{case_branches, case_component_count, case_meters, case_need, case_needed, case_vertex_count}
 use Rattle.obs_network.specs.Observable.{IsObservable, IsObservableCase, branch_component, case_live_meters, case_rank, is_energised_component, item_component}
+use Rattle.obs_network.proofs.Listed.{rising_filter}
 use Rattle.obs_network.proofs.Marked.{filtered_below}
 use Rattle.obs_network.proofs.Observed.{observed_by_rho}
 use Rattle.obs_network.proofs.OfCase.{case_branches-are}
@@ -98,9 +99,25 @@ short_at : (t : Tables) (c : ℕ) → In c (short_components t) → (c < case_co
 unfolding short_components
 short_at t c i = (let low = filtered_below (is_short t) 0 (case_component_count t) c i in omega (arith, low), (In-filter_from (is_short t) c (range_with_len 0 (case_component_count t)) i).1)
 
+pub shorts_rise : (t : Tables) → IsRising (short_components t)
+unfolding short_components
+shorts_rise t = rising_filter (is_short t) (range_with_len 0 (case_component_count t)) (range_rising 0 (case_component_count t))
+
 short_in : (t : Tables) (c : ℕ) → c < case_component_count t → is_short t c ≡ true → In c (short_components t)
 unfolding short_components
 short_in t c l s = In-filter (is_short t) c (range_with_len 0 (case_component_count t)) (range_in 0 (case_component_count t) c (omega arith) (omega (arith, l))) s
+
+pub criticals_rise : (t : Tables) → IsRising (case_critical_meters t)
+unfolding case_critical_meters
+criticals_rise t =
+    rising_filter (critical_at (case_vertex_count t) (case_branches t) (case_meters t)) (every_item (case_meters t)) (range_rising 0 (length (case_meters t)))
+
+pub bounds_rise : (t : Tables) (c : ℕ) → IsRising (bound_meters t c)
+unfolding bound_meters component_meters
+bounds_rise t c =
+    rising_filter (λ m. not (is_critical_meter t m)) (filter (is_meter_of t c) (case_live_meters t))
+    (rising_filter (is_meter_of t c) (case_live_meters t)
+    (rising_filter (is_live (case_branches t) (case_meters t)) (every_item (case_meters t)) (range_rising 0 (length (case_meters t)))))
 
 components_distinct : (t : Tables) (c : ℕ) → IsDistinct (component_meters t c)
 unfolding component_meters

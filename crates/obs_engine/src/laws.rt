@@ -2,7 +2,7 @@
 // of obs_files.
 ghost use Rattle.std.specs.Prelude.{◌≡◌, ◌↔◌, ◌+◌, ◌<◌, ◌≤◌, ◌==◌, ℕ, Bool, true, List, length, filter, Ok, codes};
 ghost use Rattle.obs_case.specs.Tables.{IsValid, Tables};
-ghost use Rattle.obs_matroid.specs.Lists.{In};
+ghost use Rattle.obs_matroid.specs.Lists.{In, IsRising};
 ghost use Rattle.obs_matroid.specs.Assignments.{Pair};
 ghost use Rattle.obs_meter.specs.Assignments.{IsAssignmentAt, IsRhoAt};
 ghost use Rattle.obs_exchange.specs.Critical.{IsCriticalAt};
@@ -23,7 +23,7 @@ ghost use Rattle.obs_engine.specs.StationReply.{stations_status};
 ghost use Rattle.obs_engine.specs.Trials.{dip_meters, dips_of};
 ghost use Rattle.obs_engine.specs.Claimed.{AnswersAreVerified, AnswersFit, AnswersHold};
 ghost use Rattle.obs_engine.specs.Laws.{BearsLosses, BearsOutages, EditsAloneChange, EndedOrLast, IsAnswerTo, ListsNonCritical, OrderIsForgotten, PairsFailTogether, ReportsAsTheCommand};
-ghost use Rattle.obs_repair.specs.Bounds.{bound_outside, bound_rank, case_critical_meters, component_meters, short_components};
+ghost use Rattle.obs_repair.specs.Bounds.{bound_meters, bound_outside, bound_rank, case_critical_meters, component_meters, short_components};
 
 pub use obs_files::laws::{cases_are_valid, forms_of_words};
 
@@ -77,11 +77,12 @@ pub fn verdict_is_observability()
         (verdict_word (case_rank t) (case_needed t) ≡ codes "short") ↔ (IsObservableCase t → ⊥) }
 {}
 
-/// A report has a bound for exactly those energised components that aren't observable.
+/// A report has a bound for exactly those energised components that aren't observable, in their order.
 pub fn short_components_are_unobservable()
     ensures exactly { (t : Tables) → IsValid t → (c : ℕ) →
         In c (short_components t)
         ↔ ((c < case_component_count t) × (is_energised_component t c ≡ true) × (IsObservable t c → ⊥)) }
+    ensures rising { (t : Tables) → IsRising (short_components t) }
 {}
 
 /// The two numbers of a bound add up to less than the component needs: to the greatest length that an assignment of its
@@ -96,16 +97,18 @@ pub fn bounds_refute()
         length (filter (λ p. branch_component t p.1 == c) A) ≤ bound_rank t c + bound_outside t c }
 {}
 
-/// The bound of a component lists exactly those of its live meters that aren't critical. A listed meter can be lost,
-/// and the rank of the case stays.
+/// The bound of a component lists exactly those of its live meters that aren't critical, in the order of the tables. A
+/// listed meter can be lost, and the rank of the case stays.
 pub fn bounds_list_the_meters_that_are_not_critical()
     ensures lists { ListsNonCritical }
+    ensures rising { (t : Tables) (c : ℕ) → IsRising (bound_meters t c) }
 {}
 
-/// A report has a critical line for exactly those live meters whose loss lowers the rank.
+/// A report has a critical line for exactly those live meters whose loss lowers the rank, in the order of the tables.
 pub fn critical_lines_are_exact()
     ensures exactly { (t : Tables) → IsValid t → (m : ℕ) →
         In m (case_critical_meters t) ↔ IsCriticalAt (case_branches t) (case_meters t) (case_live_meters t) m }
+    ensures rising { (t : Tables) → IsRising (case_critical_meters t) }
 {}
 
 /// Of a session's lines an edit alone changes the present case, and sets one flag. An ask, a refused line and one that
