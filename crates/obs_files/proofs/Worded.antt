@@ -14,7 +14,7 @@ use Rattle.obs_files.specs.declared.words.CaseCommand.TheVariants.{Report, Place
 use Rattle.obs_files.specs.declared.words.Study.TheVariants.{Outages, Pairs, Stations}
 use Rattle.obs_files.specs.declared.words.Form.{Form}
 use Rattle.obs_files.specs.declared.words.Form.TheVariants.{Topology, Case, Trial}
-use Rattle.obs_files.specs.Laws.{IsFormOf, IsInUsage}
+use Rattle.obs_files.specs.Laws.{IsFormOf, IsInUsage, TakesEachFile, taken_words}
 use Rattle.obs_files.proofs.Filed.{parts_length}
 use Rattle.obs_files.specs.Words.{HasRows, behind_case, case_commands, case_form_of, case_parts, case_word, command_word, fits, form_of, form_with, has_with, is_word, item_if, one_if, parts_behind, trial_form, word_count}
 
@@ -230,35 +230,37 @@ of_files P csv cdf mat Csv files l = let t = four files l in subst (P Csv) (sym 
 of_files P csv cdf mat Cdf files l = let t = two files l in subst (P Cdf) (sym t.2) (cdf t.0 t.1)
 of_files P csv cdf mat Matpower files l = let t = two files l in subst (P Matpower) (sym t.2) (mat t.0 t.1)
 
--- words of a command that are made of any files of a case have its form
-abbrev Has : CaseCommand → (List (List ℕ) → List (List ℕ)) → CaseForm → List (List ℕ) → Type 0
-Has command behind from files = form_of (command_word (Case command from) ∷ case_word from ∷ behind files) ≡ Some (Case command from)
+-- words of a command that are made of any files of a case have its form, and its files are taken from them
+abbrev Has : CaseCommand → (List (List ℕ) → List (List ℕ)) → List (List ℕ) → CaseForm → List (List ℕ) → Type 0
+Has command rest behind from files =
+    let words = command_word (Case command from) ∷ case_word from ∷ rest files in
+    (form_of words ≡ Some (Case command from)) × (taken_words (Case command from) words ≡ files ++ behind)
 
 from_case : (command : CaseCommand) (from : CaseForm) (files behind : List (List ℕ)) → length files ≡ length (case_parts from) → length behind ≡ length (parts_behind (Case command from))
-    → Has command (λ fs. fs ++ (item_if (has_with (Case command from)) (codes "with") ++ behind)) from files
+    → Has command (λ fs. fs ++ (item_if (has_with (Case command from)) (codes "with") ++ behind)) behind from files
 from_case Report from files behind l m = let e = none behind m in
-    subst (λ bs. Has Report (λ fs. fs ++ bs) from files) (sym e) (of_files (Has Report (λ fs. fs ++ [])) (λ a b d e. refl) (λ a b. refl) (λ a b. refl) from files l)
+    subst (λ bs. Has Report (λ fs. fs ++ bs) bs from files) (sym e) (of_files (Has Report (λ fs. fs ++ []) []) (λ a b d e. (refl, refl)) (λ a b. (refl, refl)) (λ a b. (refl, refl)) from files l)
 from_case Place from files behind l m = let t = one behind m in
-    subst (λ bs. Has Place (λ fs. fs ++ bs) from files) (sym t.1) (of_files (Has Place (λ fs. fs ++ (t.0 ∷ []))) (λ a b d e. refl) (λ a b. refl) (λ a b. refl) from files l)
+    subst (λ bs. Has Place (λ fs. fs ++ bs) bs from files) (sym t.1) (of_files (Has Place (λ fs. fs ++ (t.0 ∷ [])) (t.0 ∷ [])) (λ a b d e. (refl, refl)) (λ a b. (refl, refl)) (λ a b. (refl, refl)) from files l)
 from_case (Session false) from files behind l m = let e = none behind m in
-    subst (λ bs. Has (Session false) (λ fs. fs ++ bs) from files) (sym e) (of_files (Has (Session false) (λ fs. fs ++ [])) (λ a b d e. refl) (λ a b. refl) (λ a b. refl) from files l)
+    subst (λ bs. Has (Session false) (λ fs. fs ++ bs) bs from files) (sym e) (of_files (Has (Session false) (λ fs. fs ++ []) []) (λ a b d e. (refl, refl)) (λ a b. (refl, refl)) (λ a b. (refl, refl)) from files l)
 from_case (Session true) from files behind l m = let t = one behind m in
-    subst (λ bs. Has (Session true) (λ fs. fs ++ (codes "with" ∷ bs)) from files) (sym t.1) (of_files (Has (Session true) (λ fs. fs ++ (codes "with" ∷ t.0 ∷ []))) (λ a b d e. refl) (λ a b. refl) (λ a b. refl) from files l)
+    subst (λ bs. Has (Session true) (λ fs. fs ++ (codes "with" ∷ bs)) bs from files) (sym t.1) (of_files (Has (Session true) (λ fs. fs ++ (codes "with" ∷ t.0 ∷ [])) (t.0 ∷ [])) (λ a b d e. (refl, refl)) (λ a b. (refl, refl)) (λ a b. (refl, refl)) from files l)
 from_case (Verify false) from files behind l m = let t = one behind m in
-    subst (λ bs. Has (Verify false) (λ fs. fs ++ bs) from files) (sym t.1) (of_files (Has (Verify false) (λ fs. fs ++ (t.0 ∷ []))) (λ a b d e. refl) (λ a b. refl) (λ a b. refl) from files l)
+    subst (λ bs. Has (Verify false) (λ fs. fs ++ bs) bs from files) (sym t.1) (of_files (Has (Verify false) (λ fs. fs ++ (t.0 ∷ [])) (t.0 ∷ [])) (λ a b d e. (refl, refl)) (λ a b. (refl, refl)) (λ a b. (refl, refl)) from files l)
 from_case (Verify true) from files behind l m = let t = two behind m in
-    subst (λ bs. Has (Verify true) (λ fs. fs ++ (codes "with" ∷ bs)) from files) (sym t.2) (of_files (Has (Verify true) (λ fs. fs ++ (codes "with" ∷ t.0 ∷ t.1 ∷ []))) (λ a b d e. refl) (λ a b. refl) (λ a b. refl) from files l)
+    subst (λ bs. Has (Verify true) (λ fs. fs ++ (codes "with" ∷ bs)) bs from files) (sym t.2) (of_files (Has (Verify true) (λ fs. fs ++ (codes "with" ∷ t.0 ∷ t.1 ∷ [])) (t.0 ∷ t.1 ∷ [])) (λ a b d e. (refl, refl)) (λ a b. (refl, refl)) (λ a b. (refl, refl)) from files l)
 from_case (StudyOf Outages) from files behind l m = let e = none behind m in
-    subst (λ bs. Has (StudyOf Outages) (λ fs. fs ++ bs) from files) (sym e) (of_files (Has (StudyOf Outages) (λ fs. fs ++ [])) (λ a b d e. refl) (λ a b. refl) (λ a b. refl) from files l)
+    subst (λ bs. Has (StudyOf Outages) (λ fs. fs ++ bs) bs from files) (sym e) (of_files (Has (StudyOf Outages) (λ fs. fs ++ []) []) (λ a b d e. (refl, refl)) (λ a b. (refl, refl)) (λ a b. (refl, refl)) from files l)
 from_case (StudyOf Pairs) from files behind l m = let e = none behind m in
-    subst (λ bs. Has (StudyOf Pairs) (λ fs. fs ++ bs) from files) (sym e) (of_files (Has (StudyOf Pairs) (λ fs. fs ++ [])) (λ a b d e. refl) (λ a b. refl) (λ a b. refl) from files l)
+    subst (λ bs. Has (StudyOf Pairs) (λ fs. fs ++ bs) bs from files) (sym e) (of_files (Has (StudyOf Pairs) (λ fs. fs ++ []) []) (λ a b d e. (refl, refl)) (λ a b. (refl, refl)) (λ a b. (refl, refl)) from files l)
 from_case (StudyOf Stations) from files behind l m = let e = none behind m in
-    subst (λ bs. Has (StudyOf Stations) (λ fs. fs ++ bs) from files) (sym e) (of_files (Has (StudyOf Stations) (λ fs. fs ++ [])) (λ a b d e. refl) (λ a b. refl) (λ a b. refl) from files l)
+    subst (λ bs. Has (StudyOf Stations) (λ fs. fs ++ bs) bs from files) (sym e) (of_files (Has (StudyOf Stations) (λ fs. fs ++ []) []) (λ a b d e. (refl, refl)) (λ a b. (refl, refl)) (λ a b. (refl, refl)) from files l)
 
 from_form : (words : List (List ℕ)) (form : Form) → IsFormOf form words → form_of words ≡ Some form
 from_form words Topology h = subst (λ (ws : List (List ℕ)). form_of ws ≡ Some Topology) (sym h.2) refl
 from_form words (Case command from) (files, behind, many, more, is) =
-    subst (λ (ws : List (List ℕ)). form_of ws ≡ Some (Case command from)) (sym is) (from_case command from files behind many more)
+    subst (λ (ws : List (List ℕ)). form_of ws ≡ Some (Case command from)) (sym is) (from_case command from files behind many more).0
 from_form words (Trial rows seed) (n, s, is, first, low, high, second) =
     subst (λ (ws : List (List ℕ)). form_of ws ≡ Some (Trial rows seed)) (sym is)
     (subst (λ (o : Option ℕ). trial_form o (whole_of s) ≡ Some (Trial rows seed)) (sym first)
@@ -267,6 +269,13 @@ from_form words (Trial rows seed) (n, s, is, first, low, high, second) =
 
 pub form_exactly : (words : List (List ℕ)) (form : Form) → (form_of words ≡ Some form) ↔ IsFormOf form words
 form_exactly words form = (to_form words form, from_form words form)
+
+-- each file is that of its word
+pub takes_each : TakesEachFile
+takes_each = record {
+  topology = λ n s. refl;
+  case = λ command from files behind many more. (from_case command from files behind many more).1;
+}
 
 -- the usage line names each form
 pub in_usage : (form : Form) → IsInUsage form

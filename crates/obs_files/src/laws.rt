@@ -1,7 +1,7 @@
 // The laws of words, and of the cases that files are.
 ghost use Rattle.std.specs.Prelude.{◌≡◌, ◌↔◌, ℕ, List, Some};
 ghost use Rattle.obs_files.specs.declared.words.Form.{Form};
-ghost use Rattle.obs_files.specs.Laws.{CasesAreValid, IsFormOf, IsInUsage};
+ghost use Rattle.obs_files.specs.Laws.{CasesAreValid, IsFormOf, IsInUsage, TakesEachFile};
 ghost use Rattle.obs_files.specs.Words.{HasRows, form_of};
 
 /// Every case that files are is valid. The other laws ask this of a case.
@@ -12,9 +12,10 @@ pub fn cases_are_valid()
 {}
 
 /// The words have a form exactly where they are those of a command,
-/// each in its place, with a word for each of its files.
+/// each in its place, with a word for each of its files. Each file is taken from its word.
 /// The usage line names each form.
 pub fn forms_of_words()
     ensures exactly { (words : List (List ℕ)) (form : Form) → (form_of words ≡ Some form) ↔ IsFormOf form words }
+    ensures files { TakesEachFile }
     ensures usage { (form : Form) → IsInUsage form }
 {}
