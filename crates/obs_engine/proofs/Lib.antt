@@ -15,6 +15,7 @@ pub mod Answering
 pub mod Verified
 pub mod Turned
 pub mod Dips
+pub mod CountedIslands
 pub mod Generated
 pub mod Claimed
 pub mod Kept

@@ -24,9 +24,14 @@ use Rattle.obs_repair.specs.Edits.{edited}
 use Rattle.obs_repair.specs.Lines.{meant_of, refusal_code, refusal_name}
 use Rattle.obs_engine.specs.Asks.{ask_text}
 use Rattle.obs_engine.specs.Commands.{IsCaseReply}
+use Rattle.obs_network.specs.Switched.{case_bus_count}
+use Rattle.obs_report.specs.Islands.{is_energised_bus}
+use Rattle.obs_edit.specs.Answers.{case_islands}
+use Rattle.obs_edit.specs.Laws.{IsIslandOf}
 use Rattle.obs_outage.specs.Outages.{outage_case, outage_rows}
 use Rattle.obs_station.specs.Stations.{loss_stations, other_meters}
 use Rattle.obs_engine.specs.PairReply.{case_classes}
+use Rattle.obs_engine.specs.Trials.{is_first_of_island}
 use Rattle.obs_engine.specs.Lines.{ended_after, line_case, line_text, lines_case, lines_text, open_after}
 
 -- the bound of a component lists exactly those live meters of the component whose loss doesn't lower the rank of the case
@@ -69,6 +74,19 @@ OrderIsForgotten =
 pub record EndedOrLast (bytes : List ℕ) : Type 0 where
   pub none : open_after [] bytes ≡ [] → lines_of bytes ≡ ended_after [] bytes
   pub last : open_after [] bytes ≢ [] → lines_of bytes ≡ ended_after [] bytes ++ (content_of (open_after [] bytes) ∷ [])
+
+-- of the buses of an island, this one alone is counted for it
+pub record IsCountedFor (t : Tables) (S : ℕ → Bool) (first : ℕ) : Type 0 where
+  pub bus : first < case_bus_count t
+  pub has : S first ≡ true
+  pub counted : is_first_of_island t first ≡ true
+  pub alone : (u : ℕ) → u < case_bus_count t → S u ≡ true → is_first_of_island t u ≡ true → u ≡ first
+
+-- an island with an energised bus is counted once, by the bus that names it
+abbrev pub IslandsAreCounted : Type 0
+IslandsAreCounted =
+    (t : Tables) (S : ℕ → Bool) (b : ℕ) → IsValid t → IsIslandOf t S → b < case_bus_count t → is_energised_bus t b ≡ true → S b ≡ true
+    → IsCountedFor t S (slice_index (case_islands t) b)
 
 -- the case bears each outage: it is observable, and each of its outage cases is
 abbrev pub BearsOutages : Tables → Type 0

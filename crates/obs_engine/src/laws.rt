@@ -22,7 +22,7 @@ ghost use Rattle.obs_engine.specs.OutageReply.{outages_status};
 ghost use Rattle.obs_engine.specs.StationReply.{stations_status};
 ghost use Rattle.obs_engine.specs.Trials.{dip_meters, dips_of};
 ghost use Rattle.obs_engine.specs.Claimed.{AnswersAreVerified, AnswersFit, AnswersHold};
-ghost use Rattle.obs_engine.specs.Laws.{BearsLosses, BearsOutages, EditsAloneChange, EndedOrLast, IsAnswerTo, ListsNonCritical, OrderIsForgotten, PairsFailTogether, ReportsAsTheCommand};
+ghost use Rattle.obs_engine.specs.Laws.{BearsLosses, BearsOutages, EditsAloneChange, EndedOrLast, IsAnswerTo, IslandsAreCounted, ListsNonCritical, OrderIsForgotten, PairsFailTogether, ReportsAsTheCommand};
 ghost use Rattle.obs_repair.specs.Bounds.{bound_meters, bound_outside, bound_rank, case_critical_meters, component_meters, short_components};
 
 pub use obs_files::laws::{cases_are_valid, forms_of_words};
@@ -151,6 +151,11 @@ pub fn lines_can_be_said_again()
 pub fn dips_are_critical_meters()
     ensures meters { (t : Tables) → dip_meters t ≡ case_critical_meters t }
     ensures number { (t : Tables) → dips_of t ≡ length (case_critical_meters t) }
+{}
+
+/// The number of islands of a trial: each island with an energised bus is counted once, by the bus that names it.
+pub fn islands_are_counted_once()
+    ensures counted { IslandsAreCounted }
 {}
 
 /// The status of outages is the good one exactly where the case and each of its outage cases are observable, and else
