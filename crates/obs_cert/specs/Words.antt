@@ -39,10 +39,10 @@ item_in sort name =
     else None
 
 -- lines of several parts, where each part is there
-abbrev pub pair_of : Option Item → Option (List ℕ) → Option Line
-pair_of None branch = None
-pair_of (Some item) None = None
-pair_of (Some item) (Some branch) = Some (pair_line (record { item = item; branch = branch }))
+abbrev pub pair_line_of : Option Item → Option (List ℕ) → Option Line
+pair_line_of None branch = None
+pair_line_of (Some item) None = None
+pair_line_of (Some item) (Some branch) = Some (pair_line (record { item = item; branch = branch }))
 
 abbrev pub shortfall_of : Option ℕ → Option ℕ → Option Line
 shortfall_of None outside = None
@@ -81,7 +81,7 @@ of_three kind a b =
 
 abbrev pub of_four : List ℕ → List ℕ → List ℕ → List ℕ → Option Line
 of_four kind a b c =
-    if bytes_eq kind (codes "pair") then pair_of (item_in a b) (name_in c)
+    if bytes_eq kind (codes "pair") then pair_line_of (item_in a b) (name_in c)
     else if bytes_eq kind (codes "bound") then bound_of (name_in a) (whole_of b) (whole_of c)
     else None
 

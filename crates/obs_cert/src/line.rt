@@ -4,7 +4,7 @@ ghost use Rattle.std.specs.Option.{option_map};
 ghost use Rattle.std.specs.Str.{bytes_eq};
 ghost use Rattle.obs_text.specs.Numbers.{whole_of};
 ghost use Rattle.obs_cert.specs.Said.{item_said, line_said};
-ghost use Rattle.obs_cert.specs.Words.{bound_of, item_in, line_of, line_of_words, name_in, of_five, of_four, of_one, of_three, of_two, pair_of, words_of};
+ghost use Rattle.obs_cert.specs.Words.{bound_of, item_in, line_of, line_of_words, name_in, of_five, of_four, of_one, of_three, of_two, pair_line_of, words_of};
 
 use crate::words::first_word;
 use obs_text::{name_of, whole};
@@ -116,7 +116,7 @@ fn three<'a>(kind: &[u8], a: &[u8], b: &'a [u8]) -> Option<Line<'a>>
 
 // The pair line of an item and a branch.
 fn pair<'a>(sort: &[u8], name: &'a [u8], branch: &'a [u8]) -> Option<Line<'a>>
-    ensures line { option_map line_said result ≡ pair_of (item_in sort.now name.now) (name_in branch.now) }
+    ensures line { option_map line_said result ≡ pair_line_of (item_in sort.now name.now) (name_in branch.now) }
 {
     match named_item(sort, name) {
         None => None,

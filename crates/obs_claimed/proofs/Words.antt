@@ -11,7 +11,7 @@ use Rattle.obs_case.specs.Tables.{Tables}
 use Rattle.obs_matroid.specs.Assignments.{Pair as NumberPair}
 use Rattle.obs_placement.specs.declared.plans.Layer.{Layer as PlacedLayer}
 use Rattle.obs_cert.specs.Claims.{Item, meter, candidate}
-use Rattle.obs_cert.specs.Words.{bound_line, bound_of, chosen_line, cost_line, end_line, inside_line, item_in, layer_line, layer_of, name_in, pair_line, pair_of, shortfall_line, shortfall_of, tree_line}
+use Rattle.obs_cert.specs.Words.{bound_line, bound_of, chosen_line, cost_line, end_line, inside_line, item_in, layer_line, layer_of, name_in, pair_line, pair_line_of, shortfall_line, shortfall_of, tree_line}
 use Rattle.obs_report.specs.Items.{branch_word, candidate_name, is_meter, item_name, item_word, meter_name, inside_line as inside_text, pair_line as pair_text}
 use Rattle.obs_report.specs.Meters.{bound_line as bound_text}
 use Rattle.obs_report.specs.Placements.{chosen_line as chosen_text, cost_line as cost_text, layer_line as layer_text, shortfall_line as shortfall_text}
@@ -104,5 +104,5 @@ pub pair_back : (t : Tables) (p : NumberPair) → is_name (item_name t p.0) ≡ 
 pair_back t p a b =
     line_back (codes "pair") (item_word t p.0 ∷ item_name t p.0 ∷ branch_word t p.0 p.1 ∷ []) (pair_line (named_pair t p)) refl
     (item_word-plain t p.0, (plain_name (item_name t p.0) a, (plain_name (branch_word t p.0 p.1) b, tt)))
-    (ap (λ (x : Option Item). pair_of x (name_in (branch_word t p.0 p.1))) (item_back t p.0 a)
-    ∙ ap (λ (x : Option (List ℕ)). pair_of (Some (named_item t p.0)) x) (name_back (branch_word t p.0 p.1) b))
+    (ap (λ (x : Option Item). pair_line_of x (name_in (branch_word t p.0 p.1))) (item_back t p.0 a)
+    ∙ ap (λ (x : Option (List ℕ)). pair_line_of (Some (named_item t p.0)) x) (name_back (branch_word t p.0 p.1) b))
