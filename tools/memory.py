@@ -4,7 +4,7 @@
 Usage: tools/memory.py PROGRAM [SESSIONS]
 
 Requests for memory are counted: calls of malloc, calloc, realloc and their kind, and of mmap, mremap, brk and sbrk. It runs the commands
-below, SESSIONS (200) random sessions over 12 to 60 nodes with edits and all asks, and two such over full tables. In each run some
+below, SESSIONS (200) random sessions over 12 to 60 nodes with edits and all asks, and three such over full tables. In each run some
 requests are to be made before the first byte is taken from the standard input or written to the standard output, and none after it. A
 session takes no byte before it has begun. `place`, `verify` and `trial` write nothing before they have found their answer, so two runs
 are held against each other: `place` makes as many requests as a session over the same files, but for the one word more that this has; a
