@@ -1,17 +1,14 @@
 -- What the status of stations says.
-use Rattle.std.proofs.Common.{◌≡◌, ◌↔◌, ◌∙◌, ℕ, true, not, sym, arith}
+use Rattle.std.proofs.Common.{◌≡◌, ◌↔◌, ◌∙◌, ℕ, true, sym, arith}
 use Rattle.std.proofs.lemmas.Bool.{eq-eqb, eqb-true}
 use Rattle.std.proofs.lemmas.List.Folds.{list_all-map}
 use Rattle.obs_case.specs.Tables.{IsValid, Tables}
 use Rattle.obs_matroid.specs.Lists.{In}
-use Rattle.obs_matroid.proofs.Lists.{IsDistinct-filter}
-use Rattle.obs_meter.specs.Assignments.{IsRhoAt}
-use Rattle.obs_meter.proofs.Assigned.{live_items-distinct, rho_at-is}
-use Rattle.obs_network.specs.Network.{case_branches, case_meters, case_needed, case_vertex_count}
-use Rattle.obs_network.specs.Observable.{case_live_meters, rank_of_meters}
+use Rattle.obs_network.specs.Network.{case_meters, case_needed}
+use Rattle.obs_network.specs.Observable.{rank_of_meters}
 use Rattle.obs_network.proofs.Observed.{most_pairs}
-use Rattle.obs_network.proofs.OfCase.{case_branches-are}
-use Rattle.obs_station.specs.Stations.{is_at, loss_of, loss_stations, losses_of, other_meters}
+use Rattle.obs_station.specs.Stations.{loss_of, loss_stations, losses_of, other_meters}
+use Rattle.obs_station.proofs.OtherMeters.{loss_rank}
 use Rattle.obs_files.specs.declared.status.Status.TheVariants.{Done, Short}
 use Rattle.obs_engine.specs.Asks.{report_status}
 use Rattle.obs_engine.specs.Laws.{BearsLosses, IsObservableWithout}
@@ -21,15 +18,11 @@ use Rattle.obs_engine.proofs.Lawful.{done_observed}
 use Rattle.obs_engine.proofs.Replied.{stations_status-is}
 
 module _ (t : Tables) (v : IsValid t) where
-  rank_without : (c : ℕ) → IsRhoAt (case_branches t) (case_meters t) (other_meters t c) (rank_of_meters t (other_meters t c))
-  rank_without c = rho_at-is (case_vertex_count t) (case_branches t) (case_meters t) (other_meters t c) (case_branches-are t v)
-      (IsDistinct-filter (λ m. not (is_at t c m)) (case_live_meters t) (live_items-distinct (case_branches t) (case_meters t)))
-
   observable_without : (c : ℕ) → (rank_of_meters t (other_meters t c) ≡ case_needed t) ↔ IsObservableWithout t c
   observable_without c = (
-    (λ e. let r = rank_without c in (r.longest, r.assigns, r.long ∙ e)),
+    (λ e. let r = loss_rank t v c in (r.longest, r.assigns, r.long ∙ e)),
     (λ h.
-        let r = rank_without c in
+        let r = loss_rank t v c in
         let least = r.none_longer h.0 h.1 in
         let most = most_pairs t v (case_meters t) (other_meters t c) r.longest r.assigns in
         let long = r.long in

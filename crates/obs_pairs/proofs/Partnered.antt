@@ -1,7 +1,7 @@
 -- Partners among the live meters of a graph, and their classes.
 use Rattle.std.proofs.Common.{◌≡◌, ◌≢◌, ◌↔◌, ◌⊎◌, ℕ, ◌≤◌, Bool, true, false, not, ◌&&◌, ◌||◌, eqb, Option, List, [], ◌∷◌, length, refl, sym, ap, ◌∙◌, subst, inl, inr, arith}
 use Rattle.std.specs.Prelude.{filter}
-use Rattle.std.proofs.lemmas.Bool.{and_from, and_parts, cases_Bool, cases_lt, eq-eqb, eqb-true, not-true, or_cases, or_left}
+use Rattle.std.proofs.lemmas.Bool.{and_from, and_parts, cases_Bool, cases_lt, eq-eqb, eqb-true, not-true, or_cases, or_left, or_right}
 use Rattle.obs_graph.specs.declared.Ends.{Ends}
 use Rattle.obs_graph.specs.Positions.{AreBranches}
 use Rattle.obs_matroid.specs.Lists.{In, IsDistinct, IsRising, other_than, without}
@@ -18,7 +18,7 @@ use Rattle.obs_meter.proofs.Instance.{IsMatroid-graph}
 use Rattle.obs_meter.proofs.Live.{In-live, live-from_live_items}
 use Rattle.obs_exchange.specs.Critical.{IsCriticalAt, critical_at}
 use Rattle.obs_exchange.proofs.Lawful.{IsCritical-from_matroid, IsCritical-to_matroid, critical_at-exactly}
-use Rattle.obs_pairs.specs.Partners.{ArePartnersAt, class_at, partner_at}
+use Rattle.obs_pairs.specs.Partners.{ArePartnersAt, IsFirstOfClass, class_at, partner_at}
 use Rattle.obs_pairs.specs.Settled.{redundant_at}
 
 -- the first that passes does pass, and stands no later than any that does
@@ -104,6 +104,9 @@ module _ (n : ℕ) (ends : List (Option Ends)) (touches : List Touch) (ok : AreB
   abbrev live : List ℕ
   live = live_items ends touches
 
+  live_rising : IsRising live
+  live_rising = rising_filter (is_live ends touches) (every_item touches) (range_rising 0 (length touches))
+
   different : IsDistinct live
   different = live_items-distinct ends touches
 
@@ -148,9 +151,18 @@ module _ (n : ℕ) (ends : List (Option Ends)) (touches : List Touch) (ok : AreB
   pub class_low : (m : ℕ) → class_at n ends touches m ≤ m
   class_low m = elim (class_own m) [
     | inl e ↦ omega (arith, e)
-    | inr p ↦ first_low (λ x. eqb x m || partner_at n ends touches m x) m m live (rising_filter (is_live ends touches) (every_item touches) (range_rising 0 (length touches))) p.one
+    | inr p ↦ first_low (λ x. eqb x m || partner_at n ends touches m x) m m live live_rising p.one
         (or_left (eqb m m) (partner_at n ends touches m m) (eq-eqb m m refl))
   ]
+
+  -- and the first of them
+  pub class_first : (m : ℕ) → IsFirstOfClass ends touches live m (class_at n ends touches m)
+  class_first m = record {
+    of_class = class_own m;
+    not_above = class_low m;
+    first = λ x p. first_low (λ y. eqb y m || partner_at n ends touches m y) m x live live_rising p.other
+        (or_right (eqb x m) (partner_at n ends touches m x) ((partner_at-exactly m x).1 p));
+  }
 
   -- a class is its own
   pub class_again : (m : ℕ) → class_at n ends touches (class_at n ends touches m) ≡ class_at n ends touches m

@@ -1,5 +1,5 @@
 -- Meters that are critical together.
-use Rattle.std.specs.Prelude.{◌≢◌, ℕ, ◌<◌, Bool, Option, List, map}
+use Rattle.std.specs.Prelude.{◌≡◌, ◌≢◌, ◌⊎◌, ℕ, ◌<◌, ◌≤◌, Bool, Option, List, map}
 use Rattle.obs_graph.specs.declared.Ends.{Ends}
 use Rattle.obs_matroid.specs.Lists.{In, without}
 use Rattle.obs_matroid.specs.Partners.{class_of, is_partner}
@@ -18,6 +18,12 @@ pub record ArePartnersAt (ends : List (Option Ends)) (touches : List Touch) (M :
   pub one_redundant : IsCriticalAt ends touches M m → ⊥
   pub other_redundant : IsCriticalAt ends touches M k → ⊥
   pub falls : (r s : ℕ) → IsRhoAt ends touches M r → IsRhoAt ends touches (without k (without m M)) s → s < r
+
+-- k is the first of the class of an item: this item or a partner of it, and not above it nor above any partner of it
+pub record IsFirstOfClass (ends : List (Option Ends)) (touches : List Touch) (M : List ℕ) (m k : ℕ) : Type 0 where
+  pub of_class : (k ≡ m) ⊎ ArePartnersAt ends touches M m k
+  pub not_above : k ≤ m
+  pub first : (x : ℕ) → ArePartnersAt ends touches M m x → k ≤ x
 
 -- whether two meters are partners among the live meters, computed; the graph has n vertices
 abbrev pub partner_at : ℕ → List (Option Ends) → List Touch → ℕ → ℕ → Bool

@@ -6,7 +6,7 @@ ghost use Rattle.obs_matroid.specs.Lists.{In, IsDistinct, without};
 ghost use Rattle.obs_meter.specs.declared.Touch.{Touch};
 ghost use Rattle.obs_meter.specs.Touches.{is_live, live_items};
 ghost use Rattle.obs_exchange.specs.Critical.{IsCriticalAt, critical_at};
-ghost use Rattle.obs_pairs.specs.Partners.{ArePartnersAt, class_at, partner_at};
+ghost use Rattle.obs_pairs.specs.Partners.{ArePartnersAt, IsFirstOfClass, class_at, partner_at};
 
 /// The computed partners are the meters without which, both lost, the greatest length falls, though neither is
 /// critical. In any list of meters the partners of one that isn't critical are those that become critical without it.
@@ -20,7 +20,8 @@ pub fn partners()
 {}
 
 /// In any list of meters a partner is one both ways, and different partners of one meter are partners of each other. So
-/// classes are a partition: two meters have one class exactly where they are the same or partners.
+/// classes are a partition: two meters have one class exactly where they are the same or partners. Each class is named by
+/// its first meter.
 pub fn classes_are_a_partition()
     ensures both_ways { (n : ℕ) (ends : List (Option Ends)) (touches : List Touch) (M : List ℕ) (m k : ℕ) →
         AreBranches n ends → IsDistinct M → ArePartnersAt ends touches M m k → ArePartnersAt ends touches M k m }
@@ -33,4 +34,6 @@ pub fn classes_are_a_partition()
     ensures alone { (n : ℕ) (ends : List (Option Ends)) (touches : List Touch) (m : ℕ) → AreBranches n ends →
         (is_live ends touches m ≡ false) ⊎ (critical_at n ends touches m ≡ true) →
         class_at n ends touches m ≡ m }
+    ensures named { (n : ℕ) (ends : List (Option Ends)) (touches : List Touch) (m : ℕ) → AreBranches n ends →
+        IsFirstOfClass ends touches (live_items ends touches) m (class_at n ends touches m) }
 {}

@@ -4,3 +4,4 @@ pub mod Summed
 pub mod Listing
 pub mod Stationed
 pub mod Finding
+pub mod OtherMeters

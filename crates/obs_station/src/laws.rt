@@ -2,9 +2,11 @@
 ghost use Rattle.std.specs.Prelude.{◌≡◌, ◌↔◌, ◌<◌, ℕ, List, length, slice_index};
 ghost use Rattle.obs_case.specs.Tables.{IsValid, Tables};
 ghost use Rattle.obs_matroid.specs.Lists.{In};
+ghost use Rattle.obs_meter.specs.Assignments.{IsRhoAt};
+ghost use Rattle.obs_network.specs.Network.{case_branches, case_meters};
 ghost use Rattle.obs_network.specs.Observable.{case_live_meters};
 ghost use Rattle.obs_switch.specs.Buses.{AreOneBus};
-ghost use Rattle.obs_station.specs.Stations.{all_links, case_stations, loss_stations, station_meters};
+ghost use Rattle.obs_station.specs.Stations.{all_links, case_stations, loss_of, loss_stations, other_meters, station_meters};
 
 /// Two nodes are of one station exactly where a chain of switches, open or closed, joins them.
 pub fn stations_by_chains()
@@ -17,4 +19,10 @@ pub fn each_live_meter_has_a_station()
     ensures some_station { (t : Tables) → IsValid t → (m : ℕ) → In m (case_live_meters t) →
         (c : ℕ) × In c (loss_stations t) × In m (station_meters t c) }
     ensures one_station { (t : Tables) (c d m : ℕ) → In m (station_meters t c) → In m (station_meters t d) → c ≡ d }
+{}
+
+/// The rank in the loss of a station is the greatest length of an assignment of the live meters of all others.
+pub fn losses_are_of_other_meters()
+    ensures rank { (t : Tables) → IsValid t → (c : ℕ) →
+        IsRhoAt (case_branches t) (case_meters t) (other_meters t c) (loss_of t c).rank }
 {}

@@ -1,4 +1,4 @@
-use Rattle.obs_pairs.proofs.Partnered.{class_lone, classes_at, partners_at-both_ways, partners_at-together}
+use Rattle.obs_pairs.proofs.Partnered.{class_first, class_lone, classes_at, partners_at-both_ways, partners_at-together}
 use Rattle.obs_pairs.proofs.laws.classes_are_a_partition.Goals as goal
 
 pub returns-clause-both_ways : goal.returns-clause-both_ways
@@ -12,3 +12,6 @@ returns-clause-classes c = λ n ends touches m k ok. classes_at n ends touches o
 
 pub returns-clause-alone : goal.returns-clause-alone
 returns-clause-alone c = λ n ends touches m ok h. class_lone n ends touches ok m h
+
+pub returns-clause-named : goal.returns-clause-named
+returns-clause-named c = λ n ends touches m ok. class_first n ends touches ok m
