@@ -7,7 +7,8 @@ use Rattle.obs_case.proofs.ValidLemmas.{valid-with_branch_inservice}
 use Rattle.obs_matroid.specs.Lists.{In}
 use Rattle.obs_network.specs.Network.{case_needed}
 use Rattle.obs_network.specs.Observable.{case_rank}
-use Rattle.obs_outage.specs.Outages.{outage_case, outage_of, outage_rows, outages_of}
+use Rattle.obs_network.specs.Parted.{outage_case}
+use Rattle.obs_outage.specs.Outages.{outage_of, outage_rows, outages_of}
 use Rattle.obs_files.specs.declared.status.Status.TheVariants.{Done, Short}
 use Rattle.obs_engine.specs.Asks.{report_status}
 use Rattle.obs_engine.specs.Laws.{BearsOutages}

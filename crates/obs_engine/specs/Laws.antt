@@ -28,7 +28,8 @@ use Rattle.obs_network.specs.Switched.{case_bus_count}
 use Rattle.obs_report.specs.Islands.{is_energised_bus}
 use Rattle.obs_edit.specs.Answers.{case_islands}
 use Rattle.obs_edit.specs.Laws.{IsIslandOf}
-use Rattle.obs_outage.specs.Outages.{outage_case, outage_rows}
+use Rattle.obs_network.specs.Parted.{outage_case}
+use Rattle.obs_outage.specs.Outages.{outage_rows}
 use Rattle.obs_station.specs.Stations.{loss_stations, other_meters}
 use Rattle.obs_engine.specs.PairReply.{case_classes}
 use Rattle.obs_engine.specs.Trials.{is_first_of_island}

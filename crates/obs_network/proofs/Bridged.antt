@@ -18,7 +18,7 @@ use Rattle.obs_network.specs.Switched.{case_bus_count, case_buses}
 use Rattle.obs_network.specs.Components.{is_absolute_node, is_marked, is_source, marked_nodes, source_nodes}
 use Rattle.obs_network.specs.Network.{case_components, case_live, case_needed, case_rows}
 use Rattle.obs_network.specs.Observable.{is_absolute_component, is_energised_component}
-use Rattle.obs_network.specs.Parted.{without}
+use Rattle.obs_network.specs.Parted.{outage_case}
 use Rattle.obs_network.proofs.InComponents.{live_ends-same, row_is_live}
 use Rattle.obs_network.proofs.NeededCount.{is_fixed, is_lit, live_ends_of, needed_by_buses}
 use Rattle.obs_network.proofs.OfCase.{case_bus-below, case_component-below}
@@ -85,9 +85,9 @@ lit_source t v b l is =
 
 -- a present row whose ends the other live branches don't join, of a component that isn't absolute
 module _ (t : Tables) (v : IsValid t) (e : ℕ) (x : Ends) (row : get_or (case_rows t) e None ≡ Some x) (loose : is_fixed t x.a ≡ false)
-    (apart : first_joined (live_ends_of (without t e)) x.a ≡ first_joined (live_ends_of (without t e)) x.b → ⊥) where
+    (apart : first_joined (live_ends_of (outage_case t e)) x.a ≡ first_joined (live_ends_of (outage_case t e)) x.b → ⊥) where
   abbrev out : Tables
-  out = without t e
+  out = outage_case t e
 
   abbrev n : ℕ
   n = case_bus_count t

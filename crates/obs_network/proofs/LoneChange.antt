@@ -16,7 +16,7 @@ use Rattle.obs_network.specs.Switched.{case_bus_count}
 use Rattle.obs_network.specs.Components.{if_energised}
 use Rattle.obs_network.specs.Network.{Network, Rows, case_angles, case_branches, case_components, case_energised, case_live, case_rows, case_vertex_count, network_of, rows_of}
 use Rattle.obs_network.specs.Edited.{AreSameBut, ChangesAlone, IsBeforeBranch}
-use Rattle.obs_network.specs.Parted.{StaysJoined, without}
+use Rattle.obs_network.specs.Parted.{StaysJoined, outage_case}
 use Rattle.obs_network.proofs.Edited.{branch_is}
 use Rattle.obs_network.proofs.Fronts.{rows_are_first}
 use Rattle.obs_network.proofs.OfCase.{IsBranch, case_live-branches, case_vertex_count-le, length-case_branches, length-case_live, length-case_rows}
@@ -114,7 +114,7 @@ stayed t at x low is on = record {
 }
 
 -- a branch that went
-went : (t : Tables) → IsValid t → (at : ℕ) → at < length t.branches → StaysJoined t at → slice_index_or (case_live (without t at)) at None ≡ None → IsAlone (network_of t) at (without t at)
+went : (t : Tables) → IsValid t → (at : ℕ) → at < length t.branches → StaysJoined t at → slice_index_or (case_live (outage_case t at)) at None ≡ None → IsAlone (network_of t) at (outage_case t at)
 went t v at low stays none = record {
   low = in_branches t at low;
   ends = ap (set (case_branches t) at) none ∙ sym (branches_but_one t v at stays low);
@@ -122,13 +122,13 @@ went t v at low stays none = record {
 }
 
 -- a branch that came
-came : (t : Tables) → IsValid t → (at : ℕ) (x : Ends) → at < length t.branches → slice_index_or (case_live t) at None ≡ Some x → ChangesAlone (network_of (without t at)).components (case_rows (without t at)) at (Some x)
-    → IsAlone (network_of (without t at)) at t
+came : (t : Tables) → IsValid t → (at : ℕ) (x : Ends) → at < length t.branches → slice_index_or (case_live t) at None ≡ Some x → ChangesAlone (network_of (outage_case t at)).components (case_rows (outage_case t at)) at (Some x)
+    → IsAlone (network_of (outage_case t at)) at t
 came t v at x low is alone =
-    let stays : StaysJoined t at = λ y is_y. subst (λ (z : Ends). slice_index (case_components (without t at)) z.a ≡ slice_index (case_components (without t at)) z.b) (some_one x y (sym is ∙ is_y)) alone.0 in
+    let stays : StaysJoined t at = λ y is_y. subst (λ (z : Ends). slice_index (case_components (outage_case t at)) z.a ≡ slice_index (case_components (outage_case t at)) z.b) (some_one x y (sym is ∙ is_y)) alone.0 in
     let on : slice_index_or (case_energised t) (slice_index (case_components t) x.a) false ≡ true =
     ap (λ l. slice_index_or l (slice_index (case_components t) x.a) false) (sym (energised_stay t v at stays))
-    ∙ ap (λ l. slice_index_or (case_energised (without t at)) (slice_index l x.a) false) (sym (components_stay t v at stays))
+    ∙ ap (λ l. slice_index_or (case_energised (outage_case t at)) (slice_index l x.a) false) (sym (components_stay t v at stays))
     ∙ alone.1 in
     let gone = branches_but_one t v at stays low in
     let same = same_but_one t v at low stays in
@@ -138,11 +138,11 @@ came t v at x low is alone =
           ∙ set-set (case_branches t) at None (slice_index_or (case_live t) at None)
           ∙ ap (set (case_branches t) at) (is ∙ sym (lit t at x low is on))
           ∙ set-get_or (case_branches t) at None;
-      same = same_back at (network_of t) (network_of (without t at)) same;
+      same = same_back at (network_of t) (network_of (outage_case t at)) same;
     }
 
 -- no branch is live out of service
-dark : (t : Tables) (at : ℕ) (x : Ends) → slice_index_or (case_live (without t at)) at None ≡ Some x → ⊥
+dark : (t : Tables) (at : ℕ) (x : Ends) → slice_index_or (case_live (outage_case t at)) at None ≡ Some x → ⊥
 dark t at x is = (set_none (case_live t) at at x (ap (λ l. get_or l at None) (sym (case_live-without t at)) ∙ is)).0 refl
 
 -- a branch that comes or goes alone, whichever it was before
@@ -154,7 +154,7 @@ lone_by t v at true low low_after w (Some x) is alone =
     let put = with_branch_inservice t at true in
     elim (branch_is t at) [
       | inl e ↦
-          let out : without put at ≡ t = set_twice t at true false ∙ sym e in
+          let out : outage_case put at ≡ t = set_twice t at true false ∙ sym e in
           subst (λ (u : Tables). IsAlone (network_of u) at put) out
           (came put w at x low_after is (subst (λ (u : Tables). ChangesAlone (network_of u).components (case_rows u) at (Some x)) (sym out) alone))
       | inr e ↦ subst (λ (u : Tables). IsAlone (network_of t) at u) e (stayed t at x low (ap (λ (u : Tables). slice_index_or (case_live u) at None) e ∙ is) alone.1)

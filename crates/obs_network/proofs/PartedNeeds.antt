@@ -13,7 +13,7 @@ use Rattle.obs_network.specs.Components.{is_source, source_nodes}
 use Rattle.obs_network.specs.Located.{ends_component}
 use Rattle.obs_network.specs.Network.{case_angles, case_branches, case_component_count, case_components, case_needed, case_rows, case_sizes}
 use Rattle.obs_network.specs.Observable.{is_absolute_component}
-use Rattle.obs_network.specs.Parted.{HasSource, HasSourceBeside, IsParted, IsSideOf, without}
+use Rattle.obs_network.specs.Parted.{HasSource, HasSourceBeside, IsParted, IsSideOf, outage_case}
 use Rattle.obs_network.proofs.Bridged.{IsFed, falls_one, falls_side, first_is, lit_source, of_side}
 use Rattle.obs_network.proofs.InComponents.{row_is_live, live_ends-same}
 use Rattle.obs_network.proofs.NeededCount.{is_fixed, live_ends_of, of_component, size_is}
@@ -61,7 +61,7 @@ found t v e c side p =
 
 module _ (t : Tables) (v : IsValid t) (e c : ℕ) (side : List ℕ) (p : IsParted t e c side) (f : Found t e c side) where
   abbrev out : Tables
-  out = without t e
+  out = outage_case t e
 
   abbrev n : ℕ
   n = case_bus_count t

@@ -17,7 +17,7 @@ use Rattle.obs_network.specs.Switched.{case_bus_count}
 use Rattle.obs_network.specs.Components.{if_energised}
 use Rattle.obs_network.specs.Network.{case_components, case_energised, case_live, case_rows}
 use Rattle.obs_network.specs.Observable.{is_energised_component}
-use Rattle.obs_network.specs.Parted.{IsSideOf, without}
+use Rattle.obs_network.specs.Parted.{IsSideOf, outage_case}
 use Rattle.obs_network.proofs.InComponents.{get_or-energised, live_ends-same, row_is_live}
 use Rattle.obs_network.proofs.Marked.{length-passing}
 use Rattle.obs_network.proofs.NeededCount.{live_ends_of}
@@ -34,7 +34,7 @@ length-of_passing p n xs different from to =
 
 module _ (t : Tables) (v : IsValid t) (e : ℕ) (x : Ends) (row : get_or (case_rows t) e None ≡ Some x) where
   abbrev out : Tables
-  out = without t e
+  out = outage_case t e
 
   abbrev n : ℕ
   n = case_bus_count t

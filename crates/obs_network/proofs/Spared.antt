@@ -20,7 +20,7 @@ use Rattle.obs_network.specs.Live.{live_ends}
 use Rattle.obs_network.specs.Components.{absolute_of, energised_of, if_energised, needed_of, sizes_of}
 use Rattle.obs_network.specs.Angles.{angle_branches, has_angle}
 use Rattle.obs_network.specs.Network.{case_absolute, case_angles, case_branches, case_component_count, case_components, case_energised, case_first_buses, case_live, case_needed, case_rows, case_sizes}
-use Rattle.obs_network.specs.Parted.{AreJoinedWithout, StaysJoined, without}
+use Rattle.obs_network.specs.Parted.{AreJoinedWithout, StaysJoined, outage_case}
 use Rattle.obs_network.proofs.MergedRows.{with_service}
 use Rattle.obs_network.proofs.OfCase.{case_live-branches, length-case_rows}
 use Rattle.obs_network.proofs.OfLaws.{one_case_component}
@@ -41,12 +41,12 @@ live_without buses [] at = refl
 live_without buses (row ∷ rows) zero = refl
 live_without buses (row ∷ rows) (suc at) = ap (λ xs. live_ends buses row ∷ xs) (live_without buses rows at)
 
-pub case_live-without : (t : Tables) (at : ℕ) → case_live (without t at) ≡ set (case_live t) at None
+pub case_live-without : (t : Tables) (at : ℕ) → case_live (outage_case t at) ≡ set (case_live t) at None
 unfolding case_live
 case_live-without t at = live_without (case_buses t) t.branches at
 
 -- what is live at another place
-pub live_elsewhere : (t : Tables) (at k : ℕ) → (k ≡ at → ⊥) → get_or (case_live (without t at)) k None ≡ get_or (case_live t) k None
+pub live_elsewhere : (t : Tables) (at k : ℕ) → (k ≡ at → ⊥) → get_or (case_live (outage_case t at)) k None ≡ get_or (case_live t) k None
 live_elsewhere t at k ne = ap (λ l. get_or l k None) (case_live-without t at) ∙ get_or-set_other (case_live t) at k None None ne
 
 -- what stands in a list without one entry stands in it elsewhere
@@ -61,7 +61,7 @@ set_none (h ∷ hs) (suc i) (suc k) d is =
 
 module _ (t : Tables) (v : IsValid t) (at : ℕ) (stays : StaysJoined t at) where
   abbrev out : Tables
-  out = without t at
+  out = outage_case t at
 
   -- the ends of each live branch are joined without this one
   joined_still : (d : Ends) (k : ℕ) → get_or (case_live t) k None ≡ Some d → first_joined (present (case_live out)) d.a ≡ first_joined (present (case_live out)) d.b
@@ -168,10 +168,10 @@ joined_by_rows t v at some joined x is =
     let low = branch_at (case_bus_count t) (case_live t) at x (case_live-branches t v) (some_is_in (case_live t) at x is) is in
     let row = some_of (get_or (case_rows t) at None) some in
     let same : row.0 ≡ x = some_one row.0 x (sym (row_is_live t at row.0 row.1) ∙ is) in
-    (one_case_component (without t at) x.a x.b low.0 low.1).1
-    (Chain-more (present (set (case_rows t) at None)) (present (case_live (without t at)))
+    (one_case_component (outage_case t at) x.a x.b low.0 low.1).1
+    (Chain-more (present (set (case_rows t) at None)) (present (case_live (outage_case t at)))
     (λ d has.
     let k = present_contains (set (case_rows t) at None) d has in
     let there = set_none (case_rows t) at k.0 d k.1 in
-    contains_present (case_live (without t at)) k.0 d (live_elsewhere t at k.0 there.0 ∙ row_is_live t k.0 d there.1))
+    contains_present (case_live (outage_case t at)) k.0 d (live_elsewhere t at k.0 there.0 ∙ row_is_live t k.0 d there.1))
     (joined x (row.1 ∙ ap Some same)))

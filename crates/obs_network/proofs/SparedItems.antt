@@ -20,7 +20,7 @@ use Rattle.obs_network.specs.Switched.{case_bus_count, case_buses}
 use Rattle.obs_network.specs.Touching.{meter_touch, meter_touches, touch_of}
 use Rattle.obs_network.specs.Network.{case_angles, case_branches, case_meters, case_rows, network_of}
 use Rattle.obs_network.specs.Edited.{AreSameBut}
-use Rattle.obs_network.specs.Parted.{StaysJoined, without}
+use Rattle.obs_network.specs.Parted.{StaysJoined, outage_case}
 use Rattle.obs_network.proofs.Items.{meter_touches-at, some_row}
 use Rattle.obs_network.proofs.OfCase.{length-case_rows, length-meter_touches}
 use Rattle.obs_network.proofs.Spared.{absolute_stay, angles_stay, branches_but_one, component_count_stays, components_stay, energised_stay, first_buses_stay, needed_stays, rows_but_one, sizes_stay}
@@ -82,7 +82,7 @@ module _ (rows others angles : List (Option Ends)) (at : ℕ) (as_many : length 
 
 module _ (t : Tables) (v : IsValid t) (at : ℕ) (low : at < length t.branches) (stays : StaysJoined t at) where
   abbrev out : Tables
-  out = without t at
+  out = outage_case t at
 
   in_rows : at < length (case_rows t)
   in_rows = omega (arith, low, length-case_rows t)

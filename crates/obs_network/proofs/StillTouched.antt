@@ -19,7 +19,7 @@ use Rattle.obs_meter.proofs.Touched.{In-from_any, any-from_In, star_touched}
 use Rattle.obs_network.specs.Switched.{case_buses}
 use Rattle.obs_network.specs.Touching.{meter_touch, meter_touches, touch_of}
 use Rattle.obs_network.specs.Network.{case_angles, case_branches, case_meters, case_rows}
-use Rattle.obs_network.specs.Parted.{without}
+use Rattle.obs_network.specs.Parted.{outage_case}
 use Rattle.obs_network.proofs.Items.{meter_touches-at, some_row}
 use Rattle.obs_network.proofs.OfCase.{length-meter_touches}
 use Rattle.obs_network.proofs.Outed.{row_before, same_rows, some_of}
@@ -78,10 +78,10 @@ module _ (rows others angles behind : List (Option Ends)) (as_many : length rows
       ]
 
 -- a row that is present is the row before
-row_same : (t : Tables) → IsValid t → (at p : ℕ) → IsSome (slice_index_or (case_branches (without t at)) p None) → get_or (case_rows t) p None ≡ get_or (case_rows (without t at)) p None
+row_same : (t : Tables) → IsValid t → (at p : ℕ) → IsSome (slice_index_or (case_branches (outage_case t at)) p None) → get_or (case_rows t) p None ≡ get_or (case_rows (outage_case t at)) p None
 unfolding case_branches
 row_same t v at p there =
-    let out = without t at in
+    let out = outage_case t at in
     elim (cases_lt p (length (case_rows out))) [
       | inl l ↦
           let x = some_of (get_or (case_rows out) p None) (subst IsSome (get_or_append_left (case_rows out) (case_angles out) None p l) there) in
@@ -90,8 +90,8 @@ row_same t v at p there =
     ]
 
 -- what a meter touched it touches, where it is present
-pub touched_still : (t : Tables) → IsValid t → (at m p : ℕ) → In p (touch_at (case_branches t) (case_meters t) m) → IsSome (slice_index_or (case_branches (without t at)) p None)
-    → In p (touch_at (case_branches (without t at)) (case_meters (without t at)) m)
+pub touched_still : (t : Tables) → IsValid t → (at m p : ℕ) → In p (touch_at (case_branches t) (case_meters t) m) → IsSome (slice_index_or (case_branches (outage_case t at)) p None)
+    → In p (touch_at (case_branches (outage_case t at)) (case_meters (outage_case t at)) m)
 unfolding case_branches case_meters
 touched_still t v at m p i there =
-    meters_still (case_rows t) (case_rows (without t at)) (case_angles t) (case_angles (without t at)) (sym (same_rows t v at)) p there (row_same t v at p there) (case_buses t) t.meters m i
+    meters_still (case_rows t) (case_rows (outage_case t at)) (case_angles t) (case_angles (outage_case t at)) (sym (same_rows t v at)) p there (row_same t v at p there) (case_buses t) t.meters m i

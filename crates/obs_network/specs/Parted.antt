@@ -12,9 +12,9 @@ use Rattle.obs_network.specs.Located.{component_of_branch}
 use Rattle.obs_network.specs.Network.{case_components, case_live, case_rows, network_of}
 use Rattle.obs_network.specs.Observable.{is_absolute_component}
 
--- the tables after a branch went out of service
-abbrev pub without : Tables → ℕ → Tables
-without t at = with_branch_inservice t at false
+-- the outage case of a branch: the tables with that branch out of service
+abbrev pub outage_case : Tables → ℕ → Tables
+outage_case t at = with_branch_inservice t at false
 
 -- the ends of a present row are joined by the other rows
 abbrev pub AreJoinedWithout : List (Option Ends) → ℕ → Type 0
@@ -34,7 +34,7 @@ IsSide rows e side = (x : Ends) → slice_index_or rows e None ≡ Some x → Is
 -- the ends of a live branch lie in one component without it
 abbrev pub StaysJoined : Tables → ℕ → Type 0
 StaysJoined t at = (x : Ends) → slice_index_or (case_live t) at None ≡ Some x →
-    slice_index (case_components (without t at)) x.a ≡ slice_index (case_components (without t at)) x.b
+    slice_index (case_components (outage_case t at)) x.a ≡ slice_index (case_components (outage_case t at)) x.b
 
 -- one of the buses of a side is that of a source
 abbrev pub HasSource : Tables → List ℕ → Type 0

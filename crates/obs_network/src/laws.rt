@@ -23,7 +23,7 @@ ghost use Rattle.obs_network.specs.Components.{AreOneComponent, component_count,
 ghost use Rattle.obs_network.specs.Located.{component_of_branch, component_of_item, live_meters_of};
 ghost use Rattle.obs_network.specs.Network.{Network, case_branches, case_component_count, case_components, case_live, case_meters, case_need, case_needed, case_offered, case_rows, case_sizes, case_vertex_component, case_vertex_count, network_of, rows_of};
 ghost use Rattle.obs_network.specs.Edited.{AreKept, AreMerged, ArePresent, AreSameBut, IsOneMerge, IsReferenceMerge};
-ghost use Rattle.obs_network.specs.Parted.{AreJoinedWithout, HasSource, HasSourceBeside, IsParted, StaysJoined, without};
+ghost use Rattle.obs_network.specs.Parted.{AreJoinedWithout, HasSource, HasSourceBeside, IsParted, StaysJoined, outage_case};
 ghost use Rattle.obs_network.specs.Observable.{IsObservableCase, branch_component, case_live_meters, case_rank, is_energised_component, item_component};
 ghost use Rattle.obs_network.specs.Plain.{HasNoAbsolute, other_touches_in_order, touches_in_order, without_angles};
 
@@ -242,10 +242,10 @@ pub fn live_meters_by_component()
 /// Where a branch goes out of service, each branch that is present was present, and what a meter touches it touched.
 pub fn an_outage_takes_away()
     ensures present { (t : Tables) → IsValid t → (at e : ℕ) →
-        IsSome (slice_index_or (case_branches (with_branch_inservice t at false)) e None) →
+        IsSome (slice_index_or (case_branches (outage_case t at)) e None) →
         IsSome (slice_index_or (case_branches t) e None) }
     ensures touched { (t : Tables) → IsValid t → (at m e : ℕ) →
-        In e (touch_at (case_branches (with_branch_inservice t at false)) (case_meters (with_branch_inservice t at false)) m) →
+        In e (touch_at (case_branches (outage_case t at)) (case_meters (outage_case t at)) m) →
         In e (touch_at (case_branches t) (case_meters t) m) }
 {}
 
@@ -253,9 +253,9 @@ pub fn an_outage_takes_away()
 /// other rows join them.
 pub fn an_outage_between_joined_ends()
     ensures same { (t : Tables) → IsValid t → (at : ℕ) → at < length t.branches → StaysJoined t at →
-        AreSameBut at (network_of t) (network_of (without t at)) }
+        AreSameBut at (network_of t) (network_of (outage_case t at)) }
     ensures absent { (t : Tables) → IsValid t → (at : ℕ) → at < length t.branches → StaysJoined t at →
-        slice_index_or (case_branches (without t at)) at None ≡ None }
+        slice_index_or (case_branches (outage_case t at)) at None ≡ None }
     ensures by_rows { (t : Tables) → IsValid t → (at : ℕ) → IsSome (slice_index_or (case_rows t) at None) →
         AreJoinedWithout (case_rows t) at → StaysJoined t at }
 {}
@@ -265,20 +265,20 @@ pub fn an_outage_between_joined_ends()
 /// does; so an observable case stays observable. Where the needed number falls by one, no meter loses another branch.
 pub fn an_outage_parts_a_component()
     ensures both { (t : Tables) → IsValid t → (e c : ℕ) (side : List ℕ) → IsParted t e c side →
-        HasSource t side → HasSourceBeside t c side → case_needed (without t e) + 1 ≡ case_needed t }
+        HasSource t side → HasSourceBeside t c side → case_needed (outage_case t e) + 1 ≡ case_needed t }
     ensures listed { (t : Tables) → IsValid t → (e c : ℕ) (side : List ℕ) → IsParted t e c side →
-        (HasSource t side → ⊥) → case_needed (without t e) + length side ≡ case_needed t }
+        (HasSource t side → ⊥) → case_needed (outage_case t e) + length side ≡ case_needed t }
     ensures other { (t : Tables) → IsValid t → (e c : ℕ) (side : List ℕ) → IsParted t e c side →
         (HasSourceBeside t c side → ⊥) →
-        case_needed (without t e) + (slice_index (case_sizes t) c - length side) ≡ case_needed t }
+        case_needed (outage_case t e) + (slice_index (case_sizes t) c - length side) ≡ case_needed t }
     ensures size { (t : Tables) → IsValid t → (e c : ℕ) (side : List ℕ) → IsParted t e c side →
         length side ≤ slice_index (case_sizes t) c }
     ensures rank { (t : Tables) → IsValid t → (e c : ℕ) (side : List ℕ) → IsParted t e c side →
-        case_rank t + case_needed (without t e) ≤ case_rank (without t e) + case_needed t }
+        case_rank t + case_needed (outage_case t e) ≤ case_rank (outage_case t e) + case_needed t }
     ensures observable { (t : Tables) → IsValid t → (e c : ℕ) (side : List ℕ) → IsParted t e c side →
-        IsObservableCase t → IsObservableCase (without t e) }
+        IsObservableCase t → IsObservableCase (outage_case t e) }
     ensures alone { (t : Tables) → IsValid t → (e c : ℕ) (side : List ℕ) → IsParted t e c side →
-        case_needed (without t e) + 1 ≡ case_needed t → (m k : ℕ) → k ≢ e →
+        case_needed (outage_case t e) + 1 ≡ case_needed t → (m k : ℕ) → k ≢ e →
         In k (touch_at (case_branches t) (case_meters t) m) →
-        In k (touch_at (case_branches (without t e)) (case_meters (without t e)) m) }
+        In k (touch_at (case_branches (outage_case t e)) (case_meters (outage_case t e)) m) }
 {}

@@ -20,7 +20,8 @@ use Rattle.obs_network.specs.Network.{Network, case_branches, case_meters, case_
 use Rattle.obs_kept.specs.Kept.{AreLongest, HasRoom}
 use Rattle.obs_network.specs.Observable.{case_rank}
 use Rattle.obs_outage.specs.declared.outages.Outage.{Outage}
-use Rattle.obs_outage.specs.Outages.{AllStand, outage_case, outage_of}
+use Rattle.obs_network.specs.Parted.{outage_case}
+use Rattle.obs_outage.specs.Outages.{AllStand, outage_of}
 use Rattle.obs_outage.proofs.InOutage.{all_forest, all_long, all_most, as_many_meters, as_many_positions, back_forest, back_long, most_here, most_out, out_valid, rank_longest, same_rows}
 
 -- where as many pairs stand still as there can be, and are a forest, all are kept and nothing is searched

@@ -27,7 +27,8 @@ use Rattle.obs_network.specs.Edited.{AreSameBut}
 use Rattle.obs_network.specs.Network.{Network, case_branches, case_meters}
 use Rattle.obs_network.specs.Observable.{case_live_meters, case_rank}
 use Rattle.obs_kept.specs.Kept.{AreLongestOver}
-use Rattle.obs_outage.specs.Outages.{AllStand, outage_case, outage_rows}
+use Rattle.obs_network.specs.Parted.{outage_case}
+use Rattle.obs_outage.specs.Outages.{AllStand, outage_rows}
 use Rattle.obs_outage.proofs.InOutage.{as_many_rows, out_valid, rank_is}
 use Rattle.obs_outage.proofs.Restored.{row_gone, row_here, row_low}
 

@@ -23,7 +23,8 @@ use Rattle.obs_network.proofs.OfCase.{case_branches-are, length-case_branches, l
 use Rattle.obs_network.proofs.Outed.{present_before, touched_before}
 use Rattle.obs_kept.specs.Kept.{AreLongest}
 use Rattle.obs_kept.proofs.StandingStill.{present-touched, still_all}
-use Rattle.obs_outage.specs.Outages.{AllStand, outage_case}
+use Rattle.obs_network.specs.Parted.{outage_case}
+use Rattle.obs_outage.specs.Outages.{AllStand}
 use Rattle.obs_outage.proofs.Restored.{out_or_back}
 
 -- a longest assignment has the rank of its case

@@ -28,13 +28,13 @@ use Rattle.obs_network.proofs.OfCase.{case_branches-are, length-case_rows}
 use Rattle.obs_kept.specs.Kept.{AreLongest}
 use Rattle.obs_kept.proofs.StandingStill.{present-touched}
 use Rattle.obs_outage.specs.declared.outages.Outage.{Outage}
-use Rattle.obs_outage.specs.Outages.{outage_case, outage_of, outage_rows}
+use Rattle.obs_outage.specs.Outages.{outage_of, outage_rows}
 use Rattle.obs_outage.specs.Costly.{AreCostly, IsCostly}
 use Rattle.obs_outage.specs.Entry.{IsKnownEntry}
 use Rattle.obs_outage.specs.Spared.{AreSpared, IsSpared}
 use Rattle.obs_outage.specs.Sparing.{Spared}
 use Rattle.obs_network.specs.Edited.{AreSameBut}
-use Rattle.obs_network.specs.Parted.{AreJoinedWithout}
+use Rattle.obs_network.specs.Parted.{AreJoinedWithout, outage_case}
 use Rattle.obs_outage.proofs.InOutage.{as_many_meters, as_many_rows, assigns_before, most_here, out_valid, rank_falls, rank_is, rank_longest}
 use Rattle.obs_outage.proofs.Restored.{row_gone, row_here, row_low, row_present}
 use Rattle.obs_network.proofs.Spared.{joined_by_rows}

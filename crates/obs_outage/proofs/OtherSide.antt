@@ -25,7 +25,7 @@ use Rattle.obs_network.specs.Switched.{case_bus_count}
 use Rattle.obs_network.specs.Located.{component_of_branch}
 use Rattle.obs_network.specs.Network.{Network, case_branches, case_components, case_meters, case_vertex_component, network_of}
 use Rattle.obs_network.specs.Observable.{branch_component, case_rank}
-use Rattle.obs_network.specs.Parted.{HasSourceBeside, IsParted}
+use Rattle.obs_network.specs.Parted.{HasSourceBeside, IsParted, outage_case}
 use Rattle.obs_network.proofs.FewLost.{On}
 use Rattle.obs_network.proofs.InComponents.{placed}
 use Rattle.obs_network.proofs.NeededCount.{live_ends_of}
@@ -36,7 +36,6 @@ use Rattle.obs_network.proofs.Vertices.{case_vertex_component-bus}
 use Rattle.obs_kept.specs.Kept.{AreLongest}
 use Rattle.obs_outage.specs.Feeds.{component_pairs}
 use Rattle.obs_outage.specs.Lost.{IsConfinedBeside, IsUnfedBeside, counts_at, ends_in, lost_pairs}
-use Rattle.obs_outage.specs.Outages.{outage_case}
 use Rattle.obs_outage.proofs.ByComponent.{lies_in}
 use Rattle.obs_outage.proofs.InOutage.{rank_longest}
 use Rattle.obs_outage.proofs.Losing.{any_from, any_in, count_by-branches, sum_is}

@@ -13,7 +13,7 @@ use Rattle.obs_assign.specs.Assignment.{Assignment, pairs}
 use Rattle.obs_kept.specs.Kept.{AreLongest}
 use Rattle.obs_network.specs.Network.{Network, case_meters, case_needed, case_rows, case_sizes, network_of}
 use Rattle.obs_network.specs.Observable.{case_live_meters}
-use Rattle.obs_network.specs.Parted.{HasSource, HasSourceBeside, IsParted, IsSide, without}
+use Rattle.obs_network.specs.Parted.{HasSource, HasSourceBeside, IsParted, IsSide, outage_case}
 use Rattle.obs_network.specs.Located.{component_of_branch}
 use Rattle.obs_network.proofs.FewLost.{alone, no_shorter}
 use Rattle.obs_network.proofs.Observed.{most_pairs}
@@ -22,7 +22,7 @@ use Rattle.obs_network.proofs.PartedNeeds.{Found, both_live, found, in_component
 use Rattle.obs_network.proofs.SideLists.{on_side, side_count, side_low}
 use Rattle.obs_outage.specs.declared.outages.Outage.{Outage}
 use Rattle.obs_outage.specs.Feeds.{AreFeeds, Feeds, IsFall, bus_at, component_at, sources_at}
-use Rattle.obs_outage.specs.Outages.{outage_case, outage_of}
+use Rattle.obs_outage.specs.Outages.{outage_of}
 use Rattle.obs_outage.proofs.InOutage.{out_valid, rank_is, rank_longest}
 use Rattle.obs_outage.proofs.Joined.{entry_by}
 
@@ -181,7 +181,7 @@ module _ (t : Tables) (v : IsValid t) (e c : ℕ) (side : List ℕ) (p : IsParte
 
     -- what the needed number falls by
     pub fall_is : (less : ℕ) → (here ≡ 0 → less ≡ length side) → (here ≢ 0 → here ≡ all → less ≡ slice_index (case_sizes t) c - length side) → (here ≢ 0 → here ≢ all → less ≡ 1)
-        → case_needed (without t e) + less ≡ case_needed t
+        → case_needed (outage_case t e) + less ≡ case_needed t
     fall_is less listed_goes other_goes one_goes =
         elim (cases_eq here 0) [
           | inl zero ↦ omega (arith, listed_goes zero, listed_dead t v e c side p f (no_source zero))

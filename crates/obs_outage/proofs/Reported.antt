@@ -5,7 +5,8 @@ use Rattle.obs_matroid.specs.Lists.{In}
 use Rattle.obs_network.specs.Network.{case_needed, network_of}
 use Rattle.obs_network.specs.Observable.{IsRankOf, case_rank}
 use Rattle.obs_outage.specs.declared.outages.Outage.{Outage}
-use Rattle.obs_outage.specs.Outages.{outage_case, outage_of, outage_rows, outages_of}
+use Rattle.obs_network.specs.Parted.{outage_case}
+use Rattle.obs_outage.specs.Outages.{outage_of, outage_rows, outages_of}
 use Rattle.obs_outage.proofs.Entries.{entry_from}
 use Rattle.obs_outage.proofs.InOutage.{out_valid, rank_is}
 

@@ -18,7 +18,8 @@ use Rattle.obs_network.specs.Switched.{case_buses}
 use Rattle.obs_network.proofs.Edited.{branch_is}
 use Rattle.obs_network.proofs.MergedRows.{with_service}
 use Rattle.obs_network.proofs.OfCase.{length-case_rows}
-use Rattle.obs_outage.specs.Outages.{is_outage_row, outage_case, outage_rows}
+use Rattle.obs_network.specs.Parted.{outage_case}
+use Rattle.obs_outage.specs.Outages.{is_outage_row, outage_rows}
 
 twice : (rows : List Branch) (at : ℕ) → with_service true at (with_service false at rows) ≡ with_service true at rows
 unfolding changed_at

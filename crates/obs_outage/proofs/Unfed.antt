@@ -26,7 +26,7 @@ use Rattle.obs_assign.proofs.Slotted.{distinct_branches}
 use Rattle.obs_network.specs.Switched.{case_bus_count}
 use Rattle.obs_network.specs.Network.{case_branches, case_live, case_meters, case_rows, case_vertex_count}
 use Rattle.obs_network.specs.Observable.{case_rank}
-use Rattle.obs_network.specs.Parted.{IsParted}
+use Rattle.obs_network.specs.Parted.{IsParted, outage_case}
 use Rattle.obs_network.proofs.Bridged.{fed_along, fed_lit, lit_fed, side_loose}
 use Rattle.obs_network.proofs.FewLost.{On, goes, stay_assigned}
 use Rattle.obs_network.proofs.InComponents.{row_is_live}
@@ -37,7 +37,6 @@ use Rattle.obs_network.proofs.PartedNeeds.{Fed, Found, apart, loose, low, row_at
 use Rattle.obs_network.proofs.SideLists.{chain_low}
 use Rattle.obs_network.proofs.Spared.{live_elsewhere}
 use Rattle.obs_network.proofs.Vertices.{row_or_angle}
-use Rattle.obs_outage.specs.Outages.{outage_case}
 use Rattle.obs_outage.proofs.InOutage.{as_many_rows, assigns_before, out_valid, rank_is}
 use Rattle.obs_outage.proofs.Restored.{row_gone, row_here}
 use Rattle.obs_outage.proofs.SideForests.{Crosses, Has, both_sides, with_bridge}

@@ -28,14 +28,13 @@ use Rattle.obs_assign.proofs.Slotted.{distinct_branches, length-pairs_of, slots_
 use Rattle.obs_assign.proofs.Standing.{IsAssignmentAt-standing}
 use Rattle.obs_network.specs.Network.{Network, case_branches, case_meters, network_of}
 use Rattle.obs_network.specs.Observable.{case_rank}
-use Rattle.obs_network.specs.Parted.{HasSource, IsParted}
+use Rattle.obs_network.specs.Parted.{HasSource, IsParted, outage_case}
 use Rattle.obs_network.proofs.OfCase.{case_position_count-le, few_branches, few_candidates, few_meters, length-case_branches, length-case_meters}
 use Rattle.obs_network.proofs.Outed.{some_of}
 use Rattle.obs_network.proofs.PartedNeeds.{Fed, Found, found, one_fed, some_fed}
 use Rattle.obs_network.proofs.SideLists.{in_side, side_in}
 use Rattle.obs_kept.specs.Kept.{AreLongest}
 use Rattle.obs_outage.specs.Lost.{IsConfined, IsUnfed, counts_at, ends_in, lost_pairs}
-use Rattle.obs_outage.specs.Outages.{outage_case}
 use Rattle.obs_outage.proofs.InOutage.{rank_longest}
 use Rattle.obs_outage.proofs.Losing.{any_from, any_in, same_length, sum_is}
 use Rattle.obs_outage.proofs.Unfed.{at, ends_there, gone_at, goes_on, leaves, on, rank_less, row_is, row_off, stays_off}

@@ -12,7 +12,7 @@ use Rattle.obs_network.specs.Located.{component_of_branch}
 use Rattle.obs_network.specs.Network.{Network, case_branches, case_components, case_meters, case_needed}
 use Rattle.obs_network.specs.Observable.{branch_component, case_rank}
 use Rattle.obs_kept.specs.Kept.{AreLongest}
-use Rattle.obs_outage.specs.Outages.{outage_case}
+use Rattle.obs_network.specs.Parted.{outage_case}
 
 -- how many sources have a place, where each node has one
 abbrev pub sources_at : (ℕ → ℕ) → List ℕ → ℕ → ℕ

@@ -1,17 +1,13 @@
 -- What becomes of a case where one branch goes out of service.
 use Rattle.std.specs.Prelude.{◌≡◌, ℕ, Bool, false, is_some, None, List, filter, length, map, slice_index_or}
 use Rattle.std.specs.List.{range_with_len}
-use Rattle.obs_case.specs.Flags.{with_branch_inservice}
 use Rattle.obs_case.specs.Tables.{Tables}
 use Rattle.obs_assign.specs.Assignment.{Assignment, pairs}
 use Rattle.obs_assign.specs.Still.{still}
 use Rattle.obs_network.specs.Network.{Network, case_branches, case_meters, case_needed}
 use Rattle.obs_network.specs.Observable.{case_rank}
+use Rattle.obs_network.specs.Parted.{outage_case}
 use Rattle.obs_outage.specs.declared.outages.Outage.{Outage}
-
--- the outage case of a branch: the case with that branch out of service
-abbrev pub outage_case : Tables → ℕ → Tables
-outage_case t e = with_branch_inservice t e false
 
 -- whether a row of the branch table is live and lies in an energised component
 abbrev pub is_outage_row : Tables → ℕ → Bool

@@ -4,11 +4,11 @@ ghost use Rattle.obs_case.specs.Tables.{IsValid};
 ghost use Rattle.obs_matroid.specs.Lists.{In};
 ghost use Rattle.obs_kept.specs.Kept.{AreLongest};
 ghost use Rattle.obs_network.specs.Network.{case_needed, case_rows, network_of};
-ghost use Rattle.obs_network.specs.Parted.{IsSide};
+ghost use Rattle.obs_network.specs.Parted.{IsSide, outage_case};
 ghost use Rattle.obs_outage.specs.Costly.{AreCostly};
 ghost use Rattle.obs_outage.specs.Feeds.{AreFeeds, IsFall};
 ghost use Rattle.obs_outage.specs.Lost.{IsConfined, IsConfinedBeside, IsUnfed, IsUnfedBeside};
-ghost use Rattle.obs_outage.specs.Outages.{outage_case, outage_of, outage_rows};
+ghost use Rattle.obs_outage.specs.Outages.{outage_of, outage_rows};
 ghost use Rattle.obs_outage.specs.Spared.{AreSpared};
 ghost use Rattle.obs_outage.specs.Sparing.{HasFlags};
 

@@ -5,7 +5,8 @@ ghost use Rattle.obs_matroid.specs.Lists.{In};
 ghost use Rattle.obs_network.specs.Network.{case_needed, network_of};
 ghost use Rattle.obs_network.specs.Observable.{IsRankOf, case_rank};
 ghost use Rattle.obs_outage.specs.declared.outages.Outage.{Outage};
-ghost use Rattle.obs_outage.specs.Outages.{outage_case, outage_rows, outages_of};
+ghost use Rattle.obs_network.specs.Parted.{outage_case};
+ghost use Rattle.obs_outage.specs.Outages.{outage_rows, outages_of};
 
 /// The numbers of an entry are those that a report counts in its outage case: the greatest number of pairs of that
 /// case's live meters, and its needed number. Its branch is one of the rows.

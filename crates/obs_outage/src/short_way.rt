@@ -11,7 +11,8 @@ ghost use Rattle.obs_exchange.specs.Longest.{IsLongest, IsMost};
 ghost use Rattle.obs_network.specs.Edited.{AreSameBut};
 ghost use Rattle.obs_network.specs.Network.{network_of};
 ghost use Rattle.obs_kept.specs.Kept.{AreLongest, AreLongestOver, HasRoom};
-ghost use Rattle.obs_outage.specs.Outages.{outage_case, outage_of, outage_rows};
+ghost use Rattle.obs_network.specs.Parted.{outage_case};
+ghost use Rattle.obs_outage.specs.Outages.{outage_of, outage_rows};
 
 use crate::Outage;
 use obs_assign::{Assignment, Steps};

@@ -1,7 +1,7 @@
 use Rattle.std.proofs.Common.{◌≡◌, ◌-◌, length, refl, sym, ap, ◌∙◌, arith}
 use Rattle.obs_network.specs.Network.{Network, case_needed}
 use Rattle.obs_network.proofs.OfCase.{length-case_branches}
-use Rattle.obs_outage.specs.Outages.{outage_case}
+use Rattle.obs_network.specs.Parted.{outage_case}
 use Rattle.obs_outage.proofs.Joined.{known_is}
 use Rattle.obs_outage.proofs.Parting.{if_some, observable_entry}
 use Rattle.obs_outage.proofs.Restored.{row_low}

@@ -11,7 +11,7 @@ use Rattle.obs_network.specs.Edited.{AreSameBut}
 use Rattle.obs_network.specs.Network.{Network, network_of}
 use Rattle.obs_kept.specs.Kept.{AreLongestOver}
 use Rattle.obs_kept.proofs.OfNetwork.{room_network, room_stays}
-use Rattle.obs_outage.specs.Outages.{outage_case}
+use Rattle.obs_network.specs.Parted.{outage_case}
 use Rattle.obs_outage.proofs.Carried.{has_room_out, most_at_out}
 use Rattle.obs_outage.proofs.Crossed.{gone_out, rank_there}
 use Rattle.obs_outage.proofs.InOutage.{as_many_meters, as_many_rows}
