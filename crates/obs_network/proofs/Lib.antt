@@ -30,6 +30,7 @@ pub mod Bridged
 pub mod SideLists
 pub mod PartedNeeds
 pub mod StillTouched
+pub mod Standing
 pub mod FewLost
 pub mod LoneChange
 pub mod FollowedItems

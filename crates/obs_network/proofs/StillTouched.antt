@@ -25,12 +25,12 @@ use Rattle.obs_network.proofs.OfCase.{length-meter_touches}
 use Rattle.obs_network.proofs.Outed.{row_before, same_rows, some_of}
 
 -- a present branch is itself alone
-itself_alone : (o : Option Ends) (e p : ℕ) → In p (itself_of o e) → p ≡ e
+pub itself_alone : (o : Option Ends) (e p : ℕ) → In p (itself_of o e) → p ≡ e
 itself_alone None e p i = absurd i
 itself_alone (Some x) e p (inl same) = same
 itself_alone (Some x) e p (inr i) = absurd i
 
-itself_in : (o : Option Ends) (e : ℕ) → IsSome o → In e (itself_of o e)
+pub itself_in : (o : Option Ends) (e : ℕ) → IsSome o → In e (itself_of o e)
 itself_in None e s = absurd (cc s)
 itself_in (Some x) e s = inl refl
 

@@ -38,11 +38,11 @@ itself_is (Some x) e p (inl i) = i
 itself_is (Some x) e p (inr i) = absurd i
 
 -- what is touched at a bus are the rows there, whatever stands behind the rows
-front_is : (t : Tables) (bus : ℕ) → take (length (branches_at (case_rows t) bus)) (branches_at (case_branches t) bus) ≡ branches_at (case_rows t) bus
+pub front_is : (t : Tables) (bus : ℕ) → take (length (branches_at (case_rows t) bus)) (branches_at (case_branches t) bus) ≡ branches_at (case_rows t) bus
 unfolding case_branches
 front_is t bus = branches_at-front (case_rows t) (case_angles t) bus
 
-row_below : (t : Tables) (bus e : ℕ) → In e (take (length (branches_at (case_rows t) bus)) (branches_at (case_branches t) bus)) → e < length t.branches
+pub row_below : (t : Tables) (bus e : ℕ) → In e (take (length (branches_at (case_rows t) bus)) (branches_at (case_branches t) bus)) → e < length t.branches
 row_below t bus e i =
     let here : In e (branches_at (case_rows t) bus) = subst (λ (l : List ℕ). In e l) (front_is t bus) i in
     omega (arith, present_low (case_rows t) e (touched-present (case_rows t) (Star bus) e here), length-case_rows t)
@@ -60,7 +60,7 @@ by_kind t m e Angle at l i =
     let same = itself_is (slice_index_or (case_branches t) p None) p e i in
     ((λ f. omega (arith, same, length-case_rows t)), (λ f. absurd (cc f)))
 
-nothing_touched : (ends : List (Option Ends)) (touch : Touch) (e : ℕ) → touch ≡ Nothing → In e (touched ends touch) → ⊥
+pub nothing_touched : (ends : List (Option Ends)) (touch : Touch) (e : ℕ) → touch ≡ Nothing → In e (touched ends touch) → ⊥
 nothing_touched ends touch e none i = subst (λ (x : Touch). In e (touched ends x)) none i
 
 -- an angle item touches its angle branch alone, and another item rows alone

@@ -11,4 +11,5 @@ pub mod Kept
 pub mod Observable
 pub mod Plain
 pub mod Edited
+pub mod Standing
 pub mod Following

@@ -25,6 +25,7 @@ ghost use Rattle.obs_network.specs.Network.{Network, case_branches, case_compone
 ghost use Rattle.obs_network.specs.Edited.{AreKept, AreMerged, ArePresent, AreSameBut, IsOneMerge, IsReferenceMerge};
 ghost use Rattle.obs_network.specs.Parted.{AreJoinedWithout, HasSource, HasSourceBeside, IsParted, StaysJoined, outage_case};
 ghost use Rattle.obs_network.specs.Observable.{IsObservableCase, branch_component, case_live_meters, case_rank, is_energised_component, item_component};
+ghost use Rattle.obs_network.specs.Standing.{IsPresentAngle, IsPresentRow, Touches};
 ghost use Rattle.obs_network.specs.Plain.{HasNoAbsolute, other_touches_in_order, touches_in_order, without_angles};
 
 /// Two nodes have one bus exactly where the closed switches, as branches between nodes, join them.
@@ -121,6 +122,20 @@ pub fn positions_of_items()
         is_angle t m ≡ true → e ≡ angle_position t m }
     ensures row { (t : Tables) → IsValid t → (m e : ℕ) → In e (touch_at (case_branches t) (case_offered t) m) →
         is_angle t m ≡ false → e < length t.branches }
+{}
+
+/// A row of the branch table is present exactly where it is in service and its two nodes lie on different buses of an
+/// energised component; these buses are its ends. The branch of an angle item is present exactly where the component of
+/// the bus of its node is energised and absolute. An item touches a branch exactly where it counts, the branch is present,
+/// and the item stands at it: a flow at its own row, an injection or a zero at each row at the bus of its node, and an
+/// angle at its angle branch.
+pub fn items_touch_what_they_stand_at()
+    ensures rows { (t : Tables) (e : ℕ) (ends : Ends) → e < length t.branches →
+        (slice_index_or (case_branches t) e None ≡ Some ends) ↔ IsPresentRow t e ends }
+    ensures angles { (t : Tables) → IsValid t → (m : ℕ) (ends : Ends) →
+        (slice_index_or (case_branches t) (angle_position t m) None ≡ Some ends) ↔ IsPresentAngle t m ends }
+    ensures touched { (t : Tables) (m e : ℕ) →
+        In e (touch_at (case_branches t) (case_offered t) m) ↔ Touches t m e }
 {}
 
 /// Where no node is marked absolute, each component needs one pair fewer than it has buses, no angle branch is present,
