@@ -13,7 +13,7 @@ use Rattle.obs_matroid.proofs.Bounds.{length-branches}
 use Rattle.obs_matroid.proofs.Lists.{In-filter, IsDistinct-filter, In-filter_from, filter_same}
 use Rattle.obs_matroid.proofs.Pairs.{In-branches_from, items_within}
 use Rattle.obs_matroid.proofs.Pieces.{forest_joins}
-use Rattle.obs_matroid.proofs.Ranges.{range_distinct, range_in, range_rising}
+use Rattle.obs_matroid.proofs.Ranges.{range_distinct, range_in, range_rising, rising_filter}
 use Rattle.obs_meter.specs.declared.Touch.TheVariants.{Nothing}
 use Rattle.obs_meter.specs.Spanned.{ends_at, joined_at, rank_at}
 use Rattle.obs_meter.proofs.Assigned.{live_items-distinct, rho_at-is, rho_at-unique, to_matroid}
@@ -32,7 +32,6 @@ use Rattle.obs_repair.specs.Bounds.{component_meters, component_rank, is_meter_o
 use Rattle.obs_edit.specs.Answers.{case_first_pairs}
 use Rattle.obs_edit.specs.Laws.{TreesAreFirst, TreesAreWhole, TreesSpan, TreesStandAlone, tree_pairs}
 use Rattle.obs_edit.proofs.FirstParts.{first_in_component}
-use Rattle.obs_network.proofs.Listed.{rising_filter}
 use Rattle.obs_repair.proofs.Tight.{case_matroid, case_touch, observable-to}
 
 -- some of the pairs rise, where all do

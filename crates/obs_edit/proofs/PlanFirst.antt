@@ -11,7 +11,7 @@ use Rattle.obs_matroid.proofs.Comparing.{branch_at_out}
 use Rattle.obs_matroid.proofs.Contained.{All-from_In}
 use Rattle.obs_matroid.proofs.Lists.{In-append_cases, In-filter_from, In-map_from, clash, filter_same}
 use Rattle.obs_matroid.proofs.Pairs.{In-items_from}
-use Rattle.obs_matroid.proofs.Ranges.{range_from, range_rising}
+use Rattle.obs_matroid.proofs.Ranges.{range_from, range_rising, rising_filter}
 use Rattle.obs_meter.specs.declared.Touch.{Touch}
 use Rattle.obs_meter.specs.Assignments.{IsAssignmentAt, rho_at}
 use Rattle.obs_meter.specs.Touches.{every_item, live_items}
@@ -24,7 +24,6 @@ use Rattle.obs_placement.specs.Placed.{Placed, PlanValue, shortfall_of, placemen
 use Rattle.obs_placement.specs.Placed.Placed.{cheapest, shortfall}
 use Rattle.obs_edit.specs.Planned.{PlanPairsAreFirst, pairs_in, placed_pairs, planned_items, touches_of}
 use Rattle.obs_edit.proofs.Planned.{length-touches_of, listed-touch, touch-listed}
-use Rattle.obs_network.proofs.Listed.{rising_filter}
 use Rattle.obs_rankcut.specs.Costs.{price_of}
 use Rattle.obs_islands.proofs.Parts.{has-from_In, In-from_has}
 

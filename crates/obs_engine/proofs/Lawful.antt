@@ -7,7 +7,7 @@ use Rattle.obs_case.specs.Tables.{Tables, IsValid}
 use Rattle.obs_matroid.specs.Lists.{In, IsDistinct, IsRising}
 use Rattle.obs_matroid.specs.Assignments.{Pair}
 use Rattle.obs_matroid.proofs.Lists.{In-filter, In-filter_from, IsDistinct-filter, clash}
-use Rattle.obs_matroid.proofs.Ranges.{range_in, range_rising}
+use Rattle.obs_matroid.proofs.Ranges.{range_in, range_rising, rising_filter}
 use Rattle.obs_meter.specs.Assignments.{IsAssignmentAt, IsRhoAt}
 use Rattle.obs_meter.specs.Touches.{every_item, is_live}
 use Rattle.obs_meter.proofs.Assigned.{live_items-distinct, rho_at-is}
@@ -15,7 +15,6 @@ use Rattle.obs_exchange.specs.Critical.{IsCriticalAt, critical_at}
 use Rattle.obs_exchange.proofs.Lawful.{critical_at-exactly}
 use Rattle.obs_network.specs.Network.{case_branches, case_component_count, case_meters, case_need, case_needed, case_vertex_count}
 use Rattle.obs_network.specs.Observable.{IsObservable, IsObservableCase, branch_component, case_live_meters, case_rank, is_energised_component, item_component}
-use Rattle.obs_network.proofs.Listed.{rising_filter}
 use Rattle.obs_network.proofs.Marked.{filtered_below}
 use Rattle.obs_network.proofs.Observed.{observed_by_rho}
 use Rattle.obs_network.proofs.OfCase.{case_branches-are}

@@ -20,6 +20,7 @@ use Rattle.obs_meter.specs.Touches.{every_item, is_live, live_items, touch_at, t
 use Rattle.obs_meter.proofs.Assigned.{every-to_live, to_matroid}
 use Rattle.obs_meter.proofs.Instance.{IsMatroid-graph}
 use Rattle.obs_meter.proofs.Live.{live-from_live_items}
+use Rattle.obs_meter.proofs.Touched.{itself_in}
 use Rattle.obs_assign.specs.Assignment.{Assignment, IsWhole, StandsOver, branch_at, is_frozen, pairs}
 use Rattle.obs_assign.proofs.Slotted.{none_some}
 use Rattle.obs_exchange.specs.declared.Sources.TheVariants.{All as AllSources, One}
@@ -66,10 +67,6 @@ module _ (g : Graph) (touches : List Touch) (m : ℕ) (t : Touch) where
 -- set and set back
 pub set_back : (touches : List Touch) (m : ℕ) (t : Touch) → set (set touches m t) m (get_or touches m Nothing) ≡ touches
 set_back touches m t = set-set touches m t (get_or touches m Nothing) ∙ set-get_or touches m Nothing
-
-itself_in : (o : Option Ends) (e : ℕ) → IsSome o → In e (itself_of o e)
-itself_in None e h = absurd (cc h)
-itself_in (Some x) e h = inl refl
 
 module _ (ends : List (Option Ends)) (touches : List Touch) (m : ℕ) (low : m < length touches) where
   -- without what it touches the meter is no source

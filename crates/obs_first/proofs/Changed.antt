@@ -11,6 +11,7 @@ use Rattle.obs_matroid.proofs.Lists.{clash}
 use Rattle.obs_meter.specs.declared.Touch.{Touch}
 use Rattle.obs_meter.specs.declared.Touch.TheVariants.{Edge, Nothing}
 use Rattle.obs_meter.specs.Touches.{is_live, touch_at}
+use Rattle.obs_meter.proofs.Touched.{itself_from}
 use Rattle.obs_assign.specs.Assignment.{Assignment, StandsOver, branch_at, is_frozen}
 use Rattle.obs_assign.proofs.Slotted.{none_some}
 use Rattle.obs_exchange.specs.declared.Sources.{Sources}
@@ -67,13 +68,8 @@ module _ (g : Graph) (touches : List Touch) (m : ℕ) (low : m < length touches)
 
 -- the meter touches one branch, of those that it touches
 module _ (g : Graph) (touches : List Touch) (m e : ℕ) (low : m < length touches) (touched : In e (touch_at g.ends touches m)) where
-  one_of_itself : (o : Option Ends) (y : ℕ) → In y (itself_of o e) → y ≡ e
-  one_of_itself None y i = absurd i
-  one_of_itself (Some x) y (inl h) = h
-  one_of_itself (Some x) y (inr n) = absurd n
-
   own_branch : (a : Assignment) (y : ℕ) → StandsOver a g (set touches m (Edge e)) → branch_at a m ≡ Some y → y ≡ e
-  own_branch a y s h = one_of_itself (get_or g.ends e None) y (subst (λ (l : List ℕ). In y l) (touch_changed g.ends touches m (Edge e) low) (s.touched m y h))
+  own_branch a y s h = (itself_from (get_or g.ends e None) e y (subst (λ (l : List ℕ). In y l) (touch_changed g.ends touches m (Edge e) low) (s.touched m y h))).0
 
   pub has_edge : (a : Assignment) → StandsOver a g (set touches m (Edge e)) → (branch_at a m ≡ None) ⊎ (branch_at a m ≡ Some e)
   has_edge a s = elim (cases_Option (branch_at a m)) [

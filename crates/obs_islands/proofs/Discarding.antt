@@ -29,7 +29,7 @@ use Rattle.obs_meter.specs.Spanned.{ends_at, graph_matroid, common_vertex, joine
 use Rattle.obs_meter.specs.Touches.{hub_of, live_items, touch_at, touched}
 use Rattle.obs_meter.proofs.Assigned.{from_matroid, live_items-distinct}
 use Rattle.obs_meter.proofs.Instance.{IsJoining-graph, IsMatroid-graph}
-use Rattle.obs_meter.proofs.Touched.{live-from_In, touched-hub, touched-present}
+use Rattle.obs_meter.proofs.Touched.{itself_from, live-from_In, touched-hub, touched-present}
 use Rattle.obs_meter.proofs.Live.{In-live, live-from_live_items}
 use Rattle.obs_assign.specs.Assignment.{Assignment, branch_at as slot_of, is_frozen, pairs}
 use Rattle.obs_assign.specs.Pins.{joins}
@@ -66,11 +66,6 @@ assignment_same mat t s U same B b = record {
   different = b.different;
   independent = b.independent;
 }
-
-itself_is : (o : Option Ends) (e p : ℕ) → In p (itself_of o e) → p ≡ e
-itself_is None e p i = absurd i
-itself_is (Some x) e p (inl i) = i
-itself_is (Some x) e p (inr i) = absurd i
 
 module _ (g : Graph) (ts us : List Touch) (used : IsUsedOf ts us) where
   -- a live item touches what it touched at first
@@ -235,7 +230,7 @@ module _ (g : Graph) (ts us : List Touch) (used : IsUsedOf ts us) where
         touch_joined m e i j (Star v) is = hub_joined m e (record { vertex = v; count = length (branches_at g.ends v) }) j (ap (hub_of g.ends) is)
         touch_joined m e i j (Front v count) is = hub_joined m e (record { vertex = v; count = count }) j (ap (hub_of g.ends) is)
         touch_joined m e i j (Edge p) is =
-            let own : (f : ℕ) → In f (touch_at g.ends us m) → f ≡ p = λ f k. itself_is (get_or g.ends p None) p f (rw is at k) in
+            let own : (f : ℕ) → In f (touch_at g.ends us m) → f ≡ p = λ f k. (itself_from (get_or g.ends p None) p f (rw is at k)).0 in
             elim (cases_Option (slot_of a m)) [
               | inr s ↦
                   let same : e ≡ s.0 = own e j ∙ sym (own s.0 (closed.stands.touched m s.0 s.1)) in

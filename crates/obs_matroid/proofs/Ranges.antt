@@ -2,9 +2,10 @@
 use Rattle.std.proofs.Common.{◌≡◌, ℕ, zero, suc, ◌+◌, ◌-◌, ◌<◌, ◌≤◌, Bool, true, false, List, [], ◌∷◌, ◌++◌, length, set, take, refl, ap, ◌∙◌, inl, inr, arith, append_assoc}
 use Rattle.std.specs.Prelude.{filter}
 use Rattle.std.specs.List.{range_with_len}
-use Rattle.std.proofs.lemmas.Bool.{cases_eq}
+use Rattle.std.proofs.lemmas.Bool.{cases_Bool, cases_eq}
 use Rattle.std.proofs.lemmas.List.{take_more_set}
 use Rattle.obs_matroid.specs.Lists.{In, IsDistinct, IsRising}
+use Rattle.obs_matroid.proofs.Lists.{In-filter_from}
 
 pub range_in : (a n x : ℕ) → a ≤ x → x < a + n → In x (range_with_len a n)
 range_in a zero x l h = absurd (omega arith)
@@ -24,6 +25,14 @@ below_from i x j = let h = (range_from 0 i x j).1 in omega (arith, h)
 pub range_rising : (a n : ℕ) → IsRising (range_with_len a n)
 range_rising a zero = tt
 range_rising a (suc n) = ((λ y i. let l = (range_from (a + 1) n y i).0 in omega (arith, l)), range_rising (a + 1) n)
+
+-- what is picked of a rising list rises
+pub rising_filter : (p : ℕ → Bool) (xs : List ℕ) → IsRising xs → IsRising (filter p xs)
+rising_filter p [] r = tt
+rising_filter p (x ∷ xs) r = elim (cases_Bool (p x)) [
+  | inl e ↦ rw e ((λ y i. r.0 y (In-filter_from p y xs i).0), rising_filter p xs r.1)
+  | inr e ↦ rw e (rising_filter p xs r.1)
+]
 
 pub range_distinct : (a n : ℕ) → IsDistinct (range_with_len a n)
 range_distinct a zero = tt

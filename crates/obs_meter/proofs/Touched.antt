@@ -61,10 +61,15 @@ some_with_end : (v : ℕ) (o : Option Ends) → has_end v o ≡ true → IsSome 
 some_with_end v None t = absurd (cc t)
 some_with_end v (Some x) t = refl
 
-itself_in : (o : Option Ends) (e p : ℕ) → In p (itself_of o e) → (p ≡ e) × IsSome o
-itself_in None e p i = absurd i
-itself_in (Some x) e p (inl i) = (i, refl)
-itself_in (Some x) e p (inr i) = absurd i
+-- a branch alone is itself, and is there where it is present
+pub itself_from : (o : Option Ends) (e p : ℕ) → In p (itself_of o e) → (p ≡ e) × IsSome o
+itself_from None e p i = absurd i
+itself_from (Some x) e p (inl i) = (i, refl)
+itself_from (Some x) e p (inr i) = absurd i
+
+pub itself_in : (o : Option Ends) (e : ℕ) → IsSome o → In e (itself_of o e)
+itself_in None e s = absurd (cc s)
+itself_in (Some x) e s = inl refl
 
 present_there : (ends : List (Option Ends)) (v e : ℕ) → In e (branches_at ends v) → IsSome (slice_index_or ends e None)
 present_there ends v e i = some_with_end v (slice_index_or ends e None) (has_end-at_vertex ends v e (Contains-from_In e (branches_at ends v) i))
@@ -72,7 +77,7 @@ present_there ends v e i = some_with_end v (slice_index_or ends e None) (has_end
 -- a touched branch is present
 pub touched-present : (ends : List (Option Ends)) (t : Touch) (e : ℕ) → In e (touched ends t) → IsSome (slice_index_or ends e None)
 touched-present ends Nothing e i = absurd i
-touched-present ends (Edge p) e i = let h = itself_in (slice_index_or ends p None) p e i in rw h.0 h.1
+touched-present ends (Edge p) e i = let h = itself_from (slice_index_or ends p None) p e i in rw h.0 h.1
 touched-present ends (Star v) e i = present_there ends v e i
 touched-present ends (Front v count) e i = present_there ends v e (In-take count (branches_at ends v) e i)
 
@@ -86,7 +91,7 @@ ends_there ends v e i = end_there v (slice_index_or ends e None) (has_end-at_ver
 -- a touched branch has an end at the hub
 pub touched-hub : (ends : List (Option Ends)) (t : Touch) (e : ℕ) → In e (touched ends t) → ((ends_at ends e).0 ≡ common_vertex ends t) ⊎ ((ends_at ends e).1 ≡ common_vertex ends t)
 touched-hub ends Nothing e i = absurd i
-touched-hub ends (Edge p) e i = let h = itself_in (slice_index_or ends p None) p e i in inl (ap (λ x. (ends_at ends x).0) h.0)
+touched-hub ends (Edge p) e i = let h = itself_from (slice_index_or ends p None) p e i in inl (ap (λ x. (ends_at ends x).0) h.0)
 touched-hub ends (Star v) e i = ends_there ends v e i
 touched-hub ends (Front v count) e i = ends_there ends v e (In-take count (branches_at ends v) e i)
 

@@ -13,7 +13,7 @@ use Rattle.obs_matroid.specs.Lists.{In, IsRising}
 use Rattle.obs_matroid.specs.Assignments.{Pair}
 use Rattle.obs_matroid.proofs.Contained.{All-from_In}
 use Rattle.obs_matroid.proofs.Lists.{In-filter, In-filter_from}
-use Rattle.obs_matroid.proofs.Ranges.{range_in, range_rising}
+use Rattle.obs_matroid.proofs.Ranges.{range_in, range_rising, rising_filter}
 use Rattle.obs_meter.specs.declared.Touch.{Touch}
 use Rattle.obs_meter.specs.declared.Touch.TheVariants.{Nothing}
 use Rattle.obs_meter.specs.Assignments.{IsAssignmentAt}
@@ -75,14 +75,6 @@ pub live_meters-below : (n : Network) (c : ℕ) → All (λ m. m < length n.mete
 live_meters-below n c =
     All-from_In (λ m. m < length n.meters.touches) (live_meters_of n c)
     (λ m i. let low = filtered_below (is_live n.graph.ends n.meters.touches) 0 (length n.meters.touches) m (In-filter_from (is_meter_in n c) m (live_items n.graph.ends n.meters.touches) i).0 in omega (arith, low))
-
-pub rising_filter : (p : ℕ → Bool) (xs : List ℕ) → IsRising xs → IsRising (filter p xs)
-rising_filter p [] r = tt
-rising_filter p (x ∷ xs) r =
-    elim (cases_Bool (p x)) [
-      | inl e ↦ rw e ((λ y i. r.0 y (In-filter_from p y xs i).0), rising_filter p xs r.1)
-      | inr e ↦ rw e (rising_filter p xs r.1)
-    ]
 
 pub live_meters-rising : (n : Network) (c : ℕ) → IsRising (live_meters_of n c)
 live_meters-rising n c =

@@ -15,7 +15,7 @@ use Rattle.obs_matroid.specs.Lists.{In}
 use Rattle.obs_meter.specs.declared.Touch.{Touch}
 use Rattle.obs_meter.specs.declared.Touch.TheVariants.{Nothing}
 use Rattle.obs_meter.specs.Touches.{touch_at, touched}
-use Rattle.obs_meter.proofs.Touched.{In-from_any, any-from_In, star_touched}
+use Rattle.obs_meter.proofs.Touched.{In-from_any, any-from_In, itself_from, star_touched}
 use Rattle.obs_network.specs.Switched.{case_bus_count, case_buses}
 use Rattle.obs_network.specs.Touching.{meter_touch, meter_touches, touch_of}
 use Rattle.obs_network.specs.Network.{case_angles, case_branches, case_meters, case_rows, network_of}
@@ -26,19 +26,13 @@ use Rattle.obs_network.proofs.OfCase.{length-case_rows, length-meter_touches}
 use Rattle.obs_network.proofs.Spared.{absolute_stay, angles_stay, branches_but_one, component_count_stays, components_stay, energised_stay, first_buses_stay, needed_stays, rows_but_one, sizes_stay}
 use Rattle.obs_network.proofs.Whole.{grouped_is}
 
--- a present branch is itself alone
-itself_alone : (o : Option Ends) (e p : ℕ) → In p (itself_of o e) → p ≡ e
-itself_alone None e p i = absurd i
-itself_alone (Some x) e p (inl same) = same
-itself_alone (Some x) e p (inr i) = absurd i
-
 -- two lists of rows, and the same angle branches behind both: they are the same at all positions but one, which is a row
 module _ (rows others angles : List (Option Ends)) (at : ℕ) (as_many : length rows ≡ length others)
     (same : (k : ℕ) → (k ≡ at → ⊥) → get_or (rows ++ angles) k None ≡ get_or (others ++ angles) k None)
     (same_rows : (k : ℕ) → (k ≡ at → ⊥) → get_or rows k None ≡ get_or others k None) where
   edge_spared : (k p : ℕ) → (p ≡ at → ⊥) → In p (itself_of (slice_index_or (rows ++ angles) k None) k) → In p (itself_of (slice_index_or (others ++ angles) k None) k)
   edge_spared k p ne i =
-      let own = itself_alone (slice_index_or (rows ++ angles) k None) k p i in
+      let own = (itself_from (slice_index_or (rows ++ angles) k None) k p i).0 in
       subst (λ o. In p (itself_of o k)) (same k (λ here. ne (own ∙ here))) i
 
   front_spared : (bus p : ℕ) → (p ≡ at → ⊥) → In p (take (length (branches_at rows bus)) (branches_at (rows ++ angles) bus)) → In p (take (length (branches_at others bus)) (branches_at (others ++ angles) bus))

@@ -20,7 +20,7 @@ use Rattle.obs_matroid.proofs.Contained.{Contains-from_In, In-from_Contains}
 use Rattle.obs_meter.specs.declared.Touch.{Touch}
 use Rattle.obs_meter.specs.declared.Touch.TheVariants.{Nothing, Edge, Front}
 use Rattle.obs_meter.specs.Touches.{touch_at, touched}
-use Rattle.obs_meter.proofs.Touched.{touched-present}
+use Rattle.obs_meter.proofs.Touched.{itself_from, itself_in, touched-present}
 use Rattle.obs_network.specs.Switched.{case_buses}
 use Rattle.obs_network.specs.Live.{is_live_branch, live_ends}
 use Rattle.obs_network.specs.Components.{if_energised}
@@ -34,7 +34,6 @@ use Rattle.obs_network.proofs.Vertices.{angle_branch-at, item_sites}
 use Rattle.obs_network.proofs.InComponents.{get_or-energised, row_is_live}
 use Rattle.obs_network.proofs.RenamedEnds.{two_ends}
 use Rattle.obs_network.proofs.WithoutAngles.{front_is, nothing_touched, row_below}
-use Rattle.obs_network.proofs.StillTouched.{itself_alone, itself_in}
 use Rattle.obs_network.proofs.PartedNeeds.{row_at}
 
 -- behind the positions of the rows stand the angle branches
@@ -225,7 +224,7 @@ offered_is t m item row =
 one_touched : (ends : List (Option Ends)) (e at : ℕ) → In e (itself_of (slice_index_or ends at None) at) ↔ IsSome (slice_index_or ends e None) × (e ≡ at)
 one_touched ends e at = (
   (λ i.
-      let same = itself_alone (slice_index_or ends at None) at e i in
+      let same = (itself_from (slice_index_or ends at None) at e i).0 in
       (touched-present ends (Edge at) e i, same)),
   (λ p. subst (λ k. In k (itself_of (slice_index_or ends at None) at)) (sym p.1) (itself_in (slice_index_or ends at None) at (subst (λ k. IsSome (slice_index_or ends k None)) p.1 p.0))),
 )

@@ -15,7 +15,7 @@ use Rattle.obs_matroid.specs.Lists.{In}
 use Rattle.obs_meter.specs.declared.Touch.{Touch}
 use Rattle.obs_meter.specs.declared.Touch.TheVariants.{Nothing}
 use Rattle.obs_meter.specs.Touches.{touch_at, touched}
-use Rattle.obs_meter.proofs.Touched.{In-from_any, any-from_In, star_touched}
+use Rattle.obs_meter.proofs.Touched.{In-from_any, any-from_In, itself_from, itself_in, star_touched}
 use Rattle.obs_network.specs.Switched.{case_buses}
 use Rattle.obs_network.specs.Touching.{meter_touch, meter_touches, touch_of}
 use Rattle.obs_network.specs.Network.{case_angles, case_branches, case_meters, case_rows}
@@ -24,21 +24,11 @@ use Rattle.obs_network.proofs.Items.{meter_touches-at, some_row}
 use Rattle.obs_network.proofs.OfCase.{length-meter_touches}
 use Rattle.obs_network.proofs.Outed.{row_before, same_rows, some_of}
 
--- a present branch is itself alone
-pub itself_alone : (o : Option Ends) (e p : ℕ) → In p (itself_of o e) → p ≡ e
-itself_alone None e p i = absurd i
-itself_alone (Some x) e p (inl same) = same
-itself_alone (Some x) e p (inr i) = absurd i
-
-pub itself_in : (o : Option Ends) (e : ℕ) → IsSome o → In e (itself_of o e)
-itself_in None e s = absurd (cc s)
-itself_in (Some x) e s = inl refl
-
 -- rows and angle branches before and after, and a branch that is present after: a row of the same ends, or none
 module _ (rows others angles behind : List (Option Ends)) (as_many : length rows ≡ length others) (p : ℕ) (there : IsSome (slice_index_or (others ++ behind) p None))
     (same : get_or rows p None ≡ get_or others p None) where
   edge_still : (k : ℕ) → In p (itself_of (slice_index_or (rows ++ angles) k None) k) → In p (itself_of (slice_index_or (others ++ behind) k None) k)
-  edge_still k i = subst (λ z. In p (itself_of (slice_index_or (others ++ behind) z None) z)) (itself_alone (slice_index_or (rows ++ angles) k None) k p i) (itself_in (slice_index_or (others ++ behind) p None) p there)
+  edge_still k i = subst (λ z. In p (itself_of (slice_index_or (others ++ behind) z None) z)) ((itself_from (slice_index_or (rows ++ angles) k None) k p i).0) (itself_in (slice_index_or (others ++ behind) p None) p there)
 
   front_still : (bus : ℕ) → In p (take (length (branches_at rows bus)) (branches_at (rows ++ angles) bus)) → In p (take (length (branches_at others bus)) (branches_at (others ++ behind) bus))
   front_still bus i =

@@ -22,7 +22,7 @@ use Rattle.obs_matroid.specs.Lists.{In}
 use Rattle.obs_meter.specs.declared.Touch.{Touch}
 use Rattle.obs_meter.specs.declared.Touch.TheVariants.{Nothing, Star}
 use Rattle.obs_meter.specs.Touches.{touch_at, touched}
-use Rattle.obs_meter.proofs.Touched.{touched-present}
+use Rattle.obs_meter.proofs.Touched.{itself_from, touched-present}
 use Rattle.obs_network.specs.Switched.{case_buses}
 use Rattle.obs_network.specs.Components.{is_absolute_node, is_marked}
 use Rattle.obs_network.specs.Angles.{has_angle, item_angle, takes_angles}
@@ -31,11 +31,6 @@ use Rattle.obs_network.specs.Network.{case_absolute, case_angles, case_branches,
 use Rattle.obs_network.specs.Plain.{HasNoAbsolute, other_touches_in_order, touches_in_order, without_angles}
 use Rattle.obs_network.proofs.Items.{item_at, length-angle_flags}
 use Rattle.obs_network.proofs.OfCase.{length-case_offered, length-case_rows, length-meter_touches}
-
-itself_is : (o : Option Ends) (e p : ℕ) → In p (itself_of o e) → p ≡ e
-itself_is None e p i = absurd i
-itself_is (Some x) e p (inl i) = i
-itself_is (Some x) e p (inr i) = absurd i
 
 -- what is touched at a bus are the rows there, whatever stands behind the rows
 pub front_is : (t : Tables) (bus : ℕ) → take (length (branches_at (case_rows t) bus)) (branches_at (case_branches t) bus) ≡ branches_at (case_rows t) bus
@@ -51,13 +46,13 @@ row_below t bus e i =
 by_kind : (t : Tables) (m e : ℕ) (kind : Kind) (at : ℕ) → at < places t kind → In e (touched (case_branches t) (touch_of (case_rows t) (case_buses t) m kind at))
     → (is_angle_kind kind ≡ true → e ≡ angle_position t m) × (is_angle_kind kind ≡ false → e < length t.branches)
 by_kind t m e Flow at l i =
-    let same = itself_is (slice_index_or (case_branches t) at None) at e i in
+    let same = (itself_from (slice_index_or (case_branches t) at None) at e i).0 in
     ((λ f. absurd (cc f)), (λ f. omega (arith, same, l)))
 by_kind t m e Injection at l i = let low = row_below t (slice_index (case_buses t) at) e i in ((λ f. absurd (cc f)), (λ f. low))
 by_kind t m e Zero at l i = let low = row_below t (slice_index (case_buses t) at) e i in ((λ f. absurd (cc f)), (λ f. low))
 by_kind t m e Angle at l i =
     let p = length (case_rows t) + m in
-    let same = itself_is (slice_index_or (case_branches t) p None) p e i in
+    let same = (itself_from (slice_index_or (case_branches t) p None) p e i).0 in
     ((λ f. omega (arith, same, length-case_rows t)), (λ f. absurd (cc f)))
 
 pub nothing_touched : (ends : List (Option Ends)) (touch : Touch) (e : ℕ) → touch ≡ Nothing → In e (touched ends touch) → ⊥

@@ -14,7 +14,7 @@ use Rattle.obs_meter.specs.Assignments.{rho_at}
 use Rattle.obs_meter.specs.Held.{Meters}
 use Rattle.obs_meter.specs.Touches.{live_items, touch_at, touched}
 use Rattle.obs_meter.proofs.Assigned.{every-to_live, live_items-distinct, rho_at-is}
-use Rattle.obs_meter.proofs.Touched.{live-from_In}
+use Rattle.obs_meter.proofs.Touched.{itself_from, live-from_In}
 use Rattle.obs_assign.specs.Assignment.{Assignment, branch_at, has_flag}
 use Rattle.obs_exchange.specs.declared.Sources.TheVariants.{All}
 use Rattle.obs_exchange.specs.Critical.{critical_at}
@@ -26,15 +26,10 @@ use Rattle.obs_network.specs.Network.{Network}
 use Rattle.obs_kept.specs.Kept.{AreLongestOver}
 use Rattle.obs_outage.specs.Costly.{AreCostly, IsCostly}
 
-itself_same : (o : Option Ends) (e p : ℕ) → In p (itself_of o e) → p ≡ e
-itself_same None e p i = absurd i
-itself_same (Some x) e p (inl is) = is
-itself_same (Some x) e p (inr i) = absurd i
-
 -- a meter that touches one branch by its position touches no other
 edge_alone : (ends : List (Option Ends)) (touches : List Touch) (m f p q : ℕ) → get_or touches m Nothing ≡ Edge f → In p (touch_at ends touches m) → In q (touch_at ends touches m) → p ≡ q
 edge_alone ends touches m f p q is i j =
-    let at : (k : ℕ) → In k (touch_at ends touches m) → k ≡ f = λ k l. itself_same (get_or ends f None) f k (subst (λ t. In k (touched ends t)) is l) in
+    let at : (k : ℕ) → In k (touch_at ends touches m) → k ≡ f = λ k l. (itself_from (get_or ends f None) f k (subst (λ t. In k (touched ends t)) is l)).0 in
     at p i ∙ sym (at q j)
 
 module _ (g : Graph) (touches : List Touch) (a : Assignment) (h : IsLongest g touches a) (marks : List Bool) (c : HasClosedSet a g touches (has_flag marks)) where

@@ -22,7 +22,7 @@ use Rattle.obs_meter.specs.declared.Touch.TheVariants.{Edge, Front, Nothing, Sta
 use Rattle.obs_meter.specs.Assignments.{IsAssignmentAt}
 use Rattle.obs_meter.specs.Spanned.{both_ends, common_vertex, ends_at}
 use Rattle.obs_meter.specs.Touches.{every_item, hub_of, touch_at, touched}
-use Rattle.obs_meter.proofs.Touched.{touched-hub, touched-present}
+use Rattle.obs_meter.proofs.Touched.{itself_from, touched-hub, touched-present}
 use Rattle.obs_assign.specs.Assignment.{Assignment, IsWhole, branch_at, pairs}
 use Rattle.obs_assign.proofs.Slotted.{distinct_branches, length-pairs_of, slots_apart}
 use Rattle.obs_assign.proofs.Standing.{IsAssignmentAt-standing}
@@ -39,15 +39,10 @@ use Rattle.obs_outage.proofs.InOutage.{rank_longest}
 use Rattle.obs_outage.proofs.Losing.{any_from, any_in, same_length, sum_is}
 use Rattle.obs_outage.proofs.Unfed.{at, ends_there, gone_at, goes_on, leaves, on, rank_less, row_is, row_off, stays_off}
 
-itself_same : (o : Option Ends) (e p : ℕ) → In p (itself_of o e) → p ≡ e
-itself_same None e p i = absurd i
-itself_same (Some x) e p (inl is) = is
-itself_same (Some x) e p (inr i) = absurd i
-
 -- an item without a hub touches one branch at most, and one with a hub touches branches with an end there
 pub by_hub : (ends : List (Option Ends)) (t : Touch) → ((j k : ℕ) → In j (touched ends t) → In k (touched ends t) → j ≡ k) ⊎ ((h : Hub) × (hub_of ends t ≡ Some h) × (common_vertex ends t ≡ h.vertex))
 by_hub ends Nothing = inl (λ j k i h. absurd i)
-by_hub ends (Edge p) = inl (λ j k i h. itself_same (slice_index_or ends p None) p j i ∙ sym (itself_same (slice_index_or ends p None) p k h))
+by_hub ends (Edge p) = inl (λ j k i h. (itself_from (slice_index_or ends p None) p j i).0 ∙ sym ((itself_from (slice_index_or ends p None) p k h).0))
 by_hub ends (Star v) = inr (record { vertex = v; count = length (branches_at ends v) }, refl, refl)
 by_hub ends (Front v count) = inr (record { vertex = v; count = count }, refl, refl)
 

@@ -8,7 +8,7 @@ use Rattle.obs_matroid.specs.Lists.{In, IsDistinct, IsRising, other_than, withou
 use Rattle.obs_matroid.specs.Partners.{ArePartners, first_passing}
 use Rattle.obs_matroid.proofs.Lists.{In-filter, In-filter_from, clash, other_true}
 use Rattle.obs_matroid.proofs.Partners.{is_partner_is, newly_critical, one_class, partners_apart, partners_both_ways, partners_in, partners_together}
-use Rattle.obs_matroid.proofs.Ranges.{range_rising}
+use Rattle.obs_matroid.proofs.Ranges.{range_rising, rising_filter}
 use Rattle.obs_meter.specs.declared.Touch.{Touch}
 use Rattle.obs_meter.specs.Assignments.{IsRhoAt}
 use Rattle.obs_meter.specs.Spanned.{graph_matroid}
@@ -34,13 +34,6 @@ first_low test d m (x ∷ xs) r (inl e) t =
 first_low test d m (x ∷ xs) r (inr i) t = elim (cases_Bool (test x)) [
   | inl y ↦ rw y (let l = r.0 m i in omega (arith, l))
   | inr n ↦ rw n (first_low test d m xs r.1 i t)
-]
-
-rising_filter : (p : ℕ → Bool) (xs : List ℕ) → IsRising xs → IsRising (filter p xs)
-rising_filter p [] r = tt
-rising_filter p (x ∷ xs) r = elim (cases_Bool (p x)) [
-  | inl t ↦ rw t ((λ y i. r.0 y (In-filter_from p y xs i).0), rising_filter p xs r.1)
-  | inr f ↦ rw f (rising_filter p xs r.1)
 ]
 
 module _ (n : ℕ) (ends : List (Option Ends)) (touches : List Touch) (ok : AreBranches n ends) where
