@@ -1,10 +1,9 @@
 // The kept assignment.
-ghost use Rattle.std.specs.Prelude.{◌≡◌, ◌≢◌, ◌↔◌, ◌+◌, ◌<◌, ◌≤◌, ℕ, Some, None, List, [], length, replicate, false, true, IfOk, IfSome, IfNone, IsSome, IsTrue, slice_index_or, slice_set};
-ghost use Rattle.obs_matroid.specs.Lists.{In};
+ghost use Rattle.std.specs.Prelude.{◌≡◌, ◌≢◌, ◌+◌, ◌<◌, ◌≤◌, ℕ, Some, None, List, [], length, replicate, false, IfOk, IfSome, IfNone, slice_set};
 ghost use Rattle.obs_matroid.specs.Slots.{pairs_of};
 ghost use Rattle.obs_meter.specs.declared.Touch.{Touch};
 ghost use Rattle.obs_meter.specs.Assignments.{IsAssignmentAt};
-ghost use Rattle.obs_meter.specs.Touches.{every_item, touch_at};
+ghost use Rattle.obs_meter.specs.Touches.{every_item};
 ghost use Rattle.obs_forest.specs.Forest.{StandsOver as ForestStandsOver};
 ghost use Rattle.obs_assign.specs.Assignment.{Fits, HasRoomOf, IsWhole, StandsOver, branch_at, is_frozen, pairs};
 ghost use Rattle.obs_assign.specs.Moves.{ArePath, moved, turned};

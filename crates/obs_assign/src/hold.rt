@@ -1,5 +1,5 @@
 // The pairs, listed by their branches, and held in a forest again.
-ghost use Rattle.std.specs.Prelude.{◌≡◌, ◌<◌, ◌≤◌, ◌^◌, ℕ, Some, None, false, length, replicate, slice_index_or, slice_set, take};
+ghost use Rattle.std.specs.Prelude.{◌≡◌, ◌<◌, ◌≤◌, ◌^◌, ℕ, Some, None, false, length, replicate, slice_index_or, take};
 ghost use Rattle.obs_graph.specs.Positions.{IsForestAt};
 ghost use Rattle.obs_graph.specs.Search.{room_of, IsRooted};
 ghost use Rattle.obs_matroid.specs.Assignments.{branches};

@@ -1,11 +1,10 @@
 // The pairs, found by their branch, listed by their branches and held in a forest.
-ghost use Rattle.std.specs.Prelude.{◌≡◌, ◌<◌, ◌≤◌, ◌^◌, ℕ, Some, None, [], length, replicate, IfOk, slice_index_or, slice_set};
+ghost use Rattle.std.specs.Prelude.{◌≡◌, ◌<◌, ◌≤◌, ℕ, Some, None, [], length, replicate, IfOk, slice_index_or, slice_set};
 ghost use Rattle.obs_graph.specs.Graph.{Graph};
 ghost use Rattle.obs_graph.specs.Positions.{IsForestAt};
 ghost use Rattle.obs_graph.specs.Search.{room_of};
 ghost use Rattle.obs_matroid.specs.Assignments.{branches};
 ghost use Rattle.obs_matroid.specs.Slots.{pairs_of};
-ghost use Rattle.obs_assign.specs.Assignment.{HoldsPairs};
 ghost use Rattle.obs_assign.specs.Kept.{IsInverse, IsOver, with_slots};
 ghost use Rattle.obs_assign.specs.Pins.{pinned_slots};
 ghost use Rattle.obs_assign.specs.Still.{AreRetained};

@@ -1,5 +1,5 @@
 // The lengths of contents.
-ghost use Rattle.std.specs.Prelude.{◌↔◌, IsTrue, length};
+ghost use Rattle.std.specs.Prelude.{◌↔◌, IsTrue};
 ghost use Rattle.obs_c.specs.Blocks.{AreLengths};
 
 /// Whether there is a length for each of so many words, and together they are those of all contents.

@@ -1,9 +1,9 @@
 -- The islands of a trial are counted by their first buses.
-use Rattle.std.proofs.Common.{◌≡◌, ℕ, ◌<◌, ◌+◌, Bool, true, arith, sym, ap, subst, ◌∙◌}
+use Rattle.std.proofs.Common.{◌≡◌, ℕ, ◌<◌, Bool, true, arith, sym, subst, ◌∙◌}
 use Rattle.std.specs.Prelude.{◌==◌, slice_index}
 use Rattle.std.proofs.lemmas.Bool.{and_from, and_parts, eq-eqb, eqb-true}
 use Rattle.obs_case.specs.Tables.{IsValid, Tables}
-use Rattle.obs_network.specs.Network.{case_components, case_vertex_count}
+use Rattle.obs_network.specs.Network.{case_vertex_count}
 use Rattle.obs_network.specs.Observable.{is_energised_component}
 use Rattle.obs_network.specs.Switched.{case_bus_count}
 use Rattle.obs_network.proofs.Vertices.{case_vertex_component-bus}

@@ -1,6 +1,6 @@
 -- A round: the ends of a lost branch lie in no set that is spanned from inside, and where no item touches one at its hub, the
 -- pieces of a longest assignment are the islands.
-use Rattle.std.proofs.Common.{◌≡◌, ℕ, ◌<◌, ◌≤◌, List, length, get_or, refl, sym, ap, ◌∙◌, inl, inr, ◌⊎◌, Bool, true, false, not, ◌||◌, Option, Some, None, subst, arith}
+use Rattle.std.proofs.Common.{◌≡◌, ℕ, ◌<◌, ◌≤◌, List, length, get_or, refl, sym, ap, ◌∙◌, inl, inr, ◌⊎◌, Bool, true, false, not, ◌||◌, Some, None, subst, arith}
 use Rattle.std.specs.Prelude.{nat_lt, slice_index}
 use Rattle.std.specs.List.{list_any}
 use Rattle.std.proofs.lemmas.Bool.{cases_Bool, cases_eq, or_from}
@@ -8,7 +8,7 @@ use Rattle.std.proofs.lemmas.List.FromFn.{fill_by_all}
 use Rattle.obs_graph.specs.declared.Ends.{Ends}
 use Rattle.obs_graph.specs.Joined.{first_joined}
 use Rattle.obs_graph.specs.Positions.{branches_at, present}
-use Rattle.obs_graph.specs.Graph.{Graph, itself_of}
+use Rattle.obs_graph.specs.Graph.{Graph}
 use Rattle.obs_graph.proofs.First.{first_joined-first_joined, first_joined-le}
 use Rattle.obs_graph.proofs.Present.{branch_at, present_low, some_is_in}
 use Rattle.obs_matroid.specs.Lists.{In, IsDistinct, other_than, without}

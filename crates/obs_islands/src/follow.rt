@@ -1,5 +1,5 @@
 // What is lost after other branches are.
-ghost use Rattle.std.specs.Prelude.{◌≡◌, ◌+◌, ◌<◌, ◌≤◌, ◌^◌, ◌==◌, length, slice_set};
+ghost use Rattle.std.specs.Prelude.{◌≡◌, ◌+◌, ◌<◌, ◌^◌, ◌==◌, length, slice_set};
 ghost use Rattle.obs_assign.specs.Assignment.{StandsOver};
 ghost use Rattle.obs_islands.specs.GivenUp.{IsQueue, StillGivesUp};
 ghost use Rattle.obs_islands.specs.Rounds.{IsNotedAt, noted};

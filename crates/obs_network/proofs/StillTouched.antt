@@ -1,5 +1,5 @@
 -- What an outage leaves to meters: of what a meter touched it touches all that is present.
-use Rattle.std.proofs.Common.{◌≡◌, ℕ, ◌+◌, Option, Some, None, List, ◌++◌, length, get_or, refl, sym, ap, ◌∙◌, subst, arith, inl, inr, true}
+use Rattle.std.proofs.Common.{◌≡◌, ℕ, ◌+◌, Option, None, List, ◌++◌, length, get_or, sym, ap, ◌∙◌, subst, arith, inl, inr, true}
 use Rattle.std.specs.Prelude.{IsSome, slice_index, slice_index_or, take}
 use Rattle.std.proofs.lemmas.Bool.{cases_Bool, cases_lt, cond-true, cond-false}
 use Rattle.std.proofs.lemmas.List.{get_or_append_left, get_or_past}

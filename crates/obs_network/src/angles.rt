@@ -1,9 +1,9 @@
 // The angle branches of a case.
-ghost use Rattle.std.specs.Prelude.{◌≡◌, ◌+◌, ◌≢◌, ◌<◌, ◌≤◌, All, Bool, List, length, map, take};
+ghost use Rattle.std.specs.Prelude.{◌≡◌, ◌+◌, ◌≢◌, ◌<◌, ◌≤◌, All, length, map, take};
 ghost use Rattle.std.specs.List.{list_any};
 ghost use Rattle.obs_case.specs.Items.{is_angle_kind};
 ghost use Rattle.obs_case.specs.Tables.{IsValid, most_rows};
-ghost use Rattle.obs_network.specs.Angles.{angle_branches, bus_angle, has_angle, item_angle};
+ghost use Rattle.obs_network.specs.Angles.{bus_angle, has_angle, item_angle};
 ghost use Rattle.obs_network.specs.Network.{case_absolute, case_angles, case_components, case_energised};
 ghost use Rattle.obs_network.specs.Switched.{case_bus_count, case_buses};
 

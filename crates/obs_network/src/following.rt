@@ -1,6 +1,6 @@
 // What items touch, and the lists of live meters, where one row of the graph changed. Only items that touch the row itself, or
 // branches at an end that it had or has, are looked at again.
-ghost use Rattle.std.specs.Prelude.{◌≡◌, ◌+◌, ◌<◌, ◌≤◌, IfSome, length, slice_index_or, slice_set, take};
+ghost use Rattle.std.specs.Prelude.{◌≡◌, ◌+◌, ◌<◌, ◌≤◌, IfSome, length, slice_set, take};
 ghost use Rattle.obs_graph.specs.Positions.{has_end};
 ghost use Rattle.obs_meter.specs.Touches.{AreInRange, IsInRange};
 ghost use Rattle.obs_network.specs.Following.{AreFollowed, AreListedFar, followed, followed_items, is_end, is_near, is_row};

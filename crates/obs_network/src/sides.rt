@@ -1,7 +1,6 @@
 // A walk from both ends of a row along the other rows: they join the two, or one of the two sides is found whole.
-ghost use Rattle.std.specs.Prelude.{◌≡◌, ◌≢◌, ◌<◌, ◌≤◌, ◌+◌, ◌⊎◌, ◌==◌, ℕ, false, true, All, IsSome, IsTrue, MatchBool, MatchOption, IfOk, IfSome, None, Some, length, slice_index, slice_index_or, slice_set, take};
-ghost use Rattle.obs_graph.specs.Joined.{Chain, Leads};
-ghost use Rattle.obs_graph.specs.Positions.{AreBranches, has_end, present};
+ghost use Rattle.std.specs.Prelude.{◌≡◌, ◌≢◌, ◌<◌, ◌≤◌, ◌+◌, ◌⊎◌, ◌==◌, ℕ, false, true, All, IsSome, IsTrue, MatchBool, MatchOption, IfOk, None, Some, length, slice_index_or, slice_set, take};
+ghost use Rattle.obs_graph.specs.Positions.{has_end, present};
 ghost use Rattle.obs_graph.specs.Search.{Reaches};
 ghost use Rattle.obs_matroid.specs.Lists.{In};
 ghost use Rattle.obs_network.specs.Parted.{AreJoinedWithout, IsSide};

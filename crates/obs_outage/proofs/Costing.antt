@@ -2,7 +2,7 @@
 use Rattle.std.proofs.Common.{◌≡◌, ℕ, Bool, true, false, Option, Some, None, List, get_or, sym, ◌∙◌, subst, inl, inr, arith}
 use Rattle.std.proofs.lemmas.Bool.{cases_Bool}
 use Rattle.obs_graph.specs.declared.Ends.{Ends}
-use Rattle.obs_graph.specs.Graph.{Graph, itself_of}
+use Rattle.obs_graph.specs.Graph.{Graph}
 use Rattle.obs_graph.specs.Positions.{AreBranches}
 use Rattle.obs_matroid.specs.Lists.{In, other_than, without}
 use Rattle.obs_matroid.specs.Assignments.{branches}

@@ -4,7 +4,6 @@ use Rattle.std.specs.Prelude.{◌==◌, IfSome, IsSome, count_by, is_some, slice
 use Rattle.std.specs.Cmp.Derive.{one_truth}
 use Rattle.std.proofs.lemmas.Bool.{cases_Bool, cases_eq, or_left, or_right, eq-eqb}
 use Rattle.obs_graph.specs.declared.Ends.{Ends}
-use Rattle.obs_graph.specs.Graph.{itself_of}
 use Rattle.obs_graph.specs.Joined.{Leads}
 use Rattle.obs_graph.specs.Positions.{branches_at, has_end}
 use Rattle.obs_graph.proofs.AtVertex.{end_at}

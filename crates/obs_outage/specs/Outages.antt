@@ -1,5 +1,5 @@
 -- What becomes of a case where one branch goes out of service.
-use Rattle.std.specs.Prelude.{◌≡◌, ℕ, Bool, false, is_some, None, List, filter, length, map, slice_index_or}
+use Rattle.std.specs.Prelude.{◌≡◌, ℕ, Bool, is_some, None, List, filter, length, map, slice_index_or}
 use Rattle.std.specs.List.{range_with_len}
 use Rattle.obs_case.specs.Tables.{Tables}
 use Rattle.obs_assign.specs.Assignment.{Assignment, pairs}

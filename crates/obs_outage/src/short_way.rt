@@ -1,13 +1,13 @@
 // One outage by the short way: of a row whose ends stay joined, and that a pair has.
-ghost use Rattle.std.specs.Prelude.{◌≡◌, ◌<◌, ◌≤◌, None, Some, length, slice_index_or};
+ghost use Rattle.std.specs.Prelude.{◌≡◌, ◌<◌, None, Some, length, slice_index_or};
 ghost use Rattle.obs_case.specs.Tables.{IsValid};
 ghost use Rattle.obs_matroid.specs.Lists.{In};
 ghost use Rattle.obs_meter.specs.Assignments.{IsRhoAt};
 ghost use Rattle.obs_meter.specs.Sizes.{HasRoomFor};
 ghost use Rattle.obs_meter.specs.Touches.{AreInRange, live_items};
-ghost use Rattle.obs_assign.specs.Assignment.{HasRoomOf, IsWhole, StandsOver, branch_at, pairs as pairs_at};
+ghost use Rattle.obs_assign.specs.Assignment.{HasRoomOf, StandsOver, branch_at, pairs as pairs_at};
 ghost use Rattle.obs_exchange.specs.Laws.{IsThawed};
-ghost use Rattle.obs_exchange.specs.Longest.{IsLongest, IsMost};
+ghost use Rattle.obs_exchange.specs.Longest.{IsMost};
 ghost use Rattle.obs_network.specs.Edited.{AreSameBut};
 ghost use Rattle.obs_network.specs.Network.{network_of};
 ghost use Rattle.obs_kept.specs.Kept.{AreLongest, AreLongestOver, HasRoom};

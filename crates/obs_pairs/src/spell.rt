@@ -1,5 +1,5 @@
 // The numbers of the meters without a pair that reach the others, spelt bit by bit.
-ghost use Rattle.std.specs.Prelude.{◌≡◌, ◌&&◌, ◌<◌, ◌≤◌, ◌^◌, if◌then◌else◌, ℕ, not, nat_lt, length, slice_index};
+ghost use Rattle.std.specs.Prelude.{◌≡◌, ◌&&◌, ◌<◌, ◌^◌, if◌then◌else◌, ℕ, not, nat_lt, length, slice_index};
 ghost use Rattle.obs_assign.specs.Assignment.{has_flag};
 ghost use Rattle.obs_pairs.specs.Split.{spelt, struck};
 

@@ -3,7 +3,6 @@ ghost use Rattle.std.specs.Prelude.{◌≡◌, ◌<◌, ◌^◌, length};
 ghost use Rattle.obs_graph.specs.Positions.{AreBranches};
 ghost use Rattle.obs_meter.specs.Sizes.{HasRoomFor};
 ghost use Rattle.obs_meter.specs.Touches.{AreInRange};
-ghost use Rattle.obs_assign.specs.Assignment.{HasRoomOf};
 ghost use Rattle.obs_exchange.specs.Longest.{IsLongest};
 ghost use Rattle.obs_pairs.specs.Settled.{AreSettled};
 

@@ -1,5 +1,5 @@
 // The laws of stations.
-ghost use Rattle.std.specs.Prelude.{◌≡◌, ◌↔◌, ◌<◌, ℕ, List, length, slice_index};
+ghost use Rattle.std.specs.Prelude.{◌≡◌, ◌↔◌, ◌<◌, ℕ, length, slice_index};
 ghost use Rattle.obs_case.specs.Tables.{IsValid, Tables};
 ghost use Rattle.obs_matroid.specs.Lists.{In};
 ghost use Rattle.obs_meter.specs.Assignments.{IsRhoAt};

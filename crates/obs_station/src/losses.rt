@@ -45,7 +45,6 @@ pub struct StationWork {
 
 impl Model for StationWork {
     ghost use Rattle.std.specs.Prelude.{◌≡◌, ◌≤◌, ◌+◌, ◌*◌, length, take};
-    ghost use Rattle.obs_network.specs.Network.{Rows};
     ghost use Rattle.obs_station.specs.Stations.{StationWork};
 
     ghost Value = { StationWork };

@@ -1,5 +1,5 @@
 // The stations of a case, and the live meters of each.
-ghost use Rattle.std.specs.Prelude.{◌≡◌, ◌<◌, ◌≤◌, ◌^◌, [], All, ℕ, IfOk, length, slice_index};
+ghost use Rattle.std.specs.Prelude.{◌≡◌, ◌<◌, ◌≤◌, ◌^◌, [], All, IfOk, length, slice_index};
 ghost use Rattle.obs_case.specs.Tables.{IsValid};
 ghost use Rattle.obs_switch.specs.Buses.{members_of};
 ghost use Rattle.obs_switch.specs.Groups.{items_with};
