@@ -26,7 +26,9 @@ pub struct Plan<'a> {
     pub inside: &'a [u32],
 }
 
-/// The cheapest candidates that complete the meters, or the bound that shows that all candidates together don't.
+/// The cheapest candidates that, with the meters, do as much as all that is offered, or the bound that shows that all
+/// candidates together don't complete the meters. Where all that is offered reaches just the needed number, none complete
+/// them for less.
 #[derive(Clone, Copy)]
 pub enum Placement<'a> {
     Cheapest(Plan<'a>),

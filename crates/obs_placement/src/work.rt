@@ -144,8 +144,9 @@ impl PlaceWork {
     }
 }
 
-/// Finds the cheapest candidates that, with the meters, reach the needed number, or the bound which shows that all of
-/// them don't. `offered` are so many meters and then the candidates. `PlaceWork::found` then has the placement.
+/// Finds the cheapest candidates that, with the meters, do as much as all that is offered. Where this is just the needed
+/// number, none complete the meters for less; where it is below, finds the bound that shows this. `offered` are so many
+/// meters and then the candidates. `PlaceWork::found` then has the placement.
 pub fn find_placement<L: Ledger>(
     g: &Graph,
     offered: &Meters,
@@ -189,9 +190,10 @@ pub fn find_placement<L: Ledger>(
     );
 }
 
-/// The cheapest candidates that, with the meters, reach the needed number, with the layers that prove it; or, where all
-/// candidates together fall short of it, the bound that shows this. `offered` are so many meters and then the
-/// candidates, whose prices these are. No memory is taken.
+/// The cheapest candidates that, with the meters, do as much as all that is offered, and their layers. Where this is just
+/// the needed number, none complete the meters for less, and the layers prove it; where it is below, the answer is the
+/// bound that shows this. `offered` are so many meters and then the candidates, whose prices these are. No memory is
+/// taken.
 pub fn place<'a, L: Ledger>(
     g: &Graph,
     offered: &Meters,

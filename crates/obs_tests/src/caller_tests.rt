@@ -1,9 +1,11 @@
 // Calls that a caller from outside makes, and no code here: the asks of a session, each lent, the calls of the searches
-// below it, and the pieces of a line.
+// below it, those of studies, and the pieces of a line.
 ghost use Rattle.std.specs.Prelude.{◌≡◌, ◌<◌, ◌≤◌, length};
 ghost use Rattle.obs_assign.specs.Assignment.{Fits};
+ghost use Rattle.obs_kept.specs.Kept.{AreLongest};
 ghost use Rattle.obs_meter.specs.Sizes.{HasRoomFor};
 ghost use Rattle.obs_meter.specs.Touches.{AreInRange};
+ghost use Rattle.obs_network.specs.Network.{network_of, rows_of};
 
 use crate::reference_cases::{Tables, tables_of};
 use crate::scripts::nth_run;
@@ -17,9 +19,13 @@ use obs_forest::Forest;
 use obs_graph::{Ends, Graph};
 use obs_io::MemSink;
 use obs_islands::{IslandWork, islands};
+use obs_kept::Kept;
 use obs_meter::{Meters, Touch};
+use obs_outage::{Outage, Outages};
+use obs_pairs::{PairWork, classes};
 use obs_placement::{Layer, PlaceWork, Placement, place};
 use obs_report::{print_end, print_number, print_word};
+use obs_station::{Loss, StationWork};
 use std::alloc::Global;
 use std::marker::Brand;
 use std::process::Abort;
@@ -100,7 +106,8 @@ fn pairs_of_a_ring<L: Ledger>(rt: &impl Abort, session: &mut Session, steps: &mu
     assert!(rt; seen.found.branch_of(0) == Some(2) && seen.found.branch_of(1) == Some(0));
 }
 
-// A row of four buses and two that stand apart, with a meter out of service, and then a ring of three.
+// A row of four buses and two that stand apart, with a meter out of service; then a ring of three; and a ring of Quay, Mill
+// A and Lake with a tail from Lake by Ridge to Mill B, whose coupler to Mill A is open.
 const CASES: &[u8] = b"+ n
 node,source\na,1\nb,0\nc,0\nd,0\ne,0\nf,0
 + s
@@ -120,6 +127,15 @@ branch,from,to,inservice\nL1,a,b,1\nL2,b,c,1\nL3,c,a,1
 meter,kind,at,inservice\nia,injection,a,1\nf1,flow,L1,1
 + c
 candidate,kind,at,price
+> 0 session tables n s b m with c
++ n
+node,source\nQuay,1\nMill A,0\nMill B,0\nRidge,0\nLake,0
++ s
+switch,from,to,closed\nMill coupler,Mill A,Mill B,0
++ b
+branch,from,to,inservice\nMill-Quay,Mill A,Quay,1\nMill-Ridge,Mill B,Ridge,1\nRidge-Lake,Ridge,Lake,1\nLake-Quay,Lake,Quay,1\nMill-Lake,Mill A,Lake,1
++ m
+meter,kind,at,inservice\nQuay P,injection,Quay,1\nQuay line P,flow,Mill-Quay,1\nMill P,injection,Mill B,1\nMill line P,flow,Mill-Ridge,1\nLake P,injection,Lake,1\nLake line P,flow,Lake-Quay,1
 > 0 session tables n s b m with c
 ";
 
@@ -287,4 +303,153 @@ fn a_forest_holds_its_branches(rt: HostRuntime) -> Result<(), Fail> {
     forest.refill(&graph, &[1]);
     assert!(rt; !forest.holds(0) && forest.holds(1) && !forest.holds(2));
     Ok(())
+}
+
+// Without a branch of the ring beside Quay a pair is missing. Without one of the tail what lies behind it goes dead.
+const OUTAGES: [Outage; 5] = [
+    Outage {
+        branch: 0,
+        rank: 3,
+        needed: 4,
+    },
+    Outage {
+        branch: 1,
+        rank: 3,
+        needed: 3,
+    },
+    Outage {
+        branch: 2,
+        rank: 2,
+        needed: 2,
+    },
+    Outage {
+        branch: 3,
+        rank: 3,
+        needed: 4,
+    },
+    Outage {
+        branch: 4,
+        rank: 4,
+        needed: 4,
+    },
+];
+
+// The outage list twice, and its first entry twice.
+fn lends_outages<L: Ledger>(case: &mut Case, outages: &mut Outages, steps: &mut Steps<L>) -> bool
+    requires network { outages.old.network ≡ network_of case.old }
+{
+    let listed = outages.list(case, steps);
+    if listed.len() != 5 || listed != OUTAGES.as_slice() {
+        return false;
+    }
+    let first = listed[0].branch;
+    let again = outages.list(case, steps) == OUTAGES.as_slice();
+    let one = outages.one(case, first, steps);
+    let two = outages.one(case, first, steps);
+    again && one == OUTAGES[0] && two == one
+}
+
+fn outages_of_a_tail<L: Ledger>(alloc: Global, steps: &mut Steps<L>) -> bool {
+    let Some(mut case) = nth_case(alloc, 2) else {
+        return false;
+    };
+    let Ok(mut outages) = Outages::make(alloc, &case, steps) else {
+        return false;
+    };
+    lends_outages(&mut case, &mut outages, steps)
+}
+
+// Without Quay's meter all pairs stay; without those of Mill, or of Lake, one is missing.
+const LOSSES: [Loss; 3] = [
+    Loss {
+        node: 0,
+        lost: 1,
+        rank: 4,
+    },
+    Loss {
+        node: 1,
+        lost: 3,
+        rank: 3,
+    },
+    Loss {
+        node: 4,
+        lost: 2,
+        rank: 3,
+    },
+];
+
+// The loss list twice.
+fn lends_losses<L: Ledger>(
+    case: &Case,
+    kept: &mut Kept,
+    work: &mut StationWork,
+    steps: &mut Steps<L>,
+) -> bool
+    requires network { kept.old.network ≡ network_of case.now }
+    requires longest { AreLongest case.now kept.old.pairs }
+    requires rows { work.old.rows ≡ rows_of case.now }
+{
+    let first = work.losses(case, &kept.network, &mut kept.pairs, steps) == LOSSES.as_slice();
+    let second = work.losses(case, &kept.network, &mut kept.pairs, steps) == LOSSES.as_slice();
+    first && second
+}
+
+fn losses_of_a_tail<L: Ledger>(alloc: Global, steps: &mut Steps<L>) -> bool {
+    let Some(case) = nth_case(alloc, 2) else {
+        return false;
+    };
+    let Ok(mut kept) = Kept::make(alloc, &case, steps) else {
+        return false;
+    };
+    let Ok(mut work) = StationWork::make(alloc, &case) else {
+        return false;
+    };
+    lends_losses(&case, &mut kept, &mut work, steps)
+}
+
+// The classes of the meters: those of Quay and the ring's other flow, those of the tail's end, and the critical one.
+fn lends_classes<L: Ledger>(
+    alloc: Global,
+    case: &Case,
+    kept: &mut Kept,
+    steps: &mut Steps<L>,
+) -> bool
+    requires network { kept.old.network ≡ network_of case.now }
+    requires longest { AreLongest case.now kept.old.pairs }
+    ensures network { kept.new.network ≡ network_of case.now }
+    ensures longest { AreLongest case.now kept.new.pairs }
+{
+    let graph = kept.network.graph();
+    let meters = kept.network.meters();
+    let Ok(mut work) = PairWork::make(alloc, meters.count(), graph.positions(), graph.vertices())
+    else {
+        return false;
+    };
+    classes(graph, meters, &mut kept.pairs, &mut work, steps) == [0, 0, 2, 2, 4, 0].as_slice()
+}
+
+fn classes_of_a_tail<L: Ledger>(alloc: Global, steps: &mut Steps<L>) -> bool {
+    let Some(case) = nth_case(alloc, 2) else {
+        return false;
+    };
+    let Ok(mut kept) = Kept::make(alloc, &case, steps) else {
+        return false;
+    };
+    lends_classes(alloc, &case, &mut kept, steps) && lends_classes(alloc, &case, &mut kept, steps)
+}
+
+fn studies_of_a_tail<L: Ledger>(alloc: Global, blank: Blank) -> bool
+    requires name { blank.name ≡ L.name }
+    requires parts { blank.parts ≡ L.parts }
+    requires some { 0 < L.parts }
+{
+    let mut steps = Steps::<L>::begin(blank);
+    outages_of_a_tail(alloc, &mut steps)
+        && losses_of_a_tail(alloc, &mut steps)
+        && classes_of_a_tail(alloc, &mut steps)
+}
+
+#[test]
+fn studies_are_lent(rt: HostRuntime) {
+    assert!(rt; studies_of_a_tail::<Brand>(rt.alloc(), Blank::new(1)));
 }
