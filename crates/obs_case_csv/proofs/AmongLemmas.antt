@@ -1,5 +1,7 @@
 -- The first fault of tables that are read one after another.
-use Rattle.std.proofs.Common.{ℕ, ◌≡◌, ◌∙◌, ◌<◌, ◌≤◌, inl, inr, ap, refl, sym, subst, List, [], ◌∷◌, Option, Some, None, Result, Ok, Err, MatchOption, MatchResult, arith, suc}
+use Rattle.std.proofs.Common.{ℕ, ◌≡◌, ◌∙◌, ◌<◌, ◌≤◌, inl, inr, ap, refl, sym, subst, List, [], ◌∷◌, Option, Some, None, Result, Ok, Err, MatchOption, MatchResult, arith, map, suc}
+use Rattle.obs_case.specs.declared.rows.Candidate.{Candidate}
+use Rattle.obs_case.specs.declared.rows.Meter.{Meter}
 use Rattle.obs_case.specs.Tables.{IsValid, Tables, branch_names, candidate_names, meter_names, no_rows, switch_names}
 use Rattle.obs_case.proofs.ValidLemmas.{valid-no_rows}
 use Rattle.obs_case_csv.specs.declared.faults.RowFault.{RowFault}
@@ -8,7 +10,7 @@ use Rattle.obs_case_csv.specs.declared.faults.Table.TheVariants.{Nodes, Switches
 use Rattle.obs_case_csv.specs.declared.faults.TableFault.{TableFault}
 use Rattle.obs_case_csv.specs.Fields.{Record}
 use Rattle.obs_case_csv.specs.IsFault.{IsFault, IsFaultAmong, NotAfter, NotAfterAmong, place_of_table}
-use Rattle.obs_case_csv.specs.Laws.{FirstFaultOfCase}
+use Rattle.obs_case_csv.specs.Laws.{FirstFaultBehindFile, FirstFaultOfCase, FirstFaultOfSwitching}
 use Rattle.obs_case_csv.specs.OneTable.{HasRows, IsTableOf}
 use Rattle.obs_case_csv.specs.Read.{fault_in, rows_in, tables_or, then_read}
 use Rattle.obs_case_csv.specs.Rows.{names_in}
@@ -128,3 +130,21 @@ FirstFaultOfCase-holds nodes switches branches meters None =
 FirstFaultOfCase-holds nodes switches branches meters (Some bytes) =
     among ((Nodes, nodes) ∷ (Switches, switches) ∷ (Branches, branches) ∷ (Meters, meters) ∷ (Candidates, bytes) ∷ []) 0 no_rows valid-no_rows
     (omega arith, (omega arith, (omega arith, (omega arith, (omega arith, tt))))) no_rows-open
+
+pub FirstFaultOfSwitching-holds : FirstFaultOfSwitching
+FirstFaultOfSwitching-holds nodes switches =
+    among ((Nodes, nodes) ∷ (Switches, switches) ∷ []) 0 no_rows valid-no_rows (omega arith, (omega arith, tt)) no_rows-open
+
+-- where meters and candidates are to come
+behind-open : (t : Tables) → t.meters ≡ [] → t.candidates ≡ [] → IsOpen 3 t
+behind-open t meters candidates Nodes low = absurd (omega (arith, low))
+behind-open t meters candidates Switches low = absurd (omega (arith, low))
+behind-open t meters candidates Branches low = absurd (omega (arith, low))
+behind-open t meters candidates Meters low = ap (λ (rows : List Meter). map (λ (row : Meter). row.name) rows) meters
+behind-open t meters candidates Candidates low = ap (λ (rows : List Candidate). map (λ (row : Candidate). row.name) rows) candidates
+
+pub FirstFaultBehindFile-holds : FirstFaultBehindFile
+FirstFaultBehindFile-holds meters None t valid no_meters no_candidates =
+    among ((Meters, meters) ∷ []) 3 t valid (omega arith, tt) (behind-open t no_meters no_candidates)
+FirstFaultBehindFile-holds meters (Some bytes) t valid no_meters no_candidates =
+    among ((Meters, meters) ∷ (Candidates, bytes) ∷ []) 3 t valid (omega arith, (omega arith, tt)) (behind-open t no_meters no_candidates)

@@ -106,6 +106,11 @@ abbrev pub files_of : List ℕ → List ℕ → List ℕ → List ℕ → Option
 files_of nodes switches branches meters None = (Nodes, nodes) ∷ (Switches, switches) ∷ (Branches, branches) ∷ (Meters, meters) ∷ []
 files_of nodes switches branches meters (Some bytes) = (Nodes, nodes) ∷ (Switches, switches) ∷ (Branches, branches) ∷ (Meters, meters) ∷ (Candidates, bytes) ∷ []
 
+-- the tables behind a file of another format, where one of candidates may stand
+abbrev pub files_behind : List ℕ → Option (List ℕ) → List (Table × List ℕ)
+files_behind meters None = (Meters, meters) ∷ []
+files_behind meters (Some bytes) = (Meters, meters) ∷ (Candidates, bytes) ∷ []
+
 -- a table's place in this order
 abbrev pub place_of_table : Table → ℕ
 place_of_table Nodes = 0

@@ -1,12 +1,13 @@
 -- What the reading of one table, and of two, gives and keeps.
-use Rattle.std.specs.Prelude.{ℕ, ◌≡◌, List, [], Option, None, MatchOption, MatchResult, Ok}
+use Rattle.std.specs.Prelude.{ℕ, ◌≡◌, List, [], ◌∷◌, Option, None, MatchOption, MatchResult, Result, Ok}
 use Rattle.obs_case.specs.Tables.{IsValid, Tables, no_rows}
 use Rattle.obs_case_csv.specs.declared.faults.RowFault.{RowFault}
 use Rattle.obs_case_csv.specs.declared.faults.Table.{Table}
 use Rattle.obs_case_csv.specs.declared.faults.Table.TheVariants.{Nodes, Switches}
-use Rattle.obs_case_csv.specs.IsFault.{IsFault, IsFaultAmong, NotAfter, NotAfterAmong, files_of}
+use Rattle.obs_case_csv.specs.declared.faults.TableFault.{TableFault}
+use Rattle.obs_case_csv.specs.IsFault.{IsFault, IsFaultAmong, NotAfter, NotAfterAmong, files_behind, files_of}
 use Rattle.obs_case_csv.specs.OneTable.{IsSwitchingCase, IsTableOf}
-use Rattle.obs_case_csv.specs.Read.{fault_in, rows_in, tables_in, then_read}
+use Rattle.obs_case_csv.specs.Read.{fault_in, rows_in, tables_after, tables_in, then_read}
 use Rattle.obs_case_csv.specs.Rows.{names_in}
 
 -- valid tables stay valid as a table's rows before its first fault are added
@@ -39,13 +40,30 @@ FirstFault =
     (fault.table ≡ table) × IsFault table t bytes fault.row fault.code
     × ((row : ℕ) (code : RowFault) → IsFault table t bytes row code → NotAfter fault.row fault.code row code))
 
--- of the tables of a case: the fault that is met is one, and no fault of them comes before it; none is met exactly where they have none
+-- of some tables that are read one after another into a case: the fault that is met is one, and no fault of them comes before it; none
+-- is met exactly where they have none
+abbrev pub MeetsFirst : List (Table × List ℕ) → Tables → Result Tables TableFault → Type 0
+MeetsFirst files t read =
+    MatchResult read
+    (λ u. (table : Table) (row : ℕ) (code : RowFault) → IsFaultAmong files t table row code → ⊥)
+    (λ fault.
+    IsFaultAmong files t fault.table fault.row fault.code
+    × ((table : Table) (row : ℕ) (code : RowFault) → IsFaultAmong files t table row code → NotAfterAmong fault.table fault.row fault.code table row code))
+
+-- so it is of the tables of a case
 abbrev pub FirstFaultOfCase : Type 0
 FirstFaultOfCase =
     (nodes switches branches meters : List ℕ) (candidates : Option (List ℕ)) →
-    let files = files_of nodes switches branches meters candidates in
-    MatchResult (tables_in nodes switches branches meters candidates)
-    (λ t. (table : Table) (row : ℕ) (code : RowFault) → IsFaultAmong files no_rows table row code → ⊥)
-    (λ fault.
-    IsFaultAmong files no_rows fault.table fault.row fault.code
-    × ((table : Table) (row : ℕ) (code : RowFault) → IsFaultAmong files no_rows table row code → NotAfterAmong fault.table fault.row fault.code table row code))
+    MeetsFirst (files_of nodes switches branches meters candidates) no_rows (tables_in nodes switches branches meters candidates)
+
+-- of nodes and switches alone
+abbrev pub FirstFaultOfSwitching : Type 0
+FirstFaultOfSwitching =
+    (nodes switches : List ℕ) →
+    MeetsFirst ((Nodes, nodes) ∷ (Switches, switches) ∷ []) no_rows (then_read Switches switches (then_read Nodes nodes (Ok no_rows)))
+
+-- and of the tables behind a file of another format
+abbrev pub FirstFaultBehindFile : Type 0
+FirstFaultBehindFile =
+    (meters : List ℕ) (candidates : Option (List ℕ)) (t : Tables) → IsValid t → t.meters ≡ [] → t.candidates ≡ [] →
+    MeetsFirst (files_behind meters candidates) t (tables_after meters candidates t)

@@ -37,15 +37,15 @@ pub enum RowFault {
     NoHeader = 1,
     /// A needed column isn't in the header.
     ColumnMissing = 2,
-    /// A needed column is in the header twice.
+    /// A needed column, or `absolute`, is in the header twice.
     ColumnTwice = 3,
-    /// The row has no field at the place of a needed column.
+    /// The row has no field at the place of a needed column, or of `absolute` where the header has it.
     ShortRow = 4,
     /// The row's own name is no name.
     BadName = 5,
     /// A flag is neither `0` nor `1`.
     BadFlag = 6,
-    /// The kind is none of `flow`, `injection` and `zero`.
+    /// The kind is none of `flow`, `injection`, `zero` and `angle`.
     BadKind = 7,
     /// The price is no whole number, or above 1,000,000,000.
     BadPrice = 8,

@@ -1,6 +1,6 @@
 //! What the definitions of this crate imply.
 ghost use Rattle.obs_case_csv.specs.IsCase.{ReadExactly};
-ghost use Rattle.obs_case_csv.specs.Laws.{FirstFault, FirstFaultOfCase, KeepsValid, SwitchingIsRead, TableIsRead};
+ghost use Rattle.obs_case_csv.specs.Laws.{FirstFault, FirstFaultBehindFile, FirstFaultOfCase, FirstFaultOfSwitching, KeepsValid, SwitchingIsRead, TableIsRead};
 
 /// The case that is read is the only one that the bytes are, and a fault is given exactly where the
 /// bytes are no case.
@@ -32,7 +32,10 @@ pub fn first_fault()
 {}
 
 /// The fault that is met in the tables of a case is one, and no fault of them comes before it, by
-/// table, then row, then code; none is met exactly where they have none.
+/// table, then row, then code; none is met exactly where they have none. So it is of nodes and
+/// switches alone, and of meters and candidates behind a file of another format.
 pub fn first_fault_of_case()
     ensures first { FirstFaultOfCase }
+    ensures switching { FirstFaultOfSwitching }
+    ensures behind { FirstFaultBehindFile }
 {}

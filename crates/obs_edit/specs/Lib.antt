@@ -4,4 +4,5 @@ pub mod Lines
 pub mod Planned
 pub mod Placements
 pub mod Sessions
+pub mod Lending
 pub mod Laws

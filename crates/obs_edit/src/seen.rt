@@ -1,6 +1,8 @@
 //! The asks of a session:
 //! each finds its answer, where it isn't at hand, and lends it with the present case and its network.
-ghost use Rattle.std.specs.Prelude.{◌≡◌, ◌<◌, true};
+//! When that is given back, the session is as after the call that finds it.
+ghost use Rattle.std.specs.Borrow.{sem};
+ghost use Rattle.std.specs.Prelude.{◌≡◌, ◌<◌, true, Some};
 ghost use Rattle.obs_assign.specs.Assignment.{StandsOver, pairs};
 ghost use Rattle.obs_exchange.specs.Laws.{IsThawed};
 ghost use Rattle.obs_placement.specs.Placed.{placed_of};
@@ -35,6 +37,8 @@ pub struct Placed<'a> {
 }
 
 impl Session {
+    ghost use Rattle.obs_edit.specs.Lending.{GivenBack};
+
     /// The first assignment of the present case's meters, with nothing frozen.
     pub fn first_pairs<L: Ledger>(&mut self, steps: &mut Steps<L>) -> Seen<'_, &Assignment>
         ensures case { result.case.now ≡ self.old.tables }
@@ -42,12 +46,15 @@ impl Session {
         ensures found { pairs result.found.now ≡ case_first_pairs self.old.tables }
         ensures stands { StandsOver result.found.now (network_of self.old.tables).graph (case_meters self.old.tables) }
         ensures thawed { IsThawed result.found.now }
+        ensures* given_back { sem 𝓛 (GivenBack self.entry (λ s. (s.tables ≡ self.old.tables) × (s.offered ≡ self.old.offered)
+            × (s.at_hand ≡ record self.old.at_hand { first = true }))) }
     {
         self.find_first(steps);
+        let session = &*self;
         Seen {
-            case: self.present(),
-            network: self.network(),
-            found: self.found_pairs(),
+            case: session.present(),
+            network: session.network(),
+            found: session.found_pairs(),
         }
     }
 
@@ -63,13 +70,16 @@ impl Session {
         ensures rank { result.found.rank ≡ bound_rank self.old.tables c }
         ensures outside { result.found.outside ≡ bound_outside self.old.tables c }
         ensures needed { result.found.needed ≡ case_need self.old.tables c }
+        ensures* given_back { sem 𝓛 (GivenBack self.entry (λ s. (s.tables ≡ self.old.tables) × (s.offered ≡ self.old.offered)
+            × (s.pairs ≡ self.old.pairs) × (s.at_hand ≡ record self.old.at_hand { critical = true; bound = Some c }))) }
     {
         self.find_critical(steps);
         self.find_bound(c);
+        let session = &*self;
         Seen {
-            case: self.present(),
-            network: self.network(),
-            found: self.found_bound(c),
+            case: session.present(),
+            network: session.network(),
+            found: session.found_bound(c),
         }
     }
 
@@ -78,12 +88,15 @@ impl Session {
         ensures case { result.case.now ≡ self.old.tables }
         ensures network { result.network.now ≡ network_of self.old.tables }
         ensures found { result.found.now ≡ case_critical_meters self.old.tables }
+        ensures* given_back { sem 𝓛 (GivenBack self.entry (λ s. (s.tables ≡ self.old.tables) × (s.offered ≡ self.old.offered)
+            × (s.pairs ≡ self.old.pairs) × (s.at_hand ≡ record self.old.at_hand { critical = true }))) }
     {
         self.find_critical(steps);
+        let session = &*self;
         Seen {
-            case: self.present(),
-            network: self.network(),
-            found: self.found_critical(),
+            case: session.present(),
+            network: session.network(),
+            found: session.found_critical(),
         }
     }
 
@@ -92,12 +105,15 @@ impl Session {
         ensures case { result.case.now ≡ self.old.tables }
         ensures network { result.network.now ≡ network_of self.old.tables }
         ensures found { result.found.now ≡ case_islands self.old.tables }
+        ensures* given_back { sem 𝓛 (GivenBack self.entry (λ s. (s.tables ≡ self.old.tables) × (s.offered ≡ self.old.offered)
+            × (s.pairs ≡ self.old.pairs) × (s.at_hand ≡ record self.old.at_hand { islands = true }))) }
     {
         self.find_islands(steps);
+        let session = &*self;
         Seen {
-            case: self.present(),
-            network: self.network(),
-            found: self.found_islands(),
+            case: session.present(),
+            network: session.network(),
+            found: session.found_islands(),
         }
     }
 
@@ -111,14 +127,17 @@ impl Session {
         ensures pairs { pairs result.found.pairs.now ≡ case_placed_pairs self.old.tables }
         ensures stands { StandsOver result.found.pairs.now (network_of self.old.tables).graph
             (case_offered self.old.tables) }
+        ensures* given_back { sem 𝓛 (GivenBack self.entry (λ s. (s.tables ≡ self.old.tables) × (s.offered ≡ self.old.offered)
+            × (s.pairs ≡ self.old.pairs) × (s.at_hand ≡ record self.old.at_hand { placed = true }))) }
     {
         self.find_placement(steps);
+        let session = &*self;
         Seen {
-            case: self.present(),
-            network: self.network(),
+            case: session.present(),
+            network: session.network(),
             found: Placed {
-                placement: self.found_placement(),
-                pairs: self.found_plan_pairs(),
+                placement: session.found_placement(),
+                pairs: session.found_plan_pairs(),
             },
         }
     }

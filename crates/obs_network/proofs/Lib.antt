@@ -31,6 +31,7 @@ pub mod SideLists
 pub mod PartedNeeds
 pub mod StillTouched
 pub mod Standing
+pub mod Tabled
 pub mod FewLost
 pub mod LoneChange
 pub mod FollowedItems

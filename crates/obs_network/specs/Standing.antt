@@ -7,6 +7,7 @@ use Rattle.obs_case.specs.declared.rows.Candidate.{Candidate}
 use Rattle.obs_case.specs.declared.rows.Kind.{Kind}
 use Rattle.obs_case.specs.declared.rows.Kind.TheVariants.{Flow, Injection, Zero, Angle}
 use Rattle.obs_case.specs.declared.rows.Meter.{Meter}
+use Rattle.obs_case.specs.declared.rows.Node.{Node}
 use Rattle.obs_case.specs.Items.{angle_position}
 use Rattle.obs_case.specs.Tables.{Tables}
 use Rattle.obs_network.specs.Switched.{case_buses}
@@ -31,6 +32,14 @@ candidate_row row = record { kind = row.kind; at = row.at; counts = true }
 -- the items of a case: its meters and then its candidates
 abbrev pub item_rows : Tables → List ItemRow
 item_rows t = map meter_row t.meters ++ map candidate_row t.candidates
+
+-- a component has a node that the flag marks
+pub record HasMarkedNode (flag : Node → Bool) (t : Tables) (c : ℕ) : Type 0 where
+  pub node : ℕ
+  pub row : Node
+  pub at : slice_get t.nodes node ≡ Some row
+  pub marked : flag row ≡ true
+  pub of_component : slice_index (case_components t) (slice_index (case_buses t) node) ≡ c
 
 -- a row of the branch table is present with these ends: it is in service, the ends are the buses of its two nodes, these
 -- differ, and their component is energised

@@ -5,7 +5,7 @@ ghost use Rattle.obs_graph.specs.declared.Ends.{Ends};
 ghost use Rattle.obs_graph.specs.Joined.{is_joined};
 ghost use Rattle.obs_graph.specs.Positions.{AreBranches, IsForestAt, present};
 ghost use Rattle.obs_switch.specs.declared.link.Link.{Link};
-ghost use Rattle.obs_switch.specs.Buses.{bus_of, ends_of_links};
+ghost use Rattle.obs_switch.specs.Buses.{AreOneBus, bus_of, ends_of_links};
 ghost use Rattle.obs_case.specs.declared.rows.Node.{Node};
 ghost use Rattle.obs_case.specs.Flags.{with_branch_inservice, with_closed, with_meter_inservice};
 ghost use Rattle.obs_case.specs.Items.{angle_position, is_angle};
@@ -18,20 +18,25 @@ ghost use Rattle.obs_meter.specs.declared.Touch.TheVariants.{Nothing};
 ghost use Rattle.obs_meter.specs.Assignments.{IsAssignmentAt, IsRhoAt, rho_at};
 ghost use Rattle.obs_meter.specs.Spanned.{graph_matroid, rank_at};
 ghost use Rattle.obs_meter.specs.Touches.{AreInRange, touch_at};
-ghost use Rattle.obs_network.specs.Switched.{case_bus_count, case_buses};
-ghost use Rattle.obs_network.specs.Components.{AreOneComponent, component_count, component_of, components_of, first_bus, first_buses_of, is_absolute_node, is_energised, is_marked, marked_nodes, need_of, needed_of, sizes_of, source_nodes};
+ghost use Rattle.obs_network.specs.Switched.{IsClosedSwitch, case_bus_count, case_buses, closed_links};
+ghost use Rattle.obs_network.specs.Components.{AreOneComponent, component_count, component_of, components_of, first_bus, first_buses_of, is_absolute_node, is_energised, is_marked, is_source, marked_nodes, need_of, needed_of, sizes_of, source_nodes};
 ghost use Rattle.obs_network.specs.Located.{component_of_branch, component_of_item, live_meters_of};
 ghost use Rattle.obs_network.specs.Network.{Network, case_branches, case_component_count, case_components, case_live, case_meters, case_need, case_needed, case_offered, case_rows, case_sizes, case_vertex_component, case_vertex_count, network_of, rows_of};
 ghost use Rattle.obs_network.specs.Edited.{AreKept, AreMerged, ArePresent, AreSameBut, IsOneMerge, IsReferenceMerge};
 ghost use Rattle.obs_network.specs.Parted.{AreJoinedWithout, HasSource, HasSourceBeside, IsParted, StaysJoined, outage_case};
-ghost use Rattle.obs_network.specs.Observable.{IsObservableCase, branch_component, case_live_meters, case_rank, is_energised_component, item_component};
-ghost use Rattle.obs_network.specs.Standing.{IsPresentAngle, IsPresentRow, Touches};
+ghost use Rattle.obs_network.specs.Observable.{IsObservableCase, branch_component, case_live_meters, case_rank, is_absolute_component, is_energised_component, item_component};
+ghost use Rattle.obs_network.specs.Standing.{HasMarkedNode, IsPresentAngle, IsPresentRow, Touches};
 ghost use Rattle.obs_network.specs.Plain.{HasNoAbsolute, other_touches_in_order, touches_in_order, without_angles};
 
-/// Two nodes have one bus exactly where the closed switches, as branches between nodes, join them.
+/// Two nodes have one bus exactly where the closed switches, as branches between nodes, join them: where a chain of closed
+/// switches of the case leads from the one to the other.
 pub fn bus_is_what_switches_join()
     ensures joined { (links : List Link) (u v : ℕ) →
         (bus_of links u ≡ bus_of links v) ↔ IsTrue (is_joined (ends_of_links links) u v) }
+    ensures of_case { (t : Tables) (u v : ℕ) → u < length t.nodes → v < length t.nodes →
+        (slice_index (case_buses t) u ≡ slice_index (case_buses t) v) ↔ AreOneBus (closed_links t.switches) u v }
+    ensures closed { (t : Tables) (l : Link) →
+        Contains (closed_links t.switches) l ↔ IsClosedSwitch t.switches l }
 {}
 
 /// Two buses have one component exactly where a chain of live branches leads from the one to the other.
@@ -72,6 +77,10 @@ pub fn energised_by_a_source()
         (is_marked is_absolute_node components buses nodes c ≡ true)
         ↔ (u : ℕ) × Contains (marked_nodes is_absolute_node nodes) u
         × (slice_index components (slice_index buses u) ≡ c) }
+    ensures of_case { (t : Tables) (c : ℕ) → c < case_component_count t →
+        (is_energised_component t c ≡ true) ↔ HasMarkedNode is_source t c }
+    ensures absolute_of_case { (t : Tables) (c : ℕ) → c < case_component_count t →
+        (is_absolute_component t c ≡ true) ↔ HasMarkedNode is_absolute_node t c }
 {}
 
 /// The needed number is the sum of what the energised components need.

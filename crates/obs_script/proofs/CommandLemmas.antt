@@ -9,7 +9,7 @@ use Rattle.obs_text.proofs.ByteLemmas.{same_bytes}
 use Rattle.obs_script.specs.declared.command.Ask.{Ask}
 use Rattle.obs_script.specs.declared.command.Ask.TheVariants.{Status, Tree, Bound, Islands, Critical, Report, Place, Cert}
 use Rattle.obs_script.specs.declared.fault.LineFault.{LineFault}
-use Rattle.obs_script.specs.declared.fault.LineFault.TheVariants.{BadName, LineTooLong, WordMissing}
+use Rattle.obs_script.specs.declared.fault.LineFault.TheVariants.{BadName, LineTooLong, UnknownCommand, WordMissing}
 use Rattle.obs_script.specs.Commands.{Said, opens, closes, trips, restores, loses, regains, asks, ask_of, ask_or_edit, ask_word, command_of, command_word, edit_of, edited_name, most_bytes, name_in, named, text_of, word_and_name, word_of}
 
 -- what is chosen by the first of some words that a word is
@@ -141,3 +141,16 @@ bad (restores own) name is unfit short = (let same : own ≡ name = cc in rw (le
 bad (loses own) name is unfit short = (let same : own ≡ name = cc in rw (le-ltb most_bytes (length (text_of (loses own))) short, ap is_name same, unfit) refl)
 bad (regains own) name is unfit short = (let same : own ≡ name = cc in rw (le-ltb most_bytes (length (text_of (regains own))) short, ap is_name same, unfit) refl)
 bad (asks ask) name is unfit short = cc
+
+pub unknown : (line : List ℕ) → length line ≤ most_bytes → ((ask : Ask) → line ≡ ask_word ask → ⊥)
+    → ((said : Said) (name : List ℕ) → edited_name said ≡ Some name → command_word line ≡ word_of said → ⊥) → command_of line ≡ Err UnknownCommand
+unknown line short no_ask no_edit =
+    rw (le-ltb most_bytes (length line) short)
+    (by (ask_of line) (edit_of (command_word line) (name_in line)) (ask_of-is line) (edit_of-is (command_word line) (name_in line)))
+  where
+    by : (a : Option Ask) (e : Option Said) → ((ask : Ask) → a ≡ Some ask → line ≡ ask_word ask)
+        → ((s : Said) → e ≡ Some s → (command_word line ≡ word_of s) × (edited_name s ≡ Some (name_in line)))
+        → ask_or_edit line a e ≡ Err UnknownCommand
+    by (Some ask) e asked edited = absurd (no_ask ask (asked ask refl))
+    by None (Some edit) asked edited = let is = edited edit refl in absurd (no_edit edit (name_in line) is.1 is.0)
+    by None None asked edited = refl

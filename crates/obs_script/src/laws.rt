@@ -13,7 +13,8 @@ pub fn lines_are_gathered()
     ensures lines { LinesAreGathered }
 {}
 
-/// A line is a command exactly where it is an ask's word, or an edit's word, a blank and a name.
+/// A line is a command exactly where it is an ask's word, or an edit's word, a blank and a name; else each refusal has its
+/// cause.
 pub fn commands_are_texts()
     ensures commands { CommandsAreTexts }
 {}
