@@ -6,6 +6,7 @@ pub mod FirstLemmas
 pub mod FoundLemmas
 pub mod LawLemmas
 pub mod NumberLemmas
+pub mod OpeningLemmas
 pub mod RowFaults
 pub mod RowReads
 pub mod RowSteps

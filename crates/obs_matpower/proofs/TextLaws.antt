@@ -1,68 +1,20 @@
 -- Where the text of a table stands in the bytes.
-use Rattle.std.proofs.Common.{◌≡◌, ℕ, Bool, true, false, ◌||◌, cond, nat_eq, List, [], ◌∷◌, ◌++◌, length, take, drop, get_or, codes, is_some, Option, Some, None, refl, sym, ap, ◌∙◌, subst, append_assoc, append-nil, inl, inr}
+use Rattle.std.proofs.Common.{◌≡◌, ℕ, Bool, true, false, ◌||◌, List, [], ◌∷◌, ◌++◌, get_or, refl, sym, ap, ◌∙◌, subst, append_assoc, append-nil, inl, inr}
 use Rattle.std.proofs.Math.Numerals.{one-add}
-use Rattle.std.proofs.lemmas.Bool.{and_parts, cases_Bool, eqb-true, false≢true}
-use Rattle.std.proofs.lemmas.List.{take-append-drop}
+use Rattle.std.proofs.lemmas.Bool.{cases_Bool, eqb-true, false≢true}
 use Rattle.std.proofs.lemmas.List.Folds.{list_any-append}
 use Rattle.std.proofs.lemmas.List.Sums.{passes_at_first, split_at_first}
-use Rattle.std.proofs.Math.Bool.{or-true}
-use Rattle.std.specs.List.{after_first, before_first, concat, list_any, position_or_len, prefix_len, starts_with}
-use Rattle.std.specs.Option.{option_and_then}
+use Rattle.std.specs.List.{after_first, before_first, concat, list_any, position_or_len}
+use Rattle.obs_text.specs.Laws.{AreLines, HasNoFeed, IsEnded}
 use Rattle.obs_text.specs.Lines.{content, ended_lines, is_feed}
-use Rattle.obs_text.proofs.LineLaws.{joined}
+use Rattle.obs_text.proofs.LineLaws.{alone, are_lines, ended_first, joined, unended_last}
 use Rattle.obs_case.proofs.NameLemmas.{place-there}
-use Rattle.obs_matpower.specs.declared.part.MatTable.{MatTable}
-use Rattle.obs_matpower.specs.Laws.{EndsAt, TextStandsBetween}
-use Rattle.obs_matpower.specs.Lines.{closes, has_opening, is_closing, is_gap, is_opening, is_percent, opens, past, table_name, without_comment, without_gaps}
+use Rattle.obs_matpower.specs.Laws.{EndsAt, IsAssignment, TextStandsBetween}
+use Rattle.obs_matpower.specs.Lines.{closes, is_closing, is_opening, is_percent, opens}
 use Rattle.obs_matpower.specs.Table.{after_opening, from_first, is_ended, until_closing}
-use Rattle.obs_matpower.proofs.FoundLemmas.{any_in_front, any_strip, has_closing, parts_are, until_none}
-
--- ---- the `[` of a line
-
-any_behind : (p : ℕ → Bool) (n : ℕ) (xs : List ℕ) → list_any p (drop n xs) ≡ true → list_any p xs ≡ true
-any_behind p n xs some =
-    ap (list_any p) (sym (take-append-drop n xs)) ∙ list_any-append p (take n xs) (drop n xs) ∙ ap (λ b. list_any p (take n xs) || b) some ∙ or-true (list_any p (take n xs))
-
--- bytes that have a `[` after blanks and tabs have one
-begins_here : (xs : List ℕ) → starts_with nat_eq xs (codes "[") ≡ true → list_any is_opening xs ≡ true
-begins_here [] is = absurd (false≢true is)
-begins_here (x ∷ xs) is =
-    let parts = and_parts (nat_eq 0x5B x) true is in
-    subst (λ b. list_any is_opening (b ∷ xs) ≡ true) (eqb-true 0x5B x parts.0) refl
-
-has_bracket : (rest : List ℕ) → is_some (past (codes "[") rest) ≡ true → list_any is_opening rest ≡ true
-has_bracket rest is = any_behind is_opening (prefix_len is_gap rest) rest (begins_here (without_gaps rest) (by (starts_with nat_eq (without_gaps rest) (codes "[")) is))
-  where
-    by : (b : Bool) → is_some (cond b (Some (drop 1 (without_gaps rest))) None) ≡ true → b ≡ true
-    by true e = refl
-    by false e = cc
-
--- what follows a text is a part of the bytes
-past_any : (text bytes : List ℕ) (rest : List ℕ) → past text bytes ≡ Some rest → list_any is_opening rest ≡ true → list_any is_opening bytes ≡ true
-past_any text bytes rest is some = by (starts_with nat_eq (without_gaps bytes) text) is
-  where
-    by : (b : Bool) → cond b (Some (drop (length text) (without_gaps bytes))) None ≡ Some rest → list_any is_opening bytes ≡ true
-    by true e =
-        (let same : drop (length text) (without_gaps bytes) ≡ rest = cc in
-        any_behind is_opening (prefix_len is_gap bytes) bytes (any_behind is_opening (length text) (without_gaps bytes) (ap (list_any is_opening) same ∙ some)))
-    by false e = cc
-
-opening_any : (which : MatTable) (code : List ℕ) → has_opening which code ≡ true → list_any is_opening code ≡ true
-opening_any which code is = by (past (table_name which) code) refl is
-  where
-    after_name : (rest : List ℕ) (o : Option (List ℕ)) → past (codes "=") rest ≡ o → is_some (option_and_then (past (codes "[")) o) ≡ true → list_any is_opening rest ≡ true
-    after_name rest None e h = cc
-    after_name rest (Some value) e h = past_any (codes "=") rest value e (has_bracket value h)
-
-    by : (o : Option (List ℕ)) → past (table_name which) code ≡ o → is_some (option_and_then (past (codes "[")) (option_and_then (past (codes "=")) o)) ≡ true → list_any is_opening code ≡ true
-    by None e h = cc
-    by (Some rest) e h = past_any (table_name which) code rest e (after_name rest (past (codes "=") rest) refl h)
-
-line_opening : (which : MatTable) (line : List ℕ) → opens which line ≡ true → list_any is_opening line ≡ true
-line_opening which line is =
-    any_in_front is_opening (position_or_len is_feed line) line
-    (any_strip is_opening (before_first is_feed line)
-    (any_in_front is_opening (position_or_len is_percent (content line)) (content line) (opening_any which (without_comment (content line)) is)))
+use Rattle.obs_matpower.proofs.FoundLemmas.{before-longer, has_closing, parts_are, until_none}
+use Rattle.obs_matpower.proofs.OpeningLemmas.{opened}
+use Rattle.obs_matpower.proofs.WholeLemmas.{no_feed_in_cut, none_before, none_in_front, strip_front}
 
 -- the first line that passes a test stands at the front of the lines from it on
 first_line : (p : List ℕ → Bool) (lines : List (List ℕ)) → list_any p lines ≡ true → (line : List ℕ) × (rest : List (List ℕ)) × (from_first p lines ≡ line ∷ rest) × (p line ≡ true)
@@ -108,22 +60,73 @@ ends_at : (lines : List (List ℕ)) (ended : Bool) → list_any closes lines ≡
 ends_at lines true is = (let b = closing_back lines is in (0x5D ∷ b.0, b.1, (b.0, refl)))
 ends_at lines false is = ([], ap concat (sym (until_none lines is)) ∙ sym (append-nil (concat (until_closing lines))), refl)
 
+-- ---- no `]` stands in the text
+
+no_feed_from : (bytes : List ℕ) → list_any is_feed bytes ≡ false → HasNoFeed bytes
+no_feed_from [] none = refl
+no_feed_from (b ∷ bs) none =
+    elim (cases_Bool (is_feed b)) [
+      | inl e ↦ (let t : (is_feed b || list_any is_feed bs) ≡ false = none in let u : (true || list_any is_feed bs) ≡ false = rw e at t in absurd (false≢true (sym u)))
+      | inr e ↦ (let t : (is_feed b || list_any is_feed bs) ≡ false = none in let later = no_feed_from bs (rw e at t) in rw e later)
+    ]
+
+-- bytes without a line feed and without a `]`
+one_line : (bytes : List ℕ) → list_any is_feed bytes ≡ false → list_any is_closing bytes ≡ false → list_any closes (ended_lines bytes) ≡ false
+one_line [] feed closing = refl
+one_line (b ∷ bs) feed closing =
+    let bytes : List ℕ = b ∷ bs in
+    let strip = strip_front (before_first is_feed bytes) in
+    let in_content : list_any is_closing (content bytes) ≡ false =
+    ap (list_any is_closing) strip.1
+    ∙ none_in_front is_closing strip.0 (before_first is_feed bytes) (none_in_front is_closing (position_or_len is_feed bytes) bytes closing) in
+    let in_code : closes bytes ≡ false = none_in_front is_closing (position_or_len is_percent (content bytes)) (content bytes) in_content in
+    ap (list_any closes) (unended_last bytes (no_feed_from bytes feed) (λ is. cc)) ∙ rw in_code refl
+
+-- a line that is ended, and what is none behind it
+ended_before : (line rest : List ℕ) → IsEnded line → closes line ≡ false → list_any closes (ended_lines rest) ≡ false → list_any closes (ended_lines (line ++ rest)) ≡ false
+ended_before line rest (front, none, is) open_line later =
+    ap (λ l. list_any closes (ended_lines (l ++ rest))) is ∙ ap (λ l. list_any closes (ended_lines l)) (append_assoc front (0x0A ∷ []) rest)
+    ∙ ap (list_any closes) (ended_first front rest none) ∙ ap (λ l. closes l || list_any closes (ended_lines rest)) (sym is) ∙ rw (open_line, later) refl
+
+-- what stands before the `]` of a line
+closed_here : (line : List ℕ) → closes line ≡ true → list_any closes (ended_lines (before_first is_closing line ++ [])) ≡ false
+closed_here line is =
+    let cut = before_first is_closing line in
+    ap (λ l. list_any closes (ended_lines l)) (append-nil cut) ∙ one_line cut (no_feed_in_cut line is) (none_before is_closing line)
+
+none_in_text : (lines : List (List ℕ)) → AreLines lines → list_any closes (ended_lines (concat (until_closing lines))) ≡ false
+none_in_text [] are = refl
+none_in_text (line ∷ []) are =
+    elim (cases_Bool (closes line)) [
+      | inl e ↦ rw e (closed_here line e)
+      | inr e ↦ rw e (ap (list_any closes) (alone (line ∷ []) are) ∙ rw e refl)
+    ]
+none_in_text (line ∷ next ∷ lines) are =
+    elim (cases_Bool (closes line)) [
+      | inl e ↦ rw e (closed_here line e)
+      | inr e ↦ rw e (ended_before line (concat (until_closing (next ∷ lines))) are.0 e (none_in_text (next ∷ lines) are.1))
+    ]
+
 pub TextStandsBetween-holds : TextStandsBetween
 TextStandsBetween-holds which bytes there =
     let lines = ended_lines bytes in
     let start = concat (from_first (opens which) lines) in
-    let front = concat (before_first (opens which) lines) in
-    let inside = before_first is_opening start in
+    let before = concat (before_first (opens which) lines) in
     let after = after_opening which bytes in
     let first = first_line (opens which) lines there in
+    let line = first.0 in
+    let is_there = opened which line first.3 in
+    let shape : start ≡ line ++ concat first.1 = ap concat first.2 in
+    let front = before_first is_opening start in
+    let front_is : front ≡ before_first is_opening line = ap (before_first is_opening) shape ∙ before-longer is_opening line (concat first.1) is_there.0 in
     let some : list_any is_opening start ≡ true =
-    ap (λ ls. list_any is_opening (concat ls)) first.2 ∙ list_any-append is_opening first.0 (concat first.1)
-    ∙ ap (λ b. b || list_any is_opening (concat first.1)) (line_opening which first.0 first.3) in
-    let cut : start ≡ inside ++ 0x5B ∷ after = cut_there is_opening 0x5B start (λ b is. eqb-true b 0x5B is) some in
+    ap (list_any is_opening) shape ∙ list_any-append is_opening line (concat first.1) ∙ ap (λ b. b || list_any is_opening (concat first.1)) is_there.0 in
+    let cut : start ≡ front ++ 0x5B ∷ after = cut_there is_opening 0x5B start (λ b is. eqb-true b 0x5B is) some in
     let end = ends_at (ended_lines after) (is_ended which bytes) refl in (
-      front ++ inside,
+      front,
       end.0,
-      sym (parts_are (opens which) bytes) ∙ ap (λ s. front ++ s) cut ∙ sym (append_assoc front inside (0x5B ∷ after))
-          ∙ ap (λ a. (front ++ inside) ++ 0x5B ∷ a) (sym (joined after) ∙ end.1),
+      subst (IsAssignment which) (sym front_is) is_there.1,
       end.2,
+      none_in_text (ended_lines after) (are_lines after),
+      sym (parts_are (opens which) bytes) ∙ ap (λ s. before ++ s) (cut ∙ ap (λ a. front ++ 0x5B ∷ a) (sym (joined after) ∙ end.1)),
     )

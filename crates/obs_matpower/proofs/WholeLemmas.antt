@@ -22,7 +22,7 @@ use Rattle.obs_matpower.proofs.TextLemmas.{after_line-none, feed_in_first, no_fe
 
 -- ---- where a `]` ends a line
 
-none_before : (p : ℕ → Bool) (xs : List ℕ) → list_any p (before_first p xs) ≡ false
+pub none_before : (p : ℕ → Bool) (xs : List ℕ) → list_any p (before_first p xs) ≡ false
 none_before p [] = refl
 none_before p (x ∷ xs) =
     elim (cases_Bool (p x)) [
@@ -30,7 +30,7 @@ none_before p (x ∷ xs) =
       | inr e ↦ rw e (ap (λ n. list_any p (take n (x ∷ xs))) (one-add (position_or_len p xs)) ∙ rw e (none_before p xs))
     ]
 
-none_in_front : (p : ℕ → Bool) (n : ℕ) (xs : List ℕ) → list_any p xs ≡ false → list_any p (take n xs) ≡ false
+pub none_in_front : (p : ℕ → Bool) (n : ℕ) (xs : List ℕ) → list_any p xs ≡ false → list_any p (take n xs) ≡ false
 none_in_front p n xs none = by (list_any p (take n xs)) refl
   where
     by : (b : Bool) → list_any p (take n xs) ≡ b → list_any p (take n xs) ≡ false
@@ -40,19 +40,40 @@ none_in_front p n xs none = by (list_any p (take n xs)) refl
         let u : true ≡ false = sym t ∙ none in cc)
 
 -- a front of a list that has a `]` has the list's first one
-first_in_front : (p : ℕ → Bool) (n : ℕ) (xs : List ℕ) → list_any p (take n xs) ≡ true → before_first p xs ≡ before_first p (take n xs)
+pub first_in_front : (p : ℕ → Bool) (n : ℕ) (xs : List ℕ) → list_any p (take n xs) ≡ true → before_first p xs ≡ before_first p (take n xs)
 first_in_front p n xs some = ap (before_first p) (sym (take-append-drop n xs)) ∙ before-longer p (take n xs) (drop n xs) some
 
 before-all : (p : ℕ → Bool) (xs : List ℕ) → list_any p xs ≡ false → before_first p xs ≡ xs
 before-all p xs none = take_all (position_or_len p xs) xs (omega (arith, place-absent p xs none))
 
 -- the front of a line that a carriage return is no part of
-strip_front : (xs : List ℕ) → (n : ℕ) × (strip_carriage_return xs ≡ take n xs)
+pub strip_front : (xs : List ℕ) → (n : ℕ) × (strip_carriage_return xs ≡ take n xs)
 strip_front xs = by _
   where
     by : (b : Bool) → (n : ℕ) × (cond b (take (length xs - 1) xs) xs ≡ take n xs)
     by true = (length xs - 1, refl)
     by false = (length xs, sym (take_all (length xs) xs (omega arith)))
+
+-- the first byte that passes a test, where one does before the comment, is the first of the whole line
+module _ (p : ℕ → Bool) (line : List ℕ) (is : list_any p (without_comment (content line)) ≡ true) where
+  -- the line up to its line feed
+  abbrev pub before_feed : List ℕ
+  before_feed = before_first is_feed line
+
+  in_content : list_any p (content line) ≡ true
+  in_content = any_in_front p (position_or_len is_percent (content line)) (content line) is
+
+  in_before_feed : list_any p before_feed ≡ true
+  in_before_feed = let s = strip_front before_feed in any_in_front p s.0 before_feed (ap (list_any p) (sym s.1) ∙ in_content)
+
+  pub in_line : list_any p line ≡ true
+  in_line = any_in_front p (position_or_len is_feed line) line in_before_feed
+
+  pub first-code : before_first p line ≡ before_first p (without_comment (content line))
+  first-code =
+      first_in_front p (position_or_len is_feed line) line in_before_feed
+      ∙ (let s = strip_front before_feed in first_in_front p s.0 before_feed (ap (list_any p) (sym s.1) ∙ in_content) ∙ ap (before_first p) (sym s.1))
+      ∙ first_in_front p (position_or_len is_percent (content line)) (content line) is
 
 -- what stands before the `]`
 abbrev pub cut_of : List ℕ → List ℕ
@@ -62,32 +83,15 @@ module _ (line : List ℕ) (is : closes line ≡ true) where
   abbrev pub cut : List ℕ
   cut = cut_of line
 
-  -- the line up to its line feed, without a carriage return, and without a comment
-  abbrev pub before_feed : List ℕ
-  before_feed = before_first is_feed line
-
-  in_content : list_any is_closing (content line) ≡ true
-  in_content = any_in_front is_closing (position_or_len is_percent (content line)) (content line) is
-
-  in_before_feed : list_any is_closing before_feed ≡ true
-  in_before_feed = let s = strip_front before_feed in any_in_front is_closing s.0 before_feed (ap (list_any is_closing) (sym s.1) ∙ in_content)
-
-  cut-content : cut ≡ before_first is_closing (content line)
-  cut-content =
-      first_in_front is_closing (position_or_len is_feed line) line in_before_feed
-      ∙ (let s = strip_front before_feed in first_in_front is_closing s.0 before_feed (ap (list_any is_closing) (sym s.1) ∙ in_content) ∙ ap (before_first is_closing) (sym s.1))
-
-  cut-code : cut ≡ before_first is_closing (without_comment (content line))
-  cut-code = cut-content ∙ first_in_front is_closing (position_or_len is_percent (content line)) (content line) is
-
   pub no_feed_in_cut : list_any is_feed cut ≡ false
   no_feed_in_cut =
-      ap (list_any is_feed) (first_in_front is_closing (position_or_len is_feed line) line in_before_feed)
-      ∙ none_in_front is_feed (position_or_len is_closing before_feed) before_feed (none_before is_feed line)
+      let front = before_first is_feed line in
+      ap (list_any is_feed) (first_in_front is_closing (position_or_len is_feed line) line (in_before_feed is_closing line is))
+      ∙ none_in_front is_feed (position_or_len is_closing front) front (none_before is_feed line)
 
   no_comment_in_cut : list_any is_percent cut ≡ false
   no_comment_in_cut =
-      ap (list_any is_percent) cut-code
+      ap (list_any is_percent) (first-code is_closing line is)
       ∙ none_in_front is_percent (position_or_len is_closing (without_comment (content line))) (without_comment (content line)) (none_before is_percent (content line))
 
   pub cut_code : without_comment cut ≡ cut

@@ -1,11 +1,14 @@
 -- The reading of bytes and what bytes are.
-use Rattle.std.specs.Prelude.{◌≡◌, ◌++◌, ◌∷◌, [], ℕ, Bool, true, false, List, is_none, Option, MatchResult, Ok, Err}
+use Rattle.std.specs.Prelude.{◌≡◌, ◌++◌, ◌∷◌, [], ℕ, Bool, true, false, IsTrue, List, is_none, Option, MatchResult, Ok, Err}
+use Rattle.std.specs.List.{before_first, concat, list_all, list_any}
+use Rattle.obs_text.specs.Lines.{content, ended_lines}
 use Rattle.obs_case.specs.Tables.{IsValid, Tables}
 use Rattle.obs_matpower.specs.declared.fault.MatEnd.{MatEnd}
 use Rattle.obs_matpower.specs.declared.fault.MatFault.{MatFault}
 use Rattle.obs_matpower.specs.declared.part.MatTable.{MatTable}
 use Rattle.obs_matpower.specs.Case.{IsCase, IsFile}
 use Rattle.obs_matpower.specs.IsFault.{IsFault, IsNotAfter}
+use Rattle.obs_matpower.specs.Lines.{closes, is_gap, opens, table_name, without_comment}
 use Rattle.obs_matpower.specs.Read.{case_in, mat_of}
 use Rattle.obs_matpower.specs.Rows.{rows_of}
 use Rattle.obs_matpower.specs.Table.{end_of, is_ended, is_there, line_of, text_of}
@@ -16,11 +19,33 @@ abbrev pub EndsAt : Bool → List ℕ → Type 0
 EndsAt true back = (rest : List ℕ) × (back ≡ 0x5D ∷ rest)
 EndsAt false back = back ≡ []
 
--- the text of a table that is there stands in the bytes between a `[` and a `]`, or goes to their end where the table isn't ended
+-- blanks and tabs alone
+abbrev pub AreGaps : List ℕ → Type 0
+AreGaps bytes = IsTrue (list_all is_gap bytes)
+
+-- the name of a table and `=`, with nothing but blanks and tabs before and behind each
+abbrev pub IsAssignment : MatTable → List ℕ → Type 0
+IsAssignment table bytes =
+    (first between last : List ℕ) × AreGaps first × AreGaps between × AreGaps last
+    × (bytes ≡ first ++ (table_name table ++ (between ++ 0x3D ∷ last)))
+
+-- bytes that are an assignment to the table up to a `[`
+abbrev pub IsOpening : MatTable → List ℕ → Type 0
+IsOpening table bytes = (front rest : List ℕ) × IsAssignment table front × (bytes ≡ front ++ 0x5B ∷ rest)
+
+-- a line opens a table exactly where, before its comment, it is an assignment to the table up to a `[`
+abbrev pub OpeningsAreAssignments : Type 0
+OpeningsAreAssignments =
+    (table : MatTable) (line : List ℕ) →
+    (opens table line ≡ true → IsOpening table (without_comment (content line))) × (IsOpening table (without_comment (content line)) → opens table line ≡ true)
+
+-- the text of a table that is there stands behind the lines before the first that opens it, and behind an assignment to the table and
+-- `[`; no `]` that is in no comment is in it, and one follows it, or the bytes end with it where the table isn't ended
 abbrev pub TextStandsBetween : Type 0
 TextStandsBetween =
     (table : MatTable) (bytes : List ℕ) → is_there table bytes ≡ true →
-    (front back : List ℕ) × (bytes ≡ front ++ 0x5B ∷ (text_of table bytes ++ back)) × EndsAt (is_ended table bytes) back
+    (front back : List ℕ) × IsAssignment table front × EndsAt (is_ended table bytes) back × (list_any closes (ended_lines (text_of table bytes)) ≡ false)
+    × (bytes ≡ concat (before_first (opens table) (ended_lines bytes)) ++ (front ++ 0x5B ∷ (text_of table bytes ++ back)))
 
 -- the rows of a table's text are those of the whole lines of the file
 abbrev pub RowsAreOfLines : Type 0

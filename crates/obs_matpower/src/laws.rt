@@ -1,8 +1,15 @@
 //! What bytes are, and what is read from them.
-ghost use Rattle.obs_matpower.specs.Laws.{CaseIsRead, CasesAreValid, FaultWhereNoCase, FileIsRead, FirstFaultOfFile, RowsAreOfLines, TextStandsBetween};
+ghost use Rattle.obs_matpower.specs.Laws.{CaseIsRead, CasesAreValid, FaultWhereNoCase, FileIsRead, FirstFaultOfFile, OpeningsAreAssignments, RowsAreOfLines, TextStandsBetween};
 
-/// The text of a `table` that is there stands in the file between a `[` and a `]`, or goes to the
-/// end of the file where the table isn't ended.
+/// A line opens a `table` exactly where, before its comment, it begins with the name of the table,
+/// `=` and `[`, with nothing but blanks and tabs before each.
+pub fn openings_are_assignments()
+    ensures opens { OpeningsAreAssignments }
+{}
+
+/// The text of a `table` that is there stands in the file behind the lines before the first that
+/// opens it and behind the `[` of that line. It goes up to the first `]` that is in no comment, or
+/// to the end of the file where the table isn't ended.
 pub fn text_stands_between()
     ensures text { TextStandsBetween }
 {}
