@@ -5,3 +5,4 @@ pub mod HandleValues
 pub mod LooseValues
 pub mod Staying
 pub mod Taken
+pub mod Worded

@@ -4,6 +4,7 @@
 
 mod call;
 mod handle;
+pub mod laws;
 mod lengths;
 mod loose;
 mod slot;

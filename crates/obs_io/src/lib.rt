@@ -4,6 +4,7 @@
 #![tactic(auto)]
 
 mod blocks;
+pub mod laws;
 mod memory;
 mod outside;
 mod real;
