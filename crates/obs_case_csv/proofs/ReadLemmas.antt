@@ -10,7 +10,7 @@ use Rattle.obs_case_csv.specs.declared.faults.TableEnd.{TableEnd}
 use Rattle.obs_case_csv.specs.declared.faults.TableEnd.TheVariants.{Fault, NoMemory}
 use Rattle.obs_case_csv.specs.Columns.{ArePlaces}
 use Rattle.obs_case_csv.specs.Fields.{Record, header_fault}
-use Rattle.obs_case_csv.specs.Read.{Ends, HoldsFirstRows, UnlessNoMemory, earlier, fault_at, fault_in, fault_of_records, first_fault, rows_before, rows_in, rows_of_records, table_records}
+use Rattle.obs_case_csv.specs.Read.{Ends, HoldsFirstRows, HoldsFirstRowsIfGiven, UnlessNoMemory, earlier, fault_at, fault_in, fault_of_records, first_fault, rows_before, rows_in, rows_of_records, table_records}
 use Rattle.obs_case_csv.specs.Rows.{names_in, next_row, row_fault, with_record}
 
 -- a row more has the next number
@@ -213,3 +213,8 @@ module _ (table : Table) (bytes : List ℕ) (old now : Tables) (places : Places)
       regroup : (xs : List Record) (y : Record) (ys : List Record) → xs ++ y ∷ ys ≡ (xs ++ y ∷ []) ++ ys
       regroup [] y ys = refl
       regroup (x ∷ xs) y ys = ap (λ l. x ∷ l) (regroup xs y ys)
+
+-- none of the rows of a table that may be given
+pub no_rows_more : (table : Table) (given : Option (List ℕ)) (t : Tables) → HoldsFirstRowsIfGiven table given t t
+no_rows_more table None t = refl
+no_rows_more table (Some bytes) t = (0, refl)

@@ -64,6 +64,16 @@ rows_in table t bytes = rows_of_records table t (table_records bytes)
 abbrev pub HoldsFirstRows : Table → List ℕ → Tables → Tables → Type 0
 HoldsFirstRows table bytes old new = (n : ℕ) × (new ≡ rows_of_records table old (take n (table_records bytes)))
 
+-- the same of a table that may be given
+abbrev pub HoldsFirstRowsIfGiven : Table → Option (List ℕ) → Tables → Tables → Type 0
+HoldsFirstRowsIfGiven table None old new = new ≡ old
+HoldsFirstRowsIfGiven table (Some bytes) old new = HoldsFirstRows table bytes old new
+
+-- the tables that have the rows of some of the first records of the meters' table, and then of the candidates', and nothing else new
+abbrev pub HoldsFirstRowsOfBoth : List ℕ → Option (List ℕ) → Tables → Tables → Type 0
+HoldsFirstRowsOfBoth meters candidates old new =
+    (metered : Tables) × HoldsFirstRows Meters meters old metered × HoldsFirstRowsIfGiven Candidates candidates metered new
+
 -- an answer that ends the reading of a table: want of memory, or this fault
 abbrev pub Ends : Option TableFault → TableEnd → Type 0
 Ends fault (Fault f) = fault ≡ Some f
