@@ -132,6 +132,8 @@ impl LineBuffer {
         ensures printed { PrintsAt (W.written output.old) (W.written output.new) self.old.held []
             (W.faults output.old) (W.faults output.new) (W.has_room output.old) (W.has_room output.new)
             self.old.outcome result [] }
+        ensures empty { self.new.held ≡ [] }
+        ensures outcome { self.new.outcome ≡ result }
     {
         self.send(output);
         self.outcome
