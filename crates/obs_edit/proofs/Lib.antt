@@ -6,6 +6,7 @@ pub mod Plans
 pub mod Answered
 pub mod PlanOrShortfall
 pub mod CheapestPlans
+pub mod Needless
 pub mod FirstParts
 pub mod FirstTrees
 pub mod NamedIslands

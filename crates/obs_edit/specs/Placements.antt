@@ -11,6 +11,7 @@ use Rattle.obs_placement.specs.Placed.{ShortfallValue, PlanValue}
 use Rattle.obs_placement.specs.Placed.Placed.{cheapest, shortfall}
 use Rattle.obs_placement.specs.Shown.{bare_layer}
 use Rattle.obs_network.specs.Network.{case_branches, case_needed, case_offered, case_vertex_count}
+use Rattle.obs_network.specs.Observable.{IsObservableCase}
 use Rattle.obs_rankcut.specs.Costs.{Completes, live_candidates, live_meters, price_of}
 use Rattle.obs_edit.specs.Planned.{case_placed_pairs, case_placement, planned_items}
 
@@ -43,6 +44,10 @@ PlansComplete = (t : Tables) (plan : PlanValue) → IsValid t → case_placement
 abbrev pub PlansAreCheapest : Type 0
 PlansAreCheapest = (t : Tables) (plan : PlanValue) (X : List ℕ) → IsValid t → case_placement t ≡ cheapest plan →
     CompletesCase t X → plan.cost ≤ price_together t X
+
+-- an observable case has a plan, which costs nothing
+abbrev pub ObservableCostsNothing : Type 0
+ObservableCostsNothing = (t : Tables) → IsValid t → IsObservableCase t → (plan : PlanValue) × (case_placement t ≡ cheapest plan) × (plan.cost ≡ 0)
 
 -- the pairs of a plan are the first assignment of the meters and then its chosen candidates
 abbrev pub PlansHaveFirstPairs : Type 0

@@ -1,6 +1,6 @@
 // The laws of what a session finds.
 ghost use Rattle.obs_edit.specs.Laws.{IslandsAreNamed, IslandsBeginWithBuses, IslandsLieInComponents, IslandsTellApart, ObservableIsIsland, TreesAreFirst, TreesAreWhole, TreesSpan, TreesStandAlone};
-ghost use Rattle.obs_edit.specs.Placements.{LayersAddUp, LayersAreBounds, LayersBoundCosts, PlansAreCheapest, PlansComplete, PlansHaveFirstPairs, ShortfallsRefute};
+ghost use Rattle.obs_edit.specs.Placements.{LayersAddUp, LayersAreBounds, LayersBoundCosts, ObservableCostsNothing, PlansAreCheapest, PlansComplete, PlansHaveFirstPairs, ShortfallsRefute};
 ghost use Rattle.obs_edit.specs.Planned.{PlanPairsAreFirst};
 
 /// The pairs of a plan are the first assignment of its items, the meters and then the chosen candidates: no assignment
@@ -37,9 +37,11 @@ pub fn observable_is_island()
 {}
 
 /// The chosen candidates of a plan complete the meters of the case at the plan's cost, and none complete them for less.
+/// An observable case has a plan, which costs nothing.
 pub fn plans_are_cheapest()
     ensures complete { PlansComplete }
     ensures cheapest { PlansAreCheapest }
+    ensures observable { ObservableCostsNothing }
 {}
 
 /// The layers of a plan run on from 0, and each has the numbers of the bound of a list of its items. Candidates that
