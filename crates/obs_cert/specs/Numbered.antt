@@ -1,5 +1,5 @@
 -- What the names of a claim stand for: meters and candidates by one number, the meters first, and branches by position. A name that isn't in
--- its table stands for the number of rows.
+-- its table stands for the number behind those of its table.
 use Rattle.std.specs.Prelude.{ℕ, ◌+◌, ◌&&◌, Bool, Option, Some, None, List, codes, if◌then◌else◌, length, map}
 use Rattle.std.specs.Option.{is_some, unwrap_or}
 use Rattle.std.specs.Str.{bytes_eq}

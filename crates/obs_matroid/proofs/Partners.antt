@@ -95,8 +95,8 @@ module _ (g : Matroid) (laws : IsMatroid g) (touch : ℕ → List ℕ) where
 
     partners_from : (m k : ℕ) → (IsCritical g touch M m → ⊥) → (IsCritical g touch M k → ⊥) → rho_of g touch (without k (without m M)) < rho_of g touch M → ArePartners g touch M m k
     partners_from m k a b l = record {
-      one_redundant = a;
-      other_redundant = b;
+      one_noncritical = a;
+      other_noncritical = b;
       falls = λ r s p q.
           let x = rho_same g touch M (rho_of g touch M) r (rho_of_is g laws touch M d) p in
           let y = rho_same g touch (without k (without m M)) (rho_of g touch (without k (without m M))) s (rho_of_is g laws touch (without k (without m M)) (both m k)) q in
@@ -120,7 +120,7 @@ module _ (g : Matroid) (laws : IsMatroid g) (touch : ℕ → List ℕ) where
               let u = and_parts (x && y) z t in
               let v = and_parts x y u.0 in
               partners_from m k (redundant_from m v.0) (redundant_from k v.1) (ltb-true (rho_of g touch (without k (without m M))) (rho_of g touch M) u.1)),
-          (λ p. and_from (x && y) z (and_from x y (redundant_to m p.one_redundant) (redundant_to k p.other_redundant))
+          (λ p. and_from (x && y) z (and_from x y (redundant_to m p.one_noncritical) (redundant_to k p.other_noncritical))
               (lt-ltb (rho_of g touch (without k (without m M))) (rho_of g touch M) (falls_to m k p))),
         )
 
@@ -129,18 +129,18 @@ module _ (g : Matroid) (laws : IsMatroid g) (touch : ℕ → List ℕ) where
     partners_apart m k p e =
         let l = falls_to m k p in
         let same : without k (without m M) ≡ without m M = ap (λ x. without x (without m M)) (sym e) ∙ filter_twice (other_than m) M in
-        p.one_redundant (crit_from M d m (subst (λ (N : List ℕ). rho_of g touch N < rho_of g touch M) same l))
+        p.one_noncritical (crit_from M d m (subst (λ (N : List ℕ). rho_of g touch N < rho_of g touch M) same l))
 
     pub partners_in : (m k : ℕ) → ArePartners g touch M m k → In m M × In k M
     partners_in m k p =
         let l = falls_to m k p in (
           elim (cases_In m M) [
             | inl i ↦ i
-            | inr out ↦ absurd (p.other_redundant (crit_from M d k (subst (λ (N : List ℕ). rho_of g touch (without k N) < rho_of g touch M) (filter_out m M out) l)))
+            | inr out ↦ absurd (p.other_noncritical (crit_from M d k (subst (λ (N : List ℕ). rho_of g touch (without k N) < rho_of g touch M) (filter_out m M out) l)))
           ],
           elim (cases_In k M) [
             | inl i ↦ i
-            | inr out ↦ absurd (p.one_redundant (crit_from M d m (subst (λ (N : List ℕ). rho_of g touch N < rho_of g touch M)
+            | inr out ↦ absurd (p.one_noncritical (crit_from M d m (subst (λ (N : List ℕ). rho_of g touch N < rho_of g touch M)
                 (filter_out k (without m M) (λ i. out (In-filter_from (other_than m) k M i).0)) l)))
           ],
         )
@@ -148,7 +148,7 @@ module _ (g : Matroid) (laws : IsMatroid g) (touch : ℕ → List ℕ) where
     -- a partner is one both ways
     pub partners_both_ways : (m k : ℕ) → ArePartners g touch M m k → ArePartners g touch M k m
     partners_both_ways m k p =
-        partners_from k m p.other_redundant p.one_redundant
+        partners_from k m p.other_noncritical p.one_noncritical
         (subst (λ (N : List ℕ). rho_of g touch N < rho_of g touch M) (filter_swap (other_than k) (other_than m) M) (falls_to m k p))
 
     -- the partners of a redundant item are what becomes critical without it
@@ -158,7 +158,7 @@ module _ (g : Matroid) (laws : IsMatroid g) (touch : ℕ → List ℕ) where
           let q = rho_less M m (rho_of g touch M) (rho_of g touch (without m M)) d (rho_of_is g laws touch M d) (rho_of_is g laws touch (without m M) (less m)) in
           let q0 = q.0 in
           partners_from m k h c.1 (omega (arith, a, q0))),
-      (λ p. let a = falls_to m k p in let b = not_critical M d m h in (crit_from (without m M) (less m) k (omega (arith, a, b)), p.other_redundant)),
+      (λ p. let a = falls_to m k p in let b = not_critical M d m h in (crit_from (without m M) (less m) k (omega (arith, a, b)), p.other_noncritical)),
     )
 
     -- different partners of one item are partners of each other
@@ -167,7 +167,7 @@ module _ (g : Matroid) (laws : IsMatroid g) (touch : ℕ → List ℕ) where
         let M1 = without m M in
         let M2 = without b M1 in
         let a_in : In a M2 = In-filter (other_than b) a M1 (In-filter (other_than m) a M (partners_in m a p).1 (other_true m a (λ e. partners_apart m a p (sym e)))) (other_true b a n) in
-        let c : IsCritical g touch M1 a = ((newly_critical m a p.one_redundant).1 p).0 in
+        let c : IsCritical g touch M1 a = ((newly_critical m a p.one_noncritical).1 p).0 in
         let c2 : IsCritical g touch M2 a = critical_within g laws touch M2 M1 a (both m b) (less m) (λ x i. (In-filter_from (other_than b) x M1 i).0) a_in c in
         let fall : rho_of g touch (without a M2) < rho_of g touch M2 = crit_to M2 (both m b) a c2 in
         let l : rho_of g touch M2 < rho_of g touch M = falls_to m b q in
@@ -178,7 +178,7 @@ module _ (g : Matroid) (laws : IsMatroid g) (touch : ℕ → List ℕ) where
         let w = rho_less N m (rho_of g touch N) (rho_of g touch (without m N)) (both a b) (rho_of_is g laws touch N (both a b))
         (rho_of_is g laws touch (without m N) (IsDistinct-filter (other_than m) N (both a b))) in
         let w1 : rho_of g touch N ≤ suc (rho_of g touch (without a M2)) = subst (λ (K : List ℕ). rho_of g touch N ≤ suc (rho_of g touch K)) same w.1 in
-        partners_from a b p.other_redundant q.other_redundant (omega (arith, fall, l, w1))
+        partners_from a b p.other_noncritical q.other_noncritical (omega (arith, fall, l, w1))
 
     -- equal, or partners
     Same : ℕ → ℕ → Type 0
@@ -247,7 +247,7 @@ module _ (g : Matroid) (laws : IsMatroid g) (touch : ℕ → List ℕ) where
         let at_less = marks_critical g laws touch (without u M) A T (less u) a' e k (In-filter (other_than u) k M j (other_true u k n)) in
         let new = newly_critical u k u_red in (
           (λ p. (
-            elim (cases_Bool (S k)) [ inl t ↦ t | inr f ↦ absurd (p.other_redundant (at_k.0 f)) ],
+            elim (cases_Bool (S k)) [ inl t ↦ t | inr f ↦ absurd (p.other_noncritical (at_k.0 f)) ],
             at_less.1 (new.1 p).0,
           )),
           (λ s. new.0 (at_less.0 s.1, λ x. clash s.0 (at_k.1 x))),

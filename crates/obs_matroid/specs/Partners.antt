@@ -9,8 +9,8 @@ use Rattle.obs_matroid.specs.Values.{is_critical, rho_of}
 -- m and k are partners in M: neither is critical there, and without both the greatest length falls
 -- (they lie in series in the matroid on the items, restricted to M; that they are different items of M follows)
 pub record ArePartners (g : Matroid) (touch : ℕ → List ℕ) (M : List ℕ) (m k : ℕ) : Type 0 where
-  pub one_redundant : IsCritical g touch M m → ⊥
-  pub other_redundant : IsCritical g touch M k → ⊥
+  pub one_noncritical : IsCritical g touch M m → ⊥
+  pub other_noncritical : IsCritical g touch M k → ⊥
   pub falls : (r s : ℕ) → IsRho g touch M r → IsRho g touch (without k (without m M)) s → s < r
 
 -- whether m and k are partners in M

@@ -19,10 +19,10 @@ pub fn touched_branches()
     ensures rising { (ends : List (Option Ends)) (t : Touch) → AllPairs ◌<◌ (touched ends t) }
     ensures present { (ends : List (Option Ends)) (t : Touch) →
         All (λ e. IsSome (slice_index_or ends e None)) (touched ends t) }
-    ensures hub { (ends : List (Option Ends)) (t : Touch) →
+    ensures vertex { (ends : List (Option Ends)) (t : Touch) →
         All (λ e. ((ends_at ends e).0 ≡ common_vertex ends t) ⊎ ((ends_at ends e).1 ≡ common_vertex ends t))
         (touched ends t) }
-    ensures front { (ends : List (Option Ends)) (t : Touch) (h : Hub) → hub_of ends t ≡ Some h →
+    ensures hub { (ends : List (Option Ends)) (t : Touch) (h : Hub) → hub_of ends t ≡ Some h →
         touched ends t ≡ take h.count (branches_at ends h.vertex) }
 {}
 

@@ -30,7 +30,7 @@ use Rattle.obs_network.specs.Angles.{angle_branches, has_angle, item_angle}
 use Rattle.obs_network.specs.Touching.{candidate_touches, meter_touch, meter_touches}
 use Rattle.obs_network.specs.Network.{case_absolute, case_angles, case_branches, case_component_count, case_components, case_energised, case_live, case_meters, case_offered, case_rows}
 use Rattle.obs_network.specs.Edited.{AreKept, AreMerged, IsOneMerge, IsReferenceMerge}
-use Rattle.obs_network.proofs.MergedComponents.{AreFollowed, IsOneMore, joins_followed, joins_one_more}
+use Rattle.obs_network.proofs.MergedComponents.{AreRenamedOrMerged, IsOneMore, joins_followed, joins_one_more}
 use Rattle.obs_network.proofs.MergedRows.{InRange-present, one_more_row, row_ends, rows_followed, with_service}
 use Rattle.obs_network.proofs.MergedVertices.{kept_by_live, merged_kept, merged_vertices}
 use Rattle.obs_network.proofs.OfCase.{case_bus-below, case_live-branches, length-meter_touches}
@@ -203,10 +203,10 @@ module _ (n : ℕ) (o c xs : List Link) (l : Link) (ys : List Link) (from : l.fr
 
 -- the same rows, over buses of new names
 live_followed : (t after : Tables) (h : ℕ → ℕ) → IsValid t → after.branches ≡ t.branches → ((u : ℕ) → u < length t.nodes → get_or (case_buses after) u 0 ≡ h (get_or (case_buses t) u 0))
-    → AreFollowed (case_live t) (case_live after) h
+    → AreRenamedOrMerged (case_live t) (case_live after) h
 unfolding case_live
 live_followed t after h v same nodes =
-    subst (λ rows. AreFollowed (map (live_ends (case_buses t)) t.branches) (map (live_ends (case_buses after)) rows) h) (sym same)
+    subst (λ rows. AreRenamedOrMerged (map (live_ends (case_buses t)) t.branches) (map (live_ends (case_buses after)) rows) h) (sym same)
     (rows_followed (case_buses t) (case_buses after) h t.branches (λ k d l. let ends = v.branch_ends k d l in (nodes (get_or t.branches k d).from ends.0, nodes (get_or t.branches k d).to ends.1)))
 
 live_stay : (t after : Tables) → after.branches ≡ t.branches → case_buses after ≡ case_buses t → case_live after ≡ case_live t

@@ -12,8 +12,8 @@ use Rattle.obs_graph.proofs.AtVertex.{branches_at-entry, positions_from_rise}
 use Rattle.obs_graph.proofs.Chains.{Chain-append}
 use Rattle.obs_graph.proofs.Expanding.{AreDone, done_absent, done_all, done_one}
 use Rattle.obs_graph.proofs.Present.{contains_present, none_some}
-use Rattle.obs_network.specs.Sides.{AreFollowed, HaveGrown, IsMeeting, IsQueueOf, label_at, rows_but}
-use Rattle.obs_network.proofs.Walking.{AreFollowed-push, HaveGrown-set, HaveGrown-then, IsQueueOf-push, label-kept}
+use Rattle.obs_network.specs.Sides.{AreFollowedUpTo, HaveGrown, IsMeeting, IsQueueOf, label_at, rows_but}
+use Rattle.obs_network.proofs.Walking.{AreFollowedUpTo-push, HaveGrown-set, HaveGrown-then, IsQueueOf-push, label-kept}
 
 -- the rows but one are branches of the graph
 module _ (ends : List (Option Ends)) (rows e : ℕ) where
@@ -50,7 +50,7 @@ end_at_entry ends v k bl bl_is l =
 pub record IsFollowing (n : ℕ) (held : List (Option Ends)) (end v head : ℕ) (bl : List ℕ) (start : List (Option ℕ)) (from : ℕ)
     (labels : List (Option ℕ)) (queue : List ℕ) (tail k : ℕ) : Type 0 where
   pub here : IsQueueOf n held labels end queue tail
-  pub before : AreFollowed held labels end queue head
+  pub before : AreFollowedUpTo held labels end queue head
   pub at_head : get_or queue head 0 ≡ v
   pub waits : head < tail
   pub longer : from ≤ tail
@@ -97,7 +97,7 @@ module _ (n : ℕ) (held : List (Option Ends)) (end v head : ℕ) (bl : List ℕ
         let waits = x.waits in
         let longer = x.longer in record {
           here = IsQueueOf-push n held labels end queue tail x.here w low bare inside chain;
-          before = AreFollowed-push n held labels end queue tail x.here w low bare head (omega (arith, waits)) x.before;
+          before = AreFollowedUpTo-push n held labels end queue tail x.here w low bare head (omega (arith, waits)) x.before;
           at_head = get_or-set_other queue tail head w 0 (λ e. omega (arith, e, waits)) ∙ x.at_head;
           waits = omega (arith, waits);
           longer = omega (arith, longer);
@@ -129,17 +129,17 @@ module _ (n : ℕ) (held : List (Option Ends)) (end v head : ℕ) (bl : List ℕ
               subst (λ ls. IsMeeting held ls end) (sym f.0) (Following-met u is (subst (λ b. MatchBool b (u ≢ end) (u ≡ end)) is_met f.3))
 
   module _ (bs : List (Option Ends)) (part : IsPart held bs) (bl_is : bl ≡ branches_at bs v) where
-    all_done : (m : ℕ) → AreDone held v bl (λ w. label_at labels w ≡ Some end) m → length bl ≤ m → AreFollowed held labels end queue (head + 1)
+    all_done : (m : ℕ) → AreDone held v bl (λ w. label_at labels w ≡ Some end) m → length bl ≤ m → AreFollowedUpTo held labels end queue (head + 1)
     all_done m done all j l w p r = elim (cases_eq j head) [
       | inl e ↦ done_all held v bl (λ y. label_at labels y ≡ Some end) m done bs part bl_is all p w (subst (λ u. Reaches held u w p) (ap (λ i. get_or queue i 0) e ∙ x.at_head) r)
       | inr ne ↦ x.before j (omega (arith, l, ne)) w p r
     ]
 
-    pub Following-end : length bl ≤ k → AreFollowed held labels end queue (head + 1)
+    pub Following-end : length bl ≤ k → AreFollowedUpTo held labels end queue (head + 1)
     Following-end all = all_done k x.done all
 
     -- behind a branch that is no row there are no rows
-    pub Following-stop : (rows : ℕ) → ((p : ℕ) → rows ≤ p → get_or held p None ≡ None) → k < length bl → rows ≤ get_or bl k 0 → AreFollowed held labels end queue (head + 1)
+    pub Following-stop : (rows : ℕ) → ((p : ℕ) → rows ≤ p → get_or held p None ≡ None) → k < length bl → rows ≤ get_or bl k 0 → AreFollowedUpTo held labels end queue (head + 1)
     Following-stop rows past low stop = all_done (length bl) rest (omega arith)
       where
         later : (i : ℕ) → k ≤ i → i < length bl → rows ≤ get_or bl i 0

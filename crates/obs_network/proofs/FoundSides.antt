@@ -15,7 +15,7 @@ use Rattle.obs_matroid.specs.Lists.{In, IsDistinct}
 use Rattle.obs_matroid.proofs.Contained.{All-from_In, Contains-from_In, In-get_or, IsDistinct-from_pairs}
 use Rattle.obs_network.specs.declared.sides.Walked.{Walked}
 use Rattle.obs_network.specs.Parted.{AreJoinedWithout, IsSide, IsSideOf}
-use Rattle.obs_network.specs.Sides.{AreClear, AreFollowed, AreWalked, IsQueueOf, label_at, rows_but}
+use Rattle.obs_network.specs.Sides.{AreClear, AreFollowedUpTo, AreWalked, IsQueueOf, label_at, rows_but}
 use Rattle.obs_network.proofs.FollowedRows.{rows_but-IsPart}
 use Rattle.obs_network.proofs.Walking.{one_label}
 
@@ -72,7 +72,7 @@ module _ (n : ℕ) (held : List (Option Ends)) (labels : List (Option ℕ)) (end
       place k d l = get_or-take tail queue k d l ∙ get_or_default queue k d 0 (omega (arith, l, few))
 
   -- all of the queue is followed, so it has all that the held branches join with the end
-  module _ (followed : AreFollowed held labels end queue tail) where
+  module _ (followed : AreFollowedUpTo held labels end queue tail) where
     pub reached_along : {u v : ℕ} → Chain (present held) u v → label_at labels u ≡ Some end → label_at labels v ≡ Some end
     reached_along none is = is
     reached_along (step {e = e} {u = u} {v = v} has leads rest) is =
@@ -82,7 +82,7 @@ module _ (n : ℕ) (held : List (Option Ends)) (labels : List (Option ℕ)) (end
 
 -- the queue of an end is its side
 pub IsSideOf-found : (n : ℕ) (rows : List (Option Ends)) (e : ℕ) (labels : List (Option ℕ)) (one other : ℕ) (queue : List ℕ) (tail : ℕ) → IsQueueOf n (set rows e None) labels one queue tail
-    → AreFollowed (set rows e None) labels one queue tail → label_at labels one ≡ Some one → label_at labels other ≡ Some other → (one ≡ other → ⊥)
+    → AreFollowedUpTo (set rows e None) labels one queue tail → label_at labels one ≡ Some one → label_at labels other ≡ Some other → (one ≡ other → ⊥)
     → ((x : Ends) → get_or rows e None ≡ Some x → Leads x one other) → IsSideOf rows e one (take tail queue)
 IsSideOf-found n rows e labels one other queue tail q followed begun begun_there apart leads =
     let held = set rows e None in record {
@@ -104,11 +104,11 @@ module _ (n : ℕ) (rows : List (Option Ends)) (e : ℕ) (labels : List (Option 
   -- the side of the one end
   side_here : w.met ≡ false → w.head ≡ w.tail → IsSideOf rows e one (take w.tail queue)
   side_here unmet ended =
-      IsSideOf-found n rows e labels one other queue w.tail x.here (subst (λ h. AreFollowed (set rows e None) labels one queue h) ended (x.followed unmet)) x.begun x.begun_there apart leads_all
+      IsSideOf-found n rows e labels one other queue w.tail x.here (subst (λ h. AreFollowedUpTo (set rows e None) labels one queue h) ended (x.followed unmet)) x.begun x.begun_there apart leads_all
 
   side_there : w.met ≡ false → w.head_there ≡ w.tail_there → IsSideOf rows e other (take w.tail_there queue_there)
   side_there unmet ended =
-      IsSideOf-found n rows e labels other one queue_there w.tail_there x.there (subst (λ h. AreFollowed (set rows e None) labels other queue_there h) ended (x.followed_there unmet)) x.begun_there x.begun (λ s. apart (sym s))
+      IsSideOf-found n rows e labels other one queue_there w.tail_there x.there (subst (λ h. AreFollowedUpTo (set rows e None) labels other queue_there h) ended (x.followed_there unmet)) x.begun_there x.begun (λ s. apart (sym s))
       (λ y there. Leads-back y one other (leads_all y there))
 
   -- the side of either end is one of the row's

@@ -94,12 +94,12 @@ module _ (n m : ℕ) (before after : List Ends) (h : ℕ → ℕ) (e : Ends) (lo
   }
 
 -- each branch is present after by its new name, or its ends became one; and no other is
-pub record AreFollowed (before after : List (Option Ends)) (h : ℕ → ℕ) : Type 0 where
+pub record AreRenamedOrMerged (before after : List (Option Ends)) (h : ℕ → ℕ) : Type 0 where
   pub there : (k : ℕ) (x : Ends) → slice_index_or before k None ≡ Some x → (h x.a ≡ h x.b) ⊎ (slice_index_or after k None ≡ Some (renamed_one h x))
   pub from : (k : ℕ) (y : Ends) → slice_index_or after k None ≡ Some y → (x : Ends) × (slice_index_or before k None ≡ Some x) × (y ≡ renamed_one h x)
 
 -- so where the ends of a branch become one, the branches join what they joined with it
-pub joins_followed : (n m : ℕ) (before after : List (Option Ends)) (h : ℕ → ℕ) (e : Ends) → AreMergedBy n m (e ∷ []) h → InRange n (present before) → AreFollowed before after h
+pub joins_followed : (n m : ℕ) (before after : List (Option Ends)) (h : ℕ → ℕ) (e : Ends) → AreMergedBy n m (e ∷ []) h → InRange n (present before) → AreRenamedOrMerged before after h
     → JoinsWith n (present before) (present after) h e
 joins_followed n m before after h e merged range followed x y lx ly =
     let old = present before in

@@ -11,7 +11,7 @@ use Rattle.obs_graph.proofs.Present.{none_some}
 use Rattle.obs_case.specs.declared.rows.Branch.{Branch}
 use Rattle.obs_case.specs.Flags.{changed_at}
 use Rattle.obs_network.specs.Live.{is_live_branch, live_ends}
-use Rattle.obs_network.proofs.MergedComponents.{AreFollowed, IsOneMore}
+use Rattle.obs_network.proofs.MergedComponents.{AreRenamedOrMerged, IsOneMore}
 use Rattle.obs_network.proofs.OfCase.{IsBranch}
 use Rattle.obs_network.proofs.RenamedEnds.{ends_of_row, live_is}
 
@@ -84,7 +84,7 @@ module _ (old new : List ℕ) (h : ℕ → ℕ) where
   from_at (row ∷ rows) all (suc k) y is = from_at rows (All-tail (Follows old new h) row rows all) k y is
 
   -- the same rows over buses of new names
-  pub rows_followed : (rows : List Branch) → All (Follows old new h) rows → AreFollowed (map (live_ends old) rows) (map (live_ends new) rows) h
+  pub rows_followed : (rows : List Branch) → All (Follows old new h) rows → AreRenamedOrMerged (map (live_ends old) rows) (map (live_ends new) rows) h
   rows_followed rows all = record { there = there_at rows all; from = from_at rows all }
 
 -- the buses of the nodes of the row at a place

@@ -7,8 +7,8 @@ use Rattle.obs_graph.specs.Joined.Chain.{none}
 use Rattle.obs_graph.specs.Positions.{present}
 use Rattle.obs_graph.proofs.Chains.{Chain-append, Chain-back}
 use Rattle.obs_network.specs.declared.sides.Walked.{Walked}
-use Rattle.obs_network.specs.Sides.{AreClear, AreFollowed, AreWalked, HaveGrown, IsMeeting, IsQueueOf, label_at}
-use Rattle.obs_network.proofs.Walking.{AreFollowed-grown, HaveGrown-set, IsQueueOf-grown, IsQueueOf-none, IsQueueOf-push, label-kept, label-older, no_label, one_label}
+use Rattle.obs_network.specs.Sides.{AreClear, AreFollowedUpTo, AreWalked, HaveGrown, IsMeeting, IsQueueOf, label_at}
+use Rattle.obs_network.proofs.Walking.{AreFollowedUpTo-grown, HaveGrown-set, IsQueueOf-grown, IsQueueOf-none, IsQueueOf-push, label-kept, label-older, no_label, one_label}
 
 -- both ends are reached from themselves
 module _ (n : ℕ) (held : List (Option Ends)) (labels : List (Option ℕ)) (one other : ℕ) (queue queue_there : List ℕ) (clear : AreClear labels)
@@ -80,7 +80,7 @@ AreWalked-swap n held labels one other queue queue_there w x = record {
 pub AreWalked-step : (n : ℕ) (held : List (Option Ends)) (labels : List (Option ℕ)) (one other : ℕ) (queue queue_there : List ℕ) (w : Walked) → AreWalked n held labels one other queue queue_there w
     → w.met ≡ false → w.head < w.tail → (one ≡ other → ⊥)
     → (after : List (Option ℕ)) (longer : List ℕ) (tail : ℕ) (met : Bool) → length after ≡ length labels → IsQueueOf n held after one longer tail
-    → (met ≡ false → AreFollowed held after one longer (w.head + 1)) → (IsTrue met → IsMeeting held after one) → HaveGrown labels after one → w.tail ≤ tail
+    → (met ≡ false → AreFollowedUpTo held after one longer (w.head + 1)) → (IsTrue met → IsMeeting held after one) → HaveGrown labels after one → w.tail ≤ tail
     → AreWalked n held after one other longer queue_there (record { met = met; head = w.head + 1; tail = tail; head_there = w.head_there; tail_there = w.tail_there })
 AreWalked-step n held labels one other queue queue_there w x unmet waits apart after longer tail met len here followed meets grown more =
     let there = IsQueueOf-grown n held labels other queue_there w.tail_there x.there after one len grown (λ e. apart (sym e)) in record {
@@ -99,7 +99,7 @@ AreWalked-step n held labels one other queue queue_there w x unmet waits apart a
         | inr e ↦ Chain-append (present held) m.joined (Chain-back (present held) (there.joined m.vertex (m.reached ∙ ap Some e)))
       ];
       followed = followed;
-      followed_there = λ f. AreFollowed-grown labels after one grown held other queue_there w.head_there (x.followed_there unmet);
+      followed_there = λ f. AreFollowedUpTo-grown labels after one grown held other queue_there w.head_there (x.followed_there unmet);
     }
   where
     x_ends : (m : IsMeeting held after one) → (m.from ≡ one) ⊎ (m.from ≡ other)

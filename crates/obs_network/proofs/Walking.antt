@@ -7,7 +7,7 @@ use Rattle.obs_graph.specs.Joined.{Chain, count_below}
 use Rattle.obs_graph.specs.Positions.{present}
 use Rattle.obs_graph.specs.Search.{Reaches}
 use Rattle.obs_graph.proofs.Counts.{count_below-agree, count_below-le-n, count_below-none, count_below-one_more}
-use Rattle.obs_network.specs.Sides.{AreFollowed, HaveGrown, IsQueueOf, is_from, label_at}
+use Rattle.obs_network.specs.Sides.{AreFollowedUpTo, HaveGrown, IsQueueOf, is_from, label_at}
 
 -- two labels of one vertex are the same
 pub one_label : (o : Option ℕ) (u w : ℕ) → o ≡ Some u → o ≡ Some w → u ≡ w
@@ -30,8 +30,8 @@ module _ (before after : List (Option ℕ)) (end : ℕ) (g : HaveGrown before af
     | inr new ↦ absurd (other (one_label (label_at after v) u end is new.1))
   ]
 
-  pub AreFollowed-grown : (held : List (Option Ends)) (u : ℕ) (queue : List ℕ) (head : ℕ) → AreFollowed held before u queue head → AreFollowed held after u queue head
-  AreFollowed-grown held u queue head f j l w p r = label-kept w u (f j l w p r)
+  pub AreFollowedUpTo-grown : (held : List (Option Ends)) (u : ℕ) (queue : List ℕ) (head : ℕ) → AreFollowedUpTo held before u queue head → AreFollowedUpTo held after u queue head
+  AreFollowedUpTo-grown held u queue head f j l w p r = label-kept w u (f j l w p r)
 
 pub HaveGrown-same : (labels : List (Option ℕ)) (end : ℕ) → HaveGrown labels labels end
 HaveGrown-same labels end v = inl refl
@@ -152,7 +152,7 @@ module _ (n : ℕ) (held : List (Option Ends)) (labels : List (Option ℕ)) (end
         }
 
     -- what was followed before stays so
-    pub AreFollowed-push : (head : ℕ) → head ≤ tail → AreFollowed held labels end queue head → AreFollowed held (set labels v (Some end)) end (set queue tail v) head
-    AreFollowed-push head le f j l w p r =
+    pub AreFollowedUpTo-push : (head : ℕ) → head ≤ tail → AreFollowedUpTo held labels end queue head → AreFollowedUpTo held (set labels v (Some end)) end (set queue tail v) head
+    AreFollowedUpTo-push head le f j l w p r =
         label-kept labels (set labels v (Some end)) end (HaveGrown-set labels v end low bare) w end
         (f j l w p (subst (λ x. Reaches held x w p) (before_tail j (omega (arith, l, le))) r))

@@ -42,8 +42,8 @@ pub record IsQueueOf (n : ℕ) (held : List (Option Ends)) (labels : List (Optio
   pub joined : (v : ℕ) → label_at labels v ≡ Some end → Chain (present held) end v
 
 -- what a held branch reaches from the vertices before the head was reached from this end too
-abbrev pub AreFollowed : List (Option Ends) → List (Option ℕ) → ℕ → List ℕ → ℕ → Type 0
-AreFollowed held labels end queue head =
+abbrev pub AreFollowedUpTo : List (Option Ends) → List (Option ℕ) → ℕ → List ℕ → ℕ → Type 0
+AreFollowedUpTo held labels end queue head =
     (j : ℕ) → j < head → (w p : ℕ) → Reaches held (slice_index queue j) w p → label_at labels w ≡ Some end
 
 -- some vertices more were reached from this end, and no others
@@ -69,8 +69,8 @@ pub record AreWalked (n : ℕ) (held : List (Option Ends)) (labels : List (Optio
   pub low : w.head ≤ w.tail
   pub low_there : w.head_there ≤ w.tail_there
   pub met : IsTrue w.met → Chain (present held) one other
-  pub followed : w.met ≡ false → AreFollowed held labels one queue w.head
-  pub followed_there : w.met ≡ false → AreFollowed held labels other queue_there w.head_there
+  pub followed : w.met ≡ false → AreFollowedUpTo held labels one queue w.head
+  pub followed_there : w.met ≡ false → AreFollowedUpTo held labels other queue_there w.head_there
 
 -- the labels that a walk keeps between two calls, and its queues, of which the first has the side that was found
 pub record AreSides (labels : List (Option ℕ)) (found other : List ℕ) (count : ℕ) : Type 0 where

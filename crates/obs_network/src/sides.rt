@@ -4,7 +4,7 @@ ghost use Rattle.obs_graph.specs.Positions.{has_end, present};
 ghost use Rattle.obs_graph.specs.Search.{Reaches};
 ghost use Rattle.obs_matroid.specs.Lists.{In};
 ghost use Rattle.obs_network.specs.Parted.{AreJoinedWithout, IsSide};
-ghost use Rattle.obs_network.specs.Sides.{AreClear, AreFollowed, AreWalked, HaveGrown, IsMeeting, IsQueueOf, label_at, rows_but};
+ghost use Rattle.obs_network.specs.Sides.{AreClear, AreFollowedUpTo, AreWalked, HaveGrown, IsMeeting, IsQueueOf, label_at, rows_but};
 
 use crate::memory::NoMemory;
 use obs_graph::search::other;
@@ -72,9 +72,9 @@ fn follow(
     requires room { g.now.vertices ≤ length labels.old }
     requires head { head < tail.old }
     requires queue { IsQueueOf g.now.vertices (rows_but g.now.ends rows e) labels.old end queue.old tail.old }
-    requires followed { AreFollowed (rows_but g.now.ends rows e) labels.old end queue.old head }
+    requires followed { AreFollowedUpTo (rows_but g.now.ends rows e) labels.old end queue.old head }
     ensures queue { IsQueueOf g.now.vertices (rows_but g.now.ends rows e) labels.new end queue.new tail.new }
-    ensures followed { result ≡ false → AreFollowed (rows_but g.now.ends rows e) labels.new end queue.new (head + 1) }
+    ensures followed { result ≡ false → AreFollowedUpTo (rows_but g.now.ends rows e) labels.new end queue.new (head + 1) }
     ensures met { IsTrue result → IsMeeting (rows_but g.now.ends rows e) labels.new end }
     ensures grown { HaveGrown labels.old labels.new end }
     ensures longer { tail.old ≤ tail.new }

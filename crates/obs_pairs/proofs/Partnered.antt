@@ -40,8 +40,8 @@ module _ (n : ℕ) (ends : List (Option Ends)) (touches : List Touch) (ok : AreB
   module _ (M : List ℕ) (d : IsDistinct M) where
     pub partners-to_matroid : (m k : ℕ) → ArePartnersAt ends touches M m k → ArePartners (graph_matroid n ends) (touch_at ends touches) M m k
     partners-to_matroid m k h = record {
-      one_redundant = λ c. h.one_redundant (IsCritical-from_matroid n ends touches M m h.one c);
-      other_redundant = λ c. h.other_redundant (IsCritical-from_matroid n ends touches M k h.other c);
+      one_noncritical = λ c. h.one_noncritical (IsCritical-from_matroid n ends touches M m h.one c);
+      other_noncritical = λ c. h.other_noncritical (IsCritical-from_matroid n ends touches M k h.other c);
       falls = λ r s p q. h.falls r s (rho-from_matroid n ends touches M r p) (rho-from_matroid n ends touches (without k (without m M)) s q);
     }
 
@@ -52,8 +52,8 @@ module _ (n : ℕ) (ends : List (Option Ends)) (touches : List Touch) (ok : AreB
           one = within.0;
           other = within.1;
           different = λ e. partners_apart (graph_matroid n ends) (IsMatroid-graph n ends ok) (touch_at ends touches) M d m k h e;
-          one_redundant = λ c. h.one_redundant (IsCritical-to_matroid n ends touches M m c);
-          other_redundant = λ c. h.other_redundant (IsCritical-to_matroid n ends touches M k c);
+          one_noncritical = λ c. h.one_noncritical (IsCritical-to_matroid n ends touches M m c);
+          other_noncritical = λ c. h.other_noncritical (IsCritical-to_matroid n ends touches M k c);
           falls = λ r s p q. h.falls r s (rho-to_matroid n ends touches M r p) (rho-to_matroid n ends touches (without k (without m M)) s q);
         }
 
@@ -68,7 +68,7 @@ module _ (n : ℕ) (ends : List (Option Ends)) (touches : List Touch) (ok : AreB
           (λ p.
               let apart : k ≡ m → ⊥ = λ e. p.different (sym e) in (
                 IsCritical-from_matroid n ends touches (without m M) k (In-filter (other_than m) k M p.other (other_true m k apart)) (new.1 (partners-to_matroid m k p)).0,
-                p.other_redundant,
+                p.other_noncritical,
               )),
         )
 
@@ -166,12 +166,12 @@ module _ (n : ℕ) (ends : List (Option Ends)) (touches : List Touch) (ok : AreB
   pub class_redundant : (m : ℕ) → redundant_at n ends touches m ≡ true → redundant_at n ends touches (class_at n ends touches m) ≡ true
   class_redundant m t = elim (class_own m) [
     | inl e ↦ subst (λ (x : ℕ). redundant_at n ends touches x ≡ true) (sym e) t
-    | inr p ↦ redundant-from (class_at n ends touches m) p.other p.other_redundant
+    | inr p ↦ redundant-from (class_at n ends touches m) p.other p.other_noncritical
   ]
 
   -- what isn't redundant has no partner
   pub class_alone : (m : ℕ) → redundant_at n ends touches m ≡ false → class_at n ends touches m ≡ m
-  class_alone m f = elim (class_own m) [ inl e ↦ e | inr p ↦ clash (redundant-from m p.one p.one_redundant) f ]
+  class_alone m f = elim (class_own m) [ inl e ↦ e | inr p ↦ clash (redundant-from m p.one p.one_noncritical) f ]
 
   pub class_lone : (m : ℕ) → ((is_live ends touches m ≡ false) ⊎ (critical_at n ends touches m ≡ true)) → class_at n ends touches m ≡ m
   class_lone m h = class_alone m (elim h [ inl f ↦ idle (is_live ends touches m) (critical_at n ends touches m) f | inr t ↦ critical (is_live ends touches m) (critical_at n ends touches m) t ])

@@ -15,8 +15,8 @@ pub record ArePartnersAt (ends : List (Option Ends)) (touches : List Touch) (M :
   pub one : In m M
   pub other : In k M
   pub different : m ≢ k
-  pub one_redundant : IsCriticalAt ends touches M m → ⊥
-  pub other_redundant : IsCriticalAt ends touches M k → ⊥
+  pub one_noncritical : IsCriticalAt ends touches M m → ⊥
+  pub other_noncritical : IsCriticalAt ends touches M k → ⊥
   pub falls : (r s : ℕ) → IsRhoAt ends touches M r → IsRhoAt ends touches (without k (without m M)) s → s < r
 
 -- k is the first of the class of an item: this item or a partner of it, and not above it nor above any partner of it

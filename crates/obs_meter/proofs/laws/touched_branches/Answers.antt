@@ -12,8 +12,8 @@ returns-clause-rising c = touched-rising
 pub returns-clause-present : goal.returns-clause-present
 returns-clause-present c = λ ends t. All-from_In (λ e. IsSome (slice_index_or ends e None)) (touched ends t) (touched-present ends t)
 
-pub returns-clause-hub : goal.returns-clause-hub
-returns-clause-hub c = λ ends t. All-from_In (λ e. ((ends_at ends e).0 ≡ common_vertex ends t) ⊎ ((ends_at ends e).1 ≡ common_vertex ends t)) (touched ends t) (touched-hub ends t)
+pub returns-clause-vertex : goal.returns-clause-vertex
+returns-clause-vertex c = λ ends t. All-from_In (λ e. ((ends_at ends e).0 ≡ common_vertex ends t) ⊎ ((ends_at ends e).1 ≡ common_vertex ends t)) (touched ends t) (touched-hub ends t)
 
-pub returns-clause-front : goal.returns-clause-front
-returns-clause-front c = touched-front
+pub returns-clause-hub : goal.returns-clause-hub
+returns-clause-hub c = touched-front
