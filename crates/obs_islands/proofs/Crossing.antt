@@ -15,7 +15,7 @@ use Rattle.obs_meter.specs.declared.Hub.{Hub}
 use Rattle.obs_meter.specs.declared.Touch.{Touch}
 use Rattle.obs_meter.specs.declared.Touch.TheVariants.{Nothing, Edge, Star, Front}
 use Rattle.obs_meter.specs.Touches.{AreInRange, IsInRange, hub_of, touch_at, touched}
-use Rattle.obs_meter.proofs.Touched.{In-from_any, any-from_In, touch-rising, touched-front, touched-present}
+use Rattle.obs_meter.proofs.Touched.{In-from_any, any-from_In, touch-rising, touched-hub, touched-present}
 use Rattle.obs_assign.specs.Assignment.{Assignment}
 use Rattle.obs_islands.specs.GivenUp.{GivesUp}
 use Rattle.obs_islands.specs.Rounds.{is_between, is_crossing, kept, remaining, straddles, straddles_at}
@@ -69,7 +69,7 @@ uncrossed-from ends touches a test lowest g m e h is stays i = elim (cases_Bool 
       let low = g.none_lower m e h is i t in
       let end = present_low ends e (touched-present ends (get_or touches m Nothing) e i) in
       let there = In-from_Contains (lowest h.vertex) (branches_at ends h.vertex) (at_vertex ends h.vertex (lowest h.vertex) (g.at h.vertex (omega (arith, low, end)))) in
-      let front = touched-front ends (get_or touches m Nothing) h is in
+      let front = touched-hub ends (get_or touches m Nothing) h is in
       let first = In-take_below h.count (branches_at ends h.vertex) (lowest h.vertex) e (touch-rising ends (Star h.vertex ∷ []) 0) there (subst (λ (xs : List ℕ). In e xs) front i) low in
       clash (any-from_In branches (lowest h.vertex) (subst (λ (xs : List ℕ). In (lowest h.vertex) xs) (sym front) first)) (sym (ap (straddles_at lowest branches) is) ∙ stays)
 ]

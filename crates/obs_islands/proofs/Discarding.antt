@@ -29,7 +29,7 @@ use Rattle.obs_meter.specs.Spanned.{ends_at, graph_matroid, common_vertex, joine
 use Rattle.obs_meter.specs.Touches.{hub_of, live_items, touch_at, touched}
 use Rattle.obs_meter.proofs.Assigned.{from_matroid, live_items-distinct}
 use Rattle.obs_meter.proofs.Instance.{IsJoining-graph, IsMatroid-graph}
-use Rattle.obs_meter.proofs.Touched.{itself_from, live-from_In, touched-hub, touched-present}
+use Rattle.obs_meter.proofs.Touched.{itself_from, live-from_In, touched-vertex, touched-present}
 use Rattle.obs_meter.proofs.Live.{In-live, live-from_live_items}
 use Rattle.obs_assign.specs.Assignment.{Assignment, branch_at as slot_of, is_frozen, pairs}
 use Rattle.obs_assign.specs.Pins.{joins}
@@ -252,7 +252,7 @@ module _ (g : Graph) (ts us : List Touch) (used : IsUsedOf ts us) where
           in_one_piece = λ m u v i.
               joined_at_hub (ends_at g.ends) (joined_at g.ends) (rank_at g.vertices g.ends) (IsJoining-graph g.ends) (IsMatroid-graph g.vertices g.ends closed.branches) (touch_at g.ends ts) (every_vertex g.vertices) (live_items g.ends ts)
               (vertices-distinct g.vertices) (live_items-distinct g.ends ts) (λ m e i j. ends_low g.vertices g.ends ts closed.branches m e j)
-              (pairs a) m (common_vertex g.ends (get_or ts m Nothing)) (λ e k. touched-hub g.ends (get_or ts m Nothing) e k)
+              (pairs a) m (common_vertex g.ends (get_or ts m Nothing)) (λ e k. touched-vertex g.ends (get_or ts m Nothing) e k)
               (λ e k. touch_joined m e i (subst (λ (xs : List ℕ). In e xs) (sym (used_touch m i)) k) (get_or us m Nothing) refl) u v;
         }
 

@@ -11,7 +11,7 @@ use Rattle.obs_matroid.proofs.Contained.{Contains-from_In}
 use Rattle.obs_meter.specs.declared.Hub.{Hub}
 use Rattle.obs_meter.specs.declared.Touch.{Touch}
 use Rattle.obs_meter.specs.Touches.{hub_of, touched}
-use Rattle.obs_meter.proofs.Touched.{In-from_any, In-take, touched-front, touched-present}
+use Rattle.obs_meter.proofs.Touched.{In-from_any, In-take, touched-hub, touched-present}
 
 -- what is no position isn't touched
 pub untouched_past : (ends : List (Option Ends)) (t : Touch) (e : ℕ) → length ends ≤ e → list_any (λ p. p == e) (touched ends t) ≡ false
@@ -31,5 +31,5 @@ In-take_below (suc k) (z ∷ zs) x y r (inr i) (inr j) l = inr (In-take_below k 
 -- what is touched at a hub has an end at its vertex
 pub hub-end : (ends : List (Option Ends)) (t : Touch) (h : Hub) (e : ℕ) → hub_of ends t ≡ Some h → In e (touched ends t) → has_end h.vertex (get_or ends e None) ≡ true
 hub-end ends t h e is i =
-    let j : In e (take h.count (branches_at ends h.vertex)) = subst (λ (xs : List ℕ). In e xs) (touched-front ends t h is) i in
+    let j : In e (take h.count (branches_at ends h.vertex)) = subst (λ (xs : List ℕ). In e xs) (touched-hub ends t h is) i in
     has_end-at_vertex ends h.vertex e (Contains-from_In e (branches_at ends h.vertex) (In-take h.count (branches_at ends h.vertex) e j))

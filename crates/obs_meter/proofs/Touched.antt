@@ -89,23 +89,23 @@ ends_there : (ends : List (Option Ends)) (v e : ℕ) → In e (branches_at ends 
 ends_there ends v e i = end_there v (slice_index_or ends e None) (has_end-at_vertex ends v e (Contains-from_In e (branches_at ends v) i))
 
 -- a touched branch has an end at the hub
-pub touched-hub : (ends : List (Option Ends)) (t : Touch) (e : ℕ) → In e (touched ends t) → ((ends_at ends e).0 ≡ common_vertex ends t) ⊎ ((ends_at ends e).1 ≡ common_vertex ends t)
-touched-hub ends Nothing e i = absurd i
-touched-hub ends (Edge p) e i = let h = itself_from (slice_index_or ends p None) p e i in inl (ap (λ x. (ends_at ends x).0) h.0)
-touched-hub ends (Star v) e i = ends_there ends v e i
-touched-hub ends (Front v count) e i = ends_there ends v e (In-take count (branches_at ends v) e i)
+pub touched-vertex : (ends : List (Option Ends)) (t : Touch) (e : ℕ) → In e (touched ends t) → ((ends_at ends e).0 ≡ common_vertex ends t) ⊎ ((ends_at ends e).1 ≡ common_vertex ends t)
+touched-vertex ends Nothing e i = absurd i
+touched-vertex ends (Edge p) e i = let h = itself_from (slice_index_or ends p None) p e i in inl (ap (λ x. (ends_at ends x).0) h.0)
+touched-vertex ends (Star v) e i = ends_there ends v e i
+touched-vertex ends (Front v count) e i = ends_there ends v e (In-take count (branches_at ends v) e i)
 
 some_hub : (x h : Hub) → Some x ≡ Some h → x ≡ h
 some_hub x h is = cc is
 
 -- an item with a hub touches the first so many branches there
-pub touched-front : (ends : List (Option Ends)) (t : Touch) (h : Hub) → hub_of ends t ≡ Some h → touched ends t ≡ take h.count (branches_at ends h.vertex)
-touched-front ends Nothing h is = absurd (cc is)
-touched-front ends (Edge e) h is = absurd (cc is)
-touched-front ends (Star v) h is =
+pub touched-hub : (ends : List (Option Ends)) (t : Touch) (h : Hub) → hub_of ends t ≡ Some h → touched ends t ≡ take h.count (branches_at ends h.vertex)
+touched-hub ends Nothing h is = absurd (cc is)
+touched-hub ends (Edge e) h is = absurd (cc is)
+touched-hub ends (Star v) h is =
     let same : record { vertex = v; count = length (branches_at ends v) } ≡ h = some_hub _ h is in
     sym (take-length (branches_at ends v)) ∙ ap (λ (x : Hub). take x.count (branches_at ends x.vertex)) same
-touched-front ends (Front v count) h is =
+touched-hub ends (Front v count) h is =
     let same : record { vertex = v; count = count } ≡ h = some_hub _ h is in
     ap (λ (x : Hub). take x.count (branches_at ends x.vertex)) same
 

@@ -17,7 +17,7 @@ use Rattle.obs_meter.specs.declared.Touch.TheVariants.{Nothing}
 use Rattle.obs_meter.specs.Spanned.{both_ends, ends_at, graph_matroid, joined_at, rank_at}
 use Rattle.obs_meter.specs.Touches.{touch_at}
 use Rattle.obs_meter.proofs.Instance.{IsJoining-graph}
-use Rattle.obs_meter.proofs.Touched.{touched-hub}
+use Rattle.obs_meter.proofs.Touched.{touched-vertex}
 use Rattle.obs_network.specs.Switched.{case_bus_count}
 use Rattle.obs_network.specs.Components.{if_energised, is_first_bus}
 use Rattle.obs_network.specs.Network.{case_absolute, case_branches, case_component_count, case_components, case_energised, case_live, case_rows, case_vertex_component, case_vertex_count}
@@ -131,7 +131,7 @@ kinds_sum t v =
 pub touched_component : (t : Tables) → IsValid t → (touches : List Touch) (m e : ℕ) → In e (touch_at (case_branches t) touches m) → branch_component t e ≡ item_component t touches m
 touched_component t v touches m e i =
     let of : ℕ → ℕ = case_vertex_component t in
-    elim (touched-hub (case_branches t) (slice_index_or touches m Nothing) e i) [ inl h ↦ ap of h | inr h ↦ ends_component t v e ∙ ap of h ]
+    elim (touched-vertex (case_branches t) (slice_index_or touches m Nothing) e i) [ inl h ↦ ap of h | inr h ↦ ends_component t v e ∙ ap of h ]
 
 placed_at : (t : Tables) → IsValid t → (e : ℕ) (o : Option Ends) → get_or (case_branches t) e None ≡ o → IsSome o → IsPlaced t (record { a = (both_ends o).0; b = (both_ends o).1 }) (case_vertex_component t (both_ends o).0)
 placed_at t v e None h s = absurd (cc s)

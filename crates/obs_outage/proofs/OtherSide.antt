@@ -17,7 +17,7 @@ use Rattle.obs_meter.specs.declared.Touch.TheVariants.{Nothing}
 use Rattle.obs_meter.specs.Assignments.{IsAssignmentAt}
 use Rattle.obs_meter.specs.Spanned.{both_ends, common_vertex, ends_at}
 use Rattle.obs_meter.specs.Touches.{every_item, touch_at}
-use Rattle.obs_meter.proofs.Touched.{touched-hub, touched-present}
+use Rattle.obs_meter.proofs.Touched.{touched-vertex, touched-present}
 use Rattle.obs_assign.specs.Assignment.{Assignment, pairs}
 use Rattle.obs_assign.proofs.Slotted.{distinct_branches}
 use Rattle.obs_assign.proofs.Standing.{IsAssignmentAt-standing}
@@ -155,11 +155,11 @@ module _ (t : Tables) (v : IsValid t) (e c : ℕ) (side : List ℕ) (p : IsParte
             row_off t v e c side p f l d f.leads fed dark (subst (λ z. IsSome (slice_index_or (case_branches out) z None)) same some)
         | inr hub ↦
             let common = common_vertex ends touch in
-            let is : on_it common ≡ true = elim (at_row common (touched-hub ends touch e (assigned.touched (m, e) i))) [
+            let is : on_it common ≡ true = elim (at_row common (touched-vertex ends touch e (assigned.touched (m, e) i))) [
               | inl one ↦ absurd (confined m hub.0 (slot_from a.slots (m, e) i) hub.1 (subst (λ z. In z side) (sym one ∙ hub.2) here))
               | inr two ↦ ap on_it two ∙ on_other
             ] in
-            clash is (elim (touched-hub ends touch j hj) [ inl s ↦ ap on_it (sym s) ∙ off.0 | inr s ↦ ap on_it (sym s) ∙ off.1 ])
+            clash is (elim (touched-vertex ends touch j hj) [ inl s ↦ ap on_it (sym s) ∙ off.0 | inr s ↦ ap on_it (sym s) ∙ off.1 ])
       ]
 
   there : (k : ℕ) → In k (branches A) → (y : Ends) × (get_or ends k None ≡ Some y)

@@ -21,7 +21,7 @@ use Rattle.obs_meter.specs.Spanned.{both_ends, common_vertex, ends_at, graph_mat
 use Rattle.obs_meter.specs.Touches.{every_item, touch_at}
 use Rattle.obs_meter.proofs.Assigned.{every-to_live, forest_at-from_independent, from_matroid, live-to_every, to_matroid}
 use Rattle.obs_meter.proofs.Instance.{IsMatroid-graph}
-use Rattle.obs_meter.proofs.Touched.{touched-hub, touched-present}
+use Rattle.obs_meter.proofs.Touched.{touched-vertex, touched-present}
 use Rattle.obs_assign.proofs.Slotted.{distinct_branches}
 use Rattle.obs_network.specs.Switched.{case_bus_count}
 use Rattle.obs_network.specs.Network.{case_branches, case_live, case_meters, case_rows, case_vertex_count}
@@ -213,8 +213,8 @@ module _ (t : Tables) (v : IsValid t) (e c : ℕ) (side : List ℕ) (p : IsParte
               let here = goes_on k ne (touched-present ends touch k (a.touched q i)) (gone_at q lv) in
               let off = stays_off j some in
               let common = common_vertex ends touch in
-              let hub : on common ≡ true = elim (touched-hub ends touch k (a.touched q i)) [ inl s ↦ ap on (sym s) ∙ here.0 | inr s ↦ ap on (sym s) ∙ here.1 ] in
-              let not_hub : on common ≡ false = elim (touched-hub ends touch j h) [ inl s ↦ ap on (sym s) ∙ off.0 | inr s ↦ ap on (sym s) ∙ off.1 ] in
+              let hub : on common ≡ true = elim (touched-vertex ends touch k (a.touched q i)) [ inl s ↦ ap on (sym s) ∙ here.0 | inr s ↦ ap on (sym s) ∙ here.1 ] in
+              let not_hub : on common ≡ false = elim (touched-vertex ends touch j h) [ inl s ↦ ap on (sym s) ∙ off.0 | inr s ↦ ap on (sym s) ∙ off.1 ] in
               clash hub not_hub
         ]
 

@@ -21,7 +21,7 @@ use Rattle.obs_meter.specs.declared.Touch.TheVariants.{Edge, Front, Nothing, Sta
 use Rattle.obs_meter.specs.Assignments.{IsAssignmentAt}
 use Rattle.obs_meter.specs.Spanned.{both_ends, common_vertex, ends_at}
 use Rattle.obs_meter.specs.Touches.{every_item, hub_of, touch_at, touched}
-use Rattle.obs_meter.proofs.Touched.{itself_from, touched-hub, touched-present}
+use Rattle.obs_meter.proofs.Touched.{itself_from, touched-vertex, touched-present}
 use Rattle.obs_assign.specs.Assignment.{Assignment, IsWhole, branch_at, pairs}
 use Rattle.obs_assign.proofs.Slotted.{distinct_branches, length-pairs_of, slots_apart}
 use Rattle.obs_assign.proofs.Standing.{IsAssignmentAt-standing}
@@ -96,7 +96,7 @@ module _ (t : Tables) (v : IsValid t) (e c : ℕ) (side : List ℕ) (p : IsParte
         | inr hub ↦
             let here = listed_on hub.0.vertex (confined m hub.0 (slot_from a.slots (m, e) i) hub.1) in
             let is : on_it (common_vertex ends touch) ≡ true = ap on_it hub.2 ∙ here in
-            clash is (elim (touched-hub ends touch j hj) [ inl s ↦ ap on_it (sym s) ∙ off.0 | inr s ↦ ap on_it (sym s) ∙ off.1 ])
+            clash is (elim (touched-vertex ends touch j hj) [ inl s ↦ ap on_it (sym s) ∙ off.0 | inr s ↦ ap on_it (sym s) ∙ off.1 ])
       ]
 
   there : (k : ℕ) → In k (branches A) → (y : Ends) × (get_or ends k None ≡ Some y)

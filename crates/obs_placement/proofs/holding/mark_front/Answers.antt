@@ -1,6 +1,6 @@
 use Rattle.std.proofs.Common.{get_or, sym}
 use Rattle.obs_meter.specs.declared.Touch.TheVariants.{Nothing}
-use Rattle.obs_meter.proofs.Touched.{hub_low, touched-front}
+use Rattle.obs_meter.proofs.Touched.{hub_low, touched-hub}
 use Rattle.obs_placement.proofs.Flagged.{AreFrontsOfKnown-set}
 use Rattle.obs_placement.proofs.holding.mark_front.Goals as goal
 
@@ -15,5 +15,5 @@ returns-clause-flags c =
     rw c.put_front.ensures.front (record {
       touched = c.requires.flags.touched;
       fronts = AreFrontsOfKnown-set g touches known.since c.args.m c.requires.is_known known.fronts h
-          (hub_low g t h (c.requires.offer.in_range c.args.m Nothing c.requires.m) is) (touched-front g.ends t h is) c.requires.flags.fronts;
+          (hub_low g t h (c.requires.offer.in_range c.args.m Nothing c.requires.m) is) (touched-hub g.ends t h is) c.requires.flags.fronts;
     })

@@ -3,7 +3,7 @@ use Rattle.obs_graph.specs.Positions.{branches_at}
 use Rattle.obs_meter.specs.declared.Hub.{Hub}
 use Rattle.obs_meter.specs.declared.Touch.TheVariants.{Nothing}
 use Rattle.obs_meter.specs.Touches.{touched}
-use Rattle.obs_meter.proofs.Touched.{hub_low, touched-front}
+use Rattle.obs_meter.proofs.Touched.{hub_low, touched-hub}
 use Rattle.obs_assign.proofs.Choosing.{IfSome-by}
 use Rattle.obs_exchange.proofs.setting.Setting.hub.Goals as goal
 
@@ -18,5 +18,5 @@ returns c =
     (record {
       hub = is;
       low = IfSome-by (λ (h : Hub). h.vertex < g.vertices) c.hub.result (λ h e. hub_low g t h (c.self.invariant.in_range c.args.m Nothing low) (sym is ∙ e));
-      front = IfSome-by (λ (h : Hub). touched g.ends t ≡ take h.count (branches_at g.ends h.vertex)) c.hub.result (λ h e. touched-front g.ends t h (sym is ∙ e));
+      front = IfSome-by (λ (h : Hub). touched g.ends t ≡ take h.count (branches_at g.ends h.vertex)) c.hub.result (λ h e. touched-hub g.ends t h (sym is ∙ e));
     })
