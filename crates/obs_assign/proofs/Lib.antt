@@ -3,6 +3,7 @@ pub mod Listed
 pub mod Listing
 pub mod Moving
 pub mod Standing
+pub mod SpannedItems
 pub mod Sparing
 pub mod Paths
 pub mod Pinning

@@ -1,10 +1,11 @@
 // The laws of kept assignments.
-ghost use Rattle.std.specs.Prelude.{◌≡◌, ◌≢◌, ◌+◌, ◌<◌, ◌≤◌, ◌↔◌, ℕ, Bool, false, Option, Some, None, List, length, slice_index_or, slice_set};
+ghost use Rattle.std.specs.Prelude.{◌≡◌, ◌≢◌, ◌+◌, ◌++◌, ◌<◌, ◌≤◌, ◌↔◌, ℕ, Bool, false, true, Option, Some, None, List, flat_map, length, slice_index_or, slice_set};
 ghost use Rattle.obs_graph.specs.declared.Ends.{Ends};
 ghost use Rattle.obs_graph.specs.Joined.{AreMergedBy, InRange, IsMerging, is_joined, rank, renamed};
 ghost use Rattle.obs_graph.specs.Positions.{AreBranches, IsForestAt};
 ghost use Rattle.obs_graph.specs.Graph.{Graph};
 ghost use Rattle.obs_matroid.specs.Assignments.{Pair, branches, others};
+ghost use Rattle.obs_matroid.specs.Bounds.{inside};
 ghost use Rattle.obs_matroid.specs.Lists.{In};
 ghost use Rattle.obs_matroid.specs.Slots.{pairs_of};
 ghost use Rattle.obs_meter.specs.declared.Touch.{Touch};
@@ -17,11 +18,17 @@ ghost use Rattle.obs_assign.specs.Moves.{ArePath, moved};
 ghost use Rattle.obs_assign.specs.Pins.{IsPinnedAt, joins};
 ghost use Rattle.obs_assign.specs.Still.{AreRetained, still};
 
-/// No assignment is longer than a bound: the rank of what some items touch, and one for each other item.
+/// No assignment is longer than a bound: the rank of what some items touch, and one for each other item. So it is, too,
+/// where items more take part, each of whose touched branches has its ends joined by what the first ones touch.
 pub fn weak_bound()
     ensures weak { (n : ℕ) (ends : List (Option Ends)) (touches : List Touch)
         (M : List ℕ) (J : ℕ → Bool) (A : List Pair) →
         AreBranches n ends → IsAssignmentAt ends touches M A → length A ≤ bound_at n ends touches J M }
+    ensures spanned { (n : ℕ) (ends : List (Option Ends)) (touches : List Touch)
+        (M X : List ℕ) (J : ℕ → Bool) (A : List Pair) →
+        AreBranches n ends → IsAssignmentAt ends touches (M ++ X) A →
+        ((m e : ℕ) → In m X → In e (touch_at ends touches m) →
+        joins ends (flat_map (touch_at ends touches) (inside J M)) e ≡ true) → length A ≤ bound_at n ends touches J M }
 {}
 
 /// The pairs of an assignment that stands over a graph and meters are an assignment of these meters.
