@@ -262,27 +262,28 @@ module _ (ends : ℕ → ℕ × ℕ) (joined : List ℕ → ℕ → ℕ → Bool
   pub settled_exists : (V : List ℕ) × (A : List Pair) × IsSettled ends joined rank touch vs M V A
   settled_exists = settled_by (suc (length M)) M (omega arith) dm (λ m i. i) HoldsInside-all
 
-  module _ (U : List ℕ) (A : List Pair) (st : IsSettled ends joined rank touch vs M U A) where
+  -- where the vertices that an item with a pair touches lie in one piece, each piece is spanned from inside
+  module _ (A : List Pair) (assigns : IsAssignment g touch M A)
+      (in_one_piece : (m u v : ℕ) → In m (items A) → In u (touched_vertices ends touch m) → In v (touched_vertices ends touch m) → joined (branches A) u v ≡ true) where
     piece_ends : (v e : ℕ) → g.spans (branches A) e ≡ true → piece joined A v (ends e).0 ≡ piece joined A v (ends e).1
     piece_ends v e t =
         one_truth (piece joined A v (ends e).0) (piece joined A v (ends e).1)
         (λ x. joining.on (branches A) v (ends e).0 (ends e).1 x t)
         (λ x. joining.on (branches A) v (ends e).1 (ends e).0 x (joining.back (branches A) (ends e).0 (ends e).1 t))
 
-    -- each piece is spanned from inside
-    pub piece_spanned : (v : ℕ) → In v vs → IsSpanned ends g touch vs M (piece joined A v)
-    piece_spanned v iv =
+    pub piece_inside : (v : ℕ) → In v vs → IsSpanned ends g touch vs M (piece joined A v)
+    piece_inside v iv =
         let keep : ℕ → Bool = λ e. piece joined A v (ends e).0 in
         let AP : List Pair = filter (λ (p : Pair). keep p.1) A in
         let ap' : (p : Pair) → In p AP → In p A × (keep p.1 ≡ true) = λ p i. In-filter_from (λ (q : Pair). keep q.1) p A i in
         let both_in : (p : Pair) → In p AP → (piece joined A v (ends p.1).0 ≡ true) × (piece joined A v (ends p.1).1 ≡ true) = λ p i.
         let y = ap' p i in (y.1, sym (piece_ends v p.1 (laws.member (branches A) p.1 (In-branches A p y.0))) ∙ y.1) in
-        let of_M : (p : Pair) → In p AP → In p.0 M = λ p i. st.of_all p.0 (st.assigns.of_items p (ap' p i).0) in
+        let of_M : (p : Pair) → In p AP → In p.0 M = λ p i. assigns.of_items p (ap' p i).0 in
         let asg : IsAssignment g touch M AP = record {
           of_items = of_M;
-          touched = λ p i. st.assigns.touched p (ap' p i).0;
-          different = IsDistinct-filter_items (λ (q : Pair). keep q.1) A st.assigns.different;
-          independent = (independent_within g laws A AP st.assigns.independent st.assigns.different (IsDistinct-filter_items (λ (q : Pair). keep q.1) A st.assigns.different) (λ p i. (ap' p i).0));
+          touched = λ p i. assigns.touched p (ap' p i).0;
+          different = IsDistinct-filter_items (λ (q : Pair). keep q.1) A assigns.different;
+          independent = (independent_within g laws A AP assigns.independent assigns.different (IsDistinct-filter_items (λ (q : Pair). keep q.1) A assigns.different) (λ p i. (ap' p i).0));
         } in
         let W : List ℕ = filter (piece joined A v) vs in
         record {
@@ -298,7 +299,7 @@ module _ (ends : ℕ → ℕ × ℕ) (joined : List ℕ → ℕ → ℕ → Bool
               let k' : In e (touch y.0.0) = In_touch y.0.0 m e (sym y.2) k in
               let at : (u : ℕ) → In u (touched_vertices ends touch y.0.0) → piece joined A v u ≡ true = λ u l.
               joining.on (branches A) v (ends y.0.1).0 u bi.0
-              (st.in_one_piece y.0.0 (ends y.0.1).0 u (st.assigns.of_items y.0 x.0) (left_touched y.0.0 y.0.1 (asg.touched y.0 y.1)) l) in
+              (in_one_piece y.0.0 (ends y.0.1).0 u (In-items A y.0 x.0) (left_touched y.0.0 y.0.1 (asg.touched y.0 y.1)) l) in
               (at (ends e).0 (left_touched y.0.0 e k'), at (ends e).1 (right_touched y.0.0 e k'));
           enough =
               let n : suc (length (branches AP)) ≡ length W = forest_count ends joined rank joining W (IsDistinct-filter (piece joined A v) vs dv) (branches AP) asg.independent
@@ -314,7 +315,21 @@ module _ (ends : ℕ → ℕ × ℕ) (joined : List ℕ → ℕ → ℕ → Bool
               omega (arith, n, l);
         }
 
-    contained : (T : ℕ → Bool) → IsSpanned ends g touch vs M T → (u v : ℕ) → In u vs → In v vs → T u ≡ true → T v ≡ true → joined (branches A) u v ≡ true
+  module _ (U : List ℕ) (A : List Pair) (st : IsSettled ends joined rank touch vs M U A) where
+    -- each piece is spanned from inside
+    pub piece_spanned : (v : ℕ) → In v vs → IsSpanned ends g touch vs M (piece joined A v)
+    piece_spanned =
+        let a = st.assigns in
+        let all : IsAssignment g touch M A = record {
+          of_items = λ p i. st.of_all p.0 (a.of_items p i);
+          touched = a.touched;
+          different = a.different;
+          independent = a.independent;
+        } in
+        piece_inside A all (λ m u v i. let y = In-items_from A m i in st.in_one_piece m u v (In_same m y.0.0 U y.2 (a.of_items y.0 y.1)))
+
+    -- a spanned set lies in one piece
+    pub contained : (T : ℕ → Bool) → IsSpanned ends g touch vs M T → (u v : ℕ) → In u vs → In v vs → T u ≡ true → T v ≡ true → joined (branches A) u v ≡ true
     contained T t = one_piece U A T st.different st.assigns st.longest t
         (λ x j. let w = In-items_from t.pairs x j in st.holds_inside T t x (In_same x w.0.0 M w.2 (t.assigns.of_items w.0 w.1)) (t.lie_inside x j))
 

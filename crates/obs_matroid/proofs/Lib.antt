@@ -26,6 +26,7 @@ pub mod Cheapest
 pub mod Graphs
 pub mod Pieces
 pub mod Islands
+pub mod Raising
 pub mod Components
 pub mod Queue
 pub mod Examples
