@@ -1,6 +1,7 @@
 pub mod Parts
 pub mod Spanning
 pub mod Firsts
+pub mod Between
 pub mod Hubs
 pub mod Noting
 pub mod Crossing

@@ -3,7 +3,7 @@ ghost use Rattle.std.specs.Prelude.{◌≡◌, ◌<◌, ◌↔◌, ℕ, Bool, tr
 ghost use Rattle.obs_graph.specs.declared.Ends.{Ends};
 ghost use Rattle.obs_graph.specs.Positions.{AreBranches, branches_at};
 ghost use Rattle.obs_meter.specs.declared.Touch.{Touch};
-ghost use Rattle.obs_islands.specs.Firsts.{island_first};
+ghost use Rattle.obs_islands.specs.Firsts.{BetweenIslandsRaise, island_first};
 ghost use Rattle.obs_islands.specs.Islands.{IsFirstIn, IsIslandAt, IsOnlyIslandOf};
 
 /// Each vertex lies in exactly one island.
@@ -32,4 +32,9 @@ pub fn lone_vertex()
     ensures alone { (n : ℕ) (ends : List (Option Ends)) (touches : List Touch) (v u : ℕ) (S : ℕ → Bool) →
         AreBranches n ends →
         v < n → branches_at ends v ≡ [] → IsIslandAt n ends touches S → S v ≡ true → u < n → S u ≡ true → u ≡ v }
+{}
+
+/// A meter more raises the rank by one exactly where it touches a branch between two islands.
+pub fn between_islands()
+    ensures raised { BetweenIslandsRaise }
 {}

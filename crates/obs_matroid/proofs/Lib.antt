@@ -27,6 +27,7 @@ pub mod Graphs
 pub mod Pieces
 pub mod Islands
 pub mod Raising
+pub mod Agreeing
 pub mod Components
 pub mod Queue
 pub mod Examples
