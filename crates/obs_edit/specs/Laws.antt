@@ -1,15 +1,17 @@
 -- What holds of the answers to a case: of the trees and the islands.
-use Rattle.std.specs.Prelude.{◌≡◌, ◌↔◌, ℕ, ◌<◌, ◌==◌, Bool, true, List, length, filter, slice_index}
+use Rattle.std.specs.Prelude.{◌≡◌, ◌≢◌, ◌↔◌, ◌∷◌, ℕ, ◌+◌, ◌<◌, ◌≤◌, ◌==◌, Bool, true, List, length, filter, slice_index}
 use Rattle.obs_case.specs.Tables.{IsValid, Tables}
 use Rattle.obs_matroid.specs.Assignments.{Pair, branches}
+use Rattle.obs_matroid.specs.Lists.{In}
 use Rattle.obs_matroid.specs.Values.{first_of}
-use Rattle.obs_meter.specs.Spanned.{graph_matroid, joined_at}
+use Rattle.obs_meter.specs.Assignments.{IsRhoAt}
+use Rattle.obs_meter.specs.Spanned.{ends_at, graph_matroid, joined_at}
 use Rattle.obs_meter.specs.Touches.{touch_at}
 use Rattle.obs_first.specs.First.{IsFirstAt}
 use Rattle.obs_islands.specs.Islands.{IsFirstIn, IsIslandAt, IsOnlyIslandOf}
 use Rattle.obs_network.specs.Switched.{case_bus_count}
-use Rattle.obs_network.specs.Network.{case_branches, case_component_count, case_meters, case_need, case_vertex_component, case_vertex_count}
-use Rattle.obs_network.specs.Observable.{IsObservable, branch_component, is_vertex_of}
+use Rattle.obs_network.specs.Network.{case_branches, case_component_count, case_meters, case_need, case_offered, case_vertex_component, case_vertex_count}
+use Rattle.obs_network.specs.Observable.{IsObservable, IsRankOf, branch_component, case_live_meters, is_vertex_of}
 use Rattle.obs_repair.specs.Bounds.{component_meters}
 use Rattle.obs_edit.specs.Answers.{case_first_pairs, case_islands}
 
@@ -61,6 +63,13 @@ abbrev pub IslandsTellApart : Type 0
 IslandsTellApart = (t : Tables) (u w : ℕ) → IsValid t → u < case_vertex_count t → w < case_vertex_count t →
     (slice_index (case_islands t) u ≡ slice_index (case_islands t) w)
     ↔ ((S : ℕ → Bool) × IsIslandOf t S × (S u ≡ true) × (S w ≡ true))
+
+-- a candidate raises the rank of a case by one exactly where it touches a branch between two islands: one whose ends are named differently
+abbrev pub BranchesBetweenIslandsCount : Type 0
+BranchesBetweenIslandsCount = (t : Tables) (c r : ℕ) → IsValid t → length t.meters ≤ c → IsRankOf t r →
+    IsRhoAt (case_branches t) (case_offered t) (c ∷ case_live_meters t) (r + 1)
+    ↔ ((e : ℕ) × In e (touch_at (case_branches t) (case_offered t) c)
+    × (slice_index (case_islands t) (ends_at (case_branches t) e).0 ≢ slice_index (case_islands t) (ends_at (case_branches t) e).1))
 
 -- the vertices of an island are of one component
 abbrev pub IslandsLieInComponents : Type 0

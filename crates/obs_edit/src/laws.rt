@@ -1,5 +1,5 @@
 // The laws of what a session finds.
-ghost use Rattle.obs_edit.specs.Laws.{IslandsAreNamed, IslandsBeginWithBuses, IslandsLieInComponents, IslandsTellApart, ObservableIsIsland, TreesAreFirst, TreesAreWhole, TreesSpan, TreesStandAlone};
+ghost use Rattle.obs_edit.specs.Laws.{BranchesBetweenIslandsCount, IslandsAreNamed, IslandsBeginWithBuses, IslandsLieInComponents, IslandsTellApart, ObservableIsIsland, TreesAreFirst, TreesAreWhole, TreesSpan, TreesStandAlone};
 ghost use Rattle.obs_edit.specs.Placements.{LayersAddUp, LayersAreBounds, LayersBoundCosts, ObservableCostsNothing, PlansAreCheapest, PlansComplete, PlansHaveFirstPairs, ShortfallsRefute};
 ghost use Rattle.obs_edit.specs.Planned.{PlanPairsAreFirst};
 
@@ -27,6 +27,11 @@ pub fn islands_are_named()
     ensures named { IslandsAreNamed }
     ensures alike { IslandsTellApart }
     ensures bus { IslandsBeginWithBuses }
+{}
+
+/// A candidate raises the rank of a case by one exactly where it touches a branch between two islands.
+pub fn branches_between_islands_count()
+    ensures raised { BranchesBetweenIslandsCount }
 {}
 
 /// An island lies in one component. A component is observable exactly where its vertices are an island: its buses, and

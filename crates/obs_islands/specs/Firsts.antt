@@ -1,6 +1,6 @@
 -- The first vertex of an island, computed. The functions try every part of the vertices: they say what a value is, and no
 -- program runs them.
-use Rattle.std.specs.Prelude.{◌≡◌, ◌≢◌, ◌↔◌, ◌++◌, ℕ, ◌+◌, Bool, ◌==◌, ◌||◌, ◌&&◌, Option, List, [], ◌∷◌, length, map, filter, find, unwrap_or}
+use Rattle.std.specs.Prelude.{◌≡◌, ◌≢◌, ◌↔◌, ◌++◌, ℕ, ◌+◌, ◌≤◌, Bool, ◌==◌, ◌||◌, ◌&&◌, Option, List, [], ◌∷◌, length, map, filter, find, unwrap_or}
 use Rattle.std.specs.List.{list_all}
 use Rattle.obs_graph.specs.declared.Ends.{Ends}
 use Rattle.obs_graph.specs.Positions.{AreBranches}
@@ -8,7 +8,7 @@ use Rattle.obs_matroid.specs.Lists.{In}
 use Rattle.obs_meter.specs.declared.Touch.{Touch}
 use Rattle.obs_meter.specs.Assignments.{IsRhoAt, rho_at}
 use Rattle.obs_meter.specs.Spanned.{ends_at}
-use Rattle.obs_meter.specs.Touches.{live_items, touch_at, touched}
+use Rattle.obs_meter.specs.Touches.{live_items, touch_at}
 use Rattle.obs_forest.specs.Forest.{has_position}
 use Rattle.obs_islands.specs.Islands.{every_vertex}
 
@@ -45,8 +45,9 @@ islands_of n ends touches = map (island_first n ends touches) (every_vertex n)
 abbrev pub LiesBetweenAt : ℕ → List (Option Ends) → List Touch → ℕ → Type 0
 LiesBetweenAt n ends touches e = island_first n ends touches (ends_at ends e).0 ≢ island_first n ends touches (ends_at ends e).1
 
--- an item more that touches t raises the greatest length of the live meters by one exactly where it touches a branch between two islands
+-- an item behind the meters raises their greatest length by one exactly where it touches a branch between two islands
 abbrev pub BetweenIslandsRaise : Type 0
 BetweenIslandsRaise =
-    (n : ℕ) (ends : List (Option Ends)) (touches : List Touch) (t : Touch) (r : ℕ) → AreBranches n ends → IsRhoAt ends touches (live_items ends touches) r →
-    IsRhoAt ends (touches ++ t ∷ []) (length touches ∷ live_items ends touches) (r + 1) ↔ ((e : ℕ) × In e (touched ends t) × LiesBetweenAt n ends touches e)
+    (n : ℕ) (ends : List (Option Ends)) (touches more : List Touch) (x r : ℕ) → AreBranches n ends → length touches ≤ x →
+    IsRhoAt ends touches (live_items ends touches) r →
+    IsRhoAt ends (touches ++ more) (x ∷ live_items ends touches) (r + 1) ↔ ((e : ℕ) × In e (touch_at ends (touches ++ more) x) × LiesBetweenAt n ends touches e)

@@ -34,7 +34,8 @@ pub fn lone_vertex()
         v < n → branches_at ends v ≡ [] → IsIslandAt n ends touches S → S v ≡ true → u < n → S u ≡ true → u ≡ v }
 {}
 
-/// A meter more raises the rank by one exactly where it touches a branch between two islands.
+/// A meter more raises the rank by one exactly where it touches a branch between two islands. Such a one is numbered
+/// behind the meters: a candidate.
 pub fn between_islands()
     ensures raised { BetweenIslandsRaise }
 {}
