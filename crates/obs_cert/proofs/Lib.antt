@@ -1,5 +1,6 @@
 pub mod CountLemmas
 pub mod FaultLemmas
+pub mod FormLemmas
 pub mod LawLemmas
 pub mod OrderLemmas
 pub mod WordLemmas

@@ -1,11 +1,15 @@
 -- The words of a line, by where a tab stands.
 use denote.Ref.{Bor}
-use Rattle.std.proofs.Common.{◌≡◌, ℕ, codes, suc, ◌<◌, true, false, List, [], ◌∷◌, length, take, drop, Option, None, Some, IfSome, refl, sym, ap, ◌∙◌, subst, inl, inr, arith}
+use Rattle.std.proofs.Common.{◌≡◌, ℕ, codes, suc, ◌<◌, ◌≤◌, All, true, false, cond, not, List, [], ◌∷◌, ◌++◌, length, take, drop, slice_index_or, Option, None, Some, IfSome, refl, sym, ap, ◌∙◌, subst, inl, inr, arith}
+use Rattle.std.specs.Prelude.{◌==◌, nat_le}
 use Rattle.std.proofs.Math.Numerals.{one-add}
-use Rattle.std.proofs.lemmas.Bool.{cases_Bool}
-use Rattle.std.specs.List.{onto_first, position_or_len}
+use Rattle.std.proofs.lemmas.Bool.{and_parts, cases_Bool, leb-true, ne_eqb}
+use Rattle.std.proofs.lemmas.List.Splits.{join_with_byte-slice_split, slice_split_at, slice_split_none}
+use Rattle.std.proofs.lemmas.List.Sums.{AllPass-from_list_all}
+use Rattle.std.specs.List.{list_all, onto_first, position_or_len, slice_split}
 use Rattle.std.specs.Str.{bytes_eq}
-use Rattle.obs_text.specs.Names.{is_name}
+use Rattle.obs_text.specs.Names.{is_name, is_name_byte}
+use Rattle.obs_cert.specs.Forms.{with_tabs}
 use Rattle.obs_cert.specs.Words.{is_tab, item_in, line_of_words, of_two, words_of}
 
 -- the place of the first tab
@@ -37,6 +41,41 @@ words_of-last (b ∷ bs) none =
           let here : tab_at bs ≡ length bs = omega (arith, none, tab_at-other b bs e) in
           rw e (ap (onto_first b) (words_of-last bs here))
     ]
+
+-- the words are the parts between the tabs, and make the bytes again
+words_of-split : (bytes : List ℕ) → words_of bytes ≡ slice_split is_tab bytes
+words_of-split [] = refl
+words_of-split (b ∷ bs) = ap (λ words. cond (is_tab b) ([] ∷ words) (onto_first b words)) (words_of-split bs)
+
+pub with_tabs-words_of : (bytes : List ℕ) → with_tabs (words_of bytes) ≡ bytes
+with_tabs-words_of bytes = ap with_tabs (words_of-split bytes) ∙ join_with_byte-slice_split 0x09 bytes
+
+-- a byte of a plain word is no control byte
+pub not_control : (byte control : ℕ) → is_name_byte byte ≡ true → control < 32 → (byte == control) ≡ false
+not_control byte control plain low =
+    let above : 32 ≤ byte = leb-true 32 byte (and_parts (nat_le 32 byte) (not (byte == 0x7F)) plain).0 in
+    ne_eqb byte control (λ same. absurd (omega (arith, same, above, low)))
+
+has_no_tab : (word : List ℕ) → list_all is_name_byte word ≡ true → All (λ byte. is_tab byte ≡ false) word
+has_no_tab word plain = λ k d less.
+    not_control (slice_index_or word k d) 9 (AllPass-from_list_all is_name_byte word plain k d less) (omega arith)
+
+-- a plain word and a tab behind it, and the last word
+words_of-before : (word rest : List ℕ) → list_all is_name_byte word ≡ true → words_of (word ++ 0x09 ∷ rest) ≡ word ∷ words_of rest
+words_of-before word rest plain =
+    words_of-split (word ++ 0x09 ∷ rest) ∙ slice_split_at is_tab word 0x09 rest (has_no_tab word plain) refl
+    ∙ ap (λ words. word ∷ words) (sym (words_of-split rest))
+
+words_of-alone : (word : List ℕ) → list_all is_name_byte word ≡ true → words_of word ≡ word ∷ []
+words_of-alone word plain = words_of-split word ∙ slice_split_none is_tab word (has_no_tab word plain)
+
+-- plain words with a tab between each two are read back
+pub words_of-with_tabs : (word : List ℕ) (words : List (List ℕ)) → list_all (list_all is_name_byte) (word ∷ words) ≡ true
+    → words_of (with_tabs (word ∷ words)) ≡ word ∷ words
+words_of-with_tabs word [] plain = words_of-alone word (and_parts (list_all is_name_byte word) true plain).0
+words_of-with_tabs word (next ∷ words) plain =
+    let both = and_parts (list_all is_name_byte word) (list_all (list_all is_name_byte) (next ∷ words)) plain in
+    words_of-before word (with_tabs (next ∷ words)) both.0 ∙ ap (λ others. word ∷ others) (words_of-with_tabs next words both.1)
 
 -- there is always a word
 some_word : (bytes : List ℕ) → (word : List ℕ) × (words : List (List ℕ)) × (words_of bytes ≡ word ∷ words)

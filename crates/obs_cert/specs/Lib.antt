@@ -4,6 +4,7 @@ pub mod Completing
 pub mod Faults
 pub mod FlawNames
 pub mod Flaws
+pub mod Forms
 pub mod Given
 pub mod InScope
 pub mod Joins

@@ -1,7 +1,14 @@
 //! What bytes are, what is read from them, and what claims that hold say of the case.
 ghost use Rattle.obs_cert.specs.Completing.{ChosenAreCheapest, ShortfallsRefute};
-ghost use Rattle.obs_cert.specs.Laws.{CertificateIsRead, FaultWhereNoCertificate, FirstFaultIsMet};
+ghost use Rattle.obs_cert.specs.Laws.{CertificateIsRead, FaultWhereNoCertificate, FirstFaultIsMet, FormsArePlain, LinesHaveForms};
 ghost use Rattle.obs_cert.specs.Truths.{BoundsAreNotObservable, NoFlawWhereAllHold, TreesAreObservable};
+
+/// Bytes are a line exactly where they are words of its form with one tab between each two. No word
+/// has a control byte, so no tab either.
+pub fn lines_have_forms()
+    ensures exactly { LinesHaveForms }
+    ensures plain { FormsArePlain }
+{}
 
 /// The claims that are read are those whose lines, one claim after the other and then the line
 /// `end`, the bytes are; and a fault is met exactly where there are no such claims.

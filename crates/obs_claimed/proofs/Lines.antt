@@ -1,17 +1,20 @@
 -- A printed line is read back as its words, and printed texts are read back one behind the other.
-use Rattle.std.proofs.Common.{◌≡◌, ◌∙◌, ℕ, zero, suc, ◌-◌, ◌<◌, ◌≤◌, Bool, true, false, not, List, [], ◌∷◌, ◌++◌, length, map, take, get_or, Option, Some, refl, sym, ap, inl, inr, append_assoc, append-nil, arith}
-use Rattle.std.specs.Prelude.{◌==◌, nat_le}
-use Rattle.std.specs.List.{before_first, flat_map, list_all, onto_first, position_or_len}
+use Rattle.std.proofs.Common.{◌≡◌, ◌∙◌, ℕ, zero, suc, ◌-◌, Bool, true, false, not, List, [], ◌∷◌, ◌++◌, length, map, take, get_or, Option, Some, refl, sym, ap, inl, inr, append_assoc, append-nil, arith}
+use Rattle.std.specs.Prelude.{◌==◌}
+use Rattle.std.specs.List.{before_first, flat_map, list_all, position_or_len}
 use Rattle.std.specs.Str.Lines.{strip_carriage_return}
 use Rattle.std.proofs.Math.Numerals.{one-add}
-use Rattle.std.proofs.lemmas.Bool.{and_from, and_parts, leb-true, ne_eqb, not-true}
+use Rattle.std.proofs.lemmas.Bool.{and_from, and_parts, not-true}
 use Rattle.std.proofs.lemmas.List.{map-append}
 use Rattle.obs_text.specs.Laws.{HasNoFeed}
 use Rattle.obs_text.specs.Lines.{content, is_feed, lines_of}
 use Rattle.obs_text.specs.Names.{is_name_byte}
 use Rattle.obs_text.proofs.LineLaws.{ended_first, parts}
 use Rattle.obs_matroid.specs.Lists.{In}
-use Rattle.obs_cert.specs.Words.{Line, line_of, line_of_words, words_of}
+use Rattle.obs_cert.specs.Forms.{IsFormOf, with_tabs}
+use Rattle.obs_cert.specs.Words.{Line, line_of}
+use Rattle.obs_cert.proofs.FormLemmas.{FormsArePlain-holds, LinesHaveForms-holds}
+use Rattle.obs_cert.proofs.WordLemmas.{not_control}
 use Rattle.obs_report.specs.Lines.{line_of as printed, line_feed, tab, tabbed}
 use Rattle.obs_claimed.specs.Laws.{AreLines}
 
@@ -21,33 +24,16 @@ IsPlain word = list_all is_name_byte word ≡ true
 
 -- and so of each word
 abbrev pub ArePlain : List (List ℕ) → Type 0
-ArePlain [] = Unit {0}
-ArePlain (word ∷ words) = IsPlain word × ArePlain words
+ArePlain words = list_all (list_all is_name_byte) words ≡ true
 
--- a byte of a word is no control byte
-not_control : (byte control : ℕ) → is_name_byte byte ≡ true → control < 32 → (byte == control) ≡ false
-not_control byte control plain low =
-    let above : 32 ≤ byte = leb-true 32 byte (and_parts (nat_le 32 byte) (not (byte == 0x7F)) plain).0 in
-    ne_eqb byte control (λ same. absurd (omega (arith, same, above, low)))
+-- the first of plain words, and the others
+plain_parts : (word : List ℕ) (words : List (List ℕ)) → ArePlain (word ∷ words) → IsPlain word × ArePlain words
+plain_parts word words plain = and_parts (list_all is_name_byte word) (list_all (list_all is_name_byte) words) plain
 
--- a word and a tab behind it
-words_before : (word rest : List ℕ) → IsPlain word → words_of (word ++ tab ∷ rest) ≡ word ∷ words_of rest
-words_before [] rest plain = refl
-words_before (byte ∷ word) rest plain =
-    let both = and_parts (is_name_byte byte) (list_all is_name_byte word) plain in
-    rw (not_control byte 9 both.0 (omega arith)) (ap (onto_first byte) (words_before word rest both.1))
-
--- the last word
-words_last : (word : List ℕ) → IsPlain word → words_of word ≡ word ∷ []
-words_last [] plain = refl
-words_last (byte ∷ word) plain =
-    let both = and_parts (is_name_byte byte) (list_all is_name_byte word) plain in
-    rw (not_control byte 9 both.0 (omega arith)) (ap (onto_first byte) (words_last word both.1))
-
--- words with tabs between them are read back
-pub words_back : (word : List ℕ) (words : List (List ℕ)) → IsPlain word → ArePlain words → words_of (word ++ tabbed words) ≡ word ∷ words
-words_back word [] plain others = ap words_of (append-nil word) ∙ words_last word plain
-words_back word (next ∷ words) plain others = words_before word (next ++ tabbed words) plain ∙ ap (λ (ws : List (List ℕ)). word ∷ ws) (words_back next words others.0 others.1)
+-- printed words have one tab between each two
+tabs_between : (word : List ℕ) (words : List (List ℕ)) → word ++ tabbed words ≡ with_tabs (word ∷ words)
+tabs_between word [] = append-nil word
+tabs_between word (next ∷ words) = ap (λ (rest : List ℕ). word ++ tab ∷ rest) (tabs_between next words)
 
 -- what all bytes of words and tabs pass
 module _ (passes : ℕ → Bool) (in_words : (byte : ℕ) → is_name_byte byte ≡ true → passes byte ≡ true) (between : passes tab ≡ true) where
@@ -60,10 +46,12 @@ module _ (passes : ℕ → Bool) (in_words : (byte : ℕ) → is_name_byte byte 
   tabbed_passes : (words : List (List ℕ)) → ArePlain words → list_all passes (tabbed words) ≡ true
   tabbed_passes [] plain = refl
   tabbed_passes (word ∷ words) plain =
-      and_from (passes tab) (list_all passes (word ++ tabbed words)) between (word_passes word (tabbed words) plain.0 (tabbed_passes words plain.1))
+      let both = plain_parts word words plain in
+      and_from (passes tab) (list_all passes (word ++ tabbed words)) between (word_passes word (tabbed words) both.0 (tabbed_passes words both.1))
 
-  words_pass : (word : List ℕ) (words : List (List ℕ)) → IsPlain word → ArePlain words → list_all passes (word ++ tabbed words) ≡ true
-  words_pass word words plain others = word_passes word (tabbed words) plain (tabbed_passes words others)
+  words_pass : (word : List ℕ) (words : List (List ℕ)) → ArePlain (word ∷ words) → list_all passes (word ++ tabbed words) ≡ true
+  words_pass word words plain =
+      let both = plain_parts word words plain in word_passes word (tabbed words) both.0 (tabbed_passes words both.1)
 
 -- a byte passes what all do, and what 0 does
 at_passes : (passes : ℕ → Bool) (bytes : List ℕ) (k : ℕ) → list_all passes bytes ≡ true → passes 0 ≡ true → passes (get_or bytes k 0) ≡ true
@@ -91,23 +79,25 @@ before_feed (byte ∷ front) none =
     rw other (ap (λ n. take n (byte ∷ (front ++ line_feed ∷ []))) (one-add (position_or_len is_feed (front ++ line_feed ∷ []))) ∙ ap (λ (bytes : List ℕ). byte ∷ bytes) (before_feed front first.1))
 
 -- the first line of bytes is their words
-pub first_words : (word : List ℕ) (words : List (List ℕ)) (rest : List ℕ) → IsPlain word → ArePlain words
+pub first_words : (word : List ℕ) (words : List (List ℕ)) (rest : List ℕ) → ArePlain (word ∷ words)
     → lines_of (printed (word ∷ words) ++ rest) ≡ (word ++ tabbed words) ∷ lines_of rest
 unfolding is_no_return
-first_words word words rest plain others =
+first_words word words rest plain =
     let front = word ++ tabbed words in
     let no_feed : HasNoFeed front =
-    words_pass (λ byte. not (is_feed byte)) (λ byte p. ap not (not_control byte 10 p (omega arith))) refl word words plain others in
-    let no_return = words_pass is_no_return (λ byte p. ap not (not_control byte 13 p (omega arith))) refl word words plain others in
+    words_pass (λ byte. not (is_feed byte)) (λ byte p. ap not (not_control byte 10 p (omega arith))) refl word words plain in
+    let no_return = words_pass is_no_return (λ byte p. ap not (not_control byte 13 p (omega arith))) refl word words plain in
     let whole : printed (word ∷ words) ++ rest ≡ front ++ line_feed ∷ rest =
     ap (λ (bytes : List ℕ). bytes ++ rest) (sym (append_assoc word (tabbed words) (line_feed ∷ []))) ∙ append_assoc front (line_feed ∷ []) rest in
     ap lines_of whole ∙ (ap (map content) (ended_first front rest no_feed) ∙ ap (λ (line : List ℕ). line ∷ lines_of rest) (ap strip_carriage_return (before_feed front no_feed) ∙ strip_none front no_return))
 
--- a printed line is a line of a certificate, if its words are
-pub line_back : (word : List ℕ) (words : List (List ℕ)) (line : Line) → IsPlain word → ArePlain words → line_of_words (word ∷ words) ≡ Some line → AreLines (printed (word ∷ words)) (line ∷ [])
-line_back word words line plain others is = λ rest.
-    ap (map line_of) (first_words word words rest plain others)
-    ∙ ap (λ (o : Option Line). o ∷ map line_of (lines_of rest)) (ap line_of_words (words_back word words plain others) ∙ is)
+-- a printed line is a line of a certificate, if its words have the form of one
+pub line_back : (word : List ℕ) (words : List (List ℕ)) (line : Line) → IsFormOf line (word ∷ words)
+    → AreLines (printed (word ∷ words)) (line ∷ [])
+line_back word words line form = λ rest.
+    ap (map line_of) (first_words word words rest (FormsArePlain-holds line (word ∷ words) form))
+    ∙ ap (λ (o : Option Line). o ∷ map line_of (lines_of rest))
+    ((LinesHaveForms-holds (word ++ tabbed words) line).1 (word ∷ words, form, tabs_between word words))
 
 -- nothing is no lines
 pub no_lines : AreLines [] []
