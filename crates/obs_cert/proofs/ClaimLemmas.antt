@@ -21,7 +21,8 @@ use Rattle.obs_cert.specs.Claims.{Item}
 use Rattle.obs_cert.specs.Flaws.{outside_of_plan, twice_in_plan, unknown_in_plan}
 use Rattle.obs_cert.specs.Numbered.{item_of}
 use Rattle.obs_cert.proofs.OutsideLemmas.{outside_is}
-use Rattle.obs_cert.specs.Scopes.{OfItems, scope_of, has, is_below, is_live_item, is_meter_in, is_of_plan, named_component, named_need, names_component, price_at}
+use Rattle.obs_meter.specs.Lost.{is_listed}
+use Rattle.obs_cert.specs.Scopes.{OfItems, scope_of, is_below, is_live_item, is_meter_in, is_of_plan, named_component, named_need, names_component, price_at}
 use Rattle.obs_network.specs.Network.{Rows, case_needed, rows_of}
 
 pub more_below : (stamp : ℕ) (marks : List ℕ) → AreBelow stamp marks → AreBelow (suc stamp) marks
@@ -288,5 +289,5 @@ three_same a x b y c z e f g = ap (λ (k : Bool). k || (b || c)) e ∙ ap (λ (k
 
 pub plan_layers : (t : Tables) (c : CostClaim) → outside_of_plan t c ≡ false → list_any (λ (l : Listed). not_inside (is_below t l.layer.to) l.list) (listed_layers t c.layers) ≡ false
 plan_layers t c e =
-    (or_parts (not_inside (is_of_plan t (has (items_of t (chosen_items c.chosen)))) (items_of t (paired_items c.pairs)))
+    (or_parts (not_inside (is_of_plan t (is_listed (items_of t (chosen_items c.chosen)))) (items_of t (paired_items c.pairs)))
     (list_any (λ (l : Listed). not_inside (is_below t l.layer.to) l.list) (listed_layers t c.layers)) e).1

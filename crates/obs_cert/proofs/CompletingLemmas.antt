@@ -18,7 +18,7 @@ use Rattle.obs_meter.specs.Spanned.{graph_matroid}
 use Rattle.obs_meter.specs.Touches.{every_item, is_live, live_items, touch_at}
 use Rattle.obs_meter.proofs.Assigned.{live_items-distinct, rho-to_matroid}
 use Rattle.obs_meter.proofs.Live.{In-live, live-from_live_items}
-use Rattle.obs_network.specs.Network.{case_branches, case_needed, case_offered, case_vertex_count}
+use Rattle.obs_network.specs.Network.{case_branches, case_needed, case_offered, case_vertex_count, is_meter}
 use Rattle.obs_network.proofs.Observed.{most_pairs}
 use Rattle.obs_network.proofs.OfCase.{case_branches-are}
 use Rattle.obs_rankcut.specs.Costs.{live_candidates, live_meters, price_of}
@@ -28,10 +28,11 @@ use Rattle.obs_cert.specs.Claims.{Item, Layer, candidate}
 use Rattle.obs_cert.specs.Completing.{ChosenAreCheapest, CompletesCase, ShortfallsRefute, chosen_by, price_together}
 use Rattle.obs_cert.specs.Flaws.{Listed, all_inside, cycle, first_true, layers_clauses, list_clauses, listed_from, listed_layers, not_below, not_inside, not_touched, outside_of, outside_of_plan, paired_twice, rank_of_items, runs_on, shows, twice, twice_in_plan, unknown_in_plan, unknown_item, unknown_pair, wrong_cost, wrong_length, wrong_outside, wrong_rank}
 use Rattle.obs_cert.specs.Numbered.{chosen_items, is_known, item_of, items_of, paired_items, pairs_of}
-use Rattle.obs_cert.specs.Scopes.{has, is_below, is_live_item, is_meter, is_of_plan, price_at, scope_of, touches_of}
+use Rattle.obs_meter.specs.Lost.{is_listed}
+use Rattle.obs_cert.specs.Scopes.{is_below, is_live_item, is_of_plan, price_at, scope_of, touches_of}
 use Rattle.obs_cert.proofs.CountingLemmas.{distinct, each_passes}
 use Rattle.obs_cert.proofs.OutsideLemmas.{scope_distinct}
-use Rattle.obs_cert.proofs.ScopeLemmas.{has_at, has_from}
+use Rattle.obs_meter.proofs.Touched.{In-from_any, any-from_In}
 use Rattle.obs_cert.proofs.TruthLemmas.{bound_below, each_false, laws, none_true, pairs_assign, rank_within}
 
 -- a layer as the laws of layers speak of it
@@ -137,9 +138,9 @@ module _ (t : Tables) where
       In-filter (is_below t to) m (every_item (case_offered t)) (In-filter_from (is_live_item t) m (every_item (case_offered t)) (In-live (case_branches t) (case_offered t) m two.0)).0 e
 
   -- as many are outside a list
-  outside_same : (to : ℕ) (list : List ℕ) → length (filter (λ m. not (has list m)) (parts to)) ≡ outside_of t (is_below t to) list
+  outside_same : (to : ℕ) (list : List ℕ) → length (filter (λ m. not (is_listed list m)) (parts to)) ≡ outside_of t (is_below t to) list
   outside_same to list =
-      let other : ℕ → Bool = λ m. not (has list m) in
+      let other : ℕ → Bool = λ m. not (is_listed list m) in
       let S = scope_of t (is_below t to) in
       let up = length-within (filter other (parts to)) (filter other S) (IsDistinct-filter other (parts to) (parts_distinct to))
       (λ m i. let u = In-filter_from other m (parts to) i in In-filter other m S (scope_at to m u.0) u.1) in
@@ -152,20 +153,20 @@ module _ (t : Tables) (v : IsValid t) where
   g = graph_matroid (case_vertex_count t) (case_branches t)
 
   -- and the listed ones touch as much, where none is listed from elsewhere
-  rank_same : (to : ℕ) (list : List ℕ) → not_inside (is_below t to) list ≡ false → g.rank (flat_map (touches_of t) (filter (has list) (parts t to))) ≡ rank_of_items t list
+  rank_same : (to : ℕ) (list : List ℕ) → not_inside (is_below t to) list ≡ false → g.rank (flat_map (touches_of t) (filter (is_listed list) (parts t to))) ≡ rank_of_items t list
   rank_same to list inside =
       let up = rank_within t v (parts t to) list in
-      let down = rank-within g (laws t v) (flat_map (touches_of t) list) (flat_map (touches_of t) (filter (has list) (parts t to)))
+      let down = rank-within g (laws t v) (flat_map (touches_of t) list) (flat_map (touches_of t) (filter (is_listed list) (parts t to)))
       (λ e i.
       let w = In-flat_map_from (touches_of t) e list i in
-      let there = In-filter (has list) w.0 (parts t to) (in_parts t to w.0 (each_passes (is_below t to) list inside w.0 w.1)) (has_at list w.0 w.1) in
-      (laws t v).member (flat_map (touches_of t) (filter (has list) (parts t to))) e (In-flat_map (touches_of t) w.0 e (filter (has list) (parts t to)) there w.2)) in
+      let there = In-filter (is_listed list) w.0 (parts t to) (in_parts t to w.0 (each_passes (is_below t to) list inside w.0 w.1)) (any-from_In list w.0 w.1) in
+      (laws t v).member (flat_map (touches_of t) (filter (is_listed list) (parts t to))) e (In-flat_map (touches_of t) w.0 e (filter (is_listed list) (parts t to)) there w.2)) in
       omega (arith, up, down)
 
   shown : (layer : Layer) (list : List ℕ) → not_inside (is_below t layer.to) list ≡ false → wrong_rank t list layer.rank ≡ false → wrong_outside t (is_below t layer.to) list layer.outside ≡ false
       → IsShown (graph_matroid (case_vertex_count t) (case_branches t)) (touch_at (case_branches t) (case_offered t)) (price t) (metered t) (candidates t) (bare layer)
   shown layer list inside ranked counted = record {
-    marks = has list;
+    marks = is_listed list;
     rank_is = rank_same layer.to list inside ∙ eqb-true (rank_of_items t list) layer.rank (not-false (rank_of_items t list == layer.rank) ranked);
     outside_is = outside_same t layer.to list ∙ eqb-true (outside_of t (is_below t layer.to) list) layer.outside (not-false (outside_of t (is_below t layer.to) list == layer.outside) counted);
   }
@@ -199,19 +200,19 @@ chosen_are_cheapest t c v h =
     let runs = none_true (not (runs_on 0 c.layers)) WrongLayers _ below.1 in
     let costs = none_true (wrong_cost t X c.layers c.number) WrongCost None runs.1 in
     let names = or_parts (unknown_item t (chosen_items c.chosen)) (unknown_pair t c.pairs || unknown_item t (all_inside c.layers)) known.0 in
-    let lists = or_parts (not_inside (is_of_plan t (has X)) paired) (list_any (λ (l : Listed). not_inside (is_below t l.layer.to) l.list) listed) inside.0 in
+    let lists = or_parts (not_inside (is_of_plan t (is_listed X)) paired) (list_any (λ (l : Listed). not_inside (is_below t l.layer.to) l.list) listed) inside.0 in
     let two = or_parts (twice X) (paired_twice t c.pairs || twice (items_of t (all_inside c.layers))) once.0 in
     let pairs = or_parts (paired_twice t c.pairs) (twice (items_of t (all_inside c.layers))) two.1 in
     let sums = or_parts (not (sum_by (price_at t) X == c.number)) (not (sum_by (shows (case_needed t)) c.layers == c.number)) costs.0 in
     let of_candidates = chosen_each t v c.chosen names.0 in
     let alive = filter (is_live (case_branches t) (case_offered t)) X in
     let M = live_meters (case_branches t) (case_offered t) (length t.meters) ++ alive in
-    let of_plan = each_passes (is_of_plan t (has X)) paired lists.0 in
+    let of_plan = each_passes (is_of_plan t (is_listed X)) paired lists.0 in
     let within : (m : ℕ) → In m paired → In m M = λ m i.
-    let both = and_parts (is_live_item t m) (is_meter t m || has X m) (of_plan m i) in
-    elim (or_cases (is_meter t m) (has X m) both.1) [
+    let both = and_parts (is_live_item t m) (is_meter t m || is_listed X m) (of_plan m i) in
+    elim (or_cases (is_meter t m) (is_listed X m) both.1) [
       | inl meter ↦ In-append_left m (metered t) alive (is_metered t m both.0 meter)
-      | inr chosen ↦ In-append_right m (metered t) alive (In-filter (is_live (case_branches t) (case_offered t)) m X (has_from X m chosen) both.0)
+      | inr chosen ↦ In-append_right m (metered t) alive (In-filter (is_live (case_branches t) (case_offered t)) m X (In-from_any X m chosen) both.0)
     ] in
     let a = pairs_assign t v M c.pairs touched.0 pairs.0 forest.0 within in
     let completes : CompletesCase t X = record {

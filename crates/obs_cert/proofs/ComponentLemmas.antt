@@ -15,12 +15,11 @@ use Rattle.obs_meter.proofs.Assigned.{live_items-distinct}
 use Rattle.obs_case.specs.Tables.{IsValid, Tables, most_rows}
 use Rattle.obs_network.specs.Components.{vertex_component}
 use Rattle.obs_network.specs.Located.{component_of_item, is_meter_in as is_in, live_meters_of, touch_component}
-use Rattle.obs_network.specs.Network.{case_branches, case_components, case_meters, case_offered, network_of}
+use Rattle.obs_network.specs.Network.{case_branches, case_components, case_meters, case_offered, case_position_room, is_meter, network_of}
 use Rattle.obs_network.proofs.Marked.{filtered_below}
 use Rattle.obs_network.proofs.OfCase.{length-case_meters, length-case_offered}
-use Rattle.obs_cert.specs.Scopes.{is_meter, is_meter_in, is_this, scope_of}
+use Rattle.obs_cert.specs.Scopes.{is_meter_in, is_this, scope_of}
 use Rattle.obs_cert.proofs.OutsideLemmas.{scope_distinct}
-use Rattle.obs_cert.specs.Numbered.{all_positions}
 
 module _ (t : Tables) (c m : ℕ) where
   abbrev touch : Touch
@@ -82,7 +81,7 @@ rows_few t v =
     let b = v.candidates.few in
     omega (arith, a, b, length-map t.meters (λ row. row.name), length-map t.candidates (λ row. row.name))
 
-pub positions_few : (t : Tables) → IsValid t → all_positions t ≤ 3 * most_rows
+pub positions_few : (t : Tables) → IsValid t → case_position_room t ≤ 3 * most_rows
 positions_few t v =
     let a = v.branches.few in
     omega (arith, a, rows_few t v, length-map t.branches (λ row. row.name))

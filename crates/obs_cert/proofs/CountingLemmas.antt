@@ -8,8 +8,8 @@ use Rattle.obs_network.proofs.Marked.{length-passing}
 use Rattle.obs_matroid.specs.Lists.{In, IsDistinct}
 use Rattle.obs_matroid.proofs.Lists.{In-filter, In-filter_from, IsDistinct-filter, clash, length-split, length-within}
 use Rattle.obs_cert.specs.Flaws.{twice}
-use Rattle.obs_cert.specs.Scopes.{has}
-use Rattle.obs_cert.proofs.ScopeLemmas.{has_at, has_from}
+use Rattle.obs_meter.specs.Lost.{is_listed}
+use Rattle.obs_meter.proofs.Touched.{In-from_any, any-from_In}
 
 -- so many of the numbers below m pass
 pub record IsCounting (p : ℕ → Bool) (m count : ℕ) : Type 0 where
@@ -41,7 +41,7 @@ counted p m n count same i = i.is ∙ ap (count_below p) same ∙ sym (length-pa
 -- a list without doubles whose items are in the scope
 pub distinct : (xs : List ℕ) → twice xs ≡ false → IsDistinct xs
 distinct [] e = tt
-distinct (x ∷ xs) e = let two = or_parts (has xs x) (twice xs) e in ((λ i. clash (has_at xs x i) two.0), distinct xs two.1)
+distinct (x ∷ xs) e = let two = or_parts (is_listed xs x) (twice xs) e in ((λ i. clash (any-from_In xs x i) two.0), distinct xs two.1)
 
 -- where no element fails a test, each passes it
 pub each_passes : {X : Type 0} (test : X → Bool) (xs : List X) → list_any (λ (x : X). not (test x)) xs ≡ false → (x : X) → In x xs → test x ≡ true
@@ -50,9 +50,9 @@ each_passes test (y ∷ ys) e x (inl is) = ap test is ∙ not-false (test y) (or
 each_passes test (y ∷ ys) e x (inr i) = each_passes test ys (or_parts (not (test y)) (list_any (λ z. not (test z)) ys) e).1 x i
 
 -- the others of a scope are as many as it has more than the list
-pub others : (scope all xs : List ℕ) → IsDistinct scope → IsDistinct xs → ((x : ℕ) → In x xs → In x scope) → length (filter (λ m. not (has xs m)) scope) ≡ length scope - length xs
+pub others : (scope all xs : List ℕ) → IsDistinct scope → IsDistinct xs → ((x : ℕ) → In x xs → In x scope) → length (filter (λ m. not (is_listed xs m)) scope) ≡ length scope - length xs
 others scope all xs ds dx inside =
-    let split = length-split (has xs) scope in
-    let up = length-within xs (filter (has xs) scope) dx (λ x i. In-filter (has xs) x scope (inside x i) (has_at xs x i)) in
-    let down = length-within (filter (has xs) scope) xs (IsDistinct-filter (has xs) scope ds) (λ x i. has_from xs x (In-filter_from (has xs) x scope i).1) in
+    let split = length-split (is_listed xs) scope in
+    let up = length-within xs (filter (is_listed xs) scope) dx (λ x i. In-filter (is_listed xs) x scope (inside x i) (any-from_In xs x i)) in
+    let down = length-within (filter (is_listed xs) scope) xs (IsDistinct-filter (is_listed xs) scope ds) (λ x i. In-from_any xs x (In-filter_from (is_listed xs) x scope i).1) in
     omega (arith, split, up, down)

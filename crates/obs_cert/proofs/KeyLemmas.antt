@@ -10,10 +10,10 @@ use Rattle.std.proofs.lemmas.List.Sums.{length-filter}
 use Rattle.obs_case.specs.Tables.{Tables}
 use Rattle.obs_matroid.proofs.Lists.{filter_same}
 use Rattle.obs_meter.specs.Touches.{every_item}
-use Rattle.obs_network.specs.Network.{case_offered}
+use Rattle.obs_network.specs.Network.{case_offered, is_meter}
 use Rattle.obs_network.proofs.OfCase.{length-case_offered}
 use Rattle.obs_cert.specs.Keys.{key_of, keys_of}
-use Rattle.obs_cert.specs.Scopes.{is_below, is_live_item, is_meter, price_at, scope_of}
+use Rattle.obs_cert.specs.Scopes.{is_below, is_live_item, price_at, scope_of}
 
 -- an item is below a price exactly where its key is up to it
 high_key : (to : ℕ) → to < 2 ^ 64 → leb (2 ^ 128 - 1) to ≡ false

@@ -5,7 +5,7 @@ use Rattle.std.proofs.lemmas.Bool.{cases_eq, eq-eqb, ne_eqb}
 use Rattle.obs_rankcut.proofs.Marked.{number_flips}
 use Rattle.obs_cert.specs.Flaws.{twice}
 use Rattle.obs_cert.specs.Marks.{AreBelow, is_marked}
-use Rattle.obs_cert.specs.Scopes.{has}
+use Rattle.obs_meter.specs.Lost.{is_listed}
 
 fresh_case : (f m a h t : Bool) → m ≡ false → (f || ((m || a) || (h || t))) ≡ (f || ((h || a) || t))
 fresh_case true false true true true e = refl
@@ -59,7 +59,7 @@ none_any p (x ∷ xs) none = ap (λ (b : Bool). b || list_any p xs) (none x) ∙
 -- what came so far is marked
 pub record Seeing (all left : List ℕ) (flag : Bool) (stamp : ℕ) (marks : List ℕ) : Type 0 where
   pub again : twice all ≡ (flag || (list_any (is_marked marks stamp) left || twice left))
-  pub marked : (x : ℕ) → has all x ≡ (is_marked marks stamp x || has left x)
+  pub marked : (x : ℕ) → is_listed all x ≡ (is_marked marks stamp x || is_listed left x)
   pub below : AreBelow (suc stamp) marks
 
 fresh : (stamp : ℕ) (marks : List ℕ) → AreBelow stamp marks → (x : ℕ) → is_marked marks stamp x ≡ false
@@ -68,7 +68,7 @@ fresh stamp marks below x = ne_eqb (get_or marks x 0) stamp (λ e. let l = below
 pub seeing_none : (all : List ℕ) (stamp : ℕ) (marks : List ℕ) → AreBelow stamp marks → Seeing all all false stamp marks
 seeing_none all stamp marks below = record {
   again = ap (λ (b : Bool). false || (b || twice all)) (sym (none_any (is_marked marks stamp) all (fresh stamp marks below)));
-  marked = λ x. ap (λ (b : Bool). b || has all x) (sym (fresh stamp marks below x));
+  marked = λ x. ap (λ (b : Bool). b || is_listed all x) (sym (fresh stamp marks below x));
   below = λ x. let l = below x in omega (arith, l);
 }
 
@@ -79,12 +79,12 @@ module _ (all : List ℕ) (x : ℕ) (left : List ℕ) (flag : Bool) (stamp : ℕ
     | inr ne ↦ ap (λ (k : ℕ). eqb k stamp) (get_or-set_other marks x y stamp 0 ne) ∙ ap (λ (b : Bool). b || is_marked marks stamp y) (sym (ne_eqb y x ne))
   ]
 
-  any_now : list_any (is_marked (set marks x stamp) stamp) left ≡ (has left x || list_any (is_marked marks stamp) left)
+  any_now : list_any (is_marked (set marks x stamp) stamp) left ≡ (is_listed left x || list_any (is_marked marks stamp) left)
   any_now = any_agree (is_marked (set marks x stamp) stamp) (λ y. eqb y x || is_marked marks stamp y) left now ∙ split_any (λ y. eqb y x) (is_marked marks stamp) left
 
-  has_now : (y : ℕ) → has all y ≡ (is_marked (set marks x stamp) stamp y || has left y)
-  has_now y = so_far.marked y ∙ three (is_marked marks stamp y) (eqb x y) (has left y) ∙ ap (λ (b : Bool). (b || is_marked marks stamp y) || has left y) (number_flips x y)
-      ∙ ap (λ (b : Bool). b || has left y) (sym (now y))
+  has_now : (y : ℕ) → is_listed all y ≡ (is_marked (set marks x stamp) stamp y || is_listed left y)
+  has_now y = so_far.marked y ∙ three (is_marked marks stamp y) (eqb x y) (is_listed left y) ∙ ap (λ (b : Bool). (b || is_marked marks stamp y) || is_listed left y) (number_flips x y)
+      ∙ ap (λ (b : Bool). b || is_listed left y) (sym (now y))
     where
       three : (a b c : Bool) → (a || (b || c)) ≡ ((b || a) || c)
       three true true true = refl
@@ -104,14 +104,14 @@ module _ (all : List ℕ) (x : ℕ) (left : List ℕ) (flag : Bool) (stamp : ℕ
 
   pub seeing_new : is_marked marks stamp x ≡ false → Seeing all left flag stamp (set marks x stamp)
   seeing_new m = record {
-    again = so_far.again ∙ fresh_case flag (is_marked marks stamp x) (list_any (is_marked marks stamp) left) (has left x) (twice left) m ∙ ap (λ (b : Bool). flag || (b || twice left)) (sym any_now);
+    again = so_far.again ∙ fresh_case flag (is_marked marks stamp x) (list_any (is_marked marks stamp) left) (is_listed left x) (twice left) m ∙ ap (λ (b : Bool). flag || (b || twice left)) (sym any_now);
     marked = has_now;
     below = below_now;
   }
 
   pub seeing_again : is_marked marks stamp x ≡ true → Seeing all left true stamp (set marks x stamp)
   seeing_again m = record {
-    again = so_far.again ∙ marked_case flag (is_marked marks stamp x) (list_any (is_marked marks stamp) left) (has left x || twice left) m;
+    again = so_far.again ∙ marked_case flag (is_marked marks stamp x) (list_any (is_marked marks stamp) left) (is_listed left x || twice left) m;
     marked = has_now;
     below = below_now;
   }
@@ -130,7 +130,7 @@ module _ (all : List ℕ) (flag : Bool) (stamp : ℕ) (marks : List ℕ) (so_far
       alone true = refl
       alone false = refl
 
-  pub seen_marked : (x : ℕ) → is_marked marks stamp x ≡ has all x
+  pub seen_marked : (x : ℕ) → is_marked marks stamp x ≡ is_listed all x
   seen_marked x = sym (so_far.marked x ∙ alone (is_marked marks stamp x))
     where
       alone : (m : Bool) → (m || false) ≡ m

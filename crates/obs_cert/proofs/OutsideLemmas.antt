@@ -6,7 +6,7 @@ use Rattle.std.proofs.lemmas.List.{get_or_past, length-map, map-append}
 use Rattle.obs_matroid.specs.Lists.{In, IsDistinct}
 use Rattle.obs_matroid.proofs.Lists.{In-filter, In-append_left, IsDistinct-filter, clash, length-within}
 use Rattle.obs_matroid.proofs.Ranges.{range_distinct, range_in}
-use Rattle.obs_network.specs.Network.{case_branches, case_offered, network_of}
+use Rattle.obs_network.specs.Network.{case_branches, case_offered, is_meter, network_of}
 use Rattle.obs_network.specs.Located.{component_of_item}
 use Rattle.obs_meter.specs.declared.Touch.TheVariants.{Nothing}
 use Rattle.obs_meter.specs.Touches.{touched}
@@ -15,8 +15,9 @@ use Rattle.obs_case.specs.Tables.{Tables}
 use Rattle.obs_cert.specs.Claims.{Layer}
 use Rattle.obs_cert.specs.Flaws.{Listed, all_inside, listed_from, not_inside, outside_of, twice, wrong_outside}
 use Rattle.obs_cert.specs.Numbered.{item_of, items_of}
-use Rattle.obs_cert.specs.Scopes.{OfItems, has, is_below, is_live_item, is_meter, is_meter_in, is_this, price_at, scope_of}
-use Rattle.obs_cert.proofs.ScopeLemmas.{has_at, has_from}
+use Rattle.obs_meter.specs.Lost.{is_listed}
+use Rattle.obs_cert.specs.Scopes.{OfItems, is_below, is_live_item, is_meter_in, is_this, price_at, scope_of}
+use Rattle.obs_meter.proofs.Touched.{In-from_any, any-from_In}
 use Rattle.obs_cert.proofs.CountingLemmas.{distinct, each_passes, others}
 
 -- the items of a scope are different
@@ -60,14 +61,14 @@ pub measuring_start : (t : Tables) (all : List Layer) → list_any (λ (l : List
     → IsMeasuring t all all 0
 measuring_start t all inside once = record { before = []; count = refl; going = refl; inside = inside; once = once }
 
-has_front : (xs ys : List ℕ) (x : ℕ) → has xs x ≡ true → has (xs ++ ys) x ≡ true
-has_front xs ys x e = has_at (xs ++ ys) x (In-append_left x xs ys (has_from xs x e))
+has_front : (xs ys : List ℕ) (x : ℕ) → is_listed xs x ≡ true → is_listed (xs ++ ys) x ≡ true
+has_front xs ys x e = any-from_In (xs ++ ys) x (In-append_left x xs ys (In-from_any xs x e))
 
 twice_front : (xs ys : List ℕ) → twice (xs ++ ys) ≡ false → twice xs ≡ false
 twice_front [] ys e = refl
 twice_front (x ∷ xs) ys e =
-    let two = or_parts (has (xs ++ ys) x) (twice (xs ++ ys)) e in
-    let none : has xs x ≡ false = elim (cases_Bool (has xs x)) [ inl t ↦ clash (has_front xs ys x t) two.0 | inr f ↦ f ] in
+    let two = or_parts (is_listed (xs ++ ys) x) (twice (xs ++ ys)) e in
+    let none : is_listed xs x ≡ false = elim (cases_Bool (is_listed xs x)) [ inl t ↦ clash (has_front xs ys x t) two.0 | inr f ↦ f ] in
     ap (λ (b : Bool). b || twice xs) none ∙ twice_front xs ys two.1
 
 module _ (t : Tables) (layer : Layer) (left all : List Layer) (listed after : ℕ) (so_far : IsMeasuring t (layer ∷ left) all listed) (more : after ≡ min (listed + length layer.inside) 4294967295) where

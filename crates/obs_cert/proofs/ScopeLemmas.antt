@@ -10,7 +10,7 @@ use Rattle.obs_switch.proofs.FirstNodes.{buses_of-at, first_member}
 use Rattle.obs_case.specs.Tables.{Tables}
 use Rattle.obs_meter.specs.declared.Touch.{Touch}
 use Rattle.obs_meter.specs.Touches.{touched}
-use Rattle.obs_meter.proofs.Touched.{touched-present}
+use Rattle.obs_meter.proofs.Touched.{In-from_any, any-from_In, touched-present}
 use Rattle.obs_network.specs.Switched.{case_buses, case_first_node, closed_links}
 use Rattle.std.proofs.lemmas.List.{length-map}
 use Rattle.std.specs.Str.{bytes_eq}
@@ -19,22 +19,13 @@ use Rattle.obs_case.proofs.NameLemmas.{place-there, position-some}
 use Rattle.obs_switch.specs.Held.{Buses}
 use Rattle.obs_network.specs.Network.{Network, network_of}
 use Rattle.obs_network.proofs.OfCase.{length-case_buses}
-use Rattle.obs_cert.specs.Scopes.{has}
+use Rattle.obs_meter.specs.Lost.{is_listed}
 
-pub has_from : (xs : List ℕ) (x : ℕ) → has xs x ≡ true → In x xs
-has_from [] x t = clash t refl
-has_from (y ∷ ys) x t = elim (or_cases (eqb y x) (has ys x) t) [ inl e ↦ inl (sym (eqb-true y x e)) | inr i ↦ inr (has_from ys x i) ]
-
-pub has_at : (xs : List ℕ) (x : ℕ) → In x xs → has xs x ≡ true
-has_at [] x h = absurd h
-has_at (y ∷ ys) x (inl e) = or_left (eqb y x) (has ys x) (eq-eqb y x (sym e))
-has_at (y ∷ ys) x (inr i) = or_right (eqb y x) (has ys x) (has_at ys x i)
-
-pub has_not : (xs : List ℕ) (x : ℕ) → (In x xs → ⊥) → has xs x ≡ false
-has_not xs x n = elim (cases_Bool (has xs x)) [ inl t ↦ absurd (n (has_from xs x t)) | inr f ↦ f ]
+pub has_not : (xs : List ℕ) (x : ℕ) → (In x xs → ⊥) → is_listed xs x ≡ false
+has_not xs x n = elim (cases_Bool (is_listed xs x)) [ inl t ↦ absurd (n (In-from_any xs x t)) | inr f ↦ f ]
 
 -- what is touched is one of the graph's positions
-pub not_past : (ends : List (Option Ends)) (t : Touch) (e : ℕ) → length ends ≤ e → false ≡ has (touched ends t) e
+pub not_past : (ends : List (Option Ends)) (t : Touch) (e : ℕ) → length ends ≤ e → false ≡ is_listed (touched ends t) e
 not_past ends t e past = sym (has_not (touched ends t) e (λ i. let l = present_low ends e (touched-present ends t e i) in omega (arith, l, past)))
 
 -- the first member of a node's bus

@@ -10,7 +10,8 @@ use Rattle.obs_cert.specs.declared.flaw.FlawCode.TheVariants.{UnknownName, NotCo
 use Rattle.obs_cert.specs.declared.flaw.Flaw.{Flaw}
 use Rattle.obs_cert.specs.Claims.{Claim, BoundClaim, CostClaim, Item, Layer, Pair, ShortfallClaim, TreeClaim, tree, bound, cost, shortfall}
 use Rattle.obs_cert.specs.Numbered.{chosen_items, is_known, is_known_branch, items_of, paired_items, pairs_of}
-use Rattle.obs_cert.specs.Scopes.{has, is_below, is_live_item, is_meter_in, is_of_plan, named_component, named_need, names_component, price_at, scope_of, touches_of}
+use Rattle.obs_meter.specs.Lost.{is_listed}
+use Rattle.obs_cert.specs.Scopes.{is_below, is_live_item, is_meter_in, is_of_plan, named_component, named_need, names_component, price_at, scope_of, touches_of}
 
 -- an item isn't in its table, or a word stands for no branch in its pair
 abbrev pub unknown_item : Tables → List Item → Bool
@@ -29,12 +30,12 @@ not_inside scope list = list_any (λ m. not (scope m)) list
 
 -- a pair's branch isn't touched by its item
 abbrev pub not_touched : Tables → List NumberPair → Bool
-not_touched t pairs = list_any (λ (p : NumberPair). not (has (touches_of t p.0) p.1)) pairs
+not_touched t pairs = list_any (λ (p : NumberPair). not (is_listed (touches_of t p.0) p.1)) pairs
 
 -- a number stands twice
 abbrev pub twice : List ℕ → Bool
 twice [] = false
-twice (x ∷ xs) = has xs x || twice xs
+twice (x ∷ xs) = is_listed xs x || twice xs
 
 -- an item or a branch stands in two pairs
 abbrev pub paired_twice : Tables → List Pair → Bool
@@ -59,7 +60,7 @@ wrong_rank t list stated = not (rank_of_items t list == stated)
 
 -- how many items of a scope are outside a list
 abbrev pub outside_of : Tables → (ℕ → Bool) → List ℕ → ℕ
-outside_of t scope list = length (filter (λ m. not (has list m)) (scope_of t scope))
+outside_of t scope list = length (filter (λ m. not (is_listed list m)) (scope_of t scope))
 
 abbrev pub wrong_outside : Tables → (ℕ → Bool) → List ℕ → ℕ → Bool
 wrong_outside t scope list stated = not (outside_of t scope list == stated)
@@ -169,7 +170,7 @@ unknown_in_plan t c =
 -- a paired item is idle or a candidate that isn't chosen, or a listed item is none that its layer may speak of
 abbrev pub outside_of_plan : Tables → CostClaim → Bool
 outside_of_plan t c =
-    not_inside (is_of_plan t (has (items_of t (chosen_items c.chosen)))) (items_of t (paired_items c.pairs))
+    not_inside (is_of_plan t (is_listed (items_of t (chosen_items c.chosen)))) (items_of t (paired_items c.pairs))
     || list_any (λ (l : Listed). not_inside (is_below t l.layer.to) l.list) (listed_layers t c.layers)
 
 -- a candidate is chosen twice, or an item or a branch stands in two pairs, or an item stands twice in the lists

@@ -3,8 +3,8 @@ use Rattle.std.specs.Prelude.{ℕ, ◌+◌, ◌-◌, ◌*◌, ◌^◌, ◌≤◌
 use Rattle.std.specs.List.Sorted.{IsNonDecreasing, IsPermutation}
 use Rattle.obs_case.specs.Tables.{Tables, most_rows}
 use Rattle.obs_meter.specs.Touches.{every_item}
-use Rattle.obs_network.specs.Network.{case_offered}
-use Rattle.obs_cert.specs.Scopes.{is_live_item, is_meter, price_at}
+use Rattle.obs_network.specs.Network.{case_offered, is_meter}
+use Rattle.obs_cert.specs.Scopes.{is_live_item, price_at}
 
 -- the key of an item: 0 of a live meter, one more than its price of a live candidate, and the highest of an idle item
 abbrev pub key_of : Tables → ℕ → ℕ

@@ -6,6 +6,7 @@ use Rattle.std.specs.Str.{bytes_eq}
 use Rattle.obs_case.specs.Items.{angle_position, is_angle}
 use Rattle.obs_case.specs.Tables.{Tables, branch_names, candidate_names, has_name, meter_names, place_of, position_of}
 use Rattle.obs_matroid.specs.Assignments.{Pair as NumberPair}
+use Rattle.obs_network.specs.Network.{case_position_room}
 use Rattle.obs_cert.specs.Claims.{Item, meter, candidate, Pair}
 
 -- whether an item is in its table
@@ -34,13 +35,9 @@ branch_in t item word =
 abbrev pub is_known_branch : Tables → Item → List ℕ → Bool
 is_known_branch t item word = is_some (branch_in t item word)
 
--- how many positions there are: one for each row of the branch table, and behind them one for each item
-abbrev pub all_positions : Tables → ℕ
-all_positions t = length t.branches + (length t.meters + length t.candidates)
-
 -- the position of the branch of an item's pair; what stands for none has the number of all positions
 abbrev pub branch_of : Tables → Item → List ℕ → ℕ
-branch_of t item word = unwrap_or (branch_in t item word) (all_positions t)
+branch_of t item word = unwrap_or (branch_in t item word) (case_position_room t)
 
 -- the numbers of some items
 abbrev pub items_of : Tables → List Item → List ℕ

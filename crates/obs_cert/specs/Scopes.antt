@@ -4,21 +4,13 @@ use Rattle.std.specs.List.{list_any}
 use Rattle.obs_case.specs.Tables.{Tables, node_names, place_of, prices_of}
 use Rattle.obs_meter.specs.Touches.{every_item, is_live, touch_at}
 use Rattle.obs_network.specs.Located.{component_of_item}
-use Rattle.obs_network.specs.Network.{case_branches, case_components, case_first_buses, case_need, case_offered, network_of}
+use Rattle.obs_network.specs.Network.{case_branches, case_first_buses, case_need, case_offered, is_meter, network_of, node_component}
 use Rattle.obs_network.specs.Observable.{is_energised_component}
 use Rattle.obs_network.specs.Switched.{case_buses, case_first_node}
-
--- whether a number is in a list
-abbrev pub has : List ℕ → ℕ → Bool
-has xs x = list_any (λ y. y == x) xs
 
 -- what an item that is a candidate costs
 abbrev pub price_at : Tables → ℕ → ℕ
 price_at t m = slice_index_or (prices_of t.candidates) (m - length t.meters) 0
-
--- whether an item is a meter
-abbrev pub is_meter : Tables → ℕ → Bool
-is_meter t m = nat_lt m (length t.meters)
 
 -- the branches that an item touches
 abbrev pub touches_of : Tables → ℕ → List ℕ
@@ -52,10 +44,6 @@ scope_of t test = filter test (every_item (case_offered t))
 -- only items pass the test
 abbrev pub OfItems : Tables → (ℕ → Bool) → Type 0
 OfItems t test = (m : ℕ) → test m ≡ true → m < length (case_offered t)
-
--- the component of a node
-abbrev pub node_component : Tables → ℕ → ℕ
-node_component t u = slice_index (case_components t) (slice_index (case_buses t) u)
 
 -- whether a node names an energised component: it is the first node of the first bus of one
 abbrev pub names_at : Tables → ℕ → Bool

@@ -1,10 +1,10 @@
 // The clauses on pairs that tree and cost claims have in common.
 ghost use Rattle.std.specs.Prelude.{◌≡◌, ◌<◌, ◌+◌, [], ℕ, Bool, List, Some, IfNone, IfSome, suc, length};
-ghost use Rattle.obs_network.specs.Network.{rows_of};
+ghost use Rattle.obs_network.specs.Network.{case_position_room, rows_of};
 ghost use Rattle.obs_cert.specs.Flaws.{forest_clauses, first_true, paired_twice, twice, unknown_pair};
 ghost use Rattle.obs_cert.specs.Joins.{AreJoined};
 ghost use Rattle.obs_cert.specs.Marks.{AreBelow};
-ghost use Rattle.obs_cert.specs.Numbered.{all_positions, pairs_of};
+ghost use Rattle.obs_cert.specs.Numbered.{pairs_of};
 ghost use Rattle.obs_cert.specs.declared.flaw.FlawCode.{FlawCode};
 ghost use Rattle.obs_cert.specs.Ready.{HasRoom, IsReady};
 ghost use Rattle.obs_cert.specs.Walked.{parts_in};
@@ -33,7 +33,7 @@ pub(crate) fn has_pair_twice(
     stamp: u32,
 ) -> bool
     requires items { length case.now.meters + length case.now.candidates < length paired.old }
-    requires branches { all_positions case.now < length taken.old }
+    requires branches { case_position_room case.now < length taken.old }
     requires fresh_items { AreBelow stamp paired.old }
     requires fresh_branches { AreBelow stamp taken.old }
     ensures twice { result ≡ paired_twice case.now (parts_in rest.now).pairs }

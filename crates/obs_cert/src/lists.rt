@@ -8,7 +8,8 @@ ghost use Rattle.obs_cert.specs.InScope.{in_scope};
 ghost use Rattle.obs_cert.specs.Joins.{AreJoined, onto};
 ghost use Rattle.obs_cert.specs.Marks.{AreBelow, is_marked};
 ghost use Rattle.obs_cert.specs.Numbered.{items_of};
-ghost use Rattle.obs_cert.specs.Scopes.{has, price_at, touches_of};
+ghost use Rattle.obs_meter.specs.Lost.{is_listed};
+ghost use Rattle.obs_cert.specs.Scopes.{price_at, touches_of};
 
 use crate::joins::{clear, join_all};
 use crate::marks::mark;
@@ -48,7 +49,7 @@ pub(crate) fn has_twice(case: &Case, items: Items<'_>, marks: &mut [u32], stamp:
     requires room { length case.now.meters + length case.now.candidates < length marks.old }
     requires fresh { AreBelow stamp marks.old }
     ensures twice { result ≡ twice (items_of case.now items.entry) }
-    ensures marked { (x : ℕ) → is_marked marks.new stamp x ≡ has (items_of case.now items.entry) x }
+    ensures marked { (x : ℕ) → is_marked marks.new stamp x ≡ is_listed (items_of case.now items.entry) x }
     ensures below { AreBelow (suc stamp) marks.new }
 {
     let mut twice = false;

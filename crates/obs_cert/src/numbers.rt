@@ -2,7 +2,8 @@
 // branch table, and behind them the angle branches of items.
 ghost use Rattle.std.specs.Prelude.{◌≡◌, ◌≤◌, ◌+◌, IfSome, length};
 ghost use Rattle.obs_cert.specs.Said.{item_said};
-ghost use Rattle.obs_cert.specs.Numbered.{all_positions, branch_in, branch_of, is_angle_item, is_known, is_known_branch, item_of};
+ghost use Rattle.obs_network.specs.Network.{case_position_room};
+ghost use Rattle.obs_cert.specs.Numbered.{branch_in, branch_of, is_angle_item, is_known, is_known_branch, item_of};
 
 use crate::line::{Item, is};
 use obs_case::Case;
@@ -45,7 +46,7 @@ fn is_angle_item(case: &Case, item: Item<'_>) -> bool
 // The position of the branch that a word stands for in a pair of an item; None where it stands for none.
 fn branch_in(case: &Case, item: Item<'_>, word: &[u8]) -> Option<u32>
     ensures position { result ≡ branch_in case.now (item_said item.entry) word.now }
-    ensures within { IfSome result (λ e. e ≤ all_positions case.now) }
+    ensures within { IfSome result (λ e. e ≤ case_position_room case.now) }
 {
     if !is_angle_item(case, item) {
         return case.find_branch(word);
@@ -59,7 +60,7 @@ fn branch_in(case: &Case, item: Item<'_>, word: &[u8]) -> Option<u32>
 /// The position of the branch of an item's pair; of a word that stands for none the number of all positions.
 pub(crate) fn branch_of(case: &Case, item: Item<'_>, word: &[u8]) -> u32
     ensures position { result ≡ branch_of case.now (item_said item.entry) word.now }
-    ensures below { result ≤ all_positions case.now }
+    ensures below { result ≤ case_position_room case.now }
 {
     match branch_in(case, item, word) {
         Some(at) => at,

@@ -3,11 +3,11 @@ ghost use Rattle.std.specs.Prelude.{◌≡◌, ◌≤◌, ◌<◌, ◌^◌, ◌=
 ghost use Rattle.std.specs.List.{cons_option};
 ghost use Rattle.obs_graph.specs.declared.Ends.{Ends};
 ghost use Rattle.obs_matroid.specs.Assignments.{branches};
-ghost use Rattle.obs_network.specs.Network.{case_vertex_room};
+ghost use Rattle.obs_network.specs.Network.{case_position_room, case_vertex_room};
 ghost use Rattle.obs_cert.specs.Flaws.{cycle, not_touched, rank_of_branches, twice, unknown_branch};
 ghost use Rattle.obs_cert.specs.Joins.{AreJoined, onto};
 ghost use Rattle.obs_cert.specs.Marks.{AreBelow};
-ghost use Rattle.obs_cert.specs.Numbered.{all_positions, pairs_of};
+ghost use Rattle.obs_cert.specs.Numbered.{pairs_of};
 
 use crate::joins::{clear, ends_of, join};
 use crate::marks::mark;
@@ -49,7 +49,7 @@ pub(crate) fn has_untouched(present: &Present<'_>, pairs: Pairs<'_>) -> bool
 
 /// Whether a branch stands in two pairs. Marks them with the stamp.
 pub(crate) fn has_branch_twice(case: &Case, pairs: Pairs<'_>, marks: &mut [u32], stamp: u32) -> bool
-    requires room { all_positions case.now < length marks.old }
+    requires room { case_position_room case.now < length marks.old }
     requires fresh { AreBelow stamp marks.old }
     ensures twice { result ≡ twice (branches (pairs_of case.now pairs.entry)) }
     ensures below { AreBelow (suc stamp) marks.new }

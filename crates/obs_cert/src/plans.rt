@@ -8,7 +8,8 @@ ghost use Rattle.obs_cert.specs.Keys.{AreKeys};
 ghost use Rattle.obs_cert.specs.Marks.{is_marked};
 ghost use Rattle.obs_cert.specs.Numbered.{chosen_items, items_of};
 ghost use Rattle.obs_cert.specs.Ready.{HasRoom, IsReady};
-ghost use Rattle.obs_cert.specs.Scopes.{has, is_below};
+ghost use Rattle.obs_meter.specs.Lost.{is_listed};
+ghost use Rattle.obs_cert.specs.Scopes.{is_below};
 ghost use Rattle.obs_cert.specs.Walked.{cost_of, parts_in};
 
 use crate::flaw::FlawCode;
@@ -83,7 +84,7 @@ fn has_unknown_name(case: &Case, rest: &[u8]) -> bool
 // Whether an item of a cost claim, whose chosen candidates are marked, isn't one that it may speak of.
 fn has_outside_item(present: &Present<'_>, rest: &[u8], chosen: &[u32], stamp: u32) -> bool
     requires marked { (x : ℕ) → is_marked chosen.now stamp x
-        ≡ has (items_of present.now (chosen_items (parts_in rest.now).chosen)) x }
+        ≡ is_listed (items_of present.now (chosen_items (parts_in rest.now).chosen)) x }
     ensures outside { (number : ℕ) → result ≡ outside_of_plan present.now (cost_of number (parts_in rest.now)) }
 {
     let paired = walk_items(Sort::Paired, rest);
@@ -104,7 +105,7 @@ fn has_twice_in_plan(case: &Case, rest: &[u8], work: &mut Work, stamp: u32) -> b
     requires ready { IsReady case.now stamp work.old }
     ensures twice { (number : ℕ) → result ≡ twice_in_plan case.now (cost_of number (parts_in rest.now)) }
     ensures marked { (x : ℕ) → is_marked work.new.chosen.items stamp x
-        ≡ has (items_of case.now (chosen_items (parts_in rest.now).chosen)) x }
+        ≡ is_listed (items_of case.now (chosen_items (parts_in rest.now).chosen)) x }
     ensures ready { IsReady case.now (suc stamp) work.new }
 {
     let chosen = walk_items(Sort::Chosen, rest);

@@ -2,10 +2,11 @@
 ghost use Rattle.std.specs.Prelude.{◌≡◌, ◌<◌, ◌==◌, length, IfSome, is_some};
 ghost use Rattle.obs_meter.specs.Touches.{touch_at};
 ghost use Rattle.obs_network.specs.Located.{component_of_item};
-ghost use Rattle.obs_network.specs.Network.{network_of};
+ghost use Rattle.obs_network.specs.Network.{is_meter, network_of};
 ghost use Rattle.obs_network.specs.Switched.{case_first_node};
 ghost use Rattle.obs_cert.specs.Marks.{is_marked};
-ghost use Rattle.obs_cert.specs.Scopes.{has, is_live_item, is_meter, is_this, named_component, named_need, names_at, names_component, price_at, touches_of};
+ghost use Rattle.obs_meter.specs.Lost.{is_listed};
+ghost use Rattle.obs_cert.specs.Scopes.{is_live_item, is_this, named_component, named_need, names_at, names_component, price_at, touches_of};
 ghost use Rattle.obs_case.specs.Tables.{has_name, node_names};
 ghost use Rattle.obs_cert.specs.InScope.{in_scope};
 
@@ -82,7 +83,7 @@ fn lies_in(present: &Present<'_>, m: u32, c: u32) -> bool
 // Whether an item touches a branch. What is no position isn't touched.
 fn is_touched(g: &Graph, items: &Meters, m: u32, e: u32) -> bool
     requires item { m < length items.now.touches }
-    ensures touched { result ≡ has (touch_at g.now.ends items.now.touches m) e }
+    ensures touched { result ≡ is_listed (touch_at g.now.ends items.now.touches m) e }
 {
     if e < g.positions() {
         items.is_touched(g, m, e)
@@ -93,7 +94,7 @@ fn is_touched(g: &Graph, items: &Meters, m: u32, e: u32) -> bool
 
 /// Whether an item touches a branch.
 pub(crate) fn touches(present: &Present<'_>, m: u32, e: u32) -> bool
-    ensures touched { result ≡ has (touches_of present.now m) e }
+    ensures touched { result ≡ is_listed (touches_of present.now m) e }
 {
     let network = present.network();
     if m < network.offered().count() {

@@ -8,14 +8,13 @@ use Rattle.obs_matroid.proofs.Lists.{In-filter_from, IsDistinct-filter, length-s
 use Rattle.obs_meter.specs.Spanned.{rank_at}
 use Rattle.obs_meter.specs.Touches.{is_live, touch_at, touched}
 use Rattle.obs_meter.proofs.Assigned.{live_items-distinct}
-use Rattle.obs_network.specs.Network.{case_branches, case_component_count, case_meters, case_need, case_vertex_count}
+use Rattle.obs_network.specs.Network.{case_branches, case_component_count, case_item_count, case_meters, case_need, case_vertex_count}
 use Rattle.obs_network.specs.Observable.{IsObservable, case_live_meters}
 use Rattle.obs_network.proofs.Items.{meter_is_item}
 use Rattle.obs_network.proofs.Marked.{filtered_below}
 use Rattle.obs_network.proofs.OfCase.{length-case_meters}
 use Rattle.obs_repair.specs.Bounds.{bound_meters, bound_outside, bound_rank, component_meters, component_rank, is_critical_meter, is_meter_of}
 use Rattle.obs_repair.proofs.Tight.{bound_is, observable-from, rank_few}
-use Rattle.obs_report.specs.Items.{item_count}
 use Rattle.obs_cert.specs.declared.flaw.FlawCode.TheVariants.{Twice}
 use Rattle.obs_cert.specs.Flaws.{bound_clauses, first_true, list_clauses, not_inside, outside_of, rank_of_items, twice}
 use Rattle.obs_cert.specs.Numbered.{items_of}
@@ -101,7 +100,7 @@ bounds_hold t c v l energised unseen =
     let scope = is_meter_in t c in
     let list = bound_meters t c in
     let need = case_need t c in
-    let low : (m : ℕ) → In m list → m < item_count t = λ m i. (let k = (bound_meter t c m i).0 in omega (arith, k)) in
+    let low : (m : ℕ) → In m list → m < case_item_count t = λ m i. (let k = (bound_meter t c m i).0 in omega (arith, k)) in
     let same : items_of t (component_bound t c).inside ≡ list = items_named t v list low in
     let right : first_true (list_clauses t scope list (bound_rank t c) (bound_outside t c) need) ≡ None =
     ap (λ (b : Bool). cond b (Some Twice) (first_true (bound_clauses t scope list (bound_rank t c) (bound_outside t c) need))) (bound_once t c)

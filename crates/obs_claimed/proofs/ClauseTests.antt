@@ -4,9 +4,10 @@ use Rattle.std.specs.List.{list_any}
 use Rattle.obs_matroid.specs.Lists.{In, IsDistinct}
 use Rattle.obs_matroid.proofs.Lists.{In-filter, In-filter_from, In-map_from}
 use Rattle.obs_cert.specs.Flaws.{not_inside, twice}
-use Rattle.obs_cert.specs.Scopes.{has}
+use Rattle.obs_meter.specs.Lost.{is_listed}
 use Rattle.std.specs.Cmp.Derive.{one_truth}
-use Rattle.obs_cert.proofs.ScopeLemmas.{has_at, has_from, has_not}
+use Rattle.obs_meter.proofs.Touched.{In-from_any, any-from_In}
+use Rattle.obs_cert.proofs.ScopeLemmas.{has_not}
 
 -- a test that is false for each is true for none
 pub any_false : {X : Type 0} (test : X → Bool) (xs : List X) → ((x : X) → In x xs → test x ≡ false) → list_any test xs ≡ false
@@ -22,9 +23,9 @@ once [] d = refl
 once (x ∷ xs) d = rw (has_not xs x d.0) (once xs d.1)
 
 -- what passes a test is in the list of what passes
-pub has-filter : (p : ℕ → Bool) (M : List ℕ) (m : ℕ) → In m M → has (filter p M) m ≡ p m
+pub has-filter : (p : ℕ → Bool) (M : List ℕ) (m : ℕ) → In m M → is_listed (filter p M) m ≡ p m
 has-filter p M m i =
-    one_truth (has (filter p M) m) (p m) (λ t. (In-filter_from p m M (has_from (filter p M) m t)).1) (λ t. has_at (filter p M) m (In-filter p m M i t))
+    one_truth (is_listed (filter p M) m) (p m) (λ t. (In-filter_from p m M (In-from_any (filter p M) m t)).1) (λ t. any-from_In (filter p M) m (In-filter p m M i t))
 
 -- numbers moved up are as different as before
 pub distinct-moved : (k : ℕ) (xs : List ℕ) → IsDistinct xs → IsDistinct (map (λ x. k + x) xs)

@@ -13,14 +13,14 @@ use Rattle.obs_switch.proofs.FirstNodes.{bus_at, bus_of-first_node, buses_of-at,
 use Rattle.obs_case.specs.Tables.{IsValid, Tables, are_different, has_name, node_names, place_of, position_of}
 use Rattle.obs_case.proofs.NameLemmas.{bytes_eq-itself, different-parts, position-there}
 use Rattle.obs_network.specs.Components.{component_of, components_of, first_bus, first_buses_of, is_first_bus}
-use Rattle.obs_network.specs.Network.{case_component_count, case_components, case_first_buses, case_live, case_need}
+use Rattle.obs_network.specs.Network.{case_component_count, case_components, case_first_buses, case_live, case_need, node_component}
 use Rattle.obs_network.specs.Observable.{is_energised_component}
 use Rattle.obs_network.specs.Switched.{case_bus_count, case_buses, case_first_node, closed_links}
 use Rattle.obs_network.proofs.Marked.{first_bus_at}
 use Rattle.obs_network.proofs.Numbered.{component_at, components_of-at}
 use Rattle.obs_report.specs.Meters.{component_name}
 use Rattle.obs_report.specs.Nodes.{node_name}
-use Rattle.obs_cert.specs.Scopes.{named_component, named_need, names_at, names_component, node_component}
+use Rattle.obs_cert.specs.Scopes.{named_component, named_need, names_at, names_component}
 use Rattle.obs_text.proofs.ByteLemmas.{same_bytes}
 
 -- each of some names is there

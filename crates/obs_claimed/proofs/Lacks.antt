@@ -17,7 +17,8 @@ use Rattle.obs_edit.proofs.PlanOrShortfall.{lack_is}
 use Rattle.obs_cert.specs.Claims.{shortfall}
 use Rattle.obs_cert.specs.Flaws.{Holds, not_inside, outside_of, rank_of_items, twice, unknown_item}
 use Rattle.obs_cert.specs.Numbered.{items_of}
-use Rattle.obs_cert.specs.Scopes.{has, is_live_item}
+use Rattle.obs_meter.specs.Lost.{is_listed}
+use Rattle.obs_cert.specs.Scopes.{is_live_item}
 use Rattle.obs_claimed.specs.Claimed.{lack_claim, named_items}
 use Rattle.obs_claimed.proofs.ClauseTests.{all_inside_scope, has-filter, once}
 
@@ -39,7 +40,7 @@ module _ (t : Tables) where
 
   -- the items outside the list are the critical ones
   loose_outside : outside_of t (is_live_item t) loose ≡ length (filter (λ m. not (passes m)) live)
-  loose_outside = ap length (filter_same (λ m. not (has loose m)) (λ m. not (passes m)) live (λ m i. ap not (has-filter passes live m i)))
+  loose_outside = ap length (filter_same (λ m. not (is_listed loose m)) (λ m. not (passes m)) live (λ m i. ap not (has-filter passes live m i)))
 
   -- each listed item is one of what is offered
   pub loose_low : (m : ℕ) → In m loose → m < length (case_offered t)

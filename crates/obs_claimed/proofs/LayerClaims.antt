@@ -17,16 +17,17 @@ use Rattle.obs_placement.specs.Layers.{layer_items, layer_outside}
 use Rattle.obs_placement.specs.Shown.{bare_layer}
 use Rattle.obs_placement.specs.Taking.{scope_of as placed_scope}
 use Rattle.obs_placement.proofs.Growing.{AreRising, own_grows, own_in, scope_distinct as placed_distinct}
-use Rattle.obs_network.specs.Network.{case_branches, case_offered, case_vertex_count}
+use Rattle.obs_network.specs.Network.{case_branches, case_offered, case_vertex_count, is_meter}
 use Rattle.obs_network.proofs.OfCase.{case_branches-are, length-case_offered}
 use Rattle.obs_cert.specs.Claims.{Item, Layer}
 use Rattle.obs_cert.specs.Flaws.{Listed, all_inside, listed_from, listed_layers, not_below, not_inside, outside_of, rank_of_items, runs_on, wrong_outside, wrong_rank}
 use Rattle.obs_cert.specs.Numbered.{items_of}
-use Rattle.obs_cert.specs.Scopes.{has, is_below, is_live_item, is_meter, price_at, scope_of, touches_of}
+use Rattle.obs_meter.specs.Lost.{is_listed}
+use Rattle.obs_cert.specs.Scopes.{is_below, is_live_item, price_at, scope_of, touches_of}
 use Rattle.obs_cert.proofs.OutsideLemmas.{scope_distinct}
 use Rattle.std.specs.Cmp.Derive.{one_truth}
 use Rattle.obs_rankcut.specs.Costs.{price_of}
-use Rattle.obs_cert.proofs.ScopeLemmas.{has_at, has_from}
+use Rattle.obs_meter.proofs.Touched.{In-from_any, any-from_In}
 use Rattle.obs_cert.proofs.TruthLemmas.{laws}
 use Rattle.obs_cert.proofs.CompletingLemmas.{bare}
 use Rattle.obs_claimed.specs.Claimed.{named_item, named_items, named_layers}
@@ -97,9 +98,9 @@ module _ (t : Tables) (v : IsValid t) where
   own_counted to list l h =
       let S = scope_of t (is_below t to) in
       let B = placed_scope (case_branches t) (case_offered t) (price t) to in
-      let p : ℕ → Bool = λ m. not (has list m) in
+      let p : ℕ → Bool = λ m. not (is_listed list m) in
       let q : ℕ → Bool = λ m. not (own t to m) in
-      let same : (m : ℕ) → has list m ≡ own t to m = λ m. one_truth (has list m) (own t to m) (λ e. (h m).0 (has_from list m e)) (λ e. has_at list m ((h m).1 e)) in
+      let same : (m : ℕ) → is_listed list m ≡ own t to m = λ m. one_truth (is_listed list m) (own t to m) (λ e. (h m).0 (In-from_any list m e)) (λ e. any-from_In list m ((h m).1 e)) in
       let up = length-within (filter p S) (filter q B) (IsDistinct-filter p S (scope_distinct t (is_below t to))) (λ m i.
       let u = In-filter_from p m S i in
       let both = and_parts (is_live_item t m) (is_meter t m || nat_lt (price_at t m) to) (In-filter_from (is_below t to) m (every_item (case_offered t)) u.0).1 in

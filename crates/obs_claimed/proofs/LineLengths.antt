@@ -12,7 +12,8 @@ use Rattle.obs_case.specs.Items.{is_angle}
 use Rattle.obs_case.specs.Tables.{IsValid, Tables, branch_names, candidate_names, meter_names, node_names}
 use Rattle.obs_matroid.specs.Assignments.{Pair as NumberPair}
 use Rattle.obs_placement.specs.declared.plans.Layer.{Layer as PlacedLayer}
-use Rattle.obs_report.specs.Items.{branch_word, candidate_name, inside_line, is_meter, item_name, item_word, pair_line}
+use Rattle.obs_network.specs.Network.{is_meter}
+use Rattle.obs_report.specs.Items.{branch_word, candidate_name, inside_line, item_name, item_word, pair_line}
 use Rattle.obs_report.specs.Lines.{line_feed, line_of, tabbed}
 use Rattle.obs_report.specs.Meters.{bound_line, component_name}
 use Rattle.obs_report.specs.Placements.{chosen_line, cost_line, layer_line, shortfall_line}

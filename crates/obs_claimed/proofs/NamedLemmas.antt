@@ -10,16 +10,17 @@ use Rattle.obs_case.specs.Tables.{IsValid, Tables, branch_names, candidate_names
 use Rattle.obs_case.proofs.NameLemmas.{bytes_eq-itself}
 use Rattle.obs_matroid.specs.Assignments.{Pair as NumberPair, items}
 use Rattle.obs_matroid.specs.Lists.{In}
-use Rattle.obs_report.specs.Items.{IsBranchOf, branch_name, branch_word, candidate_name, item_count, meter_name}
+use Rattle.obs_network.specs.Network.{case_item_count, case_position_room}
+use Rattle.obs_report.specs.Items.{IsBranchOf, branch_name, branch_word, candidate_name, meter_name}
 use Rattle.obs_cert.specs.Claims.{Item}
 use Rattle.obs_cert.specs.Flaws.{unknown_branch, unknown_item, unknown_pair}
-use Rattle.obs_cert.specs.Numbered.{all_positions, branch_in, branch_of, chosen_items, is_angle_item, is_known, is_known_branch, item_of, items_of, paired_items, pairs_of}
+use Rattle.obs_cert.specs.Numbered.{branch_in, branch_of, chosen_items, is_angle_item, is_known, is_known_branch, item_of, items_of, paired_items, pairs_of}
 use Rattle.obs_claimed.specs.Claimed.{named_item, named_items, named_pair}
 use Rattle.obs_claimed.proofs.ComponentNames.{has_own, place_own, position_own}
 
 -- pairs of items of the case and branches that they may have
 abbrev pub AreWithin : Tables → List NumberPair → Type 0
-AreWithin t pairs = (p : NumberPair) → In p pairs → (p.0 < item_count t) × IsBranchOf t p.0 p.1
+AreWithin t pairs = (p : NumberPair) → In p pairs → (p.0 < case_item_count t) × IsBranchOf t p.0 p.1
 
 module _ (t : Tables) (v : IsValid t) where
   -- a meter and a candidate
@@ -36,20 +37,20 @@ module _ (t : Tables) (v : IsValid t) where
   candidate_known k l = has_own (candidate_names t) k (omega (arith, l, length-map t.candidates (λ row. row.name)))
 
   -- an item
-  pub item_named : (m : ℕ) → m < item_count t → item_of t (named_item t m) ≡ m
+  pub item_named : (m : ℕ) → m < case_item_count t → item_of t (named_item t m) ≡ m
   item_named m l = elim (cases_lt m (length t.meters)) [
     | inl low ↦ rw (lt-ltb m (length t.meters) low) (meter_place m low)
     | inr high ↦ (let k = candidate_place (m - length t.meters) (omega (arith, l, high)) in rw (le-ltb m (length t.meters) high) (omega (arith, high, k)))
   ]
 
-  pub item_known : (m : ℕ) → m < item_count t → is_known t (named_item t m) ≡ true
+  pub item_known : (m : ℕ) → m < case_item_count t → is_known t (named_item t m) ≡ true
   item_known m l = elim (cases_lt m (length t.meters)) [
     | inl low ↦ rw (lt-ltb m (length t.meters) low) (meter_known m low)
     | inr high ↦ rw (le-ltb m (length t.meters) high) (candidate_known (m - length t.meters) (omega (arith, l, high)))
   ]
 
   -- the branch of a pair
-  angle_named : (m : ℕ) → m < item_count t → is_angle_item t (named_item t m) ≡ is_angle t m
+  angle_named : (m : ℕ) → m < case_item_count t → is_angle_item t (named_item t m) ≡ is_angle t m
   angle_named m l =
       ap (λ (k : ℕ). is_angle t k && is_known t (named_item t m)) (item_named m l)
       ∙ ap (λ (b : Bool). is_angle t m && b) (item_known m l)
@@ -59,7 +60,7 @@ module _ (t : Tables) (v : IsValid t) where
       with_true true = refl
       with_true false = refl
 
-  branch_read : (m e : ℕ) → m < item_count t → IsBranchOf t m e → branch_in t (named_item t m) (branch_word t m e) ≡ Some e
+  branch_read : (m e : ℕ) → m < case_item_count t → IsBranchOf t m e → branch_in t (named_item t m) (branch_word t m e) ≡ Some e
   branch_read m e l of =
       let item = named_item t m in
       let word = branch_word t m e in
@@ -78,20 +79,20 @@ module _ (t : Tables) (v : IsValid t) where
             ∙ position_own (branch_names t) e v.branches.different (let low = of.row other in omega (arith, low, length-map t.branches (λ row. row.name)))
       ]
 
-  pub named_branch : (m e : ℕ) → m < item_count t → IsBranchOf t m e → branch_of t (named_item t m) (branch_word t m e) ≡ e
-  named_branch m e l of = ap (λ (o : Option ℕ). unwrap_or o (all_positions t)) (branch_read m e l of)
+  pub named_branch : (m e : ℕ) → m < case_item_count t → IsBranchOf t m e → branch_of t (named_item t m) (branch_word t m e) ≡ e
+  named_branch m e l of = ap (λ (o : Option ℕ). unwrap_or o (case_position_room t)) (branch_read m e l of)
 
-  pub branch_known : (m e : ℕ) → m < item_count t → IsBranchOf t m e → is_known_branch t (named_item t m) (branch_word t m e) ≡ true
+  pub branch_known : (m e : ℕ) → m < case_item_count t → IsBranchOf t m e → is_known_branch t (named_item t m) (branch_word t m e) ≡ true
   branch_known m e l of = ap is_some (branch_read m e l of)
 
   -- some items
-  pub items_named : (list : List ℕ) → ((m : ℕ) → In m list → m < item_count t) → items_of t (named_items t list) ≡ list
+  pub items_named : (list : List ℕ) → ((m : ℕ) → In m list → m < case_item_count t) → items_of t (named_items t list) ≡ list
   items_named [] low = refl
   items_named (m ∷ list) low =
       ap (λ (x : ℕ). x ∷ items_of t (named_items t list)) (item_named m (low m (inl refl)))
       ∙ ap (λ (xs : List ℕ). m ∷ xs) (items_named list (λ k i. low k (inr i)))
 
-  pub none_unknown : (list : List ℕ) → ((m : ℕ) → In m list → m < item_count t) → unknown_item t (named_items t list) ≡ false
+  pub none_unknown : (list : List ℕ) → ((m : ℕ) → In m list → m < case_item_count t) → unknown_item t (named_items t list) ≡ false
   none_unknown [] low = refl
   none_unknown (m ∷ list) low =
       ap (λ (b : Bool). not b || unknown_item t (named_items t list)) (item_known m (low m (inl refl)))
@@ -110,7 +111,7 @@ module _ (t : Tables) (v : IsValid t) where
   paired_are [] = refl
   paired_are (p ∷ pairs) = ap (λ (xs : List Item). named_item t p.0 ∷ xs) (paired_are pairs)
 
-  items_low : (pairs : List NumberPair) → AreWithin t pairs → (m : ℕ) → In m (items pairs) → m < item_count t
+  items_low : (pairs : List NumberPair) → AreWithin t pairs → (m : ℕ) → In m (items pairs) → m < case_item_count t
   items_low [] within m i = absurd i
   items_low (p ∷ pairs) within m (inl e) = (let l = (within p (inl refl)).0 in omega (arith, e, l))
   items_low (p ∷ pairs) within m (inr i) = items_low pairs (λ q j. within q (inr j)) m i

@@ -30,7 +30,8 @@ use Rattle.obs_edit.proofs.PlanOrShortfall.{plan_is}
 use Rattle.obs_cert.specs.Claims.{CostClaim, Item, Layer, cost}
 use Rattle.obs_cert.specs.Flaws.{Holds, Listed, all_inside, cycle, listed_layers, not_below, not_inside, not_touched, outside_of_plan, runs_on, shows, twice, twice_in_plan, unknown_in_plan, unknown_item, unknown_pair, wrong_cost, wrong_length, wrong_outside, wrong_rank}
 use Rattle.obs_cert.specs.Numbered.{chosen_items, items_of, paired_items, pairs_of}
-use Rattle.obs_cert.specs.Scopes.{has, is_below, is_of_plan, price_at}
+use Rattle.obs_meter.specs.Lost.{is_listed}
+use Rattle.obs_cert.specs.Scopes.{is_below, is_of_plan, price_at}
 use Rattle.obs_cert.proofs.CompletingLemmas.{bare, same_sum, sum_is}
 use Rattle.obs_report.proofs.OfPairs.{offered_branch}
 use Rattle.obs_claimed.specs.Claimed.{named_items, named_layers, placement_claim, plan_claim}
@@ -143,9 +144,9 @@ module _ (t : Tables) (v : IsValid t) where
 
     all_in_scope : outside_of_plan t claim ≡ false
     all_in_scope =
-        or_from (not_inside (is_of_plan t (has (items_of t (chosen_items claim.chosen)))) (items_of t (paired_items claim.pairs))) (list_any (λ (l : Listed). not_inside (is_below t l.layer.to) l.list) (listed_layers t claim.layers))
-        (ap (λ (xs : List ℕ). not_inside (is_of_plan t (has xs)) (items_of t (paired_items claim.pairs))) chosen_are
-        ∙ ap (not_inside (is_of_plan t (has X))) paired_are
+        or_from (not_inside (is_of_plan t (is_listed (items_of t (chosen_items claim.chosen)))) (items_of t (paired_items claim.pairs))) (list_any (λ (l : Listed). not_inside (is_below t l.layer.to) l.list) (listed_layers t claim.layers))
+        (ap (λ (xs : List ℕ). not_inside (is_of_plan t (is_listed xs)) (items_of t (paired_items claim.pairs))) chosen_are
+        ∙ ap (not_inside (is_of_plan t (is_listed X))) paired_are
         ∙ paired_inside t chosen A first)
         (ap (λ (ls : List Layer). list_any (λ (l : Listed). not_inside (is_below t l.layer.to) l.list) (listed_layers t ls)) layers_are ∙ layers_inside t v ts rising)
 

@@ -15,22 +15,22 @@ use Rattle.obs_meter.specs.Spanned.{graph_matroid}
 use Rattle.obs_meter.specs.Touches.{is_live, live_items}
 use Rattle.obs_meter.proofs.Assigned.{independent-from_forest_at}
 use Rattle.obs_meter.proofs.Instance.{IsMatroid-graph}
-use Rattle.obs_meter.proofs.Touched.{live-from_In}
+use Rattle.obs_meter.proofs.Touched.{any-from_In, live-from_In}
 use Rattle.obs_meter.proofs.Live.{In-live}
 use Rattle.obs_first.specs.First.{IsFirstAt}
-use Rattle.obs_network.specs.Network.{case_branches, case_needed, case_offered, case_vertex_count}
+use Rattle.obs_network.specs.Network.{case_branches, case_needed, case_offered, case_vertex_count, is_meter}
 use Rattle.obs_network.proofs.OfCase.{case_branches-are}
 use Rattle.obs_rankcut.specs.Costs.{live_meters}
 use Rattle.obs_edit.specs.Placements.{CompletesCase}
 use Rattle.obs_edit.specs.Planned.{planned_items}
 use Rattle.obs_cert.specs.Flaws.{cycle, not_inside, not_touched, rank_of_branches, twice}
-use Rattle.obs_cert.specs.Scopes.{has, is_live_item, is_meter, is_of_plan, touches_of}
-use Rattle.obs_cert.proofs.ScopeLemmas.{has_at}
+use Rattle.obs_meter.specs.Lost.{is_listed}
+use Rattle.obs_cert.specs.Scopes.{is_live_item, is_of_plan, touches_of}
 use Rattle.obs_claimed.proofs.ClauseTests.{all_inside_scope, any_false, once}
 
 module _ (t : Tables) (M : List ℕ) (A : List Pair) (a : IsAssignmentAt (case_branches t) (case_offered t) M A) where
   pub touched_pairs : not_touched t A ≡ false
-  touched_pairs = any_false (λ (p : Pair). not (has (touches_of t p.0) p.1)) A (λ p i. ap not (has_at (touches_of t p.0) p.1 (a.touched p i)))
+  touched_pairs = any_false (λ (p : Pair). not (is_listed (touches_of t p.0) p.1)) A (λ p i. ap not (any-from_In (touches_of t p.0) p.1 (a.touched p i)))
 
   pub items_once : twice (items A) ≡ false
   items_once = once (items A) a.different
@@ -76,11 +76,11 @@ module _ (t : Tables) (chosen : List ℕ) (A : List Pair) (first : IsFirstAt (ca
     | inr j ↦ inr j
   ]
 
-  pub paired_inside : not_inside (is_of_plan t (has X)) (items A) ≡ false
-  paired_inside = all_inside_scope (is_of_plan t (has X)) (items A) (λ m i.
-      and_from (is_live_item t m) (is_meter t m || has X m) (paired_live t (planned_items (length t.meters) chosen) A first.assigns m i) (elim (paired_which m i) [
-        | inl l ↦ or_left (is_meter t m) (has X m) (lt-ltb m (length t.meters) l)
-        | inr j ↦ or_right (is_meter t m) (has X m) (has_at X m j)
+  pub paired_inside : not_inside (is_of_plan t (is_listed X)) (items A) ≡ false
+  paired_inside = all_inside_scope (is_of_plan t (is_listed X)) (items A) (λ m i.
+      and_from (is_live_item t m) (is_meter t m || is_listed X m) (paired_live t (planned_items (length t.meters) chosen) A first.assigns m i) (elim (paired_which m i) [
+        | inl l ↦ or_left (is_meter t m) (is_listed X m) (lt-ltb m (length t.meters) l)
+        | inr j ↦ or_right (is_meter t m) (is_listed X m) (any-from_In X m j)
       ]))
 
   -- the pairs are an assignment of the live ones

@@ -11,10 +11,10 @@ use Rattle.obs_meter.specs.Touches.{live_items}
 use Rattle.obs_placement.specs.declared.plans.Layer.{Layer as PlacedLayer}
 use Rattle.obs_placement.specs.Placed.{ShortfallValue, PlanValue, shortfall_of, plan_of}
 use Rattle.obs_placement.specs.Placed.Placed.{cheapest, shortfall as short_of}
-use Rattle.obs_network.specs.Network.{case_branches, case_needed, case_offered, case_vertex_count}
+use Rattle.obs_network.specs.Network.{case_branches, case_item_count, case_needed, case_offered, case_vertex_count}
 use Rattle.obs_cert.specs.Certificate.{claim_lines, joined, layer_lines}
 use Rattle.obs_cert.specs.Words.{bound_line, chosen_line, cost_line, inside_line, layer_line, pair_line, shortfall_line, tree_line}
-use Rattle.obs_report.specs.Items.{candidate_name, item_count, inside_line as inside_text, pair_line as pair_text}
+use Rattle.obs_report.specs.Items.{candidate_name, inside_line as inside_text, pair_line as pair_text}
 use Rattle.obs_report.specs.Meters.{component_name, bound_line as bound_text}
 use Rattle.obs_report.specs.Placements.{layers_text, listed_between, placement_text, chosen_line as chosen_text, cost_line as cost_text, layer_line as layer_text, shortfall_line as shortfall_text}
 use Rattle.obs_report.specs.Trees.{tree_line as tree_text}
@@ -45,7 +45,7 @@ In-drop_from (suc n) (y ∷ xs) x i = inr (In-drop_from n xs x i)
 
 module _ (t : Tables) (v : IsValid t) where
   -- listed items
-  inside_lines : (list : List ℕ) → ((m : ℕ) → In m list → m < item_count t) → AreLines (flat_map (inside_text t) list) (map inside_line (named_items t list))
+  inside_lines : (list : List ℕ) → ((m : ℕ) → In m list → m < case_item_count t) → AreLines (flat_map (inside_text t) list) (map inside_line (named_items t list))
   inside_lines list low = each_line (inside_text t) (named_item t) inside_line list (λ m i. inside_back t m (item_has_name t v m (low m i)))
 
   -- pairs
@@ -58,7 +58,7 @@ module _ (t : Tables) (v : IsValid t) where
   chosen_lines list low = each_line (chosen_text t) (candidate_name t) chosen_line list (λ k i. chosen_back t k (candidate_named t v k (low k i)))
 
   -- layers with the items that they add
-  layers_lines : (inside : List ℕ) → ((m : ℕ) → In m inside → m < item_count t) → (u : ℕ) (layers : List PlacedLayer) → ((l : PlacedLayer) → In l layers → IsSmallLayer l)
+  layers_lines : (inside : List ℕ) → ((m : ℕ) → In m inside → m < case_item_count t) → (u : ℕ) (layers : List PlacedLayer) → ((l : PlacedLayer) → In l layers → IsSmallLayer l)
       → AreLines (layers_text t inside u layers) (joined (map layer_lines (named_layers t inside u layers)))
   layers_lines inside low u [] small = no_lines
   layers_lines inside low u (l ∷ layers) small =
@@ -73,7 +73,7 @@ module _ (t : Tables) (v : IsValid t) where
 
   -- a plan
   plan_lines : (p : PlanValue) (pairs : List NumberPair) → IsSmall p.cost → ((k : ℕ) → In k p.chosen → k < length t.candidates) → AreWithin t pairs
-      → ((m : ℕ) → In m p.inside → m < item_count t) → ((l : PlacedLayer) → In l p.layers → IsSmallLayer l)
+      → ((m : ℕ) → In m p.inside → m < case_item_count t) → ((l : PlacedLayer) → In l p.layers → IsSmallLayer l)
       → AreLines (placement_text t (cheapest p) pairs) (claim_lines (placement_claim t (cheapest p) pairs))
   plan_lines p pairs small chosen within inside layers =
       let of_chosen = map chosen_line (map (candidate_name t) p.chosen) in
@@ -86,7 +86,7 @@ module _ (t : Tables) (v : IsValid t) where
       subst (AreLines (placement_text t (cheapest p) pairs)) (append_assoc (cost_line p.cost ∷ of_chosen) of_pairs of_layers) whole
 
   -- a shortfall
-  lack_lines : (b : ShortfallValue) (pairs : List NumberPair) → IsSmall b.rank → IsSmall b.outside → ((m : ℕ) → In m b.inside → m < item_count t)
+  lack_lines : (b : ShortfallValue) (pairs : List NumberPair) → IsSmall b.rank → IsSmall b.outside → ((m : ℕ) → In m b.inside → m < case_item_count t)
       → AreLines (placement_text t (short_of b) pairs) (claim_lines (placement_claim t (short_of b) pairs))
   lack_lines b pairs rank outside inside =
       lines_then (shortfall_text b.rank b.outside) (flat_map (inside_text t) b.inside) (shortfall_line b.rank b.outside ∷ []) (map inside_line (named_items t b.inside))

@@ -23,12 +23,12 @@ use Rattle.obs_placement.specs.Answer.{chosen_of, is_chosen}
 use Rattle.obs_placement.specs.Layers.{added_items, inside_of, prices_above}
 use Rattle.obs_placement.specs.Placed.{Placed, shortfall_of, plan_of}
 use Rattle.obs_placement.specs.Placed.Placed.{cheapest, shortfall}
-use Rattle.obs_network.specs.Network.{case_branches, case_component_count, case_meters, case_offered, case_vertex_count}
+use Rattle.obs_network.specs.Network.{case_branches, case_component_count, case_item_count, case_meters, case_offered, case_vertex_count}
 use Rattle.obs_network.specs.Observable.{case_live_meters}
 use Rattle.obs_network.proofs.Marked.{filtered_below}
 use Rattle.obs_network.proofs.OfCase.{case_branches-are, length-case_meters, length-case_offered}
 use Rattle.obs_rankcut.specs.Costs.{price_of}
-use Rattle.obs_report.specs.Items.{IsBranchOf, branch_name, branch_word, candidate_name, item_count, item_name, meter_name}
+use Rattle.obs_report.specs.Items.{IsBranchOf, branch_name, branch_word, candidate_name, item_name, meter_name}
 use Rattle.obs_report.specs.Meters.{component_name}
 use Rattle.obs_report.proofs.OfPairs.{meter_branch, offered_branch}
 use Rattle.obs_repair.specs.Bounds.{bound_meters, component_meters, is_critical_meter, is_meter_of}
@@ -59,7 +59,7 @@ module _ (t : Tables) (v : IsValid t) where
   word_named m e of = elim (cases_Bool (is_angle t m)) [ inl is ↦ rw is refl | inr other ↦ rw other (branch_named e (of.row other)) ]
 
   -- the name of an item
-  pub item_has_name : (m : ℕ) → m < item_count t → is_name (item_name t m) ≡ true
+  pub item_has_name : (m : ℕ) → m < case_item_count t → is_name (item_name t m) ≡ true
   item_has_name m low = elim (cases_lt m (length t.meters)) [
     | inl l ↦ rw (lt-ltb m (length t.meters) l) (meter_named m l)
     | inr l ↦ rw (le-ltb m (length t.meters) l) (candidate_named (m - length t.meters) (omega (arith, low, l)))
@@ -88,7 +88,7 @@ case_pairs_within t v p i =
     (omega (arith, low.0, length-case_meters t), meter_branch t v p.0 p.1 low.1)
 
 -- the items that a bound lists
-pub bound_meters_low : (t : Tables) (c m : ℕ) → In m (bound_meters t c) → m < item_count t
+pub bound_meters_low : (t : Tables) (c m : ℕ) → In m (bound_meters t c) → m < case_item_count t
 unfolding bound_meters component_meters
 bound_meters_low t c m i =
     let own = (In-filter_from (λ x. not (is_critical_meter t x)) m (component_meters t c) i).0 in
@@ -127,14 +127,14 @@ module _ (t : Tables) where
       let low = filtered_below (λ x. is_chosen (case_vertex_count t) (case_branches t) (case_offered t) (price_of (length t.meters) prices) (length t.meters + x)) 0 (length prices) k i in
       omega (arith, low, length-map t.candidates (λ (row : Candidate). row.price))
 
-  pub plan_inside_low : (m : ℕ) → In m (plan_of (case_vertex_count t) (case_branches t) (case_offered t) (length t.meters) (prices_of t.candidates)).inside → m < item_count t
+  pub plan_inside_low : (m : ℕ) → In m (plan_of (case_vertex_count t) (case_branches t) (case_offered t) (length t.meters) (prices_of t.candidates)).inside → m < case_item_count t
   plan_inside_low m i =
       let prices = prices_of t.candidates in
       let chosen = chosen_of (case_vertex_count t) (case_branches t) (case_offered t) (length t.meters) prices in
       let low = inside_low (case_vertex_count t) (case_branches t) (case_offered t) (price_of (length t.meters) prices) 0 (prices_above prices chosen 0) m i in
       omega (arith, low, length-case_offered t)
 
-  pub lack_inside_low : (needed m : ℕ) → In m (shortfall_of (case_vertex_count t) (case_branches t) (case_offered t) needed).inside → m < item_count t
+  pub lack_inside_low : (needed m : ℕ) → In m (shortfall_of (case_vertex_count t) (case_branches t) (case_offered t) needed).inside → m < case_item_count t
   lack_inside_low needed m i =
       let live = live_items (case_branches t) (case_offered t) in
       let own = (In-filter_from (noncritical_in (case_vertex_count t) (case_branches t) (case_offered t) live) m live i).0 in

@@ -10,7 +10,8 @@ use Rattle.obs_matroid.specs.Assignments.{Pair as NumberPair}
 use Rattle.obs_placement.specs.declared.plans.Layer.{Layer as PlacedLayer}
 use Rattle.obs_cert.specs.Forms.{Write, item_name as name_word, sort_word}
 use Rattle.obs_cert.specs.Words.{bound_line, chosen_line, cost_line, end_line, inside_line, layer_line, pair_line, shortfall_line, tree_line}
-use Rattle.obs_report.specs.Items.{branch_word, candidate_name, is_meter, item_name, item_word, inside_line as inside_text, pair_line as pair_text}
+use Rattle.obs_network.specs.Network.{is_meter}
+use Rattle.obs_report.specs.Items.{branch_word, candidate_name, item_name, item_word, inside_line as inside_text, pair_line as pair_text}
 use Rattle.obs_report.specs.Meters.{bound_line as bound_text}
 use Rattle.obs_report.specs.Placements.{chosen_line as chosen_text, cost_line as cost_text, layer_line as layer_text, shortfall_line as shortfall_text}
 use Rattle.obs_report.specs.Trees.{tree_line as tree_text}

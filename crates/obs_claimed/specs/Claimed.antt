@@ -6,7 +6,8 @@ use Rattle.obs_placement.specs.declared.plans.Layer.{Layer as PlacedLayer}
 use Rattle.obs_placement.specs.Placed.{ShortfallValue, Placed, PlanValue}
 use Rattle.obs_placement.specs.Placed.Placed.{cheapest, shortfall as short_of}
 use Rattle.obs_cert.specs.Claims.{BoundClaim, Claim, CostClaim, Item, Layer, Pair, ShortfallClaim, TreeClaim, meter, candidate, cost, shortfall}
-use Rattle.obs_report.specs.Items.{branch_word, candidate_name, is_meter, meter_name}
+use Rattle.obs_network.specs.Network.{is_meter}
+use Rattle.obs_report.specs.Items.{branch_word, candidate_name, meter_name}
 use Rattle.obs_report.specs.Meters.{component_name}
 use Rattle.obs_repair.specs.Bounds.{bound_meters, bound_outside, bound_rank}
 use Rattle.obs_edit.specs.Laws.{tree_pairs}

@@ -17,9 +17,9 @@ use Rattle.obs_meter.specs.Spanned.{both_ends, ends_at, joined_at, rank_at}
 use Rattle.obs_meter.proofs.Assigned.{from_matroid, to_matroid}
 use Rattle.obs_meter.proofs.Instance.{IsJoining-graph, IsMatroid-graph}
 use Rattle.obs_meter.proofs.Touched.{touched-present}
-use Rattle.obs_islands.specs.Islands.{IsSpannedAt, every_vertex}
+use Rattle.obs_islands.specs.Islands.{every_vertex}
 use Rattle.obs_islands.proofs.Parts.{In-vertices, vertex_low, vertices-distinct}
-use Rattle.obs_islands.proofs.Spanning.{ends_low}
+use Rattle.obs_islands.proofs.Spanning.{IsSpannedAt, ends_low}
 use Rattle.obs_network.specs.Switched.{case_bus_count}
 use Rattle.obs_network.specs.Network.{case_branches, case_component_count, case_components, case_live, case_meters, case_vertex_component, case_vertex_count}
 use Rattle.obs_network.specs.Observable.{IsObservable, branch_component, case_live_meters, is_absolute_component, is_vertex_of, item_component}

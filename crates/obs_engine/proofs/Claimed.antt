@@ -33,7 +33,8 @@ use Rattle.obs_claimed.proofs.Texts.{bounds_are_lines, placements_are_lines, tre
 use Rattle.obs_claimed.proofs.Trees.{trees_hold}
 use Rattle.obs_claimed.proofs.Words.{last_is_line}
 use Rattle.obs_engine.specs.Asks.{block_text, bound_claim, claims_text, component_claim, text_if, tree_claim}
-use Rattle.obs_engine.specs.Claimed.{AnswersHold, claim_if, claims_on, claims_on_all}
+use Rattle.obs_files.specs.Words.{item_if}
+use Rattle.obs_engine.specs.Claimed.{AnswersHold, claims_on, claims_on_all}
 use Rattle.obs_engine.specs.Verify.{AllHold, checked_reply, claims_reply, valid_reply, verify_reply}
 
 -- the lines of some claims, and of those that stand behind others
@@ -47,25 +48,25 @@ behind (claim ∷ first) second =
     ∙ sym (append_assoc (claim_lines claim) (lines_of_claims first) (lines_of_claims second))
 
 -- a text where a test is met
-text_if_lines : (b : Bool) (text : List ℕ) (claim : Claim) → AreLines text (claim_lines claim) → AreLines (text_if b text) (lines_of_claims (claim_if b claim))
+text_if_lines : (b : Bool) (text : List ℕ) (claim : Claim) → AreLines text (claim_lines claim) → AreLines (text_if b text) (lines_of_claims (item_if b claim))
 text_if_lines true text claim is = subst (AreLines text) (sym (append-nil (claim_lines claim))) is
 text_if_lines false text claim is = no_lines
 
 -- one of two texts, or none
 either_lines : (energised full trees bounds : Bool) (first second : List ℕ) (one other : Claim) → AreLines first (claim_lines one) → AreLines second (claim_lines other)
     → AreLines (if energised then (if full then text_if trees first else text_if bounds second) else [])
-    (lines_of_claims (if energised then (if full then claim_if trees one else claim_if bounds other) else []))
+    (lines_of_claims (if energised then (if full then item_if trees one else item_if bounds other) else []))
 either_lines true true trees bounds first second one other a b = text_if_lines trees first one a
 either_lines true false trees bounds first second one other a b = text_if_lines bounds second other b
 either_lines false full trees bounds first second one other a b = no_lines
 
-held_if : (t : Tables) (b : Bool) (claim x : Claim) → Holds t claim → In x (claim_if b claim) → Holds t x
+held_if : (t : Tables) (b : Bool) (claim x : Claim) → Holds t claim → In x (item_if b claim) → Holds t x
 held_if t true claim x holds (inl e) = rw e holds
 held_if t true claim x holds (inr i) = absurd i
 held_if t false claim x holds i = absurd i
 
 either_held : (t : Tables) (energised full trees bounds : Bool) (one other x : Claim) → (energised ≡ true → full ≡ true → Holds t one) → (energised ≡ true → full ≡ false → Holds t other)
-    → In x (if energised then (if full then claim_if trees one else claim_if bounds other) else []) → Holds t x
+    → In x (if energised then (if full then item_if trees one else item_if bounds other) else []) → Holds t x
 either_held t true true trees bounds one other x a b i = held_if t trees one x (a refl refl) i
 either_held t true false trees bounds one other x a b i = held_if t bounds other x (b refl refl) i
 either_held t false full trees bounds one other x a b i = absurd i

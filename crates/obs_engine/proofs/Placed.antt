@@ -17,11 +17,10 @@ use Rattle.obs_placement.specs.Answer.{is_chosen}
 use Rattle.obs_placement.specs.Layers.{added_items, inside_of, layers_of, prices_above}
 use Rattle.obs_placement.specs.Placed.{Placed, redundant_items, shortfall_of, plan_of}
 use Rattle.obs_placement.specs.Placed.Placed.{cheapest, shortfall}
-use Rattle.obs_network.specs.Network.{case_branches, case_needed, case_offered, case_vertex_count}
+use Rattle.obs_network.specs.Network.{case_branches, case_item_count, case_needed, case_offered, case_vertex_count}
 use Rattle.obs_network.proofs.Marked.{filtered_below}
 use Rattle.obs_network.proofs.OfCase.{length-case_offered}
 use Rattle.obs_rankcut.specs.Costs.{price_of}
-use Rattle.obs_report.specs.Items.{item_count}
 use Rattle.obs_report.specs.Placements.{AreCountsOf, IsWithin, placement_text}
 use Rattle.obs_edit.specs.Planned.{case_placed_pairs, case_placement}
 use Rattle.obs_engine.specs.declared.blocks.Block.TheVariants.{Placement}
@@ -47,7 +46,7 @@ plan_within t n ends =
     let plan = plan_of n ends touches (length t.meters) prices in (
       All-from_In (λ k. k < length t.candidates) plan.chosen
           (λ k i. let low = filtered_below (λ k. is_chosen n ends touches price (length t.meters + k)) 0 (length prices) k i in omega (arith, low, many)),
-      All-from_In (λ m. m < item_count t) plan.inside
+      All-from_In (λ m. m < case_item_count t) plan.inside
           (λ m i. let low = inside_low n ends touches price 0 (prices_above prices plan.chosen 0) m i in omega (arith, low, length-case_offered t)),
       counts_of n ends touches price (length plan.inside) 0 0 (prices_above prices plan.chosen 0) (omega arith),
     )
@@ -55,7 +54,7 @@ plan_within t n ends =
 lack_within : (t : Tables) (n : ℕ) (ends : List (Option Ends)) (needed : ℕ) → IsWithin t (shortfall (shortfall_of n ends (case_offered t) needed))
 lack_within t n ends needed =
     let touches = case_offered t in
-    All-from_In (λ m. m < item_count t) (redundant_items n ends touches)
+    All-from_In (λ m. m < case_item_count t) (redundant_items n ends touches)
     (λ m i.
     let live = (In-filter_from (noncritical_in n ends touches (live_items ends touches)) m (live_items ends touches) i).0 in
     let low = filtered_below (is_live ends touches) 0 (length touches) m live in

@@ -20,18 +20,14 @@ use Rattle.obs_engine.specs.Commands.{IsFilesReply}
 use Rattle.obs_files.specs.Files.{case_in_files}
 use Rattle.obs_engine.specs.Replies.{Reply}
 use Rattle.obs_engine.specs.Verify.{AllHold, valid_reply, verify_reply}
-use Rattle.obs_files.specs.Words.{certificate_at}
-
--- a claim where a test is met, else none
-abbrev pub claim_if : Bool → Claim → List Claim
-claim_if b claim = if b then claim ∷ [] else []
+use Rattle.obs_files.specs.Words.{certificate_at, item_if}
 
 -- the claim on a component: its tree where it has all pairs that it needs, where trees are asked for, and else its bound, where bounds
 -- are; none on a component that isn't energised
 unfoldable pub claims_on : Bool → Bool → Tables → ℕ → List Claim
 claims_on trees bounds t c =
     if is_energised_component t c
-    then (if component_rank t c == case_need t c then claim_if trees (tree (component_tree t c)) else claim_if bounds (bound (component_bound t c)))
+    then (if component_rank t c == case_need t c then item_if trees (tree (component_tree t c)) else item_if bounds (bound (component_bound t c)))
     else []
 
 -- the claims on all components, in their order

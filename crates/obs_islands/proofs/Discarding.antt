@@ -43,12 +43,12 @@ use Rattle.obs_exchange.proofs.Walking.{free_is, touched_ends, touched_low}
 use Rattle.obs_islands.specs.Firsts.{island_first, islands_of}
 use Rattle.obs_islands.specs.GivenUp.{GivesUp, IsLost}
 use Rattle.obs_islands.specs.GivenUp.IsLost.{first, next}
-use Rattle.obs_islands.specs.Islands.{IsSpannedAt, every_vertex}
+use Rattle.obs_islands.specs.Islands.{every_vertex}
 use Rattle.obs_islands.specs.Rounds.{AreFirsts, is_between, is_crossing, remaining, straddles}
 use Rattle.obs_islands.proofs.Crossing.{crossing-from, kept-other, none_straddles, remaining_at, straddles-from, uncrossed-from}
 use Rattle.obs_islands.proofs.Firsts.{Settled, island_first-is}
 use Rattle.obs_islands.proofs.Parts.{In-vertices, vertices-distinct}
-use Rattle.obs_islands.proofs.Spanning.{ends_low}
+use Rattle.obs_islands.proofs.Spanning.{IsSpannedAt, ends_low}
 
 -- each item touches what it touched at first, or was discarded
 abbrev pub IsUsedOf : List Touch → List Touch → Type 0

@@ -8,7 +8,7 @@ use Rattle.obs_graph.specs.Positions.{AreBranches}
 use Rattle.obs_graph.proofs.Present.{branch_at, some_is_in}
 use Rattle.obs_matroid.specs.Lists.{In, IsDistinct}
 use Rattle.obs_matroid.specs.Assignments.{Pair, items, branches}
-use Rattle.obs_matroid.specs.Islands.{LiesInside}
+use Rattle.obs_matroid.specs.Islands.{IsSpanned, LiesInside}
 use Rattle.obs_matroid.proofs.Bounds.{length-branches}
 use Rattle.obs_matroid.proofs.Lists.{In-filter, In-filter_from, In_same, IsDistinct-filter}
 use Rattle.obs_matroid.proofs.Pairs.{In-branches_from, In-items, In-items_from}
@@ -16,15 +16,21 @@ use Rattle.obs_matroid.proofs.Pieces.{HasFirsts, firsts}
 use Rattle.obs_meter.specs.declared.Touch.{Touch}
 use Rattle.obs_meter.specs.declared.Touch.TheVariants.{Nothing}
 use Rattle.obs_meter.specs.Assignments.{rho_at}
-use Rattle.obs_meter.specs.Spanned.{both_ends, ends_at, joined_at, rank_at}
+use Rattle.obs_meter.specs.Spanned.{both_ends, ends_at, graph_matroid, joined_at, rank_at}
 use Rattle.obs_meter.specs.Touches.{live_items, touch_at}
 use Rattle.obs_meter.proofs.Assigned.{from_matroid, live_items-distinct, rho_at-is, to_matroid}
 use Rattle.obs_meter.proofs.Instance.{IsJoining-graph}
 use Rattle.obs_meter.proofs.Touched.{touched-present}
 use Rattle.obs_forest.specs.Forest.{has_position}
 use Rattle.obs_islands.specs.Firsts.{is_spanned, lies_inside}
-use Rattle.obs_islands.specs.Islands.{IsSpannedAt, every_vertex}
+use Rattle.obs_islands.specs.Islands.{every_vertex}
 use Rattle.obs_islands.proofs.Parts.{In-from_has, In-vertices, has-from_In, length-part, vertices-distinct}
+
+-- S is spanned from inside: it isn't empty, and the live meters that lie inside it have an assignment of one pair fewer than
+-- S has vertices
+abbrev pub IsSpannedAt : ℕ → List (Option Ends) → List Touch → (ℕ → Bool) → Type 0
+IsSpannedAt n ends touches S =
+    IsSpanned (ends_at ends) (graph_matroid n ends) (touch_at ends touches) (every_vertex n) (live_items ends touches) S
 
 all_from : (p : ℕ → Bool) (xs : List ℕ) → ((x : ℕ) → In x xs → p x ≡ true) → list_all p xs ≡ true
 all_from p [] h = refl

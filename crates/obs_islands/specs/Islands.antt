@@ -3,7 +3,7 @@
 use Rattle.std.specs.Prelude.{◌≡◌, ℕ, ◌<◌, ◌≤◌, Bool, true, Option, List}
 use Rattle.std.specs.List.{range_with_len}
 use Rattle.obs_graph.specs.declared.Ends.{Ends}
-use Rattle.obs_matroid.specs.Islands.{IsIsland, IsSpanned}
+use Rattle.obs_matroid.specs.Islands.{IsIsland}
 use Rattle.obs_meter.specs.declared.Touch.{Touch}
 use Rattle.obs_meter.specs.Spanned.{ends_at, graph_matroid}
 use Rattle.obs_meter.specs.Touches.{live_items, touch_at}
@@ -11,12 +11,6 @@ use Rattle.obs_meter.specs.Touches.{live_items, touch_at}
 -- all vertices, by number
 abbrev pub every_vertex : ℕ → List ℕ
 every_vertex n = range_with_len 0 n
-
--- S is spanned from inside: it isn't empty, and the live meters that lie inside it have an assignment of one pair fewer than
--- S has vertices
-abbrev pub IsSpannedAt : ℕ → List (Option Ends) → List Touch → (ℕ → Bool) → Type 0
-IsSpannedAt n ends touches S =
-    IsSpanned (ends_at ends) (graph_matroid n ends) (touch_at ends touches) (every_vertex n) (live_items ends touches) S
 
 -- S is an island: spanned from inside, and in no larger set that is
 abbrev pub IsIslandAt : ℕ → List (Option Ends) → List Touch → (ℕ → Bool) → Type 0

@@ -10,12 +10,29 @@ use Rattle.obs_meter.specs.declared.Touch.TheVariants.{Nothing}
 use Rattle.obs_meter.specs.Held.{Meters}
 use Rattle.obs_meter.specs.Touches.{AreInRange, IsInRange}
 use Rattle.obs_network.specs.declared.following.Change.{Change}
-use Rattle.obs_network.specs.Following.{AreFollowed, AreFollowedMeters, AreListedFar, AreMoved, followed, followed_items, is_near}
+use Rattle.obs_network.specs.Following.{AreFollowed, AreListedFar, followed, followed_items, is_near}
 use Rattle.obs_network.specs.Kept.{Listed, list_of, lists_of}
 use Rattle.obs_network.specs.Located.{touch_component}
 use Rattle.obs_network.specs.Network.{Components}
 use Rattle.obs_network.proofs.FollowedItems.{followed_far}
 use Rattle.obs_network.proofs.RefreshedMeter.{length-lists_of}
+
+-- the meters below `end` stand in the lists that are wanted, and so do those that aren't near
+pub record AreMoved (near : ℕ → Bool) (wanted lists : List ℕ) (end : ℕ) : Type 0 where
+  pub done : (k : ℕ) → k < end → get_or lists k 0 ≡ get_or wanted k 0
+  pub far : (k : ℕ) → k < length lists → near k ≡ false → get_or lists k 0 ≡ get_or wanted k 0
+
+-- the meters below `end` follow, also among what is offered, and stand in the lists that are wanted, where some are left that
+-- may change theirs one by one
+pub record AreFollowedMeters (follow : Touch → Touch) (near : ℕ → Bool) (wanted : List ℕ) (before_meters before_offered : Meters) (before : Listed)
+    (meters offered : Meters) (listed : Listed) (left end : ℕ) : Type 0 where
+  pub meters_follow : AreFollowed follow before_meters meters 0 end
+  pub offered_follow : AreFollowed follow before_offered offered 0 end
+  pub moved : 0 < left → AreMoved near wanted listed.lists end
+  pub len : length listed.lists ≡ length wanted
+  pub components : listed.components ≡ before.components
+  pub most_meters : listed.most_meters ≡ before.most_meters
+  pub most_components : listed.most_components ≡ before.most_components
 
 module _ (follow : Touch → Touch) (before : Meters) (first : ℕ) where
   -- where none follow yet

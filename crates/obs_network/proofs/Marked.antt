@@ -17,7 +17,6 @@ use Rattle.obs_switch.proofs.FirstNodes.{count_below-passed}
 use Rattle.obs_graph.specs.declared.Ends.{Ends}
 use Rattle.obs_case.specs.declared.rows.Node.{Node}
 use Rattle.obs_network.specs.Components.{component_count, component_of, components_of, first_bus, first_buses_of, if_energised, is_first_bus, is_marked, marked_of, sizes_of}
-use Rattle.obs_network.specs.Kept.{AreAllKept}
 use Rattle.obs_network.proofs.Numbered.{components_of-at}
 
 map_same : (xs : List ℕ) → map (λ x. x) xs ≡ xs
@@ -136,6 +135,11 @@ length-first_buses_of n live = length-passing (is_first_bus live) n
 pub first_bus_at : (n : ℕ) (live : List Ends) (b : ℕ) → b < n → get_or (first_buses_of n live) (component_of live b) 0 ≡ first_bus live b
 first_bus_at n live b l =
     passing_at (is_first_bus live) n (first_bus live b) (omega (arith, first_joined-le live b)) (eq-eqb (first_bus live (first_bus live b)) (first_bus live b) (first_joined-first_joined live b))
+
+-- the live branches below `end` are of energised components
+abbrev pub AreAllKept : List ℕ → List Bool → List (Option Ends) → ℕ → Type 0
+AreAllKept numbers energised live end =
+    (k : ℕ) → k < end → if_energised numbers energised (get_or live k None) ≡ get_or live k None
 
 -- where all live branches are of energised components, what is kept is what is live
 pub AllKept-all : (numbers : List ℕ) (energised : List Bool) (live kept : List (Option Ends)) (i : ℕ) → length live ≤ i → length live ≡ length kept → take i kept ≡ map (if_energised numbers energised) (take i live)

@@ -53,20 +53,3 @@ pub record AreFollowed (follow : Touch → Touch) (before after : Meters) (first
   pub below : (k : ℕ) → k < first → slice_index_or after.touches k Nothing ≡ slice_index_or before.touches k Nothing
   pub done : (k : ℕ) → first ≤ k → k < end → slice_index_or after.touches k Nothing ≡ follow (slice_index_or before.touches k Nothing)
   pub rest : (k : ℕ) → end ≤ k → slice_index_or after.touches k Nothing ≡ slice_index_or before.touches k Nothing
-
--- the meters below `end` stand in the lists that are wanted, and so do those that aren't near
-pub record AreMoved (near : ℕ → Bool) (wanted lists : List ℕ) (end : ℕ) : Type 0 where
-  pub done : (k : ℕ) → k < end → slice_index lists k ≡ slice_index wanted k
-  pub far : (k : ℕ) → k < length lists → near k ≡ false → slice_index lists k ≡ slice_index wanted k
-
--- the meters below `end` follow, also among what is offered, and stand in the lists that are wanted, where some are left that
--- may change theirs one by one
-pub record AreFollowedMeters (follow : Touch → Touch) (near : ℕ → Bool) (wanted : List ℕ) (before_meters before_offered : Meters) (before : Listed)
-    (meters offered : Meters) (listed : Listed) (left end : ℕ) : Type 0 where
-  pub meters_follow : AreFollowed follow before_meters meters 0 end
-  pub offered_follow : AreFollowed follow before_offered offered 0 end
-  pub moved : 0 < left → AreMoved near wanted listed.lists end
-  pub len : length listed.lists ≡ length wanted
-  pub components : listed.components ≡ before.components
-  pub most_meters : listed.most_meters ≡ before.most_meters
-  pub most_components : listed.most_components ≡ before.most_components

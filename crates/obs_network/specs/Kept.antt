@@ -26,11 +26,6 @@ flag_of Absolute row = row.absolute
 abbrev pub need_by : ℕ → Bool → ℕ
 need_by size absolute = if absolute then size else size - 1
 
--- the live branches below `end` are of energised components
-abbrev pub AreAllKept : List ℕ → List Bool → List (Option Ends) → ℕ → Type 0
-AreAllKept numbers energised live end =
-    (k : ℕ) → k < end → if_energised numbers energised (slice_index_or live k None) ≡ slice_index_or live k None
-
 -- the arrays of components, of which the first entries are in use
 pub record AreGrouped (buses count : ℕ) (numbers first_buses sizes : List ℕ) (energised absolute : List Bool) : Type 0 where
   pub small : length numbers < 2 ^ 32

@@ -80,6 +80,10 @@ case_vertex_room t = 2 * length t.nodes
 abbrev pub case_item_count : Tables → ℕ
 case_item_count t = length t.meters + length t.candidates
 
+-- whether an item is a meter
+abbrev pub is_meter : Tables → ℕ → Bool
+is_meter t m = nat_lt m (length t.meters)
+
 -- how many positions the branches of the graph have: one for each row of the branch table, and one for each item where one
 -- of them is an angle item
 abbrev pub case_position_count : Tables → ℕ
@@ -92,6 +96,10 @@ case_position_room t = length t.branches + case_item_count t
 -- the component of a vertex
 abbrev pub case_vertex_component : Tables → ℕ → ℕ
 case_vertex_component t v = vertex_component (case_components t) v
+
+-- the component of a node
+abbrev pub node_component : Tables → ℕ → ℕ
+node_component t u = slice_index (case_components t) (slice_index (case_buses t) u)
 
 -- the pairs that a component needs
 abbrev pub case_need : Tables → ℕ → ℕ

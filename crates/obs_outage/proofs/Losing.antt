@@ -15,8 +15,16 @@ use Rattle.obs_matroid.proofs.Lists.{In-filter, In-filter_from, IsDistinct-filte
 use Rattle.obs_meter.specs.declared.Touch.TheVariants.{Star}
 use Rattle.obs_meter.proofs.Touched.{In-from_any, any-from_In, star_touched, touch-rising, touched-below}
 use Rattle.obs_outage.specs.Feeds.{sources_at}
-use Rattle.obs_outage.specs.Lost.{counts_at, ends_in, has_first, lost_pairs}
+use Rattle.obs_outage.specs.Lost.{counts_at, has_first}
 use Rattle.obs_outage.proofs.Parting.{count_by-cons, sum_by-agree, sum_of_places}
+
+-- whether a branch has an end at one of some buses
+abbrev pub ends_in : List (Option Ends) → List ℕ → ℕ → Bool
+ends_in ends side k = list_any (λ v. has_end v (slice_index_or ends k None)) side
+
+-- the pairs that a side loses: those whose branch has an end there
+abbrev pub lost_pairs : List (Option Ends) → List ℕ → List Pair → List Pair
+lost_pairs ends side A = filter (λ (p : Pair). ends_in ends side p.1) A
 
 pub count_by-length : (p : ℕ → Bool) (xs : List ℕ) → count_by p xs ≡ length (filter p xs)
 count_by-length p [] = refl

@@ -35,10 +35,10 @@ use Rattle.obs_network.proofs.SideLists.{in_side, side_in, side_low}
 use Rattle.obs_network.proofs.Vertices.{case_vertex_component-bus}
 use Rattle.obs_kept.specs.Kept.{AreLongest}
 use Rattle.obs_outage.specs.Feeds.{component_pairs}
-use Rattle.obs_outage.specs.Lost.{IsConfinedBeside, IsUnfedBeside, counts_at, ends_in, lost_pairs}
+use Rattle.obs_outage.specs.Lost.{IsConfinedBeside, IsUnfedBeside, counts_at}
 use Rattle.obs_outage.proofs.ByComponent.{lies_in}
 use Rattle.obs_outage.proofs.InOutage.{rank_longest}
-use Rattle.obs_outage.proofs.Losing.{any_from, any_in, count_by-branches, sum_is}
+use Rattle.obs_outage.proofs.Losing.{any_from, any_in, count_by-branches, ends_in, lost_pairs, sum_is}
 use Rattle.obs_outage.proofs.Parting.{count_by-cons}
 use Rattle.obs_outage.proofs.Unfed.{at, ends_there, gone_at, goes_on, is_on, leaves, on, rank_less, row_is, row_of_side, row_off, same_side, stays_off}
 use Rattle.obs_outage.proofs.UnfedSide.{by_hub}

@@ -11,7 +11,7 @@ use Rattle.obs_network.specs.Switched.{case_bus_count}
 use Rattle.obs_network.specs.Components.{source_nodes}
 use Rattle.obs_assign.specs.Assignment.{Assignment, pairs}
 use Rattle.obs_kept.specs.Kept.{AreLongest}
-use Rattle.obs_network.specs.Network.{Network, case_meters, case_needed, case_rows, case_sizes, network_of}
+use Rattle.obs_network.specs.Network.{Network, case_meters, case_needed, case_rows, case_sizes, network_of, node_component}
 use Rattle.obs_network.specs.Observable.{case_live_meters}
 use Rattle.obs_network.specs.Parted.{HasSource, HasSourceBeside, IsParted, IsSide, outage_case}
 use Rattle.obs_network.specs.Located.{component_of_branch}
@@ -21,7 +21,7 @@ use Rattle.obs_network.proofs.OfCase.{case_bus_count-le, case_component-below, c
 use Rattle.obs_network.proofs.PartedNeeds.{Found, both_live, found, in_component, listed_dead, low, other_dead}
 use Rattle.obs_network.proofs.SideLists.{on_side, side_count, side_low}
 use Rattle.obs_outage.specs.declared.outages.Outage.{Outage}
-use Rattle.obs_outage.specs.Feeds.{AreFeeds, Feeds, IsFall, bus_at, component_at, sources_at}
+use Rattle.obs_outage.specs.Feeds.{AreFeeds, Feeds, IsFall, bus_at, sources_at}
 use Rattle.obs_outage.specs.Outages.{outage_of}
 use Rattle.obs_outage.proofs.InOutage.{out_valid, rank_is, rank_longest}
 use Rattle.obs_outage.proofs.Joined.{entry_by}
@@ -121,7 +121,7 @@ module _ (t : Tables) (v : IsValid t) (e c : ℕ) (side : List ℕ) (p : IsParte
     listed u = is_in side (bus_at t u)
 
     abbrev within : ℕ → Bool
-    within u = component_at t u == c
+    within u = node_component t u == c
 
     abbrev pub here : ℕ
     here = sum_by (slice_index feeds.of_buses) side
@@ -138,7 +138,7 @@ module _ (t : Tables) (v : IsValid t) (e c : ℕ) (side : List ℕ) (p : IsParte
     all_is = are.at_components c component_low
 
     lies_within : (u : ℕ) → In u sources → listed u ≡ true → within u ≡ true
-    lies_within u i l = eq-eqb (component_at t u) c (in_component t v e c side p f (bus_at t u) (is_in_from side (bus_at t u) l))
+    lies_within u i l = eq-eqb (node_component t u) c (in_component t v e c side p f (bus_at t u) (is_in_from side (bus_at t u) l))
 
     abbrev Compared : Type 0
     Compared = ((count_by listed sources ≡ count_by within sources) × ((u : ℕ) → In u sources → within u ≡ true → listed u ≡ true))
@@ -168,7 +168,7 @@ module _ (t : Tables) (v : IsValid t) (e c : ℕ) (side : List ℕ) (p : IsParte
     pub none_beside : here ≡ all → HasSourceBeside t c side → ⊥
     none_beside same s =
         elim compared [
-          | inl r ↦ s.3 (is_in_from side (bus_at t s.0) (r.1 s.0 s.1 (eq-eqb (component_at t s.0) c s.2)))
+          | inl r ↦ s.3 (is_in_from side (bus_at t s.0) (r.1 s.0 s.1 (eq-eqb (node_component t s.0) c s.2)))
           | inr r ↦ let l = r.0 in absurd (omega (arith, l, same, here_is, all_is))
         ]
 
@@ -176,7 +176,7 @@ module _ (t : Tables) (v : IsValid t) (e c : ℕ) (side : List ℕ) (p : IsParte
     has_beside ne =
         elim compared [
           | inl r ↦ absurd (ne (omega (arith, here_is, all_is, r.0)))
-          | inr r ↦ (r.1.0, r.1.1, eqb-true (component_at t r.1.0) c r.1.2, λ i. true≢false (sym (is_in_at side (bus_at t r.1.0) i) ∙ r.1.3))
+          | inr r ↦ (r.1.0, r.1.1, eqb-true (node_component t r.1.0) c r.1.2, λ i. true≢false (sym (is_in_at side (bus_at t r.1.0) i) ∙ r.1.3))
         ]
 
     -- what the needed number falls by

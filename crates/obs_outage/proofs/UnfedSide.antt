@@ -33,9 +33,9 @@ use Rattle.obs_network.proofs.Outed.{some_of}
 use Rattle.obs_network.proofs.PartedNeeds.{Fed, Found, found, one_fed, some_fed}
 use Rattle.obs_network.proofs.SideLists.{in_side, side_in}
 use Rattle.obs_kept.specs.Kept.{AreLongest}
-use Rattle.obs_outage.specs.Lost.{IsConfined, IsUnfed, counts_at, ends_in, lost_pairs}
+use Rattle.obs_outage.specs.Lost.{IsConfined, IsUnfed, counts_at}
 use Rattle.obs_outage.proofs.InOutage.{rank_longest}
-use Rattle.obs_outage.proofs.Losing.{any_from, any_in, same_length, sum_is}
+use Rattle.obs_outage.proofs.Losing.{any_from, any_in, ends_in, lost_pairs, same_length, sum_is}
 use Rattle.obs_outage.proofs.Unfed.{at, ends_there, gone_at, goes_on, leaves, on, rank_less, row_is, row_off, stays_off}
 
 -- an item without a hub touches one branch at most, and one with a hub touches branches with an end there

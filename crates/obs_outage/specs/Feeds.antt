@@ -9,7 +9,7 @@ use Rattle.obs_assign.specs.Assignment.{Assignment, pairs}
 use Rattle.obs_network.specs.Switched.{case_buses}
 use Rattle.obs_network.specs.Components.{source_nodes}
 use Rattle.obs_network.specs.Located.{component_of_branch}
-use Rattle.obs_network.specs.Network.{Network, case_branches, case_components, case_meters, case_needed}
+use Rattle.obs_network.specs.Network.{Network, case_branches, case_meters, case_needed, node_component}
 use Rattle.obs_network.specs.Observable.{branch_component, case_rank}
 use Rattle.obs_kept.specs.Kept.{AreLongest}
 use Rattle.obs_network.specs.Parted.{outage_case}
@@ -18,12 +18,9 @@ use Rattle.obs_network.specs.Parted.{outage_case}
 abbrev pub sources_at : (ℕ → ℕ) → List ℕ → ℕ → ℕ
 sources_at place sources at = count_by (λ u. place u == at) sources
 
--- the bus of a node, and the component of its bus
+-- the bus of a node
 abbrev pub bus_at : Tables → ℕ → ℕ
 bus_at t u = slice_index (case_buses t) u
-
-abbrev pub component_at : Tables → ℕ → ℕ
-component_at t u = slice_index (case_components t) (bus_at t u)
 
 -- the component in which the branch of a pair lies, and none of a branch that no pair has
 abbrev pub pair_component : Network → Assignment → ℕ → Option ℕ
@@ -54,7 +51,7 @@ pub record AreFeeds (t : Tables) (f : Feeds) : Type 0 where
   pub buses : length f.of_buses ≡ length t.nodes
   pub components : length f.of_components ≡ length t.nodes
   pub at_buses : (b : ℕ) → b < length t.nodes → slice_index f.of_buses b ≡ sources_at (bus_at t) (source_nodes t.nodes) b
-  pub at_components : (c : ℕ) → c < length t.nodes → slice_index f.of_components c ≡ sources_at (component_at t) (source_nodes t.nodes) c
+  pub at_components : (c : ℕ) → c < length t.nodes → slice_index f.of_components c ≡ sources_at (node_component t) (source_nodes t.nodes) c
   pub pairs : length f.pairs ≡ length t.nodes
   pub at_pairs : (c : ℕ) → c < length t.nodes → (a : Assignment) → AreLongest t a → slice_index f.pairs c ≡ component_pairs t c a
 

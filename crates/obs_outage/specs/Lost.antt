@@ -13,14 +13,6 @@ use Rattle.obs_assign.specs.Assignment.{Assignment, branch_at}
 use Rattle.obs_network.specs.Network.{Network}
 use Rattle.obs_network.specs.Parted.{HasSource, HasSourceBeside, IsParted}
 
--- whether a branch has an end at one of some buses
-abbrev pub ends_in : List (Option Ends) → List ℕ → ℕ → Bool
-ends_in ends side k = list_any (λ v. has_end v (slice_index_or ends k None)) side
-
--- the pairs that a side loses: those whose branch has an end there
-abbrev pub lost_pairs : List (Option Ends) → List ℕ → List Pair → List Pair
-lost_pairs ends side A = filter (λ (p : Pair). ends_in ends side p.1) A
-
 -- whether a bus is the first end of a branch
 abbrev pub has_first : ℕ → Option Ends → Bool
 has_first v None = false

@@ -3,6 +3,7 @@ use Rattle.std.specs.Prelude.{◌≡◌, ℕ, ◌+◌, ◌-◌, ◌<◌, Bool, t
 use Rattle.obs_case.specs.Items.{angle_position, is_angle}
 use Rattle.obs_case.specs.Tables.{Tables, branch_names, candidate_names, meter_names}
 use Rattle.obs_matroid.specs.Assignments.{Pair}
+use Rattle.obs_network.specs.Network.{is_meter}
 use Rattle.obs_report.specs.Lines.{line_of}
 
 -- the name of the meter at a position
@@ -16,14 +17,6 @@ candidate_name t k = slice_index_or (candidate_names t) k []
 -- the name of the branch at a position
 abbrev pub branch_name : Tables → ℕ → List ℕ
 branch_name t e = slice_index_or (branch_names t) e []
-
--- how many items a case has
-abbrev pub item_count : Tables → ℕ
-item_count t = length t.meters + length t.candidates
-
--- whether an item is a meter
-abbrev pub is_meter : Tables → ℕ → Bool
-is_meter t m = nat_lt m (length t.meters)
 
 -- the word of an item, and its name
 abbrev pub item_word : Tables → ℕ → List ℕ

@@ -2,7 +2,8 @@
 ghost use Rattle.std.specs.Prelude.{◌≡◌, ◌<◌, All, IfSome, [], ◌∷◌};
 ghost use Rattle.std.specs.List.{flat_map};
 ghost use Rattle.obs_matroid.specs.Slots.{pairs_from};
-ghost use Rattle.obs_report.specs.Items.{IsBranchOf, branch_word, inside_line, item_count, item_name, item_word, pair_line};
+ghost use Rattle.obs_network.specs.Network.{case_item_count};
+ghost use Rattle.obs_report.specs.Items.{IsBranchOf, branch_word, inside_line, item_name, item_word, pair_line};
 ghost use Rattle.obs_report.specs.Printed.{Prints};
 
 use crate::line_buffer::LineBuffer;
@@ -23,7 +24,7 @@ fn item_word(case: &Case, m: u32) -> &[u8]
 
 // The name of an item.
 fn item_name(case: &Case, m: u32) -> &[u8]
-    requires item { m < item_count case.now }
+    requires item { m < case_item_count case.now }
     ensures name { result.now ≡ item_name case.now m }
 {
     let meters = case.meters().len();
@@ -36,7 +37,7 @@ fn item_name(case: &Case, m: u32) -> &[u8]
 
 // Prints the line of an item that is inside a list.
 fn print_inside<W: Sink>(lines: &mut LineBuffer, output: &mut W, case: &Case, m: u32)
-    requires item { m < item_count case.now }
+    requires item { m < case_item_count case.now }
     ensures printed { Prints W.written W.faults W.has_room output.old output.new lines.old lines.new
         (inside_line case.now m) }
 {
@@ -50,7 +51,7 @@ pub(crate) fn print_list<W: Sink>(
     case: &Case,
     inside: &[u32],
 )
-    requires inside { All (λ m. m < item_count case.now) inside.now }
+    requires inside { All (λ m. m < case_item_count case.now) inside.now }
     ensures printed { Prints W.written W.faults W.has_room output.old output.new lines.old lines.new
         (flat_map (inside_line case.now) inside.now) }
 {
@@ -73,7 +74,7 @@ fn branch_word(case: &Case, m: u32, e: u32) -> &[u8]
 
 // Prints the line of an item and its branch.
 fn print_pair_line<W: Sink>(lines: &mut LineBuffer, output: &mut W, case: &Case, m: u32, e: u32)
-    requires item { m < item_count case.now }
+    requires item { m < case_item_count case.now }
     requires branch { IsBranchOf case.now m e }
     ensures printed { Prints W.written W.faults W.has_room output.old output.new lines.old lines.new
         (pair_line case.now (m, e)) }
@@ -95,7 +96,7 @@ pub(crate) fn print_pair<W: Sink>(
     m: u32,
     branch: Option<u32>,
 )
-    requires item { m < item_count case.now }
+    requires item { m < case_item_count case.now }
     requires branch { IfSome branch (λ e. IsBranchOf case.now m e) }
     ensures printed { Prints W.written W.faults W.has_room output.old output.new lines.old lines.new
         (flat_map (pair_line case.now) (pairs_from m (branch ∷ []))) }

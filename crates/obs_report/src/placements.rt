@@ -3,7 +3,8 @@ ghost use Rattle.std.specs.Prelude.{◌<◌, ◌≤◌, ◌++◌, All, length};
 ghost use Rattle.std.specs.List.{flat_map};
 ghost use Rattle.obs_matroid.specs.Slots.{pairs_of};
 ghost use Rattle.obs_placement.specs.Placed.{placed_of};
-ghost use Rattle.obs_report.specs.Items.{inside_line, item_count, pair_line};
+ghost use Rattle.obs_network.specs.Network.{case_item_count};
+ghost use Rattle.obs_report.specs.Items.{inside_line, pair_line};
 ghost use Rattle.obs_report.specs.Placements.{AreCountsOf, ArePairsOf, IsWithin, chosen_line, cost_line, layer_line, layers_text, listed_between, placement_text, plan_text, shortfall_line};
 ghost use Rattle.obs_report.specs.Printed.{Appends, Prints};
 
@@ -87,7 +88,7 @@ fn print_layer<W: Sink>(
     inside: &[u32],
     upto: u32,
 )
-    requires inside { All (λ m. m < item_count case.now) inside.now }
+    requires inside { All (λ m. m < case_item_count case.now) inside.now }
     requires rising { upto ≤ layer.upto }
     requires within { layer.upto ≤ length inside.now }
     ensures printed { Prints W.written W.faults W.has_room output.old output.new lines.old lines.new
@@ -106,7 +107,7 @@ fn print_layers<W: Sink>(
     layers: &[Layer],
     inside: &[u32],
 )
-    requires inside { All (λ m. m < item_count case.now) inside.now }
+    requires inside { All (λ m. m < case_item_count case.now) inside.now }
     requires counts { AreCountsOf (length inside.now) 0 layers.now }
     ensures printed { Prints W.written W.faults W.has_room output.old output.new lines.old lines.new
         (layers_text case.now inside.now 0 layers.now) }
@@ -126,7 +127,7 @@ fn print_plan<W: Sink>(
     pairs: &Assignment,
 ) -> Result<(), Failed>
     requires chosen { All (λ k. k < length case.now.candidates) plan.now.chosen.now }
-    requires inside { All (λ m. m < item_count case.now) plan.now.inside.now }
+    requires inside { All (λ m. m < case_item_count case.now) plan.now.inside.now }
     requires counts { AreCountsOf (length plan.now.inside.now) 0 plan.now.layers.now }
     requires pairs { ArePairsOf case.now pairs.now }
     ensures appends { Appends W.written W.faults W.has_room output.old output.new result
@@ -162,7 +163,7 @@ fn print_lack<W: Sink>(lines: &mut LineBuffer, output: &mut W, rank: u32, outsid
 
 // Appends a shortfall.
 fn print_shortfall<W: Sink>(output: &mut W, case: &Case, bound: &Bound<'_>) -> Result<(), Failed>
-    requires inside { All (λ m. m < item_count case.now) bound.now.inside.now }
+    requires inside { All (λ m. m < case_item_count case.now) bound.now.inside.now }
     ensures appends { Appends W.written W.faults W.has_room output.old output.new result
         (shortfall_line bound.now.rank bound.now.outside ++ flat_map (inside_line case.now) bound.now.inside.now) }
 {

@@ -1,6 +1,7 @@
 use Rattle.std.proofs.Common.{◌∙◌, sym, ap}
 use Rattle.obs_case.specs.Tables.{Tables}
-use Rattle.obs_cert.specs.Scopes.{is_meter, price_at}
+use Rattle.obs_network.specs.Network.{is_meter}
+use Rattle.obs_cert.specs.Scopes.{price_at}
 use Rattle.obs_cert.proofs.LayerLemmas.{tells_idle, tells_meter, tells_price}
 use Rattle.obs_cert.proofs.layers.see.Goals as goal
 

@@ -1,6 +1,6 @@
 use Rattle.std.proofs.Common.{◌≡◌, take, map, true}
 use Rattle.obs_network.specs.Components.{if_energised}
-use Rattle.obs_network.specs.Kept.{AreAllKept}
+use Rattle.obs_network.proofs.Marked.{AreAllKept}
 use Rattle.obs_network.proofs.marks.write_energised.Given as goal
 
 abbrev pub invariant-loop-i : goal.invariant-loop-i

@@ -3,9 +3,9 @@ use Rattle.std.specs.Prelude.{slice_index}
 use Rattle.obs_case.specs.declared.rows.Node.{Node}
 use Rattle.obs_graph.proofs.Stored.{written_back}
 use Rattle.obs_network.specs.Components.{source_nodes}
-use Rattle.obs_network.specs.Network.{Network}
+use Rattle.obs_network.specs.Network.{Network, node_component}
 use Rattle.obs_network.proofs.OfCase.{case_bus_count-le, case_component_count-le, length-case_buses, length-case_first_buses}
-use Rattle.obs_outage.specs.Feeds.{Feeds, bus_at, component_at, sources_at}
+use Rattle.obs_outage.specs.Feeds.{Feeds, bus_at, sources_at}
 use Rattle.obs_outage.proofs.feeds.Feeds.count.Goals as goal
 
 pub count_by_bus-requires-clause-nodes : goal.count_by_bus-requires-clause-nodes
@@ -77,7 +77,7 @@ returns c =
         at_components = λ k low.
             ap (λ (xs : List ℕ). slice_index xs k) back-of_components ∙ c.count_by_component.ensures.counts k (subst (λ (n : ℕ). k < n) (sym many-of_components) low)
             ∙ ap (λ (x : Network). sources_at (λ u. slice_index x.components.of_buses (slice_index x.buses.buses u)) (source_nodes c.nodes-nodes.result.now) k) net
-            ∙ ap (λ (xs : List Node). sources_at (component_at t) (source_nodes xs) k) rows;
+            ∙ ap (λ (xs : List Node). sources_at (node_component t) (source_nodes xs) k) rows;
         pairs = room-pairs ∙ many-pairs;
         at_pairs = λ k low a longest. ap (λ (xs : List ℕ). slice_index xs k) back-pairs ∙ c.count_longest.ensures.counts k (subst (λ (n : ℕ). k < n) (sym many-pairs) low) a longest;
       };
