@@ -30,7 +30,7 @@ module _ (table : Table) (header : Record) where
       omega (arith, later, same, next_row-with_record table header t row)
 
   -- a row with a fault, after rows without one
-  record IsFirst (t : Tables) (rows : List Record) (fault : TableFault) : Type 0 where
+  pub record IsFirst (t : Tables) (rows : List Record) (fault : TableFault) : Type 0 where
     pub before : List Record
     pub row : Record
     pub after : List Record
@@ -40,7 +40,7 @@ module _ (table : Table) (header : Record) where
     pub number_is : fault.row ≡ next_row table (rows_before table header t before)
     pub table_is : fault.table ≡ table
 
-  first-is : (rows : List Record) (t : Tables) (fault : TableFault) → first_fault table header t rows ≡ Some fault → IsFirst t rows fault
+  pub first-is : (rows : List Record) (t : Tables) (fault : TableFault) → first_fault table header t rows ≡ Some fault → IsFirst t rows fault
   first-is [] t fault e = let end = first_fault-end table header t in cc
   first-is (row ∷ rows) t fault e =
       by (row_fault table header t row) refl (λ fine. first-is rows (with_record table header t row) fault (sym (first_fault-next table header t row rows fine) ∙ e))
@@ -100,10 +100,11 @@ compare (a ∷ xs) (b ∷ ys) x y xs_after ys_after e =
 
 -- ---- the first fault
 
-module _ (table : Table) (t : Tables) (valid : IsValid t) (empty : names_in table t ≡ []) where
-  next_is : (header : Record) (before : List Record) → first_fault table header t before ≡ None → length (names_in table (rows_before table header t before)) + 1 ≡ length before + 1
+module _ (table : Table) (t : Tables) (empty : names_in table t ≡ []) where
+  pub next_is : (header : Record) (before : List Record) → first_fault table header t before ≡ None → length (names_in table (rows_before table header t before)) + 1 ≡ length before + 1
   next_is header before fine = omega (arith, count table header before t fine, ap length empty)
 
+module _ (table : Table) (t : Tables) (valid : IsValid t) (empty : names_in table t ≡ []) where
   -- a row's fault, under the header that the records have
   record HasUnder (header : Record) (rows : List Record) (number : ℕ) (code : RowFault) : Type 0 where
     pub before : List Record
@@ -128,7 +129,7 @@ module _ (table : Table) (t : Tables) (valid : IsValid t) (empty : names_in tabl
         rows_are = tails;
         number_is = h.number_is;
         fine = read.0;
-        least = has-refused table tables header h.row number (h.number_is ∙ sym (next_is header h.before read.0)) code has;
+        least = has-refused table tables header h.row number (h.number_is ∙ sym (next_is table t empty header h.before read.0)) code has;
       }
 
   -- where no fault is met, no row has one
@@ -139,7 +140,7 @@ module _ (table : Table) (t : Tables) (valid : IsValid t) (empty : names_in tabl
 
   module _ (header : Record) (rows : List Record) (fault : TableFault) (s : IsFirst table header t rows fault) where
     number_of : fault.row ≡ length s.before + 1
-    number_of = s.number_is ∙ next_is header s.before s.fine
+    number_of = s.number_is ∙ next_is table t empty header s.before s.fine
 
     first-has : header_fault table header ≡ None → HasRowFault table t (header ∷ rows) fault.row fault.code
     first-has columns =
@@ -155,7 +156,7 @@ module _ (table : Table) (t : Tables) (valid : IsValid t) (empty : names_in tabl
           columns = columns;
           tables = tables;
           valid = stay;
-          rows = rows-read header s.before t table valid empty s.fine;
+          rows = rows-read header s.before t table empty s.fine;
           has = refused-has table tables header s.row fault.row s.number_is fault.code stay s.here;
         }
 

@@ -1,5 +1,6 @@
 pub mod AfterLemmas
 pub mod AmongLemmas
+pub mod BeforeLemmas
 pub mod CaseLemmas
 pub mod ExactLemmas
 pub mod FieldLemmas

@@ -10,6 +10,8 @@ use Rattle.obs_case_csv.specs.declared.faults.TableEnd.{TableEnd}
 use Rattle.obs_case_csv.specs.declared.faults.TableEnd.TheVariants.{Fault, NoMemory}
 use Rattle.obs_case_csv.specs.Columns.{ArePlaces}
 use Rattle.obs_case_csv.specs.Fields.{Record, header_fault}
+use Rattle.obs_case_csv.specs.Laws.{OtherTablesStay}
+use Rattle.obs_case_csv.specs.OneTable.{SameBut}
 use Rattle.obs_case_csv.specs.Read.{Ends, HoldsFirstRows, HoldsFirstRowsIfGiven, UnlessNoMemory, earlier, fault_at, fault_in, fault_of_records, first_fault, rows_before, rows_in, rows_of_records, table_records}
 use Rattle.obs_case_csv.specs.Rows.{names_in, next_row, row_fault, with_record}
 
@@ -78,27 +80,50 @@ pub faulty_header : (table : Table) (old : Tables) (header : Record) (rows : Lis
     → (fault_of_records table old (header ∷ rows) ≡ Some (record { table = table; row = 0; code = code })) × (rows_of_records table old (header ∷ rows) ≡ old)
 faulty_header table old header rows code e = (rw e refl, rw e refl)
 
--- rows of one table leave the names of another
-module _ (table other : Table) (stays : (header : Record) (t : Tables) (row : Record) → names_in other (with_record table header t row) ≡ names_in other t) where
-  names_in-rows_before : (header : Record) (t : Tables) (rows : List Record) → names_in other (rows_before table header t rows) ≡ names_in other t
-  names_in-rows_before header t [] = ap (names_in other) (rows_before-end table header t)
-  names_in-rows_before header t (row ∷ rows) = by (row_fault table header t row) refl (names_in-rows_before header (with_record table header t row) rows)
+-- what one row keeps of the tables, all rows keep
+module _ (table : Table) (Keeps : Tables → Tables → Type 0) (none : (t : Tables) → Keeps t t)
+    (one : (header : Record) (t u : Tables) (row : Record) → Keeps (with_record table header t row) u → Keeps t u) where
+  keeps-rows_before : (header : Record) (t : Tables) (rows : List Record) → Keeps t (rows_before table header t rows)
+  keeps-rows_before header t [] = subst (Keeps t) (sym (rows_before-end table header t)) (none t)
+  keeps-rows_before header t (row ∷ rows) = by (row_fault table header t row) refl (keeps-rows_before header (with_record table header t row) rows)
     where
-      by : (o : Option RowFault) → row_fault table header t row ≡ o → names_in other (rows_before table header (with_record table header t row) rows) ≡ names_in other (with_record table header t row)
-          → names_in other (rows_before table header t (row ∷ rows)) ≡ names_in other t
-      by None e later = ap (names_in other) (rows_before-next table header t row rows e) ∙ later ∙ stays header t row
-      by (Some code) e later = ap (names_in other) (rows_before-here table header t row rows code e)
+      by : (o : Option RowFault) → row_fault table header t row ≡ o → Keeps (with_record table header t row) (rows_before table header (with_record table header t row) rows)
+          → Keeps t (rows_before table header t (row ∷ rows))
+      by None e later = subst (Keeps t) (sym (rows_before-next table header t row rows e)) (one header t (rows_before table header (with_record table header t row) rows) row later)
+      by (Some code) e later = subst (Keeps t) (sym (rows_before-here table header t row rows code e)) (none t)
 
-  names_in-rows_of_records : (t : Tables) (records : List Record) → names_in other (rows_of_records table t records) ≡ names_in other t
-  names_in-rows_of_records t [] = refl
-  names_in-rows_of_records t (header ∷ rows) =
-      elim (is_none (header_fault table header)) as (λ b. names_in other (if b then rows_before table header t rows else t) ≡ names_in other t) [
-        | true ↦ names_in-rows_before header t rows
-        | false ↦ refl
+  keeps-rows_of_records : (t : Tables) (records : List Record) → Keeps t (rows_of_records table t records)
+  keeps-rows_of_records t [] = none t
+  keeps-rows_of_records t (header ∷ rows) =
+      elim (is_none (header_fault table header)) as (λ b. Keeps t (if b then rows_before table header t rows else t)) [
+        | true ↦ keeps-rows_before header t rows
+        | false ↦ none t
       ]
 
+-- rows of one table leave the names of another
+module _ (table other : Table) (stays : (header : Record) (t : Tables) (row : Record) → names_in other (with_record table header t row) ≡ names_in other t) where
   pub other_names : (bytes : List ℕ) (old new : Tables) → HoldsFirstRows table bytes old new → names_in other new ≡ names_in other old
-  other_names bytes old new first = ap (names_in other) first.1 ∙ names_in-rows_of_records old (take first.0 (table_records bytes))
+  other_names bytes old new first =
+      ap (names_in other) first.1
+      ∙ keeps-rows_of_records table (λ t u. names_in other u ≡ names_in other t) (λ t. refl) (λ header t u row later. later ∙ stays header t row) old (take first.0 (table_records bytes))
+
+-- and all rows of the other tables
+no_row-stays : (table : Table) (t : Tables) → SameBut table t t
+no_row-stays Nodes t = refl
+no_row-stays Switches t = refl
+no_row-stays Branches t = refl
+no_row-stays Meters t = refl
+no_row-stays Candidates t = refl
+
+row-stays : (table : Table) (header : Record) (t u : Tables) (row : Record) → SameBut table (with_record table header t row) u → SameBut table t u
+row-stays Nodes header t u row later = later
+row-stays Switches header t u row later = later
+row-stays Branches header t u row later = later
+row-stays Meters header t u row later = later
+row-stays Candidates header t u row later = later
+
+pub OtherTablesStay-holds : OtherTablesStay
+OtherTablesStay-holds table = keeps-rows_of_records table (SameBut table) (no_row-stays table) (row-stays table)
 
 -- some rows of a table were read, and these records are unread
 pub record IsReading (table : Table) (bytes : List ℕ) (old now : Tables) (places : Places) (number : ℕ) (unread : List Record) : Type 0 where

@@ -1,7 +1,8 @@
 -- A column is sought from the end of a header to its start.
-use Rattle.std.proofs.Common.{inl, inr, ℕ, ◌≡◌, ◌∙◌, ◌+◌, ◌<◌, ap, refl, sym, List, [], ◌∷◌, length, drop, Bool, true, false, arith, suc, zero, get_or, option_map, unwrap_or, drop-cons}
-use Rattle.std.proofs.lemmas.Bool.{cases_Bool}
+use Rattle.std.proofs.Common.{inl, inr, ℕ, ◌≡◌, ◌∙◌, ◌+◌, ◌<◌, ap, refl, sym, List, [], ◌∷◌, length, drop, Bool, true, false, arith, suc, zero, get_or, option_map, unwrap_or, drop-cons, cond, count_by, nat_lt, ◌||◌}
+use Rattle.std.proofs.lemmas.Bool.{cases_Bool, lt-ltb}
 use Rattle.std.proofs.lemmas.List.{drop_all}
+use Rattle.std.proofs.lemmas.List.Sums.{sum_by-cons}
 use Rattle.std.specs.Bool.{then_some}
 use Rattle.std.specs.Str.{bytes_eq}
 use Rattle.csv.specs.Records.{field_at}
@@ -16,6 +17,28 @@ position-found fields column =
       | inl e ↦ rw e (sym (position-there (bytes_eq column) fields e))
       | inr e ↦ rw e (sym (position-absent (bytes_eq column) fields e))
     ]
+
+module _ (column : List ℕ) where
+  -- how often a column stands in a header, by its first field
+  counted : (field : List ℕ) (fields : Record) (b : Bool) → bytes_eq column field ≡ b
+      → count_by (bytes_eq column) (field ∷ fields) ≡ cond b 1 0 + count_by (bytes_eq column) fields
+  counted field fields b e = sum_by-cons (λ f. cond (bytes_eq column f) 1 0) field fields ∙ ap (λ b. cond b 1 0 + count_by (bytes_eq column) fields) e
+
+  -- a column that was met once comes twice where it is in the rest of the header
+  again : (fields : Record) → has_name fields column ≡ nat_lt 1 (1 + count_by (bytes_eq column) fields)
+  again [] = refl
+  again (field ∷ fields) =
+      elim (cases_Bool (bytes_eq column field)) [
+        | inl e ↦ ap (λ b. b || has_name fields column) e ∙ sym (lt-ltb 1 (1 + count_by (bytes_eq column) (field ∷ fields)) (omega (arith, counted field fields true e)))
+        | inr e ↦ ap (λ b. b || has_name fields column) e ∙ again fields ∙ ap (nat_lt 1) (omega (arith, counted field fields false e))
+      ]
+
+  -- a column that is the first field comes twice where it is there again, and else where it comes twice later
+  twice-here : (field : List ℕ) (fields : Record) → bytes_eq column field ≡ true → has_name fields column ≡ comes_twice (field ∷ fields) column
+  twice-here field fields e = again fields ∙ ap (nat_lt 1) (sym (counted field fields true e))
+
+  twice-later : (field : List ℕ) (fields : Record) → bytes_eq column field ≡ false → comes_twice fields column ≡ comes_twice (field ∷ fields) column
+  twice-later field fields e = ap (nat_lt 1) (omega (arith, counted field fields false e))
 
 -- what is known of a column once the fields from a place on were seen
 pub record IsSought (fields : Record) (column : List ℕ) (i : ℕ) (found twice : Bool) (place : ℕ) : Type 0 where
@@ -51,7 +74,7 @@ module _ (fields : Record) (column : List ℕ) (i : ℕ) (found twice : Bool) (p
       let same : bytes_eq column (get_or fields i []) ≡ true = sym (field_is-there fields i column lt) ∙ e in
       record {
         found_is = rw (here, same) refl;
-        twice_is = rw (here, same) h.found_is;
+        twice_is = rw here (h.found_is ∙ twice-here column (get_or fields i []) (drop (suc i) fields) same);
         place_is = rw (here, same) (omega arith);
       }
 
@@ -62,6 +85,6 @@ module _ (fields : Record) (column : List ℕ) (i : ℕ) (found twice : Bool) (p
       let other : bytes_eq column (get_or fields i []) ≡ false = sym (field_is-there fields i column lt) ∙ e in
       record {
         found_is = rw (here, other) h.found_is;
-        twice_is = rw (here, other) h.twice_is;
+        twice_is = rw here (h.twice_is ∙ twice-later column (get_or fields i []) (drop (suc i) fields) other);
         place_is = rw (here, other) (omega (arith, h.place_is));
       }

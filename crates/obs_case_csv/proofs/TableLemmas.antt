@@ -6,6 +6,7 @@ use Rattle.obs_case.specs.declared.rows.Meter.{Meter}
 use Rattle.obs_case.specs.declared.rows.Node.{Node}
 use Rattle.obs_case.specs.declared.rows.Switch.{Switch}
 use Rattle.obs_case.specs.Tables.{IsNamed, IsValid, Tables, no_rows}
+use Rattle.obs_case.proofs.NameLemmas.{named-none}
 use Rattle.obs_case.proofs.ValidLemmas.{valid-no_rows}
 use Rattle.obs_case_csv.specs.declared.faults.Table.{Table}
 use Rattle.obs_case_csv.specs.declared.faults.Table.TheVariants.{Nodes, Switches, Branches, Meters, Candidates}
@@ -27,9 +28,9 @@ module _ {R : Type 0} (table : Table) (own : R → List ℕ) (get : Tables → L
   abbrev pub Has : Tables → Type 0
   Has u = (u ≡ put t (get u)) × EachIs (is u header) records (get u)
 
-  rows-forward : IsNamed (map own (get t)) → first_fault table header t records ≡ None → Has (rows_before table header t records)
-  rows-forward named e =
-      let read = forward table own get put is made h header records t e named in
+  rows-forward : first_fault table header t records ≡ None → Has (rows_before table header t records)
+  rows-forward e =
+      let read = forward table own get put is made h header records t e (subst (λ l. IsNamed (map own l)) (sym empty) named-none) in
       let xs = read.0 in
       let u = put t xs in
       let same : rows_before table header t records ≡ u = read.1 ∙ ap (λ l. put t (l ++ xs)) empty in
@@ -53,17 +54,17 @@ no_names own (x ∷ rows) e = cc
 
 module _ (header : Record) (records : List Record) (t : Tables) where
   -- records without a fault are rows
-  pub rows-read : (table : Table) → IsValid t → names_in table t ≡ [] → first_fault table header t records ≡ None → HasRows table header records t (rows_before table header t records)
-  rows-read Nodes v empty e = rows-forward Nodes (λ (r : Node). r.name) (λ u. u.nodes) put_nodes IsNode node_made nodes_table header records t (no_names (λ (r : Node). r.name) t.nodes empty) v.nodes e
-  rows-read Switches v empty e =
-      rows-forward Switches (λ (r : Switch). r.name) (λ u. u.switches) put_switches IsSwitch switch_made switches_table header records t (no_names (λ (r : Switch). r.name) t.switches empty) v.switches e
-  rows-read Branches v empty e =
-      rows-forward Branches (λ (r : Branch). r.name) (λ u. u.branches) put_branches IsBranch branch_made branches_table header records t (no_names (λ (r : Branch). r.name) t.branches empty) v.branches e
-  rows-read Meters v empty e =
-      rows-forward Meters (λ (r : Meter). r.name) (λ u. u.meters) put_meters IsMeter meter_made meters_table header records t (no_names (λ (r : Meter). r.name) t.meters empty) v.meters e
-  rows-read Candidates v empty e =
+  pub rows-read : (table : Table) → names_in table t ≡ [] → first_fault table header t records ≡ None → HasRows table header records t (rows_before table header t records)
+  rows-read Nodes empty e = rows-forward Nodes (λ (r : Node). r.name) (λ u. u.nodes) put_nodes IsNode node_made nodes_table header records t (no_names (λ (r : Node). r.name) t.nodes empty) e
+  rows-read Switches empty e =
+      rows-forward Switches (λ (r : Switch). r.name) (λ u. u.switches) put_switches IsSwitch switch_made switches_table header records t (no_names (λ (r : Switch). r.name) t.switches empty) e
+  rows-read Branches empty e =
+      rows-forward Branches (λ (r : Branch). r.name) (λ u. u.branches) put_branches IsBranch branch_made branches_table header records t (no_names (λ (r : Branch). r.name) t.branches empty) e
+  rows-read Meters empty e =
+      rows-forward Meters (λ (r : Meter). r.name) (λ u. u.meters) put_meters IsMeter meter_made meters_table header records t (no_names (λ (r : Meter). r.name) t.meters empty) e
+  rows-read Candidates empty e =
       rows-forward Candidates (λ (r : Candidate). r.name) (λ u. u.candidates) put_candidates IsCandidate candidate_made candidates_table header records t
-      (no_names (λ (r : Candidate). r.name) t.candidates empty) v.candidates e
+      (no_names (λ (r : Candidate). r.name) t.candidates empty) e
 
   -- records that are rows have no fault, and are read as these rows
   pub read-rows : (table : Table) (u : Tables) → IsValid u → names_in table t ≡ [] → HasRows table header records t u
@@ -97,7 +98,7 @@ module _ (table : Table) (t : Tables) (bytes : List ℕ) (valid : IsValid t) (em
             records_are = at;
             columns = fine.0;
             valid = KeepsValid-holds table t bytes valid;
-            rows = subst (HasRows table header rows t) (sym same) (rows-read header rows t table valid empty fine.1);
+            rows = subst (HasRows table header rows t) (sym same) (rows-read header rows t table empty fine.1);
           }
 
   read-table : (u : Tables) → IsTableOf table bytes t u → (fault_in table t bytes ≡ None) × (rows_in table t bytes ≡ u)

@@ -1,5 +1,5 @@
 -- A table's columns, and the reading of fields.
-use Rattle.std.specs.Prelude.{ℕ, Bool, true, false, not, nat_le, List, [], ◌∷◌, ◌++◌, codes, Option, None, Some, is_none, unwrap_or, if◌then◌else◌}
+use Rattle.std.specs.Prelude.{ℕ, Bool, true, false, not, nat_le, nat_lt, count_by, List, [], ◌∷◌, ◌++◌, codes, Option, None, Some, is_none, unwrap_or, if◌then◌else◌}
 use Rattle.std.specs.List.{list_any}
 use Rattle.std.specs.Str.{bytes_eq}
 use Rattle.csv.specs.Records.{field_at}
@@ -36,10 +36,9 @@ further_columns Candidates = []
 abbrev pub read_columns : Table → List (List ℕ)
 read_columns table = needed_columns table ++ further_columns table
 
--- a column that is in a header, and in it again after that
+-- a column that stands in a header more than once
 abbrev pub comes_twice : Record → List ℕ → Bool
-comes_twice [] column = false
-comes_twice (field ∷ fields) column = if bytes_eq column field then has_name fields column else comes_twice fields column
+comes_twice header column = nat_lt 1 (count_by (bytes_eq column) header)
 
 -- a needed column isn't in the header, or one that is read is in it twice
 abbrev pub columns_fault : List (List ℕ) → List (List ℕ) → Record → Option RowFault

@@ -1,13 +1,14 @@
 -- What the reading of one table, and of two, gives and keeps.
-use Rattle.std.specs.Prelude.{ℕ, ◌≡◌, List, [], ◌∷◌, Option, None, MatchOption, MatchResult, Result, Ok}
+use Rattle.std.specs.Prelude.{ℕ, ◌≡◌, List, [], ◌∷◌, Option, None, Some, MatchOption, MatchResult, Result, Ok}
 use Rattle.obs_case.specs.Tables.{IsValid, Tables, no_rows}
 use Rattle.obs_case_csv.specs.declared.faults.RowFault.{RowFault}
 use Rattle.obs_case_csv.specs.declared.faults.Table.{Table}
 use Rattle.obs_case_csv.specs.declared.faults.Table.TheVariants.{Nodes, Switches}
 use Rattle.obs_case_csv.specs.declared.faults.TableFault.{TableFault}
+use Rattle.obs_case_csv.specs.Fields.{Record}
 use Rattle.obs_case_csv.specs.IsFault.{IsFault, IsFaultAmong, NotAfter, NotAfterAmong, files_behind, files_of}
-use Rattle.obs_case_csv.specs.OneTable.{IsSwitchingCase, IsTableOf}
-use Rattle.obs_case_csv.specs.Read.{fault_in, rows_in, tables_after, tables_in, then_read}
+use Rattle.obs_case_csv.specs.OneTable.{HasRowsBefore, IsSwitchingCase, IsTableOf, SameBut}
+use Rattle.obs_case_csv.specs.Read.{HoldsFirstRows, fault_in, rows_in, rows_of_records, table_records, tables_after, tables_in, then_read}
 use Rattle.obs_case_csv.specs.Rows.{names_in}
 
 -- valid tables stay valid as a table's rows before its first fault are added
@@ -21,6 +22,22 @@ TableIsRead =
     (table : Table) (t : Tables) (bytes : List ℕ) → IsValid t → names_in table t ≡ [] →
     (fault_in table t bytes ≡ None → IsTableOf table bytes t (rows_in table t bytes))
     × ((u : Tables) → IsTableOf table bytes t u → (fault_in table t bytes ≡ None) × (rows_in table t bytes ≡ u))
+
+-- as rows of a table are read, all others stay
+abbrev pub OtherTablesStay : Type 0
+OtherTablesStay = (table : Table) (t : Tables) (records : List Record) → SameBut table t (rows_of_records table t records)
+
+-- after a fault of a table that was empty: it has a row for each record between the header and the faulty one, and all others stay
+abbrev pub RowsBeforeFault : Type 0
+RowsBeforeFault =
+    (table : Table) (t : Tables) (bytes : List ℕ) (fault : TableFault) → names_in table t ≡ [] → fault_in table t bytes ≡ Some fault →
+    HasRowsBefore table fault.row (table_records bytes) t (rows_in table t bytes)
+
+-- where the reading may have ended anywhere, the same up to some record
+abbrev pub RowsBeforeSome : Type 0
+RowsBeforeSome =
+    (table : Table) (t u : Tables) (bytes : List ℕ) → names_in table t ≡ [] → HoldsFirstRows table bytes t u →
+    (number : ℕ) × HasRowsBefore table number (table_records bytes) t u
 
 -- of nodes and switches alone: the case that is read is the only one that the bytes are, and a fault is given exactly where they are none
 abbrev pub SwitchingIsRead : Type 0

@@ -1,5 +1,5 @@
 -- When the bytes of one table are rows of a case, and when those of two are a case of nodes and switches alone.
-use Rattle.std.specs.Prelude.{ℕ, ◌≡◌, List, [], ◌∷◌, Option, None, Some}
+use Rattle.std.specs.Prelude.{ℕ, ◌≡◌, ◌+◌, ◌⊎◌, List, [], ◌∷◌, ◌++◌, length, Option, None, Some}
 use Rattle.obs_case.specs.Tables.{IsValid, Tables}
 use Rattle.obs_case_csv.specs.declared.faults.Table.{Table}
 use Rattle.obs_case_csv.specs.declared.faults.Table.TheVariants.{Nodes, Switches, Branches, Meters, Candidates}
@@ -7,13 +7,29 @@ use Rattle.obs_case_csv.specs.Fields.{Record, header_fault}
 use Rattle.obs_case_csv.specs.IsCase.{AreRows, EachIs, IsBranch, IsCandidate, IsMeter, IsNode, IsSwitch}
 use Rattle.obs_case_csv.specs.Read.{table_records}
 
+-- tables u are t but for this one
+abbrev pub SameBut : Table → Tables → Tables → Type 0
+SameBut Nodes t u = u ≡ record t { nodes = u.nodes }
+SameBut Switches t u = u ≡ record t { switches = u.switches }
+SameBut Branches t u = u ≡ record t { branches = u.branches }
+SameBut Meters t u = u ≡ record t { meters = u.meters }
+SameBut Candidates t u = u ≡ record t { candidates = u.candidates }
+
 -- a table of u has one row for each of these records, in their order, and the other tables of u are those of t
 abbrev pub HasRows : Table → Record → List Record → Tables → Tables → Type 0
-HasRows Nodes header records t u = (u ≡ record t { nodes = u.nodes }) × EachIs (IsNode u header) records u.nodes
-HasRows Switches header records t u = (u ≡ record t { switches = u.switches }) × EachIs (IsSwitch u header) records u.switches
-HasRows Branches header records t u = (u ≡ record t { branches = u.branches }) × EachIs (IsBranch u header) records u.branches
-HasRows Meters header records t u = (u ≡ record t { meters = u.meters }) × EachIs (IsMeter u header) records u.meters
-HasRows Candidates header records t u = (u ≡ record t { candidates = u.candidates }) × EachIs (IsCandidate u header) records u.candidates
+HasRows Nodes header records t u = SameBut Nodes t u × EachIs (IsNode u header) records u.nodes
+HasRows Switches header records t u = SameBut Switches t u × EachIs (IsSwitch u header) records u.switches
+HasRows Branches header records t u = SameBut Branches t u × EachIs (IsBranch u header) records u.branches
+HasRows Meters header records t u = SameBut Meters t u × EachIs (IsMeter u header) records u.meters
+HasRows Candidates header records t u = SameBut Candidates t u × EachIs (IsCandidate u header) records u.candidates
+
+-- of records that are numbered from the header, 0: a table of u has one row for each record that stands behind the header and before this
+-- number, in their order, and the other tables of u are those of t; before the header there is nothing, and u is t
+abbrev pub HasRowsBefore : Table → ℕ → List Record → Tables → Tables → Type 0
+HasRowsBefore table number records t u =
+    ((number ≡ 0) × (u ≡ t))
+    ⊎ ((header : Record) × (before : List Record) × (rest : List Record)
+    × (records ≡ header ∷ (before ++ rest)) × (number ≡ length before + 1) × HasRows table header before t u)
 
 -- the bytes are a table of u: their records are a header without a fault, and then that table's rows; u is valid, and
 -- its other tables are those of t

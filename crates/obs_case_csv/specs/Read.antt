@@ -108,7 +108,7 @@ abbrev pub tables_in : List ℕ → List ℕ → List ℕ → List ℕ → Optio
 tables_in nodes switches branches meters candidates =
     then_read_given Candidates candidates (then_read Meters meters (then_read Branches branches (then_read Switches switches (then_read Nodes nodes (Ok no_rows)))))
 
--- the same of all five tables
+-- an answer that ends the reading of tables, one after another: want of memory, or this fault
 abbrev pub EndsAll : Result Tables TableFault → TableEnd → Type 0
 EndsAll read (Fault f) = read ≡ Err f
 EndsAll read NoMemory = Unit {0}

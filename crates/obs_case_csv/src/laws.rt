@@ -1,6 +1,6 @@
 //! What the definitions of this crate imply.
 ghost use Rattle.obs_case_csv.specs.IsCase.{ReadExactly};
-ghost use Rattle.obs_case_csv.specs.Laws.{FirstFault, FirstFaultBehindFile, FirstFaultOfCase, FirstFaultOfSwitching, KeepsValid, SwitchingIsRead, TableIsRead};
+ghost use Rattle.obs_case_csv.specs.Laws.{FirstFault, FirstFaultBehindFile, FirstFaultOfCase, FirstFaultOfSwitching, KeepsValid, OtherTablesStay, RowsBeforeFault, RowsBeforeSome, SwitchingIsRead, TableIsRead};
 
 /// The case that is read is the only one that the bytes are, and a fault is given exactly where the
 /// bytes are no case.
@@ -17,6 +17,15 @@ pub fn reading_keeps_valid()
 /// table, and then these are the rows that are read.
 pub fn table_is_read()
     ensures table { TableIsRead }
+{}
+
+/// After a fault the case has the rows before the faulty one, one for each record between the header
+/// and that row, and all its other rows as before; wherever else a reading ends, it has the rows of
+/// some of the first records so.
+pub fn rows_before_the_fault()
+    ensures others { OtherTablesStay }
+    ensures before { RowsBeforeFault }
+    ensures first_rows { RowsBeforeSome }
 {}
 
 /// The case of nodes and switches alone that is read is the only one that the bytes are, and a fault

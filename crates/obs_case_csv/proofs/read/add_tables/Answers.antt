@@ -1,4 +1,4 @@
-use Rattle.std.proofs.Common.{◌≡◌, List, ℕ, Option, None, map, ap, ◌∙◌, refl, sym, subst}
+use Rattle.std.proofs.Common.{map, ap, ◌∙◌, refl, sym, subst}
 use Rattle.std.specs.Prelude.{option_map}
 use Rattle.obs_case.specs.declared.rows.Candidate.{Candidate}
 use Rattle.obs_case_csv.specs.declared.faults.Table.TheVariants.{Meters, Candidates}
@@ -20,10 +20,10 @@ returns-in_err-read_table-clause-first_rows c =
 
 pub returns-in-Some-clause-first_rows : goal.returns-in-Some-clause-first_rows
 returns-in-Some-clause-first_rows c = (
-      c.read_table.new.case,
-      c.read_table.ensures.first_rows,
-      subst (λ o. HoldsFirstRowsIfGiven Candidates (option_map (λ bytes. bytes.now) o) c.read_table.new.case c.read_table-in-Some.new.case) (sym c.in-Some.is) c.read_table-in-Some.ensures.first_rows,
-    )
+  c.read_table.new.case,
+  c.read_table.ensures.first_rows,
+  subst (λ o. HoldsFirstRowsIfGiven Candidates (option_map (λ bytes. bytes.now) o) c.read_table.new.case c.read_table-in-Some.new.case) (sym c.in-Some.is) c.read_table-in-Some.ensures.first_rows,
+)
 
 pub returns-in-None-clause-first_rows : goal.returns-in-None-clause-first_rows
 returns-in-None-clause-first_rows c =
