@@ -12,7 +12,7 @@ use obs_case::{AddFault, Case};
 use obs_text::name_of;
 
 /// Why a row isn't added.
-#[derive(Clone, Copy, Debug, PartialEq, Eq)]
+#[derive(Clone, Copy)]
 pub(crate) enum RowEnd {
     Fault(RowFault),
     NoMemory,

@@ -1,5 +1,5 @@
 // Want of memory.
 
 /// There was no memory for a row.
-#[derive(Clone, Copy, Debug, PartialEq, Eq)]
+#[derive(Clone, Copy, Debug)]
 pub struct NoMemory;
