@@ -1,5 +1,5 @@
 -- A meter more raises the rank exactly where it touches a branch between two islands.
-use Rattle.std.proofs.Common.{◌≡◌, ℕ, ◌+◌, ◌<◌, ◌≤◌, List, [], ◌∷◌, ◌++◌, length, refl, sym, ap, subst, ◌⊎◌, Bool, true, Option, None, arith}
+use Rattle.std.proofs.Common.{◌≡◌, ℕ, ◌+◌, ◌<◌, ◌≤◌, List, ◌∷◌, ◌++◌, length, sym, ap, ◌⊎◌, Option, arith}
 use Rattle.std.proofs.lemmas.List.{get_or_append_left}
 use Rattle.std.specs.Prelude.{slice_index_or}
 use Rattle.obs_graph.specs.declared.Ends.{Ends}
@@ -12,14 +12,13 @@ use Rattle.obs_matroid.proofs.Ranges.{below_from}
 use Rattle.obs_matroid.proofs.Raising.{BetweenIslandsRaises-holds}
 use Rattle.obs_meter.specs.declared.Touch.{Touch}
 use Rattle.obs_meter.specs.declared.Touch.TheVariants.{Nothing}
-use Rattle.obs_meter.specs.Assignments.{IsRhoAt}
 use Rattle.obs_meter.specs.Spanned.{common_vertex, ends_at, graph_matroid, joined_at, rank_at}
 use Rattle.obs_meter.specs.Touches.{every_item, is_live, live_items, touch_at, touched}
 use Rattle.obs_meter.proofs.Assigned.{live_items-distinct, rho-from_matroid, rho-to_matroid}
 use Rattle.obs_meter.proofs.Instance.{IsJoining-graph, IsMatroid-graph}
 use Rattle.obs_meter.proofs.Live.{live_low}
 use Rattle.obs_meter.proofs.Touched.{touched-vertex}
-use Rattle.obs_islands.specs.Firsts.{BetweenIslandsRaise, LiesBetweenAt, island_first}
+use Rattle.obs_islands.specs.Firsts.{BetweenIslandsRaise, LiesBetweenAt}
 use Rattle.obs_islands.specs.Islands.{every_vertex}
 use Rattle.obs_islands.proofs.Firsts.{first_same}
 use Rattle.obs_islands.proofs.Parts.{In-vertices, vertices-distinct}

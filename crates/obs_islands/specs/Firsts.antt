@@ -1,6 +1,6 @@
 -- The first vertex of an island, computed. The functions try every part of the vertices: they say what a value is, and no
 -- program runs them.
-use Rattle.std.specs.Prelude.{◌≡◌, ◌≢◌, ◌↔◌, ◌++◌, ℕ, ◌+◌, ◌≤◌, Bool, ◌==◌, ◌||◌, ◌&&◌, Option, List, [], ◌∷◌, length, map, filter, find, unwrap_or}
+use Rattle.std.specs.Prelude.{◌≢◌, ◌↔◌, ◌++◌, ℕ, ◌+◌, ◌≤◌, Bool, ◌==◌, ◌||◌, ◌&&◌, Option, List, [], ◌∷◌, length, map, filter, find, unwrap_or}
 use Rattle.std.specs.List.{list_all}
 use Rattle.obs_graph.specs.declared.Ends.{Ends}
 use Rattle.obs_graph.specs.Positions.{AreBranches}

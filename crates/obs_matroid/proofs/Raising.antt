@@ -1,6 +1,5 @@
 -- An item more raises the greatest length exactly where it touches a branch between two islands.
-use Rattle.std.proofs.Common.{◌≡◌, ℕ, suc, ◌+◌, ◌≤◌, subst, List, ◌∷◌, length, refl, ap, sym, ◌∙◌, inl, inr, Bool, true, false, ◌||◌, ◌⊎◌, arith}
-use Rattle.std.specs.List.{filter}
+use Rattle.std.proofs.Common.{◌≡◌, ℕ, suc, ◌+◌, ◌≤◌, subst, List, ◌∷◌, length, refl, ap, sym, ◌∙◌, inl, inr, Bool, true, false, ◌||◌, arith}
 use Rattle.std.proofs.lemmas.Bool.{or_cases}
 use Rattle.obs_matroid.specs.Lists.{In, IsDistinct, other_than}
 use Rattle.obs_matroid.specs.Matroid.{Matroid, IsMatroid}
