@@ -1,5 +1,5 @@
 -- The network that a case determines.
-use Rattle.std.specs.Prelude.{ℕ, ◌+◌, ◌*◌, Bool, if◌then◌else◌, Option, List, [], ◌++◌, length, take}
+use Rattle.std.specs.Prelude.{ℕ, ◌+◌, ◌*◌, Bool, if◌then◌else◌, Option, List, [], ◌++◌, length, take, nat_lt, slice_index}
 use Rattle.obs_graph.specs.declared.Ends.{Ends}
 use Rattle.obs_graph.specs.Positions.{present}
 use Rattle.obs_graph.specs.Graph.{Graph}
