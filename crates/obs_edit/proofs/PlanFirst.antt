@@ -1,11 +1,12 @@
 -- The pairs of a plan are the first assignment of its items.
-use Rattle.std.proofs.Common.{◌≡◌, ℕ, zero, suc, ◌+◌, ◌<◌, ◌≤◌, Bool, true, false, eqb, Option, None, List, [], ◌∷◌, ◌++◌, length, map, refl, sym, ap, ◌∙◌, subst, inl, inr, arith, All}
+use Rattle.std.proofs.Common.{◌≡◌, ℕ, zero, suc, ◌+◌, ◌<◌, ◌≤◌, Bool, true, false, not, eqb, Option, None, List, [], ◌∷◌, ◌++◌, length, map, refl, sym, ap, ◌∙◌, subst, inl, inr, arith, All}
 use Rattle.std.specs.Prelude.{filter, nat_lt}
 use Rattle.std.specs.List.{range_with_len}
 use Rattle.std.proofs.lemmas.Bool.{cases_Bool, cases_eq, cond-false, cond-true, ne_eqb, eq-eqb, or_left}
+use Rattle.std.proofs.Math.Bool.{not-not}
 use Rattle.obs_graph.specs.declared.Ends.{Ends}
 use Rattle.obs_matroid.specs.Assignments.{Pair}
-use Rattle.obs_matroid.specs.First.{IsNotAfter, branch_at}
+use Rattle.obs_matroid.specs.First.{branch_at}
 use Rattle.obs_matroid.specs.Lists.{In, IsRising}
 use Rattle.obs_matroid.proofs.Comparing.{branch_at_out}
 use Rattle.obs_matroid.proofs.Contained.{All-from_In}
@@ -14,8 +15,9 @@ use Rattle.obs_matroid.proofs.Pairs.{In-items_from}
 use Rattle.obs_matroid.proofs.Ranges.{range_from, range_rising, rising_filter}
 use Rattle.obs_meter.specs.declared.Touch.{Touch}
 use Rattle.obs_meter.specs.Assignments.{IsAssignmentAt, rho_at}
+use Rattle.obs_meter.specs.Lost.{left_of, losing}
 use Rattle.obs_meter.specs.Touches.{every_item, live_items}
-use Rattle.obs_meter.proofs.Live.{In-every}
+use Rattle.obs_meter.proofs.Lost.{assignment-left, assignment-lost}
 use Rattle.obs_forest.specs.Forest.{has_position}
 use Rattle.obs_first.specs.First.{IsFirstAt, first_pairs}
 use Rattle.obs_first.proofs.Lawful.{IsNotAfter-filter, first_pairs-is}
@@ -23,9 +25,9 @@ use Rattle.obs_placement.specs.Answer.{chosen_of, is_chosen}
 use Rattle.obs_placement.specs.Placed.{Placed, PlanValue, shortfall_of, placement_of, plan_of}
 use Rattle.obs_placement.specs.Placed.Placed.{cheapest, shortfall}
 use Rattle.obs_edit.specs.Planned.{PlanPairsAreFirst, pairs_in, placed_pairs, planned_items, touches_of}
-use Rattle.obs_edit.proofs.Planned.{length-touches_of, listed-touch, touch-listed}
+use Rattle.obs_edit.proofs.Planned.{length-touches_of}
 use Rattle.obs_rankcut.specs.Costs.{price_of}
-use Rattle.obs_islands.proofs.Parts.{has-from_In, In-from_has}
+use Rattle.obs_islands.proofs.Parts.{In-from_has}
 
 -- a rising list is what the test for it leaves of a range that holds it
 filter-listed : (n a : ℕ) (listed : List ℕ) → IsRising listed → ((m : ℕ) → In m listed → (a ≤ m) × (m < a + n)) → filter (has_position listed) (range_with_len a n) ≡ listed
@@ -54,39 +56,31 @@ filter-listed (suc n) a (x ∷ listed) rising low = elim (cases_eq x a) [
       ]))
 ]
 
-module _ (ends : List (Option Ends)) (touches : List Touch) (listed : List ℕ) where
-  listed_only : (A : List Pair) → IsAssignmentAt ends (touches_of touches listed) (every_item (touches_of touches listed)) A → IsAssignmentAt ends touches listed A
-  listed_only A a = record {
-    of_items = λ p i. (touch-listed touches listed ends p.0 p.1 (a.touched p i)).0;
-    touched = λ p i. (touch-listed touches listed ends p.0 p.1 (a.touched p i)).1;
-    different = a.different;
-    forest = a.forest;
-  }
-
-  module _ (rising : IsRising listed) (low : (m : ℕ) → In m listed → m < length touches) where
-    of_listed : (A : List Pair) → IsAssignmentAt ends touches listed A → IsAssignmentAt ends (touches_of touches listed) (every_item (touches_of touches listed)) A
-    of_listed A a = record {
-      of_items = λ p i. In-every (touches_of touches listed) p.0 (let l = low p.0 (a.of_items p i) in omega (arith, l, length-touches_of touches listed));
-      touched = λ p i. listed-touch touches listed ends p.0 p.1 (a.of_items p i) (a.touched p i);
-      different = a.different;
-      forest = a.forest;
+-- a first assignment, where some are lost, is the first of the items that are left
+first-lost : (lost : ℕ → Bool) (ends : List (Option Ends)) (touches : List Touch) (M : List ℕ) (A : List Pair) → IsFirstAt ends (losing lost touches) M A → IsFirstAt ends touches (left_of lost M) A
+first-lost lost ends touches M A a =
+    let whole = assignment-lost lost touches ends M A a.assigns in
+    record {
+      assigns = whole;
+      longest = λ B b. a.longest B (assignment-left lost touches ends M B b);
+      least = λ B b l. IsNotAfter-filter (λ m. not (lost m)) M A B (λ x f. (none A whole x f, none B b x f)) (a.least B (assignment-left lost touches ends M B b) l);
     }
+  where
+    none : (B : List Pair) → IsAssignmentAt ends touches (left_of lost M) B → (x : ℕ) → not (lost x) ≡ false → branch_at B x ≡ None
+    none B b x f = branch_at_out B x (λ i.
+        let v = In-items_from B x i in
+        clash (ap (λ y. not (lost y)) v.2 ∙ (In-filter_from (λ m. not (lost m)) v.0.0 M (b.of_items v.0 v.1)).1) f)
 
-    others_have_none : (A : List Pair) → IsAssignmentAt ends touches listed A → (x : ℕ) → has_position listed x ≡ false → branch_at A x ≡ None
-    others_have_none A a x f = branch_at_out A x (λ i. let v = In-items_from A x i in clash (has-from_In listed x (subst (λ (y : ℕ). In y listed) (sym v.2) (a.of_items v.0 v.1))) f)
-
-    -- a first assignment of all items, where only the listed ones touch anything, is the first of these
-    first-listed : (A : List Pair) → IsFirstAt ends (touches_of touches listed) (every_item (touches_of touches listed)) A → IsFirstAt ends touches listed A
-    first-listed A a =
-        let whole = listed_only A a.assigns in
-        let kept : filter (has_position listed) (every_item (touches_of touches listed)) ≡ listed =
-        filter-listed (length (touches_of touches listed)) 0 listed rising (λ m i. (omega arith, let l = low m i in omega (arith, l, length-touches_of touches listed))) in
-        record {
-          assigns = whole;
-          longest = λ B b. a.longest B (of_listed B b);
-          least = λ B b l. subst (λ (M : List ℕ). IsNotAfter M A B) kept
-              (IsNotAfter-filter (has_position listed) (every_item (touches_of touches listed)) A B (λ x f. (others_have_none A whole x f, others_have_none B b x f)) (a.least B (of_listed B b) l));
-        }
+-- a first assignment of all items, where only the listed ones touch anything, is the first of these
+first-listed : (ends : List (Option Ends)) (touches : List Touch) (listed : List ℕ) → IsRising listed → ((m : ℕ) → In m listed → m < length touches)
+    → (A : List Pair) → IsFirstAt ends (touches_of touches listed) (every_item (touches_of touches listed)) A → IsFirstAt ends touches listed A
+first-listed ends touches listed rising low A a =
+    let lost : ℕ → Bool = λ m. not (has_position listed m) in
+    let all = every_item (touches_of touches listed) in
+    let kept : left_of lost all ≡ listed =
+    filter_same (λ m. not (lost m)) (has_position listed) all (λ m i. not-not (has_position listed m))
+    ∙ filter-listed (length (touches_of touches listed)) 0 listed rising (λ m i. (omega arith, let l = low m i in omega (arith, l, length-touches_of touches listed))) in
+    subst (λ (M : List ℕ). IsFirstAt ends touches M A) kept (first-lost lost ends touches all A a)
 
 IsRising-after : (meters : ℕ) (xs : List ℕ) → IsRising xs → IsRising (map (λ k. meters + k) xs)
 IsRising-after meters [] r = tt

@@ -1,14 +1,13 @@
 -- The plan of a placement: its items, what these touch, and its pairs.
-use Rattle.std.specs.Prelude.{◌≡◌, ℕ, ◌+◌, Bool, if◌then◌else◌, Option, List, [], ◌++◌, length, map, slice_index_or}
+use Rattle.std.specs.Prelude.{◌≡◌, ℕ, ◌+◌, Bool, not, if◌then◌else◌, Option, List, [], ◌++◌, length, map}
 use Rattle.std.specs.List.{range_with_len}
 use Rattle.obs_graph.specs.declared.Ends.{Ends}
 use Rattle.obs_graph.specs.Positions.{AreBranches}
 use Rattle.obs_case.specs.Tables.{Tables, prices_of}
 use Rattle.obs_matroid.specs.Assignments.{Pair}
 use Rattle.obs_meter.specs.declared.Touch.{Touch}
-use Rattle.obs_meter.specs.declared.Touch.TheVariants.{Nothing}
+use Rattle.obs_meter.specs.Lost.{losing}
 use Rattle.obs_meter.specs.Sizes.{Sizes}
-use Rattle.obs_meter.specs.Touches.{every_item}
 use Rattle.obs_forest.specs.Forest.{has_position}
 use Rattle.obs_assign.specs.Assignment.{Assignment}
 use Rattle.obs_first.specs.First.{IsFirstAt, first_pairs}
@@ -24,8 +23,7 @@ planned_items meters chosen = range_with_len 0 meters ++ map (λ k. meters + k) 
 
 -- what each item touches, where the items that aren't in the list touch nothing
 abbrev pub touches_of : List Touch → List ℕ → List Touch
-touches_of touches listed =
-    map (λ m. if has_position listed m then slice_index_or touches m Nothing else Nothing) (every_item touches)
+touches_of touches listed = losing (λ m. not (has_position listed m)) touches
 
 -- the pairs of a placement, over what its items touch: the first assignment for a plan, and none for a shortfall
 abbrev pub pairs_in : ℕ → List (Option Ends) → List Touch → Placed → List Pair

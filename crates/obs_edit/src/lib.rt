@@ -13,6 +13,6 @@ mod seen;
 mod session;
 
 pub use edit::{Applied, Done};
-pub use obs_repair::{Edit, Meant, NoMemory, Refusal};
+pub use obs_repair::{Edit, NoMemory, Refusal};
 pub use seen::{Placed, Seen};
 pub use session::{Session, State};

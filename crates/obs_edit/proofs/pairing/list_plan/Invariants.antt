@@ -1,4 +1,4 @@
-use Rattle.std.proofs.Common.{◌≡◌, ◌<◌, ℕ, cond, get_or, length, take}
+use Rattle.std.proofs.Common.{◌≡◌, ◌<◌, ℕ, cond, not, get_or, length, take}
 use Rattle.std.specs.Prelude.{nat_lt}
 use Rattle.obs_meter.specs.declared.Touch.TheVariants.{Nothing}
 use Rattle.obs_edit.specs.Planned.{planned_items, touches_of}
@@ -6,7 +6,7 @@ use Rattle.obs_edit.proofs.pairing.list_plan.Given as goal
 
 abbrev pub invariant-loop-m : goal.invariant-loop-m
 invariant-loop-m l = record {
-  listed : (k : ℕ) → k < l.m → get_or l.items.touches k Nothing ≡ cond (nat_lt k l.meters) (get_or l.offered.touches k Nothing) Nothing;
+  listed : (k : ℕ) → k < l.m → get_or l.items.touches k Nothing ≡ cond (not (nat_lt k l.meters)) Nothing (get_or l.offered.touches k Nothing);
   one_each : length l.items.touches ≡ length l.offered.touches;
   most : l.items.most ≡ l.fn.items.most;
 }
