@@ -42,11 +42,10 @@ refill_from-requires-clause-stands c =
     let ins = c.self.inside in
     stands_here c.args.self.now ins.meters ins.slots.items ins.forest ins.count ins.owners.items ins.list.items c.self.view_is c.self.invariant c.args.g.now c.requires.over
 
-pub refill_from-requires-clause-front : goal.refill_from-requires-clause-front
-refill_from-requires-clause-front c =
+pub refill_from-requires-clause-last : goal.refill_from-requires-clause-last
+refill_from-requires-clause-last c =
     let ins = c.self.inside in
-    let l = length-take-le (ins.count + 1) (set ins.list.items ins.count c.args.x.branch) (more (goal.at.refill_from-requires-clause-front c).After-index_mut).long in
-    rw c.deref.ensures.value (omega (arith, l))
+    rw c.deref.ensures.value (length-take-le (ins.count + 1) (set ins.list.items ins.count c.args.x.branch) (more (goal.at.refill_from-requires-clause-last c).After-index_mut).long)
 
 pub refill_from-requires-clause-known : goal.refill_from-requires-clause-known
 refill_from-requires-clause-known c =
