@@ -68,6 +68,7 @@ WORDS = [
     (r"vec!\[in alloc;\s*", "shim::filled!["),
     (r"Vec::new\(alloc\)", "Vec::new()"),
     (r"(\.resize\(.*\))\?;", r"\1;"),
+    (r"let Ok\(\(\)\) = (\w+\.resize\(.*\)) else \{[^}]*\};", r"\1;"),
     (r"use std::alloc::\{AllocError, (Global|AllocFailed)\};", r"use shim::{AllocError, \1};"),
     (r"use std::alloc::(\w+);", r"use shim::\1;"),
     (r"use std::sync::ledger::Ledger;", "use shim::Ledger;"),
