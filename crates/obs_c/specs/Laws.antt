@@ -11,7 +11,7 @@ HaveNoZero words = IsTrue (list_all (λ word. list_all (λ byte. not (is_zero by
 abbrev pub block_of : List (List ℕ) → List ℕ
 block_of words = concat (map (λ word. word ++ 0 ∷ []) words)
 
--- a block whose last word is ended is its words, a zero byte behind each, and no other words make it
+-- a block whose last word is ended is its words, a zero byte behind each, and no other words without a zero byte make it
 pub record WordsAreTheBlock : Type 0 where
   pub joined : (block : List ℕ) → is_ended block ≡ true → block_of (words_in block) ≡ block
   pub zeros : (block : List ℕ) → HaveNoZero (words_in block)

@@ -23,8 +23,8 @@ HasRows Branches header records t u = SameBut Branches t u × EachIs (IsBranch u
 HasRows Meters header records t u = SameBut Meters t u × EachIs (IsMeter u header) records u.meters
 HasRows Candidates header records t u = SameBut Candidates t u × EachIs (IsCandidate u header) records u.candidates
 
--- of records that are numbered from the header, 0: a table of u has one row for each record that stands behind the header and before this
--- number, in their order, and the other tables of u are those of t; before the header there is nothing, and u is t
+-- records are numbered from 0, the header. Up to number 0 there is nothing, and u is t; else the table of u has one row for each record
+-- behind the header and before this number, in order, and the others are those of t
 abbrev pub HasRowsBefore : Table → ℕ → List Record → Tables → Tables → Type 0
 HasRowsBefore table number records t u =
     ((number ≡ 0) × (u ≡ t))

@@ -60,6 +60,16 @@ fault_in table t bytes = fault_of_records table t (table_records bytes)
 abbrev pub rows_in : Table → Tables → List ℕ → Tables
 rows_in table t bytes = rows_of_records table t (table_records bytes)
 
+-- the same of a table that may be given
+abbrev pub rows_if_given : Table → Option (List ℕ) → Tables → Tables
+rows_if_given table None t = t
+rows_if_given table (Some bytes) t = rows_in table t bytes
+
+-- the tables with the rows of the meters' table before its first fault, and where it has none, with those of the candidates' before theirs
+abbrev pub rows_of_both : List ℕ → Option (List ℕ) → Tables → Tables
+rows_of_both meters candidates t =
+    if is_none (fault_in Meters t meters) then rows_if_given Candidates candidates (rows_in Meters t meters) else rows_in Meters t meters
+
 -- the tables that have the rows of some of a table's first records
 abbrev pub HoldsFirstRows : Table → List ℕ → Tables → Tables → Type 0
 HoldsFirstRows table bytes old new = (n : ℕ) × (new ≡ rows_of_records table old (take n (table_records bytes)))

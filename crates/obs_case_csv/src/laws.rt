@@ -19,9 +19,9 @@ pub fn table_is_read()
     ensures table { TableIsRead }
 {}
 
-/// After a fault the case has the rows before the faulty one, one for each record between the header
-/// and that row, and all its other rows as before; wherever else a reading ends, it has the rows of
-/// some of the first records so.
+/// As a table is read, all others stay. After the first fault of a table that was empty it has one
+/// row for each record between the header and the faulty row; wherever else the reading ends, one for
+/// each of some first records.
 pub fn rows_before_the_fault()
     ensures others { OtherTablesStay }
     ensures before { RowsBeforeFault }

@@ -4,7 +4,7 @@ ghost use Rattle.csv.specs.Records.{fields_of};
 ghost use Rattle.obs_case.specs.Tables.{most_rows, no_rows};
 ghost use Rattle.obs_case_csv.specs.Columns.{ArePlaces};
 ghost use Rattle.obs_case_csv.specs.Fields.{Record};
-ghost use Rattle.obs_case_csv.specs.Read.{Ends, EndsAll, HoldsFirstRows, HoldsFirstRowsOfBoth, UnlessNoMemory, fault_at, fault_in, most_records, rows_in, table_records, tables_after, tables_in};
+ghost use Rattle.obs_case_csv.specs.Read.{Ends, EndsAll, HoldsFirstRows, HoldsFirstRowsOfBoth, UnlessNoMemory, fault_at, fault_in, most_records, rows_in, rows_of_both, table_records, tables_after, tables_in};
 ghost use Rattle.obs_case_csv.specs.Records.{Gives};
 ghost use Rattle.obs_case_csv.specs.Rows.{names_in, next_row, row_fault, with_record};
 
@@ -107,8 +107,9 @@ pub fn read_table(
     read_records(&mut reader, &mut row, case, table, bytes)
 }
 
-/// Adds the rows of the tables that are given to a case that has none of them. After a fault, or
-/// want of memory, the case holds some of their first rows, and no other table has changed.
+/// Adds the rows of the tables that are given to a case that has none of them. After a fault the
+/// case holds the rows before the faulty one, and after want of memory some of the first rows; no
+/// other table has changed.
 pub fn add_tables(
     alloc: Global,
     case: &mut Case,
@@ -121,6 +122,8 @@ pub fn add_tables(
         (tables_after meters.now (option_map (λ bytes. bytes.now) candidates.entry) case.old ≡ Ok case.new) }
     ensures refused { IfErr result
         (EndsAll (tables_after meters.now (option_map (λ bytes. bytes.now) candidates.entry) case.old)) }
+    ensures rows { UnlessNoMemory result
+        (case.new ≡ rows_of_both meters.now (option_map (λ bytes. bytes.now) candidates.entry) case.old) }
     ensures first_rows { HoldsFirstRowsOfBoth meters.now
         (option_map (λ bytes. bytes.now) candidates.entry) case.old case.new }
 {

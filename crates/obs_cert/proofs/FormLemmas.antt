@@ -10,7 +10,7 @@ use Rattle.obs_text.specs.Numbers.{is_whole, value_after, whole_of}
 use Rattle.obs_text.proofs.ByteLemmas.{same_bytes}
 use Rattle.obs_text.proofs.DecimalLemmas.{digits-name, gate}
 use Rattle.obs_cert.specs.Claims.{Item, Pair, meter, candidate}
-use Rattle.obs_cert.specs.Forms.{IsFormOf, Write, item_name, sort_word, with_tabs}
+use Rattle.obs_cert.specs.Forms.{HasForm, Write, claimed_name, sort_word, with_tabs}
 use Rattle.obs_cert.specs.Laws.{FormsArePlain, LinesHaveForms}
 use Rattle.obs_cert.specs.Words.{Line, tree_line, bound_line, cost_line, shortfall_line, pair_line, chosen_line, layer_line, inside_line, end_line}
 use Rattle.obs_cert.specs.Words.{bound_of, item_in, layer_of, line_of, line_of_words, name_in, of_five, of_four, of_one, of_three, of_two, pair_line_of, shortfall_of, words_of}
@@ -36,7 +36,7 @@ is_named word name is =
     let both = cond_some (is_name word) word name is in (both.1, subst (λ w. is_name w ≡ true) both.1 both.0)
 
 abbrev IsItem : Item → List ℕ → List ℕ → Type 0
-IsItem item sort name = (sort ≡ sort_word item) × (name ≡ item_name item) × (is_name (item_name item) ≡ true)
+IsItem item sort name = (sort ≡ sort_word item) × (name ≡ claimed_name item) × (is_name (claimed_name item) ≡ true)
 
 is_item : (sort name : List ℕ) (item : Item) → item_in sort name ≡ Some item → IsItem item sort name
 is_item sort name item is =
@@ -94,14 +94,14 @@ one_name line_for word kind a line same is =
     (x.0, x.2, onto (same_bytes kind word same) (onto n.0 refl), n.1)
 
 -- words that are a line have its form
-one_word : (kind : List ℕ) (line : Line) → of_one kind ≡ Some line → IsFormOf line (kind ∷ [])
+one_word : (kind : List ℕ) (line : Line) → of_one kind ≡ Some line → HasForm line (kind ∷ [])
 one_word kind line is =
     let both = cond_some (bytes_eq kind (codes "end")) end_line line is in
-    subst (λ l. IsFormOf l (kind ∷ [])) both.1 (onto (same_bytes kind (codes "end") both.0) refl)
+    subst (λ l. HasForm l (kind ∷ [])) both.1 (onto (same_bytes kind (codes "end") both.0) refl)
 
-two_words : (kind a : List ℕ) (line : Line) → of_two kind a ≡ Some line → IsFormOf line (kind ∷ a ∷ [])
+two_words : (kind a : List ℕ) (line : Line) → of_two kind a ≡ Some line → HasForm line (kind ∷ a ∷ [])
 two_words kind a line is =
-    let Form = λ (l : Line). IsFormOf l (kind ∷ a ∷ []) in
+    let Form = λ (l : Line). HasForm l (kind ∷ a ∷ []) in
     elim (picked (bytes_eq kind (codes "tree")) (option_map tree_line (name_in a)) _ line is) [
       | inl t ↦ (let n = one_name tree_line (codes "tree") kind a line t.0 t.1 in subst Form n.1 (n.2, n.3))
       | inr other ↦
@@ -116,9 +116,9 @@ two_words kind a line is =
           ]
     ]
 
-three_words : (kind a b : List ℕ) (line : Line) → of_three kind a b ≡ Some line → IsFormOf line (kind ∷ a ∷ b ∷ [])
+three_words : (kind a b : List ℕ) (line : Line) → of_three kind a b ≡ Some line → HasForm line (kind ∷ a ∷ b ∷ [])
 three_words kind a b line is =
-    let Form = λ (l : Line). IsFormOf l (kind ∷ a ∷ b ∷ []) in
+    let Form = λ (l : Line). HasForm l (kind ∷ a ∷ b ∷ []) in
     elim (picked (bytes_eq kind (codes "inside")) (option_map inside_line (item_in a b)) _ line is) [
       | inl t ↦
           let x = made inside_line (item_in a b) line t.1 in
@@ -131,9 +131,9 @@ three_words kind a b line is =
           subst Form s.3 (a ∷ b ∷ [], onto (same_bytes kind (codes "shortfall") t.0) refl, s.2)
     ]
 
-four_words : (kind a b c : List ℕ) (line : Line) → of_four kind a b c ≡ Some line → IsFormOf line (kind ∷ a ∷ b ∷ c ∷ [])
+four_words : (kind a b c : List ℕ) (line : Line) → of_four kind a b c ≡ Some line → HasForm line (kind ∷ a ∷ b ∷ c ∷ [])
 four_words kind a b c line is =
-    let Form = λ (l : Line). IsFormOf l (kind ∷ a ∷ b ∷ c ∷ []) in
+    let Form = λ (l : Line). HasForm l (kind ∷ a ∷ b ∷ c ∷ []) in
     elim (picked (bytes_eq kind (codes "pair")) (pair_line_of (item_in a b) (name_in c)) _ line is) [
       | inl t ↦
           let p = pair_parts (item_in a b) (name_in c) line t.1 in
@@ -149,14 +149,14 @@ four_words kind a b c line is =
           subst Form s.5 (b ∷ c ∷ [], onto first (onto n.0 refl), n.1, s.4)
     ]
 
-five_words : (kind a b c d : List ℕ) (line : Line) → of_five kind a b c d ≡ Some line → IsFormOf line (kind ∷ a ∷ b ∷ c ∷ d ∷ [])
+five_words : (kind a b c d : List ℕ) (line : Line) → of_five kind a b c d ≡ Some line → HasForm line (kind ∷ a ∷ b ∷ c ∷ d ∷ [])
 five_words kind a b c d line is =
     let t = gate (bytes_eq kind (codes "layer")) (layer_of (whole_of a) (whole_of b) (whole_of c) (whole_of d)) line is in
     let s = layer_parts (whole_of a) (whole_of b) (whole_of c) (whole_of d) line t.1 in
-    subst (λ l. IsFormOf l (kind ∷ a ∷ b ∷ c ∷ d ∷ [])) s.5
+    subst (λ l. HasForm l (kind ∷ a ∷ b ∷ c ∷ d ∷ [])) s.5
     (a ∷ b ∷ c ∷ d ∷ [], onto (same_bytes kind (codes "layer") t.0) refl, s.4)
 
-form_of_words : (words : List (List ℕ)) (line : Line) → line_of_words words ≡ Some line → IsFormOf line words
+form_of_words : (words : List (List ℕ)) (line : Line) → line_of_words words ≡ Some line → HasForm line words
 form_of_words [] line is = cc
 form_of_words (kind ∷ []) line is = one_word kind line is
 form_of_words (kind ∷ a ∷ []) line is = two_words kind a line is
@@ -169,7 +169,7 @@ form_of_words (kind ∷ a ∷ b ∷ c ∷ d ∷ e ∷ words) line is = cc
 name_back : (name : List ℕ) → is_name name ≡ true → name_in name ≡ Some name
 name_back name is = rw is refl
 
-item_back : (item : Item) → is_name (item_name item) ≡ true → item_in (sort_word item) (item_name item) ≡ Some item
+item_back : (item : Item) → is_name (claimed_name item) ≡ true → item_in (sort_word item) (claimed_name item) ≡ Some item
 item_back (meter name) is = ap (option_map meter) (name_back name is)
 item_back (candidate name) is = ap (option_map candidate) (name_back name is)
 
@@ -196,7 +196,7 @@ two_numbers digits m n w =
     (x.0, y.0, x.2 ∙ ap (λ others. x.0 ∷ others) y.1, x.3, y.2)
 
 -- words of a form are its line
-line_of_form : (line : Line) (words : List (List ℕ)) → IsFormOf line words → line_of_words words ≡ Some line
+line_of_form : (line : Line) (words : List (List ℕ)) → HasForm line words → line_of_words words ≡ Some line
 line_of_form (tree_line name) words form = ap line_of_words form.0 ∙ ap (option_map tree_line) (name_back name form.1)
 line_of_form (chosen_line name) words form = ap line_of_words form.0 ∙ ap (option_map chosen_line) (name_back name form.1)
 line_of_form (inside_line item) words form = ap line_of_words form.0 ∙ ap (option_map inside_line) (item_back item form.1)
@@ -265,15 +265,15 @@ FormsArePlain-holds (layer_line from to rank outside) words form = rw form.1 (pl
 FormsArePlain-holds (bound_line name rank outside) words form =
     rw form.1 (plain_more name form.0 (plain_name name form.2) (plain_numbers form.0 (rank ∷ outside ∷ []) form.3))
 FormsArePlain-holds (inside_line item) words form =
-    rw form.0 (plain_more (sort_word item) (item_name item ∷ []) (plain_sort item) (plain_last (item_name item) (plain_name (item_name item) form.1)))
+    rw form.0 (plain_more (sort_word item) (claimed_name item ∷ []) (plain_sort item) (plain_last (claimed_name item) (plain_name (claimed_name item) form.1)))
 FormsArePlain-holds (pair_line pair) words form =
     let branch = plain_last pair.branch (plain_name pair.branch form.2) in
-    let name = plain_more (item_name pair.item) (pair.branch ∷ []) (plain_name (item_name pair.item) form.1) branch in
-    rw form.0 (plain_more (sort_word pair.item) (item_name pair.item ∷ pair.branch ∷ []) (plain_sort pair.item) name)
+    let name = plain_more (claimed_name pair.item) (pair.branch ∷ []) (plain_name (claimed_name pair.item) form.1) branch in
+    rw form.0 (plain_more (sort_word pair.item) (claimed_name pair.item ∷ pair.branch ∷ []) (plain_sort pair.item) name)
 FormsArePlain-holds end_line words form = rw form refl
 
 -- and so bytes that are such words are their line
-of_words : (words : List (List ℕ)) (line : Line) → IsFormOf line words → line_of (with_tabs words) ≡ Some line
+of_words : (words : List (List ℕ)) (line : Line) → HasForm line words → line_of (with_tabs words) ≡ Some line
 of_words [] line form = let none = line_of_form line [] form in cc
 of_words (word ∷ words) line form =
     ap line_of_words (words_of-with_tabs word words (FormsArePlain-holds line (word ∷ words) form)) ∙ line_of_form line (word ∷ words) form

@@ -15,27 +15,27 @@ abbrev pub sort_word : Item → List ℕ
 sort_word (meter name) = codes "meter"
 sort_word (candidate name) = codes "candidate"
 
-abbrev pub item_name : Item → List ℕ
-item_name (meter name) = name
-item_name (candidate name) = name
+abbrev pub claimed_name : Item → List ℕ
+claimed_name (meter name) = name
+claimed_name (candidate name) = name
 
--- words have the form of a line: the word for its kind, and then its names and numbers
-abbrev pub IsFormOf : Line → List (List ℕ) → Type 0
-IsFormOf (tree_line name) words = (words ≡ codes "tree" ∷ name ∷ []) × IsTrue (is_name name)
-IsFormOf (bound_line name rank outside) words =
+-- words have the form of a line: the word for its kind, and then its sort, names and numbers, where it has them
+abbrev pub HasForm : Line → List (List ℕ) → Type 0
+HasForm (tree_line name) words = (words ≡ codes "tree" ∷ name ∷ []) × IsTrue (is_name name)
+HasForm (bound_line name rank outside) words =
     (digits : List (List ℕ)) × (words ≡ codes "bound" ∷ name ∷ digits) × IsTrue (is_name name) × Write digits (rank ∷ outside ∷ [])
-IsFormOf (cost_line number) words = (digits : List (List ℕ)) × (words ≡ codes "cost" ∷ digits) × Write digits (number ∷ [])
-IsFormOf (shortfall_line rank outside) words =
+HasForm (cost_line number) words = (digits : List (List ℕ)) × (words ≡ codes "cost" ∷ digits) × Write digits (number ∷ [])
+HasForm (shortfall_line rank outside) words =
     (digits : List (List ℕ)) × (words ≡ codes "shortfall" ∷ digits) × Write digits (rank ∷ outside ∷ [])
-IsFormOf (pair_line pair) words =
-    (words ≡ codes "pair" ∷ sort_word pair.item ∷ item_name pair.item ∷ pair.branch ∷ [])
-    × IsTrue (is_name (item_name pair.item)) × IsTrue (is_name pair.branch)
-IsFormOf (chosen_line name) words = (words ≡ codes "chosen" ∷ name ∷ []) × IsTrue (is_name name)
-IsFormOf (layer_line from to rank outside) words =
+HasForm (pair_line pair) words =
+    (words ≡ codes "pair" ∷ sort_word pair.item ∷ claimed_name pair.item ∷ pair.branch ∷ [])
+    × IsTrue (is_name (claimed_name pair.item)) × IsTrue (is_name pair.branch)
+HasForm (chosen_line name) words = (words ≡ codes "chosen" ∷ name ∷ []) × IsTrue (is_name name)
+HasForm (layer_line from to rank outside) words =
     (digits : List (List ℕ)) × (words ≡ codes "layer" ∷ digits) × Write digits (from ∷ to ∷ rank ∷ outside ∷ [])
-IsFormOf (inside_line item) words =
-    (words ≡ codes "inside" ∷ sort_word item ∷ item_name item ∷ []) × IsTrue (is_name (item_name item))
-IsFormOf end_line words = words ≡ codes "end" ∷ []
+HasForm (inside_line item) words =
+    (words ≡ codes "inside" ∷ sort_word item ∷ claimed_name item ∷ []) × IsTrue (is_name (claimed_name item))
+HasForm end_line words = words ≡ codes "end" ∷ []
 
 -- words with one tab between each two
 abbrev pub with_tabs : List (List ℕ) → List ℕ

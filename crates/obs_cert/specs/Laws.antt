@@ -6,7 +6,7 @@ use Rattle.obs_text.specs.Names.{is_name_byte}
 use Rattle.obs_cert.specs.declared.fault.CertFault.{CertFault}
 use Rattle.obs_cert.specs.Certificate.{IsCertificate, IsFirstFault}
 use Rattle.obs_cert.specs.Claims.{Claim}
-use Rattle.obs_cert.specs.Forms.{IsFormOf, with_tabs}
+use Rattle.obs_cert.specs.Forms.{HasForm, with_tabs}
 use Rattle.obs_cert.specs.Read.{claims_of}
 use Rattle.obs_cert.specs.Words.{Line, line_of}
 
@@ -29,8 +29,8 @@ FirstFaultIsMet = (bytes : List ℕ) (fault : CertFault) → claims_of bytes ≡
 -- bytes are a line exactly where they are words of its form, with one tab between each two
 abbrev pub LinesHaveForms : Type 0
 LinesHaveForms = (bytes : List ℕ) (line : Line) →
-    (line_of bytes ≡ Some line) ↔ ((words : List (List ℕ)) × IsFormOf line words × (bytes ≡ with_tabs words))
+    (line_of bytes ≡ Some line) ↔ ((words : List (List ℕ)) × HasForm line words × (bytes ≡ with_tabs words))
 
 -- no word of a form has a control byte, and so none has a tab
 abbrev pub FormsArePlain : Type 0
-FormsArePlain = (line : Line) (words : List (List ℕ)) → IsFormOf line words → IsTrue (list_all (list_all is_name_byte) words)
+FormsArePlain = (line : Line) (words : List (List ℕ)) → HasForm line words → IsTrue (list_all (list_all is_name_byte) words)

@@ -35,7 +35,7 @@ branch_in t item word =
 abbrev pub is_known_branch : Tables → Item → List ℕ → Bool
 is_known_branch t item word = is_some (branch_in t item word)
 
--- the position of the branch of an item's pair; what stands for none has the number of all positions
+-- the position of the branch of an item's pair; what stands for none has the number behind all positions that there is room for
 abbrev pub branch_of : Tables → Item → List ℕ → ℕ
 branch_of t item word = unwrap_or (branch_in t item word) (case_position_room t)
 

@@ -1,6 +1,5 @@
 -- Which items a claim may speak of, as tests on their numbers, and what the case says of them.
 use Rattle.std.specs.Prelude.{◌≡◌, ℕ, ◌<◌, ◌-◌, ◌==◌, ◌||◌, ◌&&◌, Bool, true, false, nat_lt, Option, None, Some, List, length, filter, slice_index, slice_index_or}
-use Rattle.std.specs.List.{list_any}
 use Rattle.obs_case.specs.Tables.{Tables, node_names, place_of, prices_of}
 use Rattle.obs_meter.specs.Touches.{every_item, is_live, touch_at}
 use Rattle.obs_network.specs.Located.{component_of_item}

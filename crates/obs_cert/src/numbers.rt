@@ -57,7 +57,7 @@ fn branch_in(case: &Case, item: Item<'_>, word: &[u8]) -> Option<u32>
     Some(case.branches().len() as u32 + item_of(case, item))
 }
 
-/// The position of the branch of an item's pair; of a word that stands for none the number of all positions.
+/// The position of the branch of an item's pair; of a word that stands for none the number behind all positions that there is room for.
 pub(crate) fn branch_of(case: &Case, item: Item<'_>, word: &[u8]) -> u32
     ensures position { result ≡ branch_of case.now (item_said item.entry) word.now }
     ensures below { result ≤ case_position_room case.now }

@@ -11,7 +11,7 @@ use Rattle.obs_text.specs.Lines.{content, is_feed, lines_of}
 use Rattle.obs_text.specs.Names.{is_name_byte}
 use Rattle.obs_text.proofs.LineLaws.{ended_first, parts}
 use Rattle.obs_matroid.specs.Lists.{In}
-use Rattle.obs_cert.specs.Forms.{IsFormOf, with_tabs}
+use Rattle.obs_cert.specs.Forms.{HasForm, with_tabs}
 use Rattle.obs_cert.specs.Words.{Line, line_of}
 use Rattle.obs_cert.proofs.FormLemmas.{FormsArePlain-holds, LinesHaveForms-holds}
 use Rattle.obs_cert.proofs.WordLemmas.{not_control}
@@ -92,7 +92,7 @@ first_words word words rest plain =
     ap lines_of whole ∙ (ap (map content) (ended_first front rest no_feed) ∙ ap (λ (line : List ℕ). line ∷ lines_of rest) (ap strip_carriage_return (before_feed front no_feed) ∙ strip_none front no_return))
 
 -- a printed line is a line of a certificate, if its words have the form of one
-pub line_back : (word : List ℕ) (words : List (List ℕ)) (line : Line) → IsFormOf line (word ∷ words)
+pub line_back : (word : List ℕ) (words : List (List ℕ)) (line : Line) → HasForm line (word ∷ words)
     → AreLines (printed (word ∷ words)) (line ∷ [])
 line_back word words line form = λ rest.
     ap (map line_of) (first_words word words rest (FormsArePlain-holds line (word ∷ words) form))

@@ -17,7 +17,7 @@ use Rattle.obs_network.specs.Switched.{case_buses}
 use Rattle.obs_network.specs.Touching.{candidate_touches}
 use Rattle.obs_network.proofs.OfCase.{case_branches-are, length-case_meters}
 use Rattle.obs_edit.specs.Answers.{case_islands}
-use Rattle.obs_edit.specs.Laws.{BranchesBetweenIslandsCount, IslandsAreNamed, IslandsBeginWithBuses, IslandsTellApart}
+use Rattle.obs_edit.specs.Laws.{CandidatesBetweenIslandsRaise, IslandsAreNamed, IslandsBeginWithBuses, IslandsTellApart}
 
 -- the name of a vertex's island
 name_is : (t : Tables) (u : ℕ) → u < case_vertex_count t → slice_index (case_islands t) u ≡ island_first (case_vertex_count t) (case_branches t) (case_meters t) u
@@ -63,8 +63,8 @@ offered_are : (t : Tables) → case_offered t ≡ case_meters t ++ candidate_tou
 unfolding case_offered case_meters
 offered_are t = refl
 
-pub branches_between_islands_count : BranchesBetweenIslandsCount
-branches_between_islands_count t c r v behind rank =
+pub candidates_between_islands : CandidatesBetweenIslandsRaise
+candidates_between_islands t c r v behind rank =
     let n = case_vertex_count t in
     let ends = case_branches t in
     let touches = case_meters t in

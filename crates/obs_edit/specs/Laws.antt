@@ -64,9 +64,10 @@ IslandsTellApart = (t : Tables) (u w : ℕ) → IsValid t → u < case_vertex_co
     (slice_index (case_islands t) u ≡ slice_index (case_islands t) w)
     ↔ ((S : ℕ → Bool) × IsIslandOf t S × (S u ≡ true) × (S w ≡ true))
 
--- a candidate raises the rank of a case by one exactly where it touches a branch between two islands: one whose ends are named differently
-abbrev pub BranchesBetweenIslandsCount : Type 0
-BranchesBetweenIslandsCount = (t : Tables) (c r : ℕ) → IsValid t → length t.meters ≤ c → IsRankOf t r →
+-- a candidate raises the rank of a case by one exactly where it touches a branch between two islands: one whose ends are named differently.
+-- c is its number among the items; a number behind the last one touches nothing
+abbrev pub CandidatesBetweenIslandsRaise : Type 0
+CandidatesBetweenIslandsRaise = (t : Tables) (c r : ℕ) → IsValid t → length t.meters ≤ c → IsRankOf t r →
     IsRhoAt (case_branches t) (case_offered t) (c ∷ case_live_meters t) (r + 1)
     ↔ ((e : ℕ) × In e (touch_at (case_branches t) (case_offered t) c)
     × (slice_index (case_islands t) (ends_at (case_branches t) e).0 ≢ slice_index (case_islands t) (ends_at (case_branches t) e).1))

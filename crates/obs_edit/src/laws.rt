@@ -1,5 +1,5 @@
 // The laws of what a session finds.
-ghost use Rattle.obs_edit.specs.Laws.{BranchesBetweenIslandsCount, IslandsAreNamed, IslandsBeginWithBuses, IslandsLieInComponents, IslandsTellApart, ObservableIsIsland, TreesAreFirst, TreesAreWhole, TreesSpan, TreesStandAlone};
+ghost use Rattle.obs_edit.specs.Laws.{CandidatesBetweenIslandsRaise, IslandsAreNamed, IslandsBeginWithBuses, IslandsLieInComponents, IslandsTellApart, ObservableIsIsland, TreesAreFirst, TreesAreWhole, TreesSpan, TreesStandAlone};
 ghost use Rattle.obs_edit.specs.Placements.{LayersAddUp, LayersAreBounds, LayersBoundCosts, ObservableCostsNothing, PlansAreCheapest, PlansComplete, PlansHaveFirstPairs, ShortfallsRefute};
 ghost use Rattle.obs_edit.specs.Planned.{PlanPairsAreFirst};
 
@@ -30,8 +30,8 @@ pub fn islands_are_named()
 {}
 
 /// A candidate raises the rank of a case by one exactly where it touches a branch between two islands.
-pub fn branches_between_islands_count()
-    ensures raised { BranchesBetweenIslandsCount }
+pub fn candidates_between_islands()
+    ensures raised { CandidatesBetweenIslandsRaise }
 {}
 
 /// An island lies in one component. A component is observable exactly where its vertices are an island: its buses, and

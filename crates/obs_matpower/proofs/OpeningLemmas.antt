@@ -13,7 +13,7 @@ use Rattle.std.specs.Option.{option_and_then}
 use Rattle.obs_text.specs.Lines.{content}
 use Rattle.obs_matpower.specs.declared.part.MatTable.{MatTable}
 use Rattle.obs_matpower.specs.declared.part.MatTable.TheVariants.{Bus, Branch}
-use Rattle.obs_matpower.specs.Laws.{AreGaps, IsAssignment, IsOpening, OpeningsAreAssignments}
+use Rattle.obs_matpower.specs.Laws.{AreGaps, IsAssignedTo, IsOpening, OpeningsAreAssignments}
 use Rattle.obs_matpower.specs.Lines.{has_opening, is_gap, is_opening, opens, past, table_name, without_comment, without_gaps}
 use Rattle.obs_matpower.proofs.WholeLemmas.{first-code, in_line}
 
@@ -150,7 +150,7 @@ none_in_name Branch = refl
 none_in_both : (xs ys : List ℕ) → list_any is_opening xs ≡ false → list_any is_opening ys ≡ false → list_any is_opening (xs ++ ys) ≡ false
 none_in_both xs ys x y = list_any-append is_opening xs ys ∙ rw (x, y) refl
 
-none_in : (table : MatTable) (front : List ℕ) → IsAssignment table front → list_any is_opening front ≡ false
+none_in : (table : MatTable) (front : List ℕ) → IsAssignedTo table front → list_any is_opening front ≡ false
 none_in table front (first, between, last, f, b, l, is) =
     let value : List ℕ = 0x3D ∷ last in
     ap (list_any is_opening) is
@@ -158,7 +158,7 @@ none_in table front (first, between, last, f, b, l, is) =
     (none_in_both (table_name table) (between ++ value) (none_in_name table) (none_in_both between value (none_in_gaps between b) (none_in_gaps last l)))
 
 -- the `[` of a line that opens a table is its first one, and an assignment stands before it
-pub opened : (table : MatTable) (line : List ℕ) → opens table line ≡ true → (list_any is_opening line ≡ true) × IsAssignment table (before_first is_opening line)
+pub opened : (table : MatTable) (line : List ℕ) → opens table line ≡ true → (list_any is_opening line ≡ true) × IsAssignedTo table (before_first is_opening line)
 opened table line is =
     let code = without_comment (content line) in
     let opening = opening_is table code is in
@@ -167,4 +167,4 @@ opened table line is =
     ap (list_any is_opening) opening.3 ∙ list_any-append is_opening front (0x5B ∷ opening.1) ∙ or-true (list_any is_opening front) in
     let there : before_first is_opening line ≡ front =
     first-code is_opening line some ∙ ap (before_first is_opening) opening.3 ∙ before_it is_opening front 0x5B opening.1 (none_in table front opening.2) refl in
-    (in_line is_opening line some, subst (IsAssignment table) (sym there) opening.2)
+    (in_line is_opening line some, subst (IsAssignedTo table) (sym there) opening.2)

@@ -1,20 +1,23 @@
 -- Where the text of a table stands in the bytes.
-use Rattle.std.proofs.Common.{◌≡◌, ℕ, Bool, true, false, ◌||◌, List, [], ◌∷◌, ◌++◌, get_or, refl, sym, ap, ◌∙◌, subst, append_assoc, append-nil, inl, inr}
+use Rattle.std.proofs.Common.{◌≡◌, ◌≢◌, ℕ, ◌-◌, ◌==◌, cond, length, length-append, take, arith, Bool, true, false, ◌||◌, List, [], ◌∷◌, ◌++◌, get_or, refl, sym, ap, ◌∙◌, subst, append_assoc, append-nil, inl, inr}
+use Rattle.std.proofs.Math.Bool.{or-true}
 use Rattle.std.proofs.Math.Numerals.{one-add}
+use Rattle.std.proofs.Math.Seq.{get_or-append_seam}
 use Rattle.std.proofs.lemmas.Bool.{cases_Bool, eqb-true, false≢true}
 use Rattle.std.proofs.lemmas.List.Folds.{list_any-append}
 use Rattle.std.proofs.lemmas.List.Sums.{passes_at_first, split_at_first}
 use Rattle.std.specs.List.{after_first, before_first, concat, list_any, position_or_len}
+use Rattle.std.specs.Str.Lines.{strip_carriage_return}
 use Rattle.obs_text.specs.Laws.{AreLines, HasNoFeed, IsEnded}
 use Rattle.obs_text.specs.Lines.{content, ended_lines, is_feed}
 use Rattle.obs_text.proofs.LineLaws.{alone, are_lines, ended_first, joined, unended_last}
 use Rattle.obs_case.proofs.NameLemmas.{place-there}
-use Rattle.obs_matpower.specs.Laws.{EndsAt, IsAssignment, TextStandsBetween}
-use Rattle.obs_matpower.specs.Lines.{closes, is_closing, is_opening, is_percent, opens}
+use Rattle.obs_matpower.specs.Laws.{EndsAt, IsAssignedTo, TextStandsBetween}
+use Rattle.obs_matpower.specs.Lines.{closes, is_closing, is_opening, is_percent, opens, without_comment}
 use Rattle.obs_matpower.specs.Table.{after_opening, from_first, is_ended, until_closing}
 use Rattle.obs_matpower.proofs.FoundLemmas.{before-longer, has_closing, parts_are, until_none}
 use Rattle.obs_matpower.proofs.OpeningLemmas.{opened}
-use Rattle.obs_matpower.proofs.WholeLemmas.{no_feed_in_cut, none_before, none_in_front, strip_front}
+use Rattle.obs_matpower.proofs.WholeLemmas.{before-all, no_comment_in_cut, no_feed_in_cut, none_before, none_in_front, strip_front}
 
 -- the first line that passes a test stands at the front of the lines from it on
 first_line : (p : List ℕ → Bool) (lines : List (List ℕ)) → list_any p lines ≡ true → (line : List ℕ) × (rest : List (List ℕ)) × (from_first p lines ≡ line ∷ rest) × (p line ≡ true)
@@ -107,6 +110,50 @@ none_in_text (line ∷ next ∷ lines) are =
       | inr e ↦ rw e (ended_before line (concat (until_closing (next ∷ lines))) are.0 e (none_in_text (next ∷ lines) are.1))
     ]
 
+-- ---- the `]` behind the text
+
+bracket_is : (bytes : List ℕ) → strip_carriage_return (bytes ++ 0x5D ∷ []) ≡ bytes ++ 0x5D ∷ []
+bracket_is bytes =
+    let all = bytes ++ 0x5D ∷ [] in
+    let last : length all - 1 ≡ length bytes = omega (arith, length-append bytes (0x5D ∷ [])) in
+    let byte : get_or all (length all - 1) 0 ≡ 0x5D = ap (λ k. get_or all k 0) last ∙ get_or-append_seam bytes 0x5D [] 0 in
+    ap (λ b. cond (b == 13) (take (length all - 1) all) all) byte
+
+-- bytes without a line feed and a comment, and a `]` behind them
+bracket_closes : (bytes : List ℕ) → list_any is_feed bytes ≡ false → list_any is_percent bytes ≡ false → list_any closes (ended_lines ((bytes ++ []) ++ 0x5D ∷ [])) ≡ true
+bracket_closes bytes feed percent =
+    let line = bytes ++ 0x5D ∷ [] in
+    let no_feed : list_any is_feed line ≡ false = list_any-append is_feed bytes (0x5D ∷ []) ∙ rw feed refl in
+    let no_percent : list_any is_percent line ≡ false = list_any-append is_percent bytes (0x5D ∷ []) ∙ rw percent refl in
+    let inside : content line ≡ line = ap strip_carriage_return (before-all is_feed line no_feed) ∙ bracket_is bytes in
+    let code : without_comment (content line) ≡ line = ap without_comment inside ∙ before-all is_percent line no_percent in
+    let is : closes line ≡ true = ap (list_any is_closing) code ∙ list_any-append is_closing bytes (0x5D ∷ []) ∙ or-true (list_any is_closing bytes) in
+    let none : line ≢ [] = λ e. (let l = ap length e in let k = length-append bytes (0x5D ∷ []) in absurd (omega (arith, l, k))) in
+    ap (λ l. list_any closes (ended_lines (l ++ 0x5D ∷ []))) (append-nil bytes) ∙ ap (list_any closes) (unended_last line (no_feed_from line no_feed) none) ∙ rw is refl
+
+-- a line that is ended, and what has one behind it
+ended_behind : (line rest : List ℕ) → IsEnded line → list_any closes (ended_lines rest) ≡ true → list_any closes (ended_lines (line ++ rest)) ≡ true
+ended_behind line rest (front, none, is) later =
+    ap (λ l. list_any closes (ended_lines (l ++ rest))) is ∙ ap (λ l. list_any closes (ended_lines l)) (append_assoc front (0x0A ∷ []) rest)
+    ∙ ap (list_any closes) (ended_first front rest none) ∙ ap (λ b. closes (front ++ 0x0A ∷ []) || b) later ∙ or-true (closes (front ++ 0x0A ∷ []))
+
+closed_behind : (lines : List (List ℕ)) → AreLines lines → list_any closes lines ≡ true → list_any closes (ended_lines (concat (until_closing lines) ++ 0x5D ∷ [])) ≡ true
+closed_behind [] are some = absurd (false≢true some)
+closed_behind (line ∷ []) are some =
+    elim (cases_Bool (closes line)) [
+      | inl e ↦ rw e (bracket_closes (before_first is_closing line) (no_feed_in_cut line e) (no_comment_in_cut line e))
+      | inr e ↦ (let t : (closes line || false) ≡ true = some in let u : (false || false) ≡ true = rw e at t in absurd (false≢true u))
+    ]
+closed_behind (line ∷ next ∷ lines) are some =
+    elim (cases_Bool (closes line)) [
+      | inl e ↦ rw e (bracket_closes (before_first is_closing line) (no_feed_in_cut line e) (no_comment_in_cut line e))
+      | inr e ↦
+          let t : (closes line || list_any closes (next ∷ lines)) ≡ true = some in
+          let rest = concat (until_closing (next ∷ lines)) in
+          rw e (ap (λ l. list_any closes (ended_lines l)) (append_assoc line rest (0x5D ∷ []))
+          ∙ ended_behind line (rest ++ 0x5D ∷ []) are.0 (closed_behind (next ∷ lines) are.1 (rw e at t)))
+    ]
+
 pub TextStandsBetween-holds : TextStandsBetween
 TextStandsBetween-holds which bytes there =
     let lines = ended_lines bytes in
@@ -125,8 +172,9 @@ TextStandsBetween-holds which bytes there =
     let end = ends_at (ended_lines after) (is_ended which bytes) refl in (
       front,
       end.0,
-      subst (IsAssignment which) (sym front_is) is_there.1,
+      subst (IsAssignedTo which) (sym front_is) is_there.1,
       end.2,
       none_in_text (ended_lines after) (are_lines after),
+      closed_behind (ended_lines after) (are_lines after),
       sym (parts_are (opens which) bytes) ∙ ap (λ s. before ++ s) (cut ∙ ap (λ a. front ++ 0x5B ∷ a) (sym (joined after) ∙ end.1)),
     )

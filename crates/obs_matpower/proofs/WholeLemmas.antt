@@ -43,7 +43,7 @@ none_in_front p n xs none = by (list_any p (take n xs)) refl
 pub first_in_front : (p : ℕ → Bool) (n : ℕ) (xs : List ℕ) → list_any p (take n xs) ≡ true → before_first p xs ≡ before_first p (take n xs)
 first_in_front p n xs some = ap (before_first p) (sym (take-append-drop n xs)) ∙ before-longer p (take n xs) (drop n xs) some
 
-before-all : (p : ℕ → Bool) (xs : List ℕ) → list_any p xs ≡ false → before_first p xs ≡ xs
+pub before-all : (p : ℕ → Bool) (xs : List ℕ) → list_any p xs ≡ false → before_first p xs ≡ xs
 before-all p xs none = take_all (position_or_len p xs) xs (omega (arith, place-absent p xs none))
 
 -- the front of a line that a carriage return is no part of
@@ -89,7 +89,7 @@ module _ (line : List ℕ) (is : closes line ≡ true) where
       ap (list_any is_feed) (first_in_front is_closing (position_or_len is_feed line) line (in_before_feed is_closing line is))
       ∙ none_in_front is_feed (position_or_len is_closing front) front (none_before is_feed line)
 
-  no_comment_in_cut : list_any is_percent cut ≡ false
+  pub no_comment_in_cut : list_any is_percent cut ≡ false
   no_comment_in_cut =
       ap (list_any is_percent) (first-code is_closing line is)
       ∙ none_in_front is_percent (position_or_len is_closing (without_comment (content line))) (without_comment (content line)) (none_before is_percent (content line))

@@ -24,14 +24,14 @@ abbrev pub AreGaps : List ℕ → Type 0
 AreGaps bytes = IsTrue (list_all is_gap bytes)
 
 -- the name of a table and `=`, with nothing but blanks and tabs before and behind each
-abbrev pub IsAssignment : MatTable → List ℕ → Type 0
-IsAssignment table bytes =
+abbrev pub IsAssignedTo : MatTable → List ℕ → Type 0
+IsAssignedTo table bytes =
     (first between last : List ℕ) × AreGaps first × AreGaps between × AreGaps last
     × (bytes ≡ first ++ (table_name table ++ (between ++ 0x3D ∷ last)))
 
 -- bytes that are an assignment to the table up to a `[`
 abbrev pub IsOpening : MatTable → List ℕ → Type 0
-IsOpening table bytes = (front rest : List ℕ) × IsAssignment table front × (bytes ≡ front ++ 0x5B ∷ rest)
+IsOpening table bytes = (front rest : List ℕ) × IsAssignedTo table front × (bytes ≡ front ++ 0x5B ∷ rest)
 
 -- a line opens a table exactly where, before its comment, it is an assignment to the table up to a `[`
 abbrev pub OpeningsAreAssignments : Type 0
@@ -40,11 +40,13 @@ OpeningsAreAssignments =
     (opens table line ≡ true → IsOpening table (without_comment (content line))) × (IsOpening table (without_comment (content line)) → opens table line ≡ true)
 
 -- the text of a table that is there stands behind the lines before the first that opens it, and behind an assignment to the table and
--- `[`; no `]` that is in no comment is in it, and one follows it, or the bytes end with it where the table isn't ended
+-- `[`; no `]` that is in no comment is in it, and such a one follows it, or the bytes end with it where the table isn't ended
 abbrev pub TextStandsBetween : Type 0
 TextStandsBetween =
     (table : MatTable) (bytes : List ℕ) → is_there table bytes ≡ true →
-    (front back : List ℕ) × IsAssignment table front × EndsAt (is_ended table bytes) back × (list_any closes (ended_lines (text_of table bytes)) ≡ false)
+    (front back : List ℕ) × IsAssignedTo table front × EndsAt (is_ended table bytes) back
+    × (list_any closes (ended_lines (text_of table bytes)) ≡ false)
+    × (is_ended table bytes ≡ true → list_any closes (ended_lines (text_of table bytes ++ 0x5D ∷ [])) ≡ true)
     × (bytes ≡ concat (before_first (opens table) (ended_lines bytes)) ++ (front ++ 0x5B ∷ (text_of table bytes ++ back)))
 
 -- the rows of a table's text are those of the whole lines of the file

@@ -13,8 +13,8 @@ ghost use Rattle.obs_meter.specs.Touches.{every_item, hub_of, live_items, touch_
 ghost use Rattle.obs_meter.specs.Spanned.{ends_at, graph_matroid, common_vertex};
 ghost use Rattle.obs_meter.specs.Assignments.{IsAssignmentAt, IsRhoAt, bound_at, rho_at};
 
-/// The branches that an item touches rise and are present, and all of them lie at one vertex. Where they are the first
-/// so many at a vertex, these are touched.
+/// The branches that an item touches rise and are present, and all of them lie at one vertex. Where the item has a hub,
+/// they are the first so many branches there.
 pub fn touched_branches()
     ensures rising { (ends : List (Option Ends)) (t : Touch) → AllPairs ◌<◌ (touched ends t) }
     ensures present { (ends : List (Option Ends)) (t : Touch) →

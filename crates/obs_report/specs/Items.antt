@@ -1,5 +1,5 @@
 -- The lines of items: the meters of a case and then its candidates, so that a meter is the item of its number.
-use Rattle.std.specs.Prelude.{◌≡◌, ℕ, ◌+◌, ◌-◌, ◌<◌, Bool, true, false, List, [], ◌∷◌, codes, if◌then◌else◌, length, nat_lt, slice_index_or}
+use Rattle.std.specs.Prelude.{◌≡◌, ℕ, ◌-◌, ◌<◌, true, false, List, [], ◌∷◌, codes, if◌then◌else◌, length, slice_index_or}
 use Rattle.obs_case.specs.Items.{angle_position, is_angle}
 use Rattle.obs_case.specs.Tables.{Tables, branch_names, candidate_names, meter_names}
 use Rattle.obs_matroid.specs.Assignments.{Pair}
