@@ -1,11 +1,9 @@
 // Calls that a caller from outside makes, and no code here: the asks of a session, each lent, the calls of the searches
-// below it, those of studies, and the pieces of a line.
+// below it, and the pieces of a line.
 ghost use Rattle.std.specs.Prelude.{◌≡◌, ◌<◌, ◌≤◌, length};
 ghost use Rattle.obs_assign.specs.Assignment.{Fits};
-ghost use Rattle.obs_kept.specs.Kept.{AreLongest};
 ghost use Rattle.obs_meter.specs.Sizes.{HasRoomFor};
 ghost use Rattle.obs_meter.specs.Touches.{AreInRange};
-ghost use Rattle.obs_network.specs.Network.{network_of, rows_of};
 
 use crate::reference_cases::{Tables, tables_of};
 use crate::scripts::nth_run;
@@ -19,13 +17,10 @@ use obs_forest::Forest;
 use obs_graph::{Ends, Graph};
 use obs_io::MemSink;
 use obs_islands::{IslandWork, islands};
-use obs_kept::Kept;
 use obs_meter::{Meters, Touch};
-use obs_outage::{Outage, Outages};
-use obs_pairs::{PairWork, classes};
 use obs_placement::{Layer, PlaceWork, Placement, place};
+use obs_rankcut::{CutWork, bound};
 use obs_report::{print_end, print_number, print_word};
-use obs_station::{Loss, StationWork};
 use std::alloc::Global;
 use std::marker::Brand;
 use std::process::Abort;
@@ -151,7 +146,7 @@ fn read(alloc: Global, tables: Tables<'_>) -> Option<Case> {
 }
 
 // The case of this number.
-fn nth_case(alloc: Global, number: u32) -> Option<Case> {
+pub(crate) fn nth_case(alloc: Global, number: u32) -> Option<Case> {
     read(alloc, tables_of(nth_run(CASES, number)?))
 }
 
@@ -274,11 +269,35 @@ fn plan_of_a_row<L: Ledger>(alloc: Global, blank: Blank) -> Result<bool, Fail>
     Ok(is_plan(found, &[layer(4)], &[0, 1, 2, 3]))
 }
 
+// The bound that the two meters of one branch show.
+fn bound_of_a_row(alloc: Global) -> Result<bool, Fail> {
+    let mut g = Graph::make(alloc, 4, 3)?;
+    g.refill(4, &ROW);
+    let mut ms = Meters::make(alloc, 3)?;
+    ms.refill(&TOUCHES);
+    let mut work = CutWork::make(alloc, 3, 3, 4)?;
+    let found = bound(
+        &g,
+        &ms,
+        &[true, true, false],
+        &[true, true, true],
+        3,
+        &mut work,
+    );
+    Ok(
+        found.inside == [0, 1].as_slice()
+            && found.rank == 1
+            && found.outside == 1
+            && found.needed == 3,
+    )
+}
+
 #[test]
 fn searches_of_a_row(rt: HostRuntime) -> Result<(), Fail> {
     assert!(rt; critical_of_a_row::<Brand>(rt.alloc(), Blank::new(1))?);
     assert!(rt; islands_of_a_row::<Brand>(rt.alloc(), Blank::new(1))?);
     assert!(rt; plan_of_a_row::<Brand>(rt.alloc(), Blank::new(1))?);
+    assert!(rt; bound_of_a_row(rt.alloc())?);
     Ok(())
 }
 
@@ -303,153 +322,4 @@ fn a_forest_holds_its_branches(rt: HostRuntime) -> Result<(), Fail> {
     forest.refill(&graph, &[1]);
     assert!(rt; !forest.holds(0) && forest.holds(1) && !forest.holds(2));
     Ok(())
-}
-
-// Without a branch of the ring beside Quay a pair is missing. Without one of the tail what lies behind it goes dead.
-const OUTAGES: [Outage; 5] = [
-    Outage {
-        branch: 0,
-        rank: 3,
-        needed: 4,
-    },
-    Outage {
-        branch: 1,
-        rank: 3,
-        needed: 3,
-    },
-    Outage {
-        branch: 2,
-        rank: 2,
-        needed: 2,
-    },
-    Outage {
-        branch: 3,
-        rank: 3,
-        needed: 4,
-    },
-    Outage {
-        branch: 4,
-        rank: 4,
-        needed: 4,
-    },
-];
-
-// The outage list twice, and its first entry twice.
-fn lends_outages<L: Ledger>(case: &mut Case, outages: &mut Outages, steps: &mut Steps<L>) -> bool
-    requires network { outages.old.network ≡ network_of case.old }
-{
-    let listed = outages.list(case, steps);
-    if listed.len() != 5 || listed != OUTAGES.as_slice() {
-        return false;
-    }
-    let first = listed[0].branch;
-    let again = outages.list(case, steps) == OUTAGES.as_slice();
-    let one = outages.one(case, first, steps);
-    let two = outages.one(case, first, steps);
-    again && one == OUTAGES[0] && two == one
-}
-
-fn outages_of_a_tail<L: Ledger>(alloc: Global, steps: &mut Steps<L>) -> bool {
-    let Some(mut case) = nth_case(alloc, 2) else {
-        return false;
-    };
-    let Ok(mut outages) = Outages::make(alloc, &case, steps) else {
-        return false;
-    };
-    lends_outages(&mut case, &mut outages, steps)
-}
-
-// Without Quay's meter all pairs stay; without those of Mill, or of Lake, one is missing.
-const LOSSES: [Loss; 3] = [
-    Loss {
-        node: 0,
-        lost: 1,
-        rank: 4,
-    },
-    Loss {
-        node: 1,
-        lost: 3,
-        rank: 3,
-    },
-    Loss {
-        node: 4,
-        lost: 2,
-        rank: 3,
-    },
-];
-
-// The loss list twice.
-fn lends_losses<L: Ledger>(
-    case: &Case,
-    kept: &mut Kept,
-    work: &mut StationWork,
-    steps: &mut Steps<L>,
-) -> bool
-    requires network { kept.old.network ≡ network_of case.now }
-    requires longest { AreLongest case.now kept.old.pairs }
-    requires rows { work.old.rows ≡ rows_of case.now }
-{
-    let first = work.losses(case, &kept.network, &mut kept.pairs, steps) == LOSSES.as_slice();
-    let second = work.losses(case, &kept.network, &mut kept.pairs, steps) == LOSSES.as_slice();
-    first && second
-}
-
-fn losses_of_a_tail<L: Ledger>(alloc: Global, steps: &mut Steps<L>) -> bool {
-    let Some(case) = nth_case(alloc, 2) else {
-        return false;
-    };
-    let Ok(mut kept) = Kept::make(alloc, &case, steps) else {
-        return false;
-    };
-    let Ok(mut work) = StationWork::make(alloc, &case) else {
-        return false;
-    };
-    lends_losses(&case, &mut kept, &mut work, steps)
-}
-
-// The classes of the meters: those of Quay and the ring's other flow, those of the tail's end, and the critical one.
-fn lends_classes<L: Ledger>(
-    alloc: Global,
-    case: &Case,
-    kept: &mut Kept,
-    steps: &mut Steps<L>,
-) -> bool
-    requires network { kept.old.network ≡ network_of case.now }
-    requires longest { AreLongest case.now kept.old.pairs }
-    ensures network { kept.new.network ≡ network_of case.now }
-    ensures longest { AreLongest case.now kept.new.pairs }
-{
-    let graph = kept.network.graph();
-    let meters = kept.network.meters();
-    let Ok(mut work) = PairWork::make(alloc, meters.count(), graph.positions(), graph.vertices())
-    else {
-        return false;
-    };
-    classes(graph, meters, &mut kept.pairs, &mut work, steps) == [0, 0, 2, 2, 4, 0].as_slice()
-}
-
-fn classes_of_a_tail<L: Ledger>(alloc: Global, steps: &mut Steps<L>) -> bool {
-    let Some(case) = nth_case(alloc, 2) else {
-        return false;
-    };
-    let Ok(mut kept) = Kept::make(alloc, &case, steps) else {
-        return false;
-    };
-    lends_classes(alloc, &case, &mut kept, steps) && lends_classes(alloc, &case, &mut kept, steps)
-}
-
-fn studies_of_a_tail<L: Ledger>(alloc: Global, blank: Blank) -> bool
-    requires name { blank.name ≡ L.name }
-    requires parts { blank.parts ≡ L.parts }
-    requires some { 0 < L.parts }
-{
-    let mut steps = Steps::<L>::begin(blank);
-    outages_of_a_tail(alloc, &mut steps)
-        && losses_of_a_tail(alloc, &mut steps)
-        && classes_of_a_tail(alloc, &mut steps)
-}
-
-#[test]
-fn studies_are_lent(rt: HostRuntime) {
-    assert!(rt; studies_of_a_tail::<Brand>(rt.alloc(), Blank::new(1)));
 }

@@ -66,6 +66,8 @@ mod spoilt_tests;
 #[cfg(test)]
 mod stays_tests;
 #[cfg(test)]
+mod study_caller_tests;
+#[cfg(test)]
 mod study_tests;
 #[cfg(test)]
 mod tests;

@@ -5,7 +5,7 @@ use Rattle.obs_matroid.proofs.Contained.{In-get_or}
 use Rattle.obs_outage.specs.declared.outages.Outage.{Outage}
 use Rattle.obs_outage.specs.Outages.{outage_rows, outages_of}
 use Rattle.obs_outage.proofs.Reported.{entry_row}
-use Rattle.obs_tests.proofs.caller_tests.lends_outages.Goals as goal
+use Rattle.obs_tests.proofs.study_caller_tests.lends_outages.Goals as goal
 
 -- what an index gives past the end
 abbrev none : Outage
