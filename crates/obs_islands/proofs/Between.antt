@@ -9,7 +9,7 @@ use Rattle.obs_matroid.specs.Lists.{In, IsDistinct}
 use Rattle.obs_matroid.proofs.Agreeing.{IsIsland-agree, IsRho-agree}
 use Rattle.obs_matroid.proofs.Lists.{In-filter_from}
 use Rattle.obs_matroid.proofs.Ranges.{below_from}
-use Rattle.obs_matroid.proofs.Raising.{ItemsBetweenIslandsRaise-holds}
+use Rattle.obs_matroid.proofs.Raising.{BetweenIslandsRaises-holds}
 use Rattle.obs_meter.specs.declared.Touch.{Touch}
 use Rattle.obs_meter.specs.declared.Touch.TheVariants.{Nothing}
 use Rattle.obs_meter.specs.Spanned.{common_vertex, ends_at, graph_matroid, joined_at, rank_at}
@@ -18,7 +18,7 @@ use Rattle.obs_meter.proofs.Assigned.{live_items-distinct, rho-from_matroid, rho
 use Rattle.obs_meter.proofs.Instance.{IsJoining-graph, IsMatroid-graph}
 use Rattle.obs_meter.proofs.Live.{live_low}
 use Rattle.obs_meter.proofs.Touched.{touched-vertex}
-use Rattle.obs_islands.specs.Firsts.{MetersBetweenIslandsRaise, LiesBetweenAt}
+use Rattle.obs_islands.specs.Firsts.{BetweenIslandsRaise, LiesBetweenAt}
 use Rattle.obs_islands.specs.Islands.{every_vertex}
 use Rattle.obs_islands.proofs.Firsts.{first_same}
 use Rattle.obs_islands.proofs.Parts.{In-vertices, vertices-distinct}
@@ -63,12 +63,12 @@ module _ (n : ℕ) (ends : List (Option Ends)) (touches more : List Touch) (x : 
       between s.0 (IsIsland-agree (graph_matroid n ends) (touch_at ends touches) (touch_at ends all) M same (ends_at ends) (every_vertex n) s.0 s.1)
       (In-vertices n (ends_at ends e).0 l.0) (In-vertices n (ends_at ends e).1 l.1) s.2 s.3
 
-pub between_islands_raise : MetersBetweenIslandsRaise
+pub between_islands_raise : BetweenIslandsRaise
 between_islands_raise n ends touches more x r ok behind h =
     let list = live_items ends touches in
     let all = touches ++ more in
     let g = graph_matroid n ends in
-    let law = ItemsBetweenIslandsRaise-holds (ends_at ends) (joined_at ends) (rank_at n ends) (IsJoining-graph ends) (IsMatroid-graph n ends ok) (touch_at ends all) (every_vertex n) list x
+    let law = BetweenIslandsRaises-holds (ends_at ends) (joined_at ends) (rank_at n ends) (IsJoining-graph ends) (IsMatroid-graph n ends ok) (touch_at ends all) (every_vertex n) list x
     (vertices-distinct n) (distinct n ends touches more x ok behind) (λ m e i k. ends_low n ends all ok m e k) (hubs n ends touches more x ok behind) r
     (IsRho-agree g (touch_at ends touches) (touch_at ends all) list (same n ends touches more x ok behind) r (rho-to_matroid n ends touches list r h)) in (
       λ q. let b = law.0 (rho-to_matroid n ends all (x ∷ list) (r + 1) q) in (b.0, b.1, between-from n ends touches more x ok behind b.0 b.1 b.2),

@@ -46,8 +46,8 @@ abbrev pub LiesBetweenAt : ℕ → List (Option Ends) → List Touch → ℕ →
 LiesBetweenAt n ends touches e = island_first n ends touches (ends_at ends e).0 ≢ island_first n ends touches (ends_at ends e).1
 
 -- an item behind the meters raises their greatest length by one exactly where it touches a branch between two islands
-abbrev pub MetersBetweenIslandsRaise : Type 0
-MetersBetweenIslandsRaise =
+abbrev pub BetweenIslandsRaise : Type 0
+BetweenIslandsRaise =
     (n : ℕ) (ends : List (Option Ends)) (touches more : List Touch) (x r : ℕ) → AreBranches n ends → length touches ≤ x →
     IsRhoAt ends touches (live_items ends touches) r →
     IsRhoAt ends (touches ++ more) (x ∷ live_items ends touches) (r + 1) ↔ ((e : ℕ) × In e (touch_at ends (touches ++ more) x) × LiesBetweenAt n ends touches e)

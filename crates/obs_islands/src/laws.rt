@@ -3,7 +3,7 @@ ghost use Rattle.std.specs.Prelude.{◌≡◌, ◌<◌, ◌↔◌, ℕ, Bool, tr
 ghost use Rattle.obs_graph.specs.declared.Ends.{Ends};
 ghost use Rattle.obs_graph.specs.Positions.{AreBranches, branches_at};
 ghost use Rattle.obs_meter.specs.declared.Touch.{Touch};
-ghost use Rattle.obs_islands.specs.Firsts.{MetersBetweenIslandsRaise, island_first};
+ghost use Rattle.obs_islands.specs.Firsts.{BetweenIslandsRaise, island_first};
 ghost use Rattle.obs_islands.specs.Islands.{IsFirstIn, IsIslandAt, IsOnlyIslandOf};
 
 /// Each vertex lies in exactly one island.
@@ -37,5 +37,5 @@ pub fn lone_vertex()
 /// An item behind the meters, as a candidate is, raises their greatest length by one exactly where it touches a branch
 /// between two islands.
 pub fn between_islands()
-    ensures raised { MetersBetweenIslandsRaise }
+    ensures raised { BetweenIslandsRaise }
 {}

@@ -7,7 +7,7 @@ use Rattle.obs_matroid.specs.Assignments.{Pair, items, branches, part, IsAssignm
 use Rattle.obs_matroid.specs.Closed.{none, every}
 use Rattle.obs_matroid.specs.Graphic.{IsJoining, graphic}
 use Rattle.obs_matroid.specs.Islands.{IsIsland, IsSpanned}
-use Rattle.obs_matroid.specs.Laws.{ItemsBetweenIslandsRaise, HaveCommonEnd, LiesBetween}
+use Rattle.obs_matroid.specs.Laws.{BetweenIslandsRaises, HasHub, LiesBetween}
 use Rattle.obs_matroid.proofs.Lists.{clash, cases_In, In_same, other_ne}
 use Rattle.obs_matroid.proofs.Pairs.{In-items, In-items_from, In-part_from, IsDistinct-part, independent_part, own}
 use Rattle.obs_matroid.proofs.Exchange.{length-put_in}
@@ -93,7 +93,7 @@ module _ (ends : ℕ → ℕ × ℕ) (joined : List ℕ → ℕ → ℕ → Bool
               )
         ]
 
-    module _ (hubs : (m : ℕ) → In m M → HaveCommonEnd ends (touch m)) (e : ℕ) (touches : In e (touch x)) (first_in : In (ends e).0 vs) (second_in : In (ends e).1 vs) where
+    module _ (hubs : (m : ℕ) → In m M → HasHub ends (touch m)) (e : ℕ) (touches : In e (touch x)) (first_in : In (ends e).0 vs) (second_in : In (ends e).1 vs) where
       -- where x touches a branch between two islands, a longest assignment grows
       grown : LiesBetween ends g touch vs M e → (A : List Pair) → IsAssignment g touch M A → (B : List Pair) × IsAssignment g touch (x ∷ M) B × (length B ≡ suc (length A))
       grown between A a =
@@ -133,8 +133,8 @@ module _ (ends : ℕ → ℕ × ℕ) (joined : List ℕ → ℕ → ℕ → Bool
           let b = grown between p.longest p.assigns in
           record { longest = b.0; assigns = b.1; long = b.2 ∙ ap suc p.long; none_longer = one_more r p }
 
-pub ItemsBetweenIslandsRaise-holds : ItemsBetweenIslandsRaise
-ItemsBetweenIslandsRaise-holds ends joined rank joining laws touch vs M x dv dm ends_in hubs r p =
+pub BetweenIslandsRaises-holds : BetweenIslandsRaises
+BetweenIslandsRaises-holds ends joined rank joining laws touch vs M x dv dm ends_in hubs r p =
     let rho : ℕ → Type 0 = λ k. IsRho (graphic ends joined rank) touch (x ∷ M) k in
     let next : r + 1 ≡ suc r = omega arith in
     let within : (m e : ℕ) → In m M → In e (touch m) → In (ends e).0 vs × In (ends e).1 vs = λ m e i k. ends_in m e (inr i) k in (

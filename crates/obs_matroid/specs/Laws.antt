@@ -167,8 +167,8 @@ IslandsPartition = (ends : ℕ → ℕ × ℕ) (joined : List ℕ → ℕ → �
     × ((T : ℕ → Bool) → IsIsland ends (graphic ends joined rank) touch vs M T → T v ≡ true → (u : ℕ) → In u vs → T u ≡ S u)
 
 -- the branches have an end in common
-abbrev pub HaveCommonEnd : (ℕ → ℕ × ℕ) → List ℕ → Type 0
-HaveCommonEnd ends es = (v : ℕ) × ((e : ℕ) → In e es → ((ends e).0 ≡ v) ⊎ ((ends e).1 ≡ v))
+abbrev pub HasHub : (ℕ → ℕ × ℕ) → List ℕ → Type 0
+HasHub ends es = (v : ℕ) × ((e : ℕ) → In e es → ((ends e).0 ≡ v) ⊎ ((ends e).1 ≡ v))
 
 -- the branch lies between two islands: no island has both its ends
 abbrev pub LiesBetween : (ℕ → ℕ × ℕ) → Matroid → (ℕ → List ℕ) → List ℕ → List ℕ → ℕ → Type 0
@@ -177,11 +177,11 @@ LiesBetween ends g touch vs M e =
 
 -- where the branches that each item of M touches have an end in common, an item x more raises the greatest length by one exactly where
 -- it touches a branch between two islands
-abbrev pub ItemsBetweenIslandsRaise : Type 0
-ItemsBetweenIslandsRaise = (ends : ℕ → ℕ × ℕ) (joined : List ℕ → ℕ → ℕ → Bool) (rank : List ℕ → ℕ) → IsJoining ends joined
+abbrev pub BetweenIslandsRaises : Type 0
+BetweenIslandsRaises = (ends : ℕ → ℕ × ℕ) (joined : List ℕ → ℕ → ℕ → Bool) (rank : List ℕ → ℕ) → IsJoining ends joined
     → IsMatroid (graphic ends joined rank)
     → (touch : ℕ → List ℕ) (vs M : List ℕ) (x : ℕ) → IsDistinct vs → IsDistinct (x ∷ M)
-    → ((m e : ℕ) → In m (x ∷ M) → In e (touch m) → In (ends e).0 vs × In (ends e).1 vs) → ((m : ℕ) → In m M → HaveCommonEnd ends (touch m))
+    → ((m e : ℕ) → In m (x ∷ M) → In e (touch m) → In (ends e).0 vs × In (ends e).1 vs) → ((m : ℕ) → In m M → HasHub ends (touch m))
     → (r : ℕ) → IsRho (graphic ends joined rank) touch M r
     → IsRho (graphic ends joined rank) touch (x ∷ M) (r + 1) ↔ ((e : ℕ) × In e (touch x) × LiesBetween ends (graphic ends joined rank) touch vs M e)
 

@@ -1,5 +1,5 @@
 // The laws of assignments over a matroid: each is the contract of a function that does nothing.
-ghost use Rattle.obs_matroid.specs.Laws.{IndependentByRank, IndependentInAnyOrder, RankIsGreatest, GraphIsMatroid, WeakBound, RhoComputed, RhoUnique, NonCriticalIsTight, OutsideTightIsCritical, CriticalComputed, LeastClosedIsNonCritical, CriticalInSmaller, GrowsOrCloses, ClosedAddsNone, ClosedIsLongest, ClosedCounts, ClosedIsTight, LeastClosedHasNoFrozen, ClosedTogether, ExchangePathGrows, PinGivesUpOne, PinIsImpossible, Regrows, FirstComputed, FirstUnique, ComponentBound, ItemsBetweenIslandsRaise, IslandsPartition, LayerBound, AnswerComputed, AnswerUnique, AnswerCompletes, AnswerCounts, AnswerLacks, AnswerCost, AnswerIsCheapest, OwnLayersRun, OwnLayersShow, OwnListsGrow, PartnersComputed, PartnersAreNewlyCritical, PartnersTogether, ClassesPartition, PartnersOfUnpaired, SourcesTogether};
+ghost use Rattle.obs_matroid.specs.Laws.{IndependentByRank, IndependentInAnyOrder, RankIsGreatest, GraphIsMatroid, WeakBound, RhoComputed, RhoUnique, NonCriticalIsTight, OutsideTightIsCritical, CriticalComputed, LeastClosedIsNonCritical, CriticalInSmaller, GrowsOrCloses, ClosedAddsNone, ClosedIsLongest, ClosedCounts, ClosedIsTight, LeastClosedHasNoFrozen, ClosedTogether, ExchangePathGrows, PinGivesUpOne, PinIsImpossible, Regrows, FirstComputed, FirstUnique, ComponentBound, BetweenIslandsRaises, IslandsPartition, LayerBound, AnswerComputed, AnswerUnique, AnswerCompletes, AnswerCounts, AnswerLacks, AnswerCost, AnswerIsCheapest, OwnLayersRun, OwnLayersShow, OwnListsGrow, PartnersComputed, PartnersAreNewlyCritical, PartnersTogether, ClassesPartition, PartnersOfUnpaired, SourcesTogether};
 
 /// Independent branches do not depend on their order, and the rank of a list is their greatest number in it.
 pub fn independence()
@@ -99,7 +99,7 @@ pub fn component_bound()
 /// an item more raises the greatest length by one exactly where it touches a branch between two islands.
 pub fn islands()
     ensures partition { IslandsPartition }
-    ensures raised { ItemsBetweenIslandsRaise }
+    ensures raised { BetweenIslandsRaises }
 {}
 
 /// Each completing set of candidates costs at least what the layers show.

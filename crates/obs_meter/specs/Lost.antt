@@ -13,6 +13,6 @@ losing lost touches = map (λ m. if lost m then Nothing else slice_index_or touc
 abbrev pub left_of : (ℕ → Bool) → List ℕ → List ℕ
 left_of lost M = filter (λ m. not (lost m)) M
 
--- whether a number is on a list
+-- whether an item is on a list
 abbrev pub is_listed : List ℕ → ℕ → Bool
 is_listed list m = list_any (λ x. x == m) list

@@ -8,7 +8,7 @@ use Rattle.obs_meter.specs.declared.Touch.TheVariants.{Nothing, Edge, Star, Fron
 use Rattle.obs_meter.specs.Held.{Meters}
 use Rattle.obs_network.specs.Touching.{rows_at}
 use Rattle.obs_network.specs.Network.{Components}
-use Rattle.obs_network.specs.Kept.{lists_of}
+use Rattle.obs_network.specs.Kept.{Listed, lists_of}
 use Rattle.obs_network.specs.declared.following.Change.{Change}
 
 -- whether a vertex was an end of the row, or is one
