@@ -8,7 +8,7 @@ use Rattle.obs_text.proofs.DecimalLemmas.{whole_of-decimal}
 use Rattle.obs_case.specs.Tables.{Tables}
 use Rattle.obs_matroid.specs.Assignments.{Pair as NumberPair}
 use Rattle.obs_placement.specs.declared.plans.Layer.{Layer as PlacedLayer}
-use Rattle.obs_cert.specs.Forms.{Write, item_name as name_word, sort_word}
+use Rattle.obs_cert.specs.Forms.{Write, claimed_name, sort_word}
 use Rattle.obs_cert.specs.Words.{bound_line, chosen_line, cost_line, end_line, inside_line, layer_line, pair_line, shortfall_line, tree_line}
 use Rattle.obs_network.specs.Network.{is_meter}
 use Rattle.obs_report.specs.Items.{branch_word, candidate_name, item_name, item_word, inside_line as inside_text, pair_line as pair_text}
@@ -75,15 +75,15 @@ shortfall_back rank outside r o =
 sort_is : (t : Tables) (m : ℕ) → sort_word (named_item t m) ≡ item_word t m
 sort_is t m = elim (cases_Bool (is_meter t m)) [ inl e ↦ rw e refl | inr e ↦ rw e refl ]
 
-name_is : (t : Tables) (m : ℕ) → name_word (named_item t m) ≡ item_name t m
+name_is : (t : Tables) (m : ℕ) → claimed_name (named_item t m) ≡ item_name t m
 name_is t m = elim (cases_Bool (is_meter t m)) [ inl e ↦ rw e refl | inr e ↦ rw e refl ]
 
 -- an item that is listed
 pub inside_back : (t : Tables) (m : ℕ) → is_name (item_name t m) ≡ true → AreLines (inside_text t m) (inside_line (named_item t m) ∷ [])
 inside_back t m is =
     let item = named_item t m in
-    let named : is_name (name_word item) ≡ true = ap is_name (name_is t m) ∙ is in
-    let words : codes "inside" ∷ item_word t m ∷ item_name t m ∷ [] ≡ codes "inside" ∷ sort_word item ∷ name_word item ∷ [] =
+    let named : is_name (claimed_name item) ≡ true = ap is_name (name_is t m) ∙ is in
+    let words : codes "inside" ∷ item_word t m ∷ item_name t m ∷ [] ≡ codes "inside" ∷ sort_word item ∷ claimed_name item ∷ [] =
     ap (λ (word : List ℕ). codes "inside" ∷ word ∷ item_name t m ∷ []) (sym (sort_is t m))
     ∙ ap (λ (word : List ℕ). codes "inside" ∷ sort_word item ∷ word ∷ []) (sym (name_is t m)) in
     line_back (codes "inside") (item_word t m ∷ item_name t m ∷ []) (inside_line item) (words, named)
@@ -93,8 +93,8 @@ pub pair_back : (t : Tables) (p : NumberPair) → is_name (item_name t p.0) ≡ 
 pair_back t p a b =
     let item = named_item t p.0 in
     let branch = branch_word t p.0 p.1 in
-    let named : is_name (name_word item) ≡ true = ap is_name (name_is t p.0) ∙ a in
-    let words : codes "pair" ∷ item_word t p.0 ∷ item_name t p.0 ∷ branch ∷ [] ≡ codes "pair" ∷ sort_word item ∷ name_word item ∷ branch ∷ [] =
+    let named : is_name (claimed_name item) ≡ true = ap is_name (name_is t p.0) ∙ a in
+    let words : codes "pair" ∷ item_word t p.0 ∷ item_name t p.0 ∷ branch ∷ [] ≡ codes "pair" ∷ sort_word item ∷ claimed_name item ∷ branch ∷ [] =
     ap (λ (word : List ℕ). codes "pair" ∷ word ∷ item_name t p.0 ∷ branch ∷ []) (sym (sort_is t p.0))
     ∙ ap (λ (word : List ℕ). codes "pair" ∷ sort_word item ∷ word ∷ branch ∷ []) (sym (name_is t p.0)) in
     line_back (codes "pair") (item_word t p.0 ∷ item_name t p.0 ∷ branch ∷ []) (pair_line (named_pair t p)) (words, named, b)
