@@ -5,7 +5,7 @@ Usage: tools/links.py
 
 The pages are the .md files at the top, in docs, in examples and beside each crate. It says each link that leads nowhere, and then how many
 there are; the status is 1 where one leads nowhere. Links to other machines aren't followed. In an unpacked archive, which has no sources,
-links to these are passed over.
+links to files that aren't there are passed over.
 """
 import re
 import sys
@@ -44,7 +44,7 @@ def fault(page, target):
     name, _, heading = target.partition("#")
     led = (page.parent / name).resolve() if name else page
     if not led.exists():
-        return "no such file" if IS_CHECKOUT or "crates" not in led.parts else ""
+        return "no such file" if IS_CHECKOUT else ""
     if heading and led.suffix == ".md" and heading not in anchors(led):
         return "no such heading"
     return ""
