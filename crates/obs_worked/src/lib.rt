@@ -1,0 +1,11 @@
+//! Definitions evaluated on small cases that were worked out by hand.
+#![tactic(auto)]
+
+pub mod answers;
+pub mod certificates;
+pub mod faults;
+pub mod networks;
+pub mod reports;
+pub mod runs;
+pub mod sessions;
+pub mod studies;
