@@ -1,7 +1,8 @@
 #!/usr/bin/env python3
-"""Tries the library for C and the Python module: tools/library_check.py LIBRARY PROGRAM.
+"""Tries the library for C and the Python module: tools/library_check.py LIBRARY PROGRAM [SECONDS].
 
-LIBRARY is libobs.so, PROGRAM the built program. It says what was tried, and ends with 1 at the first thing that is otherwise:
+LIBRARY is libobs.so, PROGRAM the built program. It says what was tried, and ends with 1 at the first thing that is otherwise. With
+SECONDS only the examples, malformed blocks and what tools/library_guards.py says are tried, for about that time:
 
 - the examples (examples/*/*.run) whose commands are all plain ones of obs: what the module reads of an answer, written as text again, is
   what the program prints, and its status is the program's; a fault has the words of the printed line
@@ -12,7 +13,8 @@ LIBRARY is libobs.so, PROGRAM the built program. It says what was tried, and end
 - ten threads at once, each with cases of its own; less and less memory: every call ends with its answer, or with 6 and nothing written
 - each request for memory refused in turn, so too; and all memory is given back. This needs a C compiler and libobs.a beside the library
 - blocks that are no words and contents: 8, and nothing written
-- sessions that stay between calls: tools/library_stays.py says what is tried of them. Random cases are compared by tools/compare.py LIBRARY
+- sessions that stay between calls (tools/library_stays.py), and blocks that end where the memory ends (tools/library_guards.py)
+Random cases are compared by tools/compare.py LIBRARY
 """
 import ctypes
 import os
@@ -28,6 +30,7 @@ HERE = os.path.dirname(os.path.abspath(__file__))
 EXAMPLES = os.path.join(HERE, "..", "examples")
 sys.path[:0] = [os.path.join(HERE, "..", "python"), HERE]
 
+import library_guards
 import library_stays
 import obs
 from cases import random_case, records_of
@@ -381,9 +384,12 @@ def try_malformed():
     print(len(blocks), "kinds of malformed blocks are refused, and nothing is written")
 
 
-def main(file, program):
+def main(file, program, seconds=""):
     os.environ["OBS_LIBRARY"] = os.path.abspath(file)
     try_examples(os.path.abspath(program))
+    if seconds:
+        try_malformed()
+        return library_guards.try_all(float(seconds))
     try_rows()
     try_sessions()
     try_rooms()
@@ -392,9 +398,10 @@ def main(file, program):
     library_stays.try_all(os.environ["OBS_LIBRARY"], os.path.abspath(program))
     try_memory()
     try_refusals(os.environ["OBS_LIBRARY"])
+    library_guards.try_all(30)
 
 
 if __name__ == "__main__":
-    if len(sys.argv) != 3:
+    if len(sys.argv) not in (3, 4):
         sys.exit(__doc__.split("\n\n")[0])
     main(*sys.argv[1:])

@@ -1,5 +1,6 @@
 pub mod Blocks
 pub mod Calls
+pub mod Fronts
 pub mod Kept
 pub mod Laws
 pub mod Stays

@@ -3,6 +3,7 @@
 #![tactic(auto)]
 
 mod call;
+mod front;
 mod handle;
 pub mod laws;
 mod lengths;
