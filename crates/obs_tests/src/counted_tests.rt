@@ -82,7 +82,7 @@ impl<W: Sink> Sink for Counted<W> {
 
 // How a run ended, how many calls it made, and how many lines it wrote.
 #[derive(Clone, Copy)]
-struct Counts {
+struct Tally {
     status: Status,
     reads: u64,
     takes: u64,
@@ -106,13 +106,13 @@ fn counts_over<F: Files, S: Source>(
     files: &mut Counted<F>,
     input: &mut Counted<S>,
     outside: Outside<'_>,
-) -> Result<Counts, Fail> {
+) -> Result<Tally, Fail> {
     let mut output = Counted {
         inner: sink(alloc, outside)?,
         calls: 0,
     };
     let status = run(alloc, words, files, input, &mut output);
-    Ok(Counts {
+    Ok(Tally {
         status,
         reads: files.calls,
         takes: input.calls,
@@ -126,7 +126,7 @@ fn counts_with_input<F: Files>(
     words: &[String],
     files: &mut Counted<F>,
     outside: Outside<'_>,
-) -> Result<Counts, Fail> {
+) -> Result<Tally, Fail> {
     let bytes = Vec::from_slice(alloc, outside.input)?;
     let fails = Vec::from_slice(alloc, outside.take_fails)?;
     let inner = MemSource::new(bytes, outside.taken.max(1), fails);
@@ -139,7 +139,7 @@ fn counts_with_input<F: Files>(
     )
 }
 
-fn counts(alloc: Global, tables: &[&[u8]], outside: Outside<'_>) -> Result<Counts, Fail> {
+fn counts(alloc: Global, tables: &[&[u8]], outside: Outside<'_>) -> Result<Tally, Fail> {
     let words = texts(alloc, &SESSION)?;
     let fails = Vec::from_slice(alloc, outside.read_fails)?;
     let inner = MemFiles::new(entries(alloc, tables)?, outside.read.max(1), fails);
