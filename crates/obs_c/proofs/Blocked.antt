@@ -1,10 +1,8 @@
--- A run over blocks: what it is told, that no read fails, and which front of a text stands.
-use Rattle.std.proofs.Common.{◌⊎◌, ◌≡◌, ◌≢◌, ℕ, ◌+◌, ◌≤◌, min, List, [], ◌∷◌, ◌++◌, length, take, drop, Option, Some, inl, inr, ⊎_elim, sym, ap, ◌∙◌, subst, arith}
-use Rattle.std.proofs.lemmas.List.{length-map, take-append-le, take_all}
+-- A run over blocks: what it is told, that no read fails, and what stands of what it wrote.
+use Rattle.std.proofs.Common.{◌⊎◌, ◌≡◌, ℕ, ◌+◌, ◌≤◌, min, List, [], ◌∷◌, ◌++◌, length, take, drop, Option, Some, inl, inr, ⊎_elim, sym, ap, ◌∙◌, subst, arith}
+use Rattle.std.proofs.lemmas.List.{length-map, length-take-le, take-append-le, take_all}
 use Rattle.std.specs.Prelude.{String, map, string_bytes}
 use Rattle.obs_c.specs.Blocks.{AreLengths}
-use Rattle.obs_c.specs.Calls.{IsWhole}
-use Rattle.obs_files.specs.Codes.{code_of}
 use Rattle.obs_files.specs.declared.status.Status.{Status}
 use Rattle.obs_files.specs.declared.status.Status.TheVariants.{NoMemory}
 use Rattle.obs_engine.specs.Ending.{Answers, Ends, HasRoom}
@@ -64,28 +62,11 @@ answers_in list words told content left status before after bytes room has_room 
     (subst (λ (a : Option (List ℕ)). Answers (form_of list) told status before a) all answers))))
     (complete told (tells list told content left are is) wide)
 
--- the same where the words are those of the block
-pub complete_in : (list words : List (List ℕ)) (told : Told) (room number : ℕ) (bytes : List ℕ) → list ≡ words
-    → ((reply : Reply) → IsStated (form_of words) told reply → length reply.text ≤ room)
-    → (((reply : Reply) → IsStated (form_of list) told reply → length reply.text ≤ room) → (number ≡ code_of NoMemory) ⊎ IsWhole list told number bytes)
-    → (number ≡ code_of NoMemory) ⊎ IsWhole words told number bytes
-complete_in list words told room number bytes same short complete =
-    subst (λ (l : List (List ℕ)). (number ≡ code_of NoMemory) ⊎ IsWhole l told number bytes) same
-    (complete (λ reply stated. short reply (subst (λ (l : List (List ℕ)). IsStated (form_of l) told reply) same stated)))
-
--- where so many bytes of a text were written as there is room for, these are what the room takes of it
-pub front_cut : (bytes part rest text : List ℕ) (room : ℕ) → text ≡ part ++ rest → Some bytes ≡ Some part → length bytes ≡ room → bytes ≡ take room text
-front_cut bytes part rest text room parted wrote full =
-    let same : bytes ≡ part = some_is bytes part wrote in
-    let long : length part ≡ room = ap (λ (xs : List ℕ). length xs) (sym same) ∙ full in
-    same ∙ sym (ap (λ (xs : List ℕ). take room xs) parted ∙ (take-append-le room part rest (omega (arith, long)) ∙ take_all room part (omega (arith, long))))
-  where
-    some_is : (xs ys : List ℕ) → Some xs ≡ Some ys → xs ≡ ys
-    some_is xs ys e = cc
-
--- a count that rose from 0 isn't 0
-pub rose_is_some : (before now : ℕ) → min (before + 1) 18446744073709551615 ≤ now → before ≡ 0 → now ≢ 0
-rose_is_some before now rose none zero = omega (arith, rose, none, zero)
+-- what stands in the block at the end: as much of the bytes as it has room for
+pub stands : (bytes text copied : List ℕ) (count : ℕ) → count ≡ min (length bytes) (length text) → copied ≡ take count bytes → take count (copied ++ drop count text) ≡ take count bytes
+stands bytes text copied count is same =
+    let len : length copied ≡ count = ap (λ xs. length xs) same ∙ length-take-le count bytes (omega (arith, is)) in
+    take-append-le count copied (drop count text) (omega (arith, len)) ∙ take_all count copied (omega (arith, len)) ∙ same
 
 -- lengths for as many words as were listed
 pub lengths_of : {A : Type 0} (words : List (List ℕ)) (list : List (String A)) (contents lengths : List ℕ) (count : ℕ) → map string_bytes list ≡ words → count ≡ length list

@@ -1,5 +1,5 @@
 -- How a session that stays between calls begins, and what one line does to it.
-use Rattle.std.specs.Prelude.{ℕ, ◌≡◌, ◌<◌, ◌⊎◌, List, [], length, take, Option, None, Some}
+use Rattle.std.specs.Prelude.{ℕ, ◌≡◌, ◌<◌, ◌⊎◌, ◌++◌, List, [], length, Option, None, Some}
 use Rattle.obs_io.specs.Contents.{content_at}
 use Rattle.obs_edit.specs.Sessions.{Session}
 use Rattle.obs_files.specs.declared.status.Status.TheVariants.{Done, NoMemory, WriteFault}
@@ -7,7 +7,6 @@ use Rattle.obs_files.specs.Codes.{code_of}
 use Rattle.obs_engine.specs.Lines.{line_case}
 use Rattle.obs_engine.specs.Replies.{Reply}
 use Rattle.obs_engine.specs.Stays.{IsBegun, IsNotBegun, line_reply}
-use Rattle.obs_files.specs.declared.words.Form.{Form}
 use Rattle.obs_files.specs.Words.{form_of}
 use Rattle.obs_c.specs.Blocks.{IsCall, malformed, words_in}
 
@@ -19,12 +18,11 @@ out_of_turn = 9
 abbrev pub IsLeft : Option Session → Option Session → ℕ → List ℕ → ℕ → Type 0
 IsLeft before after number bytes answer = (number ≡ answer) × (after ≡ before) × (bytes ≡ [])
 
--- a reply is given in a block with this room: its number and its whole text; or, where the text is longer, as much of it as there is
--- room for
+-- a reply is given in a block with this room: its number and its whole text; or, where the text is longer than the room, a front of it
 abbrev pub IsGiven : Reply → ℕ → ℕ → List ℕ → Type 0
 IsGiven reply room number bytes =
     ((number ≡ code_of reply.status) × (bytes ≡ reply.text))
-    ⊎ ((number ≡ code_of WriteFault) × (room < length reply.text) × (bytes ≡ take room reply.text))
+    ⊎ ((number ≡ code_of WriteFault) × (room < length reply.text) × ((rest : List ℕ) × (reply.text ≡ bytes ++ rest)))
 
 -- a session began with the case of these files, and stays; nothing is written
 pub record IsOpened (words contents lengths : List ℕ) (after : Option Session) (number : ℕ) (bytes : List ℕ) : Type 0 where
@@ -50,19 +48,6 @@ IsBeginning words contents lengths room (Some s) after number bytes = IsLeft (So
 IsBeginning words contents lengths room None after number bytes =
     (((IsCall words contents lengths → ⊥) × IsLeft None after number bytes malformed) ⊎ IsLeft None after number bytes (code_of NoMemory))
     ⊎ (IsOpened words contents lengths after number bytes ⊎ IsTurnedAway words contents lengths room after number bytes)
-
--- how a begin over words of this form and these files ends where no session begins: for want of memory with nothing, else the reply to the
--- words or the files is given
-abbrev pub IsUnbegun : Option Form → (ℕ → List ℕ) → ℕ → ℕ → List ℕ → Type 0
-IsUnbegun form file room number bytes =
-    ((number ≡ code_of NoMemory) × (bytes ≡ [])) ⊎ ((reply : Reply) × IsNotBegun form file reply × IsGiven reply room number bytes)
-
--- what a line does to a session: nothing for want of memory; else the case is that behind the line, and its reply is given
-abbrev pub IsSaid : List ℕ → ℕ → Session → Session → ℕ → List ℕ → Type 0
-IsSaid line room s after number bytes =
-    ((number ≡ code_of NoMemory) × (after ≡ s) × (bytes ≡ []))
-    ⊎ ((after.offered ≡ s.offered) × (after.tables ≡ line_case s.offered s.tables line)
-    × IsGiven (line_reply s.offered s.tables line) room number bytes)
 
 -- a line was done: the session behind it has the case behind the line, and the line's reply is given
 pub record IsDone (line : List ℕ) (room : ℕ) (s : Session) (after : Option Session) (number : ℕ) (bytes : List ℕ) : Type 0 where

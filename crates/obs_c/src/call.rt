@@ -1,5 +1,5 @@
 // The call.
-ghost use Rattle.std.specs.Prelude.{◌≡◌, ◌≤◌, ◌⊎◌, drop, length, map, string_bytes, take};
+ghost use Rattle.std.specs.Prelude.{◌≡◌, ◌≤◌, ◌⊎◌, drop, length, take};
 ghost use Rattle.obs_files.specs.Codes.{code_of};
 ghost use Rattle.obs_engine.specs.Replies.{Reply};
 ghost use Rattle.obs_engine.specs.Stated.{IsStated};
@@ -7,48 +7,14 @@ ghost use Rattle.obs_files.specs.Words.{form_of};
 ghost use Rattle.obs_c.specs.Blocks.{IsCall, malformed, words_in};
 ghost use Rattle.obs_c.specs.Calls.{IsAnswered, IsWhole, told_by};
 
-use crate::front::{Front, Room, deliver};
 use crate::lengths::are_lengths;
 use crate::words::{WordsFault, words_of};
 use obs_engine::{Status, run};
-use obs_io::{BlockFiles, BlockSource};
+use obs_io::{BlockFiles, BlockSource, MemSink};
 use std::alloc::Global;
-use std::marker::Brand;
 
 // The number that is answered where the blocks aren't words and contents.
 const MALFORMED: u8 = 8;
-
-// Runs obs with these words, and copies into the block what was written, as much of it as there is room for.
-fn run_into<R: Room>(
-    alloc: Global,
-    words: &[String],
-    contents: &[u8],
-    lengths: &[usize],
-    input: &[u8],
-    text: &mut [u8],
-    written: &mut usize,
-) -> u8
-    requires room { length text.old ≡ R.most }
-    requires none { written.old ≡ 0 }
-    ensures answered { IsAnswered (map string_bytes words.now) (told_by contents.now lengths.now input.now)
-        (length text.old) result (take written.new text.new) }
-    ensures complete { ((reply : Reply)
-        → IsStated (form_of (map string_bytes words.now)) (told_by contents.now lengths.now input.now) reply
-        → length reply.text ≤ length text.old)
-        → (result ≡ code_of Status.NoMemory)
-        ⊎ IsWhole (map string_bytes words.now) (told_by contents.now lengths.now input.now)
-        result (take written.new text.new) }
-    ensures within { written.new ≤ length text.old }
-    ensures rest { drop written.new text.new ≡ drop written.new text.old }
-{
-    let Some(mut output) = Front::<R>::make(alloc, text.len()) else {
-        return Status::NoMemory.code();
-    };
-    let mut files = BlockFiles::new(contents, lengths);
-    let mut source = BlockSource::new(input);
-    let status = run(alloc, words, &mut files, &mut source, &mut output);
-    deliver(output.written(), status, text, written)
-}
 
 /// Runs obs: the words are those behind the program's own name, each ended by a zero byte, and `lengths` has for each
 /// word how many bytes of `contents` are its file's, one file behind another (0 for a word that names no file). The text
@@ -71,7 +37,7 @@ pub extern "C" fn obs_run(
     // What is written and answered is what is stated for the words, the contents and the input.
     ensures stated { IsCall words.now contents.now lengths.now
         → IsAnswered (words_in words.now) (told_by contents.now lengths.now input.now)
-        (length text.old) result (take written.new text.new) }
+        result (take written.new text.new) }
 
     // Where the block has room for the text, all of it is answered, or there is no memory.
     ensures complete { IsCall words.now contents.now lengths.now
@@ -94,5 +60,18 @@ pub extern "C" fn obs_run(
     if !are_lengths(list.len(), contents, lengths) {
         return MALFORMED;
     }
-    run_into::<Brand>(alloc, &list, contents, lengths, input, text, written)
+    let Ok(mut output) = MemSink::with_room(alloc, text.len(), usize::MAX, Vec::new(alloc)) else {
+        return Status::NoMemory.code();
+    };
+    let mut files = BlockFiles::new(contents, lengths);
+    let mut source = BlockSource::new(input);
+    let status = run(alloc, &list, &mut files, &mut source, &mut output);
+    let bytes = output.written();
+    let count = bytes.len().min(text.len());
+    text[..count].copy_from_slice(&bytes[..count]);
+    *written = count;
+    if count < bytes.len() {
+        return Status::WriteFault.code();
+    }
+    status.code()
 }

@@ -3,7 +3,6 @@
 #![tactic(auto)]
 
 mod call;
-mod front;
 mod handle;
 pub mod laws;
 mod lengths;

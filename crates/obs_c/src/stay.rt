@@ -1,19 +1,14 @@
 // A session that stays between calls.
-ghost use Rattle.std.specs.Prelude.{◌≡◌, ◌≤◌, [], None, IfErr, IfOk, drop, length, map, string_bytes, take};
-ghost use Rattle.obs_io.specs.Contents.{content_at};
-ghost use Rattle.obs_files.specs.Words.{form_of};
-ghost use Rattle.obs_engine.specs.Stays.{IsBegun};
-ghost use Rattle.obs_c.specs.Stays.{IsBeginning, IsLineAnswered, IsUnbegun, IsSaid};
+ghost use Rattle.std.specs.Prelude.{◌≡◌, ◌<◌, ◌≤◌, None, drop, length, take};
+ghost use Rattle.obs_files.specs.Codes.{code_of};
+ghost use Rattle.obs_c.specs.Stays.{IsLineAnswered, IsBeginning};
 
-use crate::front::{Front, Room, deliver};
 use crate::lengths::are_lengths;
 use crate::slot::Slot;
 use crate::words::{WordsFault, words_of};
-use obs_edit::Session;
 use obs_engine::{Status, answer_one, begin_session};
-use obs_io::BlockFiles;
+use obs_io::{BlockFiles, MemSink};
 use std::alloc::Global;
-use std::marker::Brand;
 
 // The number that is answered where the blocks aren't words and contents.
 const MALFORMED: u8 = 8;
@@ -21,55 +16,23 @@ const MALFORMED: u8 = 8;
 // The number that is answered where a session has begun already, and where none has whose line is to be answered.
 const OUT_OF_TURN: u8 = 9;
 
-// Begins a session with these words and files. Where none begins the number of the answer is given, and what was written
-// is copied into the block, as much of it as there is room for.
-fn begin_into<R: Room>(
-    alloc: Global,
-    words: &[String],
-    contents: &[u8],
-    lengths: &[usize],
-    text: &mut [u8],
-    written: &mut usize,
-) -> Result<Session, u8>
-    requires room { length text.old ≡ R.most }
-    requires none { written.old ≡ 0 }
-    ensures begun { IfOk result (λ s. IsBegun (form_of (map string_bytes words.now))
-        (content_at contents.now lengths.now) s.offered s.tables) }
-    ensures silent { IfOk result (λ _. take written.new text.new ≡ []) }
-    ensures refused { IfErr result (λ number. IsUnbegun (form_of (map string_bytes words.now))
-        (content_at contents.now lengths.now) (length text.old) number (take written.new text.new)) }
+// Copies bytes into a block, as many as there is room for, says how many, and answers the number of their status, or 5
+// where the block is too short.
+fn deliver(bytes: &[u8], status: Status, text: &mut [u8], written: &mut usize) -> u8
+    ensures whole { length bytes.now ≤ length text.old
+        → (result ≡ code_of status) × (take written.new text.new ≡ bytes.now) }
+    ensures part { length text.old < length bytes.now
+        → (result ≡ code_of Status.WriteFault) × (take written.new text.new ≡ take (length text.old) bytes.now) }
     ensures within { written.new ≤ length text.old }
     ensures rest { drop written.new text.new ≡ drop written.new text.old }
 {
-    let Some(mut output) = Front::<R>::make(alloc, text.len()) else {
-        return Err(Status::NoMemory.code());
-    };
-    let mut files = BlockFiles::new(contents, lengths);
-    match begin_session(alloc, words, &mut files, &mut output) {
-        Ok(session) => Ok(session),
-        Err(status) => Err(deliver(output.written(), status, text, written)),
+    let count = bytes.len().min(text.len());
+    text[..count].copy_from_slice(&bytes[..count]);
+    *written = count;
+    if count < bytes.len() {
+        return Status::WriteFault.code();
     }
-}
-
-// Does what a line says, and copies its answer into the block, as much of it as there is room for.
-fn line_into<R: Room>(
-    alloc: Global,
-    session: &mut Session,
-    line: &[u8],
-    text: &mut [u8],
-    written: &mut usize,
-) -> u8
-    requires room { length text.old ≡ R.most }
-    requires none { written.old ≡ 0 }
-    ensures said { IsSaid line.now (length text.old) session.old session.new result (take written.new text.new) }
-    ensures within { written.new ≤ length text.old }
-    ensures rest { drop written.new text.new ≡ drop written.new text.old }
-{
-    let Some(mut output) = Front::<R>::make(alloc, text.len()) else {
-        return Status::NoMemory.code();
-    };
-    let status = answer_one(&mut output, session, line);
-    deliver(output.written(), status, text, written)
+    status.code()
 }
 
 /// Begins a session, which stays. The words, the contents and the lengths are those of `obs_run`, with the words of a
@@ -105,15 +68,20 @@ pub extern "C" fn obs_session_begin(
     if !are_lengths(list.len(), contents, lengths) {
         return MALFORMED;
     }
-    let session = match begin_into::<Brand>(alloc, &list, contents, lengths, text, written) {
-        Ok(session) => session,
-        Err(number) => return number,
-    };
-    let Ok(session) = Box::new(alloc, session) else {
+    let Ok(mut output) = MemSink::with_room(alloc, text.len(), usize::MAX, Vec::new(alloc)) else {
         return Status::NoMemory.code();
     };
-    slot.put(session);
-    Status::Done.code()
+    let mut files = BlockFiles::new(contents, lengths);
+    match begin_session(alloc, &list, &mut files, &mut output) {
+        Ok(session) => {
+            let Ok(session) = Box::new(alloc, session) else {
+                return Status::NoMemory.code();
+            };
+            slot.put(session);
+            Status::Done.code()
+        }
+        Err(status) => deliver(output.written(), status, text, written),
+    }
 }
 
 /// Does what one line of a session says, and writes its answer. The line has no line end, and no carriage return
@@ -139,9 +107,13 @@ pub extern "C" fn obs_session_line(
     let Some(mut session) = slot.take(alloc) else {
         return OUT_OF_TURN;
     };
-    let number = line_into::<Brand>(alloc, &mut session, line, text, written);
+    let Ok(mut output) = MemSink::with_room(alloc, text.len(), usize::MAX, Vec::new(alloc)) else {
+        slot.put(session);
+        return Status::NoMemory.code();
+    };
+    let status = answer_one(&mut output, &mut session, line);
     slot.put(session);
-    number
+    deliver(output.written(), status, text, written)
 }
 
 /// Ends a session, and gives back its memory. Nothing stays, also where none had begun.
