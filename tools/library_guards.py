@@ -9,6 +9,7 @@ and has exactly the stated length. A call that reads or writes a byte beyond a b
 - sessions begun and ended some thousands of times: the process holds no more memory behind them
 """
 import ctypes
+import faulthandler
 import mmap
 import os
 import random
@@ -135,8 +136,8 @@ def random_run(number):
     files = [csv_of(r, records) for records in records_of(random_case(r))]
     command = r.choice(["report", "place", "topology", "verify", *STUDIES])
     words = [command] + ["tables"] * (command != "topology") + ["n", "s"] + ["b", "m"] * (command != "topology")
-    contents = [b""] * (len(words) - len(words[2:]) if command != "topology" else 1)
-    contents += files[: len(words) - len(contents)]
+    head = 1 if command == "topology" else 2
+    contents = [b""] * head + files[: len(words) - head]
     if command == "place":
         words, contents = [*words, "c"], [*contents, files[4]]
     if command == "verify":
@@ -187,5 +188,7 @@ def try_ends():
 
 
 def try_all(seconds):
+    # So a call that touches what it may not says where it was made.
+    faulthandler.enable()
     try_ends()
     try_guarded(seconds)
