@@ -37,15 +37,15 @@ valid-no_rows = valid-no_rows_within usual_rows (omega arith)
 
 -- one row more of a new name
 pub named-row : {R : Type 0} {most : ℕ} (own : R → List ℕ) (rows : List R) (row : R) → IsNamed most (map own rows) → is_name (own row) ≡ true → has_name (map own rows) (own row) ≡ false → length (map own rows) < most → IsNamed most (map own (rows ++ row ∷ []))
-named-row own rows row h good new room = subst (IsNamed most) (sym (map-append own rows (row ∷ []))) (named-push (map own rows) (own row) h good new room)
+named-row {most = most} own rows row h good new room = subst (IsNamed most) (sym (map-append own rows (row ∷ []))) (named-push (map own rows) (own row) h good new room)
 
 -- the same after a row was refused or added
 grown : {R : Type 0} {most : ℕ} (own : R → List ℕ) (rows after : List R) (row : R) (result : Result ℕ AddFault) → IsNamed most (map own rows) → is_name (own row) ≡ true → (length rows ≡ most → ⊥)
     → OnOk result (has_name (map own rows) (own row) ≡ false) → OnOk result (after ≡ rows ++ row ∷ []) → OnErr result (after ≡ rows) → IsNamed most (map own after)
-grown own rows after row (Ok at) h good room new added same =
+grown {most = most} own rows after row (Ok at) h good room new added same =
     let fits : length (map own rows) < most = omega (arith, length-map rows own, h.few, room) in
     subst (λ l. IsNamed most (map own l)) (sym added) (named-row own rows row h good new fits)
-grown own rows after row (Err e) h good room new added same = subst (λ l. IsNamed most (map own l)) (sym same) h
+grown {most = most} own rows after row (Err e) h good room new added same = subst (λ l. IsNamed most (map own l)) (sym same) h
 
 -- each row of the table meets a fact where the new one does
 each : {R : Type 0} (P : R → Type 0) (rows after : List R) (row : R) (result : Result ℕ AddFault) → All P rows → P row → OnOk result (after ≡ rows ++ row ∷ []) → OnErr result (after ≡ rows) → All P after
