@@ -111,6 +111,9 @@ row-keeps_most Candidates header t u row later = later
 pub rows_before-most : (table : Table) (header : Record) (t : Tables) (rows : List Record) → (rows_before table header t rows).most ≡ t.most
 rows_before-most table = keeps-rows_before table (λ t u. u.most ≡ t.most) (λ t. refl) (row-keeps_most table)
 
+pub rows_in-most : (table : Table) (t : Tables) (bytes : List ℕ) → (rows_in table t bytes).most ≡ t.most
+rows_in-most table t bytes = keeps-rows_of_records table (λ t u. u.most ≡ t.most) (λ t. refl) (row-keeps_most table) t (table_records t.most bytes)
+
 -- rows of one table leave the names of another
 module _ (table other : Table) (stays : (header : Record) (t : Tables) (row : Record) → names_in other (with_record table header t row) ≡ names_in other t) where
   pub other_names : (bytes : List ℕ) (old new : Tables) → HoldsFirstRows table bytes old new → names_in other new ≡ names_in other old

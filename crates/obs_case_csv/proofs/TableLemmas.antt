@@ -1,5 +1,5 @@
 -- The rows of one table, read over valid tables that have none of them, and the two tables of a case of nodes and switches.
-use Rattle.std.proofs.Common.{ℕ, ◌≡◌, ◌∙◌, ap, refl, sym, subst, List, [], ◌∷◌, ◌++◌, map, None, Result, Ok, Err, MatchResult}
+use Rattle.std.proofs.Common.{ℕ, ◌≡◌, ◌≤◌, ◌∙◌, arith, ap, refl, sym, subst, List, [], ◌∷◌, ◌++◌, map, None, Result, Ok, Err, MatchResult}
 use Rattle.obs_case.specs.declared.rows.Branch.{Branch}
 use Rattle.obs_case.specs.declared.rows.Candidate.{Candidate}
 use Rattle.obs_case.specs.declared.rows.Meter.{Meter}
@@ -123,7 +123,7 @@ module _ (most : ℕ) (limit : most ≤ most_rows) (nodes switches : List ℕ) w
       then-forward Switches (λ (r : Switch). r.name) (λ v. v.switches) put_switches IsSwitch switch_made switches_table one switches refl t
       (subst (λ v. then_read Switches switches (Ok v) ≡ Ok t) n.1 before.2) in
       let two = put_switches one s.0 in
-      let valid = valid-then_read Switches switches before.0 t (valid-then_read Nodes nodes (no_rows_within most) before.0 valid-no_rows_within most limit before.1) before.2 in
+      let valid = valid-then_read Switches switches before.0 t (valid-then_read Nodes nodes (no_rows_within most) before.0 (valid-no_rows_within most limit) before.1) before.2 in
       subst (IsSwitchingCaseWithin most nodes switches) (sym s.1) (record {
         limit = refl;
         valid = subst IsValid s.1 valid;

@@ -1,6 +1,6 @@
 -- Why a header or a row is refused: the lowest of the codes whose tests hold.
 use Rattle.std.proofs.Common.{ℕ, ◌≡◌, ◌∙◌, ◌+◌, ◌≤◌, ◌⊎◌, inl, inr, ap, refl, sym, subst, List, [], ◌∷◌, length, Bool, not, true, false, arith, Option, Some, None, if◌then◌else◌, nat_eq}
-use Rattle.std.proofs.lemmas.Bool.{cases_Bool, eqb-false, eqb-true, false≢true, ne_eqb}
+use Rattle.std.proofs.lemmas.Bool.{eq-eqb, cases_Bool, eqb-false, eqb-true, false≢true, ne_eqb}
 use Rattle.std.specs.List.{list_any}
 use Rattle.obs_text.specs.Names.{is_name}
 use Rattle.obs_case.specs.Tables.{IsValid, Tables, has_name}
