@@ -9,6 +9,7 @@ use Rattle.obs_case.specs.Tables.{IsValid, Tables}
 use Rattle.obs_matroid.specs.Assignments.{Pair as NumberPair}
 use Rattle.obs_network.specs.Network.{case_branches, case_component_count, case_meters, case_vertex_count}
 use Rattle.obs_network.specs.Observable.{branch_component, case_live_meters, item_component}
+use Rattle.obs_network.proofs.Parted.{parts_few}
 use Rattle.obs_network.proofs.OfCase.{case_branches-are, case_bus_count-le, case_component_count-le, few_meters, few_nodes, length-case_meters}
 use Rattle.obs_report.specs.Items.{inside_line, pair_line}
 use Rattle.obs_report.specs.Meters.{bound_line, bound_text, component_name}
@@ -18,7 +19,6 @@ use Rattle.obs_edit.specs.Answers.{case_first_pairs}
 use Rattle.obs_edit.specs.Laws.{tree_pairs}
 use Rattle.obs_claimed.specs.Laws.{TreesAndBoundsFit}
 use Rattle.obs_claimed.proofs.LineLengths.{bound_line-length, each_length, inside_length, pair_length, tree_line-length}
-use Rattle.obs_claimed.proofs.Parted.{parts_few}
 use Rattle.obs_claimed.proofs.PlanLengths.{first_pairs_few}
 use Rattle.obs_claimed.proofs.Small.{bound_outside_small, bound_rank_small, filter_few, live_few}
 
