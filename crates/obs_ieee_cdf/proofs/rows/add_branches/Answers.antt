@@ -15,21 +15,21 @@ overflow_add-at c =
 pub loop-line-preserved : goal.loop-line-preserved
 loop-line-preserved c = (
   omega (arith, c.loop-line.invariant.0, ap length c.in-Some.ensures.steps.first),
-  λ buses are is.
-      let so_far = c.loop-line.invariant.1 buses are is in
+  λ most buses are is.
+      let so_far = c.loop-line.invariant.1 most buses are is in
       let all = numbered c.args.first (lines_of c.args.section.now) in
       let left = numbered c.loop-line.at (lines_of c.loop-line.line-iterator) in
       let rest = numbered (c.loop-line.at + 1) (lines_of c.next.new.self) in
       let next = numbered_next c.loop-line.at c.loop-line.line-iterator c.in-Some.line.now c.next.new.self c.in-Some.ensures.steps.first in
       elim c.if-not-is_passed_over.branch [
         | then-not-is_passed_over+in_ok-add_branch w ↦
-            read_one (read_branch buses) (tables_of_rows buses) (AreNamed 1) all c.loop-line.case left rest c.loop-line.at c.in-Some.line.now so_far
+            read_one (read_branch most buses) (tables_of_rows most buses) (AreNamed 1) all c.loop-line.case left rest c.loop-line.at c.in-Some.line.now so_far
             (next false (sym c.is_passed_over.ensures.blank ∙ w.if-not-is_passed_over.true)) c.if-not-is_passed_over.case
-            (read_branch-good buses so_far.0 c.loop-line.at c.in-Some.line.now so_far.1.good)
-            (rw w.case-is (w.in_ok-add_branch.ensures.read buses so_far.0 are so_far.1.good so_far.1.is_held))
+            (read_branch-good most buses so_far.0 c.loop-line.at c.in-Some.line.now so_far.1.good)
+            (rw w.case-is (w.in_ok-add_branch.ensures.read most buses so_far.0 are so_far.1.good so_far.1.is_held))
         | else-not-is_passed_over w ↦
-            subst (λ case. ReadSoFar (read_branch buses) (tables_of_rows buses) (AreNamed 1) all case rest) (sym w.case-is)
-            (subst (ReadSoFar (read_branch buses) (tables_of_rows buses) (AreNamed 1) all c.loop-line.case)
+            subst (λ case. ReadSoFar (read_branch most buses) (tables_of_rows most buses) (AreNamed 1) all case rest) (sym w.case-is)
+            (subst (ReadSoFar (read_branch most buses) (tables_of_rows most buses) (AreNamed 1) all c.loop-line.case)
             (next true (sym c.is_passed_over.ensures.blank ∙ w.if-not-is_passed_over.false)) so_far)
       ],
 )

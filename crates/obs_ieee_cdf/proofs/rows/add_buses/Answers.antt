@@ -15,7 +15,7 @@ loop-line-init c =
     let here : c.into_iter-line-iterator.result ≡ c.args.section.now = cc in
     let all = numbered c.args.first (lines_of c.args.section.now) in (
       ap (λ left. c.args.first + length (lines_of left)) here,
-      read_none read_bus (λ buses. tables_of_rows buses []) AreBuses all c.args.case.now (numbered c.args.first (lines_of c.into_iter-line-iterator.result)) AreBuses-none c.requires.empty
+      read_none (read_bus c.args.case.now.most) (λ buses. tables_of_rows c.args.case.now.most buses []) AreBuses all c.args.case.now (numbered c.args.first (lines_of c.into_iter-line-iterator.result)) AreBuses-none c.requires.empty
           (ap (λ left. numbered c.args.first (lines_of left)) here),
     )
 
@@ -25,6 +25,7 @@ overflow_add-at c =
 
 pub loop-line-preserved : goal.loop-line-preserved
 loop-line-preserved c =
+    let most = c.args.case.now.most in
     let so_far = c.loop-line.invariant.1 in
     let all = numbered c.args.first (lines_of c.args.section.now) in
     let left = numbered c.loop-line.at (lines_of c.loop-line.line-iterator) in
@@ -33,13 +34,13 @@ loop-line-preserved c =
       omega (arith, c.loop-line.invariant.0, ap length c.in-Some.ensures.steps.first),
       elim c.if-not-is_passed_over.branch [
         | then-not-is_passed_over+in_ok-add_bus w ↦
-            read_one read_bus (λ buses. tables_of_rows buses []) AreBuses all c.loop-line.case left rest c.loop-line.at c.in-Some.line.now so_far
+            read_one (read_bus most) (λ buses. tables_of_rows most buses []) AreBuses all c.loop-line.case left rest c.loop-line.at c.in-Some.line.now so_far
             (next false (sym c.is_passed_over.ensures.blank ∙ w.if-not-is_passed_over.true)) c.if-not-is_passed_over.case
-            (read_bus-good so_far.0 c.loop-line.at c.in-Some.line.now so_far.1.good)
-            (rw w.case-is (w.in_ok-add_bus.ensures.read so_far.0 so_far.1.good so_far.1.is_held))
+            (read_bus-good most so_far.0 c.loop-line.at c.in-Some.line.now so_far.1.good)
+            (rw w.case-is (w.in_ok-add_bus.ensures.read most so_far.0 so_far.1.good so_far.1.is_held))
         | else-not-is_passed_over w ↦
-            subst (λ case. ReadSoFar read_bus (λ buses. tables_of_rows buses []) AreBuses all case rest) (sym w.case-is)
-            (subst (ReadSoFar read_bus (λ buses. tables_of_rows buses []) AreBuses all c.loop-line.case)
+            subst (λ case. ReadSoFar (read_bus most) (λ buses. tables_of_rows most buses []) AreBuses all case rest) (sym w.case-is)
+            (subst (ReadSoFar (read_bus most) (λ buses. tables_of_rows most buses []) AreBuses all c.loop-line.case)
             (next true (sym c.is_passed_over.ensures.blank ∙ w.if-not-is_passed_over.false)) so_far)
       ],
     )
