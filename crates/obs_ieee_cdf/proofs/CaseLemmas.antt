@@ -7,6 +7,7 @@ use Rattle.obs_case_csv.specs.declared.faults.TableFault.{TableFault}
 use Rattle.obs_case_csv.specs.Read.{tables_after, then_read}
 use Rattle.obs_case_csv.specs.Rows.{names_in}
 use Rattle.obs_case_csv.proofs.AfterLemmas.{fault_where_none, given_valid, tables_are, tables_read}
+use Rattle.obs_case_csv.proofs.LimitLemmas.{tables_after-limit}
 use Rattle.obs_ieee_cdf.specs.declared.fault.CdfFault.{CdfFault}
 use Rattle.obs_ieee_cdf.specs.Case.{IsCase, IsFile}
 use Rattle.obs_ieee_cdf.specs.Laws.{CaseIsRead, CasesAreValid, CasesHaveLimit, FaultWhereNoCase}
@@ -55,3 +56,13 @@ pub CasesAreValid-holds : CasesAreValid
 CasesAreValid-holds most limit cdf meters candidates tables is =
     let case = case_is most limit cdf meters candidates tables (cdf_within most cdf) refl is in
     given_valid candidates case.1 tables case.3.valid case.4
+
+-- the file's nodes and branches have the limit, and the tables behind it keep it
+has_limit : (most : ℕ) (cdf meters : List ℕ) (candidates : Option (List ℕ)) (tables : Tables) (r : Result Tables CdfFault) → cdf_within most cdf ≡ r → with_tables meters candidates r ≡ Ok tables → tables.most ≡ most
+has_limit most cdf meters candidates tables (Err fault) read is = cc
+has_limit most cdf meters candidates tables (Ok file) read is =
+    let of_file = file_is most cdf file read in
+    tables_after-limit meters candidates file tables (as_end-ok (tables_after meters candidates file) tables is) ∙ ap (λ t. t.most) of_file.3
+
+pub CasesHaveLimit-holds : CasesHaveLimit
+CasesHaveLimit-holds most limit cdf meters candidates tables is = has_limit most cdf meters candidates tables (cdf_within most cdf) refl is

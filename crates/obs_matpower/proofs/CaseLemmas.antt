@@ -6,6 +6,7 @@ use Rattle.obs_case_csv.specs.declared.faults.TableFault.{TableFault}
 use Rattle.obs_case_csv.specs.Read.{tables_after, then_read}
 use Rattle.obs_case_csv.specs.Rows.{names_in}
 use Rattle.obs_case_csv.proofs.AfterLemmas.{fault_where_none, given_valid, tables_are, tables_read}
+use Rattle.obs_case_csv.proofs.LimitLemmas.{tables_after-limit}
 use Rattle.obs_matpower.specs.declared.fault.MatFault.{MatFault}
 use Rattle.obs_matpower.specs.declared.part.MatTable.TheVariants as table
 use Rattle.obs_matpower.specs.Case.{IsCase, IsFile}
@@ -57,3 +58,13 @@ pub CasesAreValid-holds : CasesAreValid
 CasesAreValid-holds most limit matpower meters candidates tables is =
     let case = case_is most limit matpower meters candidates tables (mat_within most matpower) refl is in
     given_valid candidates case.1 tables case.3.valid case.4
+
+-- the file's nodes and branches have the limit, and the tables behind it keep it
+has_limit : (most : ℕ) (matpower meters : List ℕ) (candidates : Option (List ℕ)) (tables : Tables) (r : Result Tables MatFault) → mat_within most matpower ≡ r → with_tables meters candidates r ≡ Ok tables → tables.most ≡ most
+has_limit most matpower meters candidates tables (Err fault) read is = cc
+has_limit most matpower meters candidates tables (Ok file) read is =
+    let of_file = file_is most matpower file read in
+    tables_after-limit meters candidates file tables (as_end-ok (tables_after meters candidates file) tables is) ∙ ap (λ t. t.most) of_file.3
+
+pub CasesHaveLimit-holds : CasesHaveLimit
+CasesHaveLimit-holds most limit matpower meters candidates tables is = has_limit most matpower meters candidates tables (mat_within most matpower) refl is
