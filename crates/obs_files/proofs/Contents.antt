@@ -16,13 +16,13 @@ use Rattle.obs_text.specs.declared.faults.InputFault.{InputFault}
 use Rattle.obs_case.specs.Tables.{Tables}
 use Rattle.obs_case_csv.specs.Read.{tables_after}
 use Rattle.obs_ieee_cdf.specs.Faults.{cdf_fault}
-use Rattle.obs_ieee_cdf.specs.Rows.{cdf_of}
+use Rattle.obs_ieee_cdf.specs.Rows.{cdf_within}
 use Rattle.obs_case_csv.specs.declared.faults.TableFault.{TableFault}
 use Rattle.obs_matpower.specs.declared.fault.MatEnd.{MatEnd}
 use Rattle.obs_matpower.specs.declared.fault.MatEnd.TheVariants.{Mat}
 use Rattle.obs_matpower.specs.declared.fault.MatFault.{MatFault}
 use Rattle.obs_matpower.specs.Faults.{mat_fault}
-use Rattle.obs_matpower.specs.Read.{EndsCase, mat_of}
+use Rattle.obs_matpower.specs.Read.{EndsCase, mat_within}
 use Rattle.obs_matpower.specs.Read as mat
 use Rattle.obs_trial.specs.Trial.{trial_of}
 use Rattle.obs_files.specs.declared.words.CaseForm.{CaseForm}
@@ -200,17 +200,17 @@ module _ (limits : Limits) (contents : List (Vec ℕ Global)) (file : ℕ → Li
       let two : b ≡ file 3 = handed contents file 2 2 front some 1 y b yi by (omega arith) in
       subst (λ (u : List ℕ). P u (file 3)) one (subst (λ (u : List ℕ). P a u) two taken)
 
-  pub cdf_taken : (from : CaseForm) (candidates : Option (List ℕ)) (r : Result Tables CaseError) → from ≡ Cdf → IsTaken (case_with_tables cdf_fault b candidates (cdf_of a)) r
+  pub cdf_taken : (from : CaseForm) (candidates : Option (List ℕ)) (r : Result Tables CaseError) → from ≡ Cdf → IsTaken (case_with_tables cdf_fault b candidates (cdf_within limits.rows a)) r
       → length (case_parts from) ≤ length contents → take (length (case_parts from)) (bytes_of contents) ≡ map file (range_with_len 2 (length (case_parts from))) → IsTaken (case_in limits.rows from candidates file) r
   cdf_taken from candidates r e taken =
       subst (λ (f : CaseForm). length (case_parts f) ≤ length contents → take (length (case_parts f)) (bytes_of contents) ≡ map file (range_with_len 2 (length (case_parts f))) → IsTaken (case_in limits.rows f candidates file) r) (sym e)
-      (two_at (λ u v. IsTaken (case_with_tables cdf_fault v candidates (cdf_of u)) r) taken)
+      (two_at (λ u v. IsTaken (case_with_tables cdf_fault v candidates (cdf_within limits.rows u)) r) taken)
 
-  pub mat_taken : (from : CaseForm) (candidates : Option (List ℕ)) (r : Result Tables CaseError) → from ≡ Matpower → IsTaken (case_with_tables mat_fault b candidates (mat_of a)) r
+  pub mat_taken : (from : CaseForm) (candidates : Option (List ℕ)) (r : Result Tables CaseError) → from ≡ Matpower → IsTaken (case_with_tables mat_fault b candidates (mat_within limits.rows a)) r
       → length (case_parts from) ≤ length contents → take (length (case_parts from)) (bytes_of contents) ≡ map file (range_with_len 2 (length (case_parts from))) → IsTaken (case_in limits.rows from candidates file) r
   mat_taken from candidates r e taken =
       subst (λ (f : CaseForm). length (case_parts f) ≤ length contents → take (length (case_parts f)) (bytes_of contents) ≡ map file (range_with_len 2 (length (case_parts f))) → IsTaken (case_in limits.rows f candidates file) r) (sym e)
-      (two_at (λ u v. IsTaken (case_with_tables mat_fault v candidates (mat_of u)) r) taken)
+      (two_at (λ u v. IsTaken (case_with_tables mat_fault v candidates (mat_within limits.rows u)) r) taken)
 
 -- the files of a case, and behind them those of candidates and of a certificate
 module _ (limits : Limits) (contents : List (Vec ℕ Global)) (file : ℕ → List ℕ) (r : Result Tables CaseError) (from : CaseForm) where

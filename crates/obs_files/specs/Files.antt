@@ -1,15 +1,15 @@
 -- What files hold: a case, or their first fault.
 use Rattle.std.specs.Prelude.{ℕ, Bool, nat_lt, List, [], ◌∷◌, length, Option, None, Some, Result, Ok, Err, if◌then◌else◌}
 use Rattle.obs_text.specs.Faults.{Fault, too_long}
-use Rattle.obs_case.specs.Tables.{Tables, no_rows}
+use Rattle.obs_case.specs.Tables.{Tables, no_rows_within}
 use Rattle.obs_case_csv.specs.declared.faults.TableFault.{TableFault}
 use Rattle.obs_case_csv.specs.declared.faults.Table.TheVariants.{Nodes, Switches}
 use Rattle.obs_case_csv.specs.Faults.{table_fault}
-use Rattle.obs_case_csv.specs.Read.{tables_after, tables_in, then_read}
+use Rattle.obs_case_csv.specs.Read.{tables_after, tables_within, then_read}
 use Rattle.obs_ieee_cdf.specs.Faults.{cdf_fault}
-use Rattle.obs_ieee_cdf.specs.Rows.{cdf_of}
+use Rattle.obs_ieee_cdf.specs.Rows.{cdf_within}
 use Rattle.obs_matpower.specs.Faults.{mat_fault}
-use Rattle.obs_matpower.specs.Read.{mat_of}
+use Rattle.obs_matpower.specs.Read.{mat_within}
 use Rattle.obs_trial.specs.Trial.{trial_of}
 use Rattle.obs_files.specs.declared.words.CaseForm.{CaseForm}
 use Rattle.obs_files.specs.declared.words.CaseForm.TheVariants.{Csv, Cdf, Matpower}
@@ -42,14 +42,14 @@ case_with_tables said meters candidates (Err fault) = Err (said fault)
 
 -- the case that nodes and switches alone are, with at most so many rows of each
 abbrev pub switching_case : ℕ → List ℕ → List ℕ → Result Tables Fault
-switching_case most nodes switches = case_of_tables (then_read Switches switches (then_read Nodes nodes (Ok no_rows)))
+switching_case most nodes switches = case_of_tables (then_read Switches switches (then_read Nodes nodes (Ok (no_rows_within most))))
 
 -- the case that the files of a case's form are, which stand behind two words, with candidates where they are given and at most so many
 -- rows of each table
 abbrev pub case_in : ℕ → CaseForm → Option (List ℕ) → (ℕ → List ℕ) → Result Tables Fault
-case_in most Csv candidates file = case_of_tables (tables_in (file 2) (file 3) (file 4) (file 5) candidates)
-case_in most Cdf candidates file = case_with_tables cdf_fault (file 3) candidates (cdf_of (file 2))
-case_in most Matpower candidates file = case_with_tables mat_fault (file 3) candidates (mat_of (file 2))
+case_in most Csv candidates file = case_of_tables (tables_within most (file 2) (file 3) (file 4) (file 5) candidates)
+case_in most Cdf candidates file = case_with_tables cdf_fault (file 3) candidates (cdf_within most (file 2))
+case_in most Matpower candidates file = case_with_tables mat_fault (file 3) candidates (mat_within most (file 2))
 
 -- the bytes of the candidates, where they stand with the case
 abbrev pub candidates_in : Form → (ℕ → List ℕ) → Option (List ℕ)

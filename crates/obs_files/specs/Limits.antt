@@ -1,7 +1,7 @@
 -- How much files may hold.
 use Rattle.std.specs.Prelude.{ℕ, ◌≤◌, ◌+◌, ◌*◌}
 use Rattle.obs_text.specs.Limits.{most_file_bytes, usual_file_bytes}
-use Rattle.obs_case.specs.Tables.{most_rows}
+use Rattle.obs_case.specs.Tables.{most_rows, usual_rows}
 
 -- the most rows of each table that files give, and the most bytes of a file and of a session's input
 pub record Limits : Type 0 where
@@ -20,7 +20,7 @@ limits_of rows bytes = record { rows = rows; bytes = bytes }
 
 -- those that hold where none are given
 abbrev pub usual_limits : Limits
-usual_limits = limits_of 20000 usual_file_bytes
+usual_limits = limits_of usual_rows usual_file_bytes
 
 -- the largest
 abbrev pub large_limits : Limits

@@ -2,11 +2,11 @@
 ghost use Rattle.std.specs.Prelude.{◌≡◌, ◌≤◌, ℕ, List, Ok, Some, All, IfOk, IsErrOf, length, map, option_map, take, vec_len};
 ghost use Rattle.std.specs.List.{range_with_len};
 ghost use Rattle.obs_text.specs.Limits.{most_file_bytes};
-ghost use Rattle.obs_case_csv.specs.Read.{tables_in};
+ghost use Rattle.obs_case_csv.specs.Read.{tables_within};
 ghost use Rattle.obs_ieee_cdf.specs.Faults.{cdf_fault};
-ghost use Rattle.obs_ieee_cdf.specs.Rows.{cdf_of};
+ghost use Rattle.obs_ieee_cdf.specs.Rows.{cdf_within};
 ghost use Rattle.obs_matpower.specs.Faults.{mat_fault};
-ghost use Rattle.obs_matpower.specs.Read.{mat_of};
+ghost use Rattle.obs_matpower.specs.Read.{mat_within};
 ghost use Rattle.obs_trial.specs.Trial.{trial_of};
 ghost use Rattle.obs_files.specs.Files.{candidates_in, case_in, case_of_tables, case_with_tables, certificate_in, parsed, switching_case};
 ghost use Rattle.obs_files.specs.Outside.{AreFiles, IsFileWord, ReadFailed};
@@ -18,10 +18,10 @@ use crate::limits::Limits;
 use crate::taken::{CaseError, Taken};
 use crate::words::{CaseForm, Form};
 use obs_case::Case;
-use obs_case_csv::{Table, TableEnd, read_table, read_tables};
-use obs_ieee_cdf::{CdfEnd, read_cdf};
+use obs_case_csv::{Table, TableEnd, read_table, read_tables_within};
+use obs_ieee_cdf::{CdfEnd, read_cdf_within};
 use obs_io::Files;
-use obs_matpower::{MatEnd, read_matpower};
+use obs_matpower::{MatEnd, read_matpower_within};
 use obs_text::InputFault;
 use std::alloc::Global;
 
@@ -35,7 +35,7 @@ fn read_switching(
     ensures read { IsTaken (switching_case limits.rows nodes.now switches.now) result }
     ensures no_read { IsErrOf result CaseError.Read → ⊥ }
 {
-    let mut case = Case::new(alloc);
+    let mut case = Case::within(alloc, limits.rows());
     match read_table(alloc, &mut case, Table::Nodes, nodes) {
         Ok(()) => {}
         Err(TableEnd::Fault(fault)) => return Err(CaseError::Refused(InputFault::from(fault))),
@@ -58,11 +58,12 @@ fn read_csv(
     meters: &[u8],
     candidates: Option<&[u8]>,
 ) -> Result<Case, CaseError>
-    ensures read { IsTaken (case_of_tables (tables_in nodes.now switches.now branches.now meters.now
+    ensures read { IsTaken (case_of_tables (tables_within limits.rows nodes.now switches.now branches.now meters.now
         (option_map (λ bytes. bytes.now) candidates.entry))) result }
     ensures no_read { IsErrOf result CaseError.Read → ⊥ }
 {
-    match read_tables(alloc, nodes, switches, branches, meters, candidates) {
+    let most = limits.rows();
+    match read_tables_within(alloc, most, nodes, switches, branches, meters, candidates) {
         Ok(case) => Ok(case),
         Err(TableEnd::Fault(fault)) => Err(CaseError::Refused(InputFault::from(fault))),
         Err(TableEnd::NoMemory) => Err(CaseError::NoMemory),
@@ -80,10 +81,10 @@ fn read_cdf_tables(
 ) -> Result<Case, CaseError>
     requires few { length cdf.now ≤ most_file_bytes }
     ensures read { IsTaken (case_with_tables cdf_fault meters.now (option_map (λ bytes. bytes.now) candidates.entry)
-        (cdf_of cdf.now)) result }
+        (cdf_within limits.rows cdf.now)) result }
     ensures no_read { IsErrOf result CaseError.Read → ⊥ }
 {
-    match read_cdf(alloc, cdf, meters, candidates) {
+    match read_cdf_within(alloc, limits.rows(), cdf, meters, candidates) {
         Ok(case) => Ok(case),
         Err(CdfEnd::Cdf(fault)) => Err(CaseError::Refused(InputFault::from(fault))),
         Err(CdfEnd::Table(fault)) => Err(CaseError::Refused(InputFault::from(fault))),
@@ -101,10 +102,10 @@ fn read_matpower_tables(
 ) -> Result<Case, CaseError>
     requires few { length matpower.now ≤ most_file_bytes }
     ensures read { IsTaken (case_with_tables mat_fault meters.now (option_map (λ bytes. bytes.now) candidates.entry)
-        (mat_of matpower.now)) result }
+        (mat_within limits.rows matpower.now)) result }
     ensures no_read { IsErrOf result CaseError.Read → ⊥ }
 {
-    match read_matpower(alloc, matpower, meters, candidates) {
+    match read_matpower_within(alloc, limits.rows(), matpower, meters, candidates) {
         Ok(case) => Ok(case),
         Err(MatEnd::Mat(fault)) => Err(CaseError::Refused(InputFault::from(fault))),
         Err(MatEnd::Table(fault)) => Err(CaseError::Refused(InputFault::from(fault))),

@@ -2,7 +2,7 @@
 ghost use Rattle.std.specs.Prelude.{◌≡◌, None, IfSome};
 ghost use Rattle.obs_files.specs.Limits.{IsLimits, large_limits, limits_of, usual_limits};
 
-use obs_case::MOST_ROWS;
+use obs_case::{MOST_ROWS, USUAL_ROWS};
 use obs_text::{MOST_FILE_BYTES, USUAL_FILE_BYTES};
 use std::marker::Model;
 
@@ -32,7 +32,7 @@ impl Limits {
         ensures usual { result ≡ usual_limits }
     {
         Limits {
-            rows: 20000,
+            rows: USUAL_ROWS as u32,
             bytes: USUAL_FILE_BYTES,
         }
     }
