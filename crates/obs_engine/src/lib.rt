@@ -22,6 +22,6 @@ mod topology;
 mod trial;
 mod verify;
 
-pub use obs_files::Status;
-pub use program::run;
-pub use stays::{answer_one, begin_session};
+pub use obs_files::{Limits, Status};
+pub use program::{run, run_within};
+pub use stays::{answer_one, begin_session, begin_session_within};
