@@ -7,15 +7,15 @@ use Rattle.obs_engine.specs.Replies.{Reply}
 use Rattle.obs_files.specs.Words.{file_words, offers}
 use Rattle.obs_engine.proofs.Staying.{begins-counted, begins-other, begins-refused, begins-usage, no_read, no_write, refused_by_files, refuses, refuses-counted, status_is, usage_no_memory, usage_no_read, usage_of_others, usage_of_words}
 use Rattle.obs_files.proofs.Taking.{ok_not_read, read_is}
-use Rattle.obs_engine.proofs.stays.begin_session.Goals as goal
+use Rattle.obs_engine.proofs.stays.begin_session_within.Goals as goal
 
 pub returns-in_default-clause-begins : goal.returns-in_default-clause-begins
-returns-in_default-clause-begins g c = λ file told. begins-usage _ file c.refuse_words.result _ _ c.in_default.ensures.form c.refuse_words.ensures.replied.ends
+returns-in_default-clause-begins g c = λ file told. begins-usage _ _ file c.refuse_words.result _ _ c.in_default.ensures.form c.refuse_words.ensures.replied.ends
 
 pub returns-in_default-clause-room : goal.returns-in_default-clause-room
 returns-in_default-clause-room g c = λ file told reply rest not has e.
     c.refuse_words.ensures.replied.room rest
-    (subst (λ (r : Reply). g.W.Sink.has_room c.args.output.now (length r.text + rest)) (usage_of_words _ file reply c.in_default.ensures.form not) has) (status_is _ _ e)
+    (subst (λ (r : Reply). g.W.Sink.has_room c.args.output.now (length r.text + rest)) (usage_of_words _ _ file reply c.in_default.ensures.form not) has) (status_is _ _ e)
 
 pub returns-in_default-clause-statuses : goal.returns-in_default-clause-statuses
 returns-in_default-clause-statuses g c = subst (λ (f : Option Form). CanRefuse (offers f) c.refuse_words.result) c.in_default.ensures.form c.refuse_words.ensures.statuses
@@ -40,12 +40,12 @@ returns-in_default-clause-quiet_output g c = λ none. c.refuse_words.ensures.rep
 
 pub returns-in_default-offers-clause-begins : goal.returns-in_default-offers-clause-begins
 returns-in_default-offers-clause-begins g c = λ file told.
-    begins-other _ _ file c.refuse_words-in_default-offers.result _ _ c.in-Some.ensures.form c.in_default-offers.ensures.offers c.refuse_words-in_default-offers.ensures.replied.ends
+    begins-other _ _ _ file c.refuse_words-in_default-offers.result _ _ c.in-Some.ensures.form c.in_default-offers.ensures.offers c.refuse_words-in_default-offers.ensures.replied.ends
 
 pub returns-in_default-offers-clause-room : goal.returns-in_default-offers-clause-room
 returns-in_default-offers-clause-room g c = λ file told reply rest not has e.
     c.refuse_words-in_default-offers.ensures.replied.room rest
-    (subst (λ (r : Reply). g.W.Sink.has_room c.args.output.now (length r.text + rest)) (usage_of_others _ _ file reply c.in-Some.ensures.form c.in_default-offers.ensures.offers not) has) (status_is _ _ e)
+    (subst (λ (r : Reply). g.W.Sink.has_room c.args.output.now (length r.text + rest)) (usage_of_others _ _ _ file reply c.in-Some.ensures.form c.in_default-offers.ensures.offers not) has) (status_is _ _ e)
 
 pub returns-in_default-offers-clause-statuses : goal.returns-in_default-offers-clause-statuses
 returns-in_default-offers-clause-statuses g c = refuses _ _ _ _ c.in-Some.ensures.form c.in_default-offers.ensures.offers c.refuse_words-in_default-offers.ensures.statuses
@@ -70,8 +70,8 @@ returns-in_default-offers-clause-quiet_output g c = λ none. c.refuse_words-in_d
 
 pub returns-in-Ok-clause-begins : goal.returns-in-Ok-clause-begins
 returns-in-Ok-clause-begins g c = λ file told.
-    let here = subst (λ (f : Option Form). AreFiles f (g.F.Files.content c.args.files.now) file) (sym c.in-Some.ensures.form) told in
-    begins-counted _ _ file _ c.in-Ok.taken.case c.begin_counted.result (g.W.Sink.written c.args.output.now) c.in-Some.ensures.form c.in-Some-offers.ensures.offers (c.in-Ok.ensures.stated file here).0
+    let here = subst (λ (f : Option Form). AreFiles c.args.limits f (g.F.Files.content c.args.files.now) file) (sym c.in-Some.ensures.form) told in
+    begins-counted _ _ _ file _ c.in-Ok.taken.case c.begin_counted.result (g.W.Sink.written c.args.output.now) c.in-Some.ensures.form c.in-Some-offers.ensures.offers (c.in-Ok.ensures.stated file here).0
     c.begin_counted.ensures.case c.begin_counted.ensures.offered c.begin_counted.ensures.memory
 
 pub returns-in-Ok-clause-room : goal.returns-in-Ok-clause-room
@@ -97,15 +97,15 @@ returns-in-Ok-clause-write g c = λ e. absurd (no_write c.begin_counted.result c
 
 pub returns-in-Err-clause-begins : goal.returns-in-Err-clause-begins
 returns-in-Err-clause-begins g c = λ file told.
-    let here = subst (λ (f : Option Form). AreFiles f (g.F.Files.content c.args.files.now) file) (sym c.in-Some.ensures.form) told in
+    let here = subst (λ (f : Option Form). AreFiles c.args.limits f (g.F.Files.content c.args.files.now) file) (sym c.in-Some.ensures.form) told in
     let refused = c.refuse_files.ensures in
-    begins-refused _ _ file _ c.in-Err.why c.refuse_files.result _ _ c.in-Some.ensures.form c.in-Some-offers.ensures.offers (c.in-Err.ensures.stated file here)
+    begins-refused _ _ _ file _ c.in-Err.why c.refuse_files.result _ _ c.in-Some.ensures.form c.in-Some-offers.ensures.offers (c.in-Err.ensures.stated file here)
     refused.ends refused.unanswered refused.unread refused.starved refused.memory
 
 pub returns-in-Err-clause-room : goal.returns-in-Err-clause-room
 returns-in-Err-clause-room g c = λ file told reply rest not has e.
-    let here = subst (λ (f : Option Form). AreFiles f (g.F.Files.content c.args.files.now) file) (sym c.in-Some.ensures.form) told in
-    c.refuse_files.ensures.room _ reply rest (c.in-Err.ensures.stated file here) (refused_by_files _ _ file _ reply c.in-Some.ensures.form c.in-Some-offers.ensures.offers not) has (status_is _ _ e)
+    let here = subst (λ (f : Option Form). AreFiles c.args.limits f (g.F.Files.content c.args.files.now) file) (sym c.in-Some.ensures.form) told in
+    c.refuse_files.ensures.room _ reply rest (c.in-Err.ensures.stated file here) (refused_by_files _ _ _ file _ reply c.in-Some.ensures.form c.in-Some-offers.ensures.offers not) has (status_is _ _ e)
 
 pub returns-in-Err-clause-statuses : goal.returns-in-Err-clause-statuses
 returns-in-Err-clause-statuses g c = refuses _ _ _ _ c.in-Some.ensures.form c.in-Some-offers.ensures.offers c.refuse_files.ensures.statuses
@@ -118,7 +118,7 @@ returns-in-Err-clause-memory g c = λ e. c.refuse_files.ensures.memory (status_i
 
 pub returns-in-Err-clause-read : goal.returns-in-Err-clause-read
 returns-in-Err-clause-read g c = λ e.
-    subst (λ (f : Option Form). ReadFailed (file_words f) (g.F.Files.content c.args.files.now) (g.F.Files.faults c.args.files.now) (g.F.Files.faults c.take_case.new.files)) c.in-Some.ensures.form
+    subst (λ (f : Option Form). ReadFailed c.args.limits (file_words f) (g.F.Files.content c.args.files.now) (g.F.Files.faults c.args.files.now) (g.F.Files.faults c.take_case.new.files)) c.in-Some.ensures.form
     (c.in-Err.ensures.read (ap Err (c.refuse_files.ensures.read (status_is _ _ e))))
 
 pub returns-in-Err-clause-steady : goal.returns-in-Err-clause-steady

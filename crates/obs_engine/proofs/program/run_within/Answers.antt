@@ -3,7 +3,7 @@ use Rattle.obs_files.specs.declared.words.Form.{Form}
 use Rattle.obs_engine.specs.Forms.{TakesInput}
 use Rattle.obs_engine.proofs.Endings.{usage_complete, usage_ends}
 use Rattle.obs_engine.proofs.Ran.{ran_at}
-use Rattle.obs_engine.proofs.program.run.Goals as goal
+use Rattle.obs_engine.proofs.program.run_within.Goals as goal
 
 pub returns-in_default-clause-stated : goal.returns-in_default-clause-stated
 returns-in_default-clause-stated g c = λ told tells. usage_ends _ told _ _ _ _ c.in_default.ensures.form c.refuse_words.ensures.replied.ends
