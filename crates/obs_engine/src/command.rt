@@ -46,7 +46,14 @@ fn answer_case<S: Source, W: Sink>(
                 begin_task(alloc, case, true, task, input, output)
             }
             CaseCommand::Session { offered } => {
-                begin_task(alloc, case, offered, Task::Lines { most_bytes }, input, output)
+                begin_task(
+                    alloc,
+                    case,
+                    offered,
+                    Task::Lines { most_bytes },
+                    input,
+                    output,
+                )
             }
             CaseCommand::Verify { .. } => answer_verify(alloc, output, &case, certificate),
             CaseCommand::Study(study) => answer_study(alloc, study, case, output),
@@ -75,8 +82,16 @@ pub(crate) fn command<F: Files, S: Source, W: Sink>(
 {
     match take_case(alloc, limits, files, form) {
         Ok(taken) => {
-            let certificate = &taken.certificate;
-            answer_case(alloc, form, taken.case, certificate, limits.bytes(), input, output)
+            let bytes = limits.bytes();
+            answer_case(
+                alloc,
+                form,
+                taken.case,
+                &taken.certificate,
+                bytes,
+                input,
+                output,
+            )
         }
         Err(why) => refuse_files(output, why),
     }
