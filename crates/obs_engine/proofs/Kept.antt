@@ -33,8 +33,7 @@ use Rattle.obs_engine.specs.Verify.{verify_reply}
 use Rattle.obs_files.specs.Words.{certificate_at}
 use Rattle.obs_engine.proofs.Claimed.{answers_hold}
 use Rattle.obs_files.proofs.Beside.{same_case}
-use Rattle.obs_files.proofs.Valid.{CasesAreValid-holds}
-use Rattle.obs_files.proofs.Within.{case_within}
+use Rattle.obs_files.proofs.Valid.{CasesAreValid-holds, case_within}
 
 -- one of two texts, or none
 if_length : (b : Bool) (text : List ℕ) → length (text_if b text) ≤ length text
