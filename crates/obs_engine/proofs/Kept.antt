@@ -88,7 +88,7 @@ pub answers_are_verified : AnswersAreVerified
 answers_are_verified limits ask from offered file t claims input reply are is claimed kept replied =
     let verify = Case (Verify offered) from in
     let v : IsValid t = CasesAreValid-holds limits (Case (Session offered) from) file t are tt is in
-    let few = answers_fit limits ask t claims are (let e = case_within limits (Session offered) from file t is in omega (arith, e)) v claimed in
+    let few = answers_fit limits ask t claims are (let e = case_within limits are (Session offered) from file t is in omega (arith, e)) v claimed in
     let fits : is_too_long limits (file (certificate_at verify)) ≡ false =
     ap (is_too_long limits) kept ∙ le-ltb limits.bytes (length (ask_text ask t)) few in
     let read = same_case limits file offered from t is fits in
