@@ -114,6 +114,12 @@ session_answered {most = most} {left = left} {left_now = left_now} {a = a} {b = 
         → EndsBehind (whole told) (answered_before (Some form) told left_now) status a b
     behind told of takes = subst (λ (text : List ℕ). EndsBehind (whole told) text status a b) (sym (before told of)) (ran.ends told.input (takes is.takes))
 
+-- the same with the number of bytes under another name
+pub answered_by : {form : Form} {t : Tables} {certificate : List ℕ} {left left_now : Option (List ℕ)} {i j : ℕ} {is_steady : Type 0} {a b : Option (List ℕ)} {f k : ℕ} {room : ℕ → Type 0} {status : Status}
+    (n most : ℕ) → n ≡ most → AnsweredAt n form t certificate left left_now i j is_steady a b f k room status → AnsweredAt most form t certificate left left_now i j is_steady a b f k room status
+answered_by {form = form} {t = t} {certificate = certificate} {left = left} {left_now = left_now} {i = i} {j = j} {is_steady = is_steady} {a = a} {b = b} {f = f} {k = k} {room = room} {status = status} n most same answered =
+    subst (λ (x : ℕ). AnsweredAt x form t certificate left left_now i j is_steady a b f k room status) same answered
+
 -- the files were a case, which was answered
 pub answered_ran : {limits : Limits} {form : Form} {content : ℕ → Option (List ℕ)} {faults_before faults_now : ℕ → ℕ} {files_steady : ℕ → Type 0} {left left_now : Option (List ℕ)} {i j : ℕ} {is_steady : Type 0}
     {a b : Option (List ℕ)} {f k : ℕ} {room : ℕ → Type 0} {status : Status} (t : Tables) (certificate : List ℕ)

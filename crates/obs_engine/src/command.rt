@@ -81,18 +81,15 @@ pub(crate) fn command<F: Files, S: Source, W: Sink>(
     ensures input { (TakesInput (Some form) → ⊥) → input.new ≡ input.old }
 {
     match take_case(alloc, limits, files, form) {
-        Ok(taken) => {
-            let bytes = limits.bytes();
-            answer_case(
-                alloc,
-                form,
-                taken.case,
-                &taken.certificate,
-                bytes,
-                input,
-                output,
-            )
-        }
+        Ok(taken) => answer_case(
+            alloc,
+            form,
+            taken.case,
+            &taken.certificate,
+            limits.bytes(),
+            input,
+            output,
+        ),
         Err(why) => refuse_files(output, why),
     }
 }

@@ -1,10 +1,10 @@
-use Rattle.std.proofs.Common.{◌∙◌, ap, subst, sym, Err, inl, inr, refl, Some}
+use Rattle.std.proofs.Common.{◌∙◌, arith, ap, subst, sym, Err, inl, inr, refl, Some}
 use Rattle.obs_engine.specs.Commands.{IsCaseReply}
 use Rattle.obs_files.specs.Files.{case_in_files, certificate_in}
 use Rattle.obs_files.specs.Limits.{Limits}
 use Rattle.obs_files.specs.Taken.{IsCaseError}
 use Rattle.obs_engine.specs.Stated.{Tells, Told}
-use Rattle.obs_engine.proofs.Commanded.{answered_ran, nothing_taken}
+use Rattle.obs_engine.proofs.Commanded.{answered_by, answered_ran, nothing_taken}
 use Rattle.obs_engine.proofs.Endings.{behind_of, complete_stated, ends_stated}
 use Rattle.obs_engine.proofs.Replied.{nothing_before, refused_reply, stated_no_failure, stated_reply}
 use Rattle.obs_files.proofs.Taking.{ok_not_read, read_is}
@@ -14,8 +14,15 @@ use Rattle.obs_engine.proofs.command.command.Goals as goal
 pub answer_case-requires-clause-inservice : goal.answer_case-requires-clause-inservice
 answer_case-requires-clause-inservice g c = generated_in_service c.args.limits (g.F.Files.content c.args.files.now) c.args.form c.in-Ok.taken.case c.in-Ok.taken.certificate.items c.in-Ok.ensures.stated
 
+pub answer_case-requires-clause-bound : goal.answer_case-requires-clause-bound
+answer_case-requires-clause-bound g c =
+    let same = c.bytes.ensures.bytes in
+    let few = c.bytes.ensures.limits.few_bytes in
+    omega (arith, same, few)
+
 pub returns-in-Ok-clause-ran : goal.returns-in-Ok-clause-ran
-returns-in-Ok-clause-ran g c = answered_ran c.in-Ok.taken.case c.deref.result.now (λ file told. let here = c.in-Ok.ensures.stated file told in (here.0, here.1 ∙ sym c.deref.ensures.value)) (c.in-Ok.ensures.quiet (ok_not_read _)) c.answer_case.ensures.answered
+returns-in-Ok-clause-ran g c = answered_ran c.in-Ok.taken.case c.deref.result.now (λ file told. let here = c.in-Ok.ensures.stated file told in (here.0, here.1 ∙ sym c.deref.ensures.value)) (c.in-Ok.ensures.quiet (ok_not_read _))
+    (answered_by c.bytes.result c.args.limits.bytes c.bytes.ensures.bytes c.answer_case.ensures.answered)
 
 pub returns-in-Err-clause-ran : goal.returns-in-Err-clause-ran
 returns-in-Err-clause-ran g c =
