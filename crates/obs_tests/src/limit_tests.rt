@@ -1,12 +1,8 @@
 // Runs with other limits than the usual ones: each form takes as many rows and bytes as the limits allow, and no more.
-ghost use Rattle.std.specs.Prelude.{◌≤◌};
-ghost use Rattle.obs_io.specs.Limits.{most_place};
-
 use crate::reference_cases::NO_BRANCHES;
 use crate::tests::{Ended, Outside, QUIET, entries, kept, outcome, sink, source, texts};
 use crate::worked::{NO_METERS, NO_SWITCHES, SESSION, many_nodes, path};
-use obs_edit::Session;
-use obs_engine::{Limits, Status, begin_session, begin_session_within, run_within};
+use obs_engine::{Limits, Status, begin_session_within, run_within};
 use obs_io::{MemFiles, MemSink, MemSource};
 use std::alloc::Global;
 use std::process::Abort;
@@ -36,7 +32,9 @@ const WIDE: Outside<'static> = Outside {
     ..QUIET
 };
 
-// The files in memory are read as far as any limits say.
+// Files in memory are read as far as this place.
+const FURTHEST: usize = 1_073_741_824;
+
 fn run_with_output(
     alloc: Global,
     limits: Limits,
@@ -46,7 +44,9 @@ fn run_with_output(
     outside: Outside<'_>,
 ) -> Result<Ended, Fail> {
     let mut output = sink(alloc, outside)?;
-    let _bytes = limits.bytes();
+    if limits.bytes() > FURTHEST {
+        return Err(Fail::from("too far"));
+    }
     let status = run_within(alloc, limits, words, files, input, &mut output);
     kept(alloc, status, output.written())
 }
@@ -156,35 +156,43 @@ fn are_large(
     is_answered(rt, alloc, Limits::large(), words, files, front)
 }
 
-// What a session answers of 20,001 nodes in these files, and with which limits it begins.
-fn session_of(
+// Whether a session begins with these limits.
+fn begins(
     alloc: Global,
+    limits: Limits,
     words: &[String],
     files: &mut MemFiles,
     output: &mut MemSink,
-    is_large: bool,
-) -> Result<Session, Status> {
-    if is_large {
-        begin_session_within(alloc, Limits::large(), words, files, output)
-    } else {
-        begin_session(alloc, words, files, output)
+) -> bool {
+    if limits.bytes() > FURTHEST {
+        return false;
     }
+    begin_session_within(alloc, limits, words, files, output).is_ok()
 }
 
-fn stays_with(
+fn begins_with_files(
     alloc: Global,
+    limits: Limits,
     words: &[String],
     files: &mut MemFiles,
-    is_large: bool,
 ) -> Result<bool, Fail> {
     let mut output = sink(alloc, WIDE)?;
-    Ok(session_of(alloc, words, files, &mut output, is_large).is_ok())
+    Ok(begins(alloc, limits, words, files, &mut output))
 }
 
-fn stays(alloc: Global, files: &[&[u8]], is_large: bool) -> Result<bool, Fail> {
-    let words = texts(alloc, &SESSION)?;
+fn begins_with_words(
+    alloc: Global,
+    limits: Limits,
+    words: &[String],
+    files: &[&[u8]],
+) -> Result<bool, Fail> {
     let mut files = held(alloc, files)?;
-    stays_with(alloc, &words, &mut files, is_large)
+    begins_with_files(alloc, limits, words, &mut files)
+}
+
+fn begins_over(alloc: Global, limits: Limits, files: &[&[u8]]) -> Result<bool, Fail> {
+    let words = texts(alloc, &SESSION)?;
+    begins_with_words(alloc, limits, &words, files)
 }
 
 fn nodes_are_large(rt: &impl Abort, alloc: Global) -> Result<(), Fail> {
@@ -196,8 +204,8 @@ fn nodes_are_large(rt: &impl Abort, alloc: Global) -> Result<(), Fail> {
     let switching = [nodes.as_slice(), NO_SWITCHES];
     are_large(rt, alloc, &TOPOLOGY, &switching, fault, b"node\tn0\tn0\n")?;
     are_large(rt, alloc, &SESSION, &files, fault, b"")?;
-    assert!(rt; !stays(alloc, &files, false)?);
-    assert!(rt; stays(alloc, &files, true)?);
+    assert!(rt; !begins_over(alloc, Limits::usual(), &files)?);
+    assert!(rt; begins_over(alloc, Limits::large(), &files)?);
     Ok(())
 }
 
