@@ -32,8 +32,7 @@ const NO_MEMORY: &[u8] =
 
 const SESSION_TOO_LONG: &[u8] = b"obs: the session's input has more than ";
 
-const SESSION_END: &[u8] =
-    b" bytes. Only the lines that ended within these were answered.\n\
+const SESSION_END: &[u8] = b" bytes. Only the lines that ended within these were answered.\n\
 obs: begin a new session for the rest, and repeat the edits that are to hold there.\n";
 
 // The bytes of the word at a position, and none behind the last.
@@ -167,6 +166,24 @@ fn write_number<E: Sink>(errors: &mut E, digits: &[u8], second: &[u8]) -> Result
     }
 }
 
+// Writes a text, then a number's digits and then a text.
+fn write_around<E: Sink>(
+    errors: &mut E,
+    first: &[u8],
+    digits: &[u8],
+    third: &[u8],
+) -> Result<(), Failed>
+    ensures writes { Writes (E.written errors.old) (E.written errors.new) result
+        (first.now ++ (digits_said digits.now ++ third.now)) }
+    ensures succeeds { (rest : ℕ) → E.has_room errors.old (length (first.now ++ (digits_said digits.now ++ third.now)) + rest)
+        → IsOk result }
+{
+    match write_all(errors, first) {
+        Ok(()) => write_number(errors, digits, third),
+        Err(Failed) => Err(Failed),
+    }
+}
+
 // Says that the session's input has more bytes than are taken.
 fn say_too_long<E: Sink>(errors: &mut E, limits: Limits) -> Result<(), Failed>
     ensures says { Writes (E.written errors.old) (E.written errors.new) result (too_long_notice limits) }
@@ -174,10 +191,7 @@ fn say_too_long<E: Sink>(errors: &mut E, limits: Limits) -> Result<(), Failed>
 {
     let mut digits = Digits::new();
     let text = digits.text(limits.bytes() as u64);
-    match write_all(errors, SESSION_TOO_LONG) {
-        Ok(()) => write_number(errors, text, SESSION_END),
-        Err(Failed) => Err(Failed),
-    }
+    write_around(errors, SESSION_TOO_LONG, text, SESSION_END)
 }
 
 /// Says what happened in a run that ended with this status, and what to do, where no answer was given or not the whole
