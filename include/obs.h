@@ -20,7 +20,7 @@ enum obs_status {
     OBS_SHORT = 1,            /* all was answered, and something falls short */
     OBS_USAGE = 2,            /* the words have none of the program's forms: the usage line is written */
     OBS_INPUT_FAULT = 3,      /* a file is too long or has a fault, whose line is written */
-    OBS_TEXT_TOO_LONG = 5,    /* the text is longer than its block, which has the front of it: call again with a longer one */
+    OBS_TEXT_TOO_LONG = 5,    /* the text is longer than its block, which is full of its front: call again with a longer one */
     OBS_NO_MEMORY = 6,        /* there was no memory, and nothing is written */
     OBS_SESSION_TOO_LONG = 7, /* the input of a session has more than 16,777,216 bytes: what was answered before is written */
     OBS_MALFORMED = 8,        /* the blocks are no words and contents, and nothing is written */
@@ -77,7 +77,8 @@ uint8_t obs_session_begin(struct obs_session *session,
 
 /* Does what one line says, and writes its answer: the answers to lines, one behind another, are what obs_run would write for them all. The
  * line has no line end: no line feed, and no carriage return behind it, which obs_run would drop and this call reads. An empty line, and one
- * that begins with `#`, has no answer.
+ * that begins with `#`, has no answer. However many lines came before, the next one is done and answered: OBS_SESSION_TOO_LONG never comes.
+ * obs_run answers only the lines within the first 16,777,216 bytes of its input; behind these the two differ.
  *
  * OBS_DONE, OBS_SHORT   the verdict on the case behind the line, also where the line was refused. The whole answer is written.
  * OBS_TEXT_TOO_LONG     the line is done, and text has a front of its answer. Say the line again with a longer block: that changes nothing

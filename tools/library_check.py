@@ -1,18 +1,18 @@
 #!/usr/bin/env python3
-"""Tries the library for C and the Python module: tools/library_check.py LIBRARY PROGRAM.
+"""Tries the library for C and the Python module: tools/library_check.py LIBRARY PROGRAM [SECONDS].
 
-LIBRARY is libobs.so, PROGRAM the built program. It says what was tried, and ends with 1 at the first thing that is otherwise:
+LIBRARY is libobs.so, PROGRAM the built program. It says what was tried, and ends with 1 at the first thing that is otherwise. With
+SECONDS only the examples, malformed blocks and what tools/library_guards.py says are tried, for about that time:
 
 - the examples (examples/*/*.run) whose commands are all plain ones of obs: what the module reads of an answer, written as text again, is
   what the program prints, and its status is the program's; a fault has the words of the printed line
 - random cases whose tables are rows, with names of many kinds: the answer is that of the definitions (tools/model.py)
 - a session whose text is longer than the module's first block, and one whose lines are too long
-- blocks for the text of 0 to 40 bytes, and of a byte less, none more and one more than the text: the status, the front that is written,
-  and that nothing behind it is touched
-- ten threads at once, each with cases of its own; less and less memory: every call ends with its answer, or with 6 and nothing written
-- each request for memory refused in turn, so too; and all memory is given back. This needs a C compiler and libobs.a beside the library
-- blocks that are no words and contents: 8, and nothing written
-- sessions that stay between calls: tools/library_stays.py says what is tried of them. Random cases are compared by tools/compare.py LIBRARY
+- blocks for the text of 0 to 40 bytes, and of about as many as the text: the status, the front, and that nothing behind it is touched
+- ten threads at once, each with cases of its own; less and less memory, and each request for it refused in turn: every call ends with its
+  answer, or with 6 and nothing written; and all memory is given back. The refusals need a C compiler and libobs.a beside the library
+- blocks that are no words and contents: 8, and nothing written; random cases are compared by tools/compare.py LIBRARY
+- sessions that stay between calls (tools/library_stays.py), and blocks that end where the memory ends (tools/library_guards.py)
 """
 import ctypes
 import os
@@ -28,6 +28,7 @@ HERE = os.path.dirname(os.path.abspath(__file__))
 EXAMPLES = os.path.join(HERE, "..", "examples")
 sys.path[:0] = [os.path.join(HERE, "..", "python"), HERE]
 
+import library_guards
 import library_stays
 import obs
 from cases import random_case, records_of
@@ -38,9 +39,8 @@ from model_studies import STUDIES
 from model_text import Text
 from obs import library
 
-FILL = 0xA5
+FILL, BEHIND = 0xA5, 64
 TABLES = ["nodes", "switches", "branches", "meters"]
-BEHIND = 64
 
 
 def fail(*words):
@@ -217,11 +217,9 @@ def call_with(words, contents, lengths, given, room):
 
 
 def try_rooms():
-    own = os.path.join(EXAMPLES, "own")
-    form = ["tables", *(f"{name}.csv" for name in TABLES)]
+    own, form = os.path.join(EXAMPLES, "own"), ["tables", *(f"{name}.csv" for name in TABLES)]
     runs = [["report", *form], ["place", *form, "candidates.csv"], ["topology", *form[1:3]], ["session", *form], ["trial", "2", "1"]]
-    runs += [[study, *form] for study in STUDIES]
-    count = 0
+    runs, count = runs + [[study, *form] for study in STUDIES], 0
     for words in runs + [["none"], []]:
         given = b"status\ntree\nfoo\n" if words[:1] == ["session"] else b""
         blocks = blocks_of(own, words)
@@ -286,8 +284,7 @@ def try_memory():
     found = []
     with tempfile.TemporaryDirectory() as folder:
         for name, some in lines.items():
-            with open(os.path.join(folder, name), "w") as file:
-                file.write("\n".join(some) + "\n")
+            open(os.path.join(folder, name), "w").write("\n".join(some) + "\n")
         for more in range(0, 32 << 20, 1 << 20):
             done = subprocess.run([sys.executable, "-c", MEMORY, HERE, folder, str(more)], stdout=subprocess.PIPE)
             found.append(tuple(map(int, done.stdout.split())))
@@ -322,8 +319,7 @@ def refusing(file, folder):
     if not os.path.exists(archive) or not shutil.which(compiler):
         return None
     source, made = os.path.join(folder, "refusing.c"), os.path.join(folder, "refusing.so")
-    with open(source, "w") as out:
-        out.write(REFUSING)
+    open(source, "w").write(REFUSING)
     wraps = [f"-Wl,--wrap={name}" for name in ("malloc", "realloc", "free")]
     whole = ["-Wl,--whole-archive", archive, "-Wl,--no-whole-archive"]
     subprocess.run([compiler, "-shared", "-fPIC", "-O1", "-o", made, source, *wraps, *whole], check=True)
@@ -351,7 +347,7 @@ def try_refusals(file):
                     fail(words, "request", which, "refused: status", *found[:2], "held", counted.count_held())
                 total += 1
         library_stays.try_refusals(counted)
-        os.environ["OBS_LIBRARY"] = given
+    os.environ["OBS_LIBRARY"] = given
     print(total, "requests for memory are refused, one a call: 6 and nothing written, or the whole answer, and nothing is kept")
 
 
@@ -381,9 +377,12 @@ def try_malformed():
     print(len(blocks), "kinds of malformed blocks are refused, and nothing is written")
 
 
-def main(file, program):
+def main(file, program, seconds=""):
     os.environ["OBS_LIBRARY"] = os.path.abspath(file)
     try_examples(os.path.abspath(program))
+    if seconds:
+        try_malformed()
+        return library_guards.try_all(float(seconds))
     try_rows()
     try_sessions()
     try_rooms()
@@ -392,9 +391,10 @@ def main(file, program):
     library_stays.try_all(os.environ["OBS_LIBRARY"], os.path.abspath(program))
     try_memory()
     try_refusals(os.environ["OBS_LIBRARY"])
+    library_guards.try_all(30)
 
 
 if __name__ == "__main__":
-    if len(sys.argv) != 3:
+    if len(sys.argv) not in (3, 4):
         sys.exit(__doc__.split("\n\n")[0])
     main(*sys.argv[1:])

@@ -14,9 +14,13 @@ mod cdf_tests;
 #[cfg(test)]
 mod certificate_tests;
 #[cfg(test)]
+mod counted_tests;
+#[cfg(test)]
 mod csv_absolute_tests;
 #[cfg(test)]
 mod csv_fault_tests;
+#[cfg(test)]
+mod csv_header_tests;
 #[cfg(test)]
 mod csv_tests;
 #[cfg(test)]
