@@ -184,15 +184,15 @@ topology_at limits contents file x y a b r xi yi ax by taken count told =
     let two : b ≡ file 2 = handed contents file 1 2 front some 1 y b yi by (omega arith) in
     subst (λ (u : List ℕ). IsTaken (switching_case limits.rows u (file 2)) r) one (subst (λ (u : List ℕ). IsTaken (switching_case limits.rows a u) r) two taken)
 
-pub topology_taken : (limits : Limits) (form : Form) (contents : List (Vec ℕ Global)) (file : ℕ → List ℕ) (x y : Vec ℕ Global) (a b : List ℕ) (r : Result Tables CaseError) → form ≡ Topology
-    → x ≡ get_or contents 0 x → y ≡ get_or contents 1 y → a ≡ x.items → b ≡ y.items → IsTaken (switching_case limits.rows a b) r
+pub topology_taken : (limits : Limits) (most : ℕ) → most ≡ limits.rows → (form : Form) (contents : List (Vec ℕ Global)) (file : ℕ → List ℕ) (x y : Vec ℕ Global) (a b : List ℕ) (r : Result Tables CaseError) → form ≡ Topology
+    → x ≡ get_or contents 0 x → y ≡ get_or contents 1 y → a ≡ x.items → b ≡ y.items → IsTaken (switching_case most a b) r
     → length contents ≡ length (words_of form) → bytes_of contents ≡ map file (words_of form) → IsTaken (parsed limits form file) r
-topology_taken limits form contents file x y a b r e xi yi ax by taken =
+topology_taken limits most is form contents file x y a b r e xi yi ax by taken =
     subst (λ (f : Form). length contents ≡ length (words_of f) → bytes_of contents ≡ map file (words_of f) → IsTaken (parsed limits f file) r) (sym e)
-    (topology_at limits contents file x y a b r xi yi ax by taken)
+    (topology_at limits contents file x y a b r xi yi ax by (subst (λ (n : ℕ). IsTaken (switching_case n a b) r) is taken))
 
 -- the two files of a case that is no table
-module _ (limits : Limits) (contents : List (Vec ℕ Global)) (file : ℕ → List ℕ) (x y : Vec ℕ Global) (a b : List ℕ)
+module _ (most : ℕ) (contents : List (Vec ℕ Global)) (file : ℕ → List ℕ) (x y : Vec ℕ Global) (a b : List ℕ)
     (xi : x ≡ get_or contents 0 x) (yi : y ≡ get_or contents 1 y) (ax : a ≡ x.items) (by : b ≡ y.items) where
   two_at : (P : List ℕ → List ℕ → Type 0) → P a b → 2 ≤ length contents → take 2 (bytes_of contents) ≡ map file (range_with_len 2 2) → P (file 2) (file 3)
   two_at P taken some front =
@@ -200,22 +200,22 @@ module _ (limits : Limits) (contents : List (Vec ℕ Global)) (file : ℕ → Li
       let two : b ≡ file 3 = handed contents file 2 2 front some 1 y b yi by (omega arith) in
       subst (λ (u : List ℕ). P u (file 3)) one (subst (λ (u : List ℕ). P a u) two taken)
 
-  pub cdf_taken : (from : CaseForm) (candidates : Option (List ℕ)) (r : Result Tables CaseError) → from ≡ Cdf → IsTaken (case_with_tables cdf_fault b candidates (cdf_within limits.rows a)) r
-      → length (case_parts from) ≤ length contents → take (length (case_parts from)) (bytes_of contents) ≡ map file (range_with_len 2 (length (case_parts from))) → IsTaken (case_in limits.rows from candidates file) r
+  pub cdf_taken : (from : CaseForm) (candidates : Option (List ℕ)) (r : Result Tables CaseError) → from ≡ Cdf → IsTaken (case_with_tables cdf_fault b candidates (cdf_within most a)) r
+      → length (case_parts from) ≤ length contents → take (length (case_parts from)) (bytes_of contents) ≡ map file (range_with_len 2 (length (case_parts from))) → IsTaken (case_in most from candidates file) r
   cdf_taken from candidates r e taken =
-      subst (λ (f : CaseForm). length (case_parts f) ≤ length contents → take (length (case_parts f)) (bytes_of contents) ≡ map file (range_with_len 2 (length (case_parts f))) → IsTaken (case_in limits.rows f candidates file) r) (sym e)
-      (two_at (λ u v. IsTaken (case_with_tables cdf_fault v candidates (cdf_within limits.rows u)) r) taken)
+      subst (λ (f : CaseForm). length (case_parts f) ≤ length contents → take (length (case_parts f)) (bytes_of contents) ≡ map file (range_with_len 2 (length (case_parts f))) → IsTaken (case_in most f candidates file) r) (sym e)
+      (two_at (λ u v. IsTaken (case_with_tables cdf_fault v candidates (cdf_within most u)) r) taken)
 
-  pub mat_taken : (from : CaseForm) (candidates : Option (List ℕ)) (r : Result Tables CaseError) → from ≡ Matpower → IsTaken (case_with_tables mat_fault b candidates (mat_within limits.rows a)) r
-      → length (case_parts from) ≤ length contents → take (length (case_parts from)) (bytes_of contents) ≡ map file (range_with_len 2 (length (case_parts from))) → IsTaken (case_in limits.rows from candidates file) r
+  pub mat_taken : (from : CaseForm) (candidates : Option (List ℕ)) (r : Result Tables CaseError) → from ≡ Matpower → IsTaken (case_with_tables mat_fault b candidates (mat_within most a)) r
+      → length (case_parts from) ≤ length contents → take (length (case_parts from)) (bytes_of contents) ≡ map file (range_with_len 2 (length (case_parts from))) → IsTaken (case_in most from candidates file) r
   mat_taken from candidates r e taken =
-      subst (λ (f : CaseForm). length (case_parts f) ≤ length contents → take (length (case_parts f)) (bytes_of contents) ≡ map file (range_with_len 2 (length (case_parts f))) → IsTaken (case_in limits.rows f candidates file) r) (sym e)
-      (two_at (λ u v. IsTaken (case_with_tables mat_fault v candidates (mat_within limits.rows u)) r) taken)
+      subst (λ (f : CaseForm). length (case_parts f) ≤ length contents → take (length (case_parts f)) (bytes_of contents) ≡ map file (range_with_len 2 (length (case_parts f))) → IsTaken (case_in most f candidates file) r) (sym e)
+      (two_at (λ u v. IsTaken (case_with_tables mat_fault v candidates (mat_within most u)) r) taken)
 
 -- the files of a case, and behind them those of candidates and of a certificate
 module _ (limits : Limits) (contents : List (Vec ℕ Global)) (file : ℕ → List ℕ) (r : Result Tables CaseError) (from : CaseForm) where
-  abbrev IsRead : Option (List ℕ) → Type 0
-  IsRead candidates = take (length (case_parts from)) (bytes_of contents) ≡ map file (range_with_len 2 (length (case_parts from))) → IsTaken (case_in limits.rows from candidates file) r
+  abbrev IsRead : ℕ → Option (List ℕ) → Type 0
+  IsRead most candidates = take (length (case_parts from)) (bytes_of contents) ≡ map file (range_with_len 2 (length (case_parts from))) → IsTaken (case_in most from candidates file) r
 
   front_long : length (map file (range_with_len 2 (length (case_parts from)))) ≡ length (case_parts from)
   front_long = length-map (range_with_len 2 (length (case_parts from))) file ∙ length-range_with_len 2 (length (case_parts from))
@@ -229,18 +229,18 @@ module _ (limits : Limits) (contents : List (Vec ℕ Global)) (file : ℕ → Li
       ap (λ (xs : List (List ℕ)). take n xs) split ∙ (ap (λ (k : ℕ). take k (front ++ map file rest)) (sym front_long) ∙ take-append_seam front (map file rest))
 
   -- and they are read with the candidates, where these stand with the case
-  case_at : (command : CaseCommand) (candidates : Option (List ℕ)) → candidates ≡ candidates_in (Case command from) file → IsRead candidates
+  case_at : (command : CaseCommand) (candidates : Option (List ℕ)) → candidates ≡ candidates_in (Case command from) file → IsRead limits.rows candidates
       → bytes_of contents ≡ map file (words_of (Case command from)) → IsTaken (parsed limits (Case command from) file) r
   unfolding parsed
   case_at command candidates is read told =
       subst (λ (o : Option (List ℕ)). IsTaken (case_in limits.rows from o file) r) is
       (read (front_told (item_if (is_offered (Case command from)) (candidates_at (Case command from)) ++ item_if (takes_certificate (Case command from)) (certificate_at (Case command from))) told))
 
-  pub case_taken : (form : Form) (command : CaseCommand) (candidates : Option (List ℕ)) → form ≡ Case command from
-      → (bytes_of contents ≡ map file (words_of (Case command from)) → candidates ≡ candidates_in (Case command from) file) → IsRead candidates
+  pub case_taken : (most : ℕ) → most ≡ limits.rows → (form : Form) (command : CaseCommand) (candidates : Option (List ℕ)) → form ≡ Case command from
+      → (bytes_of contents ≡ map file (words_of (Case command from)) → candidates ≡ candidates_in (Case command from) file) → IsRead most candidates
       → bytes_of contents ≡ map file (words_of form) → IsTaken (parsed limits form file) r
-  case_taken form command candidates e is read =
-      subst (λ (f : Form). bytes_of contents ≡ map file (words_of f) → IsTaken (parsed limits f file) r) (sym e) (λ told. case_at command candidates (is told) read told)
+  case_taken most held form command candidates e is read =
+      subst (λ (f : Form). bytes_of contents ≡ map file (words_of f) → IsTaken (parsed limits f file) r) (sym e) (λ told. case_at command candidates (is told) (subst (λ (n : ℕ). IsRead n candidates) held read) told)
 
 -- a generated case
 trial_at : (limits : Limits) (rows seed : ℕ) (file : ℕ → List ℕ) (r : Result Tables CaseError) → IsTaken (Ok (trial_of rows seed)) r → IsTaken (parsed limits (Trial rows seed) file) r

@@ -1,6 +1,7 @@
 // The case that the contents of files are.
 ghost use Rattle.std.specs.Prelude.{◌≡◌, ◌≤◌, ℕ, List, Ok, Some, All, IfOk, IsErrOf, length, map, option_map, take, vec_len};
 ghost use Rattle.std.specs.List.{range_with_len};
+ghost use Rattle.obs_case.specs.Tables.{most_rows};
 ghost use Rattle.obs_text.specs.Limits.{most_file_bytes};
 ghost use Rattle.obs_case_csv.specs.Read.{tables_within};
 ghost use Rattle.obs_ieee_cdf.specs.Faults.{cdf_fault};
@@ -28,14 +29,15 @@ use std::alloc::Global;
 // The case that the bytes of the two tables are.
 fn read_switching(
     alloc: Global,
-    limits: Limits,
+    most: u32,
     nodes: &[u8],
     switches: &[u8],
 ) -> Result<Case, CaseError>
-    ensures read { IsTaken (switching_case limits.rows nodes.now switches.now) result }
+    requires limit { most ≤ most_rows }
+    ensures read { IsTaken (switching_case most nodes.now switches.now) result }
     ensures no_read { IsErrOf result CaseError.Read → ⊥ }
 {
-    let mut case = Case::within(alloc, limits.rows());
+    let mut case = Case::within(alloc, most);
     match read_table(alloc, &mut case, Table::Nodes, nodes) {
         Ok(()) => {}
         Err(TableEnd::Fault(fault)) => return Err(CaseError::Refused(InputFault::from(fault))),
@@ -51,18 +53,18 @@ fn read_switching(
 // The case that the bytes of four tables are, with candidates where they are given.
 fn read_csv(
     alloc: Global,
-    limits: Limits,
+    most: u32,
     nodes: &[u8],
     switches: &[u8],
     branches: &[u8],
     meters: &[u8],
     candidates: Option<&[u8]>,
 ) -> Result<Case, CaseError>
-    ensures read { IsTaken (case_of_tables (tables_within limits.rows nodes.now switches.now branches.now meters.now
+    requires limit { most ≤ most_rows }
+    ensures read { IsTaken (case_of_tables (tables_within most nodes.now switches.now branches.now meters.now
         (option_map (λ bytes. bytes.now) candidates.entry))) result }
     ensures no_read { IsErrOf result CaseError.Read → ⊥ }
 {
-    let most = limits.rows();
     match read_tables_within(alloc, most, nodes, switches, branches, meters, candidates) {
         Ok(case) => Ok(case),
         Err(TableEnd::Fault(fault)) => Err(CaseError::Refused(InputFault::from(fault))),
@@ -74,17 +76,18 @@ fn read_csv(
 // they are given.
 fn read_cdf_tables(
     alloc: Global,
-    limits: Limits,
+    most: u32,
     cdf: &[u8],
     meters: &[u8],
     candidates: Option<&[u8]>,
 ) -> Result<Case, CaseError>
+    requires limit { most ≤ most_rows }
     requires few { length cdf.now ≤ most_file_bytes }
     ensures read { IsTaken (case_with_tables cdf_fault meters.now (option_map (λ bytes. bytes.now) candidates.entry)
-        (cdf_within limits.rows cdf.now)) result }
+        (cdf_within most cdf.now)) result }
     ensures no_read { IsErrOf result CaseError.Read → ⊥ }
 {
-    match read_cdf_within(alloc, limits.rows(), cdf, meters, candidates) {
+    match read_cdf_within(alloc, most, cdf, meters, candidates) {
         Ok(case) => Ok(case),
         Err(CdfEnd::Cdf(fault)) => Err(CaseError::Refused(InputFault::from(fault))),
         Err(CdfEnd::Table(fault)) => Err(CaseError::Refused(InputFault::from(fault))),
@@ -95,17 +98,18 @@ fn read_cdf_tables(
 // The case that the bytes of a MATPOWER file and of a table of meters are, with candidates where they are given.
 fn read_matpower_tables(
     alloc: Global,
-    limits: Limits,
+    most: u32,
     matpower: &[u8],
     meters: &[u8],
     candidates: Option<&[u8]>,
 ) -> Result<Case, CaseError>
+    requires limit { most ≤ most_rows }
     requires few { length matpower.now ≤ most_file_bytes }
     ensures read { IsTaken (case_with_tables mat_fault meters.now (option_map (λ bytes. bytes.now) candidates.entry)
-        (mat_within limits.rows matpower.now)) result }
+        (mat_within most matpower.now)) result }
     ensures no_read { IsErrOf result CaseError.Read → ⊥ }
 {
-    match read_matpower_within(alloc, limits.rows(), matpower, meters, candidates) {
+    match read_matpower_within(alloc, most, matpower, meters, candidates) {
         Ok(case) => Ok(case),
         Err(MatEnd::Mat(fault)) => Err(CaseError::Refused(InputFault::from(fault))),
         Err(MatEnd::Table(fault)) => Err(CaseError::Refused(InputFault::from(fault))),
@@ -116,32 +120,33 @@ fn read_matpower_tables(
 // The case that the contents of the files of a case's form are, with candidates where they are given.
 fn read_case(
     alloc: Global,
-    limits: Limits,
+    most: u32,
     from: CaseForm,
     contents: &[Vec<u8>],
     candidates: Option<&[u8]>,
 ) -> Result<Case, CaseError>
+    requires limit { most ≤ most_rows }
     requires count { length (case_parts from) ≤ length contents.now }
-    requires short { All (λ bytes. vec_len bytes ≤ limits.bytes) contents.now }
+    requires short { All (λ bytes. vec_len bytes ≤ most_file_bytes) contents.now }
     ensures read { (file : ℕ → List ℕ)
         → take (length (case_parts from)) (bytes_of contents.now)
         ≡ map file (range_with_len 2 (length (case_parts from)))
-        → IsTaken (case_in limits.rows from (option_map (λ bytes. bytes.now) candidates.entry) file) result }
+        → IsTaken (case_in most from (option_map (λ bytes. bytes.now) candidates.entry) file) result }
     ensures no_read { IsErrOf result CaseError.Read → ⊥ }
 {
     match from {
         CaseForm::Csv => read_csv(
             alloc,
-            limits,
+            most,
             &contents[0],
             &contents[1],
             &contents[2],
             &contents[3],
             candidates,
         ),
-        CaseForm::Cdf => read_cdf_tables(alloc, limits, &contents[0], &contents[1], candidates),
+        CaseForm::Cdf => read_cdf_tables(alloc, most, &contents[0], &contents[1], candidates),
         CaseForm::Matpower => {
-            read_matpower_tables(alloc, limits, &contents[0], &contents[1], candidates)
+            read_matpower_tables(alloc, most, &contents[0], &contents[1], candidates)
         }
     }
 }
@@ -186,11 +191,13 @@ fn read_form(
         → bytes_of contents.now ≡ map file (words_of form)
         → IsTaken (parsed limits form file) result }
     ensures no_read { IsErrOf result CaseError.Read → ⊥ }
+    ensures few { limits.bytes ≤ most_file_bytes }
 {
+    let most = limits.rows();
     match form {
-        Form::Topology => read_switching(alloc, limits, &contents[0], &contents[1]),
+        Form::Topology => read_switching(alloc, most, &contents[0], &contents[1]),
         Form::Case(_, from) => {
-            read_case(alloc, limits, from, contents, candidates_of(form, contents))
+            read_case(alloc, most, from, contents, candidates_of(form, contents))
         }
         Form::Trial { rows, seed } => generate(alloc, rows, seed),
     }

@@ -1,5 +1,7 @@
 // How much files may hold.
-ghost use Rattle.std.specs.Prelude.{◌≡◌, None, IfSome};
+ghost use Rattle.std.specs.Prelude.{◌≡◌, ◌≤◌, None, IfSome};
+ghost use Rattle.obs_case.specs.Tables.{most_rows};
+ghost use Rattle.obs_text.specs.Limits.{most_file_bytes};
 ghost use Rattle.obs_files.specs.Limits.{IsLimits, large_limits, limits_of, usual_limits};
 
 use obs_case::{MOST_ROWS, USUAL_ROWS};
@@ -63,6 +65,7 @@ impl Limits {
     /// The most rows of a table.
     pub fn rows(self) -> u32
         ensures rows { result ≡ self.rows }
+        ensures few { result ≤ most_rows }
         ensures limits { IsLimits self }
     {
         self.rows
@@ -71,6 +74,7 @@ impl Limits {
     /// The most bytes of a file.
     pub fn bytes(self) -> usize
         ensures bytes { result ≡ self.bytes }
+        ensures few { result ≤ most_file_bytes }
         ensures limits { IsLimits self }
     {
         self.bytes
