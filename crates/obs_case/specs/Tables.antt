@@ -22,7 +22,7 @@ pub record Tables : Type 0 where
 
 -- the highest limit of rows that a case may have
 abbrev pub most_rows : ℕ
-most_rows = 20000
+most_rows = 1000000
 
 -- the limit of rows that a case has where none is given
 abbrev pub usual_rows : ℕ
