@@ -1,13 +1,19 @@
 -- What lines that are read are.
-use Rattle.std.proofs.Common.{◌≡◌, ℕ, ◌+◌, ◌<◌, Bool, true, false, cond, leb, ◌&&◌, List, [], ◌∷◌, ◌++◌, length, Option, Some, None, Ok, refl, ap, ◌∙◌, subst, inl, inr, arith}
+use Rattle.std.proofs.Common.{◌≡◌, ℕ, ◌+◌, ◌<◌, Bool, true, false, cond, leb, ◌&&◌, List, [], ◌∷◌, ◌++◌, length, Option, Some, None, Result, Ok, Err, refl, ap, ◌∙◌, subst, inl, inr, arith}
 use Rattle.std.proofs.lemmas.Bool.{and_parts, cases_Bool, leb-false}
 use Rattle.obs_text.specs.Lines.{lines_of}
+use Rattle.obs_case.specs.Tables.{Tables}
 use Rattle.obs_case.specs.declared.rows.Branch.{Branch}
 use Rattle.obs_bus_branch.specs.Buses.{AreNamed, Bus, branch_name, has_bus, place_of_bus}
+use Rattle.obs_bus_branch.specs.Rows.{on_ok, read_rows}
 use Rattle.obs_bus_branch.proofs.NumberLemmas.{AreBuses-push, AreNamed-push}
+use Rattle.obs_bus_branch.proofs.RowsRead.{ReadSoFar}
+use Rattle.obs_ieee_cdf.specs.declared.fault.CdfFault.{CdfFault}
+use Rattle.obs_ieee_cdf.specs.declared.stop.Stop.{Stop}
+use Rattle.obs_ieee_cdf.specs.declared.stop.Stop.TheVariants.{Fault, NoMemory}
 use Rattle.obs_ieee_cdf.specs.Case.{IsBranchLine, IsBusLine}
 use Rattle.obs_ieee_cdf.specs.Fields.{bus_field, is_blank_line, number_of, source_of, tap_field, type_field, z_field}
-use Rattle.obs_ieee_cdf.specs.Reading.{AreBuses}
+use Rattle.obs_ieee_cdf.specs.Reading.{Answers, AreBuses}
 use Rattle.obs_ieee_cdf.specs.Rows.{branch_of, bus_of, numbered, read_branch, read_bus}
 use Rattle.obs_ieee_cdf.proofs.NumberLemmas.{number_of-lt}
 
@@ -76,3 +82,15 @@ read_branch-line most buses earlier at line branch is =
 pub read_branch-good : (most : ℕ) (buses : List Bus) (earlier : List Branch) (at : ℕ) (line : List ℕ) → AreNamed 1 earlier → (branch : Branch) → read_branch most buses earlier at line ≡ Ok branch → AreNamed 1 (earlier ++ branch ∷ [])
 read_branch-good most buses earlier at line named branch is =
     AreNamed-push 1 earlier branch named ((read_branch-line most buses earlier at line branch is).0.name ∙ ap branch_name (omega arith))
+
+-- how a reading ends of which the rows so far are held
+module _ {R : Type 0} (read : List R → ℕ → List ℕ → Result R CdfFault) (held : List R → Tables) (Good : List R → Type 0) (all : List (ℕ × List ℕ)) (state : Tables) (left : List (ℕ × List ℕ)) (so_far : ReadSoFar read held Good all state left) where
+  -- it stops where the row that comes next does
+  pub stops_here : (at : ℕ) (row : List ℕ) (rest : List (ℕ × List ℕ)) → left ≡ (at, row) ∷ rest → (one : R → Tables) (after : Tables) (stop : Stop) → Answers (read so_far.0 at row) one after (Err stop) → Answers (read_rows read [] all) held after (Err stop)
+  stops_here at row rest is one after NoMemory why = tt
+  stops_here at row rest is one after (Fault fault) why =
+      so_far.1.stated ∙ ap (read_rows read so_far.0) is ∙ ap (λ x. on_ok x (λ r. read_rows read (so_far.0 ++ r ∷ []) rest)) why
+
+  -- and it is done where no row is left
+  pub all_read : left ≡ [] → Answers (read_rows read [] all) held state (Ok tt)
+  all_read none = (so_far.0, so_far.1.stated ∙ ap (read_rows read so_far.0) none, so_far.1.is_held)

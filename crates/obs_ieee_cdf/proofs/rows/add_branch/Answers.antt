@@ -19,7 +19,7 @@ returns-in-Ok c = record {
   read = λ most buses earlier are named is.
       let limit = c.most.ensures.limit ∙ ap (λ t. t.most) is in
       let low : most ≤ most_rows = omega (arith, limit, c.most.ensures.few) in
-      let few : length earlier < most = (let count : length c.branches-count.result.now ≡ length earlier = ap length c.branches-count.ensures.rows ∙ ap (λ t. length t.branches) is in omega (arith, count, limit, c.if-count-ge-most.false)) in
+      let few : length earlier < most = (let count : length c.branches-count.result.now ≡ length earlier = ap length c.branches-count.ensures.rows ∙ ap (λ t. length t.branches) is in omega (arith, count, limit, c.if-count-most.false)) in
       let from : number_of (tap_field c.args.line.now) ≡ Some c.in-Some.from = cc in
       let to : number_of (z_field c.args.line.now) ≡ Some c.in-Some-bus_number.to = cc in
       let count : length c.branches-count.result.now + 1 ≡ length earlier + 1 = ap (λ rows. length rows + 1) c.branches-count.ensures.rows ∙ ap (λ t. length t.branches + 1) is in
@@ -34,7 +34,7 @@ returns-in-Err c = record {
   read = λ most buses earlier are named is.
       let limit = c.most.ensures.limit ∙ ap (λ t. t.most) is in
       let low : most ≤ most_rows = omega (arith, limit, c.most.ensures.few) in
-      let few : length earlier < most = (let count : length c.branches-count.result.now ≡ length earlier = ap length c.branches-count.ensures.rows ∙ ap (λ t. length t.branches) is in omega (arith, count, limit, c.if-count-ge-most.false)) in
+      let few : length earlier < most = (let count : length c.branches-count.result.now ≡ length earlier = ap length c.branches-count.ensures.rows ∙ ap (λ t. length t.branches) is in omega (arith, count, limit, c.if-count-most.false)) in
       let from : number_of (tap_field c.args.line.now) ≡ Some c.in-Some.from = cc in
       let to : number_of (z_field c.args.line.now) ≡ Some c.in-Some-bus_number.to = cc in
       let count : length c.branches-count.result.now + 1 ≡ length earlier + 1 = ap (λ rows. length rows + 1) c.branches-count.ensures.rows ∙ ap (λ t. length t.branches + 1) is in

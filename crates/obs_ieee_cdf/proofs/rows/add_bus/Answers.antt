@@ -22,9 +22,9 @@ pub returns-in-Ok : goal.returns-in-Ok
 returns-in-Ok c = record {
   read = λ most earlier are is.
       let few : length earlier < most = (
-        let count = ap length c.nodes.ensures.rows ∙ ap (λ t. length t.nodes) is ∙ length-map earlier node_of_bus in
-        let limit = c.most.ensures.limit ∙ ap (λ t. t.most) is in
-        omega (arith, count, limit, c.if-nodes-ge-most.false)) in
+      let count = ap length c.nodes.ensures.rows ∙ ap (λ t. length t.nodes) is ∙ length-map earlier node_of_bus in
+      let limit = c.most.ensures.limit ∙ ap (λ t. t.most) is in
+      omega (arith, count, limit, c.if-nodes-most.false)) in
       let number : number_of (bus_field c.args.line.now) ≡ Some c.in-Some.number = cc in
       let kind : source_of (type_field c.args.line.now) ≡ Some c.in-Some-has_source.source = cc in
       bus_accepted most earlier c.args.at c.args.line.now c.in-Some.number c.in-Some-has_source.source are few number kind c.args.case.now c.add_node.new.self is
@@ -36,9 +36,9 @@ pub returns-in-Err : goal.returns-in-Err
 returns-in-Err c = record {
   read = λ most earlier are is.
       let few : length earlier < most = (
-        let count = ap length c.nodes.ensures.rows ∙ ap (λ t. length t.nodes) is ∙ length-map earlier node_of_bus in
-        let limit = c.most.ensures.limit ∙ ap (λ t. t.most) is in
-        omega (arith, count, limit, c.if-nodes-ge-most.false)) in
+      let count = ap length c.nodes.ensures.rows ∙ ap (λ t. length t.nodes) is ∙ length-map earlier node_of_bus in
+      let limit = c.most.ensures.limit ∙ ap (λ t. t.most) is in
+      omega (arith, count, limit, c.if-nodes-most.false)) in
       let number : number_of (bus_field c.args.line.now) ≡ Some c.in-Some.number = cc in
       let kind : source_of (type_field c.args.line.now) ≡ Some c.in-Some-has_source.source = cc in
       subst (λ stop. Answers (read_bus most earlier c.args.at c.args.line.now) (λ bus. tables_of_rows most (earlier ++ bus ∷ []) []) c.add_node.new.self (Err stop)) (sym c.stop.ensures.stop)

@@ -26,9 +26,9 @@ returns-in-Ok c = record {
       let typed : type_in 2 row ≡ Some kind = cc in
       let long : is_short 2 row ≡ false = sym c.is_short.ensures.short ∙ c.if-is_short.false in
       let few : length earlier < most = (
-        let count = ap length c.nodes.ensures.rows ∙ ap (λ t. length t.nodes) is ∙ nodes-length earlier in
-        let limit = c.most.ensures.limit ∙ ap (λ t. t.most) is in
-        omega (arith, count, limit, c.if-nodes-ge-most.false)) in
+      let count = ap length c.nodes.ensures.rows ∙ ap (λ t. length t.nodes) is ∙ nodes-length earlier in
+      let limit = c.most.ensures.limit ∙ ap (λ t. t.most) is in
+      omega (arith, count, limit, c.if-nodes-most.false)) in
       let accepted : node_fault c.args.case.now (decimal n) ≡ None = subst (λ name. node_fault c.args.case.now name ≡ None) c.text.ensures.decimal c.in_default-add_node.ensures.accepted in
       bus_accepted most earlier c.args.at row n kind are few long number typed c.args.case.now c.add_node.new.self c.args.isolated.now.items c.push.new.self.items is flags accepted
       (c.in_default-add_node.ensures.added
@@ -47,9 +47,9 @@ returns-in-Err c = record {
       let typed : type_in 2 row ≡ Some kind = cc in
       let long : is_short 2 row ≡ false = sym c.is_short.ensures.short ∙ c.if-is_short.false in
       let few : length earlier < most = (
-        let count = ap length c.nodes.ensures.rows ∙ ap (λ t. length t.nodes) is ∙ nodes-length earlier in
-        let limit = c.most.ensures.limit ∙ ap (λ t. t.most) is in
-        omega (arith, count, limit, c.if-nodes-ge-most.false)) in
+      let count = ap length c.nodes.ensures.rows ∙ ap (λ t. length t.nodes) is ∙ nodes-length earlier in
+      let limit = c.most.ensures.limit ∙ ap (λ t. t.most) is in
+      omega (arith, count, limit, c.if-nodes-most.false)) in
       let held = λ (bus : BusRow). held_buses most (earlier ++ bus ∷ []) in
       let refused : Refuses (node_fault c.args.case.now (decimal n)) c.in-Err.fault = subst (λ name. Refuses (node_fault c.args.case.now name) c.in-Err.fault) c.text.ensures.decimal c.in-Err.ensures.refused in
       any_after (read_bus most earlier c.args.at row) held (held_buses most []) (c.add_node.new.self, c.args.isolated.now.items) c.stop.result
