@@ -6,7 +6,7 @@ use Rattle.obs_engine.proofs.Ran.{failed_as, front_as, tells_as}
 use Rattle.obs_engine.proofs.program.run.Goals as goal
 
 pub run_within-requires : goal.run_within-requires
-run_within-requires g c = subst (λ (l : Limits). l.bytes ≤ g.F.Files.furthest) (sym c.usual.ensures.usual) g.met.F.Files.usual
+run_within-requires g c = record { furthest = subst (λ (l : Limits). l.bytes ≤ g.F.Files.furthest) (sym c.usual.ensures.usual) g.met.F.Files.usual }
 
 pub returns : goal.returns
 returns g c =

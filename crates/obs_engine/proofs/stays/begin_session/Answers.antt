@@ -6,7 +6,7 @@ use Rattle.obs_engine.proofs.Ran.{begins_as, files_as, none_as, unread_as}
 use Rattle.obs_engine.proofs.stays.begin_session.Goals as goal
 
 pub begin_session_within-requires : goal.begin_session_within-requires
-begin_session_within-requires g c = subst (λ (l : Limits). l.bytes ≤ g.F.Files.furthest) (sym c.usual.ensures.usual) g.met.F.Files.usual
+begin_session_within-requires g c = record { furthest = subst (λ (l : Limits). l.bytes ≤ g.F.Files.furthest) (sym c.usual.ensures.usual) g.met.F.Files.usual }
 
 pub returns : goal.returns
 returns g c =
