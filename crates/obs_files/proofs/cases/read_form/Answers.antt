@@ -14,5 +14,5 @@ returns-in-Case-clause-read c = λ file told.
 pub returns-in-Trial-clause-read : goal.returns-in-Trial-clause-read
 returns-in-Trial-clause-read c = λ file told. trial_taken c.args.limits c.args.form c.in-Trial.rows c.in-Trial.seed file c.generate.result c.in-Trial.is c.generate.ensures.generated
 
-pub read_case-requires : goal.read_case-requires
-read_case-requires c = record { short = λ k d low. omega (arith, c.requires.short k d low, c.rows-most.ensures.limits.few_bytes) }
+pub read_case-requires-clause-short : goal.read_case-requires-clause-short
+read_case-requires-clause-short c = λ k d low. omega (arith, c.requires.short k d low, c.rows-most.ensures.limits.few_bytes)
