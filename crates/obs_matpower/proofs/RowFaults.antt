@@ -132,7 +132,7 @@ module _ (most : ℕ) (buses : List BusRow) (earlier : List Branch) (at : ℕ) (
           stated from to None s whole h = (let same : BadStatus at ≡ fault = cc in subst (BranchRowHas most buses earlier at row) same (refl, whole, s))
           stated from to (Some on) s whole h = cc
 
-  whole_branch : IsWhole most (length earlier) 11 row → (from to : Option ℕ) → number_in 1 row ≡ from → number_in 2 row ≡ to → read_branch most buses earlier at row ≡ branch_of buses (length earlier + 1) at from to (status_in 11 row)
+  pub whole_branch : IsWhole most (length earlier) 11 row → (from to : Option ℕ) → number_in 1 row ≡ from → number_in 2 row ≡ to → read_branch most buses earlier at row ≡ branch_of buses (length earlier + 1) at from to (status_in 11 row)
   whole_branch is from to f t = rw (lt-leb most (length earlier) is.room, is.long, f, t) refl
 
   bad_number : IsWhole most (length earlier) 11 row → (number_in 1 row ≡ None) ⊎ (number_in 2 row ≡ None) → read_branch most buses earlier at row ≡ Err (BadBusNumber at)

@@ -1,15 +1,21 @@
 -- What rows that are read are.
-use Rattle.std.proofs.Common.{◌≡◌, ℕ, ◌+◌, ◌<◌, Bool, false, ◌&&◌, leb, List, [], ◌∷◌, ◌++◌, length, Option, Some, None, Ok, refl, sym, ap, ◌∙◌, subst, inl, inr, arith}
+use Rattle.std.proofs.Common.{◌≡◌, ℕ, ◌+◌, ◌<◌, Bool, false, ◌&&◌, leb, List, [], ◌∷◌, ◌++◌, length, Option, Some, None, Result, Ok, Err, refl, sym, ap, ◌∙◌, subst, inl, inr, arith}
 use Rattle.std.proofs.lemmas.Bool.{and_parts, cases_Bool, leb-false}
 use Rattle.std.proofs.lemmas.List.{map-append}
 use Rattle.obs_case.specs.declared.rows.Branch.{Branch}
 use Rattle.obs_bus_branch.specs.Buses.{AreNamed, branch_name, has_bus}
+use Rattle.obs_bus_branch.specs.Rows.{at_end, on_ok, read_rows}
 use Rattle.obs_bus_branch.proofs.NumberLemmas.{AreBuses-push, AreNamed-push}
+use Rattle.obs_bus_branch.proofs.RowsRead.{ReadSoFar}
+use Rattle.obs_matpower.specs.declared.fault.MatFault.{MatFault}
+use Rattle.obs_matpower.specs.declared.stop.Stop.{Stop}
+use Rattle.obs_matpower.specs.declared.stop.Stop.TheVariants.{Fault, NoMemory}
 use Rattle.obs_matpower.specs.declared.fields.BusType.{BusType}
 use Rattle.obs_matpower.specs.Case.{IsBranchRow, IsBusRow}
 use Rattle.obs_matpower.specs.Fields.{is_short, is_source, number_in, status_in, type_in}
 use Rattle.obs_matpower.specs.Read.{BusRow, branch_between, branch_of, bus_of, buses_of, read_branch, read_bus}
-use Rattle.obs_matpower.specs.Reading.{AreBuses}
+use Rattle.obs_matpower.specs.Reading.{Answers, AreBuses, read_text}
+use Rattle.obs_matpower.specs.Rows.{rows_of}
 use Rattle.obs_matpower.proofs.NumberLemmas.{number_in-lt}
 
 -- ---- bus rows
@@ -106,3 +112,17 @@ read_branch-row most buses earlier at row branch is =
 pub read_branch-good : (most : ℕ) (buses : List BusRow) (earlier : List Branch) (at : ℕ) (row : List ℕ) → AreNamed 1 earlier → (branch : Branch) → read_branch most buses earlier at row ≡ Ok branch → AreNamed 1 (earlier ++ branch ∷ [])
 read_branch-good most buses earlier at row named branch is =
     AreNamed-push 1 earlier branch named ((read_branch-row most buses earlier at row branch is).0.name ∙ ap branch_name (omega arith))
+
+-- ---- how the reading of a text ends, of which the rows so far are held
+
+module _ {R S : Type 0} (read : List R → ℕ → List ℕ → Result R MatFault) (held : List R → S) (Good : List R → Type 0) (ended : Bool) (line : ℕ) (text : List ℕ) (end : Option MatFault) (state : S) (left : List (ℕ × List ℕ))
+    (so_far : ReadSoFar read held Good (rows_of ended line text) state left) where
+  -- it stops where the row that comes next does
+  pub stops_here : (at : ℕ) (row : List ℕ) (rest : List (ℕ × List ℕ)) → left ≡ (at, row) ∷ rest → (one : R → S) (after : S) (stop : Stop) → Answers (read so_far.0 at row) one after (Err stop) → Answers (read_text read ended line text end) held after (Err stop)
+  stops_here at row rest is one after NoMemory why = tt
+  stops_here at row rest is one after (Fault fault) why =
+      ap (λ r. on_ok r (at_end end)) (so_far.1.stated ∙ ap (read_rows read so_far.0) is ∙ ap (λ x. on_ok x (λ r. read_rows read (so_far.0 ++ r ∷ []) rest)) why)
+
+  -- and where no row is left the end of the text decides
+  pub all_read : left ≡ [] → read_text read ended line text end ≡ at_end end so_far.0
+  all_read none = ap (λ r. on_ok r (at_end end)) (so_far.1.stated ∙ ap (read_rows read so_far.0) none)
