@@ -14,7 +14,7 @@ mod outages;
 mod pairs;
 mod program;
 mod refused;
-mod serve;
+mod serving;
 mod stations;
 mod stays;
 mod studies;
@@ -25,5 +25,5 @@ mod verify;
 
 pub use obs_files::{Limits, Status};
 pub use program::{run, run_within};
-pub use serve::serve;
+pub use serving::serve;
 pub use stays::{answer_one, begin_session, begin_session_within};

@@ -1,7 +1,7 @@
 use Rattle.std.proofs.Common.{inl, inr, sym, ◌∙◌}
 use Rattle.obs_notice.proofs.Named.{named_file, named_input}
 use Rattle.obs_notice.proofs.Said.{writes_part}
-use Rattle.obs_engine.proofs.serve.serve.Goals as goal
+use Rattle.obs_engine.proofs.serving.serve.Goals as goal
 
 pub returns-clause-says : goal.returns-clause-says
 returns-clause-says g c = rw (sym c.failed.ensures.word) (writes_part _ _ c.say-said.result _ c.say-said.ensures.says)
