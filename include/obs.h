@@ -22,7 +22,7 @@ enum obs_status {
     OBS_INPUT_FAULT = 3,      /* a file is too long or has a fault, whose line is written */
     OBS_TEXT_TOO_LONG = 5,    /* the text is longer than its block, which is full of its front: call again with a longer one */
     OBS_NO_MEMORY = 6,        /* there was no memory, and nothing is written */
-    OBS_SESSION_TOO_LONG = 7, /* the input of a session has more than 16,777,216 bytes: what was answered before is written */
+    OBS_SESSION_TOO_LONG = 7, /* the input of a session has more bytes than a file may have: what was answered before is written */
     OBS_MALFORMED = 8,        /* the blocks are no words and contents, and nothing is written */
     OBS_OUT_OF_TURN = 9       /* a session is begun where one stays already, or has a line where none stays: nothing is done or written */
 };
@@ -39,6 +39,9 @@ enum obs_status {
  *                           left as it was.
  * written                   how many bytes of text were written, also where the answer is no good one.
  *
+ * A table has at most 20,000 rows, a file and the input at most 16,777,216 bytes. obs_run_within is the same where large is 0, and else
+ * within 1,000,000 rows and 1,073,741,824 bytes.
+ *
  * No pointer is kept after the call. The call has no state: any number of threads may call at once, each with a text and a
  * written of its own.
  *
@@ -52,6 +55,13 @@ uint8_t obs_run(const uint8_t *words, size_t words_length,
                 const uint8_t *input, size_t input_length,
                 uint8_t *text, size_t text_length,
                 size_t *written);
+uint8_t obs_run_within(uint8_t large,
+                       const uint8_t *words, size_t words_length,
+                       const uint8_t *contents, size_t contents_length,
+                       const size_t *lengths, size_t lengths_count,
+                       const uint8_t *input, size_t input_length,
+                       uint8_t *text, size_t text_length,
+                       size_t *written);
 
 /* A session that stays between calls, or none. Before the first call it is all zeros, as by `struct obs_session session = {0};`.
  * After that the calls below alone write it. It isn't copied: of two copies one would name memory that the other gave back. */
@@ -67,18 +77,27 @@ struct obs_session {
  * OBS_USAGE, OBS_INPUT_FAULT, OBS_TEXT_TOO_LONG, OBS_MALFORMED
  *                   none stays, and all is as with obs_run. Words of another command are answered by OBS_USAGE.
  * OBS_NO_MEMORY     none stays, and nothing is written.
- * OBS_OUT_OF_TURN   one stays already. It is left as it is, and nothing is written. */
+ * OBS_OUT_OF_TURN   one stays already. It is left as it is, and nothing is written.
+ *
+ * obs_session_begin_within is the same where large is 0, and else within the limits of obs_run_within. */
 uint8_t obs_session_begin(struct obs_session *session,
                           const uint8_t *words, size_t words_length,
                           const uint8_t *contents, size_t contents_length,
                           const size_t *lengths, size_t lengths_count,
                           uint8_t *text, size_t text_length,
                           size_t *written);
+uint8_t obs_session_begin_within(uint8_t large,
+                                 struct obs_session *session,
+                                 const uint8_t *words, size_t words_length,
+                                 const uint8_t *contents, size_t contents_length,
+                                 const size_t *lengths, size_t lengths_count,
+                                 uint8_t *text, size_t text_length,
+                                 size_t *written);
 
 /* Does what one line says, and writes its answer: the answers to lines, one behind another, are what obs_run would write for them all. The
  * line has no line end: no line feed, and no carriage return behind it, which obs_run would drop and this call reads. An empty line, and one
  * that begins with `#`, has no answer. However many lines came before, the next one is done and answered: OBS_SESSION_TOO_LONG never comes.
- * obs_run answers only the lines within the first 16,777,216 bytes of its input; behind these the two differ.
+ * obs_run answers only the lines within as many bytes of its input as a file may have; behind these the two differ.
  *
  * OBS_DONE, OBS_SHORT   the verdict on the case behind the line, also where the line was refused. The whole answer is written.
  * OBS_TEXT_TOO_LONG     the line is done, and text has a front of its answer. Say the line again with a longer block: that changes nothing

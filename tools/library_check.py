@@ -8,6 +8,7 @@ SECONDS only the examples, malformed blocks and what tools/library_guards.py say
   what the program prints, and its status is the program's; a fault has the words of the printed line
 - random cases whose tables are rows, with names of many kinds: the answer is that of the definitions (tools/model.py)
 - a session whose text is longer than the module's first block, and one whose lines are too long
+- one row and one byte more than the usual limits: a fault within these, and an answer within the largest
 - blocks for the text of 0 to 40 bytes, and of about as many as the text: the status, the front, and that nothing behind it is touched
 - ten threads at once, each with cases of its own; less and less memory, and each request for it refused in turn: every call ends with its
   answer, or with 6 and nothing written; and all memory is given back. The refusals need a C compiler and libobs.a beside the library
@@ -199,6 +200,27 @@ def try_sessions():
     print("a text of", count * len(one), "bytes is answered whole, and a session that is too long up to where it is")
 
 
+def try_limits():
+    """A table with a row too many for the usual limits, and a file and lines of a session with a byte too many."""
+    rows, most = library.LIMITS["usual"]
+    nodes = b"node,source\n" + b"".join(b"n%d,0\n" % k for k in range(rows + 1))
+    header = b"node,source\n"
+    long = header + b"\n" * (most + 1 - len(header))
+    for given, fault in (nodes, (rows + 1, "TooMany")), (long, (0, "TooLong")):
+        try:
+            obs.topology(given, None)
+            fail("a file beyond the usual limits is answered")
+        except obs.Fault as found:
+            agree("a file beyond the usual limits", (found.row, found.name), fault)
+        agree("a file within the largest limits", len(obs.topology(given, None, limits="large").bus_of), rows + 1 if given is nodes else 0)
+        with obs.LiveSession(obs.tables(given, None, b"branch,from,to,inservice\n", b"meter,kind,at,inservice\n", limits="large")) as session:
+            agree("a session within the largest limits", session.observable, True)
+    case = obs.tables(nodes, None, b"branch,from,to,inservice\n", b"meter,kind,at,inservice\n", limits="large")
+    lines = b"status\n" + b"#" * (most - 6)
+    agree("a session with a byte too many for the usual limits", str(obs.session(case, lines)), str(obs.session(case, "status")))
+    print(rows + 1, "rows and", most + 1, "bytes are answered within the largest limits, and not within the usual ones")
+
+
 def blocks_of(folder, words):
     """The blocks of a call whose words name files where they have a point."""
     contents = [content(folder, word) if "." in word else b"" for word in words]
@@ -385,6 +407,7 @@ def main(file, program, seconds=""):
         return library_guards.try_all(float(seconds))
     try_rows()
     try_sessions()
+    try_limits()
     try_rooms()
     try_malformed()
     try_threads()

@@ -7,7 +7,7 @@ from .faults import Fault, Malformed, NoMemory, NotUnderstood, SessionTooLong
 
 def report(case):
     """A Report: the counts and the verdict, a tree or a bound for each energised part, the islands and the critical meters."""
-    return _ask(["report", *_form(case)])
+    return _ask(["report", *_form(case)], limits=case.limits)
 
 
 def place(case, candidates):
@@ -16,7 +16,7 @@ def place(case, candidates):
     candidates   a table as in `tables`: (candidate, kind, at, price), where kind and at are those of a meter, and price is a whole number
                  up to 1,000,000,000, in any unit that is the same for all.
     """
-    return _ask(["place", *_form(case), table("candidates", candidates)])
+    return _ask(["place", *_form(case), table("candidates", candidates, case.limits)], limits=case.limits)
 
 
 def session(case, lines, candidates=None):
@@ -26,7 +26,7 @@ def session(case, lines, candidates=None):
                  with a blank and a name; status, tree, bound, cert, islands, critical, report; and place where there are candidates.
     candidates   a table as in `place`, or None.
     """
-    return _ask(session_words(case, candidates), _input(lines))
+    return _ask(session_words(case, candidates), _input(lines), case.limits)
 
 
 def verify(case, certificate, candidates=None):
@@ -36,38 +36,39 @@ def verify(case, certificate, candidates=None):
     candidates   the table of a Plan or a Shortfall, as in `place`, or None.
     """
     given = getattr(certificate, "certificate", None)
-    claims = content(certificate) if given is None else given.encode("utf-8", "surrogateescape")
-    return _ask(["verify", *_form(case), *_with(candidates), claims])
+    claims = content(certificate, case.limits) if given is None else given.encode("utf-8", "surrogateescape")
+    return _ask(["verify", *_form(case), *_with(case, candidates), claims], limits=case.limits)
 
 
 def outages(case):
     """Outages: for each branch what the meters are good for when it is out of service."""
-    return _ask(["outages", *_form(case)])
+    return _ask(["outages", *_form(case)], limits=case.limits)
 
 
 def pairs(case):
     """Pairs: the meters that are critical together, in classes."""
-    return _ask(["pairs", *_form(case)])
+    return _ask(["pairs", *_form(case)], limits=case.limits)
 
 
 def stations(case):
     """Stations: for each station what the other meters are good for when all of its meters are lost."""
-    return _ask(["stations", *_form(case)])
+    return _ask(["stations", *_form(case)], limits=case.limits)
 
 
-def topology(nodes, switches):
-    """A Topology: for each node the first node of its bus. The two are tables as in `tables`."""
-    return _ask(["topology", table("nodes", nodes), table("switches", switches)])
+def topology(nodes, switches, limits="usual"):
+    """A Topology: for each node the first node of its bus. The two are tables as in `tables`, and so are the limits."""
+    return _ask(["topology", table("nodes", nodes, limits), table("switches", switches, limits)], limits=limits)
 
 
-def run(words, given=b""):
+def run(words, given=b"", limits="usual"):
     """Runs any words of the program. Gives the status, which is 0 to 3, and the bytes of the text.
 
     words   a list: a text is a word, bytes are the contents of a file whose name stands there.
     given   bytes: what a session reads.
+    limits  usual or large, as in `tables`.
     """
-    status, text = library.call(word_pairs(words), given)
-    refuse(status, text)
+    status, text = library.call(word_pairs(words), given, limits)
+    refuse(status, text, limits)
     return status, text
 
 
@@ -76,12 +77,12 @@ def word_pairs(words):
     return [(b"file", word) if isinstance(word, bytes) else (word.encode("utf-8", "surrogateescape"), None) for word in words]
 
 
-def refuse(status, text):
-    """Raises what a status says that is no answer and no fault."""
+def refuse(status, text, limits="usual"):
+    """Raises what a status says, within these limits, that is no answer and no fault."""
     if status == library.NO_MEMORY:
         raise NoMemory("there was no memory for the answer")
     if status == library.SESSION_TOO_LONG:
-        raise SessionTooLong(text.decode("utf-8", "surrogateescape"))
+        raise SessionTooLong(text.decode("utf-8", "surrogateescape"), library.most_bytes(limits))
     if status == library.MALFORMED:
         raise Malformed("a word is no UTF-8, or has a zero byte in it")
     if status > library.INPUT_FAULT:
@@ -110,24 +111,24 @@ def read(command, status, text, given=b""):
     return reading.end(calls[command]())
 
 
-def _ask(words, given=b""):
+def _ask(words, given=b"", limits="usual"):
     """The answer to these words, where there is one."""
-    status, text = run(words, given)
+    status, text = run(words, given, limits)
     refuse_files(status, text)
     return read(words[0], status, text, given)
 
 
 def session_words(case, candidates):
     """The words of a session, as in `run`."""
-    return ["session", *_form(case), *_with(candidates)]
+    return ["session", *_form(case), *_with(case, candidates)]
 
 
 def _form(case):
     return [case.form, *(one for _, one in case.files)]
 
 
-def _with(candidates):
-    return [] if candidates is None else ["with", table("candidates", candidates)]
+def _with(case, candidates):
+    return [] if candidates is None else ["with", table("candidates", candidates, case.limits)]
 
 
 def _input(lines):

@@ -4,6 +4,8 @@ import math
 import numbers
 import os
 
+from . import library
+
 # The columns of each table. The first is the row's own name.
 COLUMNS = {
     "nodes": ("node", "source"),
@@ -14,8 +16,6 @@ COLUMNS = {
 }
 # The columns that a table may have behind these.
 FURTHER = {"nodes": ("absolute",)}
-# One byte more than obs takes of a file: it answers then that the file is too long.
-_MOST_READ = 16777217
 _MARKS = (b",", b'"', b"\r", b"\n")
 
 
@@ -25,16 +25,18 @@ class Case:
 
     form    tables, cdf or matpower.
     files   pairs of a part (nodes, case, meters, ..) and the bytes of its file.
+    limits  usual or large: how much its tables and files, and those that are handed with it, may hold.
     """
 
     form: str
     files: tuple
+    limits: str = "usual"
 
     def __repr__(self):
         return f"Case({self.form}: {', '.join(f'{part} {len(content)} bytes' for part, content in self.files)})"
 
 
-def tables(nodes, switches, branches, meters):
+def tables(nodes, switches, branches, meters, limits="usual"):
     """The case of four tables.
 
     Each is a path, or the bytes of a CSV file with a header line, or rows without one:
@@ -46,47 +48,48 @@ def tables(nodes, switches, branches, meters):
       names a node
 
     Rows of nodes have absolute all or none. source, absolute, closed and inservice are True or False, 1 or 0. A name has 1 to 64
-    bytes. A table has at most 20,000 rows, a file at most 16,777,216 bytes. Files are read now: what becomes of them later doesn't
-    change the case.
+    bytes. A table has at most 20,000 rows, a file at most 16,777,216 bytes; with limits="large" they are 1,000,000 and 1,073,741,824.
+    Files are read now: what becomes of them later doesn't change the case.
     """
     given = [("nodes", nodes), ("switches", switches), ("branches", branches), ("meters", meters)]
-    return Case("tables", tuple((part, table(part, one)) for part, one in given))
+    return Case("tables", tuple((part, table(part, one, limits)) for part, one in given), limits)
 
 
-def cdf(case, meters):
+def cdf(case, meters, limits="usual"):
     """The case of a file in the IEEE Common Data Format (a path or its bytes) and a table of meters, as in `tables`.
 
     Nodes are named by their numbers, and the k-th branch line is Lk.
     """
-    return Case("cdf", (("case", content(case)), ("meters", table("meters", meters))))
+    return Case("cdf", (("case", content(case, limits)), ("meters", table("meters", meters, limits))), limits)
 
 
-def matpower(case, meters):
+def matpower(case, meters, limits="usual"):
     """The case of a MATPOWER file (a path or its bytes) and a table of meters, as in `tables`.
 
     Nodes are named by their numbers, and the k-th row of the branch table is Lk.
     """
-    return Case("matpower", (("case", content(case)), ("meters", table("meters", meters))))
+    return Case("matpower", (("case", content(case, limits)), ("meters", table("meters", meters, limits))), limits)
 
 
 def is_path(given):
     return isinstance(given, (str, os.PathLike))
 
 
-def content(given):
+def content(given, limits="usual"):
     """The bytes of a file that is given by its path, or by its bytes."""
     if is_path(given):
         with open(given, "rb") as file:
-            return file.read(_MOST_READ)
+            # One byte more than obs takes of a file: it answers then that the file is too long.
+            return file.read(library.most_bytes(limits) + 1)
     if isinstance(given, (bytes, bytearray, memoryview)):
         return bytes(given)
     raise TypeError(f"a path or bytes are wanted, and not {type(given).__name__}")
 
 
-def table(part, given):
+def table(part, given, limits="usual"):
     """The bytes of a table that is given by a path, by bytes or by rows."""
     if is_path(given) or isinstance(given, (bytes, bytearray, memoryview)):
-        return content(given)
+        return content(given, limits)
     rows = list(_rows(given))
     columns = COLUMNS[part] + FURTHER.get(part, ())
     if not any(_has_all(row, columns) for row in rows):

@@ -23,11 +23,11 @@ class Fault(Error):
 
 
 class SessionTooLong(Error):
-    """The lines of a session have more than 16,777,216 bytes. `text` has the answers to those that end within so many."""
+    """The lines of a session have more bytes than a file may have. `text` has the answers to those that end within so many."""
 
-    def __init__(self, text):
+    def __init__(self, text, most=16_777_216):
         self.text = text
-        super().__init__("the lines of the session have more than 16,777,216 bytes")
+        super().__init__(f"the lines of the session have more than {most:,} bytes")
 
 
 class Ended(Error, ValueError):

@@ -8,6 +8,9 @@ from .faults import LibraryMissing
 FILE = "libobs.so"
 VARIABLE = "OBS_LIBRARY"
 
+# The limits of a call: the most rows of a table and bytes of a file.
+LIMITS = {"usual": (20_000, 16_777_216), "large": (1_000_000, 1_073_741_824)}
+
 DONE, SHORT, USAGE, INPUT_FAULT, TEXT_TOO_LONG, NO_MEMORY, SESSION_TOO_LONG, MALFORMED, OUT_OF_TURN = 0, 1, 2, 3, 5, 6, 7, 8, 9
 
 _lock = threading.Lock()
@@ -47,7 +50,9 @@ _SIZE, _BLOCK, _SIZES, _KEPT = ctypes.c_size_t, ctypes.c_char_p, ctypes.POINTER(
 _WORDS, _TEXT = [_BLOCK, _SIZE, _BLOCK, _SIZE, _SIZES, _SIZE], [ctypes.c_void_p, _SIZE, _SIZES]
 _CALLS = {
     "obs_run": (ctypes.c_uint8, [*_WORDS, _BLOCK, _SIZE, *_TEXT]),
+    "obs_run_within": (ctypes.c_uint8, [ctypes.c_uint8, *_WORDS, _BLOCK, _SIZE, *_TEXT]),
     "obs_session_begin": (ctypes.c_uint8, [_KEPT, *_WORDS, *_TEXT]),
+    "obs_session_begin_within": (ctypes.c_uint8, [ctypes.c_uint8, _KEPT, *_WORDS, *_TEXT]),
     "obs_session_line": (ctypes.c_uint8, [_KEPT, _BLOCK, _SIZE, *_TEXT]),
     "obs_session_end": (None, [_KEPT]),
 }
@@ -67,6 +72,19 @@ def load(name="obs_run", file=None):
         return _loaded[file, name]
 
 
+def most_bytes(limits):
+    """The most bytes of a file within these limits."""
+    if limits not in LIMITS:
+        raise ValueError(f"limits are {' or '.join(LIMITS)}, and not {limits!r}")
+    return LIMITS[limits][1]
+
+
+def within(name, limits, file=None):
+    """The call of this name within these limits, and what stands before its blocks."""
+    most_bytes(limits)
+    return (load(name, file), ()) if limits == "usual" else (load(f"{name}_within", file), (1,))
+
+
 def sizes_of(lengths):
     # No pointer may be null: where there are no lengths there is room for one, and all bytes of Python have a zero byte behind them.
     return (ctypes.c_size_t * max(len(lengths), 1))(*lengths)
@@ -77,7 +95,7 @@ def written_in(room):
     return ctypes.c_size_t(room + 1)
 
 
-def call_once(words, contents, lengths, given, text, room):
+def call_once(words, contents, lengths, given, text, room, limits="usual"):
     """One call with these blocks. Gives the status, and how many bytes are written.
 
     words      bytes: each word, ended by a zero byte.
@@ -86,19 +104,22 @@ def call_once(words, contents, lengths, given, text, room):
     given      bytes: what a session reads.
     text       a ctypes array of at least one char.
     room       how many of these chars may be written.
+    limits     usual or large.
     """
     written = written_in(room)
-    status = load()(
-        words, len(words), contents, len(contents), sizes_of(lengths), len(lengths), given, len(given), text, room, ctypes.byref(written)
+    run, first = within("obs_run", limits)
+    status = run(
+        *first, words, len(words), contents, len(contents), sizes_of(lengths), len(lengths), given, len(given), text, room, ctypes.byref(written)
     )
     return status, written.value
 
 
-def begin_once(kept, words, contents, lengths, text, room):
+def begin_once(kept, words, contents, lengths, text, room, limits="usual"):
     """Begins a session in a Kept that has none, with the blocks of call_once. Gives the status, and how many bytes are written."""
     written = written_in(room)
-    status = load("obs_session_begin", kept.file)(
-        kept, words, len(words), contents, len(contents), sizes_of(lengths), len(lengths), text, room, ctypes.byref(written)
+    begin, first = within("obs_session_begin", limits, kept.file)
+    status = begin(
+        *first, kept, words, len(words), contents, len(contents), sizes_of(lengths), len(lengths), text, room, ctypes.byref(written)
     )
     return status, written.value
 
@@ -121,17 +142,18 @@ def blocks_of(words):
     return block, b"".join(content for _, content in words if content), [len(content or b"") for _, content in words]
 
 
-def call(words, given=b""):
+def call(words, given=b"", limits="usual"):
     """Calls until the block has room for the text. Gives the status and the text.
 
     words   a list of pairs: the bytes of a word, and the bytes of the file that it names, or None where it names none.
     given   bytes: what a session reads.
+    limits  usual or large.
     """
     block, contents, lengths = blocks_of(words)
     room = 65536 + 2 * len(contents) + 4 * len(given)
     while True:
         text = ctypes.create_string_buffer(room)
-        status, written = call_once(block, contents, lengths, given, text, room)
+        status, written = call_once(block, contents, lengths, given, text, room, limits)
         if status != TEXT_TOO_LONG:
             return status, ctypes.string_at(text, written)
         room *= 4

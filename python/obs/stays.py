@@ -29,7 +29,7 @@ class LiveSession:
         self._text = ctypes.create_string_buffer(self._room)
         weakref.finalize(self, library.end, self._kept)
         blocks = library.blocks_of(word_pairs(session_words(case, candidates)))
-        status, written = library.begin_once(self._kept, *blocks, self._text, self._room)
+        status, written = library.begin_once(self._kept, *blocks, self._text, self._room, case.limits)
         refuse_files(status, ctypes.string_at(self._text, written))
 
     def line(self, line):

@@ -10,7 +10,7 @@ use Rattle.std.specs.Str.{bytes_eq}
 use Rattle.obs_text.specs.Names.{is_name, is_name_byte}
 use Rattle.obs_text.proofs.DecimalLemmas.{digits-name, length-decimal, numerals, same_name}
 use Rattle.obs_case.specs.Adds.{Refuses, name_fault}
-use Rattle.obs_case.specs.Tables.{has_name, most_rows, node_names, place_of}
+use Rattle.obs_case.specs.Tables.{has_name, node_names, place_of}
 use Rattle.obs_case.specs.declared.rows.Branch.{Branch}
 use Rattle.obs_case.specs.declared.rows.Node.{Node}
 use Rattle.obs_case.specs.declared.table.AddFault.{AddFault}
@@ -48,17 +48,17 @@ names_of [] = refl
 names_of (bus ∷ buses) = ap (λ names. decimal bus.number ∷ names) (names_of buses)
 
 -- what a case says of a number's name is what the buses say of the number
-module _ {limit : ℕ} (buses : List Bus) (branches : List Branch) (are : AreBusesBelow limit buses) (low : limit ≤ 2 ^ 64) (n : ℕ) (small : n < limit) where
+module _ {limit : ℕ} (most : ℕ) (buses : List Bus) (branches : List Branch) (are : AreBusesBelow limit buses) (low : limit ≤ 2 ^ 64) (n : ℕ) (small : n < limit) where
   same_names : (bs : List Bus) → AllByRecursion (λ (bus : Bus). bus.number < limit) bs → AllByRecursion (λ (bus : Bus). bytes_eq (decimal n) (node_of_bus bus).name ≡ eqb bus.number n) bs
   same_names [] below = tt
   same_names (bus ∷ bs) (here, others) = (same_name bus.number n (omega (arith, here, low)) (omega (arith, small, low)), same_names bs others)
 
-  pub has_name-bus : has_name (node_names (tables_of_rows buses branches)) (decimal n) ≡ has_bus buses n
+  pub has_name-bus : has_name (node_names (tables_of_rows most buses branches)) (decimal n) ≡ has_bus buses n
   has_name-bus =
       ap (list_any (bytes_eq (decimal n))) (names_of buses)
       ∙ list_any-same (bytes_eq (decimal n)) (λ (bus : Bus). eqb bus.number n) (λ (bus : Bus). decimal bus.number) buses (same_names buses are.small)
 
-  pub place_of-bus : place_of (node_names (tables_of_rows buses branches)) (decimal n) ≡ place_of_bus buses n
+  pub place_of-bus : place_of (node_names (tables_of_rows most buses branches)) (decimal n) ≡ place_of_bus buses n
   place_of-bus =
       ap (position_or_len (bytes_eq (decimal n))) (names_of buses)
       ∙ position_or_len-same (bytes_eq (decimal n)) (λ (bus : Bus). eqb bus.number n) (λ (bus : Bus). decimal bus.number) buses (same_names buses are.small)
@@ -119,8 +119,8 @@ same_branch branch name from to inservice n f t s =
     ∙ ap (λ (x : Bool). record branch { inservice = x }) (sym s)
 
 -- a table that isn't full refuses just a name that it has
-pub name_fault-open : (names : List (List ℕ)) (name : List ℕ) (there : Bool) → length names < most_rows → has_name names name ≡ there → name_fault names name ≡ cond there (Some NameTwice) None
-name_fault-open names name there few is = rw (ne_eqb (length names) most_rows (omega arith), is) refl
+pub name_fault-open : (most : ℕ) (names : List (List ℕ)) (name : List ℕ) (there : Bool) → length names < most → has_name names name ≡ there → name_fault most names name ≡ cond there (Some NameTwice) None
+name_fault-open most names name there few is = rw (ne_eqb (length names) most (omega arith), is) refl
 
 -- a row that is accepted has a new name
 pub new_name : (there : Bool) → cond there (Some NameTwice) None ≡ None → there ≡ false

@@ -43,7 +43,7 @@ AreNamed k (branch ∷ branches) = (branch.name ≡ branch_name k) × AreNamed (
 abbrev pub node_of_bus : Bus → Node
 node_of_bus bus = record { name = decimal bus.number; source = bus.source; absolute = false }
 
--- the tables of these buses and branches
-abbrev pub tables_of_rows : List Bus → List Branch → Tables
-tables_of_rows buses branches =
-    record { nodes = map node_of_bus buses; switches = []; branches = branches; meters = []; candidates = [] }
+-- the tables of these buses and branches, under this limit of rows
+abbrev pub tables_of_rows : ℕ → List Bus → List Branch → Tables
+tables_of_rows most buses branches =
+    record { nodes = map node_of_bus buses; switches = []; branches = branches; meters = []; candidates = []; most = most }

@@ -8,49 +8,50 @@ use Rattle.obs_files.specs.declared.status.Status.TheVariants.{NoMemory}
 use Rattle.obs_engine.specs.Ending.{Answers, Ends, HasRoom}
 use Rattle.obs_engine.specs.Replies.{Reply}
 use Rattle.obs_engine.specs.Forms.{AnyReadFailed}
+use Rattle.obs_files.specs.Limits.{Limits}
 use Rattle.obs_files.specs.Outside.{AreTold}
 use Rattle.obs_engine.specs.Stated.{IsStated, Tells, Told}
 use Rattle.obs_files.specs.Words.{file_words, form_of}
 
-told_all : (content : ℕ → Option (List ℕ)) (file : ℕ → List ℕ) → ((w : ℕ) → content w ≡ Some (file w)) → (words : List ℕ) → AreTold content file words
-told_all content file are [] = tt
-told_all content file are (w ∷ words) = (are w, λ fits. told_all content file are words)
+told_all : (limits : Limits) (content : ℕ → Option (List ℕ)) (file : ℕ → List ℕ) → ((w : ℕ) → content w ≡ Some (file w)) → (words : List ℕ) → AreTold limits content file words
+told_all limits content file are [] = tt
+told_all limits content file are (w ∷ words) = (are w, λ fits. told_all limits content file are words)
 
 -- the blocks are told
-pub tells : (words : List (List ℕ)) (told : Told) (content : ℕ → Option (List ℕ)) (left : Option (List ℕ)) → ((w : ℕ) → content w ≡ Some (told.file w)) → left ≡ Some told.input
-    → Tells (form_of words) content left told
-tells words told content left are is = record { files = told_all content told.file are (file_words (form_of words)); input = λ takes. is }
+pub tells : (limits : Limits) (words : List (List ℕ)) (told : Told) (content : ℕ → Option (List ℕ)) (left : Option (List ℕ)) → told.limits ≡ limits → ((w : ℕ) → content w ≡ Some (told.file w))
+    → left ≡ Some told.input → Tells limits (form_of words) content left told
+tells limits words told content left held are is = record { limited = held; files = told_all limits content told.file are (file_words (form_of words)); input = λ takes. is }
 
 -- a count that stays 0 hasn't risen
 not_risen : (before now : ℕ) → min (before + 1) 18446744073709551615 ≤ now → now ≡ 0 → ⊥
 not_risen before now rose none = omega (arith, rose, none)
 
-pub none_failed : (words : List (List ℕ)) (content : ℕ → Option (List ℕ)) (before now : ℕ → ℕ) (left left_now : Option (List ℕ)) (input_before input_now : ℕ) (written written_now : Option (List ℕ))
+pub none_failed : (limits : Limits) (words : List (List ℕ)) (content : ℕ → Option (List ℕ)) (before now : ℕ → ℕ) (left left_now : Option (List ℕ)) (input_before input_now : ℕ) (written written_now : Option (List ℕ))
     → ((w : ℕ) → now w ≡ 0) → input_now ≡ 0
-    → AnyReadFailed (form_of words) content before now left left_now input_before input_now written written_now → ⊥
-none_failed words content before now left left_now input_before input_now written written_now none no_input (inl file) =
+    → AnyReadFailed limits (form_of words) content before now left left_now input_before input_now written written_now → ⊥
+none_failed limits words content before now left left_now input_before input_now written written_now none no_input (inl file) =
     not_risen (before file.file.word) (now file.file.word) file.file.rose (none file.file.word)
-none_failed words content before now left left_now input_before input_now written written_now none no_input (inr input) =
+none_failed limits words content before now left left_now input_before input_now written written_now none no_input (inr input) =
     not_risen input_before input_now input.rose no_input
 
 -- how the run ends, where its words are those of the block
-pub ends_in : (list words : List (List ℕ)) (told : Told) (content : ℕ → Option (List ℕ)) (left left_now : Option (List ℕ)) (status : Status) (before after : Option (List ℕ)) (bytes : List ℕ)
-    → list ≡ words → ((w : ℕ) → content w ≡ Some (told.file w)) → left ≡ Some told.input → before ≡ Some [] → after ≡ Some bytes
-    → ((t : Told) → Tells (form_of list) content left t → Ends (form_of list) t left_now status before after)
+pub ends_in : (limits : Limits) (list words : List (List ℕ)) (told : Told) (content : ℕ → Option (List ℕ)) (left left_now : Option (List ℕ)) (status : Status) (before after : Option (List ℕ)) (bytes : List ℕ)
+    → told.limits ≡ limits → list ≡ words → ((w : ℕ) → content w ≡ Some (told.file w)) → left ≡ Some told.input → before ≡ Some [] → after ≡ Some bytes
+    → ((t : Told) → Tells limits (form_of list) content left t → Ends (form_of list) t left_now status before after)
     → Ends (form_of words) told left_now status (Some []) (Some bytes)
-ends_in list words told content left left_now status before after bytes same are is none all stated =
+ends_in limits list words told content left left_now status before after bytes held same are is none all stated =
     subst (λ (l : List (List ℕ)). Ends (form_of l) told left_now status (Some []) (Some bytes)) same
     (subst (λ (b : Option (List ℕ)). Ends (form_of list) told left_now status b (Some bytes)) none
-    (subst (λ (a : Option (List ℕ)). Ends (form_of list) told left_now status before a) all (stated told (tells list told content left are is))))
+    (subst (λ (a : Option (List ℕ)). Ends (form_of list) told left_now status before a) all (stated told (tells limits list told content left held are is))))
 
 -- where the block has room for the text, all of it is answered, or there is no memory
-pub answers_in : (list words : List (List ℕ)) (told : Told) (content : ℕ → Option (List ℕ)) (left : Option (List ℕ)) (status : Status) (before after : Option (List ℕ)) (bytes : List ℕ) (room : ℕ) (has_room : ℕ → Type 0)
-    → list ≡ words → ((w : ℕ) → content w ≡ Some (told.file w)) → left ≡ Some told.input → before ≡ Some [] → after ≡ Some bytes
+pub answers_in : (limits : Limits) (list words : List (List ℕ)) (told : Told) (content : ℕ → Option (List ℕ)) (left : Option (List ℕ)) (status : Status) (before after : Option (List ℕ)) (bytes : List ℕ) (room : ℕ) (has_room : ℕ → Type 0)
+    → told.limits ≡ limits → list ≡ words → ((w : ℕ) → content w ≡ Some (told.file w)) → left ≡ Some told.input → before ≡ Some [] → after ≡ Some bytes
     → ((n : ℕ) → n ≤ room → has_room n)
     → ((reply : Reply) → IsStated (form_of words) told reply → length reply.text ≤ room)
-    → ((t : Told) → Tells (form_of list) content left t → HasRoom (form_of list) t has_room → (status ≡ NoMemory) ⊎ Answers (form_of list) t status before after)
+    → ((t : Told) → Tells limits (form_of list) content left t → HasRoom (form_of list) t has_room → (status ≡ NoMemory) ⊎ Answers (form_of list) t status before after)
     → (status ≡ NoMemory) ⊎ Answers (form_of words) told status (Some []) (Some bytes)
-answers_in list words told content left status before after bytes room has_room same are is none all fits short complete =
+answers_in limits list words told content left status before after bytes room has_room held same are is none all fits short complete =
     let wide : HasRoom (form_of list) told has_room = λ reply stated.
     let low : length reply.text ≤ room = short reply (subst (λ (l : List (List ℕ)). IsStated (form_of l) told reply) same stated) in
     (0, fits (length reply.text + 0) (omega (arith, low))) in
@@ -60,7 +61,7 @@ answers_in list words told content left status before after bytes room has_room 
     inr (subst (λ (l : List (List ℕ)). Answers (form_of l) told status (Some []) (Some bytes)) same
     (subst (λ (b : Option (List ℕ)). Answers (form_of list) told status b (Some bytes)) none
     (subst (λ (a : Option (List ℕ)). Answers (form_of list) told status before a) all answers))))
-    (complete told (tells list told content left are is) wide)
+    (complete told (tells limits list told content left held are is) wide)
 
 -- what stands in the block at the end: as much of the bytes as it has room for
 pub stands : (bytes text copied : List ℕ) (count : ℕ) → count ≡ min (length bytes) (length text) → copied ≡ take count bytes → take count (copied ++ drop count text) ≡ take count bytes

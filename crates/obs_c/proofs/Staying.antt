@@ -8,6 +8,7 @@ use Rattle.obs_edit.specs.Sessions.{Session}
 use Rattle.obs_files.specs.declared.status.Status.{Status}
 use Rattle.obs_files.specs.declared.status.Status.TheVariants.{Done, NoMemory, ReadFault, WriteFault}
 use Rattle.obs_files.specs.Codes.{code_of}
+use Rattle.obs_files.specs.Limits.{Limits}
 use Rattle.obs_files.specs.Outside.{AreFiles}
 use Rattle.obs_engine.specs.Lines.{line_case}
 use Rattle.obs_engine.specs.Replies.{EndsWith, Reply}
@@ -74,37 +75,38 @@ given reply status bytes stands room number d read roomy (inr (inr (inr (none, s
     inr (none, w.0 ∙ ap code_of none, w.1 ∙ empty)
 
 -- a begin whose blocks are a call
-module _ (words contents lengths : List ℕ) (room : ℕ) (list : List (List ℕ)) (content : ℕ → Option (List ℕ)) (call : IsCall words contents lengths) (same : list ≡ words_in words)
+module _ (limits given_limits : Limits) (held : given_limits ≡ limits) (words contents lengths : List ℕ) (room : ℕ) (list : List (List ℕ)) (content : ℕ → Option (List ℕ)) (call : IsCall words contents lengths) (same : list ≡ words_in words)
     (are : (w : ℕ) → content w ≡ Some (content_at contents lengths w)) where
-  told : AreFiles (form_of list) content (content_at contents lengths)
-  told = (tells list (record { file = content_at contents lengths; input = [] }) content (Some []) are refl).files
+  told : AreFiles limits (form_of list) content (content_at contents lengths)
+  told = (tells limits list (record { limits = limits; file = content_at contents lengths; input = [] }) content (Some []) refl are refl).files
 
   -- a session began
   pub opened : (s : Session) (before after : Option (List ℕ)) (stands : List ℕ) (number : ℕ) (was now : Option Session) → was ≡ None → now ≡ Some s → number ≡ code_of Done → stands ≡ []
-      → ((file : ℕ → List ℕ) → AreFiles (form_of list) content file → Begins (form_of list) file (Ok s) before after)
-      → IsBeginning words contents lengths room was now number stands
+      → ((file : ℕ → List ℕ) → AreFiles given_limits (form_of list) content file → Begins given_limits (form_of list) file (Ok s) before after)
+      → IsBeginning limits words contents lengths room was now number stands
   opened s before after stands number was now none is number_is silent begins =
-      subst (λ (w : Option Session). IsBeginning words contents lengths room w now number stands) (sym none)
+      let begun = subst (λ (g : Limits). (file : ℕ → List ℕ) → AreFiles g (form_of list) content file → Begins g (form_of list) file (Ok s) before after) held begins in
+      subst (λ (w : Option Session). IsBeginning limits words contents lengths room w now number stands) (sym none)
       (inr (inl (record {
         call = call;
         session = s;
         stays = is;
-        begun = subst (λ (l : List (List ℕ)). Begins (form_of l) (content_at contents lengths) (Ok s) before after) same (begins (content_at contents lengths) told);
+        begun = subst (λ (l : List (List ℕ)). Begins limits (form_of l) (content_at contents lengths) (Ok s) before after) same (begun (content_at contents lengths) told);
         number_is = number_is;
         silent = silent;
       })))
 
   refused_so : (status : Status) (bytes stands : List ℕ) (number : ℕ) (now : Option Session) → now ≡ None → IsDelivered bytes stands room number status → status ≢ ReadFault
-      → ((reply : Reply) → IsNotBegun (form_of list) (content_at contents lengths) reply → length reply.text ≤ room → status ≢ WriteFault)
-      → Begins (form_of list) (content_at contents lengths) (Err status) (Some []) (Some bytes)
-      → IsBeginning words contents lengths room None now number stands
+      → ((reply : Reply) → IsNotBegun limits (form_of list) (content_at contents lengths) reply → length reply.text ≤ room → status ≢ WriteFault)
+      → Begins limits (form_of list) (content_at contents lengths) (Err status) (Some []) (Some bytes)
+      → IsBeginning limits words contents lengths room None now number stands
   refused_so status bytes stands number now none d read roomy (inl (reply, not, ends)) =
       ⊎_elim
       (λ (g : IsGiven reply room number stands). inr (inr (record {
         call = call;
         none = none;
         reply = reply;
-        stated = subst (λ (l : List (List ℕ)). IsNotBegun (form_of l) (content_at contents lengths) reply) same not;
+        stated = subst (λ (l : List (List ℕ)). IsNotBegun limits (form_of l) (content_at contents lengths) reply) same not;
         given = g;
       })))
       (λ (m : (status ≡ NoMemory) × (number ≡ code_of NoMemory) × (stands ≡ [])). inl (inr (m.1, none, m.2)))
@@ -118,14 +120,16 @@ module _ (words contents lengths : List ℕ) (room : ℕ) (list : List (List ℕ
   -- none did
   pub refused : (status : Status) (before after : Option (List ℕ)) (bytes stands : List ℕ) (number : ℕ) (was now : Option Session) → was ≡ None → now ≡ None
       → before ≡ Some [] → after ≡ Some bytes → IsDelivered bytes stands room number status → status ≢ ReadFault
-      → ((file : ℕ → List ℕ) → AreFiles (form_of list) content file → (reply : Reply) → IsNotBegun (form_of list) file reply → length reply.text ≤ room → status ≢ WriteFault)
-      → ((file : ℕ → List ℕ) → AreFiles (form_of list) content file → Begins (form_of list) file (Err status) before after)
-      → IsBeginning words contents lengths room was now number stands
+      → ((file : ℕ → List ℕ) → AreFiles given_limits (form_of list) content file → (reply : Reply) → IsNotBegun given_limits (form_of list) file reply → length reply.text ≤ room → status ≢ WriteFault)
+      → ((file : ℕ → List ℕ) → AreFiles given_limits (form_of list) content file → Begins given_limits (form_of list) file (Err status) before after)
+      → IsBeginning limits words contents lengths room was now number stands
   refused status before after bytes stands number was now none none_now start end d read roomy begins =
-      subst (λ (w : Option Session). IsBeginning words contents lengths room w now number stands) (sym none)
-      (refused_so status bytes stands number now none_now d read (λ reply not. roomy (content_at contents lengths) told reply not)
-      (subst (λ (b : Option (List ℕ)). Begins (form_of list) (content_at contents lengths) (Err status) b (Some bytes)) start
-      (subst (λ (a : Option (List ℕ)). Begins (form_of list) (content_at contents lengths) (Err status) before a) end (begins (content_at contents lengths) told))))
+      let fitting = subst (λ (g : Limits). (file : ℕ → List ℕ) → AreFiles g (form_of list) content file → (reply : Reply) → IsNotBegun g (form_of list) file reply → length reply.text ≤ room → status ≢ WriteFault) held roomy in
+      let begun = subst (λ (g : Limits). (file : ℕ → List ℕ) → AreFiles g (form_of list) content file → Begins g (form_of list) file (Err status) before after) held begins in
+      subst (λ (w : Option Session). IsBeginning limits words contents lengths room w now number stands) (sym none)
+      (refused_so status bytes stands number now none_now d read (λ reply not. fitting (content_at contents lengths) told reply not)
+      (subst (λ (b : Option (List ℕ)). Begins limits (form_of list) (content_at contents lengths) (Err status) b (Some bytes)) start
+      (subst (λ (a : Option (List ℕ)). Begins limits (form_of list) (content_at contents lengths) (Err status) before a) end (begun (content_at contents lengths) told))))
 
 -- where the lengths aren't those of the words and the contents, the blocks are no call
 pub no_call : {A : Type 0} (words contents lengths : List ℕ) (list : List (String A)) (count : ℕ) → map string_bytes list ≡ words_in words → count ≡ length list
@@ -136,20 +140,20 @@ no_call words contents lengths list count same counted wrong call = wrong (recor
 })
 
 -- a begin that leaves all as it was
-pub begun_already : (words contents lengths stands : List ℕ) (room number : ℕ) (s : Session) (was now : Option Session) → was ≡ Some s → now ≡ Some s → number ≡ out_of_turn → stands ≡ []
-    → IsBeginning words contents lengths room was now number stands
-begun_already words contents lengths stands room number s was now some same number_is silent =
-    subst (λ (w : Option Session). IsBeginning words contents lengths room w now number stands) (sym some) (number_is, same, silent)
+pub begun_already : (limits : Limits) (words contents lengths stands : List ℕ) (room number : ℕ) (s : Session) (was now : Option Session) → was ≡ Some s → now ≡ Some s → number ≡ out_of_turn → stands ≡ []
+    → IsBeginning limits words contents lengths room was now number stands
+begun_already limits words contents lengths stands room number s was now some same number_is silent =
+    subst (λ (w : Option Session). IsBeginning limits words contents lengths room w now number stands) (sym some) (number_is, same, silent)
 
-pub begun_malformed : (words contents lengths stands : List ℕ) (room number : ℕ) (was now : Option Session) → was ≡ None → now ≡ None → (IsCall words contents lengths → ⊥) → number ≡ malformed → stands ≡ []
-    → IsBeginning words contents lengths room was now number stands
-begun_malformed words contents lengths stands room number was now none none_now wrong number_is silent =
-    subst (λ (w : Option Session). IsBeginning words contents lengths room w now number stands) (sym none) (inl (inl (wrong, (number_is, none_now, silent))))
+pub begun_malformed : (limits : Limits) (words contents lengths stands : List ℕ) (room number : ℕ) (was now : Option Session) → was ≡ None → now ≡ None → (IsCall words contents lengths → ⊥) → number ≡ malformed → stands ≡ []
+    → IsBeginning limits words contents lengths room was now number stands
+begun_malformed limits words contents lengths stands room number was now none none_now wrong number_is silent =
+    subst (λ (w : Option Session). IsBeginning limits words contents lengths room w now number stands) (sym none) (inl (inl (wrong, (number_is, none_now, silent))))
 
-pub begun_starved : (words contents lengths stands : List ℕ) (room number : ℕ) (was now : Option Session) → was ≡ None → now ≡ None → number ≡ code_of NoMemory → stands ≡ []
-    → IsBeginning words contents lengths room was now number stands
-begun_starved words contents lengths stands room number was now none none_now number_is silent =
-    subst (λ (w : Option Session). IsBeginning words contents lengths room w now number stands) (sym none) (inl (inr (number_is, none_now, silent)))
+pub begun_starved : (limits : Limits) (words contents lengths stands : List ℕ) (room number : ℕ) (was now : Option Session) → was ≡ None → now ≡ None → number ≡ code_of NoMemory → stands ≡ []
+    → IsBeginning limits words contents lengths room was now number stands
+begun_starved limits words contents lengths stands room number was now none none_now number_is silent =
+    subst (λ (w : Option Session). IsBeginning limits words contents lengths room w now number stands) (sym none) (inl (inr (number_is, none_now, silent)))
 
 -- a line of no session, one that found no memory, and one that was done
 module _ (line stands : List ℕ) (room number : ℕ) (was now : Option Session) where

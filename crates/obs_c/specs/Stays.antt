@@ -7,6 +7,7 @@ use Rattle.obs_files.specs.Codes.{code_of}
 use Rattle.obs_engine.specs.Lines.{line_case}
 use Rattle.obs_engine.specs.Replies.{Reply}
 use Rattle.obs_engine.specs.Stays.{IsBegun, IsNotBegun, line_reply}
+use Rattle.obs_files.specs.Limits.{Limits}
 use Rattle.obs_files.specs.Words.{form_of}
 use Rattle.obs_c.specs.Blocks.{IsCall, malformed, words_in}
 
@@ -25,29 +26,29 @@ IsGiven reply room number bytes =
     ⊎ ((number ≡ code_of WriteFault) × (room < length reply.text) × ((rest : List ℕ) × (reply.text ≡ bytes ++ rest)))
 
 -- a session began with the case of these files, and stays; nothing is written
-pub record IsOpened (words contents lengths : List ℕ) (after : Option Session) (number : ℕ) (bytes : List ℕ) : Type 0 where
+pub record IsOpened (limits : Limits) (words contents lengths : List ℕ) (after : Option Session) (number : ℕ) (bytes : List ℕ) : Type 0 where
   pub call : IsCall words contents lengths
   pub session : Session
   pub stays : after ≡ Some session
-  pub begun : IsBegun (form_of (words_in words)) (content_at contents lengths) session.offered session.tables
+  pub begun : IsBegun limits (form_of (words_in words)) (content_at contents lengths) session.offered session.tables
   pub number_is : number ≡ code_of Done
   pub silent : bytes ≡ []
 
 -- the words are no session's, or the files no case: none stays, and the reply to them is given
-pub record IsTurnedAway (words contents lengths : List ℕ) (room : ℕ) (after : Option Session) (number : ℕ) (bytes : List ℕ) : Type 0 where
+pub record IsTurnedAway (limits : Limits) (words contents lengths : List ℕ) (room : ℕ) (after : Option Session) (number : ℕ) (bytes : List ℕ) : Type 0 where
   pub call : IsCall words contents lengths
   pub none : after ≡ None
   pub reply : Reply
-  pub stated : IsNotBegun (form_of (words_in words)) (content_at contents lengths) reply
+  pub stated : IsNotBegun limits (form_of (words_in words)) (content_at contents lengths) reply
   pub given : IsGiven reply room number bytes
 
--- how a begin ends: where a session stays it is left as it is, and where there is none and the blocks are no call, or there is no
+-- how a begin within these limits ends: where a session stays it is left as it is, and where there is none and the blocks are no call, or there is no
 -- memory, none stays
-abbrev pub IsBeginning : List ℕ → List ℕ → List ℕ → ℕ → Option Session → Option Session → ℕ → List ℕ → Type 0
-IsBeginning words contents lengths room (Some s) after number bytes = IsLeft (Some s) after number bytes out_of_turn
-IsBeginning words contents lengths room None after number bytes =
+abbrev pub IsBeginning : Limits → List ℕ → List ℕ → List ℕ → ℕ → Option Session → Option Session → ℕ → List ℕ → Type 0
+IsBeginning limits words contents lengths room (Some s) after number bytes = IsLeft (Some s) after number bytes out_of_turn
+IsBeginning limits words contents lengths room None after number bytes =
     (((IsCall words contents lengths → ⊥) × IsLeft None after number bytes malformed) ⊎ IsLeft None after number bytes (code_of NoMemory))
-    ⊎ (IsOpened words contents lengths after number bytes ⊎ IsTurnedAway words contents lengths room after number bytes)
+    ⊎ (IsOpened limits words contents lengths after number bytes ⊎ IsTurnedAway limits words contents lengths room after number bytes)
 
 -- a line was done: the session behind it has the case behind the line, and the line's reply is given
 pub record IsDone (line : List ℕ) (room : ℕ) (s : Session) (after : Option Session) (number : ℕ) (bytes : List ℕ) : Type 0 where

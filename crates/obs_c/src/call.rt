@@ -5,11 +5,13 @@ ghost use Rattle.obs_engine.specs.Replies.{Reply};
 ghost use Rattle.obs_engine.specs.Stated.{IsStated};
 ghost use Rattle.obs_files.specs.Words.{form_of};
 ghost use Rattle.obs_c.specs.Blocks.{IsCall, malformed, words_in};
-ghost use Rattle.obs_c.specs.Calls.{IsAnswered, IsWhole, told_by};
+ghost use Rattle.obs_c.specs.Calls.{IsAnswered, IsWhole, limits_for, told_by};
+ghost use Rattle.obs_files.specs.Limits.{usual_limits};
 
 use crate::lengths::are_lengths;
+use crate::limits::limits_for;
 use crate::words::{WordsFault, words_of};
-use obs_engine::{Status, run};
+use obs_engine::{Status, run_within};
 use obs_io::{BlockFiles, BlockSource, MemSink};
 use std::alloc::Global;
 
@@ -36,15 +38,51 @@ pub extern "C" fn obs_run(
 
     // What is written and answered is what is stated for the words, the contents and the input.
     ensures stated { IsCall words.now contents.now lengths.now
-        → IsAnswered (words_in words.now) (told_by contents.now lengths.now input.now)
+        → IsAnswered (words_in words.now) (told_by usual_limits contents.now lengths.now input.now)
         result (take written.new text.new) }
 
     // Where the block has room for the text, all of it is answered, or there is no memory.
     ensures complete { IsCall words.now contents.now lengths.now
-        → ((reply : Reply) → IsStated (form_of (words_in words.now)) (told_by contents.now lengths.now input.now) reply
+        → ((reply : Reply) → IsStated (form_of (words_in words.now)) (told_by usual_limits contents.now lengths.now input.now) reply
         → length reply.text ≤ length text.old)
         → (result ≡ code_of Status.NoMemory)
-        ⊎ IsWhole (words_in words.now) (told_by contents.now lengths.now input.now)
+        ⊎ IsWhole (words_in words.now) (told_by usual_limits contents.now lengths.now input.now)
+        result (take written.new text.new) }
+
+    // Behind what was written the block is as it was.
+    ensures within { written.new ≤ length text.old }
+    ensures rest { drop written.new text.new ≡ drop written.new text.old }
+{
+    obs_run_within(alloc, 0, words, contents, lengths, input, text, written)
+}
+
+/// Runs obs as `obs_run` does, within its limits where `large` is 0, and else within the largest.
+#[unsafe(no_mangle)]
+pub extern "C" fn obs_run_within(
+    alloc: Global,
+    large: u8,
+    words: &[u8],
+    contents: &[u8],
+    lengths: &[usize],
+    input: &[u8],
+    text: &mut [u8],
+    written: &mut usize,
+) -> u8
+    // Blocks that are no words and contents are refused, and nothing is written.
+    ensures refused { (IsCall words.now contents.now lengths.now → ⊥)
+        → ((result ≡ malformed) ⊎ (result ≡ code_of Status.NoMemory)) × (written.new ≡ 0) × (text.new ≡ text.old) }
+
+    // What is written and answered is what is stated for the words, the contents and the input.
+    ensures stated { IsCall words.now contents.now lengths.now
+        → IsAnswered (words_in words.now) (told_by (limits_for large) contents.now lengths.now input.now)
+        result (take written.new text.new) }
+
+    // Where the block has room for the text, all of it is answered, or there is no memory.
+    ensures complete { IsCall words.now contents.now lengths.now
+        → ((reply : Reply) → IsStated (form_of (words_in words.now)) (told_by (limits_for large) contents.now lengths.now input.now) reply
+        → length reply.text ≤ length text.old)
+        → (result ≡ code_of Status.NoMemory)
+        ⊎ IsWhole (words_in words.now) (told_by (limits_for large) contents.now lengths.now input.now)
         result (take written.new text.new) }
 
     // Behind what was written the block is as it was.
@@ -65,7 +103,14 @@ pub extern "C" fn obs_run(
     };
     let mut files = BlockFiles::new(contents, lengths);
     let mut source = BlockSource::new(input);
-    let status = run(alloc, &list, &mut files, &mut source, &mut output);
+    let status = run_within(
+        alloc,
+        limits_for(large),
+        &list,
+        &mut files,
+        &mut source,
+        &mut output,
+    );
     let bytes = output.written();
     let count = bytes.len().min(text.len());
     text[..count].copy_from_slice(&bytes[..count]);

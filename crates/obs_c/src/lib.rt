@@ -6,12 +6,13 @@ mod call;
 mod handle;
 pub mod laws;
 mod lengths;
+mod limits;
 mod loose;
 mod slot;
 mod stay;
 mod words;
 
-pub use call::obs_run;
+pub use call::{obs_run, obs_run_within};
 pub use handle::Handle;
 pub use slot::Slot;
-pub use stay::{obs_session_begin, obs_session_end, obs_session_line};
+pub use stay::{obs_session_begin, obs_session_begin_within, obs_session_end, obs_session_line};

@@ -1,12 +1,15 @@
 // A session that stays between calls.
 ghost use Rattle.std.specs.Prelude.{◌≡◌, ◌<◌, ◌≤◌, None, drop, length, take};
 ghost use Rattle.obs_files.specs.Codes.{code_of};
+ghost use Rattle.obs_c.specs.Calls.{limits_for};
 ghost use Rattle.obs_c.specs.Stays.{IsLineAnswered, IsBeginning};
+ghost use Rattle.obs_files.specs.Limits.{usual_limits};
 
 use crate::lengths::are_lengths;
+use crate::limits::limits_for;
 use crate::slot::Slot;
 use crate::words::{WordsFault, words_of};
-use obs_engine::{Status, answer_one, begin_session};
+use obs_engine::{Status, answer_one, begin_session_within};
 use obs_io::{BlockFiles, MemSink};
 use std::alloc::Global;
 
@@ -48,7 +51,30 @@ pub extern "C" fn obs_session_begin(
     text: &mut [u8],
     written: &mut usize,
 ) -> u8
-    ensures begun { IsBeginning words.now contents.now lengths.now (length text.old)
+    ensures begun { IsBeginning usual_limits words.now contents.now lengths.now (length text.old)
+        slot.old.handle.value slot.new.handle.value result (take written.new text.new) }
+
+    // Behind what was written the block is as it was.
+    ensures within { written.new ≤ length text.old }
+    ensures rest { drop written.new text.new ≡ drop written.new text.old }
+{
+    obs_session_begin_within(alloc, 0, slot, words, contents, lengths, text, written)
+}
+
+/// Begins a session as `obs_session_begin` does, within the limits of `obs_run` where `large` is 0, and else within the
+/// largest.
+#[unsafe(no_mangle)]
+pub extern "C" fn obs_session_begin_within(
+    alloc: Global,
+    large: u8,
+    slot: &mut Slot,
+    words: &[u8],
+    contents: &[u8],
+    lengths: &[usize],
+    text: &mut [u8],
+    written: &mut usize,
+) -> u8
+    ensures begun { IsBeginning (limits_for large) words.now contents.now lengths.now (length text.old)
         slot.old.handle.value slot.new.handle.value result (take written.new text.new) }
 
     // Behind what was written the block is as it was.
@@ -72,7 +98,7 @@ pub extern "C" fn obs_session_begin(
         return Status::NoMemory.code();
     };
     let mut files = BlockFiles::new(contents, lengths);
-    match begin_session(alloc, &list, &mut files, &mut output) {
+    match begin_session_within(alloc, limits_for(large), &list, &mut files, &mut output) {
         Ok(session) => {
             let Ok(session) = Box::new(alloc, session) else {
                 return Status::NoMemory.code();

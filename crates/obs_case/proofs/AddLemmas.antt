@@ -11,14 +11,14 @@ use Rattle.obs_case.specs.declared.rows.Kind.{Kind}
 use Rattle.obs_case.specs.declared.rows.Kind.TheVariants.{Flow, Injection, Zero, Angle}
 use Rattle.obs_case.specs.declared.rows.Node.{Node}
 use Rattle.obs_case.specs.Adds.{Refuses, first_fault, name_fault, place_fault}
-use Rattle.obs_case.specs.Tables.{Tables, has_name, most_rows, place_names, place_of, places}
+use Rattle.obs_case.specs.Tables.{Tables, has_name, place_names, place_of, places}
 use Rattle.obs_case.proofs.NameLemmas.{place-absent, place-there}
 
 -- a table that isn't full takes a row of a new name that has no other fault
-pub no_fault : (names : List (List ℕ)) (name : List ℕ) (other : Option AddFault) → first_fault (name_fault names name) other ≡ None → (length names ≡ most_rows → ⊥) × (has_name names name ≡ false) × (other ≡ None)
-no_fault names name other h =
-    let free = by (length names == most_rows) (has_name names name) other h in
-    (λ full. true≢false (sym (eq-eqb (length names) most_rows full) ∙ free.0), free.1, free.2)
+pub no_fault : (most : ℕ) (names : List (List ℕ)) (name : List ℕ) (other : Option AddFault) → first_fault (name_fault most names name) other ≡ None → (length names ≡ most → ⊥) × (has_name names name ≡ false) × (other ≡ None)
+no_fault most names name other h =
+    let free = by (length names == most) (has_name names name) other h in
+    (λ full. true≢false (sym (eq-eqb (length names) most full) ∙ free.0), free.1, free.2)
   where
     by : (full there : Bool) (other : Option AddFault) → first_fault (if full then Some TooMany else (if there then Some NameTwice else None)) other ≡ None → (full ≡ false) × (there ≡ false) × (other ≡ None)
     by true there other h = cc
@@ -31,17 +31,17 @@ either P rows after row (Ok at) fault h more free added same = subst P (sym adde
 either P rows after row (Err e) fault h more free added same = subst P (sym same) h
 
 -- no other fault is told than that of the name or the other one
-module _ (names : List (List ℕ)) (name : List ℕ) (other : Option AddFault) (result : Result ℕ AddFault) where
-  pub never_node : IfErr result (Refuses (first_fault (name_fault names name) other)) → (other ≡ Some UnknownNode → ⊥) → result ≡ Err UnknownNode → ⊥
-  never_node told never h = by (length names == most_rows) (has_name names name) (subst (λ x. IfErr x (Refuses (first_fault (name_fault names name) other))) h told)
+module _ (most : ℕ) (names : List (List ℕ)) (name : List ℕ) (other : Option AddFault) (result : Result ℕ AddFault) where
+  pub never_node : IfErr result (Refuses (first_fault (name_fault most names name) other)) → (other ≡ Some UnknownNode → ⊥) → result ≡ Err UnknownNode → ⊥
+  never_node told never h = by (length names == most) (has_name names name) (subst (λ x. IfErr x (Refuses (first_fault (name_fault most names name) other))) h told)
     where
       by : (full there : Bool) → first_fault (if full then Some TooMany else (if there then Some NameTwice else None)) other ≡ Some UnknownNode → ⊥
       by true there h = cc
       by false true h = cc
       by false false h = never h
 
-  pub never_place : IfErr result (Refuses (first_fault (name_fault names name) other)) → (other ≡ Some UnknownPlace → ⊥) → result ≡ Err UnknownPlace → ⊥
-  never_place told never h = by (length names == most_rows) (has_name names name) (subst (λ x. IfErr x (Refuses (first_fault (name_fault names name) other))) h told)
+  pub never_place : IfErr result (Refuses (first_fault (name_fault most names name) other)) → (other ≡ Some UnknownPlace → ⊥) → result ≡ Err UnknownPlace → ⊥
+  never_place told never h = by (length names == most) (has_name names name) (subst (λ x. IfErr x (Refuses (first_fault (name_fault most names name) other))) h told)
     where
       by : (full there : Bool) → first_fault (if full then Some TooMany else (if there then Some NameTwice else None)) other ≡ Some UnknownPlace → ⊥
       by true there h = cc
@@ -58,14 +58,14 @@ absent_by names name at is high =
     elim (cases_Bool (has_name names name)) [ inl e ↦ absurd (omega (arith, is, high, place-there (bytes_eq name) names e)) | inr e ↦ e ]
 
 -- the fault of a row of a table that isn't full
-pub told_twice : (names : List (List ℕ)) (name : List ℕ) (other : Option AddFault) → (length names ≡ most_rows → ⊥) → has_name names name ≡ true → first_fault (name_fault names name) other ≡ Some NameTwice
-told_twice names name other room there = rw (ne_eqb (length names) most_rows room, there) refl
+pub told_twice : (most : ℕ) (names : List (List ℕ)) (name : List ℕ) (other : Option AddFault) → (length names ≡ most → ⊥) → has_name names name ≡ true → first_fault (name_fault most names name) other ≡ Some NameTwice
+told_twice most names name other room there = rw (ne_eqb (length names) most room, there) refl
 
-pub told_other : (names : List (List ℕ)) (name : List ℕ) (other : Option AddFault) → (length names ≡ most_rows → ⊥) → has_name names name ≡ false → first_fault (name_fault names name) other ≡ other
-told_other names name other room new = rw (ne_eqb (length names) most_rows room, new) refl
+pub told_other : (most : ℕ) (names : List (List ℕ)) (name : List ℕ) (other : Option AddFault) → (length names ≡ most → ⊥) → has_name names name ≡ false → first_fault (name_fault most names name) other ≡ other
+told_other most names name other room new = rw (ne_eqb (length names) most room, new) refl
 
-pub told_full : (names : List (List ℕ)) (name : List ℕ) (other : Option AddFault) → length names ≡ most_rows → first_fault (name_fault names name) other ≡ Some TooMany
-told_full names name other full = rw (eq-eqb (length names) most_rows full) refl
+pub told_full : (most : ℕ) (names : List (List ℕ)) (name : List ℕ) (other : Option AddFault) → length names ≡ most → first_fault (name_fault most names name) other ≡ Some TooMany
+told_full most names name other full = rw (eq-eqb (length names) most full) refl
 
 pub told_some : (fault : Option AddFault) (other : Option AddFault) → fault ≡ other → IfSome other (λ e. fault ≡ Some e)
 told_some fault None same = tt

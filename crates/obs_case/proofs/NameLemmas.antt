@@ -8,7 +8,7 @@ use Rattle.std.specs.List.{list_all, list_any, position_or_len}
 use Rattle.std.specs.Str.{bytes_eq}
 use Rattle.obs_text.specs.Names.{is_name, is_name_byte}
 use Rattle.obs_text.proofs.ByteLemmas.{same_bytes}
-use Rattle.obs_case.specs.Tables.{IsNamed, are_different, has_name, most_rows, position_of}
+use Rattle.obs_case.specs.Tables.{IsNamed, are_different, has_name, position_of}
 
 -- a name that is there stands before the end
 pub place-there : {X : Type 0} (p : X → Bool) (xs : List X) → list_any p xs ≡ true → position_or_len p xs < length xs
@@ -112,10 +112,10 @@ different-push (x ∷ names) name d new =
     let parts = or_parts (bytes_eq name x) (has_name names name) new in
     different-from x (names ++ name ∷ []) (has_name-push names x name before.0 (bytes_eq-back name x parts.0)) (different-push names name before.1 parts.1)
 
-pub named-none : IsNamed []
+pub named-none : {most : ℕ} → IsNamed most []
 named-none = record { named = refl; different = different-none; few = omega arith }
 
-pub named-push : (names : List (List ℕ)) (name : List ℕ) → IsNamed names → is_name name ≡ true → has_name names name ≡ false → length names < most_rows → IsNamed (names ++ name ∷ [])
+pub named-push : {most : ℕ} (names : List (List ℕ)) (name : List ℕ) → IsNamed most names → is_name name ≡ true → has_name names name ≡ false → length names < most → IsNamed most (names ++ name ∷ [])
 named-push names name h good new room =
     record {
       named = list_all-append is_name names (name ∷ []) ∙ rw (h.named, good) refl;

@@ -82,7 +82,7 @@ module _ {R : Type 0} (change : R → R) where
 
 -- the row at a position, read and changed, takes the place of its name
 module _ {R : Type 0} (own : R → List ℕ) (change : R → R) (keeps : (x : R) → own (change x) ≡ own x) where
-  pub set-row : (rows : List R) (at : ℕ) (row changed : R) → at < length rows → IsNamed (map own rows) → row ≡ get_or rows at row → changed ≡ change row
+  pub set-row : {most : ℕ} (rows : List R) (at : ℕ) (row changed : R) → at < length rows → IsNamed most (map own rows) → row ≡ get_or rows at row → changed ≡ change row
       → swap_key (λ y. bytes_eq (own changed) (own y)) rows changed ≡ changed_at change at rows
   set-row rows at row changed lt h is made =
       let eq : R → R → Bool = λ x y. bytes_eq (own x) (own y) in

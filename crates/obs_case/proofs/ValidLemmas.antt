@@ -12,12 +12,12 @@ use Rattle.obs_case.specs.declared.rows.Node.{Node}
 use Rattle.obs_case.specs.declared.rows.Switch.{Switch}
 use Rattle.obs_case.specs.declared.table.AddFault.{AddFault}
 use Rattle.obs_case.specs.Flags.{with_absolute, with_branch_inservice, with_closed, with_meter_inservice}
-use Rattle.obs_case.specs.Tables.{IsNamed, IsValid, Tables, branch_names, candidate_names, has_name, meter_names, most_price, most_rows, no_rows, node_names, places, switch_names}
+use Rattle.obs_case.specs.Tables.{IsNamed, IsValid, Tables, branch_names, candidate_names, has_name, meter_names, most_price, most_rows, no_rows, no_rows_within, node_names, places, switch_names, usual_rows}
 use Rattle.obs_case.proofs.NameLemmas.{named-none, named-push}
 use Rattle.obs_case.proofs.RowLemmas.{All-changed, map-changed, length-changed}
 
-pub valid-no_rows : IsValid no_rows
-valid-no_rows =
+pub valid-no_rows_within : (most : ℕ) → most ≤ most_rows → IsValid (no_rows_within most)
+valid-no_rows_within most limit =
     record {
       nodes = named-none;
       switches = named-none;
@@ -29,19 +29,23 @@ valid-no_rows =
       meter_places = All-nil _;
       candidate_places = All-nil _;
       prices = All-nil _;
+      limit = limit;
     }
 
+pub valid-no_rows : IsValid no_rows
+valid-no_rows = valid-no_rows_within usual_rows (omega arith)
+
 -- one row more of a new name
-pub named-row : {R : Type 0} (own : R → List ℕ) (rows : List R) (row : R) → IsNamed (map own rows) → is_name (own row) ≡ true → has_name (map own rows) (own row) ≡ false → length (map own rows) < most_rows → IsNamed (map own (rows ++ row ∷ []))
-named-row own rows row h good new room = subst IsNamed (sym (map-append own rows (row ∷ []))) (named-push (map own rows) (own row) h good new room)
+pub named-row : {R : Type 0} {most : ℕ} (own : R → List ℕ) (rows : List R) (row : R) → IsNamed most (map own rows) → is_name (own row) ≡ true → has_name (map own rows) (own row) ≡ false → length (map own rows) < most → IsNamed most (map own (rows ++ row ∷ []))
+named-row {most = most} own rows row h good new room = subst (IsNamed most) (sym (map-append own rows (row ∷ []))) (named-push (map own rows) (own row) h good new room)
 
 -- the same after a row was refused or added
-grown : {R : Type 0} (own : R → List ℕ) (rows after : List R) (row : R) (result : Result ℕ AddFault) → IsNamed (map own rows) → is_name (own row) ≡ true → (length rows ≡ most_rows → ⊥)
-    → OnOk result (has_name (map own rows) (own row) ≡ false) → OnOk result (after ≡ rows ++ row ∷ []) → OnErr result (after ≡ rows) → IsNamed (map own after)
-grown own rows after row (Ok at) h good room new added same =
-    let fits : length (map own rows) < most_rows = omega (arith, length-map rows own, h.few, room) in
-    subst (λ l. IsNamed (map own l)) (sym added) (named-row own rows row h good new fits)
-grown own rows after row (Err e) h good room new added same = subst (λ l. IsNamed (map own l)) (sym same) h
+grown : {R : Type 0} {most : ℕ} (own : R → List ℕ) (rows after : List R) (row : R) (result : Result ℕ AddFault) → IsNamed most (map own rows) → is_name (own row) ≡ true → (length rows ≡ most → ⊥)
+    → OnOk result (has_name (map own rows) (own row) ≡ false) → OnOk result (after ≡ rows ++ row ∷ []) → OnErr result (after ≡ rows) → IsNamed most (map own after)
+grown {most = most} own rows after row (Ok at) h good room new added same =
+    let fits : length (map own rows) < most = omega (arith, length-map rows own, h.few, room) in
+    subst (λ l. IsNamed most (map own l)) (sym added) (named-row own rows row h good new fits)
+grown {most = most} own rows after row (Err e) h good room new added same = subst (λ l. IsNamed most (map own l)) (sym same) h
 
 -- each row of the table meets a fact where the new one does
 each : {R : Type 0} (P : R → Type 0) (rows after : List R) (row : R) (result : Result ℕ AddFault) → All P rows → P row → OnOk result (after ≡ rows ++ row ∷ []) → OnErr result (after ≡ rows) → All P after
@@ -68,7 +72,7 @@ more_at at kind rows t u nodes branches h =
     All-weaker (λ r. at r < places t (kind r)) (λ r. at r < places u (kind r)) (λ r within. omega (arith, more_places t u (kind r) nodes branches)) rows h
 
 module _ (t : Tables) (h : IsValid t) (result : Result ℕ AddFault) where
-  pub valid-nodes : (row : Node) (after : List Node) → is_name row.name ≡ true → (length t.nodes ≡ most_rows → ⊥)
+  pub valid-nodes : (row : Node) (after : List Node) → is_name row.name ≡ true → (length t.nodes ≡ t.most → ⊥)
       → OnOk result (has_name (node_names t) row.name ≡ false) → OnOk result (after ≡ t.nodes ++ row ∷ []) → OnErr result (after ≡ t.nodes) → IsValid (record t { nodes = after })
   valid-nodes row after good room new added same =
       let more = longer t.nodes after row result added same in
@@ -85,9 +89,10 @@ module _ (t : Tables) (h : IsValid t) (result : Result ℕ AddFault) where
         meter_places = more_at (λ (r : Meter). r.at) (λ (r : Meter). r.kind) t.meters t u more same_branches h.meter_places;
         candidate_places = more_at (λ (r : Candidate). r.at) (λ (r : Candidate). r.kind) t.candidates t u more same_branches h.candidate_places;
         prices = h.prices;
+        limit = h.limit;
       }
 
-  pub valid-switches : (row : Switch) (after : List Switch) → is_name row.name ≡ true → (length t.switches ≡ most_rows → ⊥) → (row.from < length t.nodes) × (row.to < length t.nodes)
+  pub valid-switches : (row : Switch) (after : List Switch) → is_name row.name ≡ true → (length t.switches ≡ t.most → ⊥) → (row.from < length t.nodes) × (row.to < length t.nodes)
       → OnOk result (has_name (switch_names t) row.name ≡ false) → OnOk result (after ≡ t.switches ++ row ∷ []) → OnErr result (after ≡ t.switches) → IsValid (record t { switches = after })
   valid-switches row after good room ends new added same =
       record {
@@ -101,9 +106,10 @@ module _ (t : Tables) (h : IsValid t) (result : Result ℕ AddFault) where
         meter_places = h.meter_places;
         candidate_places = h.candidate_places;
         prices = h.prices;
+        limit = h.limit;
       }
 
-  pub valid-branches : (row : Branch) (after : List Branch) → is_name row.name ≡ true → (length t.branches ≡ most_rows → ⊥) → (row.from < length t.nodes) × (row.to < length t.nodes)
+  pub valid-branches : (row : Branch) (after : List Branch) → is_name row.name ≡ true → (length t.branches ≡ t.most → ⊥) → (row.from < length t.nodes) × (row.to < length t.nodes)
       → OnOk result (has_name (branch_names t) row.name ≡ false) → OnOk result (after ≡ t.branches ++ row ∷ []) → OnErr result (after ≡ t.branches) → IsValid (record t { branches = after })
   valid-branches row after good room ends new added same =
       let more = longer t.branches after row result added same in
@@ -120,9 +126,10 @@ module _ (t : Tables) (h : IsValid t) (result : Result ℕ AddFault) where
         meter_places = more_at (λ (r : Meter). r.at) (λ (r : Meter). r.kind) t.meters t u same_nodes more h.meter_places;
         candidate_places = more_at (λ (r : Candidate). r.at) (λ (r : Candidate). r.kind) t.candidates t u same_nodes more h.candidate_places;
         prices = h.prices;
+        limit = h.limit;
       }
 
-  pub valid-meters : (row : Meter) (after : List Meter) → is_name row.name ≡ true → (length t.meters ≡ most_rows → ⊥) → row.at < places t row.kind
+  pub valid-meters : (row : Meter) (after : List Meter) → is_name row.name ≡ true → (length t.meters ≡ t.most → ⊥) → row.at < places t row.kind
       → OnOk result (has_name (meter_names t) row.name ≡ false) → OnOk result (after ≡ t.meters ++ row ∷ []) → OnErr result (after ≡ t.meters) → IsValid (record t { meters = after })
   valid-meters row after good room within new added same =
       record {
@@ -136,9 +143,10 @@ module _ (t : Tables) (h : IsValid t) (result : Result ℕ AddFault) where
         meter_places = each (λ (r : Meter). r.at < places t r.kind) t.meters after row result h.meter_places within added same;
         candidate_places = h.candidate_places;
         prices = h.prices;
+        limit = h.limit;
       }
 
-  pub valid-candidates : (row : Candidate) (after : List Candidate) → is_name row.name ≡ true → (length t.candidates ≡ most_rows → ⊥) → row.at < places t row.kind → row.price ≤ most_price
+  pub valid-candidates : (row : Candidate) (after : List Candidate) → is_name row.name ≡ true → (length t.candidates ≡ t.most → ⊥) → row.at < places t row.kind → row.price ≤ most_price
       → OnOk result (has_name (candidate_names t) row.name ≡ false) → OnOk result (after ≡ t.candidates ++ row ∷ []) → OnErr result (after ≡ t.candidates) → IsValid (record t { candidates = after })
   valid-candidates row after good room within price new added same =
       record {
@@ -152,6 +160,7 @@ module _ (t : Tables) (h : IsValid t) (result : Result ℕ AddFault) where
         meter_places = h.meter_places;
         candidate_places = each (λ (r : Candidate). r.at < places t r.kind) t.candidates after row result h.candidate_places within added same;
         prices = each (λ (r : Candidate). r.price ≤ most_price) t.candidates after row result h.prices price added same;
+        limit = h.limit;
       }
 
 module _ (t : Tables) (h : IsValid t) (at : ℕ) (flag : Bool) where
@@ -162,7 +171,7 @@ module _ (t : Tables) (h : IsValid t) (at : ℕ) (flag : Bool) where
       let same_length : length t.nodes ≤ length u.nodes = omega (arith, length-changed change t.nodes at) in
       let same_branches : length t.branches ≤ length t.branches = omega arith in
       record {
-        nodes = subst IsNamed (sym (map-changed change (λ (r : Node). r.name) (λ r. refl) t.nodes at)) h.nodes;
+        nodes = subst (IsNamed t.most) (sym (map-changed change (λ (r : Node). r.name) (λ r. refl) t.nodes at)) h.nodes;
         switches = h.switches;
         branches = h.branches;
         meters = h.meters;
@@ -172,6 +181,7 @@ module _ (t : Tables) (h : IsValid t) (at : ℕ) (flag : Bool) where
         meter_places = more_at (λ (r : Meter). r.at) (λ (r : Meter). r.kind) t.meters t u same_length same_branches h.meter_places;
         candidate_places = more_at (λ (r : Candidate). r.at) (λ (r : Candidate). r.kind) t.candidates t u same_length same_branches h.candidate_places;
         prices = h.prices;
+        limit = h.limit;
       }
 
   pub valid-with_closed : IsValid (with_closed t at flag)
@@ -179,7 +189,7 @@ module _ (t : Tables) (h : IsValid t) (at : ℕ) (flag : Bool) where
       let change : Switch → Switch = λ r. record r { closed = flag } in
       record {
         nodes = h.nodes;
-        switches = subst IsNamed (sym (map-changed change (λ (r : Switch). r.name) (λ r. refl) t.switches at)) h.switches;
+        switches = subst (IsNamed t.most) (sym (map-changed change (λ (r : Switch). r.name) (λ r. refl) t.switches at)) h.switches;
         branches = h.branches;
         meters = h.meters;
         candidates = h.candidates;
@@ -188,6 +198,7 @@ module _ (t : Tables) (h : IsValid t) (at : ℕ) (flag : Bool) where
         meter_places = h.meter_places;
         candidate_places = h.candidate_places;
         prices = h.prices;
+        limit = h.limit;
       }
 
   pub valid-with_branch_inservice : IsValid (with_branch_inservice t at flag)
@@ -199,7 +210,7 @@ module _ (t : Tables) (h : IsValid t) (at : ℕ) (flag : Bool) where
       record {
         nodes = h.nodes;
         switches = h.switches;
-        branches = subst IsNamed (sym (map-changed change (λ (r : Branch). r.name) (λ r. refl) t.branches at)) h.branches;
+        branches = subst (IsNamed t.most) (sym (map-changed change (λ (r : Branch). r.name) (λ r. refl) t.branches at)) h.branches;
         meters = h.meters;
         candidates = h.candidates;
         switch_ends = h.switch_ends;
@@ -207,6 +218,7 @@ module _ (t : Tables) (h : IsValid t) (at : ℕ) (flag : Bool) where
         meter_places = more_at (λ (r : Meter). r.at) (λ (r : Meter). r.kind) t.meters t u same_nodes same_length h.meter_places;
         candidate_places = more_at (λ (r : Candidate). r.at) (λ (r : Candidate). r.kind) t.candidates t u same_nodes same_length h.candidate_places;
         prices = h.prices;
+        limit = h.limit;
       }
 
   pub valid-with_meter_inservice : IsValid (with_meter_inservice t at flag)
@@ -216,11 +228,12 @@ module _ (t : Tables) (h : IsValid t) (at : ℕ) (flag : Bool) where
         nodes = h.nodes;
         switches = h.switches;
         branches = h.branches;
-        meters = subst IsNamed (sym (map-changed change (λ (r : Meter). r.name) (λ r. refl) t.meters at)) h.meters;
+        meters = subst (IsNamed t.most) (sym (map-changed change (λ (r : Meter). r.name) (λ r. refl) t.meters at)) h.meters;
         candidates = h.candidates;
         switch_ends = h.switch_ends;
         branch_ends = h.branch_ends;
         meter_places = All-changed change (λ (r : Meter). r.at < places t r.kind) (λ r within. within) t.meters at h.meter_places;
         candidate_places = h.candidate_places;
         prices = h.prices;
+        limit = h.limit;
       }

@@ -8,7 +8,7 @@ use Rattle.obs_case.specs.declared.rows.Node.{Node}
 use Rattle.obs_case.specs.declared.rows.Switch.{Switch}
 use Rattle.obs_case.specs.declared.table.AddFault.{AddFault}
 use Rattle.obs_case.specs.declared.table.AddFault.TheVariants.{NameTwice, UnknownNode, UnknownPlace, TooMany, NoMemory}
-use Rattle.obs_case.specs.Tables.{Tables, node_names, switch_names, branch_names, meter_names, candidate_names, has_name, place_of, place_names, most_rows}
+use Rattle.obs_case.specs.Tables.{Tables, node_names, switch_names, branch_names, meter_names, candidate_names, has_name, place_of, place_names}
 
 -- the number of a refusal
 abbrev pub add_fault_code : AddFault → ℕ
@@ -18,10 +18,10 @@ add_fault_code UnknownPlace = 3
 add_fault_code TooMany = 4
 add_fault_code NoMemory = 5
 
--- a full table takes no row, and no table a name that it has
-abbrev pub name_fault : List (List ℕ) → List ℕ → Option AddFault
-name_fault names name =
-    if length names == most_rows then Some TooMany else (if has_name names name then Some NameTwice else None)
+-- a table with as many rows as its limit takes no row, and no table a name that it has
+abbrev pub name_fault : ℕ → List (List ℕ) → List ℕ → Option AddFault
+name_fault most names name =
+    if length names == most then Some TooMany else (if has_name names name then Some NameTwice else None)
 
 -- both ends are nodes
 abbrev pub ends_fault : Tables → List ℕ → List ℕ → Option AddFault
@@ -38,19 +38,19 @@ first_fault (Some fault) later = Some fault
 
 -- why a row is refused, for each table
 abbrev pub node_fault : Tables → List ℕ → Option AddFault
-node_fault t name = name_fault (node_names t) name
+node_fault t name = name_fault t.most (node_names t) name
 
 abbrev pub switch_fault : Tables → List ℕ → List ℕ → List ℕ → Option AddFault
-switch_fault t name from to = first_fault (name_fault (switch_names t) name) (ends_fault t from to)
+switch_fault t name from to = first_fault (name_fault t.most (switch_names t) name) (ends_fault t from to)
 
 abbrev pub branch_fault : Tables → List ℕ → List ℕ → List ℕ → Option AddFault
-branch_fault t name from to = first_fault (name_fault (branch_names t) name) (ends_fault t from to)
+branch_fault t name from to = first_fault (name_fault t.most (branch_names t) name) (ends_fault t from to)
 
 abbrev pub meter_fault : Tables → List ℕ → Kind → List ℕ → Option AddFault
-meter_fault t name kind at = first_fault (name_fault (meter_names t) name) (place_fault t kind at)
+meter_fault t name kind at = first_fault (name_fault t.most (meter_names t) name) (place_fault t kind at)
 
 abbrev pub candidate_fault : Tables → List ℕ → Kind → List ℕ → Option AddFault
-candidate_fault t name kind at = first_fault (name_fault (candidate_names t) name) (place_fault t kind at)
+candidate_fault t name kind at = first_fault (name_fault t.most (candidate_names t) name) (place_fault t kind at)
 
 -- an answer that refuses a row: want of memory, or this fault
 abbrev pub Refuses : Option AddFault → AddFault → Type 0

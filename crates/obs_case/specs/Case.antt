@@ -2,7 +2,7 @@
 use Rattle.obs_case.specs.declared.case.Case.TheInside.{Inside}
 use Rattle.obs_case.specs.Tables.{Tables}
 
--- the rows of the five sets, in their order
+-- the rows of the five sets, in their order, and the limit
 abbrev pub tables_of : Inside → Tables
 tables_of c =
     record {
@@ -11,4 +11,5 @@ tables_of c =
       branches = c.branches.keys;
       meters = c.meters.keys;
       candidates = c.candidates.keys;
+      most = c.most;
     }

@@ -11,17 +11,30 @@ use Rattle.obs_case.specs.declared.rows.Meter.{Meter}
 use Rattle.obs_case.specs.declared.rows.Node.{Node}
 use Rattle.obs_case.specs.declared.rows.Switch.{Switch}
 
--- the five tables of a case
+-- the five tables of a case, and the most rows that each of them may have
 pub record Tables : Type 0 where
   pub nodes : List Node
   pub switches : List Switch
   pub branches : List Branch
   pub meters : List Meter
   pub candidates : List Candidate
+  pub most : ℕ
 
--- five tables without rows
+-- the highest limit of rows that a case may have
+abbrev pub most_rows : ℕ
+most_rows = 1000000
+
+-- the limit of rows that a case has where none is given
+abbrev pub usual_rows : ℕ
+usual_rows = 20000
+
+-- five tables without rows, under this limit
+abbrev pub no_rows_within : ℕ → Tables
+no_rows_within most = record { nodes = []; switches = []; branches = []; meters = []; candidates = []; most = most }
+
+-- the same under the usual limit
 abbrev pub no_rows : Tables
-no_rows = record { nodes = []; switches = []; branches = []; meters = []; candidates = [] }
+no_rows = no_rows_within usual_rows
 
 -- the names of each table's rows, in their order
 abbrev pub node_names : Tables → List (List ℕ)
@@ -74,29 +87,26 @@ unfoldable pub are_different : List (List ℕ) → Bool
 are_different [] = true
 are_different (name ∷ names) = not (has_name names name) && are_different names
 
--- the most rows of a table
-abbrev pub most_rows : ℕ
-most_rows = 20000
-
 -- the highest price
 abbrev pub most_price : ℕ
 most_price = 1000000000
 
--- a table's names are names, no two of them are equal, and there are at most 20,000
-pub record IsNamed (names : List (List ℕ)) : Type 0 where
+-- a table's names are names, no two of them are equal, and there are at most so many
+pub record IsNamed (most : ℕ) (names : List (List ℕ)) : Type 0 where
   pub named : IsTrue (list_all is_name names)
   pub different : IsTrue (are_different names)
-  pub few : length names ≤ most_rows
+  pub few : length names ≤ most
 
--- the tables are well named, positions are in range, and prices are in range
+-- the tables are well named, positions are in range, prices are in range, and the limit of rows is one that a case may have
 pub record IsValid (t : Tables) : Type 0 where
-  pub nodes : IsNamed (node_names t)
-  pub switches : IsNamed (switch_names t)
-  pub branches : IsNamed (branch_names t)
-  pub meters : IsNamed (meter_names t)
-  pub candidates : IsNamed (candidate_names t)
+  pub nodes : IsNamed t.most (node_names t)
+  pub switches : IsNamed t.most (switch_names t)
+  pub branches : IsNamed t.most (branch_names t)
+  pub meters : IsNamed t.most (meter_names t)
+  pub candidates : IsNamed t.most (candidate_names t)
   pub switch_ends : All (λ row. (row.from < length t.nodes) × (row.to < length t.nodes)) t.switches
   pub branch_ends : All (λ row. (row.from < length t.nodes) × (row.to < length t.nodes)) t.branches
   pub meter_places : All (λ row. row.at < places t row.kind) t.meters
   pub candidate_places : All (λ row. row.at < places t row.kind) t.candidates
   pub prices : All (λ row. row.price ≤ most_price) t.candidates
+  pub limit : t.most ≤ most_rows

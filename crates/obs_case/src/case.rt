@@ -4,8 +4,9 @@ ghost use Rattle.obs_text.specs.Names.{is_name};
 ghost use Rattle.obs_case.specs.Adds.{Refuses, branch_fault, branch_of, candidate_fault, candidate_of, meter_fault, meter_of, node_fault, node_of, place_fault, switch_fault, switch_of, with_branch, with_candidate, with_meter, with_node, with_switch};
 ghost use Rattle.obs_case.specs.Flags.{with_absolute, with_branch_inservice, with_closed, with_meter_inservice};
 ghost use Rattle.obs_case.specs.Items.{is_angle, is_angle_kind};
-ghost use Rattle.obs_case.specs.Tables.{IsValid, branch_names, candidate_names, meter_names, most_price, no_rows, node_names, place_names, place_of, position_of, switch_names};
+ghost use Rattle.obs_case.specs.Tables.{IsValid, branch_names, candidate_names, meter_names, most_price, most_rows, no_rows, no_rows_within, node_names, place_names, place_of, position_of, switch_names};
 
+use crate::limits::USUAL_ROWS;
 use crate::name::Name;
 use crate::rows::{Branch, Candidate, Kind, Meter, Node, Switch};
 use crate::table::{AddFault, FoundPlace, add, find, find_ends, find_place, let_go, put};
@@ -13,14 +14,16 @@ use indexmap::IndexSet;
 use std::alloc::Global;
 use std::marker::Model;
 
-/// Five tables. Names are unique in each, positions are in range, a table has at most 20,000 rows
-/// and a price is at most 1,000,000,000.
+/// Five tables. Names are unique in each, positions are in range, a table has at most as many rows
+/// as the case's limit and a price is at most 1,000,000,000. The limit is given when the case is
+/// made, and stays as it is.
 pub struct Case {
     nodes: IndexSet<Node>,
     switches: IndexSet<Switch>,
     branches: IndexSet<Branch>,
     meters: IndexSet<Meter>,
     candidates: IndexSet<Candidate>,
+    most: u32,
 }
 
 impl Model for Case {
@@ -44,6 +47,7 @@ impl Drop for Case {
             branches,
             meters,
             candidates,
+            most: _,
         } = self;
         let_go(nodes);
         let_go(switches);
@@ -61,9 +65,17 @@ fn is_angle_kind(kind: Kind) -> bool
 }
 
 impl Case {
-    /// Five empty tables. Takes no memory.
+    /// Five empty tables, of which each may have at most 20,000 rows. Takes no memory.
     pub fn new(alloc: Global) -> Case
         ensures empty { result ≡ no_rows }
+    {
+        Case::within(alloc, USUAL_ROWS as u32)
+    }
+
+    /// Five empty tables, of which each may have at most so many rows. Takes no memory.
+    pub fn within(alloc: Global, most: u32) -> Case
+        requires limit { most ≤ most_rows }
+        ensures empty { result ≡ no_rows_within most }
     {
         Case {
             nodes: IndexSet::new(alloc),
@@ -71,7 +83,16 @@ impl Case {
             branches: IndexSet::new(alloc),
             meters: IndexSet::new(alloc),
             candidates: IndexSet::new(alloc),
+            most,
         }
+    }
+
+    /// The most rows that each table may have.
+    pub fn most(&self) -> u32
+        ensures limit { result ≡ self.now.most }
+        ensures few { result ≤ most_rows }
+    {
+        self.most
     }
 
     pub fn nodes(&self) -> &[Node]
@@ -187,7 +208,7 @@ impl Case {
             source,
             absolute: false,
         };
-        add(&mut self.nodes, row, None)
+        add(&mut self.nodes, self.most, row, None)
     }
 
     /// Adds a switch between two nodes, which may be one, and answers its position.
@@ -214,7 +235,7 @@ impl Case {
             to: ends.to,
             closed,
         };
-        add(&mut self.switches, row, ends.fault)
+        add(&mut self.switches, self.most, row, ends.fault)
     }
 
     /// Adds a branch between two nodes, which may be one, and answers its position.
@@ -241,7 +262,7 @@ impl Case {
             to: ends.to,
             inservice,
         };
-        add(&mut self.branches, row, ends.fault)
+        add(&mut self.branches, self.most, row, ends.fault)
     }
 
     /// Adds a meter at a branch, where it measures a flow, and else at a node, and answers its position.
@@ -268,7 +289,7 @@ impl Case {
             at: place.at,
             inservice,
         };
-        add(&mut self.meters, row, place.fault)
+        add(&mut self.meters, self.most, row, place.fault)
     }
 
     /// Adds a candidate at a branch, where it measures a flow, and else at a node, and answers its position.
@@ -296,7 +317,7 @@ impl Case {
             at: place.at,
             price,
         };
-        add(&mut self.candidates, row, place.fault)
+        add(&mut self.candidates, self.most, row, place.fault)
     }
 
     /// Marks a node absolute, or takes the mark away. Takes no memory.

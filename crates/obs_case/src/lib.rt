@@ -8,7 +8,7 @@ mod rows;
 mod table;
 
 pub use case::Case;
-pub use limits::{MOST_PRICE, MOST_ROWS};
+pub use limits::{MOST_PRICE, MOST_ROWS, USUAL_ROWS};
 pub use name::Name;
 pub use rows::{Branch, Candidate, Kind, Meter, Node, Switch};
 pub use table::AddFault;

@@ -7,7 +7,6 @@ ghost use Rattle.obs_text.specs.Names.{is_name};
 ghost use Rattle.obs_case.specs.Adds.{Refuses, add_fault_code, first_fault, name_fault};
 ghost use Rattle.obs_case.specs.Tables.{has_name, most_rows, place_of, position_of};
 
-use crate::limits::MOST_ROWS;
 use crate::name::{LONGEST, Name};
 use crate::rows::{Branch, Candidate, Kind, Meter, Node, Switch};
 use indexmap::IndexSet;
@@ -22,7 +21,7 @@ pub enum AddFault {
     UnknownNode = 2,
     /// The place names no branch for a flow, or no node for another kind.
     UnknownPlace = 3,
-    /// The table has 20,000 rows.
+    /// The table has as many rows as the case's limit.
     TooMany = 4,
     /// There was no memory for the row.
     NoMemory = 5,
@@ -215,12 +214,17 @@ pub(crate) fn find_ends(nodes: &IndexSet<Node>, from: &[u8], to: &[u8]) -> Found
 
 // Why a row isn't added, as far as that is told before it is tried: the table is full, or there is another fault, and a name
 // that the table has stands before that one.
-fn refusal<R: Row>(rows: &IndexSet<R>, row: &R, other: Option<AddFault>) -> Option<AddFault>
+fn refusal<R: Row>(
+    rows: &IndexSet<R>,
+    most: u32,
+    row: &R,
+    other: Option<AddFault>,
+) -> Option<AddFault>
     ensures fault { IfSome result (λ fault.
-        first_fault (name_fault (map R.own_name rows.now.keys) (R.own_name row.now)) other ≡ Some fault) }
-    ensures none { result ≡ None → (other ≡ None) × (length rows.now.keys ≢ most_rows) }
+        first_fault (name_fault most (map R.own_name rows.now.keys) (R.own_name row.now)) other ≡ Some fault) }
+    ensures none { result ≡ None → (other ≡ None) × (length rows.now.keys ≢ most) }
 {
-    if rows.len() == MOST_ROWS {
+    if rows.len() == most as usize {
         return Some(AddFault::TooMany);
     }
     if other.is_some() && rows.contains(row) {
@@ -233,19 +237,20 @@ fn refusal<R: Row>(rows: &IndexSet<R>, row: &R, other: Option<AddFault>) -> Opti
 // given.
 pub(crate) fn add<R: Row>(
     rows: &mut IndexSet<R>,
+    most: u32,
     row: R,
     other: Option<AddFault>,
 ) -> Result<u32, AddFault>
     requires few { length rows.old.keys ≤ most_rows }
     ensures accepted { OnOk result
-        (first_fault (name_fault (map R.own_name rows.old.keys) (R.own_name row)) other ≡ None) }
+        (first_fault (name_fault most (map R.own_name rows.old.keys) (R.own_name row)) other ≡ None) }
     ensures refused { IfErr result
-        (Refuses (first_fault (name_fault (map R.own_name rows.old.keys) (R.own_name row)) other)) }
+        (Refuses (first_fault (name_fault most (map R.own_name rows.old.keys) (R.own_name row)) other)) }
     ensures position { IfOk result (λ at. at ≡ length rows.old.keys) }
     ensures added { OnOk result (rows.new.keys ≡ rows.old.keys ++ row ∷ []) }
     ensures unchanged { OnErr result (rows.new.keys ≡ rows.old.keys) }
 {
-    if let Some(fault) = refusal(rows, &row, other) {
+    if let Some(fault) = refusal(rows, most, &row, other) {
         return Err(fault);
     }
     let Ok((at, new)) = rows.insert_full(row) else {

@@ -2,15 +2,15 @@
 use Rattle.std.proofs.Common.{ℕ, ◌≡◌, ◌∙◌, ◌<◌, ◌≤◌, inl, inr, ap, refl, sym, subst, List, [], ◌∷◌, Option, Some, None, Result, Ok, Err, MatchOption, MatchResult, arith, map, suc}
 use Rattle.obs_case.specs.declared.rows.Candidate.{Candidate}
 use Rattle.obs_case.specs.declared.rows.Meter.{Meter}
-use Rattle.obs_case.specs.Tables.{IsValid, Tables, branch_names, candidate_names, meter_names, no_rows, switch_names}
-use Rattle.obs_case.proofs.ValidLemmas.{valid-no_rows}
+use Rattle.obs_case.specs.Tables.{IsValid, Tables, branch_names, candidate_names, meter_names, most_rows, no_rows_within, switch_names, usual_rows}
+use Rattle.obs_case.proofs.ValidLemmas.{valid-no_rows_within}
 use Rattle.obs_case_csv.specs.declared.faults.RowFault.{RowFault}
 use Rattle.obs_case_csv.specs.declared.faults.Table.{Table}
 use Rattle.obs_case_csv.specs.declared.faults.Table.TheVariants.{Nodes, Switches, Branches, Meters, Candidates}
 use Rattle.obs_case_csv.specs.declared.faults.TableFault.{TableFault}
 use Rattle.obs_case_csv.specs.Fields.{Record}
 use Rattle.obs_case_csv.specs.IsFault.{IsFault, IsFaultAmong, NotAfter, NotAfterAmong, place_of_table}
-use Rattle.obs_case_csv.specs.Laws.{FirstFaultBehindFile, FirstFaultOfCase, FirstFaultOfSwitching}
+use Rattle.obs_case_csv.specs.Laws.{FirstFaultBehindFile, FirstFaultOfCase, FirstFaultOfCaseWithin, FirstFaultOfSwitching, FirstFaultOfSwitchingWithin}
 use Rattle.obs_case_csv.specs.OneTable.{HasRows, IsTableOf}
 use Rattle.obs_case_csv.specs.Read.{fault_in, rows_in, tables_or, then_read}
 use Rattle.obs_case_csv.specs.Rows.{names_in}
@@ -117,23 +117,30 @@ among (file ∷ files) low t valid rise still =
         (subst (λ r. MatchResult r (λ u. HasNone (file ∷ files) t) (IsFirst (file ∷ files) t)) (sym (reads-fault files fault))
         (here file.0 file.1 files t valid (still file.0 rise.0) fault e))
 
-no_rows-open : IsOpen 0 no_rows
-no_rows-open Nodes le = refl
-no_rows-open Switches le = refl
-no_rows-open Branches le = refl
-no_rows-open Meters le = refl
-no_rows-open Candidates le = refl
+no_rows-open : (most : ℕ) → IsOpen 0 (no_rows_within most)
+no_rows-open most Nodes le = refl
+no_rows-open most Switches le = refl
+no_rows-open most Branches le = refl
+no_rows-open most Meters le = refl
+no_rows-open most Candidates le = refl
+
+pub FirstFaultOfCaseWithin-holds : (most : ℕ) → most ≤ most_rows → FirstFaultOfCaseWithin most
+FirstFaultOfCaseWithin-holds most limit nodes switches branches meters None =
+    among ((Nodes, nodes) ∷ (Switches, switches) ∷ (Branches, branches) ∷ (Meters, meters) ∷ []) 0 (no_rows_within most) (valid-no_rows_within most limit)
+    (omega arith, (omega arith, (omega arith, (omega arith, tt)))) (no_rows-open most)
+FirstFaultOfCaseWithin-holds most limit nodes switches branches meters (Some bytes) =
+    among ((Nodes, nodes) ∷ (Switches, switches) ∷ (Branches, branches) ∷ (Meters, meters) ∷ (Candidates, bytes) ∷ []) 0 (no_rows_within most) (valid-no_rows_within most limit)
+    (omega arith, (omega arith, (omega arith, (omega arith, (omega arith, tt))))) (no_rows-open most)
+
+pub FirstFaultOfSwitchingWithin-holds : (most : ℕ) → most ≤ most_rows → FirstFaultOfSwitchingWithin most
+FirstFaultOfSwitchingWithin-holds most limit nodes switches =
+    among ((Nodes, nodes) ∷ (Switches, switches) ∷ []) 0 (no_rows_within most) (valid-no_rows_within most limit) (omega arith, (omega arith, tt)) (no_rows-open most)
 
 pub FirstFaultOfCase-holds : FirstFaultOfCase
-FirstFaultOfCase-holds nodes switches branches meters None =
-    among ((Nodes, nodes) ∷ (Switches, switches) ∷ (Branches, branches) ∷ (Meters, meters) ∷ []) 0 no_rows valid-no_rows (omega arith, (omega arith, (omega arith, (omega arith, tt)))) no_rows-open
-FirstFaultOfCase-holds nodes switches branches meters (Some bytes) =
-    among ((Nodes, nodes) ∷ (Switches, switches) ∷ (Branches, branches) ∷ (Meters, meters) ∷ (Candidates, bytes) ∷ []) 0 no_rows valid-no_rows
-    (omega arith, (omega arith, (omega arith, (omega arith, (omega arith, tt))))) no_rows-open
+FirstFaultOfCase-holds = FirstFaultOfCaseWithin-holds usual_rows (omega arith)
 
 pub FirstFaultOfSwitching-holds : FirstFaultOfSwitching
-FirstFaultOfSwitching-holds nodes switches =
-    among ((Nodes, nodes) ∷ (Switches, switches) ∷ []) 0 no_rows valid-no_rows (omega arith, (omega arith, tt)) no_rows-open
+FirstFaultOfSwitching-holds = FirstFaultOfSwitchingWithin-holds usual_rows (omega arith)
 
 -- where meters and candidates are to come
 behind-open : (t : Tables) → t.meters ≡ [] → t.candidates ≡ [] → IsOpen 3 t

@@ -75,11 +75,11 @@ module _ (table : Table) (t : Tables) (empty : names_in table t ≡ []) where
       by None columns None e = (length rows + 1, at-end header rows columns e)
 
 pub RowsBeforeFault-holds : RowsBeforeFault
-RowsBeforeFault-holds table t bytes fault empty e = at-fault table t empty (table_records bytes) fault e
+RowsBeforeFault-holds table t bytes fault empty e = at-fault table t empty (table_records t.most bytes) fault e
 
 pub RowsBeforeSome-holds : RowsBeforeSome
 RowsBeforeSome-holds table t u bytes empty first =
-    let all = table_records bytes in
+    let all = table_records t.most bytes in
     let some = anywhere table t empty (take first.0 all) in
     let more = longer table some.0 (take first.0 all) (drop first.0 all) t (rows_of_records table t (take first.0 all)) some.1 in
     (some.0, subst (HasRowsBefore table some.0 all t) (sym first.1) (subst (λ l. HasRowsBefore table some.0 l t (rows_of_records table t (take first.0 all))) (take-append-drop first.0 all) more))

@@ -251,4 +251,4 @@ module _ (table : Table) (t : Tables) (valid : IsValid t) (empty : names_in tabl
           (of-rows header rows e (first_fault table header t rows) refl)
 
 pub FirstFault-holds : FirstFault
-FirstFault-holds table t bytes valid empty = of-records table t valid empty (table_records bytes)
+FirstFault-holds table t bytes valid empty = of-records table t valid empty (table_records t.most bytes)

@@ -5,6 +5,7 @@ pub mod CaseLemmas
 pub mod ExactLemmas
 pub mod FieldLemmas
 pub mod FirstLemmas
+pub mod LimitLemmas
 pub mod ReadLemmas
 pub mod ReadingLemmas
 pub mod RecordLemmas

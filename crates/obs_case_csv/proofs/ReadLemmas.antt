@@ -100,12 +100,26 @@ module _ (table : Table) (Keeps : Tables → Tables → Type 0) (none : (t : Tab
         | false ↦ none t
       ]
 
+-- and so the limit stays
+row-keeps_most : (table : Table) (header : Record) (t u : Tables) (row : Record) → u.most ≡ (with_record table header t row).most → u.most ≡ t.most
+row-keeps_most Nodes header t u row later = later
+row-keeps_most Switches header t u row later = later
+row-keeps_most Branches header t u row later = later
+row-keeps_most Meters header t u row later = later
+row-keeps_most Candidates header t u row later = later
+
+pub rows_before-most : (table : Table) (header : Record) (t : Tables) (rows : List Record) → (rows_before table header t rows).most ≡ t.most
+rows_before-most table = keeps-rows_before table (λ t u. u.most ≡ t.most) (λ t. refl) (row-keeps_most table)
+
+pub rows_in-most : (table : Table) (t : Tables) (bytes : List ℕ) → (rows_in table t bytes).most ≡ t.most
+rows_in-most table t bytes = keeps-rows_of_records table (λ t u. u.most ≡ t.most) (λ t. refl) (row-keeps_most table) t (table_records t.most bytes)
+
 -- rows of one table leave the names of another
 module _ (table other : Table) (stays : (header : Record) (t : Tables) (row : Record) → names_in other (with_record table header t row) ≡ names_in other t) where
   pub other_names : (bytes : List ℕ) (old new : Tables) → HoldsFirstRows table bytes old new → names_in other new ≡ names_in other old
   other_names bytes old new first =
       ap (names_in other) first.1
-      ∙ keeps-rows_of_records table (λ t u. names_in other u ≡ names_in other t) (λ t. refl) (λ header t u row later. later ∙ stays header t row) old (take first.0 (table_records bytes))
+      ∙ keeps-rows_of_records table (λ t u. names_in other u ≡ names_in other t) (λ t. refl) (λ header t u row later. later ∙ stays header t row) old (take first.0 (table_records old.most bytes))
 
 -- and all rows of the other tables
 no_row-stays : (table : Table) (t : Tables) → SameBut table t t
@@ -129,7 +143,7 @@ OtherTablesStay-holds table = keeps-rows_of_records table (SameBut table) (no_ro
 pub record IsReading (table : Table) (bytes : List ℕ) (old now : Tables) (places : Places) (number : ℕ) (unread : List Record) : Type 0 where
   pub header : Record
   pub done : List Record
-  pub records_are : table_records bytes ≡ header ∷ (done ++ unread)
+  pub records_are : table_records old.most bytes ≡ header ∷ (done ++ unread)
   pub places_are : ArePlaces table header places
   pub header_fine : header_fault table header ≡ None
   pub done_fine : first_fault table header old done ≡ None
@@ -152,7 +166,7 @@ header-none table old header rows e = by (header_fault table header) refl e
     by (Some code) is e = cc
 
 module _ (table : Table) (bytes : List ℕ) (old now : Tables) (places : Places) (number : ℕ) where
-  pub reading-starts : (header : Record) (unread : List Record) → table_records bytes ≡ header ∷ unread → ArePlaces table header places → header_fault table header ≡ None
+  pub reading-starts : (header : Record) (unread : List Record) → table_records old.most bytes ≡ header ∷ unread → ArePlaces table header places → header_fault table header ≡ None
       → now ≡ old → number ≡ next_row table old → IsReading table bytes old now places number unread
   reading-starts header unread records at fine same first =
       record {
@@ -178,6 +192,9 @@ module _ (table : Table) (bytes : List ℕ) (old now : Tables) (places : Places)
         first_of : (xs ys : List Record) → take (length xs) (xs ++ ys) ≡ xs
         first_of [] ys = refl
         first_of (x ∷ xs) ys = ap (λ l. x ∷ l) (first_of xs ys)
+
+    pub reading-most : now.most ≡ old.most
+    reading-most = ap (λ (t : Tables). t.most) h.now_is ∙ rows_before-most table h.header old h.done
 
     -- what the whole table gives is what the unread records give
     pub reading-fault : fault_in table old bytes ≡ first_fault table h.header now unread

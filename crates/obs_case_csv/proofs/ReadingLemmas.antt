@@ -12,7 +12,7 @@ use Rattle.obs_case.specs.declared.rows.Meter.{Meter}
 use Rattle.obs_case.specs.declared.rows.Node.{Node}
 use Rattle.obs_case.specs.declared.rows.Switch.{Switch}
 use Rattle.obs_case.specs.Adds.{branch_of, candidate_of, meter_of, switch_of}
-use Rattle.obs_case.specs.Tables.{Tables, branch_names, candidate_names, has_name, meter_names, most_rows, node_names, place_names, place_of, position_of, switch_names}
+use Rattle.obs_case.specs.Tables.{Tables, branch_names, candidate_names, has_name, meter_names, node_names, place_names, place_of, position_of, switch_names}
 use Rattle.obs_case.proofs.NameLemmas.{position-some, position-there}
 use Rattle.obs_case_csv.specs.declared.faults.RowFault.{RowFault}
 use Rattle.obs_case_csv.specs.declared.faults.RowFault.TheVariants.{ShortRow, TooMany}
@@ -58,13 +58,13 @@ read_value read (Some bytes) x h = h
 
 -- a row that isn't refused, before its fields are read
 pub row_fault-parts : (table : Table) (header : Record) (t : Tables) (row : Record) → row_fault table header t row ≡ None
-    → (nat_eq (length (names_in table t)) most_rows ≡ false) × (is_short (read_columns table) header row ≡ false) × (fields_fault table t (field_of header row) ≡ None)
+    → (nat_eq (length (names_in table t)) t.most ≡ false) × (is_short (read_columns table) header row ≡ false) × (fields_fault table t (field_of header row) ≡ None)
 row_fault-parts table header t row h =
-    let full = unless (nat_eq (length (names_in table t)) most_rows) TooMany _ h in
+    let full = unless (nat_eq (length (names_in table t)) t.most) TooMany _ h in
     let short = unless (is_short (read_columns table) header row) ShortRow _ full.1 in
     (full.0, short.0, short.1)
 
-pub row_fault-from : (table : Table) (header : Record) (t : Tables) (row : Record) → nat_eq (length (names_in table t)) most_rows ≡ false → is_short (read_columns table) header row ≡ false
+pub row_fault-from : (table : Table) (header : Record) (t : Tables) (row : Record) → nat_eq (length (names_in table t)) t.most ≡ false → is_short (read_columns table) header row ≡ false
     → fields_fault table t (field_of header row) ≡ None → row_fault table header t row ≡ None
 row_fault-from table header t row full short fine = rw (full, short) fine
 
@@ -230,7 +230,7 @@ module _ (header : Record) (t : Tables) (row : Record) where
 
 -- a record that is a row of a new name isn't refused, and is that row
 module _ (header : Record) (t : Tables) (row : Record) where
-  pub node-fits : (x : Node) → nat_eq (length (node_names t)) most_rows ≡ false → IsNode t header row x → is_name x.name ≡ true → has_name (node_names t) x.name ≡ false
+  pub node-fits : (x : Node) → nat_eq (length (node_names t)) t.most ≡ false → IsNode t header row x → is_name x.name ≡ true → has_name (node_names t) x.name ≡ false
       → (row_fault Nodes header t row ≡ None) × (node_made header t row ≡ x)
   node-fits x room h good new =
       let name = own_field header row (codes "node") x.name h.name in
@@ -251,7 +251,7 @@ module _ (header : Record) (t : Tables) (row : Record) where
       let b = at_named (node_names t) to k q in
       (ap not (and_from (has_name (node_names t) from) (has_name (node_names t) to) a.0 b.0), sym a.1, sym b.1)
 
-  pub switch-fits : (x : Switch) → nat_eq (length (switch_names t)) most_rows ≡ false → IsSwitch t header row x → is_name x.name ≡ true → has_name (switch_names t) x.name ≡ false
+  pub switch-fits : (x : Switch) → nat_eq (length (switch_names t)) t.most ≡ false → IsSwitch t header row x → is_name x.name ≡ true → has_name (switch_names t) x.name ≡ false
       → (row_fault Switches header t row ≡ None) × (switch_made header t row ≡ x)
   switch-fits x room h good new =
       let name = own_field header row (codes "switch") x.name h.name in
@@ -267,7 +267,7 @@ module _ (header : Record) (t : Tables) (row : Record) where
         λ j. record { name = name j; from = ends.1 j; to = ends.2 j; closed = unwrap_or (closed j) false },
       )
 
-  pub branch-fits : (x : Branch) → nat_eq (length (branch_names t)) most_rows ≡ false → IsBranch t header row x → is_name x.name ≡ true → has_name (branch_names t) x.name ≡ false
+  pub branch-fits : (x : Branch) → nat_eq (length (branch_names t)) t.most ≡ false → IsBranch t header row x → is_name x.name ≡ true → has_name (branch_names t) x.name ≡ false
       → (row_fault Branches header t row ≡ None) × (branch_made header t row ≡ x)
   branch-fits x room h good new =
       let name = own_field header row (codes "branch") x.name h.name in
@@ -290,7 +290,7 @@ module _ (header : Record) (t : Tables) (row : Record) where
       let a = at_named (place_names t k) at i p in
       (ap (λ o. not (has_place t o at)) e ∙ ap not a.0, ap (λ o. place_of (place_names t (unwrap_or o Zero)) at) e ∙ sym a.1)
 
-  pub meter-fits : (x : Meter) → nat_eq (length (meter_names t)) most_rows ≡ false → IsMeter t header row x → is_name x.name ≡ true → has_name (meter_names t) x.name ≡ false
+  pub meter-fits : (x : Meter) → nat_eq (length (meter_names t)) t.most ≡ false → IsMeter t header row x → is_name x.name ≡ true → has_name (meter_names t) x.name ≡ false
       → (row_fault Meters header t row ≡ None) × (meter_made header t row ≡ x)
   meter-fits x room h good new =
       let name = own_field header row (codes "meter") x.name h.name in
@@ -306,7 +306,7 @@ module _ (header : Record) (t : Tables) (row : Record) where
         λ j. record { name = name j; kind = unwrap_or (known j) Zero; at = place.1 j; inservice = unwrap_or (inservice j) false },
       )
 
-  pub candidate-fits : (x : Candidate) → nat_eq (length (candidate_names t)) most_rows ≡ false → IsCandidate t header row x → is_name x.name ≡ true → has_name (candidate_names t) x.name ≡ false
+  pub candidate-fits : (x : Candidate) → nat_eq (length (candidate_names t)) t.most ≡ false → IsCandidate t header row x → is_name x.name ≡ true → has_name (candidate_names t) x.name ≡ false
       → (row_fault Candidates header t row ≡ None) × (candidate_made header t row ≡ x)
   candidate-fits x room h good new =
       let name = own_field header row (codes "candidate") x.name h.name in

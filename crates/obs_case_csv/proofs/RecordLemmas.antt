@@ -1,5 +1,5 @@
 -- The records that come one by one are those of the text.
-use Rattle.std.proofs.Common.{inl, ◌∙◌, Bool, false, Bor, ℕ, ◌≡◌, ap, refl, sym, List, [], ◌∷◌, Option, None, Some, true, zero, suc, Result, Ok, Err, IfErr, IfOk, OnOk}
+use Rattle.std.proofs.Common.{inl, ◌∙◌, ◌+◌, arith, subst, Bool, false, Bor, ℕ, ◌≡◌, ap, refl, sym, List, [], ◌∷◌, Option, None, Some, true, zero, suc, Result, Ok, Err, IfErr, IfOk, OnOk}
 use Rattle.std.proofs.lemmas.Bool.{false≢true}
 use Rattle.csv.specs.Machine.{Read, next_record}
 use Rattle.csv.proofs.ReadFacts.{rows-end}
@@ -12,6 +12,7 @@ use Rattle.csv.specs.declared.error.ErrorKind.{ErrorKind}
 use Rattle.csv.specs.declared.reader.Trim.TheVariants as trim
 use Rattle.csv.specs.declared.error.ErrorKind.TheVariants as kind
 use Rattle.obs_case_csv.specs.Fields.{Record}
+use Rattle.obs_case_csv.specs.Read.{most_records}
 use Rattle.obs_case_csv.specs.Records.{BytesReader, Gives, IsFromOutside, ReadsFirst}
 
 -- a record that was read is the first of those that are left
@@ -50,6 +51,10 @@ gives_first a b true row most rows read first flexible h =
 gives_first a b false row most rows read first flexible h =
     let last = rows-end (λ (s : Bor (List ℕ)). Some s.now) a b row default_config h.unread h.config h.source read in
     h.rows_are ∙ records_end default_config a.state h.unread (suc most) last
+
+-- a header is asked for first
+pub gives-header : (reader : BytesReader) (most : ℕ) (rows : List Record) → Gives reader (most_records most) rows → Gives reader (suc (most + 1)) rows
+gives-header reader most rows h = let turn : most_records most ≡ suc (most + 1) = omega arith in subst (λ n. Gives reader n rows) turn h
 
 -- where none is asked for there is none
 pub gives-none : (reader : BytesReader) (most : ℕ) (rows : List Record) → most ≡ 0 → Gives reader most rows → rows ≡ []

@@ -1,9 +1,9 @@
 -- Why a header or a row is refused: the lowest of the codes whose tests hold.
 use Rattle.std.proofs.Common.{ℕ, ◌≡◌, ◌∙◌, ◌+◌, ◌≤◌, ◌⊎◌, inl, inr, ap, refl, sym, subst, List, [], ◌∷◌, length, Bool, not, true, false, arith, Option, Some, None, if◌then◌else◌, nat_eq}
-use Rattle.std.proofs.lemmas.Bool.{cases_Bool, eqb-false, eqb-true, false≢true, ne_eqb}
+use Rattle.std.proofs.lemmas.Bool.{eq-eqb, cases_Bool, eqb-false, eqb-true, false≢true, ne_eqb}
 use Rattle.std.specs.List.{list_any}
 use Rattle.obs_text.specs.Names.{is_name}
-use Rattle.obs_case.specs.Tables.{IsValid, Tables, has_name, most_rows}
+use Rattle.obs_case.specs.Tables.{IsValid, Tables, has_name}
 use Rattle.obs_case_csv.specs.declared.faults.RowFault.{RowFault}
 use Rattle.obs_case_csv.specs.declared.faults.RowFault.TheVariants.{NoHeader, ColumnMissing, ColumnTwice, ShortRow, BadName, BadFlag, BadKind, BadPrice, NameTwice, UnknownNode, UnknownPlace, TooMany}
 use Rattle.obs_case_csv.specs.declared.faults.Table.{Table}
@@ -135,18 +135,18 @@ module _ (table : Table) (t : Tables) (header row : Record) where
   rise : Rise 4 row_tests
   rise = (omega arith, (omega arith, (omega arith, (omega arith, (omega arith, (omega arith, (omega arith, (omega arith, tt))))))))
 
--- a row that isn't row 20,001 is refused for the lowest test that holds
-row_fault-tests : (table : Table) (t : Tables) (header row : Record) → nat_eq (length (names_in table t)) most_rows ≡ false → row_fault table header t row ≡ lowest (row_tests table t header row)
+-- a row that isn't the row behind the limit is refused for the lowest test that holds
+row_fault-tests : (table : Table) (t : Tables) (header row : Record) → nat_eq (length (names_in table t)) t.most ≡ false → row_fault table header t row ≡ lowest (row_tests table t header row)
 row_fault-tests Nodes t header row room = rw room refl
 row_fault-tests Switches t header row room = rw room refl
 row_fault-tests Branches t header row room = rw room refl
 row_fault-tests Meters t header row room = rw room refl
 row_fault-tests Candidates t header row room = rw room refl
 
-row_fault-full : (table : Table) (t : Tables) (header row : Record) → nat_eq (length (names_in table t)) most_rows ≡ true → row_fault table header t row ≡ Some TooMany
+row_fault-full : (table : Table) (t : Tables) (header row : Record) → nat_eq (length (names_in table t)) t.most ≡ true → row_fault table header t row ≡ Some TooMany
 row_fault-full table t header row full = rw full refl
 
-few_names : (table : Table) (t : Tables) → IsValid t → length (names_in table t) ≤ most_rows
+few_names : (table : Table) (t : Tables) → IsValid t → length (names_in table t) ≤ t.most
 few_names Nodes t v = v.nodes.few
 few_names Switches t v = v.switches.few
 few_names Branches t v = v.branches.few
@@ -155,18 +155,18 @@ few_names Candidates t v = v.candidates.few
 
 -- the fault of the row of this number
 abbrev pub Has : RowFault → ℕ → Table → Tables → Record → Record → Type 0
-Has code number table t header row = ((number ≡ most_rows + 1) × (code ≡ TooMany)) ⊎ ((number ≤ most_rows) × RowHas code table t header row)
+Has code number table t header row = ((number ≡ t.most + 1) × (code ≡ TooMany)) ⊎ ((number ≤ t.most) × RowHas code table t header row)
 
 module _ (table : Table) (t : Tables) (header row : Record) (number : ℕ) (is : number ≡ length (names_in table t) + 1) (code : RowFault) where
   pub refused-has : IsValid t → row_fault table header t row ≡ Some code → Has code number table t header row
   refused-has v e =
-      elim (cases_Bool (nat_eq (length (names_in table t)) most_rows)) [
+      elim (cases_Bool (nat_eq (length (names_in table t)) t.most)) [
         | inl full ↦
             let many = row_fault-full table t header row full in
             let same : code ≡ TooMany = cc in
-            inl (omega (arith, is, eqb-true (length (names_in table t)) most_rows full), same)
+            inl (omega (arith, is, eqb-true (length (names_in table t)) t.most full), same)
         | inr room ↦
-            let other : length (names_in table t) ≡ most_rows → ⊥ = eqb-false (length (names_in table t)) most_rows room in
+            let other : length (names_in table t) ≡ t.most → ⊥ = eqb-false (length (names_in table t)) t.most room in
             inr (
               omega (arith, is, few_names table t v, other),
               met-row table t header row code (lowest_met (row_tests table t header row) code (sym (row_fault-tests table t header row room) ∙ e)),
@@ -177,12 +177,12 @@ module _ (table : Table) (t : Tables) (header row : Record) (number : ℕ) (is :
   has-refused has =
       elim has [
         | inl last ↦
-            let full : length (names_in table t) ≡ most_rows = omega (arith, is, last.0) in
+            let full : length (names_in table t) ≡ t.most = omega (arith, is, last.0) in
             subst (λ o. AtMost o code) (sym (row_fault-full table t header row (full_test (length (names_in table t)) full))) (subst (λ c. AtMost (Some TooMany) c) (sym last.1) (omega arith))
         | inr early ↦
-            let room = ne_eqb (length (names_in table t)) most_rows (λ e. omega (arith, is, early.0, e)) in
+            let room = ne_eqb (length (names_in table t)) t.most (λ e. omega (arith, is, early.0, e)) in
             subst (λ o. AtMost o code) (sym (row_fault-tests table t header row room)) (lowest_least 4 (row_tests table t header row) code (rise table t header row) (row-met table t header row code early.1))
       ]
     where
-      full_test : (n : ℕ) → n ≡ most_rows → nat_eq n most_rows ≡ true
-      full_test n e = ap (λ m. nat_eq m most_rows) e
+      full_test : (n : ℕ) → n ≡ t.most → nat_eq n t.most ≡ true
+      full_test n e = ap (λ m. nat_eq m t.most) e ∙ eq-eqb t.most t.most refl

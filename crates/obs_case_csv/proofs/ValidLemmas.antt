@@ -7,7 +7,7 @@ use Rattle.obs_case.specs.declared.rows.Candidate.{Candidate}
 use Rattle.obs_case.specs.declared.rows.Meter.{Meter}
 use Rattle.obs_case.specs.declared.rows.Node.{Node}
 use Rattle.obs_case.specs.declared.rows.Switch.{Switch}
-use Rattle.obs_case.specs.Tables.{IsValid, Tables, most_rows}
+use Rattle.obs_case.specs.Tables.{IsValid, Tables}
 use Rattle.obs_case.proofs.ValidLemmas.{valid-branches, valid-candidates, valid-meters, valid-nodes, valid-switches}
 use Rattle.obs_case_csv.specs.declared.faults.RowFault.{RowFault}
 use Rattle.obs_case_csv.specs.declared.faults.Table.{Table}
@@ -21,38 +21,38 @@ use Rattle.obs_case_csv.proofs.ExactLemmas.{cheap, within_places, within_rows}
 use Rattle.obs_case_csv.proofs.ReadLemmas.{rows_before-end, rows_before-here, rows_before-next}
 use Rattle.obs_case_csv.proofs.ReadingLemmas.{branch-reads, branch_made, candidate-reads, candidate_made, meter-reads, meter_made, node-reads, node_made, row_fault-parts, switch-reads, switch_made}
 
-not_full : {R : Type 0} (own : R → List ℕ) (rows : List R) → nat_eq (length (map own rows)) most_rows ≡ false → length rows ≡ most_rows → ⊥
-not_full own rows open_still full = eqb-false (length (map own rows)) most_rows open_still (length-map rows own ∙ full)
+not_full : {R : Type 0} (most : ℕ) (own : R → List ℕ) (rows : List R) → nat_eq (length (map own rows)) most ≡ false → length rows ≡ most → ⊥
+not_full most own rows open_still full = eqb-false (length (map own rows)) most open_still (length-map rows own ∙ full)
 
 -- a row that isn't refused
 valid-with_record : (table : Table) (header : Record) (t : Tables) (row : Record) → IsValid t → row_fault table header t row ≡ None → IsValid (with_record table header t row)
 valid-with_record Nodes header t row h fine =
     let reads = node-reads header t row fine in
     let made = node_made header t row in
-    valid-nodes t h (Ok 0) made (t.nodes ++ made ∷ []) reads.1 (not_full (λ (r : Node). r.name) t.nodes (row_fault-parts Nodes header t row fine).0) reads.2 refl tt
+    valid-nodes t h (Ok 0) made (t.nodes ++ made ∷ []) reads.1 (not_full t.most (λ (r : Node). r.name) t.nodes (row_fault-parts Nodes header t row fine).0) reads.2 refl tt
 valid-with_record Switches header t row h fine =
     let reads = switch-reads header t row fine in
     let made = switch_made header t row in
     let from = within_rows (λ (r : Node). r.name) t.nodes (field_under header row (codes "from")) made.from reads.0.from in
     let to = within_rows (λ (r : Node). r.name) t.nodes (field_under header row (codes "to")) made.to reads.0.to in
-    valid-switches t h (Ok 0) made (t.switches ++ made ∷ []) reads.1 (not_full (λ (r : Switch). r.name) t.switches (row_fault-parts Switches header t row fine).0) (from, to) reads.2 refl tt
+    valid-switches t h (Ok 0) made (t.switches ++ made ∷ []) reads.1 (not_full t.most (λ (r : Switch). r.name) t.switches (row_fault-parts Switches header t row fine).0) (from, to) reads.2 refl tt
 valid-with_record Branches header t row h fine =
     let reads = branch-reads header t row fine in
     let made = branch_made header t row in
     let from = within_rows (λ (r : Node). r.name) t.nodes (field_under header row (codes "from")) made.from reads.0.from in
     let to = within_rows (λ (r : Node). r.name) t.nodes (field_under header row (codes "to")) made.to reads.0.to in
-    valid-branches t h (Ok 0) made (t.branches ++ made ∷ []) reads.1 (not_full (λ (r : Branch). r.name) t.branches (row_fault-parts Branches header t row fine).0) (from, to) reads.2 refl tt
+    valid-branches t h (Ok 0) made (t.branches ++ made ∷ []) reads.1 (not_full t.most (λ (r : Branch). r.name) t.branches (row_fault-parts Branches header t row fine).0) (from, to) reads.2 refl tt
 valid-with_record Meters header t row h fine =
     let reads = meter-reads header t row fine in
     let made = meter_made header t row in
     let at = within_places t made.kind (field_under header row (codes "at")) made.at reads.0.at in
-    valid-meters t h (Ok 0) made (t.meters ++ made ∷ []) reads.1 (not_full (λ (r : Meter). r.name) t.meters (row_fault-parts Meters header t row fine).0) at reads.2 refl tt
+    valid-meters t h (Ok 0) made (t.meters ++ made ∷ []) reads.1 (not_full t.most (λ (r : Meter). r.name) t.meters (row_fault-parts Meters header t row fine).0) at reads.2 refl tt
 valid-with_record Candidates header t row h fine =
     let reads = candidate-reads header t row fine in
     let made = candidate_made header t row in
     let at = within_places t made.kind (field_under header row (codes "at")) made.at reads.0.at in
     let price = cheap (field_under header row (codes "price")) made.price reads.0.price in
-    valid-candidates t h (Ok 0) made (t.candidates ++ made ∷ []) reads.1 (not_full (λ (r : Candidate). r.name) t.candidates (row_fault-parts Candidates header t row fine).0) at price reads.2 refl tt
+    valid-candidates t h (Ok 0) made (t.candidates ++ made ∷ []) reads.1 (not_full t.most (λ (r : Candidate). r.name) t.candidates (row_fault-parts Candidates header t row fine).0) at price reads.2 refl tt
 
 -- the rows before the first fault
 pub valid-rows_before : (table : Table) (header : Record) (rows : List Record) (t : Tables) → IsValid t → IsValid (rows_before table header t rows)
@@ -74,7 +74,7 @@ valid-rows_of_records table t (header ∷ rows) h =
     ]
 
 pub KeepsValid-holds : KeepsValid
-KeepsValid-holds table t bytes h = valid-rows_of_records table t (table_records bytes) h
+KeepsValid-holds table t bytes h = valid-rows_of_records table t (table_records t.most bytes) h
 
 -- one table after the others
 pub valid-then_read : (table : Table) (bytes : List ℕ) (t u : Tables) → IsValid t → then_read table bytes (Ok t) ≡ Ok u → IsValid u

@@ -5,11 +5,11 @@ use Rattle.obs_case.specs.declared.rows.Candidate.{Candidate}
 use Rattle.obs_case.specs.declared.rows.Meter.{Meter}
 use Rattle.obs_case.specs.declared.rows.Node.{Node}
 use Rattle.obs_case.specs.declared.rows.Switch.{Switch}
-use Rattle.obs_case.specs.Tables.{IsValid, Tables, node_names, place_names, position_of}
+use Rattle.obs_case.specs.Tables.{IsValid, Tables, node_names, place_names, position_of, usual_rows}
 use Rattle.obs_case_csv.specs.declared.faults.Table.{Table}
 use Rattle.obs_case_csv.specs.declared.faults.Table.TheVariants.{Nodes, Switches, Branches, Meters, Candidates}
 use Rattle.obs_case_csv.specs.Fields.{Record, field_under, flag_of, header_fault, kind_of, price_of}
-use Rattle.obs_case_csv.specs.Read.{table_records, tables_in}
+use Rattle.obs_case_csv.specs.Read.{table_records, tables_within}
 
 -- each field of a row is the reading of the record's field under its column
 pub record IsNode (t : Tables) (header row : Record) (node : Node) : Type 0 where
@@ -48,32 +48,41 @@ EachIs is [] (x ∷ xs) = ⊥
 EachIs is (row ∷ rows) [] = ⊥
 EachIs is (row ∷ rows) (x ∷ xs) = is row x × EachIs is rows xs
 
--- the records are a header without a fault, and then the rows
-pub record AreRows {R : Type 0} (is : Record → Record → R → Type 0) (table : Table) (bytes : List ℕ) (rows : List R) : Type 0 where
+-- the records, as many as are asked for under this limit, are a header without a fault, and then the rows
+pub record AreRows {R : Type 0} (most : ℕ) (is : Record → Record → R → Type 0) (table : Table) (bytes : List ℕ) (rows : List R) : Type 0 where
   pub header : Record
   pub records : List Record
-  pub records_are : table_records bytes ≡ header ∷ records
+  pub records_are : table_records most bytes ≡ header ∷ records
   pub columns : header_fault table header ≡ None
   pub each : EachIs (is header) records rows
 
 -- the same of a table that isn't given: it has no rows
-abbrev pub AreRowsGiven : {R : Type 0} → (Record → Record → R → Type 0) → Table → Option (List ℕ) → List R → Type 0
-AreRowsGiven is table None rows = rows ≡ []
-AreRowsGiven is table (Some bytes) rows = AreRows is table bytes rows
+abbrev pub AreRowsGiven : {R : Type 0} → ℕ → (Record → Record → R → Type 0) → Table → Option (List ℕ) → List R → Type 0
+AreRowsGiven most is table None rows = rows ≡ []
+AreRowsGiven most is table (Some bytes) rows = AreRows most is table bytes rows
 
--- the bytes are the case: it is valid, and each table's bytes are its rows
-pub record IsCase (nodes switches branches meters : List ℕ) (candidates : Option (List ℕ)) (t : Tables) : Type 0 where
+-- the bytes are the case under this limit: it is valid, and each table's bytes are its rows
+pub record IsCaseWithin (most : ℕ) (nodes switches branches meters : List ℕ) (candidates : Option (List ℕ)) (t : Tables) : Type 0 where
+  pub limit : t.most ≡ most
   pub valid : IsValid t
-  pub nodes_are : AreRows (IsNode t) Nodes nodes t.nodes
-  pub switches_are : AreRows (IsSwitch t) Switches switches t.switches
-  pub branches_are : AreRows (IsBranch t) Branches branches t.branches
-  pub meters_are : AreRows (IsMeter t) Meters meters t.meters
-  pub candidates_are : AreRowsGiven (IsCandidate t) Candidates candidates t.candidates
+  pub nodes_are : AreRows most (IsNode t) Nodes nodes t.nodes
+  pub switches_are : AreRows most (IsSwitch t) Switches switches t.switches
+  pub branches_are : AreRows most (IsBranch t) Branches branches t.branches
+  pub meters_are : AreRows most (IsMeter t) Meters meters t.meters
+  pub candidates_are : AreRowsGiven most (IsCandidate t) Candidates candidates t.candidates
 
--- the case that is read is the only one that the bytes are, and a fault is given exactly where they are none
-abbrev pub ReadExactly : Type 0
-ReadExactly =
+-- the same under the usual limit
+abbrev pub IsCase : List ℕ → List ℕ → List ℕ → List ℕ → Option (List ℕ) → Tables → Type 0
+IsCase nodes switches branches meters candidates t = IsCaseWithin usual_rows nodes switches branches meters candidates t
+
+-- under a limit, the case that is read is the only one that the bytes are, and a fault is given exactly where they are none
+abbrev pub ReadExactlyWithin : ℕ → Type 0
+ReadExactlyWithin most =
     (nodes switches branches meters : List ℕ) (candidates : Option (List ℕ))
-    → MatchResult (tables_in nodes switches branches meters candidates)
-    (λ t. IsCase nodes switches branches meters candidates t × ((u : Tables) → IsCase nodes switches branches meters candidates u → u ≡ t))
-    (λ fault. (t : Tables) → IsCase nodes switches branches meters candidates t → ⊥)
+    → MatchResult (tables_within most nodes switches branches meters candidates)
+    (λ t. IsCaseWithin most nodes switches branches meters candidates t × ((u : Tables) → IsCaseWithin most nodes switches branches meters candidates u → u ≡ t))
+    (λ fault. (t : Tables) → IsCaseWithin most nodes switches branches meters candidates t → ⊥)
+
+-- the same under the usual limit
+abbrev pub ReadExactly : Type 0
+ReadExactly = ReadExactlyWithin usual_rows

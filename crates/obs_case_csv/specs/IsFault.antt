@@ -2,7 +2,7 @@
 use Rattle.std.specs.Prelude.{ℕ, ◌≡◌, ◌<◌, ◌≤◌, ◌+◌, ◌⊎◌, ◌||◌, Bool, false, not, IsTrue, List, [], ◌∷◌, ◌++◌, length, codes, Option, None, Some, is_none}
 use Rattle.std.specs.List.{list_any}
 use Rattle.obs_text.specs.Names.{is_name}
-use Rattle.obs_case.specs.Tables.{IsValid, Tables, has_name, most_rows}
+use Rattle.obs_case.specs.Tables.{IsValid, Tables, has_name}
 use Rattle.obs_case_csv.specs.declared.faults.RowFault.{RowFault}
 use Rattle.obs_case_csv.specs.declared.faults.RowFault.TheVariants.{NoHeader, ColumnMissing, ColumnTwice, ShortRow, BadName, BadFlag, BadKind, BadPrice, NameTwice, UnknownNode, UnknownPlace, TooMany}
 use Rattle.obs_case_csv.specs.declared.faults.Table.{Table}
@@ -50,7 +50,7 @@ has_unknown_place Branches t field = false
 has_unknown_place Meters t field = not (has_place t (kind_of (field (codes "kind"))) (field (codes "at")))
 has_unknown_place Candidates t field = not (has_place t (kind_of (field (codes "kind"))) (field (codes "at")))
 
--- a row before row 20,001 has the fault of this code; the tables t have the rows before it
+-- a row within the limit has the fault of this code; the tables t have the rows before it
 abbrev pub RowHas : RowFault → Table → Tables → Record → Record → Type 0
 RowHas NoHeader table t header row = ⊥
 RowHas ColumnMissing table t header row = ⊥
@@ -73,7 +73,7 @@ HeaderHas ColumnTwice table (header ∷ rows) = IsTrue (list_any (comes_twice he
 HeaderHas code table records = ⊥
 
 -- this row of a table's records has the fault of this code, over tables t without rows of it: the records before it are a header without
--- a fault and rows, and row 20,001 has one fault alone
+-- a fault and rows, and the row behind the limit has one fault alone
 pub record HasRowFault (table : Table) (t : Tables) (records : List Record) (number : ℕ) (code : RowFault) : Type 0 where
   pub header : Record
   pub before : List Record
@@ -85,11 +85,11 @@ pub record HasRowFault (table : Table) (t : Tables) (records : List Record) (num
   pub tables : Tables
   pub valid : IsValid tables
   pub rows : HasRows table header before t tables
-  pub has : ((number ≡ most_rows + 1) × (code ≡ TooMany)) ⊎ ((number ≤ most_rows) × RowHas code table tables header row)
+  pub has : ((number ≡ tables.most + 1) × (code ≡ TooMany)) ⊎ ((number ≤ tables.most) × RowHas code table tables header row)
 
 -- a fault of a table's bytes: a row, and a code whose condition holds there
 abbrev pub IsFault : Table → Tables → List ℕ → ℕ → RowFault → Type 0
-IsFault table t bytes row code = ((row ≡ 0) × HeaderHas code table (table_records bytes)) ⊎ HasRowFault table t (table_records bytes) row code
+IsFault table t bytes row code = ((row ≡ 0) × HeaderHas code table (table_records t.most bytes)) ⊎ HasRowFault table t (table_records t.most bytes) row code
 
 -- one fault of a table doesn't come after another: it stands in a lower row, or has no higher code in the same
 abbrev pub NotAfter : ℕ → RowFault → ℕ → RowFault → Type 0

@@ -1,6 +1,6 @@
 -- When the bytes of one table are rows of a case, and when those of two are a case of nodes and switches alone.
 use Rattle.std.specs.Prelude.{ℕ, ◌≡◌, ◌+◌, ◌⊎◌, List, [], ◌∷◌, ◌++◌, length, Option, None, Some}
-use Rattle.obs_case.specs.Tables.{IsValid, Tables}
+use Rattle.obs_case.specs.Tables.{IsValid, Tables, usual_rows}
 use Rattle.obs_case_csv.specs.declared.faults.Table.{Table}
 use Rattle.obs_case_csv.specs.declared.faults.Table.TheVariants.{Nodes, Switches, Branches, Meters, Candidates}
 use Rattle.obs_case_csv.specs.Fields.{Record, header_fault}
@@ -36,7 +36,7 @@ HasRowsBefore table number records t u =
 pub record IsTableOf (table : Table) (bytes : List ℕ) (t u : Tables) : Type 0 where
   pub header : Record
   pub records : List Record
-  pub records_are : table_records bytes ≡ header ∷ records
+  pub records_are : table_records t.most bytes ≡ header ∷ records
   pub columns : header_fault table header ≡ None
   pub valid : IsValid u
   pub rows : HasRows table header records t u
@@ -46,11 +46,16 @@ abbrev pub HasCandidates : Option (List ℕ) → Tables → Tables → Type 0
 HasCandidates None before tables = tables ≡ before
 HasCandidates (Some bytes) before tables = IsTableOf Candidates bytes before tables
 
--- the bytes are a case of nodes and switches alone: it is valid, and each table's bytes are its rows
-pub record IsSwitchingCase (nodes switches : List ℕ) (t : Tables) : Type 0 where
+-- the bytes are a case of nodes and switches alone under this limit: it is valid, and each table's bytes are its rows
+pub record IsSwitchingCaseWithin (most : ℕ) (nodes switches : List ℕ) (t : Tables) : Type 0 where
+  pub limit : t.most ≡ most
   pub valid : IsValid t
-  pub nodes_are : AreRows (IsNode t) Nodes nodes t.nodes
-  pub switches_are : AreRows (IsSwitch t) Switches switches t.switches
+  pub nodes_are : AreRows most (IsNode t) Nodes nodes t.nodes
+  pub switches_are : AreRows most (IsSwitch t) Switches switches t.switches
   pub no_branches : t.branches ≡ []
   pub no_meters : t.meters ≡ []
   pub no_candidates : t.candidates ≡ []
+
+-- the same under the usual limit
+abbrev pub IsSwitchingCase : List ℕ → List ℕ → Tables → Type 0
+IsSwitchingCase nodes switches t = IsSwitchingCaseWithin usual_rows nodes switches t

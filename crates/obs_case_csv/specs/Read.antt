@@ -2,7 +2,7 @@
 use Rattle.std.specs.Prelude.{ℕ, ◌+◌, ◌≡◌, List, [], ◌∷◌, take, Option, None, Some, is_none, if◌then◌else◌, Result, Ok, Err}
 use Rattle.csv.specs.Reading.{default_config, records_from, strip_bom}
 use Rattle.csv.specs.declared.parser.State.TheVariants as st
-use Rattle.obs_case.specs.Tables.{Tables, most_rows, no_rows}
+use Rattle.obs_case.specs.Tables.{Tables, no_rows_within, usual_rows}
 use Rattle.obs_case_csv.specs.declared.faults.RowFault.{RowFault}
 use Rattle.obs_case_csv.specs.declared.faults.RowFault.TheVariants.{NoHeader}
 use Rattle.obs_case_csv.specs.declared.faults.Table.{Table}
@@ -13,13 +13,13 @@ use Rattle.obs_case_csv.specs.declared.faults.TableFault.{TableFault}
 use Rattle.obs_case_csv.specs.Fields.{Record, header_fault}
 use Rattle.obs_case_csv.specs.Rows.{next_row, row_fault, with_record}
 
--- the records that are asked for: a header, and one row more than a table may have
-abbrev pub most_records : ℕ
-most_records = most_rows + 2
+-- the records that are asked for of a table that may have so many rows: a header, and one row more
+abbrev pub most_records : ℕ → ℕ
+most_records most = most + 2
 
--- the records of a table's bytes
-abbrev pub table_records : List ℕ → List Record
-table_records bytes = records_from default_config most_records st.StartRecord (strip_bom bytes)
+-- the records of the bytes of such a table
+abbrev pub table_records : ℕ → List ℕ → List Record
+table_records most bytes = records_from default_config (most_records most) st.StartRecord (strip_bom bytes)
 
 -- a fault in a row of a table, if there is one
 abbrev pub fault_at : Table → ℕ → Option RowFault → Option TableFault
@@ -55,10 +55,10 @@ rows_of_records table t (header ∷ rows) = if is_none (header_fault table heade
 
 -- the first fault of a table's bytes, and the tables with the rows before it
 abbrev pub fault_in : Table → Tables → List ℕ → Option TableFault
-fault_in table t bytes = fault_of_records table t (table_records bytes)
+fault_in table t bytes = fault_of_records table t (table_records t.most bytes)
 
 abbrev pub rows_in : Table → Tables → List ℕ → Tables
-rows_in table t bytes = rows_of_records table t (table_records bytes)
+rows_in table t bytes = rows_of_records table t (table_records t.most bytes)
 
 -- the same of a table that may be given
 abbrev pub rows_if_given : Table → Option (List ℕ) → Tables → Tables
@@ -72,7 +72,7 @@ rows_of_both meters candidates t =
 
 -- the tables that have the rows of some of a table's first records
 abbrev pub HoldsFirstRows : Table → List ℕ → Tables → Tables → Type 0
-HoldsFirstRows table bytes old new = (n : ℕ) × (new ≡ rows_of_records table old (take n (table_records bytes)))
+HoldsFirstRows table bytes old new = (n : ℕ) × (new ≡ rows_of_records table old (take n (table_records old.most bytes)))
 
 -- the same of a table that may be given
 abbrev pub HoldsFirstRowsIfGiven : Table → Option (List ℕ) → Tables → Tables → Type 0
@@ -113,10 +113,14 @@ then_read_given table (Some bytes) before = then_read table bytes before
 abbrev pub tables_after : List ℕ → Option (List ℕ) → Tables → Result Tables TableFault
 tables_after meters candidates tables = then_read_given Candidates candidates (then_read Meters meters (Ok tables))
 
--- the case that the bytes of five tables are, or the first fault
+-- the case under this limit that the bytes of five tables are, or the first fault
+abbrev pub tables_within : ℕ → List ℕ → List ℕ → List ℕ → List ℕ → Option (List ℕ) → Result Tables TableFault
+tables_within most nodes switches branches meters candidates =
+    then_read_given Candidates candidates (then_read Meters meters (then_read Branches branches (then_read Switches switches (then_read Nodes nodes (Ok (no_rows_within most))))))
+
+-- the same under the usual limit
 abbrev pub tables_in : List ℕ → List ℕ → List ℕ → List ℕ → Option (List ℕ) → Result Tables TableFault
-tables_in nodes switches branches meters candidates =
-    then_read_given Candidates candidates (then_read Meters meters (then_read Branches branches (then_read Switches switches (then_read Nodes nodes (Ok no_rows)))))
+tables_in nodes switches branches meters candidates = tables_within usual_rows nodes switches branches meters candidates
 
 -- an answer that ends the reading of tables, one after another: want of memory, or this fault
 abbrev pub EndsAll : Result Tables TableFault → TableEnd → Type 0

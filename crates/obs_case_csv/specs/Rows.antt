@@ -5,7 +5,7 @@ use Rattle.obs_case.specs.declared.rows.Kind.{Kind}
 use Rattle.obs_case.specs.declared.rows.Kind.TheVariants.{Zero}
 use Rattle.obs_case.specs.declared.rows.Node.{Node}
 use Rattle.obs_case.specs.Adds.{branch_of, candidate_of, meter_of, switch_of, with_branch, with_candidate, with_meter, with_node, with_switch}
-use Rattle.obs_case.specs.Tables.{Tables, branch_names, candidate_names, has_name, meter_names, most_rows, node_names, place_names, switch_names}
+use Rattle.obs_case.specs.Tables.{Tables, branch_names, candidate_names, has_name, meter_names, node_names, place_names, switch_names}
 use Rattle.obs_case_csv.specs.declared.faults.RowFault.{RowFault}
 use Rattle.obs_case_csv.specs.declared.faults.RowFault.TheVariants.{ShortRow, BadName, BadFlag, BadKind, BadPrice, NameTwice, UnknownNode, UnknownPlace, TooMany}
 use Rattle.obs_case_csv.specs.declared.faults.Table.{Table}
@@ -98,10 +98,10 @@ fields_fault Candidates t field = candidate_row_fault t (field (codes "candidate
 abbrev pub next_row : Table → Tables → ℕ
 next_row table t = length (names_in table t) + 1
 
--- why a record under this header is refused as the next row; row 20,001 isn't looked at
+-- why a record under this header is refused as the next row; the row behind the limit isn't looked at
 abbrev pub row_fault : Table → Record → Tables → Record → Option RowFault
 row_fault table header t row =
-    if length (names_in table t) == most_rows then Some TooMany
+    if length (names_in table t) == t.most then Some TooMany
     else (if is_short (read_columns table) header row then Some ShortRow else fields_fault table t (field_of header row))
 
 -- the readings of a flag, a kind and a price that aren't refused

@@ -10,4 +10,4 @@ mod records;
 mod rows;
 
 pub use faults::{RowFault, Table, TableEnd, TableFault};
-pub use read::{add_tables, read_table, read_tables};
+pub use read::{add_tables, read_table, read_tables, read_tables_within};

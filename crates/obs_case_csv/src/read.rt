@@ -1,10 +1,10 @@
 // Tables from their bytes.
 ghost use Rattle.std.specs.Prelude.{◌≡◌, ◌≤◌, ◌+◌, [], None, Ok, IfErr, IfOk, OnErr, OnOk, option_map};
 ghost use Rattle.csv.specs.Records.{fields_of};
-ghost use Rattle.obs_case.specs.Tables.{most_rows, no_rows};
+ghost use Rattle.obs_case.specs.Tables.{most_rows, no_rows_within};
 ghost use Rattle.obs_case_csv.specs.Columns.{ArePlaces};
 ghost use Rattle.obs_case_csv.specs.Fields.{Record};
-ghost use Rattle.obs_case_csv.specs.Read.{Ends, EndsAll, HoldsFirstRows, HoldsFirstRowsOfBoth, UnlessNoMemory, fault_at, fault_in, most_records, rows_in, rows_of_both, table_records, tables_after, tables_in};
+ghost use Rattle.obs_case_csv.specs.Read.{Ends, EndsAll, HoldsFirstRows, HoldsFirstRowsOfBoth, UnlessNoMemory, fault_at, fault_in, most_records, rows_in, rows_of_both, table_records, tables_after, tables_in, tables_within};
 ghost use Rattle.obs_case_csv.specs.Records.{Gives};
 ghost use Rattle.obs_case_csv.specs.Rows.{names_in, next_row, row_fault, with_record};
 
@@ -13,11 +13,8 @@ use crate::faults::{RowFault, Table, TableEnd, TableFault};
 use crate::records::{next_row, open};
 use crate::rows::{RowEnd, add_row};
 use csv::{ByteRecord, Reader};
-use obs_case::{Case, MOST_ROWS};
+use obs_case::{Case, USUAL_ROWS};
 use std::alloc::Global;
-
-/// The number of the last row that a table may have.
-const LAST_ROW: u32 = MOST_ROWS as u32;
 
 fn fault(table: Table, row: u32, code: RowFault) -> TableEnd
     ensures fault { result ≡ TableEnd.Fault (record { table = table; row = row; code = code }) }
@@ -34,7 +31,7 @@ fn read_row(
     number: u32,
 ) -> Result<(), TableEnd>
     requires number { number ≡ next_row table case.old }
-    requires few { number ≤ most_rows + 1 }
+    requires few { number ≤ case.old.most + 1 }
     ensures accepted { OnOk result ((header : Record) → ArePlaces table header places.now
         → row_fault table header case.old (fields_of row.now) ≡ None) }
     ensures refused { IfErr result (λ end. (header : Record) → ArePlaces table header places.now
@@ -43,7 +40,7 @@ fn read_row(
         → case.new ≡ with_record table header case.old (fields_of row.now)) }
     ensures unchanged { OnErr result (case.new ≡ case.old) }
 {
-    if number > LAST_ROW {
+    if number > case.most() {
         return Err(fault(table, number, RowFault::TooMany));
     }
     let Some(fields) = fields_at(row, places) else {
@@ -65,7 +62,7 @@ fn read_records(
     table: Table,
     bytes: &[u8],
 ) -> Result<(), TableEnd>
-    requires gives { Gives reader.old most_records (table_records bytes.now) }
+    requires gives { Gives reader.old (most_records case.old.most) (table_records case.old.most bytes.now) }
     requires empty { names_in table case.old ≡ [] }
     ensures accepted { OnOk result (fault_in table case.old bytes.now ≡ None) }
     ensures refused { IfErr result (Ends (fault_in table case.old bytes.now)) }
@@ -79,7 +76,8 @@ fn read_records(
         Ok(places) => places,
         Err(code) => return Err(fault(table, 0, code)),
     };
-    for number in 1..LAST_ROW + 2 {
+    let most = case.most();
+    for number in 1..most + 2 {
         if !next_row(reader, row)? {
             return Ok(());
         }
@@ -134,7 +132,7 @@ pub fn add_tables(
     }
 }
 
-// Reads the five tables in their order into a case without rows, up to the first fault.
+// Reads the five tables in their order into a case without rows, under its limit, up to the first fault.
 fn fill_case(
     alloc: Global,
     case: &mut Case,
@@ -144,11 +142,11 @@ fn fill_case(
     meters: &[u8],
     candidates: Option<&[u8]>,
 ) -> Result<(), TableEnd>
-    requires empty { case.old ≡ no_rows }
-    ensures read { OnOk result (tables_in nodes.now switches.now branches.now meters.now
+    requires empty { case.old ≡ no_rows_within case.old.most }
+    ensures read { OnOk result (tables_within case.old.most nodes.now switches.now branches.now meters.now
         (option_map (λ c. c.now) candidates.entry) ≡ Ok case.new) }
     ensures refused { IfErr result (EndsAll
-        (tables_in nodes.now switches.now branches.now meters.now (option_map (λ c. c.now) candidates.entry))) }
+        (tables_within case.old.most nodes.now switches.now branches.now meters.now (option_map (λ c. c.now) candidates.entry))) }
 {
     read_table(alloc, case, Table::Nodes, nodes)?;
     read_table(alloc, case, Table::Switches, switches)?;
@@ -157,7 +155,7 @@ fn fill_case(
 }
 
 /// Reads the five tables in their order, and answers the first fault. A table of candidates that
-/// isn't given is empty.
+/// isn't given is empty. A table may have at most 20,000 rows.
 pub fn read_tables(
     alloc: Global,
     nodes: &[u8],
@@ -171,7 +169,34 @@ pub fn read_tables(
     ensures refused { IfErr result (EndsAll
         (tables_in nodes.now switches.now branches.now meters.now (option_map (λ c. c.now) candidates.entry))) }
 {
-    let mut case = Case::new(alloc);
+    read_tables_within(
+        alloc,
+        USUAL_ROWS as u32,
+        nodes,
+        switches,
+        branches,
+        meters,
+        candidates,
+    )
+}
+
+/// The same, where a table may have at most so many rows.
+pub fn read_tables_within(
+    alloc: Global,
+    most: u32,
+    nodes: &[u8],
+    switches: &[u8],
+    branches: &[u8],
+    meters: &[u8],
+    candidates: Option<&[u8]>,
+) -> Result<Case, TableEnd>
+    requires limit { most ≤ most_rows }
+    ensures read { IfOk result (λ case. tables_within most nodes.now switches.now branches.now meters.now
+        (option_map (λ c. c.now) candidates.entry) ≡ Ok case) }
+    ensures refused { IfErr result (EndsAll
+        (tables_within most nodes.now switches.now branches.now meters.now (option_map (λ c. c.now) candidates.entry))) }
+{
+    let mut case = Case::within(alloc, most);
     fill_case(
         alloc, &mut case, nodes, switches, branches, meters, candidates,
     )?;

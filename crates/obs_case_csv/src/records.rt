@@ -13,7 +13,7 @@ use std::alloc::Global;
 // A reader with its default settings, save that the header is a record as the others and that
 // records may differ in length.
 pub(crate) fn open(alloc: Global, bytes: &[u8]) -> Reader<&[u8]>
-    ensures gives { Gives result most_records (table_records bytes.now) }
+    ensures gives { (most : ℕ) → Gives result (most_records most) (table_records most bytes.now) }
 {
     ReaderBuilder::new()
         .has_headers(false)

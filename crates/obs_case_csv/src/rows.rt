@@ -1,7 +1,7 @@
 // The rows of the tables, from their fields.
 ghost use Rattle.std.specs.Prelude.{◌≡◌, ◌<◌, length, None, IfErr, OnErr, OnOk};
 ghost use Rattle.obs_case.specs.Adds.{branch_of, candidate_of, meter_of, switch_of, with_branch, with_candidate, with_meter, with_node, with_switch};
-ghost use Rattle.obs_case.specs.Tables.{branch_names, candidate_names, meter_names, most_rows, node_names, switch_names};
+ghost use Rattle.obs_case.specs.Tables.{branch_names, candidate_names, meter_names, node_names, switch_names};
 ghost use Rattle.obs_case_csv.specs.Columns.{Stops, ordered_fault, row_end, with_ordered};
 ghost use Rattle.obs_case_csv.specs.Rows.{branch_row_fault, candidate_row_fault, flag, kind as kind_in, meter_row_fault, names_in, node_read, node_row_fault, price as price_in, switch_row_fault};
 
@@ -31,7 +31,7 @@ fn ended(fault: AddFault) -> RowEnd
 }
 
 fn add_node(case: &mut Case, node: &[u8], source: &[u8], absolute: &[u8]) -> Result<(), RowEnd>
-    requires room { length (node_names case.old) < most_rows }
+    requires room { length (node_names case.old) < case.old.most }
     ensures accepted { OnOk result (node_row_fault case.old node.now source.now absolute.now ≡ None) }
     ensures refused { IfErr result (Stops (node_row_fault case.old node.now source.now absolute.now)) }
     ensures added { OnOk result (case.new ≡ with_node case.old (node_read node.now source.now absolute.now)) }
@@ -64,7 +64,7 @@ fn add_switch(
     to: &[u8],
     closed: &[u8],
 ) -> Result<(), RowEnd>
-    requires room { length (switch_names case.old) < most_rows }
+    requires room { length (switch_names case.old) < case.old.most }
     ensures accepted { OnOk result (switch_row_fault case.old switch.now from.now to.now closed.now ≡ None) }
     ensures refused { IfErr result (Stops (switch_row_fault case.old switch.now from.now to.now closed.now)) }
     ensures added { OnOk result
@@ -90,7 +90,7 @@ fn add_branch(
     to: &[u8],
     inservice: &[u8],
 ) -> Result<(), RowEnd>
-    requires room { length (branch_names case.old) < most_rows }
+    requires room { length (branch_names case.old) < case.old.most }
     ensures accepted { OnOk result (branch_row_fault case.old branch.now from.now to.now inservice.now ≡ None) }
     ensures refused { IfErr result (Stops (branch_row_fault case.old branch.now from.now to.now inservice.now)) }
     ensures added { OnOk result
@@ -116,7 +116,7 @@ fn add_meter(
     at: &[u8],
     inservice: &[u8],
 ) -> Result<(), RowEnd>
-    requires room { length (meter_names case.old) < most_rows }
+    requires room { length (meter_names case.old) < case.old.most }
     ensures accepted { OnOk result (meter_row_fault case.old meter.now kind.now at.now inservice.now ≡ None) }
     ensures refused { IfErr result (Stops (meter_row_fault case.old meter.now kind.now at.now inservice.now)) }
     ensures added { OnOk result
@@ -145,7 +145,7 @@ fn add_candidate(
     at: &[u8],
     price: &[u8],
 ) -> Result<(), RowEnd>
-    requires room { length (candidate_names case.old) < most_rows }
+    requires room { length (candidate_names case.old) < case.old.most }
     ensures accepted { OnOk result (candidate_row_fault case.old candidate.now kind.now at.now price.now ≡ None) }
     ensures refused { IfErr result (Stops (candidate_row_fault case.old candidate.now kind.now at.now price.now)) }
     ensures added { OnOk result (case.new ≡ with_candidate case.old
@@ -169,7 +169,7 @@ fn add_candidate(
 
 // Adds the row of these fields to a table that isn't full.
 pub(crate) fn add_row(case: &mut Case, table: Table, fields: &Fields) -> Result<(), RowEnd>
-    requires room { length (names_in table case.old) < most_rows }
+    requires room { length (names_in table case.old) < case.old.most }
     ensures accepted { let f = fields.now in
         OnOk result (ordered_fault table case.old
         f.own.now f.second.now f.third.now f.fourth.now f.further.now ≡ None) }

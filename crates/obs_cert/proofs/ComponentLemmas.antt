@@ -79,9 +79,11 @@ pub rows_few : (t : Tables) → IsValid t → length t.meters + length t.candida
 rows_few t v =
     let a = v.meters.few in
     let b = v.candidates.few in
-    omega (arith, a, b, length-map t.meters (λ row. row.name), length-map t.candidates (λ row. row.name))
+    let limit = v.limit in
+    omega (arith, a, b, limit, length-map t.meters (λ row. row.name), length-map t.candidates (λ row. row.name))
 
 pub positions_few : (t : Tables) → IsValid t → case_position_room t ≤ 3 * most_rows
 positions_few t v =
     let a = v.branches.few in
-    omega (arith, a, rows_few t v, length-map t.branches (λ row. row.name))
+    let limit = v.limit in
+    omega (arith, a, limit, rows_few t v, length-map t.branches (λ row. row.name))

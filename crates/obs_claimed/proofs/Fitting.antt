@@ -9,7 +9,8 @@ use Rattle.obs_case.specs.Tables.{IsValid, Tables}
 use Rattle.obs_matroid.specs.Assignments.{Pair as NumberPair}
 use Rattle.obs_network.specs.Network.{case_branches, case_component_count, case_meters, case_vertex_count}
 use Rattle.obs_network.specs.Observable.{branch_component, case_live_meters, item_component}
-use Rattle.obs_network.proofs.OfCase.{case_branches-are, case_bus_count-le, case_component_count-le, few_meters, few_nodes, length-case_meters}
+use Rattle.obs_network.proofs.Parted.{parts_few}
+use Rattle.obs_network.proofs.OfCase.{case_branches-are, case_bus_count-le, case_component_count-le, length-case_meters, meters_in_limit, nodes_in_limit}
 use Rattle.obs_report.specs.Items.{inside_line, pair_line}
 use Rattle.obs_report.specs.Meters.{bound_line, bound_text, component_name}
 use Rattle.obs_report.specs.Trees.{pair_lines, tree_line, tree_text}
@@ -18,30 +19,29 @@ use Rattle.obs_edit.specs.Answers.{case_first_pairs}
 use Rattle.obs_edit.specs.Laws.{tree_pairs}
 use Rattle.obs_claimed.specs.Laws.{TreesAndBoundsFit}
 use Rattle.obs_claimed.proofs.LineLengths.{bound_line-length, each_length, inside_length, pair_length, tree_line-length}
-use Rattle.obs_claimed.proofs.Parted.{parts_few}
 use Rattle.obs_claimed.proofs.PlanLengths.{first_pairs_few}
 use Rattle.obs_claimed.proofs.Small.{bound_outside_small, bound_rank_small, filter_few, live_few}
 
 module _ (t : Tables) (v : IsValid t) where
   -- the components part the pairs of the first assignment
-  trees_few : (n : ℕ) → sum_by (λ c. length (tree_pairs t c)) (range_with_len 0 n) ≤ 20000
+  trees_few : (n : ℕ) → sum_by (λ c. length (tree_pairs t c)) (range_with_len 0 n) ≤ t.most
   unfolding case_first_pairs
   trees_few n =
       let parts = parts_few (λ (p : NumberPair). branch_component t p.1) (case_first_pairs t) n in
       let few = first_pairs_few (case_vertex_count t) (case_branches t) (case_meters t) (case_branches-are t v) in
-      omega (arith, parts, few, length-case_meters t, few_meters t v)
+      omega (arith, parts, few, length-case_meters t, meters_in_limit t v)
 
   -- and the live meters
   listed_own : (c : ℕ) → length (bound_meters t c) ≤ length (filter (λ m. item_component t (case_meters t) m == c) (case_live_meters t))
   unfolding bound_meters component_meters
   listed_own c = filter_few (λ m. not (is_critical_meter t m)) (component_meters t c)
 
-  bounds_few : (n : ℕ) → sum_by (λ c. length (bound_meters t c)) (range_with_len 0 n) ≤ 20000
+  bounds_few : (n : ℕ) → sum_by (λ c. length (bound_meters t c)) (range_with_len 0 n) ≤ t.most
   bounds_few n =
       let own = sum_by-le-sum_by (λ c. length (bound_meters t c)) (λ c. length (filter (λ m. item_component t (case_meters t) m == c) (case_live_meters t))) (range_with_len 0 n) listed_own in
       let parts = parts_few (λ m. item_component t (case_meters t) m) (case_live_meters t) n in
       let live = live_few (case_branches t) (case_meters t) in
-      omega (arith, own, parts, live, length-case_meters t, few_meters t v)
+      omega (arith, own, parts, live, length-case_meters t, meters_in_limit t v)
 
   -- the tree and the bound of a component
   abbrev both : ℕ → ℕ
@@ -76,4 +76,4 @@ trees_and_bounds_fit t v =
     let count = length-range_with_len 0 n in
     let trees = trees_few t v n in
     let bounds = bounds_few t v n in
-    omega (arith, all, count, trees, bounds, case_component_count-le t, case_bus_count-le t, few_nodes t v)
+    omega (arith, all, count, trees, bounds, case_component_count-le t, case_bus_count-le t, nodes_in_limit t v)

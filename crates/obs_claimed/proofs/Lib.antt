@@ -8,7 +8,6 @@ pub mod Layered
 pub mod LineLengths
 pub mod Lines
 pub mod NamedLemmas
-pub mod Parted
 pub mod PlanClaims
 pub mod PlanLengths
 pub mod PlanPairs

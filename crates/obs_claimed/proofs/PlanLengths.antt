@@ -1,14 +1,15 @@
 -- How long the text of a placement is at the most.
-use Rattle.std.proofs.Common.{◌≡◌, ℕ, zero, suc, ◌+◌, ◌*◌, ◌-◌, ◌≤◌, Bool, true, false, cond, List, [], ◌∷◌, ◌++◌, length, map, take, drop, get_or, filter, Option, refl, sym, subst, inl, inr, arith}
+use Rattle.std.proofs.Common.{◌≡◌, ℕ, zero, suc, ◌+◌, ◌*◌, ◌-◌, ◌<◌, ◌≤◌, Bool, true, false, cond, List, [], ◌∷◌, ◌++◌, length, map, take, drop, get_or, filter, Option, refl, sym, subst, inl, inr, arith}
 use Rattle.std.specs.Prelude.{◌==◌, nat_lt}
 use Rattle.std.specs.List.{flat_map, range_with_len}
-use Rattle.std.proofs.lemmas.Bool.{cases_Bool, eqb-true}
+use Rattle.std.proofs.lemmas.Bool.{cases_Bool, eqb-true, ltb-true}
 use Rattle.std.proofs.lemmas.List.{length-append, length-map}
 use Rattle.std.proofs.lemmas.List.FromFn.{length-range_with_len}
 use Rattle.obs_graph.specs.declared.Ends.{Ends}
 use Rattle.obs_graph.specs.Positions.{AreBranches}
-use Rattle.obs_text.specs.Limits.{most_file_bytes}
+use Rattle.obs_graph.proofs.Counts.{count_below-le-n}
 use Rattle.obs_case.specs.Tables.{IsValid, Tables, prices_of}
+use Rattle.obs_case.specs.declared.rows.Candidate.{Candidate}
 use Rattle.obs_matroid.specs.Assignments.{Pair as NumberPair, items}
 use Rattle.obs_matroid.specs.Lists.{In}
 use Rattle.obs_matroid.proofs.Lists.{In-filter_from, In-map_from, IsDistinct-filter, length-within}
@@ -27,19 +28,20 @@ use Rattle.obs_placement.specs.Placed.{ShortfallValue, Placed, PlanValue, shortf
 use Rattle.obs_placement.specs.Placed.Placed.{cheapest, shortfall as short_of}
 use Rattle.obs_placement.proofs.Growing.{prices_rising}
 use Rattle.obs_network.specs.Network.{case_branches, case_needed, case_offered, case_vertex_count}
-use Rattle.obs_network.proofs.OfCase.{case_branches-are}
+use Rattle.obs_network.specs.Switched.{case_bus_count}
+use Rattle.obs_network.proofs.NeededCount.{adds_one, needed_by_buses}
+use Rattle.obs_network.proofs.OfCase.{candidates_in_limit, case_branches-are, case_bus_count-le, nodes_in_limit}
 use Rattle.obs_rankcut.specs.Costs.{price_of}
 use Rattle.obs_report.specs.Items.{inside_line, pair_line}
 use Rattle.obs_report.specs.Lines.{last_line}
 use Rattle.obs_report.specs.Placements.{chosen_line, cost_line, layer_line, layers_text, listed_between, placement_text, shortfall_line}
 use Rattle.obs_edit.specs.Planned.{case_placed_pairs, case_placement, pairs_in, planned_items, touches_of}
 use Rattle.obs_edit.proofs.Planned.{length-touches_of}
-use Rattle.obs_edit.proofs.Priced.{few_prices}
 use Rattle.obs_claimed.specs.Laws.{PlacementsFit}
 use Rattle.obs_claimed.proofs.LayerClaims.{inside_distinct}
 use Rattle.obs_claimed.proofs.Layered.{added, inside_from, inside_low, layers_from}
 use Rattle.obs_claimed.proofs.LineLengths.{chosen_length, cost_length, each_length, inside_length, layer_length, pair_length, shortfall_length}
-use Rattle.obs_claimed.proofs.Small.{IsSmallLayer, chosen_few, cost_small, few_offered, filter_few, lack_outside_small, lack_rank_small, live_few, plan_layers_small}
+use Rattle.obs_claimed.proofs.Small.{IsSmallLayer, chosen_few, cost_small, filter_few, lack_outside_small, lack_rank_small, live_few, offered_in_limit, plan_layers_small}
 
 -- a first assignment has no more pairs than items
 pub first_pairs_few : (n : ℕ) (ends : List (Option Ends)) (touches : List Touch) → AreBranches n ends → length (first_pairs n ends touches) ≤ length touches
@@ -120,22 +122,22 @@ module _ (t : Tables) (v : IsValid t) where
   lack = shortfall_of (case_vertex_count t) (case_branches t) (case_offered t) (case_needed t)
 
   -- the listed items are different ones
-  inside_few : length plan.inside ≤ 40000
+  inside_few : length plan.inside ≤ 2 * t.most
   inside_few =
       let ts = prices_above prices chosen 0 in
       let within = length-within plan.inside (every_item (case_offered t)) (inside_distinct t v 0 ts (prices_rising prices chosen 0))
       (λ m i. In-every (case_offered t) m (inside_low t 0 ts m i)) in
       let all = length-range_with_len 0 (length (case_offered t)) in
-      omega (arith, within, all, few_offered t v)
+      omega (arith, within, all, offered_in_limit t v)
 
-  pairs_few : length (case_placed_pairs t) ≤ 40000
+  pairs_few : length (case_placed_pairs t) ≤ 2 * t.most
   pairs_few =
       let touches = touches_of (case_offered t) (planned_items (length t.meters) chosen) in
       let few = pairs_in_few (case_vertex_count t) (case_branches t) touches (case_branches-are t v) (case_placement t) in
       let same = length-touches_of (case_offered t) (planned_items (length t.meters) chosen) in
-      omega (arith, few, same, few_offered t v)
+      omega (arith, few, same, offered_in_limit t v)
 
-  plan_length : (pairs : List NumberPair) → length pairs ≤ 40000 → length (placement_text t (cheapest plan) pairs) + length last_line ≤ most_file_bytes
+  plan_length : (pairs : List NumberPair) → length pairs ≤ 2 * t.most → length (placement_text t (cheapest plan) pairs) + length last_line ≤ 616 * t.most + 30
   plan_length pairs paired =
       let ts = prices_above prices chosen 0 in
       let cost = cost_length plan.cost (cost_small t v) in
@@ -146,29 +148,34 @@ module _ (t : Tables) (v : IsValid t) where
       let second = length-append (cost_line plan.cost ++ flat_map (chosen_line t) chosen) (flat_map (pair_line t) pairs) in
       let all = length-append ((cost_line plan.cost ++ flat_map (chosen_line t) chosen) ++ flat_map (pair_line t) pairs) (layers_text t plan.inside 0 plan.layers) in
       let few = chosen_few (case_vertex_count t) (case_branches t) (case_offered t) (length t.meters) prices in
-      let offered = few_prices t prices v refl in
+      let offered = candidates_in_limit t v in
+      let priced = length-map t.candidates (λ (row : Candidate). row.price) in
       let layers = prices_few prices chosen in
       let inside = inside_few in
-      omega (arith, cost, of_chosen, of_pairs, of_layers, first, second, all, few, offered, layers, inside, paired)
+      omega (arith, cost, of_chosen, of_pairs, of_layers, first, second, all, few, offered, priced, layers, inside, paired)
 
-  lack_length : (pairs : List NumberPair) → length (placement_text t (short_of lack) pairs) + length last_line ≤ most_file_bytes
-  lack_length pairs =
+  -- where pairs are needed there is a row
+  needed_few : case_needed t ≤ t.most
+  needed_few = omega (arith, needed_by_buses t, count_below-le-n (adds_one t) (case_bus_count t), case_bus_count-le t, nodes_in_limit t v)
+
+  lack_length : 0 < t.most → (pairs : List NumberPair) → length (placement_text t (short_of lack) pairs) + length last_line ≤ 616 * t.most + 30
+  lack_length some pairs =
       let live = live_items (case_branches t) (case_offered t) in
       let line = shortfall_length lack.rank lack.outside (lack_rank_small t v (case_needed t)) (lack_outside_small t v (case_needed t)) in
       let listed = each_length (inside_line t) 82 lack.inside (inside_length t v) in
       let all = length-append (shortfall_line lack.rank lack.outside) (flat_map (inside_line t) lack.inside) in
       let few = filter_few (noncritical_in (case_vertex_count t) (case_branches t) (case_offered t) live) live in
       let items = live_few (case_branches t) (case_offered t) in
-      let offered = few_offered t v in
-      omega (arith, line, listed, all, few, items, offered)
+      let offered = offered_in_limit t v in
+      omega (arith, some, line, listed, all, few, items, offered)
 
   -- either is short, with pairs that are at hand
-  either_length : (short : Bool) (pairs : List NumberPair) → length pairs ≤ 40000
-      → length (placement_text t (cond short (short_of lack) (cheapest plan)) pairs) + length last_line ≤ most_file_bytes
-  either_length true pairs paired = lack_length pairs
-  either_length false pairs paired = plan_length pairs paired
+  either_length : (short : Bool) → (short ≡ true → 0 < t.most) → (pairs : List NumberPair) → length pairs ≤ 2 * t.most
+      → length (placement_text t (cond short (short_of lack) (cheapest plan)) pairs) + length last_line ≤ 616 * t.most + 30
+  either_length true some pairs paired = lack_length (some refl) pairs
+  either_length false some pairs paired = plan_length pairs paired
 
 pub placements_fit : PlacementsFit
 placements_fit t v =
-    let is_short = nat_lt (rho_at (case_vertex_count t) (case_branches t) (case_offered t) (live_items (case_branches t) (case_offered t))) (case_needed t) in
-    either_length t v is_short (case_placed_pairs t) (pairs_few t v)
+    let rank = rho_at (case_vertex_count t) (case_branches t) (case_offered t) (live_items (case_branches t) (case_offered t)) in
+    either_length t v (nat_lt rank (case_needed t)) (λ short. omega (arith, ltb-true rank (case_needed t) short, needed_few t v)) (case_placed_pairs t) (pairs_few t v)

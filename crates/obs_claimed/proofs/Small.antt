@@ -2,7 +2,7 @@
 use Rattle.std.proofs.Common.{ℕ, ◌+◌, ◌-◌, ◌*◌, ◌≤◌, All, Bool, not, Option, List, [], ◌∷◌, length, filter, get_or, refl, inl, inr, arith}
 use Rattle.std.specs.List.{flat_map, range_with_len}
 use Rattle.std.proofs.lemmas.Bool.{cases_lt}
-use Rattle.std.proofs.lemmas.List.{get_or_past, length-map}
+use Rattle.std.proofs.lemmas.List.{get_or_past}
 use Rattle.std.proofs.lemmas.List.FromFn.{length-range_with_len}
 use Rattle.std.proofs.lemmas.List.Sums.{sum_by-le}
 use Rattle.obs_graph.specs.declared.Ends.{Ends}
@@ -26,7 +26,7 @@ use Rattle.obs_placement.specs.Taking.{is_below, is_listed_at}
 use Rattle.obs_network.specs.Network.{case_branches, case_meters, case_offered, case_vertex_count}
 use Rattle.obs_network.specs.Observable.{case_live_meters}
 use Rattle.obs_network.proofs.Marked.{filtered_below}
-use Rattle.obs_network.proofs.OfCase.{case_vertex_count-le, few_meters, few_nodes, length-case_meters, length-case_offered}
+use Rattle.obs_network.proofs.OfCase.{candidates_in_limit, case_vertex_count-le, few_meters, few_nodes, length-case_meters, length-case_offered, meters_in_limit}
 use Rattle.obs_repair.specs.Bounds.{bound_meters, bound_outside, bound_rank, component_meters, is_critical_meter, is_meter_of}
 use Rattle.obs_edit.proofs.Priced.{cheap_prices, few_prices}
 use Rattle.obs_claimed.proofs.Words.{IsSmall}
@@ -46,11 +46,12 @@ live_few ends touches = omega (arith, filter_few (is_live ends touches) (every_i
 few_vertices : (t : Tables) → IsValid t → case_vertex_count t ≤ 2 * most_rows
 few_vertices t v = omega (arith, case_vertex_count-le t, few_nodes t v)
 
-pub few_offered : (t : Tables) → IsValid t → length (case_offered t) ≤ 2 * most_rows
-few_offered t v =
-    let candidates = v.candidates.few in
-    let names = length-map t.candidates (λ row. row.name) in
-    omega (arith, length-case_offered t, few_meters t v, candidates, names)
+-- and at most two offered items for each row that a table may have
+pub offered_in_limit : (t : Tables) → IsValid t → length (case_offered t) ≤ 2 * t.most
+offered_in_limit t v = omega (arith, length-case_offered t, meters_in_limit t v, candidates_in_limit t v)
+
+few_offered : (t : Tables) → IsValid t → length (case_offered t) ≤ 2 * most_rows
+few_offered t v = let limit = v.limit in omega (arith, offered_in_limit t v, limit)
 
 -- the numbers of a bound
 pub bound_rank_small : (t : Tables) (c : ℕ) → IsValid t → IsSmall (bound_rank t c)

@@ -1,7 +1,6 @@
--- What is printed is read back as claims, these hold, and it is no longer than a file may be.
-use Rattle.std.specs.Prelude.{◌≡◌, ◌↔◌, ℕ, ◌+◌, ◌<◌, ◌≤◌, true, List, [], ◌∷◌, ◌++◌, length, map, Some}
+-- What is printed is read back as claims, these hold, and its length is bounded by the rows that a table may have.
+use Rattle.std.specs.Prelude.{◌≡◌, ◌↔◌, ℕ, ◌+◌, ◌*◌, ◌<◌, ◌≤◌, true, List, [], ◌∷◌, ◌++◌, length, map, Some}
 use Rattle.std.specs.List.{range_with_len, sum_by}
-use Rattle.obs_text.specs.Limits.{most_file_bytes}
 use Rattle.obs_text.specs.Lines.{lines_of}
 use Rattle.obs_case.specs.Tables.{IsValid, Tables}
 use Rattle.obs_network.specs.Network.{case_component_count}
@@ -59,16 +58,17 @@ PlacementsAreLines = (t : Tables) → IsValid t →
 abbrev pub LastIsLine : Type 0
 LastIsLine = AreLines last_line (end_line ∷ [])
 
--- the printed trees and bounds of all components, and the last line, are together no longer than a file may be
+-- the printed trees and bounds of all components, and the last line, have together at most 616 bytes for each row that a table may have,
+-- and 30 more
 abbrev pub TreesAndBoundsFit : Type 0
 TreesAndBoundsFit = (t : Tables) → IsValid t →
     sum_by (λ c. length (tree_text t c (case_first_pairs t)) + length (bound_text t c (bound_meters t c) (bound_rank t c) (bound_outside t c)))
-    (range_with_len 0 (case_component_count t)) + length last_line ≤ most_file_bytes
+    (range_with_len 0 (case_component_count t)) + length last_line ≤ 616 * t.most + 30
 
 -- and so is the placement with the last line
 abbrev pub PlacementsFit : Type 0
 PlacementsFit = (t : Tables) → IsValid t →
-    length (placement_text t (case_placement t) (case_placed_pairs t)) + length last_line ≤ most_file_bytes
+    length (placement_text t (case_placement t) (case_placed_pairs t)) + length last_line ≤ 616 * t.most + 30
 
 -- items complete the meters of a case for the checker of certificates exactly where they do for the planner
 abbrev pub CompleteAlike : Type 0

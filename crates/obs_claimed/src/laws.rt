@@ -24,8 +24,8 @@ pub fn placements_hold()
     ensures hold { PlacementsHold }
 {}
 
-/// What is printed of a valid case is no longer than a file may be: the trees and bounds of all components together,
-/// and the placement, each with the last line.
+/// What is printed of a valid case has at most 616 bytes for each row that a table may have, and 30 more: the trees
+/// and bounds of all components together, and the placement, each with the last line.
 pub fn texts_fit()
     ensures claims { TreesAndBoundsFit }
     ensures placements { PlacementsFit }

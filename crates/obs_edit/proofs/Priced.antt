@@ -10,9 +10,10 @@ use Rattle.obs_placement.specs.Limits.{most_candidates, most_price}
 pub few_prices : (t : Tables) (prices : List ℕ) → IsValid t → prices ≡ prices_of t.candidates → length prices ≤ most_candidates
 few_prices t prices v same =
     let few = v.candidates.few in
+    let limit = v.limit in
     let names = length-map t.candidates (λ (row : Candidate). row.name) in
     let count = ap length same ∙ length-map t.candidates (λ (row : Candidate). row.price) in
-    omega (arith, few, names, count)
+    omega (arith, few, limit, names, count)
 
 -- and none is higher than a price may be
 pub cheap_prices : (t : Tables) (prices : List ℕ) → IsValid t → prices ≡ prices_of t.candidates → All (λ p. p ≤ most_price) prices

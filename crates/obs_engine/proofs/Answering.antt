@@ -37,7 +37,7 @@ IsAnswerTo-holds o t line = record {
 }
 
 pub ReportsAsTheCommand-holds : ReportsAsTheCommand
-ReportsAsTheCommand-holds o t from input certificate reply is = said_text o t (codes "report") refl ∙ ap (λ (r : Reply). r.text) (sym is)
+ReportsAsTheCommand-holds most o t from input certificate reply is = said_text o t (codes "report") refl ∙ ap (λ (r : Reply). r.text) (sym is)
 
 pub OrderIsForgotten-holds : OrderIsForgotten
 OrderIsForgotten-holds o t some others more same = (

@@ -11,7 +11,7 @@ use Rattle.obs_script.specs.Gathered.{content_of}
 use Rattle.obs_script.proofs.LineLemmas.{ended_line, last_line}
 use Rattle.obs_engine.specs.Lines.{ended_after, line_case, line_text, lines_case, lines_text, open_after}
 use Rattle.obs_engine.specs.Replies.{Reply}
-use Rattle.obs_engine.specs.Sessions.{cut_reply, most_input_bytes, session_reply, whole_reply}
+use Rattle.obs_engine.specs.Sessions.{cut_reply, session_reply, whole_reply}
 
 -- lines and then others
 pub case_parts : (o : Bool) (t : Tables) (a b : List (List ℕ)) → lines_case o t (a ++ b) ≡ lines_case o (lines_case o t a) b
@@ -99,11 +99,11 @@ module _ (o : Bool) (t : Tables) (input : List ℕ) where
       ∙ (case_parts o t (ended_after [] input) (some_line (open_after [] input)) ∙ last_case o (lines_case o t (ended_after [] input)) (open_after [] input))
 
   -- which of the two replies it is
-  pub is_whole : nat_lt most_input_bytes (length input) ≡ false → session_reply o t input ≡ whole_reply o t input
-  is_whole e = rw e refl
+  pub is_whole : (most : ℕ) → nat_lt most (length input) ≡ false → session_reply most o t input ≡ whole_reply o t input
+  is_whole most e = rw e refl
 
-  pub is_cut : nat_lt most_input_bytes (length input) ≡ true → session_reply o t input ≡ cut_reply o t input
-  is_cut e = rw e refl
+  pub is_cut : (most : ℕ) → nat_lt most (length input) ≡ true → session_reply most o t input ≡ cut_reply most o t input
+  is_cut most e = rw e refl
 
   -- the answers within a front of bytes are a front of the answers
   abbrev pub IsFrontOf : List ℕ → List ℕ → Type 0
@@ -120,12 +120,12 @@ module _ (o : Bool) (t : Tables) (input : List ℕ) where
       let f = front_more (take n bytes) (drop n bytes) in
       (f.0, ap (λ (bs : List ℕ). lines_text o t (ended_after [] bs)) (sym (take-append-drop n bytes)) ∙ f.1)
 
-  pub front_of_reply : (n : ℕ) → n ≤ most_input_bytes → IsFrontOf (lines_text o t (ended_after [] (take n input))) (session_reply o t input).text
-  front_of_reply n low = elim (cases_Bool (nat_lt most_input_bytes (length input))) [
+  pub front_of_reply : (most n : ℕ) → n ≤ most → IsFrontOf (lines_text o t (ended_after [] (take n input))) (session_reply most o t input).text
+  front_of_reply most n low = elim (cases_Bool (nat_lt most (length input))) [
     | inl e ↦
-        (let f = front_in n (take most_input_bytes input) in
-        (f.0, ap (λ (r : Reply). r.text) (is_cut e) ∙ (f.1 ∙ ap (λ (bs : List ℕ). lines_text o t (ended_after [] bs) ++ f.0) (take-take n most_input_bytes input low))))
+        (let f = front_in n (take most input) in
+        (f.0, ap (λ (r : Reply). r.text) (is_cut most e) ∙ (f.1 ∙ ap (λ (bs : List ℕ). lines_text o t (ended_after [] bs) ++ f.0) (take-take n most input low))))
     | inr e ↦
         (let f = front_then _ _ (line_text o (lines_case o t (ended_after [] input)) (content_of (open_after [] input))) (front_in n input) in
-        (f.0, ap (λ (r : Reply). r.text) (is_whole e) ∙ (whole_text ∙ f.1)))
+        (f.0, ap (λ (r : Reply). r.text) (is_whole most e) ∙ (whole_text ∙ f.1)))
   ]

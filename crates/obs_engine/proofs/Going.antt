@@ -16,7 +16,7 @@ use Rattle.obs_files.specs.declared.status.Status.TheVariants.{Done, Short, Inpu
 use Rattle.obs_engine.specs.Asks.{report_status}
 use Rattle.obs_engine.specs.Lines.{ended_after, line_case, line_text, lines_case, lines_text, open_after}
 use Rattle.obs_engine.specs.Replies.{Reply}
-use Rattle.obs_engine.specs.Sessions.{IsTakenFront, SessionAt, answered_within, cut_reply, most_input_bytes, session_reply, taken_of, whole_reply}
+use Rattle.obs_engine.specs.Sessions.{IsTakenFront, SessionAt, answered_within, cut_reply, session_reply, taken_of, whole_reply}
 use Rattle.obs_engine.proofs.Folding.{IsFrontOf, case_goes_on, front_of_reply, is_cut, is_whole, open_parts, text_goes_on, whole_case, whole_text}
 use Rattle.obs_engine.proofs.Replied.{IsVerdict, report_status-is, verdict_no_failure}
 
@@ -28,7 +28,7 @@ taken_is : (input : List ℕ) (n : ℕ) → n ≤ length input → taken_of inpu
 taken_is input n within =
     let e : length input - length (drop n input) ≡ n = omega (arith, length-drop n input, within) in ap (λ (k : ℕ). take k input) e
 
-module _ (o : Bool) (t : Tables) (left : Option (List ℕ)) (i : ℕ) (is_steady : Type 0) (a : Option (List ℕ)) (f : ℕ) (room : ℕ → Type 0) where
+module _ (most : ℕ) (o : Bool) (t : Tables) (left : Option (List ℕ)) (i : ℕ) (is_steady : Type 0) (a : Option (List ℕ)) (f : ℕ) (room : ℕ → Type 0) where
   -- the text of the lines that these bytes end was printed, or a part of it
   abbrev pub PrintedTo : Option (List ℕ) → ℕ → (ℕ → Type 0) → Result (Unit {0}) Failed → List ℕ → Type 0
   PrintedTo b k room_now result bytes = AppendsAt a b f k room room_now result (lines_text o t (ended_after [] bytes))
@@ -36,11 +36,11 @@ module _ (o : Bool) (t : Tables) (left : Option (List ℕ)) (i : ℕ) (is_steady
   -- so many bytes were taken, and the lines are answered that end in them, as far as an input may have so many
   pub record Going (taken : ℕ) (left_now : Option (List ℕ)) (j : ℕ) (steady_now : Type 0) (b : Option (List ℕ)) (k : ℕ) (room_now : ℕ → Type 0)
       (held : List ℕ) (t_now : Tables) (o_now : Bool) : Type 0 where
-    pub most : taken ≤ most_input_bytes + 1
+    pub bound : taken ≤ most + 1
     pub offered : o_now ≡ o
     pub bytes : List ℕ
     pub told : (input : List ℕ) → left ≡ Some input
-        → (left_now ≡ Some (drop taken input)) × (taken ≤ length input) × (bytes ≡ take (min taken most_input_bytes) input)
+        → (left_now ≡ Some (drop taken input)) × (taken ≤ length input) × (bytes ≡ take (min taken most) input)
     pub quiet : j ≡ i
     pub calm : is_steady → steady_now
     pub holds : Holds held (open_after [] bytes)
@@ -50,9 +50,9 @@ module _ (o : Bool) (t : Tables) (left : Option (List ℕ)) (i : ℕ) (is_steady
   -- a write failed: a front of the reply's text is written
   pub write_failed : {e : Failed} {left_now : Option (List ℕ)} {j : ℕ} {b : Option (List ℕ)} {k : ℕ} {room_now : ℕ → Type 0} {text : List ℕ}
       → AppendsAt {T = Unit {0}} a b f k room room_now (Err e) text → j ≡ i
-      → ((input : List ℕ) → left ≡ Some input → IsFrontOf o t input text (session_reply o t input).text)
-      → ((input : List ℕ) → left ≡ Some input → IsTakenFront input left_now WriteFault)
-      → SessionAt o t left left_now i j is_steady a b f k room WriteFault
+      → ((input : List ℕ) → left ≡ Some input → IsFrontOf o t input text (session_reply most o t input).text)
+      → ((input : List ℕ) → left ≡ Some input → IsTakenFront most input left_now WriteFault)
+      → SessionAt most o t left left_now i j is_steady a b f k room WriteFault
   write_failed {e = e} {b = b} {k = k} {room_now = room_now} {text = text} call quiet front taken = record {
     ends = λ input is.
         let more = front input is in
@@ -77,12 +77,12 @@ module _ (o : Bool) (t : Tables) (left : Option (List ℕ)) (i : ℕ) (is_steady
   module _ {taken : ℕ} {left_now : Option (List ℕ)} {j : ℕ} {steady_now : Type 0} {b : Option (List ℕ)} {k : ℕ} {room_now : ℕ → Type 0}
       {held : List ℕ} {t_now : Tables} {o_now : Bool} (g : Going taken left_now j steady_now b k room_now held t_now o_now) where
     -- more bytes than an input may have were taken
-    pub too_long : most_input_bytes < taken → SessionAt o t left left_now i j is_steady a b f k room SessionTooLong
+    pub too_long : most < taken → SessionAt most o t left left_now i j is_steady a b f k room SessionTooLong
     too_long long = record {
       ends = λ input is. inl (ap (λ (r : Reply). r.status) (sym (cut input is)), subst (λ (x : List ℕ). Wrote a b x) (same input is) g.printed.writes);
       taken = λ input is.
           let h = g.told input is in
-          record { count = taken; rest = h.0; within = h.1; most = g.most; all = λ s. absurd (no s); too_long = λ s. all; refused = λ s. absurd cc };
+          record { count = taken; rest = h.0; within = h.1; bound = g.bound; all = λ s. absurd (no s); too_long = λ s. all; refused = λ s. absurd cc };
       statuses = inl (inr (inr refl));
       read = λ s. absurd cc;
       write = λ s. absurd cc;
@@ -94,35 +94,35 @@ module _ (o : Bool) (t : Tables) (left : Option (List ℕ)) (i : ℕ) (is_steady
       room = λ input rest is has s. absurd cc;
     }
       where
-        all : taken ≡ most_input_bytes + 1
-        all = (let m = g.most in omega (arith, m, long))
+        all : taken ≡ most + 1
+        all = (let m = g.bound in omega (arith, m, long))
 
         no : (SessionTooLong ≡ Done) ⊎ (SessionTooLong ≡ Short) → ⊥
         no (inl s) = absurd cc
         no (inr s) = absurd cc
 
-        cut : (input : List ℕ) → left ≡ Some input → session_reply o t input ≡ cut_reply o t input
-        cut input is = (let within = (g.told input is).1 in is_cut o t input (lt-ltb most_input_bytes (length input) (omega (arith, within, long))))
+        cut : (input : List ℕ) → left ≡ Some input → session_reply most o t input ≡ cut_reply most o t input
+        cut input is = (let within = (g.told input is).1 in is_cut o t input most (lt-ltb most (length input) (omega (arith, within, long))))
 
-        same : (input : List ℕ) → left ≡ Some input → lines_text o t (ended_after [] g.bytes) ≡ (session_reply o t input).text
+        same : (input : List ℕ) → left ≡ Some input → lines_text o t (ended_after [] g.bytes) ≡ (session_reply most o t input).text
         same input is =
-            let m : min taken most_input_bytes ≡ most_input_bytes = omega (arith, long) in
+            let m : min taken most ≡ most = omega (arith, long) in
             ap (λ (bs : List ℕ). lines_text o t (ended_after [] bs)) ((g.told input is).2 ∙ ap (λ (n : ℕ). take n input) m)
             ∙ ap (λ (r : Reply). r.text) (sym (cut input is))
 
-    module _ (low : taken ≤ most_input_bytes) where
+    module _ (low : taken ≤ most) where
       -- the bytes so far are what was taken
       bytes_are : (input : List ℕ) → left ≡ Some input → g.bytes ≡ take taken input
-      bytes_are input is = (g.told input is).2 ∙ ap (λ (n : ℕ). take n input) (low_min taken most_input_bytes low)
+      bytes_are input is = (g.told input is).2 ∙ ap (λ (n : ℕ). take n input) (low_min taken most low)
 
       -- a read of the input failed
       pub read_failed : {left_next : Option (List ℕ)} {j_next : ℕ} (e : Failed) (piece : List ℕ) → TakesFront {E = Failed} left_now left_next (Err e) piece
-          → HasCause {T = ℕ} {E = Failed} j j_next (Err e) → (steady_now → IsOk {T = ℕ} {E = Failed} (Err e)) → SessionAt o t left left_next i j_next is_steady a b f k room ReadFault
+          → HasCause {T = ℕ} {E = Failed} j j_next (Err e) → (steady_now → IsOk {T = ℕ} {E = Failed} (Err e)) → SessionAt most o t left left_next i j_next is_steady a b f k room ReadFault
       read_failed {left_next = left_next} {j_next = j_next} e piece takes cause succeeds = record {
         ends = λ input is. inr (inr (inl (refl, subst (λ (x : List ℕ). Wrote a b x) (same input is) g.printed.writes)));
         taken = λ input is.
             let h = g.told input is in
-            record { count = taken; rest = stays input is; within = h.1; most = g.most; all = λ s. absurd (no s); too_long = λ s. absurd cc; refused = λ s. absurd cc };
+            record { count = taken; rest = stays input is; within = h.1; bound = g.bound; all = λ s. absurd (no s); too_long = λ s. absurd cc; refused = λ s. absurd cc };
         statuses = inr (inl refl);
         read = λ s. subst (λ (n : ℕ). Rose n j_next) g.quiet cause.failed;
         write = λ s. absurd cc;
@@ -182,16 +182,16 @@ module _ (o : Bool) (t : Tables) (left : Option (List ℕ)) (i : ℕ) (is_steady
         whole_input : n ≡ 0 → (input : List ℕ) → left ≡ Some input → g.bytes ≡ input
         whole_input none input is = bytes_are input is ∙ take_all taken input (let e = all_taken none input is in omega (arith, e))
 
-        whole_is : n ≡ 0 → (input : List ℕ) → left ≡ Some input → session_reply o t input ≡ whole_reply o t input
-        whole_is none input is = is_whole o t input (let e = all_taken none input is in le-ltb most_input_bytes (length input) (omega (arith, e, low)))
+        whole_is : n ≡ 0 → (input : List ℕ) → left ≡ Some input → session_reply most o t input ≡ whole_reply o t input
+        whole_is none input is = is_whole o t input most (let e = all_taken none input is in le-ltb most (length input) (omega (arith, e, low)))
 
         -- how much was taken, where a write failed then
-        failed_front : taken + n ≤ most_input_bytes + 1 → (input : List ℕ) → left ≡ Some input → IsTakenFront input left_next WriteFault
+        failed_front : taken + n ≤ most + 1 → (input : List ℕ) → left ≡ Some input → IsTakenFront most input left_next WriteFault
         failed_front bound input is = record {
           count = taken + n;
           rest = next_left input is;
           within = next_within input is;
-          most = bound;
+          bound = bound;
           all = λ s. absurd (no s);
           too_long = λ s. absurd cc;
           refused = λ s. absurd cc;
@@ -208,7 +208,7 @@ module _ (o : Bool) (t : Tables) (left : Option (List ℕ)) (i : ℕ) (is_steady
         abbrev last_text : List ℕ
         last_text = lines_text o t (ended_after [] g.bytes) ++ line_text o (lines_case o t (ended_after [] g.bytes)) last_line
 
-        last_of : n ≡ 0 → (input : List ℕ) → left ≡ Some input → last_text ≡ (session_reply o t input).text
+        last_of : n ≡ 0 → (input : List ℕ) → left ≡ Some input → last_text ≡ (session_reply most o t input).text
         last_of none input is =
             ap (λ (bs : List ℕ). lines_text o t (ended_after [] bs) ++ line_text o (lines_case o t (ended_after [] bs)) (content_of (open_after [] bs))) (whole_input none input is)
             ∙ (sym (whole_text o t input) ∙ ap (λ (r : Reply). r.text) (sym (whole_is none input is)))
@@ -222,14 +222,14 @@ module _ (o : Bool) (t : Tables) (left : Option (List ℕ)) (i : ℕ) (is_steady
               (ap (λ (x : Bool). line_text x t_now last_line) g.offered ∙ ap (λ (u : Tables). line_text o u last_line) g.tables) call)
 
           pub ends_well : {t_next : Tables} {status : Status} → AppendsAt {T = Unit {0}} {E = Failed} b b_next k k_next room_now room_next (Ok tt) (line_text o_now t_now last_line)
-              → t_next ≡ line_case o_now t_now last_line → status ≡ report_status t_next → SessionAt o t left left_next i j_next is_steady a b_next f k_next room status
+              → t_next ≡ line_case o_now t_now last_line → status ≡ report_status t_next → SessionAt most o t left left_next i j_next is_steady a b_next f k_next room status
           ends_well {t_next = t_next} {status = status} call case told = record {
             ends = λ input is. inl (right input is, subst (λ (x : List ℕ). Wrote a b_next x) (last_of none input is) (answered call).writes);
             taken = λ input is. record {
               count = taken + n;
               rest = next_left input is;
               within = next_within input is;
-              most = omega (arith, none, low);
+              bound = omega (arith, none, low);
               all = λ s. (let e = all_taken none input is in omega (arith, e, none));
               too_long = λ s. absurd (long verdict s);
               refused = λ s. absurd (refuses verdict s);
@@ -259,7 +259,7 @@ module _ (o : Bool) (t : Tables) (left : Option (List ℕ)) (i : ℕ) (is_steady
               case_is : t_next ≡ line_case o (lines_case o t (ended_after [] g.bytes)) last_line
               case_is = case ∙ (ap (λ (x : Bool). line_case x t_now last_line) g.offered ∙ ap (λ (u : Tables). line_case o u last_line) g.tables)
 
-              right : (input : List ℕ) → left ≡ Some input → status ≡ (session_reply o t input).status
+              right : (input : List ℕ) → left ≡ Some input → status ≡ (session_reply most o t input).status
               right input is =
                   told
                   ∙ (ap (λ (u : Tables). report_status u)
@@ -268,13 +268,13 @@ module _ (o : Bool) (t : Tables) (left : Option (List ℕ)) (i : ℕ) (is_steady
                   ∙ ap (λ (r : Reply). r.status) (sym (whole_is none input is)))
 
           pub ends_badly : {e : Failed} → AppendsAt {T = Unit {0}} b b_next k k_next room_now room_next (Err e) (line_text o_now t_now last_line)
-              → SessionAt o t left left_next i j_next is_steady a b_next f k_next room WriteFault
+              → SessionAt most o t left left_next i j_next is_steady a b_next f k_next room WriteFault
           ends_badly call =
               write_failed (answered call) (still ∙ g.quiet) (λ input is. ([], sym (last_of none input is) ∙ sym (append-nil last_text)))
               (λ input is. failed_front (omega (arith, none, low)) input is)
 
         -- the lines were answered that it ends, or that failed; one byte more than an input may have isn't among its bytes
-        module _ (kept : ℕ) (few : kept ≡ min n (most_input_bytes - taken)) (bound : taken + n ≤ most_input_bytes + 1) (more : List ℕ) (slice : more ≡ take kept piece) where
+        module _ (kept : ℕ) (few : kept ≡ min n (most - taken)) (bound : taken + n ≤ most + 1) (more : List ℕ) (slice : more ≡ take kept piece) where
           more_are : (input : List ℕ) → left ≡ Some input → g.bytes ++ more ≡ take (taken + kept) input
           more_are input is =
               let p = (here input is).0 in
@@ -298,11 +298,11 @@ module _ (o : Bool) (t : Tables) (left : Option (List ℕ)) (i : ℕ) (is_steady
               → ((line : List ℕ) → Holds held line → AppendsAt {T = Unit {0}} {E = Failed} b b_next k k_next room_now room_next (Ok tt) (lines_text o_now t_now (ended_after line more)))
               → Going (taken + n) left_next j_next steady_next b_next k_next room_next held_next t_next o_next
           goes_on {held_next = held_next} calm offered holds tables call = record {
-            most = bound;
+            bound = bound;
             offered = offered ∙ g.offered;
             bytes = g.bytes ++ more;
             told = λ input is.
-                let m : taken + kept ≡ min (taken + n) most_input_bytes = omega (arith, few, low) in
+                let m : taken + kept ≡ min (taken + n) most = omega (arith, few, low) in
                 (next_left input is, next_within input is, more_are input is ∙ ap (λ (x : ℕ). take x input) m);
             quiet = still ∙ g.quiet;
             calm = λ s. calm (g.calm s);
@@ -315,11 +315,11 @@ module _ (o : Bool) (t : Tables) (left : Option (List ℕ)) (i : ℕ) (is_steady
           }
 
           pub stops : {b_next : Option (List ℕ)} {k_next : ℕ} {room_next : ℕ → Type 0} {e : Failed} → ((line : List ℕ) → Holds held line → AppendsAt {T = Unit {0}} b b_next k k_next room_now room_next (Err e) (lines_text o_now t_now (ended_after line more)))
-              → SessionAt o t left left_next i j_next is_steady a b_next f k_next room WriteFault
+              → SessionAt most o t left left_next i j_next is_steady a b_next f k_next room WriteFault
           stops call =
               write_failed (more_text (call (open_after [] g.bytes) g.holds)) (still ∙ g.quiet)
               (λ input is.
               let e = more_are input is in
-              subst (λ (bs : List ℕ). IsFrontOf o t input (lines_text o t (ended_after [] bs)) (session_reply o t input).text) (sym e)
-              (front_of_reply o t input (taken + kept) (omega (arith, few, low))))
+              subst (λ (bs : List ℕ). IsFrontOf o t input (lines_text o t (ended_after [] bs)) (session_reply most o t input).text) (sym e)
+              (front_of_reply o t input most (taken + kept) (omega (arith, few, low))))
               (λ input is. failed_front bound input is)

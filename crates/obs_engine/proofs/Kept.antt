@@ -1,5 +1,5 @@
 -- Answers that are certificates fit a file, and `verify` finds that they hold.
-use Rattle.std.proofs.Common.{◌≡◌, ◌∙◌, ℕ, ◌+◌, ◌≤◌, Bool, true, false, List, [], ◌++◌, length, Result, ap, subst, inl, inr, arith}
+use Rattle.std.proofs.Common.{◌≡◌, ◌∙◌, ℕ, ◌+◌, ◌*◌, ◌≤◌, Bool, true, false, List, [], ◌++◌, length, Result, ap, subst, inl, inr, arith}
 use Rattle.std.specs.Prelude.{◌==◌, if◌then◌else◌}
 use Rattle.std.specs.List.{range_with_len}
 use Rattle.std.proofs.lemmas.Bool.{le-ltb}
@@ -7,7 +7,6 @@ use Rattle.std.proofs.lemmas.List.{length-append}
 use Rattle.std.proofs.lemmas.List.Concat.{length-flat_map}
 use Rattle.std.proofs.lemmas.List.Sums.{sum_by-le-sum_by}
 use Rattle.obs_text.specs.Faults.{Fault}
-use Rattle.obs_text.specs.Limits.{most_file_bytes}
 use Rattle.obs_case.specs.Tables.{IsValid, Tables}
 use Rattle.obs_network.specs.Network.{case_component_count, case_need}
 use Rattle.obs_network.specs.Observable.{is_energised_component}
@@ -23,15 +22,18 @@ use Rattle.obs_claimed.proofs.PlanLengths.{placements_fit}
 use Rattle.obs_files.specs.declared.words.CaseCommand.TheVariants.{Session, Verify}
 use Rattle.obs_files.specs.declared.words.Form.TheVariants.{Case}
 use Rattle.obs_engine.specs.Asks.{ask_text, block_text, bound_claim, claims_text, component_claim, text_if, tree_claim}
-use Rattle.obs_engine.specs.Claimed.{AnswersAreVerified, AnswersFit}
+use Rattle.obs_cert.specs.Claims.{Claim}
+use Rattle.obs_script.specs.declared.command.Ask.{Ask}
+use Rattle.obs_engine.specs.Claimed.{AnswersAreVerified, AnswersFit, AreClaimed}
 use Rattle.obs_engine.specs.Commands.{IsCaseReply}
 use Rattle.obs_files.specs.Files.{certificate_in, is_too_long}
+use Rattle.obs_files.specs.Limits.{IsLimits, Limits}
 use Rattle.obs_engine.specs.Replies.{IsReplyTo}
 use Rattle.obs_engine.specs.Verify.{verify_reply}
 use Rattle.obs_files.specs.Words.{certificate_at}
 use Rattle.obs_engine.proofs.Claimed.{answers_hold}
 use Rattle.obs_files.proofs.Beside.{same_case}
-use Rattle.obs_files.proofs.Valid.{CasesAreValid-holds}
+use Rattle.obs_files.proofs.Valid.{CasesAreValid-holds, case_within}
 
 -- one of two texts, or none
 if_length : (b : Bool) (text : List ℕ) → length (text_if b text) ≤ length text
@@ -51,7 +53,7 @@ module _ (t : Tables) where
   unfolding component_claim tree_claim bound_claim
   component_length trees bounds c = either_length (is_energised_component t c) (component_rank t c == case_need t c) trees bounds _ _
 
-  claims_length : (trees bounds : Bool) → IsValid t → length (claims_text trees bounds t) + length last_line ≤ most_file_bytes
+  claims_length : (trees bounds : Bool) → IsValid t → length (claims_text trees bounds t) + length last_line ≤ 616 * t.most + 30
   unfolding claims_text
   claims_length trees bounds v =
       let all = range_with_len 0 (case_component_count t) in
@@ -62,27 +64,34 @@ module _ (t : Tables) where
       omega (arith, pieces, each, fit)
 
 -- an answer of one block
-one_block : (text : List ℕ) → length text + length last_line ≤ most_file_bytes → length ((text ++ []) ++ last_line) ≤ most_file_bytes
-one_block text few =
+one_block : (most : ℕ) (text : List ℕ) → length text + length last_line ≤ most → length ((text ++ []) ++ last_line) ≤ most
+one_block most text few =
     let both = length-append (text ++ []) last_line in
     let block = length-append text [] in
     omega (arith, few, both, block)
 
-pub answers_fit : AnswersFit
+-- by the number of rows that the tables may have
+answer_length : (ask : Ask) (t : Tables) (claims : List Claim) → IsValid t → AreClaimed ask t claims → length (ask_text ask t) ≤ 616 * t.most + 30
 unfolding block_text
-answers_fit ask t claims v (inl h) = rw h.0 (one_block (claims_text true false t) (claims_length t true false v))
-answers_fit ask t claims v (inr (inl h)) = rw h.0 (one_block (claims_text false true t) (claims_length t false true v))
-answers_fit ask t claims v (inr (inr (inl h))) = rw h.0 (one_block (claims_text true true t) (claims_length t true true v))
-answers_fit ask t claims v (inr (inr (inr h))) = rw h.0 (one_block (placement_text t (case_placement t) (case_placed_pairs t)) (placements_fit t v))
+answer_length ask t claims v (inl h) = rw h.0 (one_block (616 * t.most + 30) (claims_text true false t) (claims_length t true false v))
+answer_length ask t claims v (inr (inl h)) = rw h.0 (one_block (616 * t.most + 30) (claims_text false true t) (claims_length t false true v))
+answer_length ask t claims v (inr (inr (inl h))) = rw h.0 (one_block (616 * t.most + 30) (claims_text true true t) (claims_length t true true v))
+answer_length ask t claims v (inr (inr (inr h))) = rw h.0 (one_block (616 * t.most + 30) (placement_text t (case_placement t) (case_placed_pairs t)) (placements_fit t v))
+
+pub answers_fit : AnswersFit
+answers_fit limits ask t claims are few v claimed =
+    let short = answer_length ask t claims v claimed in
+    let fits = are.fit in
+    omega (arith, short, few, fits)
 
 pub answers_are_verified : AnswersAreVerified
-answers_are_verified ask from offered file t claims input reply is claimed kept replied =
+answers_are_verified limits ask from offered file t claims input reply are is claimed kept replied =
     let verify = Case (Verify offered) from in
-    let v : IsValid t = CasesAreValid-holds (Case (Session offered) from) file t tt is in
-    let few = answers_fit ask t claims v claimed in
-    let fits : is_too_long (file (certificate_at verify)) ≡ false =
-    ap is_too_long kept ∙ le-ltb most_file_bytes (length (ask_text ask t)) few in
-    let read = same_case file offered from t is fits in
+    let v : IsValid t = CasesAreValid-holds limits (Case (Session offered) from) file t are tt is in
+    let few = answers_fit limits ask t claims are (let e = case_within limits are (Session offered) from file t is in omega (arith, e)) v claimed in
+    let fits : is_too_long limits (file (certificate_at verify)) ≡ false =
+    ap (is_too_long limits) kept ∙ le-ltb limits.bytes (length (ask_text ask t)) few in
+    let read = same_case limits file offered from t is fits in
     let answer : reply ≡ verify_reply t (file (certificate_at verify)) =
-    subst (λ (r : Result Tables Fault). IsReplyTo (IsCaseReply verify input (certificate_in verify file)) r reply) read replied in
+    subst (λ (r : Result Tables Fault). IsReplyTo (IsCaseReply limits.bytes verify input (certificate_in verify file)) r reply) read replied in
     answer ∙ (ap (verify_reply t) kept ∙ (answers_hold ask t claims v claimed).2)

@@ -33,7 +33,7 @@ use Rattle.obs_files.specs.Files.{case_in_files, certificate_in}
 use Rattle.obs_engine.specs.Ending.{answered_before, answered_in}
 use Rattle.obs_engine.specs.Forms.{CanEnd, TakesInput}
 use Rattle.obs_engine.specs.Lines.{lines_case}
-use Rattle.obs_engine.specs.Sessions.{most_input_bytes, session_reply}
+use Rattle.obs_engine.specs.Sessions.{session_reply}
 use Rattle.obs_engine.specs.Stated.{Told}
 use Rattle.obs_engine.specs.Replies.{IsRefused, IsReplyTo, RepliedAt, Reply, fault_reply, printed_status}
 use Rattle.obs_engine.specs.OutageReply.{are_met, outages_status}
@@ -76,8 +76,8 @@ ask_status-is PlaceAsk t = placed_status-is (case_placement t)
 ask_status-is Cert t = report_status-is t
 
 -- the statuses of the reply of a session
-pub session-can : (offered : Bool) (t : Tables) (input : List ℕ) → CanReply (session_reply offered t input).status
-session-can offered t input = elim (cases_Bool (nat_lt most_input_bytes (length input))) [
+pub session-can : (most : ℕ) (offered : Bool) (t : Tables) (input : List ℕ) → CanReply (session_reply most offered t input).status
+session-can most offered t input = elim (cases_Bool (nat_lt most (length input))) [
   | inl e ↦ rw e (inr (inr refl))
   | inr e ↦ rw e (widened (report_status-is (lines_case offered t (lines_of input))))
 ]
@@ -124,14 +124,14 @@ study-is Pairs t = report_status-is t
 study-is Stations t = stations_status-is t
 
 -- the status of the reply to a case
-pub case-can : (form : Form) (input certificate : List ℕ) (t : Tables) (reply : Reply) → IsCaseReply form input certificate t reply → CanEnd form reply.status
-case-can Topology input certificate t reply is = ap (λ (r : Reply). r.status) is
-case-can (Case Report from) input certificate t reply is = subst (λ (r : Reply). IsVerdict r.status) (sym is) (report_status-is t)
-case-can (Case Place from) input certificate t reply is = subst (λ (r : Reply). IsVerdict r.status) (sym is) (placed_status-is (case_placement t))
-case-can (Case (Session offered) from) input certificate t reply is = subst (λ (r : Reply). CanReply r.status) (sym is) (session-can offered t input)
-case-can (Case (Verify offered) from) input certificate t reply is = subst (λ (r : Reply). CanVerify r.status) (sym is) (verify-can t certificate)
-case-can (Case (StudyOf study) from) input certificate t reply is = subst (λ (r : Reply). IsVerdict r.status) (sym is) (study-is study t)
-case-can (Trial rows seed) input certificate t reply (searches, few, most, is) = subst (λ (r : Reply). IsVerdict r.status) (sym is) (report_status-is t)
+pub case-can : (most : ℕ) (form : Form) (input certificate : List ℕ) (t : Tables) (reply : Reply) → IsCaseReply most form input certificate t reply → CanEnd form reply.status
+case-can most Topology input certificate t reply is = ap (λ (r : Reply). r.status) is
+case-can most (Case Report from) input certificate t reply is = subst (λ (r : Reply). IsVerdict r.status) (sym is) (report_status-is t)
+case-can most (Case Place from) input certificate t reply is = subst (λ (r : Reply). IsVerdict r.status) (sym is) (placed_status-is (case_placement t))
+case-can most (Case (Session offered) from) input certificate t reply is = subst (λ (r : Reply). CanReply r.status) (sym is) (session-can most offered t input)
+case-can most (Case (Verify offered) from) input certificate t reply is = subst (λ (r : Reply). CanVerify r.status) (sym is) (verify-can t certificate)
+case-can most (Case (StudyOf study) from) input certificate t reply is = subst (λ (r : Reply). IsVerdict r.status) (sym is) (study-is study t)
+case-can most (Trial rows seed) input certificate t reply (searches, few, low, is) = subst (λ (r : Reply). IsVerdict r.status) (sym is) (report_status-is t)
 
 pub verdict_no_failure : (status : Status) → IsVerdict status → IsFailure status → ⊥
 verdict_no_failure status (inl s) (inl e) = absurd cc
@@ -173,33 +173,33 @@ end_no_failure (Case (Verify offered) from) status e = verify_no_failure status 
 end_no_failure (Case (StudyOf study) from) status e = verdict_no_failure status e
 end_no_failure (Trial rows seed) status e = verdict_no_failure status e
 
-pub case_no_failure : (form : Form) (input certificate : List ℕ) (t : Tables) (reply : Reply) → IsCaseReply form input certificate t reply → IsFailure reply.status → ⊥
-case_no_failure form input certificate t reply is = end_no_failure form reply.status (case-can form input certificate t reply is)
+pub case_no_failure : (most : ℕ) (form : Form) (input certificate : List ℕ) (t : Tables) (reply : Reply) → IsCaseReply most form input certificate t reply → IsFailure reply.status → ⊥
+case_no_failure most form input certificate t reply is = end_no_failure form reply.status (case-can most form input certificate t reply is)
 
-no_failure : (form : Form) (input certificate : List ℕ) (r : Result Tables Fault) (reply : Reply) → IsReplyTo (IsCaseReply form input certificate) r reply → IsFailure reply.status → ⊥
-no_failure form input certificate (Ok t) reply is = case_no_failure form input certificate t reply is
-no_failure form input certificate (Err fault) reply is = refused_no_failure reply.status (ap (λ (r : Reply). r.status) is)
+no_failure : (most : ℕ) (form : Form) (input certificate : List ℕ) (r : Result Tables Fault) (reply : Reply) → IsReplyTo (IsCaseReply most form input certificate) r reply → IsFailure reply.status → ⊥
+no_failure most form input certificate (Ok t) reply is = case_no_failure most form input certificate t reply is
+no_failure most form input certificate (Err fault) reply is = refused_no_failure reply.status (ap (λ (r : Reply). r.status) is)
 
 -- a reply that is stated for a form says no failure
-pub stated_no_failure : (form : Form) (told : Told) (reply : Reply) → IsFilesReply form told.input told.file reply → IsFailure reply.status → ⊥
-stated_no_failure form told reply is = no_failure form told.input (certificate_in form told.file) (case_in_files form told.file) reply is
+pub stated_no_failure : (form : Form) (told : Told) (reply : Reply) → IsFilesReply told.limits form told.input told.file reply → IsFailure reply.status → ⊥
+stated_no_failure form told reply is = no_failure told.limits.bytes form told.input (certificate_in form told.file) (case_in_files told.limits form told.file) reply is
 
 -- there is a reply to each case
-some_reply : (form : Form) (input certificate : List ℕ) (t : Tables) → (reply : Reply) × IsCaseReply form input certificate t reply
-some_reply Topology input certificate t = (topology_reply t, refl)
-some_reply (Case Report from) input certificate t = (ask_reply ReportAsk t, refl)
-some_reply (Case Place from) input certificate t = (ask_reply PlaceAsk t, refl)
-some_reply (Case (Session offered) from) input certificate t = (session_reply offered t input, refl)
-some_reply (Case (Verify offered) from) input certificate t = (verify_reply t certificate, refl)
-some_reply (Case (StudyOf study) from) input certificate t = (study_reply study t, refl)
-some_reply (Trial rows seed) input certificate t = (trial_reply rows seed t (dips_of t), (dips_of t, omega arith, dips_few t, refl))
+some_reply : (most : ℕ) (form : Form) (input certificate : List ℕ) (t : Tables) → (reply : Reply) × IsCaseReply most form input certificate t reply
+some_reply most Topology input certificate t = (topology_reply t, refl)
+some_reply most (Case Report from) input certificate t = (ask_reply ReportAsk t, refl)
+some_reply most (Case Place from) input certificate t = (ask_reply PlaceAsk t, refl)
+some_reply most (Case (Session offered) from) input certificate t = (session_reply most offered t input, refl)
+some_reply most (Case (Verify offered) from) input certificate t = (verify_reply t certificate, refl)
+some_reply most (Case (StudyOf study) from) input certificate t = (study_reply study t, refl)
+some_reply most (Trial rows seed) input certificate t = (trial_reply rows seed t (dips_of t), (dips_of t, omega arith, dips_few t, refl))
 
 -- and so one that is stated for the files of a form
-pub stated_reply : (form : Form) (told : Told) → (reply : Reply) × IsFilesReply form told.input told.file reply
-stated_reply form told = to (case_in_files form told.file)
+pub stated_reply : (form : Form) (told : Told) → (reply : Reply) × IsFilesReply told.limits form told.input told.file reply
+stated_reply form told = to (case_in_files told.limits form told.file)
   where
-    to : (r : Result Tables Fault) → (reply : Reply) × IsReplyTo (IsCaseReply form told.input (certificate_in form told.file)) r reply
-    to (Ok t) = some_reply form told.input (certificate_in form told.file) t
+    to : (r : Result Tables Fault) → (reply : Reply) × IsReplyTo (IsCaseReply told.limits.bytes form told.input (certificate_in form told.file)) r reply
+    to (Ok t) = some_reply told.limits.bytes form told.input (certificate_in form told.file) t
     to (Err fault) = (fault_reply fault, refl)
 
 -- where the files are no case, this is what they got
@@ -217,7 +217,7 @@ pub nothing_before : (form : Form) (told : Told) (left : Option (List ℕ)) → 
 nothing_before Topology told left is = refl
 nothing_before (Case Report from) told left is = refl
 nothing_before (Case Place from) told left is = refl
-nothing_before (Case (Session offered) from) told left is = ap (λ (l : Option (List ℕ)). answered_in offered (case_in_files (Case (Session offered) from) told.file) told.input l) (is tt) ∙ nothing_in offered (case_in_files (Case (Session offered) from) told.file) told.input
+nothing_before (Case (Session offered) from) told left is = ap (λ (l : Option (List ℕ)). answered_in offered (case_in_files told.limits (Case (Session offered) from) told.file) told.input l) (is tt) ∙ nothing_in offered (case_in_files told.limits (Case (Session offered) from) told.file) told.input
 nothing_before (Case (Verify offered) from) told left is = refl
 nothing_before (Case (StudyOf study) from) told left is = refl
 nothing_before (Trial rows seed) told left is = refl

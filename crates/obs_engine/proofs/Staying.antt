@@ -40,8 +40,9 @@ use Rattle.obs_files.specs.Files.{case_in_files, certificate_in}
 use Rattle.obs_engine.specs.Forms.{CanRefuse}
 use Rattle.obs_engine.specs.Lines.{answer_to, case_after, line_case, line_text, lines_case, lines_text}
 use Rattle.obs_engine.specs.Replies.{EndsWith, IsRefused, IsReplyTo, Reply, fault_reply, usage_reply}
-use Rattle.obs_engine.specs.Sessions.{most_input_bytes, session_reply}
+use Rattle.obs_engine.specs.Sessions.{session_reply}
 use Rattle.obs_engine.specs.Stays.{AnswersAsRun, Begins, CanBeSaidAgain, IsBegun, IsContent, IsNotBegun, RefusesAsRun, as_one, input_of, line_replies, line_reply}
+use Rattle.obs_files.specs.Limits.{Limits}
 use Rattle.obs_files.specs.Words.{offers}
 use Rattle.obs_files.specs.Taken.{IsCaseError}
 use Rattle.obs_engine.proofs.Folding.{is_whole}
@@ -49,33 +50,33 @@ use Rattle.obs_engine.proofs.Lined.{passed_case, said_case, said_text}
 use Rattle.obs_engine.proofs.Replied.{report_status-is}
 
 -- a session that was begun with the case of its files, or found no memory
-pub begins-counted : (form : Option Form) (x : Form) (file : ℕ → List ℕ) (offered : Bool) (t : Tables) (result : Result Kept Status) (a : Option (List ℕ))
-    → Some x ≡ form → Some offered ≡ offers (Some x) → case_in_files x file ≡ Ok t
-    → IfOk result (λ s. s.tables ≡ t) → IfOk result (λ s. s.offered ≡ offered) → IfErr result (λ status. status ≡ NoMemory) → Begins form file result a a
-begins-counted form x file offered t (Ok s) a is some case tables offered_is memory =
-    subst (λ (f : Option Form). IsBegun f file s.offered s.tables) is (sym some ∙ ap Some (sym offered_is), case ∙ ap Ok (sym tables))
-begins-counted form x file offered t (Err status) a is some case tables offered_is memory = inr (inr memory, refl)
+pub begins-counted : (limits : Limits) (form : Option Form) (x : Form) (file : ℕ → List ℕ) (offered : Bool) (t : Tables) (result : Result Kept Status) (a : Option (List ℕ))
+    → Some x ≡ form → Some offered ≡ offers (Some x) → case_in_files limits x file ≡ Ok t
+    → IfOk result (λ s. s.tables ≡ t) → IfOk result (λ s. s.offered ≡ offered) → IfErr result (λ status. status ≡ NoMemory) → Begins limits form file result a a
+begins-counted limits form x file offered t (Ok s) a is some case tables offered_is memory =
+    subst (λ (f : Option Form). IsBegun limits f file s.offered s.tables) is (sym some ∙ ap Some (sym offered_is), case ∙ ap Ok (sym tables))
+begins-counted limits form x file offered t (Err status) a is some case tables offered_is memory = inr (inr memory, refl)
 
 -- words that have no form, or none of a session
-pub begins-usage : (form : Option Form) (file : ℕ → List ℕ) (status : Status) (a b : Option (List ℕ)) → None ≡ form → EndsWith usage_reply status a b → Begins form file (Err status) a b
-begins-usage form file status a b is ends = subst (λ (f : Option Form). Begins f file (Err status) a b) is (inl (usage_reply, refl, ends))
+pub begins-usage : (limits : Limits) (form : Option Form) (file : ℕ → List ℕ) (status : Status) (a b : Option (List ℕ)) → None ≡ form → EndsWith usage_reply status a b → Begins limits form file (Err status) a b
+begins-usage limits form file status a b is ends = subst (λ (f : Option Form). Begins limits f file (Err status) a b) is (inl (usage_reply, refl, ends))
 
-pub begins-other : (form : Option Form) (x : Form) (file : ℕ → List ℕ) (status : Status) (a b : Option (List ℕ)) → Some x ≡ form → None ≡ offers (Some x) → EndsWith usage_reply status a b
-    → Begins form file (Err status) a b
-begins-other form x file status a b is none ends = subst (λ (f : Option Form). Begins f file (Err status) a b) is (inl (usage_reply, inl (sym none, refl), ends))
+pub begins-other : (limits : Limits) (form : Option Form) (x : Form) (file : ℕ → List ℕ) (status : Status) (a b : Option (List ℕ)) → Some x ≡ form → None ≡ offers (Some x) → EndsWith usage_reply status a b
+    → Begins limits form file (Err status) a b
+begins-other limits form x file status a b is none ends = subst (λ (f : Option Form). Begins limits f file (Err status) a b) is (inl (usage_reply, inl (sym none, refl), ends))
 
 -- files from which nothing was taken
-pub begins-refused : (form : Option Form) (x : Form) (file : ℕ → List ℕ) (offered : Bool) (why : CaseError) (status : Status) (a b : Option (List ℕ))
-    → Some x ≡ form → Some offered ≡ offers (Some x) → IsCaseError (case_in_files x file) why
+pub begins-refused : (limits : Limits) (form : Option Form) (x : Form) (file : ℕ → List ℕ) (offered : Bool) (why : CaseError) (status : Status) (a b : Option (List ℕ))
+    → Some x ≡ form → Some offered ≡ offers (Some x) → IsCaseError (case_in_files limits x file) why
     → ((stated : Result Tables Fault) (reply : Reply) → IsCaseError stated why → IsRefused stated reply → EndsWith reply status a b)
     → (why ≡ Read → status ≡ ReadFault) → (status ≡ ReadFault → b ≡ a) → (why ≡ NoMemoryForIt → status ≡ NoMemory) → (status ≡ NoMemory → b ≡ a)
-    → Begins form file (Err status) a b
-begins-refused form x file offered (Refused fault) status a b is some stated ends read unread starved memory =
-    subst (λ (f : Option Form). Begins f file (Err status) a b) is
+    → Begins limits form file (Err status) a b
+begins-refused limits form x file offered (Refused fault) status a b is some stated ends read unread starved memory =
+    subst (λ (f : Option Form). Begins limits f file (Err status) a b) is
     (let reply = fault_reply (fault_of fault) in
-    inl (reply, inr (offered, fault_of fault, sym some, stated, refl), ends (case_in_files x file) reply stated (subst (λ (r : Result Tables Fault). IsRefused r reply) (sym stated) refl)))
-begins-refused form x file offered Read status a b is some stated ends read unread starved memory = inr (inl (read refl), unread (read refl))
-begins-refused form x file offered NoMemoryForIt status a b is some stated ends read unread starved memory = inr (inr (starved refl), memory (starved refl))
+    inl (reply, inr (offered, fault_of fault, sym some, stated, refl), ends (case_in_files limits x file) reply stated (subst (λ (r : Result Tables Fault). IsRefused r reply) (sym stated) refl)))
+begins-refused limits form x file offered Read status a b is some stated ends read unread starved memory = inr (inl (read refl), unread (read refl))
+begins-refused limits form x file offered NoMemoryForIt status a b is some stated ends read unread starved memory = inr (inr (starved refl), memory (starved refl))
 
 -- with which statuses none begins
 pub refuses : (form : Option Form) (x : Form) (o : Option Bool) (status : Status) → Some x ≡ form → o ≡ offers (Some x) → CanRefuse o status → CanRefuse (offers form) status
@@ -87,21 +88,21 @@ refuses-counted form x offered (Ok s) is said memory = tt
 refuses-counted form x offered (Err status) is said memory = refuses form x (Some offered) status is said (inr (inr (inr memory)))
 
 -- which reply is stated where none begins
-pub usage_of_words : (form : Option Form) (file : ℕ → List ℕ) (reply : Reply) → None ≡ form → IsNotBegun form file reply → reply ≡ usage_reply
-usage_of_words form file reply is not = subst (λ (f : Option Form). IsNotBegun f file reply) (sym is) not
+pub usage_of_words : (limits : Limits) (form : Option Form) (file : ℕ → List ℕ) (reply : Reply) → None ≡ form → IsNotBegun limits form file reply → reply ≡ usage_reply
+usage_of_words limits form file reply is not = subst (λ (f : Option Form). IsNotBegun limits f file reply) (sym is) not
 
-pub usage_of_others : (form : Option Form) (x : Form) (file : ℕ → List ℕ) (reply : Reply) → Some x ≡ form → None ≡ offers (Some x) → IsNotBegun form file reply → reply ≡ usage_reply
-usage_of_others form x file reply is none not = by (offers (Some x)) none (subst (λ (f : Option Form). IsNotBegun f file reply) (sym is) not)
+pub usage_of_others : (limits : Limits) (form : Option Form) (x : Form) (file : ℕ → List ℕ) (reply : Reply) → Some x ≡ form → None ≡ offers (Some x) → IsNotBegun limits form file reply → reply ≡ usage_reply
+usage_of_others limits form x file reply is none not = by (offers (Some x)) none (subst (λ (f : Option Form). IsNotBegun limits f file reply) (sym is) not)
   where
-    by : (o : Option Bool) → None ≡ o → ((o ≡ None) × (reply ≡ usage_reply)) ⊎ ((offered : Bool) × (fault : Fault) × (o ≡ Some offered) × (case_in_files x file ≡ Err fault) × (reply ≡ fault_reply fault)) → reply ≡ usage_reply
+    by : (o : Option Bool) → None ≡ o → ((o ≡ None) × (reply ≡ usage_reply)) ⊎ ((offered : Bool) × (fault : Fault) × (o ≡ Some offered) × (case_in_files limits x file ≡ Err fault) × (reply ≡ fault_reply fault)) → reply ≡ usage_reply
     by o none (inl (e, same)) = same
     by o none (inr (offered, fault, e, case, is)) = absurd cc
 
-pub refused_by_files : (form : Option Form) (x : Form) (file : ℕ → List ℕ) (offered : Bool) (reply : Reply) → Some x ≡ form → Some offered ≡ offers (Some x) → IsNotBegun form file reply
-    → IsRefused (case_in_files x file) reply
-refused_by_files form x file offered reply is some not = by (offers (Some x)) some (subst (λ (f : Option Form). IsNotBegun f file reply) (sym is) not)
+pub refused_by_files : (limits : Limits) (form : Option Form) (x : Form) (file : ℕ → List ℕ) (offered : Bool) (reply : Reply) → Some x ≡ form → Some offered ≡ offers (Some x) → IsNotBegun limits form file reply
+    → IsRefused (case_in_files limits x file) reply
+refused_by_files limits form x file offered reply is some not = by (offers (Some x)) some (subst (λ (f : Option Form). IsNotBegun limits f file reply) (sym is) not)
   where
-    by : (o : Option Bool) → Some offered ≡ o → ((o ≡ None) × (reply ≡ usage_reply)) ⊎ ((offered : Bool) × (fault : Fault) × (o ≡ Some offered) × (case_in_files x file ≡ Err fault) × (reply ≡ fault_reply fault)) → IsRefused (case_in_files x file) reply
+    by : (o : Option Bool) → Some offered ≡ o → ((o ≡ None) × (reply ≡ usage_reply)) ⊎ ((offered : Bool) × (fault : Fault) × (o ≡ Some offered) × (case_in_files limits x file ≡ Err fault) × (reply ≡ fault_reply fault)) → IsRefused (case_in_files limits x file) reply
     by o some (inl (e, same)) = absurd cc
     by o some (inr (p, fault, e, case, same)) = subst (λ (r : Result Tables Fault). IsRefused r reply) (sym case) same
 
@@ -159,37 +160,37 @@ lines-of_input (line ∷ lines) all =
 not_longer : (most n : ℕ) → n ≤ most → nat_lt most n ≡ false
 not_longer most n short = grind (arith, nat_tests)
 
-whole-of_lines : (o : Bool) (t : Tables) (lines : List (List ℕ)) → All IsContent lines → length (input_of lines) ≤ most_input_bytes
-    → as_one (report_status t) (line_replies o t lines) ≡ session_reply o t (input_of lines)
-whole-of_lines o t lines all short =
+whole-of_lines : (most : ℕ) (o : Bool) (t : Tables) (lines : List (List ℕ)) → All IsContent lines → length (input_of lines) ≤ most
+    → as_one (report_status t) (line_replies o t lines) ≡ session_reply most o t (input_of lines)
+whole-of_lines most o t lines all short =
     as_one-is o t lines
     ∙ (ap (λ (ls : List (List ℕ)). record { status = report_status (lines_case o t ls); text = lines_text o t ls }) (sym (lines-of_input lines all))
-    ∙ sym (is_whole o t (input_of lines) (not_longer most_input_bytes (length (input_of lines)) short)))
+    ∙ sym (is_whole o t (input_of lines) most (not_longer most (length (input_of lines)) short)))
 
 pub AnswersAsRun-holds : AnswersAsRun
-AnswersAsRun-holds None file o t lines begun all short = absurd begun
-AnswersAsRun-holds (Some Topology) file o t lines (e, case) all short = absurd (cc e)
-AnswersAsRun-holds (Some (Case Report from)) file o t lines (e, case) all short = absurd (cc e)
-AnswersAsRun-holds (Some (Case Place from)) file o t lines (e, case) all short = absurd (cc e)
-AnswersAsRun-holds (Some (Case (Verify offered) from)) file o t lines (e, case) all short = absurd (cc e)
-AnswersAsRun-holds (Some (Case (StudyOf study) from)) file o t lines (e, case) all short = absurd (cc e)
-AnswersAsRun-holds (Some (Trial rows seed)) file o t lines (e, case) all short = absurd (cc e)
-AnswersAsRun-holds (Some (Case (Session offered) from)) file o t lines (e, case) all short =
+AnswersAsRun-holds limits None file o t lines begun all short = absurd begun
+AnswersAsRun-holds limits (Some Topology) file o t lines (e, case) all short = absurd (cc e)
+AnswersAsRun-holds limits (Some (Case Report from)) file o t lines (e, case) all short = absurd (cc e)
+AnswersAsRun-holds limits (Some (Case Place from)) file o t lines (e, case) all short = absurd (cc e)
+AnswersAsRun-holds limits (Some (Case (Verify offered) from)) file o t lines (e, case) all short = absurd (cc e)
+AnswersAsRun-holds limits (Some (Case (StudyOf study) from)) file o t lines (e, case) all short = absurd (cc e)
+AnswersAsRun-holds limits (Some (Trial rows seed)) file o t lines (e, case) all short = absurd (cc e)
+AnswersAsRun-holds limits (Some (Case (Session offered) from)) file o t lines (e, case) all short =
     let form = Case (Session offered) from in
     let reply = as_one (report_status t) (line_replies o t lines) in
     let same : offered ≡ o = cc e in
-    subst (λ (r : Result Tables Fault). IsReplyTo (IsCaseReply form (input_of lines) (certificate_in form file)) r reply) (sym case)
-    (whole-of_lines o t lines all short ∙ ap (λ (x : Bool). session_reply x t (input_of lines)) (sym same))
+    subst (λ (r : Result Tables Fault). IsReplyTo (IsCaseReply limits.bytes form (input_of lines) (certificate_in form file)) r reply) (sym case)
+    (whole-of_lines limits.bytes o t lines all short ∙ ap (λ (x : Bool). session_reply limits.bytes x t (input_of lines)) (sym same))
 
 pub RefusesAsRun-holds : RefusesAsRun
-RefusesAsRun-holds None file input reply kind not = not
-RefusesAsRun-holds (Some form) file input reply (inl e) not = absurd (cc e)
-RefusesAsRun-holds (Some form) file input reply (inr (o, e)) (inl (none, is)) = absurd (clash (offers (Some form)) none e)
+RefusesAsRun-holds limits None file input reply kind not = not
+RefusesAsRun-holds limits (Some form) file input reply (inl e) not = absurd (cc e)
+RefusesAsRun-holds limits (Some form) file input reply (inr (o, e)) (inl (none, is)) = absurd (clash (offers (Some form)) none e)
   where
     clash : (x : Option Bool) → x ≡ None → x ≡ Some o → ⊥
     clash x a b = absurd cc
-RefusesAsRun-holds (Some form) file input reply (inr (o, e)) (inr (p, fault, f, case, is)) =
-    subst (λ (r : Result Tables Fault). IsReplyTo (IsCaseReply form input (certificate_in form file)) r reply) (sym case) is
+RefusesAsRun-holds limits (Some form) file input reply (inr (o, e)) (inr (p, fault, f, case, is)) =
+    subst (λ (r : Result Tables Fault). IsReplyTo (IsCaseReply limits.bytes form input (certificate_in form file)) r reply) (sym case) is
 
 -- a row that is changed keeps its name, and may be changed again
 module _ {A : Type 0} (change : A → A) where

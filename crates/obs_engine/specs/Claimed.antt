@@ -1,7 +1,6 @@
 -- The claims that the answers to asks are.
 use Rattle.std.specs.Prelude.{◌≡◌, ◌≤◌, ◌⊎◌, ℕ, ◌==◌, Bool, true, false, List, [], ◌∷◌, length, Ok, if◌then◌else◌}
 use Rattle.std.specs.List.{flat_map, range_with_len}
-use Rattle.obs_text.specs.Limits.{most_file_bytes}
 use Rattle.obs_case.specs.Tables.{IsValid, Tables}
 use Rattle.obs_network.specs.Network.{case_component_count, case_need}
 use Rattle.obs_network.specs.Observable.{is_energised_component}
@@ -18,6 +17,7 @@ use Rattle.obs_files.specs.declared.words.Form.TheVariants.{Case}
 use Rattle.obs_engine.specs.Asks.{ask_text}
 use Rattle.obs_engine.specs.Commands.{IsFilesReply}
 use Rattle.obs_files.specs.Files.{case_in_files}
+use Rattle.obs_files.specs.Limits.{IsLimits, Limits}
 use Rattle.obs_engine.specs.Replies.{Reply}
 use Rattle.obs_engine.specs.Verify.{AllHold, valid_reply, verify_reply}
 use Rattle.obs_files.specs.Words.{certificate_at, item_if}
@@ -47,15 +47,17 @@ abbrev pub AnswersHold : Type 0
 AnswersHold = (ask : Ask) (t : Tables) (claims : List Claim) → IsValid t → AreClaimed ask t claims →
     (claims_of (ask_text ask t) ≡ Ok claims) × AllHold t claims × (verify_reply t (ask_text ask t) ≡ valid_reply (length claims))
 
--- such an answer is no longer than a file may be
+-- such an answer to a case whose tables may have no more rows than the limits allow is no longer than a file may be with them
 abbrev pub AnswersFit : Type 0
-AnswersFit = (ask : Ask) (t : Tables) (claims : List Claim) → IsValid t → AreClaimed ask t claims → length (ask_text ask t) ≤ most_file_bytes
+AnswersFit =
+    (limits : Limits) (ask : Ask) (t : Tables) (claims : List Claim) → IsLimits limits → t.most ≤ limits.rows → IsValid t → AreClaimed ask t claims
+    → length (ask_text ask t) ≤ limits.bytes
 
 -- so where the files of a session are a case, and the certificate of `verify` with the same files is such an answer to that case, the
 -- reply is how many claims it has
 abbrev pub AnswersAreVerified : Type 0
 AnswersAreVerified =
-    (ask : Ask) (from : CaseForm) (offered : Bool) (file : ℕ → List ℕ) (t : Tables) (claims : List Claim) (input : List ℕ) (reply : Reply)
-    → case_in_files (Case (Session offered) from) file ≡ Ok t → AreClaimed ask t claims
+    (limits : Limits) (ask : Ask) (from : CaseForm) (offered : Bool) (file : ℕ → List ℕ) (t : Tables) (claims : List Claim) (input : List ℕ) (reply : Reply)
+    → IsLimits limits → case_in_files limits (Case (Session offered) from) file ≡ Ok t → AreClaimed ask t claims
     → file (certificate_at (Case (Verify offered) from)) ≡ ask_text ask t
-    → IsFilesReply (Case (Verify offered) from) input file reply → reply ≡ valid_reply (length claims)
+    → IsFilesReply limits (Case (Verify offered) from) input file reply → reply ≡ valid_reply (length claims)

@@ -21,7 +21,7 @@ answered_in offered (Err fault) input left = []
 -- what had been answered when a read failed and these bytes of the input were left: nothing, but for forms that take the input
 abbrev pub answered_before : Option Form → Told → Option (List ℕ) → List ℕ
 answered_before (Some (Case (Session offered) from)) told left =
-    answered_in offered (case_in_files (Case (Session offered) from) told.file) told.input left
+    answered_in offered (case_in_files told.limits (Case (Session offered) from) told.file) told.input left
 answered_before form told left = []
 
 -- the run wrote the whole stated text and answered the stated status

@@ -6,6 +6,7 @@ use Rattle.obs_files.specs.declared.status.Status.TheVariants.{Done, Short, Usag
 use Rattle.obs_files.specs.declared.words.CaseCommand.TheVariants.{Session, Verify}
 use Rattle.obs_files.specs.declared.words.Form.{Form}
 use Rattle.obs_files.specs.declared.words.Form.TheVariants.{Topology, Case}
+use Rattle.obs_files.specs.Limits.{Limits}
 use Rattle.obs_files.specs.Outside.{AreCase, AreFiles, ReadFailed}
 use Rattle.obs_files.specs.Words.{file_words}
 
@@ -37,22 +38,22 @@ CanAnswer (Some form) status = CanEnd form status ⊎ CanStop status
 
 -- reading a file of a form failed: nothing of the input is taken, no read of it failed, and nothing is written
 pub record FileFailed
-    (form : Option Form) (content : ℕ → Option (List ℕ)) (before now : ℕ → ℕ) (left left_now : Option (List ℕ)) (input_before input_now : ℕ)
+    (limits : Limits) (form : Option Form) (content : ℕ → Option (List ℕ)) (before now : ℕ → ℕ) (left left_now : Option (List ℕ)) (input_before input_now : ℕ)
     (written written_now : Option (List ℕ)) : Type 0 where
-  pub file : ReadFailed (file_words form) content before now
+  pub file : ReadFailed limits (file_words form) content before now
   pub input : left_now ≡ left
   pub input_faults : input_now ≡ input_before
   pub output : written_now ≡ written
 
 -- reading the input failed, where the form takes it: no read of a file did, and the files are a case, where their contents are told
-pub record InputFailed (form : Option Form) (content : ℕ → Option (List ℕ)) (before now : ℕ → ℕ) (input_before input_now : ℕ) : Type 0 where
+pub record InputFailed (limits : Limits) (form : Option Form) (content : ℕ → Option (List ℕ)) (before now : ℕ → ℕ) (input_before input_now : ℕ) : Type 0 where
   pub takes : TakesInput form
   pub rose : Rose input_before input_now
   pub files : (w : ℕ) → now w ≡ before w
-  pub case : (file : ℕ → List ℕ) → AreFiles form content file → AreCase form file
+  pub case : (file : ℕ → List ℕ) → AreFiles limits form content file → AreCase limits form file
 
 -- a read failed: that of a file of the form, or that of the input
-abbrev pub AnyReadFailed : Option Form → (ℕ → Option (List ℕ)) → (ℕ → ℕ) → (ℕ → ℕ) → Option (List ℕ) → Option (List ℕ) → ℕ → ℕ
+abbrev pub AnyReadFailed : Limits → Option Form → (ℕ → Option (List ℕ)) → (ℕ → ℕ) → (ℕ → ℕ) → Option (List ℕ) → Option (List ℕ) → ℕ → ℕ
     → Option (List ℕ) → Option (List ℕ) → Type 0
-AnyReadFailed form content before now left left_now input_before input_now written written_now =
-    FileFailed form content before now left left_now input_before input_now written written_now ⊎ InputFailed form content before now input_before input_now
+AnyReadFailed limits form content before now left left_now input_before input_now written written_now =
+    FileFailed limits form content before now left left_now input_before input_now written written_now ⊎ InputFailed limits form content before now input_before input_now

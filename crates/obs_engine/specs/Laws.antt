@@ -61,7 +61,7 @@ pub record IsAnswerTo (offered : Bool) (t : Tables) (line : List ℕ) : Type 0 w
 -- the answer to the line `report` is what the command prints of the present case
 abbrev pub ReportsAsTheCommand : Type 0
 ReportsAsTheCommand =
-    (offered : Bool) (t : Tables) (from : CaseForm) (input certificate : List ℕ) (reply : Reply) → IsCaseReply (Case Report from) input certificate t reply
+    (most : ℕ) (offered : Bool) (t : Tables) (from : CaseForm) (input certificate : List ℕ) (reply : Reply) → IsCaseReply most (Case Report from) input certificate t reply
     → line_text offered t (codes "report") ≡ reply.text
 
 -- after lines that lead to one present case, in whatever order, all further lines get the same answers

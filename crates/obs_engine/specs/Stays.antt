@@ -11,30 +11,30 @@ use Rattle.obs_files.specs.declared.status.Status.TheVariants.{ReadFault, NoMemo
 use Rattle.obs_files.specs.declared.words.Form.{Form}
 use Rattle.obs_engine.specs.Asks.{report_status}
 use Rattle.obs_files.specs.Files.{case_in_files}
+use Rattle.obs_files.specs.Limits.{Limits}
 use Rattle.obs_files.specs.Words.{offers}
 use Rattle.obs_engine.specs.Lines.{line_case, line_text}
 use Rattle.obs_engine.specs.Replies.{EndsWith, Reply, fault_reply, usage_reply}
-use Rattle.obs_engine.specs.Sessions.{most_input_bytes}
 use Rattle.obs_engine.specs.Stated.{IsStated}
 
--- the words are a session's, with candidates or without, and this is the case that its files are
-abbrev pub IsBegun : Option Form → (ℕ → List ℕ) → Bool → Tables → Type 0
-IsBegun (Some form) file offered t = (offers (Some form) ≡ Some offered) × (case_in_files form file ≡ Ok t)
-IsBegun None file offered t = ⊥
+-- the words are a session's, with candidates or without, and this is the case that its files are with these limits
+abbrev pub IsBegun : Limits → Option Form → (ℕ → List ℕ) → Bool → Tables → Type 0
+IsBegun limits (Some form) file offered t = (offers (Some form) ≡ Some offered) × (case_in_files limits form file ≡ Ok t)
+IsBegun limits None file offered t = ⊥
 
 -- no session begins: the reply to words that are no session's, or to files that are no case
-abbrev pub IsNotBegun : Option Form → (ℕ → List ℕ) → Reply → Type 0
-IsNotBegun (Some form) file reply =
+abbrev pub IsNotBegun : Limits → Option Form → (ℕ → List ℕ) → Reply → Type 0
+IsNotBegun limits (Some form) file reply =
     ((offers (Some form) ≡ None) × (reply ≡ usage_reply))
-    ⊎ ((offered : Bool) × (fault : Fault) × (offers (Some form) ≡ Some offered) × (case_in_files form file ≡ Err fault) × (reply ≡ fault_reply fault))
-IsNotBegun None file reply = reply ≡ usage_reply
+    ⊎ ((offered : Bool) × (fault : Fault) × (offers (Some form) ≡ Some offered) × (case_in_files limits form file ≡ Err fault) × (reply ≡ fault_reply fault))
+IsNotBegun limits None file reply = reply ≡ usage_reply
 
 -- how beginning a session ends: it has begun; or it gets the reply that is stated where none begins; or a file couldn't be read or
 -- there was no memory, and nothing is written
-abbrev pub Begins : Option Form → (ℕ → List ℕ) → Result Kept Status → Option (List ℕ) → Option (List ℕ) → Type 0
-Begins form file (Ok s) before after = IsBegun form file s.offered s.tables
-Begins form file (Err status) before after =
-    ((reply : Reply) × IsNotBegun form file reply × EndsWith reply status before after)
+abbrev pub Begins : Limits → Option Form → (ℕ → List ℕ) → Result Kept Status → Option (List ℕ) → Option (List ℕ) → Type 0
+Begins limits form file (Ok s) before after = IsBegun limits form file s.offered s.tables
+Begins limits form file (Err status) before after =
+    ((reply : Reply) × IsNotBegun limits form file reply × EndsWith reply status before after)
     ⊎ (((status ≡ ReadFault) ⊎ (status ≡ NoMemory)) × (after ≡ before))
 
 -- the reply to one line of this content: its answer, and the status is that of the present case behind it
@@ -68,19 +68,19 @@ input_of [] = []
 input_of (line ∷ lines) = line ++ (line_feed ∷ input_of lines)
 
 -- a session that stays answers what `run` answers: the replies to its lines, as one, are the reply that is stated for the same words and
--- files and the input of these lines, where each is the content of a line and `run` reads that many bytes
+-- files and the input of these lines, with the same limits, where each is the content of a line and an input may have that many bytes
 abbrev pub AnswersAsRun : Type 0
 AnswersAsRun =
-    (form : Option Form) (file : ℕ → List ℕ) (offered : Bool) (t : Tables) (lines : List (List ℕ))
-    → IsBegun form file offered t → All IsContent lines → length (input_of lines) ≤ most_input_bytes
-    → IsStated form (record { file = file; input = input_of lines }) (as_one (report_status t) (line_replies offered t lines))
+    (limits : Limits) (form : Option Form) (file : ℕ → List ℕ) (offered : Bool) (t : Tables) (lines : List (List ℕ))
+    → IsBegun limits form file offered t → All IsContent lines → length (input_of lines) ≤ limits.bytes
+    → IsStated form (record { limits = limits; file = file; input = input_of lines }) (as_one (report_status t) (line_replies offered t lines))
 
 -- where words are a session's, or have no form, and none begins, `run` has the same reply, whatever the input
 abbrev pub RefusesAsRun : Type 0
 RefusesAsRun =
-    (form : Option Form) (file : ℕ → List ℕ) (input : List ℕ) (reply : Reply)
+    (limits : Limits) (form : Option Form) (file : ℕ → List ℕ) (input : List ℕ) (reply : Reply)
     → (form ≡ None) ⊎ ((offered : Bool) × (offers form ≡ Some offered))
-    → IsNotBegun form file reply → IsStated form (record { file = file; input = input }) reply
+    → IsNotBegun limits form file reply → IsStated form (record { limits = limits; file = file; input = input }) reply
 
 -- a line that is said again changes nothing more, and has the same reply
 abbrev pub CanBeSaidAgain : Type 0

@@ -12,23 +12,25 @@ use crate::tasks::{Task, begin_task};
 use crate::topology::answer_topology;
 use crate::verify::answer_verify;
 use obs_case::Case;
-use obs_files::{CaseCommand, Form, Status, take_case};
+use obs_files::{CaseCommand, Form, Limits, Status, take_case};
 use obs_io::{Files, Sink, Source};
 use obs_script::Ask;
 use std::alloc::Global;
 
-// Answers a case: in a session the lines of the input, and where a certificate is checked its claims.
+// Answers a case: in a session the lines of the input, which may have so many bytes, and where a certificate is checked its claims.
 fn answer_case<S: Source, W: Sink>(
     alloc: Global,
     form: Form,
     case: Case,
     certificate: &[u8],
+    most_bytes: usize,
     input: &mut S,
     output: &mut W,
 ) -> Status
     requires few { length certificate.now ≤ most_file_bytes }
+    requires bound { most_bytes ≤ most_file_bytes }
     requires inservice { (rows seed : ℕ) → form ≡ Form.Trial rows seed → AreInService case }
-    ensures answered { IsAnswered S.left S.faults S.steady W.written W.faults W.has_room form case certificate.now
+    ensures answered { IsAnswered S.left S.faults S.steady W.written W.faults W.has_room most_bytes form case certificate.now
         input.old input.new output.old output.new result }
     ensures input { (TakesInput (Some form) → ⊥) → input.new ≡ input.old }
 {
@@ -44,7 +46,14 @@ fn answer_case<S: Source, W: Sink>(
                 begin_task(alloc, case, true, task, input, output)
             }
             CaseCommand::Session { offered } => {
-                begin_task(alloc, case, offered, Task::Lines, input, output)
+                begin_task(
+                    alloc,
+                    case,
+                    offered,
+                    Task::Lines { most_bytes },
+                    input,
+                    output,
+                )
             }
             CaseCommand::Verify { .. } => answer_verify(alloc, output, &case, certificate),
             CaseCommand::Study(study) => answer_study(alloc, study, case, output),
@@ -59,18 +68,28 @@ fn answer_case<S: Source, W: Sink>(
 /// Runs a command of this form.
 pub(crate) fn command<F: Files, S: Source, W: Sink>(
     alloc: Global,
+    limits: Limits,
     form: Form,
     files: &mut F,
     input: &mut S,
     output: &mut W,
 ) -> Status
+    requires furthest { limits.bytes ≤ F.furthest }
     requires rows { HasRows form }
-    ensures ran { IsRun F.content F.faults F.steady S.left S.faults S.steady W.written W.faults W.has_room (Some form)
+    ensures ran { IsRun F.content F.faults F.steady S.left S.faults S.steady W.written W.faults W.has_room limits (Some form)
         files.old files.new input.old input.new output.old output.new result }
     ensures input { (TakesInput (Some form) → ⊥) → input.new ≡ input.old }
 {
-    match take_case(alloc, files, form) {
-        Ok(taken) => { answer_case(alloc, form, taken.case, &taken.certificate, input, output) }
+    match take_case(alloc, limits, files, form) {
+        Ok(taken) => answer_case(
+            alloc,
+            form,
+            taken.case,
+            &taken.certificate,
+            limits.bytes(),
+            input,
+            output,
+        ),
         Err(why) => refuse_files(output, why),
     }
 }

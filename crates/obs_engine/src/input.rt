@@ -2,6 +2,7 @@
 ghost use Rattle.std.specs.Prelude.{◌≡◌, ◌<◌, ◌≤◌, length, IfOk, IsOk};
 ghost use Rattle.obs_io.specs.Bytes.{TakesFront};
 ghost use Rattle.obs_io.specs.Causes.{HasCause};
+ghost use Rattle.obs_text.specs.Limits.{most_file_bytes};
 ghost use Rattle.obs_engine.specs.Sessions.{IsSession};
 
 use crate::answers::verdict;
@@ -11,11 +12,7 @@ use obs_edit::Session;
 use obs_files::Status;
 use obs_io::{Failed, Sink, Source};
 use obs_script::Gather;
-use obs_text::MOST_FILE_BYTES;
 use std::sync::ledger::Ledger;
-
-/// The most bytes that an input may have: as many as a file.
-const MOST_BYTES: usize = MOST_FILE_BYTES;
 
 /// How many bytes are taken at once.
 const PIECE: usize = 4096;
@@ -35,22 +32,24 @@ fn take_piece<S: Source>(input: &mut S, piece: &mut [u8], most: usize) -> Result
     input.take(&mut piece[..most])
 }
 
-/// Answers the lines of the input.
+/// Answers the lines of the input, which may have so many bytes.
 /// It is taken piece by piece, and each line that ended is answered before more is taken.
 pub(crate) fn answer_lines<S: Source, W: Sink, L: Ledger>(
     session: &mut Session,
     input: &mut S,
     output: &mut W,
+    most_bytes: usize,
     steps: &mut Steps<L>,
 ) -> Status
+    requires few { most_bytes ≤ most_file_bytes }
     ensures session { IsSession S.left S.faults S.steady W.written W.faults W.has_room
-        session.old.offered session.old.tables input.old input.new output.old output.new result }
+        most_bytes session.old.offered session.old.tables input.old input.new output.old output.new result }
 {
     let mut piece = [0; PIECE];
     let mut gather = Gather::new();
     let mut taken = 0;
-    while taken <= MOST_BYTES {
-        let most = PIECE.min(MOST_BYTES + 1 - taken);
+    while taken <= most_bytes {
+        let most = PIECE.min(most_bytes + 1 - taken);
         let Ok(count) = take_piece(input, &mut piece, most) else {
             return Status::ReadFault;
         };
@@ -61,7 +60,7 @@ pub(crate) fn answer_lines<S: Source, W: Sink, L: Ledger>(
             };
         }
         // The byte behind the last that an input may have is taken, and not answered.
-        let kept = count.min(MOST_BYTES - taken);
+        let kept = count.min(most_bytes - taken);
         let Ok(()) = answer_bytes(output, session, &mut gather, &piece[..kept], steps) else {
             return Status::WriteFault;
         };

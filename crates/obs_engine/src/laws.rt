@@ -62,8 +62,9 @@ pub fn answers_hold()
     ensures hold { AnswersHold }
 {}
 
-/// Each of these answers is no longer than a file may be. So it can be kept as the certificate of its case: where the
-/// files of a session are a case, `verify` of the same files and of an answer to that case says how many claims it has.
+/// With any limits, each of these answers to a case of no more rows is no longer than a file may be. So it can be kept
+/// as the certificate of its case: where the files of a session are a case, `verify` of the same files and of an answer
+/// to that case says how many claims it has.
 pub fn answers_are_verified()
     ensures fit { AnswersFit }
     ensures verified { AnswersAreVerified }
@@ -134,9 +135,10 @@ pub fn lines_end_or_are_last()
     ensures lines { (bytes : List ℕ) → EndedOrLast bytes }
 {}
 
-/// A session that stays between calls answers what `run` answers: the replies to its lines, as one, are the reply of `run`
-/// to the same words and files and the input of these lines, as far as these are lines of an input: without a line feed
-/// or a carriage return at the end, and together no more than `run` reads. Where none begins, `run` has the same reply.
+/// A session that stays between calls answers what `run_within` answers with the same limits: the replies to its lines,
+/// as one, are the reply to the same words and files and the input of these lines, as far as these are lines of an
+/// input: without a line feed or a carriage return at the end, and together no more bytes than an input may have. Where
+/// none begins, `run_within` has the same reply.
 pub fn sessions_answer_as_run()
     ensures answers { AnswersAsRun }
     ensures refuses { RefusesAsRun }

@@ -14,6 +14,7 @@ mod outages;
 mod pairs;
 mod program;
 mod refused;
+mod serving;
 mod stations;
 mod stays;
 mod studies;
@@ -22,6 +23,7 @@ mod topology;
 mod trial;
 mod verify;
 
-pub use obs_files::Status;
-pub use program::run;
-pub use stays::{answer_one, begin_session};
+pub use obs_files::{Limits, Status};
+pub use program::{run, run_within};
+pub use serving::serve;
+pub use stays::{answer_one, begin_session, begin_session_within};

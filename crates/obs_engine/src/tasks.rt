@@ -1,5 +1,6 @@
 // What a session is begun for. One function begins sessions and owns them, and what it begins one for borrows it.
-ghost use Rattle.std.specs.Prelude.{◌≡◌, ◌<◌, ℕ, true};
+ghost use Rattle.std.specs.Prelude.{◌≡◌, ◌<◌, ◌≤◌, ℕ, true};
+ghost use Rattle.obs_text.specs.Limits.{most_file_bytes};
 ghost use Rattle.obs_script.specs.declared.command.Ask.TheVariants.{Place};
 ghost use Rattle.obs_engine.specs.Tasks.{IsTaskDone};
 ghost use Rattle.obs_engine.specs.Trials.{AreInService};
@@ -18,11 +19,12 @@ use std::marker::Brand;
 use std::sync::ledger::{Blank, Ledger};
 
 /// What a session is begun for:
-/// the answer to one ask, the answers to the lines of the input, or the trial of a generated case.
+/// the answer to one ask, the answers to the lines of the input, which may have so many bytes, or the trial of a generated
+/// case.
 #[derive(Clone, Copy)]
 pub(crate) enum Task {
     Answer(Ask),
-    Lines,
+    Lines { most_bytes: usize },
     Trial { rows: u32, seed: u64 },
 }
 
@@ -35,13 +37,14 @@ fn do_task<S: Source, W: Sink, L: Ledger>(
     steps: &mut Steps<L>,
 ) -> Status
     requires offered { task ≡ Task.Answer Place → session.old.offered ≡ true }
+    requires few { (most : ℕ) → task ≡ Task.Lines most → most ≤ most_file_bytes }
     requires inservice { (rows seed : ℕ) → task ≡ Task.Trial rows seed → AreInService session.old.tables }
     ensures done { IsTaskDone S.left S.faults S.steady W.written W.faults W.has_room task
         session.old.offered session.old.tables input.old input.new output.old output.new result }
 {
     match task {
         Task::Answer(ask) => answer_session(output, session, ask, steps),
-        Task::Lines => answer_lines(session, input, output, steps),
+        Task::Lines { most_bytes } => answer_lines(session, input, output, most_bytes, steps),
         Task::Trial { rows, seed } => {
             let islands = find_island_count(session, steps);
             answer_trial(output, session, rows, seed, islands, steps)
@@ -64,6 +67,7 @@ fn do_counted<S: Source, W: Sink, L: Ledger>(
     requires parts { blank.parts ≡ L.parts }
     requires some { 0 < L.parts }
     requires offered { task ≡ Task.Answer Place → offered ≡ true }
+    requires few { (most : ℕ) → task ≡ Task.Lines most → most ≤ most_file_bytes }
     requires inservice { (rows seed : ℕ) → task ≡ Task.Trial rows seed → AreInService case }
     ensures done { IsTaskDone S.left S.faults S.steady W.written W.faults W.has_room task
         offered case input.old input.new output.old output.new result }
@@ -86,6 +90,7 @@ pub(crate) fn begin_task<S: Source, W: Sink>(
     output: &mut W,
 ) -> Status
     requires offered { task ≡ Task.Answer Place → offered ≡ true }
+    requires few { (most : ℕ) → task ≡ Task.Lines most → most ≤ most_file_bytes }
     requires inservice { (rows seed : ℕ) → task ≡ Task.Trial rows seed → AreInService case }
     ensures done { IsTaskDone S.left S.faults S.steady W.written W.faults W.has_room task
         offered case input.old input.new output.old output.new result }

@@ -4,6 +4,7 @@ use Rattle.std.specs.Prelude.{IsErrAnd, IsErrOf}
 use Rattle.obs_files.specs.declared.taken.CaseError.{CaseError}
 use Rattle.obs_files.specs.declared.taken.CaseError.TheVariants.{Read}
 use Rattle.obs_files.specs.Files.{is_too_long}
+use Rattle.obs_files.specs.Limits.{Limits}
 
 -- what was taken isn't a failed read
 pub ok_not_read : {T : Type 0} (x : T) → Ok x ≡ Err Read → ⊥
@@ -24,5 +25,5 @@ read_back {T = T} {U = U} why (Ok x) e h = absurd e
 read_back {T = T} {U = U} why (Err x) e h = ap Err (e ∙ read_is {T = T} why h)
 
 -- a told content that fits
-abbrev pub Fits : (ℕ → Option (List ℕ)) → ℕ → Type 0
-Fits content w = (bytes : List ℕ) → content w ≡ Some bytes → is_too_long bytes ≡ false
+abbrev pub Fits : Limits → (ℕ → Option (List ℕ)) → ℕ → Type 0
+Fits limits content w = (bytes : List ℕ) → content w ≡ Some bytes → is_too_long limits bytes ≡ false

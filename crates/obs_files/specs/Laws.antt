@@ -6,12 +6,14 @@ use Rattle.obs_files.specs.declared.words.CaseCommand.{CaseCommand}
 use Rattle.obs_files.specs.declared.words.CaseForm.{CaseForm}
 use Rattle.obs_files.specs.declared.words.Form.{Form}
 use Rattle.obs_files.specs.declared.words.Form.TheVariants.{Topology, Case, Trial}
+use Rattle.obs_files.specs.Limits.{IsLimits, Limits}
 use Rattle.obs_files.specs.Files.{case_in_files}
 use Rattle.obs_files.specs.Words.{HasRows, case_parts, case_word, command_word, has_with, item_if, parts_behind, usage_of, usage_text, words_of}
 
--- the case that the files of a form are is valid. A trial has no files, but its rows
+-- the case that the files of a form are is valid, whatever the limits are. A trial has no files, but its rows
 abbrev pub CasesAreValid : Type 0
-CasesAreValid = (form : Form) (file : ℕ → List ℕ) (t : Tables) → HasRows form → case_in_files form file ≡ Ok t → IsValid t
+CasesAreValid =
+    (limits : Limits) (form : Form) (file : ℕ → List ℕ) (t : Tables) → IsLimits limits → HasRows form → case_in_files limits form file ≡ Ok t → IsValid t
 
 -- the words of a command over a case of this form: the command's word, the word of the case's form, the words that name the case's
 -- files, and those behind, with the word `with` before them where the command has it

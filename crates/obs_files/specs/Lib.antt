@@ -1,6 +1,7 @@
 pub mod Codes
 pub mod Files
 pub mod Laws
+pub mod Limits
 pub mod Outside
 pub mod Taken
 pub mod Words

@@ -4,11 +4,13 @@
 mod cases;
 mod files;
 pub mod laws;
+mod limits;
 mod status;
 mod taken;
 mod words;
 
 pub use cases::take_case;
+pub use limits::Limits;
 pub use status::Status;
 pub use taken::{CaseError, Taken};
 pub use words::{CaseCommand, CaseForm, Form, Study, form_of_words};

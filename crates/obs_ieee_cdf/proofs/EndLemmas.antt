@@ -8,24 +8,24 @@ use Rattle.obs_ieee_cdf.specs.declared.fault.CdfEnd.{CdfEnd}
 use Rattle.obs_ieee_cdf.specs.declared.stop.Stop.{Stop}
 use Rattle.obs_ieee_cdf.specs.declared.stop.Stop.TheVariants as stop
 use Rattle.obs_ieee_cdf.specs.Ends.{IsEndOfStop, IsEndOfTable}
-use Rattle.obs_ieee_cdf.specs.Read.{EndsCase, as_end, case_in, with_tables}
+use Rattle.obs_ieee_cdf.specs.Read.{EndsCase, as_end, case_within, with_tables}
 use Rattle.obs_ieee_cdf.specs.Reading.{Answers}
-use Rattle.obs_ieee_cdf.specs.Rows.{cdf_of}
+use Rattle.obs_ieee_cdf.specs.Rows.{cdf_within}
 
 -- a file that is read: its nodes and branches
-abbrev pub IsRead : List ℕ → Tables → Type 0
-IsRead cdf tables = Answers (cdf_of cdf) (λ t. t) tables (Ok tt)
+abbrev pub IsRead : ℕ → List ℕ → Tables → Type 0
+IsRead most cdf tables = Answers (cdf_within most cdf) (λ t. t) tables (Ok tt)
 
-pub file_refused : (cdf meters : List ℕ) (candidates : Option (List ℕ)) (tables : Tables) (why : Stop) (end : CdfEnd) → Answers (cdf_of cdf) (λ t. t) tables (Err why) → IsEndOfStop why end
-    → EndsCase (case_in cdf meters candidates) end
-file_refused cdf meters candidates tables (stop.Fault fault) end read is = rw is (ap (with_tables meters candidates) read)
-file_refused cdf meters candidates tables stop.NoMemory end read is = rw is tt
+pub file_refused : (most : ℕ) (cdf meters : List ℕ) (candidates : Option (List ℕ)) (tables : Tables) (why : Stop) (end : CdfEnd) → Answers (cdf_within most cdf) (λ t. t) tables (Err why) → IsEndOfStop why end
+    → EndsCase (case_within most cdf meters candidates) end
+file_refused most cdf meters candidates tables (stop.Fault fault) end read is = rw is (ap (with_tables meters candidates) read)
+file_refused most cdf meters candidates tables stop.NoMemory end read is = rw is tt
 
-pub tables_refused : (cdf meters : List ℕ) (candidates : Option (List ℕ)) (tables : Tables) (why : TableEnd) (end : CdfEnd) → IsRead cdf tables → EndsAll (tables_after meters candidates tables) why
-    → IsEndOfTable why end → EndsCase (case_in cdf meters candidates) end
-tables_refused cdf meters candidates tables (table.Fault fault) end read ends is =
+pub tables_refused : (most : ℕ) (cdf meters : List ℕ) (candidates : Option (List ℕ)) (tables : Tables) (why : TableEnd) (end : CdfEnd) → IsRead most cdf tables → EndsAll (tables_after meters candidates tables) why
+    → IsEndOfTable why end → EndsCase (case_within most cdf meters candidates) end
+tables_refused most cdf meters candidates tables (table.Fault fault) end read ends is =
     rw is (ap (with_tables meters candidates) (read.1 ∙ ap Ok (sym read.2)) ∙ ap as_end ends)
-tables_refused cdf meters candidates tables table.NoMemory end read ends is = rw is tt
+tables_refused most cdf meters candidates tables table.NoMemory end read ends is = rw is tt
 
-pub tables_read : (cdf meters : List ℕ) (candidates : Option (List ℕ)) (tables new : Tables) → IsRead cdf tables → tables_after meters candidates tables ≡ Ok new → case_in cdf meters candidates ≡ Ok new
-tables_read cdf meters candidates tables new read done = ap (with_tables meters candidates) (read.1 ∙ ap Ok (sym read.2)) ∙ ap as_end done
+pub tables_read : (most : ℕ) (cdf meters : List ℕ) (candidates : Option (List ℕ)) (tables new : Tables) → IsRead most cdf tables → tables_after meters candidates tables ≡ Ok new → case_within most cdf meters candidates ≡ Ok new
+tables_read most cdf meters candidates tables new read done = ap (with_tables meters candidates) (read.1 ∙ ap Ok (sym read.2)) ∙ ap as_end done

@@ -13,7 +13,7 @@ use Rattle.obs_ieee_cdf.specs.declared.fault.CdfFault.{CdfFault}
 use Rattle.obs_ieee_cdf.specs.declared.stop.Stop.{Stop}
 use Rattle.obs_ieee_cdf.specs.declared.stop.Stop.TheVariants.{Fault, NoMemory}
 use Rattle.obs_ieee_cdf.specs.Reading.{Answers, AreBuses}
-use Rattle.obs_ieee_cdf.specs.Rows.{branch_rows, bus_rows, cdf_of, numbered, read_branch, read_bus}
+use Rattle.obs_ieee_cdf.specs.Rows.{branch_rows, bus_rows, cdf_within, numbered, read_branch, read_bus}
 use Rattle.obs_text.specs.Limits.{most_file_bytes}
 use Rattle.obs_text.proofs.LineLaws.{joined, length-ended_lines}
 use Rattle.obs_ieee_cdf.specs.Sections.{after_branch_heading, after_bus_heading, after_buses, branch_lines, branches_from, bus_lines, buses_from, end_fault, is_branch_heading, is_bus_heading, is_end}
@@ -90,14 +90,14 @@ branch_room bytes few =
     )
 
 -- buses that are read are buses
-pub read_rows-buses : (lines : List (ℕ × List ℕ)) (buses : List Bus) → read_rows read_bus [] lines ≡ Ok buses → AreBuses buses
-read_rows-buses lines buses is = read_rows-good read_bus AreBuses read_bus-good [] lines buses AreBuses-none is
+pub read_rows-buses : (most : ℕ) (lines : List (ℕ × List ℕ)) (buses : List Bus) → read_rows (read_bus most) [] lines ≡ Ok buses → AreBuses buses
+read_rows-buses most lines buses is = read_rows-good (read_bus most) AreBuses (read_bus-good most) [] lines buses AreBuses-none is
 
 -- what the parts of the work answer is what the whole answers
-module _ (bytes bus_part branch_part : List ℕ) (bus_number branch_number : ℕ) (fault : Option CdfFault) (are : AreSections (ended_lines bytes) bus_part bus_number branch_part branch_number fault) where
+module _ (most : ℕ) (bytes bus_part branch_part : List ℕ) (bus_number branch_number : ℕ) (fault : Option CdfFault) (are : AreSections (ended_lines bytes) bus_part bus_number branch_part branch_number fault) where
   abbrev after_buses_read : List Bus → Result Tables CdfFault
   after_buses_read buses =
-      on_ok (read_rows (read_branch buses) [] (branch_rows (ended_lines bytes))) (λ branches. at_end (end_fault (ended_lines bytes)) (tables_of_rows buses branches))
+      on_ok (read_rows (read_branch most buses) [] (branch_rows (ended_lines bytes))) (λ branches. at_end (end_fault (ended_lines bytes)) (tables_of_rows most buses branches))
 
   bus_rows-are : numbered bus_number (lines_of bus_part) ≡ bus_rows (ended_lines bytes)
   bus_rows-are =
@@ -109,32 +109,32 @@ module _ (bytes bus_part branch_part : List ℕ) (bus_number branch_number : ℕ
       ap (λ n. numbered n (lines_of branch_part)) are.branches_from ∙ ap (λ part. numbered (branches_from (ended_lines bytes)) (lines_of part)) are.branches
       ∙ ap (numbered (branches_from (ended_lines bytes))) (branch_lines-are bytes)
 
-  pub stop_in_buses : (after last : Tables) (stop : Stop) → Answers (read_rows read_bus [] (numbered bus_number (lines_of bus_part))) (λ buses. tables_of_rows buses []) after (Err stop) →
-      Answers (cdf_of bytes) (λ tables. tables) last (Err stop)
+  pub stop_in_buses : (after last : Tables) (stop : Stop) → Answers (read_rows (read_bus most) [] (numbered bus_number (lines_of bus_part))) (λ buses. tables_of_rows most buses []) after (Err stop) →
+      Answers (cdf_within most bytes) (λ tables. tables) last (Err stop)
   stop_in_buses after last NoMemory why = tt
-  stop_in_buses after last (Fault f) why = ap (λ r. on_ok r after_buses_read) (sym (ap (read_rows read_bus []) bus_rows-are) ∙ why)
+  stop_in_buses after last (Fault f) why = ap (λ r. on_ok r after_buses_read) (sym (ap (read_rows (read_bus most) []) bus_rows-are) ∙ why)
 
-  module _ (middle : Tables) (read : Answers (read_rows read_bus [] (numbered bus_number (lines_of bus_part))) (λ buses. tables_of_rows buses []) middle (Ok tt)) where
+  module _ (middle : Tables) (read : Answers (read_rows (read_bus most) [] (numbered bus_number (lines_of bus_part))) (λ buses. tables_of_rows most buses []) middle (Ok tt)) where
     pub buses_read : AreBuses read.0
-    buses_read = read_rows-buses (numbered bus_number (lines_of bus_part)) read.0 read.1
+    buses_read = read_rows-buses most (numbered bus_number (lines_of bus_part)) read.0 read.1
 
-    buses_are : cdf_of bytes ≡ after_buses_read read.0
-    buses_are = ap (λ r. on_ok r after_buses_read) (sym (ap (read_rows read_bus []) bus_rows-are) ∙ read.1)
+    buses_are : cdf_within most bytes ≡ after_buses_read read.0
+    buses_are = ap (λ r. on_ok r after_buses_read) (sym (ap (read_rows (read_bus most) []) bus_rows-are) ∙ read.1)
 
-    pub stop_in_branches : (after last : Tables) (stop : Stop) → Answers (read_rows (read_branch read.0) [] (numbered branch_number (lines_of branch_part))) (tables_of_rows read.0) after (Err stop) →
-        Answers (cdf_of bytes) (λ tables. tables) last (Err stop)
+    pub stop_in_branches : (after last : Tables) (stop : Stop) → Answers (read_rows (read_branch most read.0) [] (numbered branch_number (lines_of branch_part))) (tables_of_rows most read.0) after (Err stop) →
+        Answers (cdf_within most bytes) (λ tables. tables) last (Err stop)
     stop_in_branches after last NoMemory why = tt
     stop_in_branches after last (Fault f) why =
-        buses_are ∙ ap (λ r. on_ok r (λ branches. at_end (end_fault (ended_lines bytes)) (tables_of_rows read.0 branches))) (sym (ap (read_rows (read_branch read.0) []) branch_rows-are) ∙ why)
+        buses_are ∙ ap (λ r. on_ok r (λ branches. at_end (end_fault (ended_lines bytes)) (tables_of_rows most read.0 branches))) (sym (ap (read_rows (read_branch most read.0) []) branch_rows-are) ∙ why)
 
-    module _ (after : Tables) (rows : Answers (read_rows (read_branch read.0) [] (numbered branch_number (lines_of branch_part))) (tables_of_rows read.0) after (Ok tt)) where
-      rows_are : cdf_of bytes ≡ at_end fault after
+    module _ (after : Tables) (rows : Answers (read_rows (read_branch most read.0) [] (numbered branch_number (lines_of branch_part))) (tables_of_rows most read.0) after (Ok tt)) where
+      rows_are : cdf_within most bytes ≡ at_end fault after
       rows_are =
-          buses_are ∙ ap (λ r. on_ok r (λ branches. at_end (end_fault (ended_lines bytes)) (tables_of_rows read.0 branches))) (sym (ap (read_rows (read_branch read.0) []) branch_rows-are) ∙ rows.1)
-          ∙ ap (λ f. at_end f (tables_of_rows read.0 rows.0)) (sym are.end) ∙ ap (at_end fault) (sym rows.2)
+          buses_are ∙ ap (λ r. on_ok r (λ branches. at_end (end_fault (ended_lines bytes)) (tables_of_rows most read.0 branches))) (sym (ap (read_rows (read_branch most read.0) []) branch_rows-are) ∙ rows.1)
+          ∙ ap (λ f. at_end f (tables_of_rows most read.0 rows.0)) (sym are.end) ∙ ap (at_end fault) (sym rows.2)
 
-      pub stop_at_end : (f : CdfFault) → fault ≡ Some f → cdf_of bytes ≡ Err f
+      pub stop_at_end : (f : CdfFault) → fault ≡ Some f → cdf_within most bytes ≡ Err f
       stop_at_end f is = rows_are ∙ ap (λ o. at_end o after) is
 
-      pub file_read : fault ≡ None → Answers (cdf_of bytes) (λ tables. tables) after (Ok tt)
+      pub file_read : fault ≡ None → Answers (cdf_within most bytes) (λ tables. tables) after (Ok tt)
       file_read is = (after, rows_are ∙ ap (λ o. at_end o after) is, refl)

@@ -2,7 +2,7 @@
 use Rattle.std.specs.Prelude.{◌≡◌, ℕ, ◌≤◌, true, nat_eq, List, length, map, Option, None, Some}
 use Rattle.std.specs.List.{IsDistinct}
 use Rattle.obs_text.specs.Lines.{ended_lines}
-use Rattle.obs_case.specs.Tables.{Tables, most_rows}
+use Rattle.obs_case.specs.Tables.{Tables}
 use Rattle.obs_case.specs.declared.rows.Branch.{Branch}
 use Rattle.obs_case_csv.specs.declared.faults.Table.TheVariants.{Meters}
 use Rattle.obs_case_csv.specs.OneTable.{HasCandidates, IsTableOf}
@@ -32,20 +32,21 @@ pub record IsBranchLine (buses : List Bus) (k : ℕ) (line : List ℕ) (branch :
 abbrev pub AreBranchLines : List Bus → List (ℕ × List ℕ) → List Branch → Type 0
 AreBranchLines buses lines branches = AreRows (IsBranchLine buses) 1 lines branches
 
--- the lines of a file are these buses and branches
-pub record AreLines (file : List (List ℕ)) (buses : List Bus) (branches : List Branch) : Type 0 where
+-- the lines of a file are these buses and branches, at most so many of each
+pub record AreLines (most : ℕ) (file : List (List ℕ)) (buses : List Bus) (branches : List Branch) : Type 0 where
   pub whole : end_fault file ≡ None
   pub bus_lines : AreBusLines (bus_rows file) buses
+  pub few_buses : length (bus_rows file) ≤ most
   pub different : IsDistinct nat_eq (map (λ (bus : Bus). bus.number) buses)
   pub branch_lines : AreBranchLines buses (branch_rows file) branches
-  pub few : length (branch_rows file) ≤ most_rows
+  pub few : length (branch_rows file) ≤ most
 
--- a file's bytes are these nodes and branches
-abbrev pub IsFile : List ℕ → Tables → Type 0
-IsFile bytes tables =
-    (buses : List Bus) × (branches : List Branch) × AreLines (ended_lines bytes) buses branches × (tables ≡ tables_of_rows buses branches)
+-- a file's bytes are these nodes and branches, where a table may have at most so many rows
+abbrev pub IsFile : ℕ → List ℕ → Tables → Type 0
+IsFile most bytes tables =
+    (buses : List Bus) × (branches : List Branch) × AreLines most (ended_lines bytes) buses branches × (tables ≡ tables_of_rows most buses branches)
 
 -- a file's bytes and those of its tables are this case: it has the file's nodes and branches, and the rows of the tables
-abbrev pub IsCase : List ℕ → List ℕ → Option (List ℕ) → Tables → Type 0
-IsCase cdf meters candidates tables =
-    (file metered : Tables) × IsFile cdf file × IsTableOf Meters meters file metered × HasCandidates candidates metered tables
+abbrev pub IsCase : ℕ → List ℕ → List ℕ → Option (List ℕ) → Tables → Type 0
+IsCase most cdf meters candidates tables =
+    (file metered : Tables) × IsFile most cdf file × IsTableOf Meters meters file metered × HasCandidates candidates metered tables

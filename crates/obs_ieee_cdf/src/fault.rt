@@ -25,7 +25,7 @@ pub enum CdfFault {
     BusTwice(u32),
     /// An end of a branch is no bus.
     UnknownBus(u32),
-    /// This is the 20,001st branch.
+    /// This is one bus or one branch more than the limit: the 20,001st, where no other is given.
     TooMany(u32),
 }
 

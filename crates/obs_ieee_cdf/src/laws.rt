@@ -1,5 +1,5 @@
 //! What bytes are, and what is read from them.
-ghost use Rattle.obs_ieee_cdf.specs.Laws.{CaseIsRead, CasesAreValid, FaultWhereNoCase, FileIsRead, FirstFaultOfFile};
+ghost use Rattle.obs_ieee_cdf.specs.Laws.{CaseIsRead, CasesAreValid, CasesHaveLimit, FaultWhereNoCase, FileIsRead, FirstFaultOfFile};
 
 /// The nodes and branches that are read from a file are those that its bytes are: each bus line is a
 /// bus, no two of them have one number, and each branch line is a branch between two buses.
@@ -14,9 +14,10 @@ pub fn case_is_read()
 {}
 
 /// A case that is read is valid: in each table the names are names, no two of them are equal and
-/// there are at most 20,000 rows, and positions and prices are in range.
+/// there are at most as many rows as the limit that was given, and positions and prices are in range.
 pub fn cases_are_valid()
     ensures valid { CasesAreValid }
+    ensures limit { CasesHaveLimit }
 {}
 
 /// The fault of a file that is met is the first: a line has one where the lines before it have none,

@@ -16,5 +16,5 @@ mod values;
 pub use fault::{CdfEnd, CdfFault};
 pub use fields::{BranchFields, BusFields, branch_fields, bus_fields};
 pub use parts::Sections;
-pub use read::read_cdf;
+pub use read::{read_cdf, read_cdf_within};
 pub use section::sections;

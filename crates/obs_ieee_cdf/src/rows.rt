@@ -1,7 +1,7 @@
 // The lines of the sections, read into a case.
-ghost use Rattle.std.specs.Prelude.{◌≡◌, ◌+◌, ◌<◌, ◌^◌, List, [], ◌∷◌, ◌++◌, length};
+ghost use Rattle.std.specs.Prelude.{ℕ, ◌≡◌, ◌+◌, ◌<◌, ◌^◌, List, [], ◌∷◌, ◌++◌, length};
 ghost use Rattle.obs_text.specs.Lines.{lines_of};
-ghost use Rattle.obs_case.specs.Tables.{no_rows};
+ghost use Rattle.obs_case.specs.Tables.{no_rows_within};
 ghost use Rattle.obs_case.specs.declared.rows.Branch.{Branch};
 ghost use Rattle.obs_bus_branch.specs.Buses.{AreNamed, Bus, tables_of_rows};
 ghost use Rattle.obs_bus_branch.specs.Rows.{read_rows};
@@ -13,11 +13,8 @@ use crate::fields::{branch_fields, bus_fields};
 use crate::stop::Stop;
 use crate::values::{bus_number, has_source, is_passed_over};
 use obs_bus_branch::{NAME_ROOM, branch_name};
-use obs_case::{AddFault, Case, MOST_ROWS};
+use obs_case::{AddFault, Case};
 use obs_text::{Digits, lines};
-
-/// The most branches of a file.
-const MOST_BRANCHES: usize = MOST_ROWS;
 
 // Why reading stops at a row that the case refuses for this cause.
 fn stop(fault: AddFault, cause: CdfFault) -> Stop
@@ -31,9 +28,14 @@ fn stop(fault: AddFault, cause: CdfFault) -> Stop
 
 // Adds the bus that a bus line is.
 fn add_bus(case: &mut Case, line: &[u8], at: u32) -> Result<(), Stop>
-    ensures read { (earlier : List Bus) → AreBuses earlier → case.old ≡ tables_of_rows earlier [] →
-        Answers (read_bus earlier at line.now) (λ bus. tables_of_rows (earlier ++ bus ∷ []) []) case.new result }
+    ensures read { (most : ℕ) (earlier : List Bus) → AreBuses earlier →
+        case.old ≡ tables_of_rows most earlier [] →
+        Answers (read_bus most earlier at line.now)
+        (λ bus. tables_of_rows most (earlier ++ bus ∷ []) []) case.new result }
 {
+    if case.nodes().len() >= case.most() as usize {
+        return Err(Stop::Fault(CdfFault::TooMany(at)));
+    }
     let fields = bus_fields(line);
     let Some(number) = bus_number(fields.number) else {
         return Err(Stop::Fault(CdfFault::BadBusNumber(at)));
@@ -44,17 +46,17 @@ fn add_bus(case: &mut Case, line: &[u8], at: u32) -> Result<(), Stop>
     let mut digits = Digits::new();
     match case.add_node(digits.text(number), source) {
         Ok(_) => Ok(()),
-        // Ten thousand numbers don't fill the table, so the number stands there.
+        // The table isn't full, so the number stands there.
         Err(fault) => Err(stop(fault, CdfFault::BusTwice(at))),
     }
 }
 
 // Adds the buses that the lines of a section are.
 pub(crate) fn add_buses(case: &mut Case, section: &[u8], first: u32) -> Result<(), Stop>
-    requires empty { case.old ≡ no_rows }
+    requires empty { case.old ≡ no_rows_within case.old.most }
     requires room { first + length section.now < 2 ^ 32 }
-    ensures read { Answers (read_rows read_bus [] (numbered first (lines_of section.now)))
-        (λ buses. tables_of_rows buses []) case.new result }
+    ensures read { Answers (read_rows (read_bus case.old.most) [] (numbered first (lines_of section.now)))
+        (λ buses. tables_of_rows case.old.most buses []) case.new result }
 {
     let mut at = first;
     for line in lines(section) {
@@ -68,13 +70,13 @@ pub(crate) fn add_buses(case: &mut Case, section: &[u8], first: u32) -> Result<(
 
 // Adds the branch that a branch line is.
 fn add_branch(case: &mut Case, line: &[u8], at: u32) -> Result<(), Stop>
-    ensures read { (buses : List Bus) (earlier : List Branch) → AreBuses buses →
-        AreNamed 1 earlier → case.old ≡ tables_of_rows buses earlier →
-        Answers (read_branch buses earlier at line.now)
-        (λ branch. tables_of_rows buses (earlier ++ branch ∷ [])) case.new result }
+    ensures read { (most : ℕ) (buses : List Bus) (earlier : List Branch) → AreBuses buses →
+        AreNamed 1 earlier → case.old ≡ tables_of_rows most buses earlier →
+        Answers (read_branch most buses earlier at line.now)
+        (λ branch. tables_of_rows most buses (earlier ++ branch ∷ [])) case.new result }
 {
     let count = case.branches().len();
-    if count >= MOST_BRANCHES {
+    if count >= case.most() as usize {
         return Err(Stop::Fault(CdfFault::TooMany(at)));
     }
     let fields = branch_fields(line);
@@ -97,9 +99,9 @@ fn add_branch(case: &mut Case, line: &[u8], at: u32) -> Result<(), Stop>
 // Adds the branches that the lines of a section are.
 pub(crate) fn add_branches(case: &mut Case, section: &[u8], first: u32) -> Result<(), Stop>
     requires room { first + length section.now < 2 ^ 32 }
-    ensures read { (buses : List Bus) → AreBuses buses → case.old ≡ tables_of_rows buses [] →
-        Answers (read_rows (read_branch buses) [] (numbered first (lines_of section.now)))
-        (tables_of_rows buses) case.new result }
+    ensures read { (most : ℕ) (buses : List Bus) → AreBuses buses → case.old ≡ tables_of_rows most buses [] →
+        Answers (read_rows (read_branch most buses) [] (numbered first (lines_of section.now)))
+        (tables_of_rows most buses) case.new result }
 {
     let mut at = first;
     for line in lines(section) {

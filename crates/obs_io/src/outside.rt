@@ -2,7 +2,7 @@
 ghost use Rattle.std.specs.Prelude.{◌≡◌, ◌≢◌, ◌<◌, ◌≤◌, ◌-◌, ℕ, List, Option, length, IfOk, IsOk};
 ghost use Rattle.obs_io.specs.Causes.{HasCause};
 ghost use Rattle.obs_io.specs.Bytes.{ReadsPart, TakesFront, PutsFront};
-ghost use Rattle.obs_io.specs.Limits.{most_place};
+ghost use Rattle.obs_io.specs.Limits.{usual_place};
 
 /// The outside failed, and its count of faults tells so.
 #[derive(Clone, Copy, Debug, PartialEq, Eq)]
@@ -19,11 +19,14 @@ pub trait Files {
     /// Reading this word's file doesn't fail from here on.
     ghost steady: { Self → ℕ → Type 0 };
 
+    /// The furthest place of a file from which bytes may be asked for.
+    ghost furthest: { ℕ };
+
     /// Some of a file's bytes from a place on, and none exactly at its end.
     fn part(&mut self, word: usize, at: u64, into: &mut [u8]) -> Result<usize, Failed>
         requires room { 0 < length into.old }
         requires word { word < 16 }
-        requires place { at ≤ most_place }
+        requires place { at ≤ furthest }
         ensures bound { IfOk result (λ n. n ≤ length into.new) }
         ensures bytes { ReadsPart (content self.old word) at result into.new }
         ensures same { (w : ℕ) → content self.new w ≡ content self.old w }
@@ -32,6 +35,9 @@ pub trait Files {
         ensures others { (w : ℕ) → w ≢ word → faults self.new w ≡ faults self.old w }
         ensures steady { (w : ℕ) → steady self.old w → steady self.new w }
         ensures succeeds { steady self.old word → IsOk result };
+
+    /// All files take calls up to the usual place.
+    ghost usual: { usual_place ≤ furthest };
 }
 
 /// Bytes that come.

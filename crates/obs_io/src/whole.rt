@@ -2,7 +2,6 @@
 ghost use Rattle.std.specs.Prelude.{◌≡◌, ◌≢◌, ◌<◌, ◌≤◌, ◌+◌, ℕ, length, IfOk, IsErrOf, IsOk, vec_len};
 ghost use Rattle.obs_io.specs.Causes.{Rose, HasCause};
 ghost use Rattle.obs_io.specs.Bytes.{AddsPart, Writes};
-ghost use Rattle.obs_io.specs.Limits.{most_place};
 ghost use Rattle.obs_io.specs.Whole.{IsWhole};
 ghost use Rattle.obs_io.specs.declared.whole.ReadEnd.TheVariants.{NoMemory};
 
@@ -46,7 +45,7 @@ fn add_piece<F: Files>(
     most: usize,
 ) -> Result<usize, ReadEnd>
     requires word { word < 16 }
-    requires place { vec_len bytes.old ≤ most_place }
+    requires place { vec_len bytes.old ≤ F.furthest }
     requires room { 0 < length buffer.old }
     requires most { 0 < most }
     ensures bound { IfOk result (λ n. n ≤ most) }
@@ -79,7 +78,7 @@ pub fn read_all<F: Files>(
     limit: u64,
 ) -> Result<Vec<u8>, ReadEnd>
     requires word { word < 16 }
-    requires limit { limit ≤ most_place }
+    requires limit { limit ≤ F.furthest }
     ensures whole { IsWhole (F.content files.old word) limit result }
     ensures short { IfOk result (λ bytes. vec_len bytes ≤ limit) }
     ensures same { (w : ℕ) → F.content files.new w ≡ F.content files.old w }
@@ -93,7 +92,7 @@ pub fn read_all<F: Files>(
     let mut buffer = room_for_piece(alloc, PIECE)?;
     let mut bytes = Vec::new(alloc);
     while bytes.len() as u64 <= limit {
-        let most = limit as usize + 1 - bytes.len();
+        let most = (limit as usize - bytes.len()).saturating_add(1);
         let count = add_piece(files, word, &mut bytes, &mut buffer, most)?;
         if count == 0 {
             return Ok(bytes);

@@ -8,23 +8,23 @@ use Rattle.obs_matpower.specs.declared.fault.MatEnd.{MatEnd}
 use Rattle.obs_matpower.specs.declared.stop.Stop.{Stop}
 use Rattle.obs_matpower.specs.declared.stop.Stop.TheVariants as stop
 use Rattle.obs_matpower.specs.Ends.{IsEndOfStop, IsEndOfTable}
-use Rattle.obs_matpower.specs.Read.{EndsCase, as_end, case_in, mat_of, with_tables}
+use Rattle.obs_matpower.specs.Read.{EndsCase, as_end, case_within, mat_within, with_tables}
 use Rattle.obs_matpower.specs.Reading.{Answers}
 
 -- a file that is read: its nodes and branches
-abbrev pub IsRead : List ℕ → Tables → Type 0
-IsRead matpower tables = Answers (mat_of matpower) (λ t. t) tables (Ok tt)
+abbrev pub IsRead : ℕ → List ℕ → Tables → Type 0
+IsRead most matpower tables = Answers (mat_within most matpower) (λ t. t) tables (Ok tt)
 
-pub file_refused : (matpower meters : List ℕ) (candidates : Option (List ℕ)) (tables : Tables) (why : Stop) (end : MatEnd) → Answers (mat_of matpower) (λ t. t) tables (Err why) → IsEndOfStop why end
-    → EndsCase (case_in matpower meters candidates) end
-file_refused matpower meters candidates tables (stop.Fault fault) end read is = rw is (ap (with_tables meters candidates) read)
-file_refused matpower meters candidates tables stop.NoMemory end read is = rw is tt
+pub file_refused : (most : ℕ) (matpower meters : List ℕ) (candidates : Option (List ℕ)) (tables : Tables) (why : Stop) (end : MatEnd) → Answers (mat_within most matpower) (λ t. t) tables (Err why) → IsEndOfStop why end
+    → EndsCase (case_within most matpower meters candidates) end
+file_refused most matpower meters candidates tables (stop.Fault fault) end read is = rw is (ap (with_tables meters candidates) read)
+file_refused most matpower meters candidates tables stop.NoMemory end read is = rw is tt
 
-pub tables_refused : (matpower meters : List ℕ) (candidates : Option (List ℕ)) (tables : Tables) (why : TableEnd) (end : MatEnd) → IsRead matpower tables → EndsAll (tables_after meters candidates tables) why
-    → IsEndOfTable why end → EndsCase (case_in matpower meters candidates) end
-tables_refused matpower meters candidates tables (table.Fault fault) end read ends is =
+pub tables_refused : (most : ℕ) (matpower meters : List ℕ) (candidates : Option (List ℕ)) (tables : Tables) (why : TableEnd) (end : MatEnd) → IsRead most matpower tables → EndsAll (tables_after meters candidates tables) why
+    → IsEndOfTable why end → EndsCase (case_within most matpower meters candidates) end
+tables_refused most matpower meters candidates tables (table.Fault fault) end read ends is =
     rw is (ap (with_tables meters candidates) (read.1 ∙ ap Ok (sym read.2)) ∙ ap as_end ends)
-tables_refused matpower meters candidates tables table.NoMemory end read ends is = rw is tt
+tables_refused most matpower meters candidates tables table.NoMemory end read ends is = rw is tt
 
-pub tables_read : (matpower meters : List ℕ) (candidates : Option (List ℕ)) (tables new : Tables) → IsRead matpower tables → tables_after meters candidates tables ≡ Ok new → case_in matpower meters candidates ≡ Ok new
-tables_read matpower meters candidates tables new read done = ap (with_tables meters candidates) (read.1 ∙ ap Ok (sym read.2)) ∙ ap as_end done
+pub tables_read : (most : ℕ) (matpower meters : List ℕ) (candidates : Option (List ℕ)) (tables new : Tables) → IsRead most matpower tables → tables_after meters candidates tables ≡ Ok new → case_within most matpower meters candidates ≡ Ok new
+tables_read most matpower meters candidates tables new read done = ap (with_tables meters candidates) (read.1 ∙ ap Ok (sym read.2)) ∙ ap as_end done

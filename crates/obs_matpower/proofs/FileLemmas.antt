@@ -19,7 +19,7 @@ use Rattle.obs_matpower.specs.declared.part.MatTable.TheVariants as table
 use Rattle.obs_matpower.specs.declared.stop.Stop.{Stop}
 use Rattle.obs_matpower.specs.declared.stop.Stop.TheVariants.{Fault, NoMemory}
 use Rattle.obs_matpower.specs.Lines.{closes, is_closing, is_opening, opens}
-use Rattle.obs_matpower.specs.Read.{BusRow, buses_of, mat_of, read_branch, read_bus, read_table}
+use Rattle.obs_matpower.specs.Read.{BusRow, buses_of, mat_within, read_branch, read_bus, read_table}
 use Rattle.obs_matpower.specs.Reading.{Answers, AreBuses, held_branches, read_text}
 use Rattle.obs_matpower.specs.Table.{after_opening, end_of, from_first, is_there, line_of, text_of, until_closing}
 use Rattle.obs_matpower.specs.Whole.{table_rows}
@@ -85,23 +85,23 @@ table_read {R} read which bytes rows is = by (read_rows read [] (table_rows whic
 -- ---- files
 
 -- what comes after the buses
-abbrev pub after_buses : List ℕ → List BusRow → Result Tables MatFault
-after_buses bytes buses = on_ok (read_table (read_branch buses) table.Branch bytes) (λ branches. Ok (tables_of_rows (buses_of buses) branches))
+abbrev pub after_buses : ℕ → List ℕ → List BusRow → Result Tables MatFault
+after_buses most bytes buses = on_ok (read_table (read_branch most buses) table.Branch bytes) (λ branches. Ok (tables_of_rows most (buses_of buses) branches))
 
-module _ (bytes : List ℕ) where
-  pub stop_in_buses : {S : Type 0} (held : List BusRow → S) (after : S) (last : Tables) (stop : Stop) → Answers (read_table read_bus table.Bus bytes) held after (Err stop) → Answers (mat_of bytes) (λ tables. tables) last (Err stop)
+module _ (most : ℕ) (bytes : List ℕ) where
+  pub stop_in_buses : {S : Type 0} (held : List BusRow → S) (after : S) (last : Tables) (stop : Stop) → Answers (read_table (read_bus most) table.Bus bytes) held after (Err stop) → Answers (mat_within most bytes) (λ tables. tables) last (Err stop)
   stop_in_buses held after last NoMemory why = tt
-  stop_in_buses held after last (Fault f) why = ap (λ r. on_ok r (after_buses bytes)) why
+  stop_in_buses held after last (Fault f) why = ap (λ r. on_ok r (after_buses most bytes)) why
 
-  module _ (buses : List BusRow) (read : read_table read_bus table.Bus bytes ≡ Ok buses) where
+  module _ (buses : List BusRow) (read : read_table (read_bus most) table.Bus bytes ≡ Ok buses) where
     pub buses_are : AreBuses (buses_of buses)
-    buses_are = read_rows-good read_bus (λ rows. AreBuses (buses_of rows)) read_bus-good [] (table_rows table.Bus bytes) buses AreBuses-none (table_read read_bus table.Bus bytes buses read).0
+    buses_are = read_rows-good (read_bus most) (λ rows. AreBuses (buses_of rows)) (read_bus-good most) [] (table_rows table.Bus bytes) buses AreBuses-none (table_read (read_bus most) table.Bus bytes buses read).0
 
-    pub after_branches : (after : Tables) (result : Result (Unit {0}) Stop) → Answers (read_table (read_branch buses) table.Branch bytes) (held_branches buses) after result → Answers (mat_of bytes) (λ tables. tables) after result
+    pub after_branches : (after : Tables) (result : Result (Unit {0}) Stop) → Answers (read_table (read_branch most buses) table.Branch bytes) (held_branches most buses) after result → Answers (mat_within most bytes) (λ tables. tables) after result
     after_branches after (Ok tt) (branches, is, held) = (
-      tables_of_rows (buses_of buses) branches,
-      ap (λ r. on_ok r (after_buses bytes)) read ∙ ap (λ r. on_ok r (λ rows. Ok (tables_of_rows (buses_of buses) rows))) is,
+      tables_of_rows most (buses_of buses) branches,
+      ap (λ r. on_ok r (after_buses most bytes)) read ∙ ap (λ r. on_ok r (λ rows. Ok (tables_of_rows most (buses_of buses) rows))) is,
       held,
     )
     after_branches after (Err NoMemory) why = tt
-    after_branches after (Err (Fault f)) why = ap (λ r. on_ok r (after_buses bytes)) read ∙ ap (λ r. on_ok r (λ rows. Ok (tables_of_rows (buses_of buses) rows))) why
+    after_branches after (Err (Fault f)) why = ap (λ r. on_ok r (after_buses most bytes)) read ∙ ap (λ r. on_ok r (λ rows. Ok (tables_of_rows most (buses_of buses) rows))) why

@@ -11,7 +11,7 @@ use Rattle.obs_matpower.specs.declared.part.MatTable.TheVariants as table
 use Rattle.obs_matpower.specs.Case.{AreAllBranches, AreAllBuses}
 use Rattle.obs_matpower.specs.IsFault.{BranchRowHas, BranchTableHas, BusRowHas, BusTableHas, IsBranchFault, IsFault, IsNotAfter}
 use Rattle.obs_matpower.specs.Laws.{FirstFaultOfFile}
-use Rattle.obs_matpower.specs.Read.{BusRow, buses_of, mat_of, read_branch, read_bus, read_table}
+use Rattle.obs_matpower.specs.Read.{BusRow, buses_of, mat_within, read_branch, read_bus, read_table}
 use Rattle.obs_matpower.specs.Table.{end_of, is_ended, is_there, left_open, missing}
 use Rattle.obs_matpower.specs.Whole.{table_rows}
 use Rattle.obs_matpower.proofs.FileLemmas.{after_buses, table_read}
@@ -46,7 +46,7 @@ module _ {R : Type 0} (read : List R → ℕ → List ℕ → Result R MatFault)
 
 -- ---- tables
 
-module _ (bytes : List ℕ) where
+module _ (most : ℕ) (bytes : List ℕ) where
   -- a fault with which a table ends is that it isn't there or isn't ended
   table_has : (which : MatTable) (Has : MatFault → Type 0) → (is_there which bytes ≡ false → Has (missing which))
       → ((is_there which bytes ≡ true) × (is_ended which bytes ≡ false) → Has (left_open which)) → (fault : MatFault) → end_of which bytes ≡ Some fault → Has fault
@@ -85,61 +85,61 @@ module _ (bytes : List ℕ) where
 
   -- ---- each fault of a file is met, or one that isn't after it
 
-  branch_fault_met : (buses : List BusRow) (other : MatFault) → IsBranchFault buses bytes other → Met IsNotAfter (read_table (read_branch buses) table.Branch bytes) other
+  branch_fault_met : (buses : List BusRow) (other : MatFault) → IsBranchFault most buses bytes other → Met IsNotAfter (read_table (read_branch most buses) table.Branch bytes) other
   branch_fault_met buses other (inl has) =
-      met_in_rows (read_branch buses) table.Branch bytes other
-      (row_met IsNotAfter (read_branch buses) has (branches_read buses has.before has.done has.done_are) (branch_met buses has.done has.at has.row other has.has))
+      met_in_rows (read_branch most buses) table.Branch bytes other
+      (row_met IsNotAfter (read_branch most buses) has (branches_read most buses has.before has.done has.done_are) (branch_met most buses has.done has.at has.row other has.has))
   branch_fault_met buses other (inr has) =
-      met_at_end (read_branch buses) table.Branch bytes has.0 other (branches_read buses (table_rows table.Branch bytes) has.0 has.1) (branch_table_met other has.2)
+      met_at_end (read_branch most buses) table.Branch bytes has.0 other (branches_read most buses (table_rows table.Branch bytes) has.0 has.1) (branch_table_met other has.2)
 
-  fault_met : (other : MatFault) → IsFault bytes other → Met IsNotAfter (mat_of bytes) other
+  fault_met : (other : MatFault) → IsFault most bytes other → Met IsNotAfter (mat_within most bytes) other
   fault_met other (inl has) =
-      ends IsNotAfter (read_table read_bus table.Bus bytes) (after_buses bytes) other
-      (met_in_rows read_bus table.Bus bytes other
-      (row_met IsNotAfter read_bus has (buses_read has.before has.done has.done_are) (bus_met has.done has.at has.row other has.has)))
+      ends IsNotAfter (read_table (read_bus most) table.Bus bytes) (after_buses most bytes) other
+      (met_in_rows (read_bus most) table.Bus bytes other
+      (row_met IsNotAfter (read_bus most) has (buses_read most has.before has.done has.done_are) (bus_met most has.done has.at has.row other has.has)))
   fault_met other (inr (buses, are, inl has)) =
-      ends IsNotAfter (read_table read_bus table.Bus bytes) (after_buses bytes) other
-      (met_at_end read_bus table.Bus bytes buses other (buses_read (table_rows table.Bus bytes) buses are) (bus_table_met other has))
+      ends IsNotAfter (read_table (read_bus most) table.Bus bytes) (after_buses most bytes) other
+      (met_at_end (read_bus most) table.Bus bytes buses other (buses_read most (table_rows table.Bus bytes) buses are) (bus_table_met other has))
   fault_met other (inr (buses, are, inr (whole, has))) =
-      let read = rows_read read_bus table.Bus bytes buses (buses_read (table_rows table.Bus bytes) buses are) whole in
-      let met = ends IsNotAfter (read_table (read_branch buses) table.Branch bytes) (λ branches. Ok (tables_of_rows (buses_of buses) branches)) other (branch_fault_met buses other has) in
-      (met.0, ap (λ r. on_ok r (after_buses bytes)) read ∙ met.1, met.2)
+      let read = rows_read (read_bus most) table.Bus bytes buses (buses_read most (table_rows table.Bus bytes) buses are) whole in
+      let met = ends IsNotAfter (read_table (read_branch most buses) table.Branch bytes) (λ branches. Ok (tables_of_rows most (buses_of buses) branches)) other (branch_fault_met buses other has) in
+      (met.0, ap (λ r. on_ok r (after_buses most bytes)) read ∙ met.1, met.2)
 
   -- ---- a fault that is met is one of the file
 
-  branch_fault_is : (buses : List BusRow) (fault : MatFault) → read_table (read_branch buses) table.Branch bytes ≡ Err fault → IsBranchFault buses bytes fault
-  branch_fault_is buses fault is = by (table_stops (read_branch buses) table.Branch bytes fault is)
+  branch_fault_is : (buses : List BusRow) (fault : MatFault) → read_table (read_branch most buses) table.Branch bytes ≡ Err fault → IsBranchFault most buses bytes fault
+  branch_fault_is buses fault is = by (table_stops (read_branch most buses) table.Branch bytes fault is)
     where
-      by : TableStops (read_branch buses) table.Branch bytes fault → IsBranchFault buses bytes fault
+      by : TableStops (read_branch most buses) table.Branch bytes fault → IsBranchFault most buses bytes fault
       by (inl s) =
           inl
-          (has_fault (read_branch buses) (AreAllBranches buses) (BranchRowHas buses) s (branches_are buses s.before s.done s.done_are)
-          (branch_has buses s.done s.at s.row fault (few_branches buses s.before s.done s.done_are) s.has))
-      by (inr (branches, read, end)) = inr (branches, branches_are buses (table_rows table.Branch bytes) branches read, table_has table.Branch (BranchTableHas bytes) (λ none. none) (λ part. part) fault end)
+          (has_fault (read_branch most buses) (AreAllBranches most buses) (BranchRowHas most buses) s (branches_are most buses s.before s.done s.done_are)
+          (branch_has most buses s.done s.at s.row fault (few_branches most buses s.before s.done s.done_are) s.has))
+      by (inr (branches, read, end)) = inr (branches, branches_are most buses (table_rows table.Branch bytes) branches read, table_has table.Branch (BranchTableHas bytes) (λ none. none) (λ part. part) fault end)
 
-  fault_in_buses : (fault : MatFault) → read_table read_bus table.Bus bytes ≡ Err fault → IsFault bytes fault
-  fault_in_buses fault is = by (table_stops read_bus table.Bus bytes fault is)
+  fault_in_buses : (fault : MatFault) → read_table (read_bus most) table.Bus bytes ≡ Err fault → IsFault most bytes fault
+  fault_in_buses fault is = by (table_stops (read_bus most) table.Bus bytes fault is)
     where
-      by : TableStops read_bus table.Bus bytes fault → IsFault bytes fault
+      by : TableStops (read_bus most) table.Bus bytes fault → IsFault most bytes fault
       by (inl s) =
           inl
-          (has_fault read_bus AreAllBuses BusRowHas s (buses_are s.before s.done s.done_are)
-          (bus_has s.done s.at s.row fault (few_buses s.before s.done s.done_are) s.has))
-      by (inr (buses, read, end)) = inr (buses, buses_are (table_rows table.Bus bytes) buses read, inl (table_has table.Bus (BusTableHas bytes) (λ none. none) (λ part. part) fault end))
+          (has_fault (read_bus most) (AreAllBuses most) (BusRowHas most) s (buses_are most s.before s.done s.done_are)
+          (bus_has most s.done s.at s.row fault (few_buses most s.before s.done s.done_are) s.has))
+      by (inr (buses, read, end)) = inr (buses, buses_are most (table_rows table.Bus bytes) buses read, inl (table_has table.Bus (BusTableHas bytes) (λ none. none) (λ part. part) fault end))
 
-  branches_fault : (buses : List BusRow) (fault : MatFault) (r : Result (List Branch) MatFault) → read_table (read_branch buses) table.Branch bytes ≡ r → on_ok r (λ branches. Ok (tables_of_rows (buses_of buses) branches)) ≡ Err fault
-      → IsBranchFault buses bytes fault
+  branches_fault : (buses : List BusRow) (fault : MatFault) (r : Result (List Branch) MatFault) → read_table (read_branch most buses) table.Branch bytes ≡ r → on_ok r (λ branches. Ok (tables_of_rows most (buses_of buses) branches)) ≡ Err fault
+      → IsBranchFault most buses bytes fault
   branches_fault buses fault (Ok branches) e is = cc
   branches_fault buses fault (Err f) e is = (let same : f ≡ fault = cc in branch_fault_is buses fault (e ∙ ap (λ g. Err g) same))
 
-  fault_is : (fault : MatFault) → mat_of bytes ≡ Err fault → IsFault bytes fault
-  fault_is fault is = by (read_table read_bus table.Bus bytes) refl is
+  fault_is : (fault : MatFault) → mat_within most bytes ≡ Err fault → IsFault most bytes fault
+  fault_is fault is = by (read_table (read_bus most) table.Bus bytes) refl is
     where
-      by : (r : Result (List BusRow) MatFault) → read_table read_bus table.Bus bytes ≡ r → on_ok r (after_buses bytes) ≡ Err fault → IsFault bytes fault
+      by : (r : Result (List BusRow) MatFault) → read_table (read_bus most) table.Bus bytes ≡ r → on_ok r (after_buses most bytes) ≡ Err fault → IsFault most bytes fault
       by (Err f) e h = (let same : f ≡ fault = cc in fault_in_buses fault (e ∙ ap (λ g. Err g) same))
       by (Ok buses) e h =
-          let read = table_read read_bus table.Bus bytes buses e in
-          inr (buses, buses_are (table_rows table.Bus bytes) buses read.0, inr (read.1, branches_fault buses fault (read_table (read_branch buses) table.Branch bytes) refl h))
+          let read = table_read (read_bus most) table.Bus bytes buses e in
+          inr (buses, buses_are most (table_rows table.Bus bytes) buses read.0, inr (read.1, branches_fault buses fault (read_table (read_branch most buses) table.Branch bytes) refl h))
 
 pub FirstFaultOfFile-holds : FirstFaultOfFile
-FirstFaultOfFile-holds bytes = first_met IsNotAfter (IsFault bytes) (mat_of bytes) (fault_is bytes) (fault_met bytes)
+FirstFaultOfFile-holds most bytes = first_met IsNotAfter (IsFault most bytes) (mat_within most bytes) (fault_is most bytes) (fault_met most bytes)

@@ -1,7 +1,7 @@
 -- When bytes are the nodes and branches of a case: a relation on the whole lists of rows.
 use Rattle.std.specs.Prelude.{◌≡◌, ℕ, ◌≤◌, ◌&&◌, Bool, false, not, nat_eq, List, length, map, get_or, Option, None, Some}
 use Rattle.std.specs.List.{IsDistinct}
-use Rattle.obs_case.specs.Tables.{Tables, most_rows}
+use Rattle.obs_case.specs.Tables.{Tables}
 use Rattle.obs_case.specs.declared.rows.Branch.{Branch}
 use Rattle.obs_case_csv.specs.declared.faults.Table.TheVariants.{Meters}
 use Rattle.obs_case_csv.specs.OneTable.{HasCandidates, IsTableOf}
@@ -41,30 +41,30 @@ pub record IsBranchRow (buses : List BusRow) (k : ℕ) (row : List ℕ) (branch 
 abbrev pub AreBranchRows : List BusRow → List (ℕ × List ℕ) → List Branch → Type 0
 AreBranchRows buses rows branches = AreRows (IsBranchRow buses) 1 rows branches
 
--- rows are these buses, with different numbers
-pub record AreAllBuses (rows : List (ℕ × List ℕ)) (buses : List BusRow) : Type 0 where
+-- rows are these buses, with different numbers, at most so many
+pub record AreAllBuses (most : ℕ) (rows : List (ℕ × List ℕ)) (buses : List BusRow) : Type 0 where
   pub are : AreBusRows rows buses
-  pub few : length rows ≤ most_rows
+  pub few : length rows ≤ most
   pub different : IsDistinct nat_eq (map (λ (bus : BusRow). bus.number) buses)
 
--- rows are these branches between buses
-pub record AreAllBranches (buses : List BusRow) (rows : List (ℕ × List ℕ)) (branches : List Branch) : Type 0 where
+-- rows are these branches between buses, at most so many
+pub record AreAllBranches (most : ℕ) (buses : List BusRow) (rows : List (ℕ × List ℕ)) (branches : List Branch) : Type 0 where
   pub are : AreBranchRows buses rows branches
-  pub few : length rows ≤ most_rows
+  pub few : length rows ≤ most
 
 -- a file has both tables, and they are these buses and branches
-pub record AreTables (bytes : List ℕ) (buses : List BusRow) (branches : List Branch) : Type 0 where
+pub record AreTables (most : ℕ) (bytes : List ℕ) (buses : List BusRow) (branches : List Branch) : Type 0 where
   pub bus_table : end_of table.Bus bytes ≡ None
-  pub buses_are : AreAllBuses (table_rows table.Bus bytes) buses
+  pub buses_are : AreAllBuses most (table_rows table.Bus bytes) buses
   pub branch_table : end_of table.Branch bytes ≡ None
-  pub branches_are : AreAllBranches buses (table_rows table.Branch bytes) branches
+  pub branches_are : AreAllBranches most buses (table_rows table.Branch bytes) branches
 
--- a file's bytes are these nodes and branches
-abbrev pub IsFile : List ℕ → Tables → Type 0
-IsFile bytes tables =
-    (buses : List BusRow) × (branches : List Branch) × AreTables bytes buses branches × (tables ≡ tables_of_rows (buses_of buses) branches)
+-- a file's bytes are these nodes and branches, where a table may have at most so many rows
+abbrev pub IsFile : ℕ → List ℕ → Tables → Type 0
+IsFile most bytes tables =
+    (buses : List BusRow) × (branches : List Branch) × AreTables most bytes buses branches × (tables ≡ tables_of_rows most (buses_of buses) branches)
 
 -- a file's bytes and those of its tables are this case: it has the file's nodes and branches, and the rows of the tables
-abbrev pub IsCase : List ℕ → List ℕ → Option (List ℕ) → Tables → Type 0
-IsCase matpower meters candidates tables =
-    (file metered : Tables) × IsFile matpower file × IsTableOf Meters meters file metered × HasCandidates candidates metered tables
+abbrev pub IsCase : ℕ → List ℕ → List ℕ → Option (List ℕ) → Tables → Type 0
+IsCase most matpower meters candidates tables =
+    (file metered : Tables) × IsFile most matpower file × IsTableOf Meters meters file metered × HasCandidates candidates metered tables

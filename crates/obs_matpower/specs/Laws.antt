@@ -1,15 +1,15 @@
 -- The reading of bytes and what bytes are.
-use Rattle.std.specs.Prelude.{◌≡◌, ◌++◌, ◌∷◌, [], ℕ, Bool, true, false, IsTrue, List, is_none, Option, MatchResult, Ok, Err}
+use Rattle.std.specs.Prelude.{◌≡◌, ◌≤◌, ◌++◌, ◌∷◌, [], ℕ, Bool, true, false, IsTrue, List, is_none, Option, MatchResult, Ok, Err}
 use Rattle.std.specs.List.{before_first, concat, list_all, list_any}
 use Rattle.obs_text.specs.Lines.{content, ended_lines}
-use Rattle.obs_case.specs.Tables.{IsValid, Tables}
+use Rattle.obs_case.specs.Tables.{IsValid, Tables, most_rows}
 use Rattle.obs_matpower.specs.declared.fault.MatEnd.{MatEnd}
 use Rattle.obs_matpower.specs.declared.fault.MatFault.{MatFault}
 use Rattle.obs_matpower.specs.declared.part.MatTable.{MatTable}
 use Rattle.obs_matpower.specs.Case.{IsCase, IsFile}
 use Rattle.obs_matpower.specs.IsFault.{IsFault, IsNotAfter}
 use Rattle.obs_matpower.specs.Lines.{closes, is_gap, opens, table_name, without_comment}
-use Rattle.obs_matpower.specs.Read.{case_in, mat_of}
+use Rattle.obs_matpower.specs.Read.{case_within, mat_within}
 use Rattle.obs_matpower.specs.Rows.{rows_of}
 use Rattle.obs_matpower.specs.Table.{end_of, is_ended, is_there, line_of, text_of}
 use Rattle.obs_matpower.specs.Whole.{table_rows}
@@ -56,30 +56,39 @@ RowsAreOfLines =
 
 -- what is read from a file are the nodes and branches that its bytes are
 abbrev pub FileIsRead : Type 0
-FileIsRead = (bytes : List ℕ) (tables : Tables) → (mat_of bytes ≡ Ok tables → IsFile bytes tables) × (IsFile bytes tables → mat_of bytes ≡ Ok tables)
+FileIsRead =
+    (most : ℕ) (bytes : List ℕ) (tables : Tables) →
+    (mat_within most bytes ≡ Ok tables → IsFile most bytes tables) × (IsFile most bytes tables → mat_within most bytes ≡ Ok tables)
 
 -- what is read is the case that the bytes are
 abbrev pub CaseIsRead : Type 0
 CaseIsRead =
-    (matpower meters : List ℕ) (candidates : Option (List ℕ)) (tables : Tables) →
-    (case_in matpower meters candidates ≡ Ok tables → IsCase matpower meters candidates tables)
-    × (IsCase matpower meters candidates tables → case_in matpower meters candidates ≡ Ok tables)
+    (most : ℕ) → most ≤ most_rows → (matpower meters : List ℕ) (candidates : Option (List ℕ)) (tables : Tables) →
+    (case_within most matpower meters candidates ≡ Ok tables → IsCase most matpower meters candidates tables)
+    × (IsCase most matpower meters candidates tables → case_within most matpower meters candidates ≡ Ok tables)
 
 -- a fault is met exactly where the bytes are no case
 abbrev pub FaultWhereNoCase : Type 0
 FaultWhereNoCase =
-    (matpower meters : List ℕ) (candidates : Option (List ℕ)) →
-    ((fault : MatEnd) → case_in matpower meters candidates ≡ Err fault → (tables : Tables) → ¬ IsCase matpower meters candidates tables)
-    × (((tables : Tables) → ¬ IsCase matpower meters candidates tables) → (fault : MatEnd) × (case_in matpower meters candidates ≡ Err fault))
+    (most : ℕ) → most ≤ most_rows → (matpower meters : List ℕ) (candidates : Option (List ℕ)) →
+    ((fault : MatEnd) → case_within most matpower meters candidates ≡ Err fault → (tables : Tables) → ¬ IsCase most matpower meters candidates tables)
+    × (((tables : Tables) → ¬ IsCase most matpower meters candidates tables) → (fault : MatEnd) × (case_within most matpower meters candidates ≡ Err fault))
 
 -- a case that is read is valid
 abbrev pub CasesAreValid : Type 0
 CasesAreValid =
-    (matpower meters : List ℕ) (candidates : Option (List ℕ)) (tables : Tables) → case_in matpower meters candidates ≡ Ok tables → IsValid tables
+    (most : ℕ) → most ≤ most_rows → (matpower meters : List ℕ) (candidates : Option (List ℕ)) (tables : Tables) →
+    case_within most matpower meters candidates ≡ Ok tables → IsValid tables
+
+-- and has the limit that was given
+abbrev pub CasesHaveLimit : Type 0
+CasesHaveLimit =
+    (most : ℕ) → most ≤ most_rows → (matpower meters : List ℕ) (candidates : Option (List ℕ)) (tables : Tables) →
+    case_within most matpower meters candidates ≡ Ok tables → tables.most ≡ most
 
 -- the fault of a file that is met is one, and no fault of the file comes before it; none is met exactly where the file has none
 abbrev pub FirstFaultOfFile : Type 0
 FirstFaultOfFile =
-    (bytes : List ℕ) →
-    MatchResult (mat_of bytes) (λ tables. (fault : MatFault) → IsFault bytes fault → ⊥)
-    (λ fault. IsFault bytes fault × ((other : MatFault) → IsFault bytes other → IsNotAfter fault other))
+    (most : ℕ) (bytes : List ℕ) →
+    MatchResult (mat_within most bytes) (λ tables. (fault : MatFault) → IsFault most bytes fault → ⊥)
+    (λ fault. IsFault most bytes fault × ((other : MatFault) → IsFault most bytes other → IsNotAfter fault other))

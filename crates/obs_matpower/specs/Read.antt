@@ -1,6 +1,6 @@
 -- The buses and branches that a file's bytes are, or its first fault; and the case that it is with its tables.
 use Rattle.std.specs.Prelude.{◌≡◌, ℕ, ◌+◌, ◌&&◌, Bool, false, not, nat_le, List, [], length, map, get_or, Option, None, Some, Result, Ok, Err, if◌then◌else◌}
-use Rattle.obs_case.specs.Tables.{Tables, most_rows}
+use Rattle.obs_case.specs.Tables.{Tables, usual_rows}
 use Rattle.obs_case.specs.declared.rows.Branch.{Branch}
 use Rattle.obs_case_csv.specs.declared.faults.TableFault.{TableFault}
 use Rattle.obs_case_csv.specs.Read.{tables_after}
@@ -40,10 +40,10 @@ bus_of earlier at (Some number) None = Err (BadType at)
 bus_of earlier at (Some number) (Some kind) =
     if has_bus (buses_of earlier) number then Err (BusTwice at) else Ok (record { number = number; kind = kind })
 
--- the bus that a row is, after those before it
-abbrev pub read_bus : List BusRow → ℕ → List ℕ → Result BusRow MatFault
-read_bus earlier at row =
-    if nat_le most_rows (length earlier) then Err (TooMany at)
+-- the bus that a row is, after those before it, where a table may have at most so many rows
+abbrev pub read_bus : ℕ → List BusRow → ℕ → List ℕ → Result BusRow MatFault
+read_bus most earlier at row =
+    if nat_le most (length earlier) then Err (TooMany at)
     else if is_short 2 row then Err (ShortRow at)
     else bus_of earlier at (number_in 1 row) (type_in 2 row)
 
@@ -74,18 +74,23 @@ branch_of rows k at (Some from) (Some to) status =
     if has_bus (buses_of rows) from && has_bus (buses_of rows) to then with_status rows k at from to status else Err (UnknownBus at)
 
 -- the branch that a row is, after those before it
-abbrev pub read_branch : List BusRow → List Branch → ℕ → List ℕ → Result Branch MatFault
-read_branch rows earlier at row =
-    if nat_le most_rows (length earlier) then Err (TooMany at)
+abbrev pub read_branch : ℕ → List BusRow → List Branch → ℕ → List ℕ → Result Branch MatFault
+read_branch most rows earlier at row =
+    if nat_le most (length earlier) then Err (TooMany at)
     else if is_short 11 row then Err (ShortRow at)
     else branch_of rows (length earlier + 1) at (number_in 1 row) (number_in 2 row) (status_in 11 row)
 
--- the nodes and branches that a file's bytes are, or its first fault: those of the bus table come before those of the branch table
+-- the nodes and branches that a file's bytes are, where a table may have at most so many rows, or its first fault: those of the bus table
+-- come before those of the branch table
+abbrev pub mat_within : ℕ → List ℕ → Result Tables MatFault
+mat_within most bytes =
+    on_ok (read_table (read_bus most) table.Bus bytes) (λ rows.
+    on_ok (read_table (read_branch most rows) table.Branch bytes) (λ branches.
+    Ok (tables_of_rows most (buses_of rows) branches)))
+
+-- the same under the usual limit
 abbrev pub mat_of : List ℕ → Result Tables MatFault
-mat_of bytes =
-    on_ok (read_table read_bus table.Bus bytes) (λ rows.
-    on_ok (read_table (read_branch rows) table.Branch bytes) (λ branches.
-    Ok (tables_of_rows (buses_of rows) branches)))
+mat_of bytes = mat_within usual_rows bytes
 
 -- the same answer, with a table's fault as an end
 abbrev pub as_end : Result Tables TableFault → Result Tables MatEnd
@@ -97,9 +102,14 @@ abbrev pub with_tables : List ℕ → Option (List ℕ) → Result Tables MatFau
 with_tables meters candidates (Err fault) = Err (Mat fault)
 with_tables meters candidates (Ok tables) = as_end (tables_after meters candidates tables)
 
--- the case that the bytes are, or the first fault: those of the file come before those of the tables
+-- the case that the bytes are, where a table may have at most so many rows, or the first fault: those of the file come before those of
+-- the tables
+abbrev pub case_within : ℕ → List ℕ → List ℕ → Option (List ℕ) → Result Tables MatEnd
+case_within most matpower meters candidates = with_tables meters candidates (mat_within most matpower)
+
+-- the same under the usual limit
 abbrev pub case_in : List ℕ → List ℕ → Option (List ℕ) → Result Tables MatEnd
-case_in matpower meters candidates = with_tables meters candidates (mat_of matpower)
+case_in matpower meters candidates = case_within usual_rows matpower meters candidates
 
 -- an answer that ends the reading: want of memory, or this fault
 abbrev pub EndsCase : Result Tables MatEnd → MatEnd → Type 0

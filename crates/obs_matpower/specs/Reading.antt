@@ -18,13 +18,13 @@ Answers {A} stated held after (Ok done) = (rows : A) × (stated ≡ Ok rows) × 
 Answers stated held after (Err (Fault fault)) = stated ≡ Err fault
 Answers stated held after (Err NoMemory) = Unit {0}
 
--- what holds buses that were read: a case, and which of them are isolated
-abbrev pub held_buses : List BusRow → Tables × List Bool
-held_buses rows = (tables_of_rows (buses_of rows) [], isolated_of rows)
+-- what holds buses that were read: a case of this limit of rows, and which of them are isolated
+abbrev pub held_buses : ℕ → List BusRow → Tables × List Bool
+held_buses most rows = (tables_of_rows most (buses_of rows) [], isolated_of rows)
 
 -- what holds branches that were read after buses
-abbrev pub held_branches : List BusRow → List Branch → Tables
-held_branches rows branches = tables_of_rows (buses_of rows) branches
+abbrev pub held_branches : ℕ → List BusRow → List Branch → Tables
+held_branches most rows branches = tables_of_rows most (buses_of rows) branches
 
 -- what the rows of a text are, which has this line and this end
 abbrev pub read_text : {R : Type 0} → (List R → ℕ → List ℕ → Result R MatFault) → Bool → ℕ → List ℕ → Option MatFault → Result (List R) MatFault

@@ -1,7 +1,7 @@
 // The rows of the tables, read into a case.
-ghost use Rattle.std.specs.Prelude.{◌≡◌, ◌≤◌, ◌<◌, ◌+◌, ◌&&◌, false, get_or, is_none, not, List, [], ◌∷◌, ◌++◌, length, Some};
+ghost use Rattle.std.specs.Prelude.{ℕ, ◌≡◌, ◌≤◌, ◌<◌, ◌+◌, ◌&&◌, false, get_or, is_none, not, List, [], ◌∷◌, ◌++◌, length, Some};
 ghost use Rattle.obs_text.specs.Limits.{most_file_bytes};
-ghost use Rattle.obs_case.specs.Tables.{most_rows, no_rows};
+ghost use Rattle.obs_case.specs.Tables.{no_rows_within};
 ghost use Rattle.obs_case.specs.declared.rows.Branch.{Branch};
 ghost use Rattle.obs_bus_branch.specs.Buses.{AreNamed};
 ghost use Rattle.obs_matpower.specs.Read.{BusRow, branch_of, buses_of, isolated_of, read_branch, read_bus};
@@ -13,7 +13,7 @@ use crate::part::MatPart;
 use crate::row_start::rows;
 use crate::stop::Stop;
 use obs_bus_branch::{NAME_ROOM, branch_name};
-use obs_case::{AddFault, Case, MOST_ROWS};
+use obs_case::{AddFault, Case};
 use obs_text::Digits;
 
 /// The fewest values of a bus row, the last of which is the type.
@@ -34,12 +34,12 @@ fn stop(fault: AddFault, cause: MatFault) -> Stop
 
 // Adds the bus that a row is.
 fn add_bus(case: &mut Case, isolated: &mut Vec<bool>, row: &[u8], at: u32) -> Result<(), Stop>
-    ensures read { (earlier : List BusRow) → AreBuses (buses_of earlier) → case.old ≡ (held_buses earlier).0 →
-        isolated.old.items ≡ (held_buses earlier).1 →
-        Answers (read_bus earlier at row.now) (λ bus. held_buses (earlier ++ bus ∷ []))
+    ensures read { (most : ℕ) (earlier : List BusRow) → AreBuses (buses_of earlier) →
+        case.old ≡ (held_buses most earlier).0 → isolated.old.items ≡ (held_buses most earlier).1 →
+        Answers (read_bus most earlier at row.now) (λ bus. held_buses most (earlier ++ bus ∷ []))
         (case.new, isolated.new.items) result }
 {
-    if case.nodes().len() >= MOST_ROWS {
+    if case.nodes().len() >= case.most() as usize {
         return Err(Stop::Fault(MatFault::TooMany(at)));
     }
     if is_short(row, BUS_COLUMNS) {
@@ -69,10 +69,10 @@ pub(crate) fn add_buses(
 ) -> Result<(), Stop>
     requires few { length part.now.text.now ≤ most_file_bytes }
     requires low { part.now.line ≤ most_file_bytes }
-    requires empty { case.old ≡ no_rows }
+    requires empty { case.old ≡ no_rows_within case.old.most }
     requires none { isolated.old.items ≡ [] }
-    ensures read { Answers (read_text read_bus
-        (is_none part.now.end) part.now.line part.now.text.now part.now.end) held_buses
+    ensures read { Answers (read_text (read_bus case.old.most)
+        (is_none part.now.end) part.now.line part.now.text.now part.now.end) (held_buses case.old.most)
         (case.new, isolated.new.items) result }
 {
     for row in rows(part) {
@@ -113,11 +113,11 @@ fn add_between(
 ) -> Result<(), Stop>
     requires from { from < 1000000000 }
     requires to { to < 1000000000 }
-    ensures read { (buses : List BusRow) (earlier : List Branch) → AreBuses (buses_of buses) → AreNamed 1 earlier →
-        length earlier < most_rows →
-        case.old ≡ held_branches buses earlier → isolated.now ≡ isolated_of buses →
-        Answers (branch_of buses (length earlier + 1) at (Some from) (Some to) status) (λ branch. held_branches buses
-        (earlier ++ branch ∷ [])) case.new result }
+    ensures read { (most : ℕ) (buses : List BusRow) (earlier : List Branch) → AreBuses (buses_of buses) →
+        AreNamed 1 earlier → length earlier < most →
+        case.old ≡ held_branches most buses earlier → isolated.now ≡ isolated_of buses →
+        Answers (branch_of buses (length earlier + 1) at (Some from) (Some to) status) (λ branch. held_branches most
+        buses (earlier ++ branch ∷ [])) case.new result }
 {
     let (mut from_digits, mut to_digits) = (Digits::new(), Digits::new());
     let from = from_digits.text(from);
@@ -144,12 +144,12 @@ fn add_between(
 
 // Adds the branch that a row is.
 fn add_branch(case: &mut Case, isolated: &[bool], row: &[u8], at: u32) -> Result<(), Stop>
-    ensures read { (buses : List BusRow) (earlier : List Branch) → AreBuses (buses_of buses) → AreNamed 1 earlier →
-        case.old ≡ held_branches buses earlier → isolated.now ≡ isolated_of buses →
-        Answers (read_branch buses earlier at row.now) (λ branch. held_branches buses
+    ensures read { (most : ℕ) (buses : List BusRow) (earlier : List Branch) → AreBuses (buses_of buses) →
+        AreNamed 1 earlier → case.old ≡ held_branches most buses earlier → isolated.now ≡ isolated_of buses →
+        Answers (read_branch most buses earlier at row.now) (λ branch. held_branches most buses
         (earlier ++ branch ∷ [])) case.new result }
 {
-    if case.branches().len() >= MOST_ROWS {
+    if case.branches().len() >= case.most() as usize {
         return Err(Stop::Fault(MatFault::TooMany(at)));
     }
     if is_short(row, BRANCH_COLUMNS) {
@@ -169,10 +169,10 @@ fn add_branch(case: &mut Case, isolated: &[bool], row: &[u8], at: u32) -> Result
 pub(crate) fn add_branches(case: &mut Case, isolated: &[bool], part: &MatPart) -> Result<(), Stop>
     requires few { length part.now.text.now ≤ most_file_bytes }
     requires low { part.now.line ≤ most_file_bytes }
-    ensures read { (buses : List BusRow) → AreBuses (buses_of buses) → case.old ≡ held_branches buses [] →
-        isolated.now ≡ isolated_of buses →
-        Answers (read_text (read_branch buses) (is_none part.now.end) part.now.line part.now.text.now part.now.end)
-        (held_branches buses) case.new result }
+    ensures read { (most : ℕ) (buses : List BusRow) → AreBuses (buses_of buses) →
+        case.old ≡ held_branches most buses [] → isolated.now ≡ isolated_of buses →
+        Answers (read_text (read_branch most buses) (is_none part.now.end) part.now.line part.now.text.now part.now.end)
+        (held_branches most buses) case.new result }
 {
     for row in rows(part) {
         add_branch(case, isolated, row.bytes, row.line)?;

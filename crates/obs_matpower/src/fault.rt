@@ -25,7 +25,7 @@ pub enum MatFault {
     BusTwice(u32),
     /// An end of a branch is no bus.
     UnknownBus(u32),
-    /// This is the 20,001st row of its table.
+    /// This is one row of its table more than the limit: the 20,001st, where no other is given.
     TooMany(u32),
     /// The row has too few values.
     ShortRow(u32),

@@ -1,5 +1,5 @@
 //! What bytes are, and what is read from them.
-ghost use Rattle.obs_matpower.specs.Laws.{CaseIsRead, CasesAreValid, FaultWhereNoCase, FileIsRead, FirstFaultOfFile, OpeningsAreAssignments, RowsAreOfLines, TextStandsBetween};
+ghost use Rattle.obs_matpower.specs.Laws.{CaseIsRead, CasesAreValid, CasesHaveLimit, FaultWhereNoCase, FileIsRead, FirstFaultOfFile, OpeningsAreAssignments, RowsAreOfLines, TextStandsBetween};
 
 /// A line opens a `table` exactly where, before its comment, it begins with the name of the table,
 /// `=` and `[`, with nothing but blanks and tabs before each.
@@ -33,9 +33,10 @@ pub fn case_is_read()
 {}
 
 /// A case that is read is valid: in each table the names are names, no two of them are equal and
-/// there are at most 20,000 rows, and positions and prices are in range.
+/// there are at most as many rows as the limit that was given, and positions and prices are in range.
 pub fn cases_are_valid()
     ensures valid { CasesAreValid }
+    ensures limit { CasesHaveLimit }
 {}
 
 /// The fault of a file that is met is the first: a row has one where the rows before it have none,

@@ -19,7 +19,7 @@ mod value_start;
 
 pub use fault::{MatEnd, MatFault};
 pub use part::{MatPart, MatTable};
-pub use read::read_matpower;
+pub use read::{read_matpower, read_matpower_within};
 pub use row_iter::{MatRow, Rows};
 pub use row_start::rows;
 pub use search::table;

@@ -1,7 +1,7 @@
 // Cases from bytes.
 ghost use Rattle.std.specs.Prelude.{◌≡◌, ◌≤◌, Ok, length, option_map, IfErr, IfOk, OnOk};
-ghost use Rattle.obs_case.specs.Tables.{no_rows};
-ghost use Rattle.obs_matpower.specs.Read.{EndsCase, case_in, mat_of};
+ghost use Rattle.obs_case.specs.Tables.{most_rows, no_rows_within};
+ghost use Rattle.obs_matpower.specs.Read.{EndsCase, case_in, case_within, mat_within};
 ghost use Rattle.obs_matpower.specs.Reading.{Answers};
 ghost use Rattle.obs_text.specs.Limits.{most_file_bytes};
 
@@ -10,15 +10,15 @@ use crate::fault::MatEnd;
 use crate::part::MatTable;
 use crate::search::table;
 use crate::stop::Stop;
-use obs_case::Case;
+use obs_case::{Case, USUAL_ROWS};
 use obs_case_csv::add_tables;
 use std::alloc::Global;
 
 // Adds the nodes and branches of a file to an empty case.
 fn add_file(alloc: Global, case: &mut Case, matpower: &[u8]) -> Result<(), Stop>
-    requires empty { case.old ≡ no_rows }
+    requires empty { case.old ≡ no_rows_within case.old.most }
     requires few { length matpower.now ≤ most_file_bytes }
-    ensures read { Answers (mat_of matpower.now) (λ tables. tables) case.new result }
+    ensures read { Answers (mat_within case.old.most matpower.now) (λ tables. tables) case.new result }
 {
     let mut isolated = Vec::new(alloc);
     let buses = table(matpower, MatTable::Bus);
@@ -35,12 +35,12 @@ fn fill_case(
     meters: &[u8],
     candidates: Option<&[u8]>,
 ) -> Result<(), MatEnd>
-    requires empty { case.old ≡ no_rows }
+    requires empty { case.old ≡ no_rows_within case.old.most }
     requires few { length matpower.now ≤ most_file_bytes }
     ensures read { OnOk result
-        (case_in matpower.now meters.now (option_map (λ bytes. bytes.now) candidates.entry) ≡ Ok case.new) }
+        (case_within case.old.most matpower.now meters.now (option_map (λ bytes. bytes.now) candidates.entry) ≡ Ok case.new) }
     ensures refused { IfErr result
-        (EndsCase (case_in matpower.now meters.now (option_map (λ bytes. bytes.now) candidates.entry))) }
+        (EndsCase (case_within case.old.most matpower.now meters.now (option_map (λ bytes. bytes.now) candidates.entry))) }
 {
     add_file(alloc, case, matpower)?;
     add_tables(alloc, case, meters, candidates)?;
@@ -49,8 +49,8 @@ fn fill_case(
 
 /// The case that a MATPOWER case file of version 2 is, with a table of meters and, where it is
 /// given, a table of candidates. Nodes are named by their numbers, branches `L1`, `L2`, and so on.
-/// There are no switches. Refuses with the first fault of the bus table, then with that of the
-/// branch table, then with those of the tables.
+/// There are no switches, and a table may have at most 20,000 rows. Refuses with the first fault of
+/// the bus table, then with that of the branch table, then with those of the tables.
 pub fn read_matpower(
     alloc: Global,
     matpower: &[u8],
@@ -63,7 +63,25 @@ pub fn read_matpower(
     ensures refused { IfErr result
         (EndsCase (case_in matpower.now meters.now (option_map (λ bytes. bytes.now) candidates.entry))) }
 {
-    let mut case = Case::new(alloc);
+    read_matpower_within(alloc, USUAL_ROWS as u32, matpower, meters, candidates)
+}
+
+/// The same, where a table may have at most so many rows.
+pub fn read_matpower_within(
+    alloc: Global,
+    most: u32,
+    matpower: &[u8],
+    meters: &[u8],
+    candidates: Option<&[u8]>,
+) -> Result<Case, MatEnd>
+    requires limit { most ≤ most_rows }
+    requires few { length matpower.now ≤ most_file_bytes }
+    ensures read { IfOk result
+        (λ case. case_within most matpower.now meters.now (option_map (λ bytes. bytes.now) candidates.entry) ≡ Ok case) }
+    ensures refused { IfErr result
+        (EndsCase (case_within most matpower.now meters.now (option_map (λ bytes. bytes.now) candidates.entry))) }
+{
+    let mut case = Case::within(alloc, most);
     fill_case(alloc, &mut case, matpower, meters, candidates)?;
     Ok(case)
 }

@@ -1,13 +1,15 @@
 -- The arrays of components.
-use Rattle.std.proofs.Common.{◌≡◌, ℕ, zero, suc, ◌+◌, ◌^◌, ◌<◌, ◌≤◌, Bool, true, List, [], ◌∷◌, length, take, get_or, sym, ap, ◌∙◌, subst, arith}
-use Rattle.std.specs.Prelude.{All, count_by, ◌==◌, cond}
+use Rattle.std.proofs.Common.{◌≡◌, ℕ, zero, suc, ◌+◌, ◌^◌, ◌<◌, ◌≤◌, Bool, true, List, [], ◌∷◌, length, take, get_or, filter, sym, ap, ◌∙◌, subst, arith}
+use Rattle.std.specs.Prelude.{All, count_by, sum, ◌==◌, cond}
+use Rattle.std.specs.List.{range_with_len}
 use Rattle.std.proofs.lemmas.Bool.{eq-eqb, cond-true}
-use Rattle.std.proofs.lemmas.List.Sums.{count_by-le-length, sum_by-cons}
+use Rattle.std.proofs.lemmas.List.Sums.{count_by-le-length, length-filter, sum-map, sum_by-cons, sum_by-le-sum_by}
 use Rattle.std.proofs.lemmas.List.FromFn.{get_or-map-range_with_len, length-map-range_with_len}
 use Rattle.obs_graph.specs.declared.Ends.{Ends}
 use Rattle.obs_network.specs.Components.{component_count, component_of, components_of, sizes_of}
 use Rattle.obs_network.specs.Kept.{AreGrouped}
 use Rattle.obs_network.proofs.Numbered.{component_at, components_of-at}
+use Rattle.obs_network.proofs.Parted.{parts_few}
 
 count_by-some : (test : ℕ → Bool) (xs : List ℕ) (k : ℕ) → k < length xs → test (get_or xs k 0) ≡ true → 0 < count_by test xs
 count_by-some test [] k l t = absurd (omega arith)
@@ -34,7 +36,7 @@ size-some n live c l =
     let here = b.1 in
     count_by-some (λ x. x == c) (components_of n live) b.0 (omega (arith, length-components_of n live, here)) (eq-eqb (get_or (components_of n live) b.0 0) c (components_of-at n live b.0 here ∙ b.2))
 
--- and no more than there are
+-- no component has more buses than there are
 pub size-most : (n : ℕ) (live : List Ends) (c : ℕ) → count_by (λ x. x == c) (components_of n live) ≤ n
 size-most n live c = omega (arith, count_by-le-length (λ x. x == c) (components_of n live), length-components_of n live)
 
@@ -43,10 +45,15 @@ sizes-some n live k d l =
     let few : k < component_count n live = omega (arith, length-sizes_of (component_count n live) (components_of n live)) in
     omega (arith, sizes_of-at (component_count n live) (components_of n live) k d few, size-some n live k few)
 
-sizes-most : (n : ℕ) (live : List Ends) → All (λ s. s ≤ n) (sizes_of (component_count n live) (components_of n live))
-sizes-most n live k d l =
-    let few : k < component_count n live = omega (arith, length-sizes_of (component_count n live) (components_of n live)) in
-    omega (arith, sizes_of-at (component_count n live) (components_of n live) k d few, size-most n live k)
+-- and all together have no more
+sizes-whole : (count : ℕ) (components : List ℕ) → sum (sizes_of count components) ≤ length components
+sizes-whole count components =
+    let size : ℕ → ℕ = λ c. count_by (λ x. x == c) components in
+    let part : ℕ → ℕ = λ c. length (filter (λ x. x == c) components) in
+    let all = sum-map size (range_with_len 0 count) in
+    let each = sum_by-le-sum_by size part (range_with_len 0 count) (λ c. omega (arith, length-filter (λ x. x == c) components)) in
+    let parts = parts_few (λ x. x) components count in
+    omega (arith, all, each, parts)
 
 -- the arrays after a refill
 pub grouped_whole : (n count : ℕ) (live : List Ends) (numbers first_buses sizes : List ℕ) (energised absolute : List Bool)
@@ -67,5 +74,5 @@ grouped_whole n count live numbers first_buses sizes energised absolute small fi
       below = below;
       firsts = firsts;
       some = subst (λ (t : List ℕ). All (λ s. 0 < s) t) (sym sizes_are) (sizes-some n live);
-      most = subst (λ (t : List ℕ). All (λ s. s ≤ n) t) (sym sizes_are) (sizes-most n live);
+      whole = subst (λ (t : List ℕ). sum t ≤ n) (sym sizes_are) (subst (λ k. sum (sizes_of (component_count n live) (components_of n live)) ≤ k) (length-components_of n live) (sizes-whole (component_count n live) (components_of n live)));
     }

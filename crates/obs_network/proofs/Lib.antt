@@ -10,6 +10,7 @@ pub mod Whole
 pub mod OfLaws
 pub mod InComponents
 pub mod Sums
+pub mod Parted
 pub mod Observed
 pub mod WithoutAngles
 pub mod Listed

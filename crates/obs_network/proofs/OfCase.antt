@@ -196,8 +196,18 @@ meters-at_nodes t v = λ k d l. at_node t (get_or t.meters k d).kind (get_or t.m
 pub candidates-at_nodes : (t : Tables) → IsValid t → All (λ row. row.kind ≢ Flow → row.at < length t.nodes) t.candidates
 candidates-at_nodes t v = λ k d l. at_node t (get_or t.candidates k d).kind (get_or t.candidates k d).at (v.candidate_places k d l)
 
+-- a table has no more rows than the limit of its case, and so no more than a case may have
+pub nodes_in_limit : (t : Tables) → IsValid t → length t.nodes ≤ t.most
+nodes_in_limit t v = let few = v.nodes.few in omega (arith, few, length-map t.nodes (λ row. row.name))
+
+pub meters_in_limit : (t : Tables) → IsValid t → length t.meters ≤ t.most
+meters_in_limit t v = let few = v.meters.few in omega (arith, few, length-map t.meters (λ row. row.name))
+
+pub candidates_in_limit : (t : Tables) → IsValid t → length t.candidates ≤ t.most
+candidates_in_limit t v = let few = v.candidates.few in omega (arith, few, length-map t.candidates (λ row. row.name))
+
 pub few_nodes : (t : Tables) → IsValid t → length t.nodes ≤ most_rows
-few_nodes t v = let few = v.nodes.few in omega (arith, few, length-map t.nodes (λ row. row.name))
+few_nodes t v = let limit = v.limit in omega (arith, nodes_in_limit t v, limit)
 
 pub length-meter_touches : (rows : List (Option Ends)) (buses : List ℕ) (m : ℕ) (meters : List Meter) → length (meter_touches rows buses m meters) ≡ length meters
 length-meter_touches rows buses m [] = refl
@@ -220,16 +230,22 @@ length-case_offered t =
     ∙ omega (arith, meters, candidates)
 
 pub few_switches : (t : Tables) → IsValid t → length t.switches ≤ most_rows
-few_switches t v = let few = v.switches.few in omega (arith, few, length-map t.switches (λ row. row.name))
+few_switches t v =
+    let few = v.switches.few in
+    let limit = v.limit in
+    omega (arith, few, limit, length-map t.switches (λ row. row.name))
 
 pub few_branches : (t : Tables) → IsValid t → length t.branches ≤ most_rows
-few_branches t v = let few = v.branches.few in omega (arith, few, length-map t.branches (λ row. row.name))
+few_branches t v =
+    let few = v.branches.few in
+    let limit = v.limit in
+    omega (arith, few, limit, length-map t.branches (λ row. row.name))
 
 pub few_candidates : (t : Tables) → IsValid t → length t.candidates ≤ most_rows
-few_candidates t v = let few = v.candidates.few in omega (arith, few, length-map t.candidates (λ row. row.name))
+few_candidates t v = let limit = v.limit in omega (arith, candidates_in_limit t v, limit)
 
 pub few_meters : (t : Tables) → IsValid t → length t.meters ≤ most_rows
-few_meters t v = let few = v.meters.few in omega (arith, few, length-map t.meters (λ row. row.name))
+few_meters t v = let limit = v.limit in omega (arith, meters_in_limit t v, limit)
 
 -- a network that is that of a case has as many components
 pub count_of : (n : Network) (t : Tables) → n ≡ network_of t → length n.components.first_buses ≡ case_component_count t

@@ -1,5 +1,5 @@
 -- What the arrays of a network hold.
-use Rattle.std.specs.Prelude.{ℕ, suc, ◌+◌, ◌-◌, ◌*◌, ◌≡◌, ◌<◌, ◌≤◌, ◌^◌, All, Bool, if◌then◌else◌, Option, Some, None, List, length, map, slice_index, slice_index_or, take}
+use Rattle.std.specs.Prelude.{ℕ, suc, ◌+◌, ◌-◌, ◌*◌, ◌≡◌, ◌<◌, ◌≤◌, ◌^◌, All, Bool, if◌then◌else◌, Option, Some, None, List, length, map, slice_index, slice_index_or, sum, take}
 use Rattle.obs_graph.specs.declared.Ends.{Ends}
 use Rattle.obs_graph.specs.Search.{State, room_of}
 use Rattle.obs_graph.specs.Graph.{Graph}
@@ -38,7 +38,7 @@ pub record AreGrouped (buses count : ℕ) (numbers first_buses sizes : List ℕ)
   pub below : All (λ c. c < count) (take buses numbers)
   pub firsts : All (λ b. b < buses) (take count first_buses)
   pub some : All (λ s. 0 < s) (take count sizes)
-  pub most : All (λ s. s ≤ buses) (take count sizes)
+  pub whole : sum (take count sizes) ≤ buses
 
 -- the list of what lies in a component or in none, where there are so many: that of the component, or one more
 abbrev pub list_of : ℕ → Option ℕ → ℕ

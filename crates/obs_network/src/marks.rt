@@ -1,5 +1,5 @@
 // What is known of each component, and of all, by one pass over the buses, the nodes or the components.
-ghost use Rattle.std.specs.Prelude.{◌≡◌, ◌≢◌, ◌<◌, ◌≤◌, ◌^◌, ℕ, All, IfSome, IsSome, IsTrue, length, slice_index, take};
+ghost use Rattle.std.specs.Prelude.{◌≡◌, ◌≢◌, ◌<◌, ◌≤◌, ◌^◌, ℕ, All, IfSome, IsSome, IsTrue, length, slice_index, sum, take};
 ghost use Rattle.obs_graph.specs.Positions.{present};
 ghost use Rattle.obs_case.specs.Tables.{most_rows};
 ghost use Rattle.obs_graph.specs.Joined.{first_joined};
@@ -113,8 +113,7 @@ pub(crate) fn need_by(size: u32, absolute: bool) -> u32
 pub(crate) fn add_needs(sizes: &[u32], energised: &[bool], absolute: &[bool]) -> u32
     requires lengths { length sizes.now ≡ length energised.now }
     requires as_many { length sizes.now ≡ length absolute.now }
-    requires few { length sizes.now ≤ most_rows }
-    requires small { All (λ s. s ≤ most_rows) sizes.now }
+    requires whole { sum sizes.now ≤ most_rows }
     requires some { All (λ s. 0 < s) sizes.now }
     ensures needed { result ≡ needed_of sizes.now energised.now absolute.now (length sizes.now) }
 {

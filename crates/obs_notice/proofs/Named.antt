@@ -5,6 +5,7 @@ use Rattle.std.specs.List.{position_or_len}
 use Rattle.std.proofs.lemmas.Bool.Decides.{nat_tests}
 use Rattle.std.proofs.lemmas.List.Quantifiers.{position-Some}
 use Rattle.obs_io.specs.Causes.{Rose}
+use Rattle.obs_files.specs.Limits.{Limits}
 use Rattle.obs_files.specs.Outside.{ReadFailed}
 use Rattle.obs_notice.specs.Notices.{NamesFailure, failed_word}
 
@@ -49,9 +50,9 @@ module _ (counts : List ℕ) (beneath : ℕ → ℕ) (noted : (w : ℕ) → 0 < 
   named_at (Some w) e input = let found = position-Some (λ count. nat_lt 0 count) counts w 0 e in noted w (above_zero _ found.1)
 
   -- a failed read of a file is named
-  pub named_file : (words : List ℕ) (content : ℕ → Option (List ℕ)) (start : ℕ → ℕ) → ((w : ℕ) → start w ≡ 0)
-      → ReadFailed words content start (λ w. slice_index counts w) → NamesFailure beneath before now (failed_word counts)
-  named_file words content start fresh failed =
+  pub named_file : (limits : Limits) (words : List ℕ) (content : ℕ → Option (List ℕ)) (start : ℕ → ℕ) → ((w : ℕ) → start w ≡ 0)
+      → ReadFailed limits words content start (λ w. slice_index counts w) → NamesFailure beneath before now (failed_word counts)
+  named_file limits words content start fresh failed =
       named_at (failed_word counts) refl (λ none. absurd (no_rise _ _ (fresh failed.word) (none_failed counts failed.word none) failed.rose))
 
   -- where one of the input failed, that is said, unless a file is named

@@ -1,9 +1,10 @@
 -- Texts that are written one behind the other.
-use Rattle.std.proofs.Common.{ℕ, ◌≡◌, ◌<◌, ◌∙◌, ◌+◌, zero, suc, refl, ap, sym, subst, arith, List, [], ◌∷◌, ◌++◌, length, take, drop, Option, Some, None, Result, Ok, Err, append_assoc, append-nil, true, false}
+use Rattle.std.proofs.Common.{ℕ, ◌≡◌, ◌<◌, ◌∙◌, ◌+◌, zero, suc, refl, ap, sym, subst, arith, List, [], ◌∷◌, ◌++◌, length, take, drop, Option, Some, None, Result, Ok, Err, append_assoc, append-nil, true, false, ◌-◌}
 use Rattle.std.specs.Prelude.{slice_index, ⊤}
+use Rattle.std.proofs.Math.Seq.{take-length}
 use Rattle.std.proofs.lemmas.List.{length-append}
 use Rattle.obs_io.specs.Bytes.{Wrote, WrotePart, Writes}
-use Rattle.obs_notice.specs.Notices.{byte_said, name_said}
+use Rattle.obs_notice.specs.Notices.{byte_said, comma_said, digits_said, name_said}
 
 wrote_then : (a b d : Option (List ℕ)) (x y : List ℕ) → Wrote a b x → Wrote b d y → Wrote a d (x ++ y)
 wrote_then None b d x y first second = rw first at second
@@ -75,3 +76,20 @@ room_next p name at next rest e lt has =
 -- a call that failed didn't succeed
 pub no_success : {P : Type 0} → false ≡ true → P
 no_success e = absurd cc
+
+-- the digits behind the first, as they are said
+abbrev pub rest_said : List ℕ → List ℕ
+rest_said digits = digits_said (take (length digits - 1) (drop 1 digits))
+
+-- the first digit of a number, and those behind it
+pub digits_first : (digits : List ℕ) → (length digits ≡ 0 → ⊥) → digits_said digits ≡ comma_said (length digits - 1) (slice_index digits 0) ++ rest_said digits
+digits_first [] some = absurd (some refl)
+digits_first (digit ∷ digits) some =
+    let e : suc (length digits) - 1 ≡ length digits = omega arith in
+    rw e (ap (λ ds. comma_said (length digits) digit ++ digits_said ds) (sym (take-length digits)))
+
+-- room for a number is room for its first digit and then for the others
+pub room_digits : (p : ℕ → Type 0) (digits : List ℕ) (rest : ℕ) → (length digits ≡ 0 → ⊥) → p (length (digits_said digits) + rest)
+    → p (length (comma_said (length digits - 1) (slice_index digits 0)) + (length (rest_said digits) + rest))
+room_digits p digits rest some has =
+    room_front p (comma_said (length digits - 1) (slice_index digits 0)) (rest_said digits) rest (subst (λ t. p (length t + rest)) (digits_first digits some) has)

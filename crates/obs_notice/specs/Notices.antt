@@ -1,5 +1,6 @@
 -- What is said on standard error: where no answer was given or not the whole one, what happened and what to do.
-use Rattle.std.specs.Prelude.{ℕ, ◌+◌, ◌/◌, ◌%◌, ◌<◌, ◌==◌, ◌||◌, nat_lt, if◌then◌else◌, List, [], ◌∷◌, ◌++◌, codes, Option, None, Some, position, slice_index_or}
+use Rattle.std.specs.Prelude.{ℕ, ◌+◌, ◌/◌, ◌%◌, ◌<◌, ◌==◌, ◌&&◌, ◌||◌, nat_lt, decimal, length, if◌then◌else◌, List, [], ◌∷◌, ◌++◌, codes, Option, None, Some, position, slice_index_or}
+use Rattle.obs_files.specs.Limits.{Limits}
 use Rattle.obs_files.specs.declared.status.Status.{Status}
 use Rattle.obs_files.specs.declared.status.Status.TheVariants.{Done, Short, Usage, InputFault, ReadFault, WriteFault, NoMemory, SessionTooLong}
 use Rattle.obs_io.specs.Causes.{Rose}
@@ -24,6 +25,21 @@ abbrev pub name_said : List ℕ → List ℕ
 name_said [] = []
 name_said (byte ∷ name) = byte_said byte ++ name_said name
 
+-- a digit of a number with so many digits behind it: a comma follows where these are three, six and so on
+abbrev pub comma_said : ℕ → ℕ → List ℕ
+comma_said behind digit = if nat_lt 0 behind && (behind % 3 == 0) then digit ∷ 44 ∷ [] else digit ∷ []
+
+-- the digits of a number as it is said, with commas
+abbrev pub digits_said : List ℕ → List ℕ
+digits_said [] = []
+digits_said (digit ∷ digits) = comma_said (length digits) digit ++ digits_said digits
+
+-- of a session's input that has more bytes than are taken
+abbrev pub too_long_notice : Limits → List ℕ
+too_long_notice limits =
+    codes "obs: the session's input has more than " ++ (digits_said (decimal limits.bytes)
+    ++ codes " bytes. Only the lines that ended within these were answered.\nobs: begin a new session for the rest, and repeat the edits that are to hold there.\n")
+
 -- of a read that failed: the file, or the input where no file is named
 abbrev pub read_notice : List (List ℕ) → Option ℕ → List ℕ
 read_notice words None = codes "obs: the standard input could not be read. The lines that had ended before were answered.\n"
@@ -31,23 +47,22 @@ read_notice words (Some word) =
     codes "obs: this file could not be read: " ++ (name_said (slice_index_or words word [])
     ++ codes "\nobs: is it spelt right, and may you read it? It must be a plain file, no folder or pipe: it is opened more than once.\n")
 
--- all that is said of a run with this status, where a read of the file of this word failed. Of a whole answer nothing is said
-abbrev pub notice : List (List ℕ) → Status → Option ℕ → List ℕ
-notice words Done failed = []
-notice words Short failed = []
-notice words Usage failed =
+-- all that is said of a run within these limits and with this status, where a read of the file of this word failed. Of a whole answer
+-- nothing is said
+abbrev pub notice : Limits → List (List ℕ) → Status → Option ℕ → List ℕ
+notice limits words Done failed = []
+notice limits words Short failed = []
+notice limits words Usage failed =
     codes "obs: these words are none of: topology N S, report FORM, place FORM CAND, session FORM, verify FORM CERT, trial N SEED,\nobs: outages FORM, pairs FORM, stations FORM.\n"
     ++ codes "obs: FORM is: tables N S B M, or cdf C M, or matpower C M; session and verify also take FORM with CAND. Names of files are UTF-8.\n"
-notice words InputFault failed =
+notice limits words InputFault failed =
     codes "obs: a file has a fault. The line on standard output has its part, row, code and name; docs/GUIDE.md has likely causes.\n"
     ++ codes "obs: of a table row 0 is the header and row k line k + 1 of a spreadsheet, empty lines not counted; of other files it is the line.\n"
-notice words ReadFault failed = read_notice words failed
-notice words WriteFault failed =
+notice limits words ReadFault failed = read_notice words failed
+notice limits words WriteFault failed =
     codes "obs: the answer could not be written whole: at most a front of it was. Is the disk full, or did the reader stop, as head does?\n"
-notice words NoMemory failed = codes "obs: there was no memory, and nothing was written. Allow more (see ulimit -v), or give a smaller case.\n"
-notice words SessionTooLong failed =
-    codes "obs: the session's input has more than 16,777,216 bytes. Only the lines that ended within these were answered.\n"
-    ++ codes "obs: begin a new session for the rest, and repeat the edits that are to hold there.\n"
+notice limits words NoMemory failed = codes "obs: there was no memory, and nothing was written. Allow more (see ulimit -v), or give a smaller case.\n"
+notice limits words SessionTooLong failed = too_long_notice limits
 
 -- the word is one of whose file a read failed, by how often that is so of each word; where there is none, a read of the input failed
 abbrev pub NamesFailure : (ℕ → ℕ) → ℕ → ℕ → Option ℕ → Type 0

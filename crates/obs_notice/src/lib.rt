@@ -1,8 +1,10 @@
-//! What is said on standard error of a run, and files that note which of them could not be read.
+//! The words of a program, what is said on standard error of a run, and files that note which of them could not be read.
 #![tactic(auto)]
 
 mod noted;
 mod notice;
+mod words;
 
 pub use noted::Noted;
 pub use notice::say;
+pub use words::{or_status, words_of};

@@ -44,6 +44,10 @@ impl<F: Files> Files for Noted<F> {
 
     ghost steady = { λ m w. F.steady m.inner w };
 
+    ghost furthest = { F.furthest };
+
+    ghost usual = { F.usual };
+
     fn part(&mut self, word: usize, at: u64, into: &mut [u8]) -> Result<usize, Failed> {
         let answer = self.inner.part(word, at, into);
         if answer.is_err() {

@@ -1,10 +1,11 @@
 // What is said on standard error where no answer was given, or not the whole one.
 ghost use Rattle.std.specs.Prelude.{◌≡◌, ◌<◌, ◌+◌, ◌++◌, ℕ, [], length, map, string_bytes, slice_index_or, IsOk};
 ghost use Rattle.obs_io.specs.Bytes.{Writes};
-ghost use Rattle.obs_notice.specs.Notices.{byte_said, digit_code, name_said, notice, read_notice};
+ghost use Rattle.obs_notice.specs.Notices.{byte_said, comma_said, digit_code, digits_said, name_said, notice, read_notice, too_long_notice};
 
-use obs_files::Status;
+use obs_files::{Limits, Status};
 use obs_io::{Failed, Sink, write_all};
+use obs_text::Digits;
 
 const USAGE: &[u8] =
     b"obs: these words are none of: topology N S, report FORM, place FORM CAND, session FORM, verify FORM CERT, trial N SEED,\n\
@@ -29,8 +30,9 @@ const WRITE_FAULT: &[u8] =
 const NO_MEMORY: &[u8] =
     b"obs: there was no memory, and nothing was written. Allow more (see ulimit -v), or give a smaller case.\n";
 
-const SESSION_TOO_LONG: &[u8] =
-    b"obs: the session's input has more than 16,777,216 bytes. Only the lines that ended within these were answered.\n\
+const SESSION_TOO_LONG: &[u8] = b"obs: the session's input has more than ";
+
+const SESSION_END: &[u8] = b" bytes. Only the lines that ended within these were answered.\n\
 obs: begin a new session for the rest, and repeat the edits that are to hold there.\n";
 
 // The bytes of the word at a position, and none behind the last.
@@ -125,18 +127,86 @@ fn say_unread<E: Sink>(
     }
 }
 
+// Writes a digit of a number that has so many digits behind it.
+fn write_digit<E: Sink>(errors: &mut E, digit: u8, behind: usize) -> Result<(), Failed>
+    ensures writes { Writes (E.written errors.old) (E.written errors.new) result (comma_said behind digit) }
+    ensures succeeds { (rest : ℕ) → E.has_room errors.old (length (comma_said behind digit) + rest) → IsOk result }
+    ensures room { (rest : ℕ) → E.has_room errors.old (length (comma_said behind digit) + rest) → E.has_room errors.new rest }
+{
+    if behind > 0 && behind % 3 == 0 {
+        return write_all(errors, &[digit, 44]);
+    }
+    write_all(errors, &[digit])
+}
+
+// Writes the digits of a number.
+fn write_digits<E: Sink>(errors: &mut E, digits: &[u8]) -> Result<(), Failed>
+    ensures writes { Writes (E.written errors.old) (E.written errors.new) result (digits_said digits.now) }
+    ensures succeeds { (rest : ℕ) → E.has_room errors.old (length (digits_said digits.now) + rest) → IsOk result }
+    ensures room { (rest : ℕ) → E.has_room errors.old (length (digits_said digits.now) + rest) → E.has_room errors.new rest }
+{
+    if digits.is_empty() {
+        return Ok(());
+    }
+    match write_digit(errors, digits[0], digits.len() - 1) {
+        Ok(()) => write_digits(errors, &digits[1..]),
+        Err(Failed) => Err(Failed),
+    }
+}
+
+// Writes a number's digits and then a text.
+fn write_number<E: Sink>(errors: &mut E, digits: &[u8], second: &[u8]) -> Result<(), Failed>
+    ensures writes { Writes (E.written errors.old) (E.written errors.new) result (digits_said digits.now ++ second.now) }
+    ensures succeeds { (rest : ℕ) → E.has_room errors.old (length (digits_said digits.now ++ second.now) + rest)
+        → IsOk result }
+{
+    match write_digits(errors, digits) {
+        Ok(()) => write_all(errors, second),
+        Err(Failed) => Err(Failed),
+    }
+}
+
+// Writes a text, then a number's digits and then a text.
+fn write_around<E: Sink>(
+    errors: &mut E,
+    first: &[u8],
+    digits: &[u8],
+    third: &[u8],
+) -> Result<(), Failed>
+    ensures writes { Writes (E.written errors.old) (E.written errors.new) result
+        (first.now ++ (digits_said digits.now ++ third.now)) }
+    ensures succeeds { (rest : ℕ) → E.has_room errors.old (length (first.now ++ (digits_said digits.now ++ third.now)) + rest)
+        → IsOk result }
+{
+    match write_all(errors, first) {
+        Ok(()) => write_number(errors, digits, third),
+        Err(Failed) => Err(Failed),
+    }
+}
+
+// Says that the session's input has more bytes than are taken.
+fn say_too_long<E: Sink>(errors: &mut E, limits: Limits) -> Result<(), Failed>
+    ensures says { Writes (E.written errors.old) (E.written errors.new) result (too_long_notice limits) }
+    ensures succeeds { (rest : ℕ) → E.has_room errors.old (length (too_long_notice limits) + rest) → IsOk result }
+{
+    let mut digits = Digits::new();
+    let text = digits.text(limits.bytes() as u64);
+    write_around(errors, SESSION_TOO_LONG, text, SESSION_END)
+}
+
 /// Says what happened in a run that ended with this status, and what to do, where no answer was given or not the whole
-/// one. The word is that of the file of which a read failed.
+/// one. The word is that of the file of which a read failed, and the limits are those of the run.
 pub fn say<E: Sink>(
     errors: &mut E,
+    limits: Limits,
     words: &[String],
     status: Status,
     failed: Option<usize>,
 ) -> Result<(), Failed>
     ensures says { Writes (E.written errors.old) (E.written errors.new) result
-        (notice (map string_bytes words.now) status failed) }
+        (notice limits (map string_bytes words.now) status failed) }
     ensures succeeds { (rest : ℕ)
-        → E.has_room errors.old (length (notice (map string_bytes words.now) status failed) + rest) → IsOk result }
+        → E.has_room errors.old (length (notice limits (map string_bytes words.now) status failed) + rest) → IsOk result }
 {
     match status {
         Status::Done => Ok(()),
@@ -146,6 +216,6 @@ pub fn say<E: Sink>(
         Status::ReadFault => say_unread(errors, words, failed),
         Status::WriteFault => write_all(errors, WRITE_FAULT),
         Status::NoMemory => write_all(errors, NO_MEMORY),
-        Status::SessionTooLong => write_all(errors, SESSION_TOO_LONG),
+        Status::SessionTooLong => say_too_long(errors, limits),
     }
 }

@@ -3,7 +3,7 @@ use Rattle.std.specs.Prelude.{ℕ}
 
 -- how many candidates there are at most
 abbrev pub most_candidates : ℕ
-most_candidates = 20000
+most_candidates = 1000000
 
 -- what a candidate costs at most
 abbrev pub most_price : ℕ

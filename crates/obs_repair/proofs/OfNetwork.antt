@@ -18,7 +18,10 @@ use Rattle.obs_exchange.specs.Longest.{IsLongest, IsMost}
 use Rattle.obs_repair.specs.Kept.{AreLongest, HasRoom, case_room}
 
 pub few_meters : (t : Tables) → IsValid t → length (case_meters t) ≤ most_rows
-few_meters t v = let few = v.meters.few in omega (arith, few, length-map t.meters (λ row. row.name), length-case_meters t)
+few_meters t v =
+    let few = v.meters.few in
+    let limit = v.limit in
+    omega (arith, few, limit, length-map t.meters (λ row. row.name), length-case_meters t)
 
 pub fits_case : (t : Tables) (a : Assignment) (w : Work) → HasRoom t a w → Fits a (network_of t).graph (case_meters t)
 fits_case t a w r = record {

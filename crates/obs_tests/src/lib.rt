@@ -34,6 +34,8 @@ mod grid_tests;
 #[cfg(test)]
 mod grids;
 #[cfg(test)]
+mod limit_tests;
+#[cfg(test)]
 mod line_tests;
 #[cfg(test)]
 mod matpower_fault_tests;

@@ -1,7 +1,7 @@
 // What is said on standard error of a run that gave no answer or not the whole one.
 
 use crate::tests::{Ended, Outside, QUIET, entries, run_with_input, sink, texts};
-use obs_engine::Status;
+use obs_engine::{Limits, Status};
 use obs_io::MemFiles;
 use obs_notice::{Noted, say};
 use std::alloc::Global;
@@ -37,7 +37,13 @@ fn run_and_say(
     let mut files = Noted::new(MemFiles::new(entries(alloc, &[NODES])?, 7, fails));
     let ended = run_with_input(alloc, &words, &mut files, outside)?;
     let mut errors = sink(alloc, failing_to_write(say_fails))?;
-    let _said = say(&mut errors, &words, ended.status, files.failed());
+    let _said = say(
+        &mut errors,
+        Limits::usual(),
+        &words,
+        ended.status,
+        files.failed(),
+    );
     let notice = Vec::from_slice(alloc, errors.written())?;
     Ok(Heard { ended, notice })
 }

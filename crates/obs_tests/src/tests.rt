@@ -68,7 +68,7 @@ pub(crate) fn taking(input: &[u8], taken: usize) -> Outside<'_> {
     }
 }
 
-fn source(alloc: Global, outside: Outside<'_>) -> Result<MemSource, Fail> {
+pub(crate) fn source(alloc: Global, outside: Outside<'_>) -> Result<MemSource, Fail> {
     let bytes = Vec::from_slice(alloc, outside.input)?;
     let fails = Vec::from_slice(alloc, outside.take_fails)?;
     Ok(MemSource::new(bytes, outside.taken.max(1), fails))
@@ -81,7 +81,7 @@ pub(crate) fn sink(alloc: Global, outside: Outside<'_>) -> Result<MemSink, Fail>
 }
 
 // What a run wrote, with its status.
-fn kept(alloc: Global, status: Status, text: &[u8]) -> Result<Ended, Fail> {
+pub(crate) fn kept(alloc: Global, status: Status, text: &[u8]) -> Result<Ended, Fail> {
     let text = Vec::from_slice(alloc, text)?;
     Ok(Ended { status, text })
 }

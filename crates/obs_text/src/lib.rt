@@ -13,7 +13,7 @@ mod split;
 
 pub use digits::Digits;
 pub use faults::InputFault;
-pub use limits::MOST_FILE_BYTES;
+pub use limits::{MOST_FILE_BYTES, USUAL_FILE_BYTES};
 pub use line_iter::Lines;
 pub use names::name_of;
 pub use numbers::whole;

@@ -8,7 +8,7 @@ use Rattle.std.proofs.lemmas.Nat.{div_below}
 use Rattle.std.specs.List.{enumerate_from, range_with_len}
 use Rattle.std.specs.Str.{bytes_eq}
 use Rattle.obs_case.specs.Adds.{with_branch, with_meter}
-use Rattle.obs_case.specs.Tables.{IsValid, Tables, has_name, most_rows, no_rows, places}
+use Rattle.obs_case.specs.Tables.{IsValid, Tables, has_name, no_rows, places, usual_rows}
 use Rattle.obs_case.specs.declared.rows.Meter.{Meter}
 use Rattle.obs_case.proofs.ValidLemmas.{valid-branches, valid-meters, valid-no_rows, valid-nodes}
 use Rattle.obs_trial.specs.Draws.{draw_at}
@@ -25,7 +25,7 @@ absent letter a (suc count) n above small =
     rw (other, later) refl
 
 -- so many nodes are valid
-valid_nodes : (count : ℕ) → count ≤ most_rows → IsValid (record no_rows { nodes = nodes_of count })
+valid_nodes : (count : ℕ) → count ≤ usual_rows → IsValid (record no_rows { nodes = nodes_of count })
 valid_nodes zero few = valid-no_rows
 valid_nodes (suc count) few =
     let before = valid_nodes count (omega arith) in
@@ -43,7 +43,7 @@ length-meters : (n seed : ℕ) (ends : List (ℕ × ℕ)) → length (trial_with
 length-meters n seed ends =
     sym (length-map (trial_with n seed ends).meters (λ (row : Meter). row.name)) ∙ ap length (names_of_meters seed 0 ends) ∙ length-map-range_with_len meter_name 0 (length ends)
 
-module _ (n seed : ℕ) (ends : List (ℕ × ℕ)) (e : ℕ × ℕ) (valid : IsValid (trial_with n seed ends)) (few : length ends < most_rows) (from : e.0 < n * n) (to : e.1 < n * n) where
+module _ (n seed : ℕ) (ends : List (ℕ × ℕ)) (e : ℕ × ℕ) (valid : IsValid (trial_with n seed ends)) (few : length ends < usual_rows) (from : e.0 < n * n) (to : e.1 < n * n) where
   abbrev pub now : Tables
   now = trial_with n seed ends
 

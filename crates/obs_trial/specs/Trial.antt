@@ -1,7 +1,7 @@
 -- The case that a number of rows and a seed generate.
 use Rattle.std.specs.Prelude.{ℕ, ◌+◌, ◌*◌, ◌/◌, ◌%◌, ◌==◌, true, false, nat_lt, List, [], ◌∷◌, ◌++◌, map, decimal, if◌then◌else◌}
 use Rattle.std.specs.List.{enumerate_from, flat_map, range_with_len}
-use Rattle.obs_case.specs.Tables.{Tables}
+use Rattle.obs_case.specs.Tables.{Tables, usual_rows}
 use Rattle.obs_case.specs.declared.rows.Branch.{Branch}
 use Rattle.obs_case.specs.declared.rows.Kind.{Kind}
 use Rattle.obs_case.specs.declared.rows.Kind.TheVariants.{Flow, Injection}
@@ -62,7 +62,7 @@ meter_row k kind at = record { name = meter_name k; kind = kind; at = at; inserv
 abbrev pub meter_at : ℕ → ℕ × (ℕ × ℕ) → Meter
 meter_at seed b = let draw = draw_at seed b.0 in meter_row b.0 (kind_drawn draw) (place_drawn draw b.0 b.1)
 
--- the case of these branches
+-- the case of these branches, under the usual limit of rows
 abbrev pub trial_with : ℕ → ℕ → List (ℕ × ℕ) → Tables
 trial_with n seed ends =
     record {
@@ -71,6 +71,7 @@ trial_with n seed ends =
       branches = map branch_at (enumerate_from 0 ends);
       meters = map (meter_at seed) (enumerate_from 0 ends);
       candidates = [];
+      most = usual_rows;
     }
 
 -- the case of n rows of n nodes and a seed

@@ -1,6 +1,8 @@
 // Files side by side in one block.
+ghost use Rattle.std.proofs.Common.{rules};
 ghost use Rattle.std.specs.Prelude.{◌≡◌, ℕ, Some, ⊤};
 ghost use Rattle.obs_io.specs.Contents.{content_at};
+ghost use Rattle.obs_io.specs.Limits.{most_place};
 
 use crate::memory::piece::copy_piece;
 use crate::{Failed, Files};
@@ -45,6 +47,10 @@ impl Files for BlockFiles<'_> {
     ghost faults = { λ f w. 0 };
 
     ghost steady = { λ f w. ⊤ };
+
+    ghost furthest = { most_place };
+
+    ghost usual = { Prim.search rules };
 
     fn part(&mut self, word: usize, at: u64, into: &mut [u8]) -> Result<usize, Failed> {
         Ok(copy_piece(

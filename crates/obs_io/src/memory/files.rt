@@ -1,4 +1,5 @@
 // Files in memory.
+ghost use Rattle.std.proofs.Common.{rules};
 ghost use Rattle.std.specs.Prelude.{◌≡◌, ◌≢◌, ◌<◌, ◌≤◌, [], ℕ, IfOk, IsOk, IsSome, is_ok, slice_index, length, option_map};
 ghost use Rattle.obs_io.specs.Bytes.{ReadsPart};
 ghost use Rattle.obs_io.specs.Causes.{HasCause};
@@ -58,6 +59,10 @@ impl Files for MemFiles {
     ghost faults = { λ m w. slice_index m.faults w };
 
     ghost steady = { λ m w. (m.fail.items ≡ []) × IsSome (content_of m.entries.items w) };
+
+    ghost furthest = { most_place };
+
+    ghost usual = { Prim.search rules };
 
     fn part(&mut self, word: usize, at: u64, into: &mut [u8]) -> Result<usize, Failed>
         requires room { 0 < length into.old }

@@ -1,4 +1,5 @@
 // The files that the program's words name.
+ghost use Rattle.std.proofs.Common.{rules};
 ghost use Rattle.std.specs.Prelude.{◌≡◌, ◌≢◌, ◌<◌, ◌≤◌, ℕ, None, IfOk, IsErr, IsOk, slice_index, length};
 ghost use Rattle.obs_io.specs.Bytes.{ReadsPart};
 ghost use Rattle.obs_io.specs.Causes.{HasCause};
@@ -47,6 +48,10 @@ impl<'a, R: rt::Files> Files for DirFiles<'a, R> {
     ghost faults = { λ m w. slice_index m.faults w };
 
     ghost steady = { λ m w. ⊥ };
+
+    ghost furthest = { most_place };
+
+    ghost usual = { Prim.search rules };
 
     fn part(&mut self, word: usize, at: u64, into: &mut [u8]) -> Result<usize, Failed>
         requires room { 0 < length into.old }

@@ -13,7 +13,7 @@ returns-then-new-clause-accepted g c =
     let none = c.refusal.ensures.none c.in_default.is in
     let added : not (list_any (g.R.PartialEq.eq c.args.row) c.args.rows.now.keys) ≡ true = sym c.in-Ok.ensures.added ∙ c.if-new.true in
     let new = sym (any-by_name g.R.PartialEq.eq g.R.Row.own_name g.met.R.Row.by_name c.args.row c.args.rows.now.keys) ∙ not-true _ added in
-    told_other names (g.R.Row.own_name c.args.row) c.args.other (λ full. none.1 (sym (length-map c.args.rows.now.keys g.R.Row.own_name) ∙ full)) new ∙ none.0
+    told_other c.args.most names (g.R.Row.own_name c.args.row) c.args.other (λ full. none.1 (sym (length-map c.args.rows.now.keys g.R.Row.own_name) ∙ full)) new ∙ none.0
 
 pub returns-then-new-clause-position : goal.returns-then-new-clause-position
 returns-then-new-clause-position g c =
@@ -26,7 +26,7 @@ returns-else-new-clause-refused g c =
     let none = c.refusal.ensures.none c.in_default.is in
     let added : not (list_any (g.R.PartialEq.eq c.args.row) c.args.rows.now.keys) ≡ false = sym c.in-Ok.ensures.added ∙ c.if-new.false in
     let there = sym (any-by_name g.R.PartialEq.eq g.R.Row.own_name g.met.R.Row.by_name c.args.row c.args.rows.now.keys) ∙ not-false _ added in
-    told_twice names (g.R.Row.own_name c.args.row) c.args.other (λ full. none.1 (sym (length-map c.args.rows.now.keys g.R.Row.own_name) ∙ full)) there
+    told_twice c.args.most names (g.R.Row.own_name c.args.row) c.args.other (λ full. none.1 (sym (length-map c.args.rows.now.keys g.R.Row.own_name) ∙ full)) there
 
 pub returns-in-Some-clause-refused : goal.returns-in-Some-clause-refused
 returns-in-Some-clause-refused g c = refuses_own _ c.in-Some.fault c.in-Some.ensures.fault

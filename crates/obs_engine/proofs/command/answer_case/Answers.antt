@@ -19,7 +19,7 @@ returns-in-Topology g c =
     let is = c.in-Topology.is in
     record {
       answered =
-          replied_answered c.args.form t beside (topology_reply t) (λ input. subst (λ (f : Form). IsCaseReply f input beside t (topology_reply t)) (sym is) refl)
+          replied_answered c.args.form t beside (topology_reply t) (λ bytes input. subst (λ (f : Form). IsCaseReply bytes f input beside t (topology_reply t)) (sym is) refl)
           (λ takes. subst (λ (f : Form). TakesInput (Some f)) is takes) refl refl c.answer_topology.ensures.replied;
       input = λ none. refl;
     }
@@ -33,7 +33,7 @@ returns-in-Report g c =
     let reply = ask_reply ReportAsk t in
     record {
       answered =
-          replied_answered c.args.form t beside reply (λ input. subst (λ (f : Form). IsCaseReply f input beside t reply) (sym is) refl)
+          replied_answered c.args.form t beside reply (λ bytes input. subst (λ (f : Form). IsCaseReply bytes f input beside t reply) (sym is) refl)
           (λ takes. subst (λ (f : Form). TakesInput (Some f)) is takes) (ap (λ s. g.S.Source.left s) done.0) (ap (λ s. g.S.Source.faults s) done.0) done.1;
       input = λ none. done.0;
     }
@@ -47,7 +47,7 @@ returns-in-Place g c =
     let reply = ask_reply PlaceAsk t in
     record {
       answered =
-          replied_answered c.args.form t beside reply (λ input. subst (λ (f : Form). IsCaseReply f input beside t reply) (sym is) refl)
+          replied_answered c.args.form t beside reply (λ bytes input. subst (λ (f : Form). IsCaseReply bytes f input beside t reply) (sym is) refl)
           (λ takes. subst (λ (f : Form). TakesInput (Some f)) is takes) (ap (λ s. g.S.Source.left s) done.0) (ap (λ s. g.S.Source.faults s) done.0) done.1;
       input = λ none. done.0;
     }
@@ -69,7 +69,7 @@ returns-in-Verify g c =
     let reply = verify_reply t beside in
     record {
       answered =
-          replied_answered c.args.form t beside reply (λ input. subst (λ (f : Form). IsCaseReply f input beside t reply) (sym is) refl)
+          replied_answered c.args.form t beside reply (λ bytes input. subst (λ (f : Form). IsCaseReply bytes f input beside t reply) (sym is) refl)
           (λ takes. subst (λ (f : Form). TakesInput (Some f)) is takes) refl refl c.answer_verify.ensures.replied;
       input = λ none. refl;
     }
@@ -82,7 +82,7 @@ returns-in-Study g c =
     let reply = study_reply c.in-Study.study t in
     record {
       answered =
-          replied_answered c.args.form t beside reply (λ input. subst (λ (f : Form). IsCaseReply f input beside t reply) (sym is) refl)
+          replied_answered c.args.form t beside reply (λ bytes input. subst (λ (f : Form). IsCaseReply bytes f input beside t reply) (sym is) refl)
           (λ takes. subst (λ (f : Form). TakesInput (Some f)) is takes) refl refl c.answer_study.ensures.replied;
       input = λ none. refl;
     }
@@ -99,7 +99,7 @@ returns-in-Trial g c =
     let reply = done.1.0 in
     record {
       answered =
-          replied_answered c.args.form t beside reply (λ input. subst (λ (f : Form). IsCaseReply f input beside t reply) (sym is) done.1.1)
+          replied_answered c.args.form t beside reply (λ bytes input. subst (λ (f : Form). IsCaseReply bytes f input beside t reply) (sym is) done.1.1)
           (λ takes. subst (λ (f : Form). TakesInput (Some f)) is takes) (ap (λ s. g.S.Source.left s) done.0) (ap (λ s. g.S.Source.faults s) done.0) done.1.2;
       input = λ none. done.0;
     }

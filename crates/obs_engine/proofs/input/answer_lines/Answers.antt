@@ -6,7 +6,7 @@ pub returns-in_default : goal.returns-in_default
 returns-in_default g c =
     let taken = c.in_default.ensures in
     record {
-      session = read_failed _ _ _ _ _ _ _ _ c.loop-taken.invariant.1 (omega (arith, c.loop-taken-test.true)) c.in_default.field-0 c.take_piece.new.piece taken.bytes taken.cause taken.succeeds;
+      session = read_failed _ _ _ _ _ _ _ _ _ c.loop-taken.invariant.1 (omega (arith, c.loop-taken-test.true)) c.in_default.field-0 c.take_piece.new.piece taken.bytes taken.cause taken.succeeds;
     }
 
 pub returns-in-Ok-answer_line : goal.returns-in-Ok-answer_line
@@ -16,7 +16,7 @@ returns-in-Ok-answer_line g c =
     let call = c.in-Ok-answer_line.ensures in
     record {
       session =
-          ends_well _ _ _ _ _ _ _ _ so_far (omega (arith, c.loop-taken-test.true)) _ c.in-Ok.count c.take_piece.new.piece taken.bytes taken.quiet c.if-count-eq0.true
+          ends_well _ _ _ _ _ _ _ _ _ so_far (omega (arith, c.loop-taken-test.true)) _ c.in-Ok.count c.take_piece.new.piece taken.bytes taken.quiet c.if-count-eq0.true
           (call.appends _ so_far.holds) (call.tables _ so_far.holds) c.verdict.ensures.status;
     }
 
@@ -26,7 +26,7 @@ returns-in-Err g c =
     let taken = c.in-Ok.ensures in
     record {
       session =
-          ends_badly _ _ _ _ _ _ _ _ so_far (omega (arith, c.loop-taken-test.true)) _ c.in-Ok.count c.take_piece.new.piece taken.bytes taken.quiet c.if-count-eq0.true
+          ends_badly _ _ _ _ _ _ _ _ _ so_far (omega (arith, c.loop-taken-test.true)) _ c.in-Ok.count c.take_piece.new.piece taken.bytes taken.quiet c.if-count-eq0.true
           (c.in-Err.ensures.appends _ so_far.holds);
     }
 
@@ -38,7 +38,7 @@ returns-in_default-answer_bytes g c =
     let most = c.min-most.ensures in
     record {
       session =
-          stops _ _ _ _ _ _ _ _ so_far (omega (arith, c.loop-taken-test.true)) _ c.in-Ok.count c.take_piece.new.piece taken.bytes taken.quiet c.min-kept.result c.min-kept.ensures
+          stops _ _ _ _ _ _ _ _ _ so_far (omega (arith, c.loop-taken-test.true)) _ c.in-Ok.count c.take_piece.new.piece taken.bytes taken.quiet c.min-kept.result c.min-kept.ensures
           (omega (arith, bound, most, c.loop-taken-test.true)) (take c.min-kept.result c.take_piece.new.piece) refl c.in_default-answer_bytes.ensures.appends;
     }
 
@@ -50,9 +50,9 @@ loop-taken-preserved g c =
     let most = c.min-most.ensures in
     let call = c.in-Ok-answer_bytes.ensures in (
       taken.size ∙ c.loop-taken.invariant.0,
-      goes_on _ _ _ _ _ _ _ _ so_far (omega (arith, c.loop-taken-test.true)) _ c.in-Ok.count c.take_piece.new.piece taken.bytes taken.quiet c.min-kept.result c.min-kept.ensures
+      goes_on _ _ _ _ _ _ _ _ _ so_far (omega (arith, c.loop-taken-test.true)) _ c.in-Ok.count c.take_piece.new.piece taken.bytes taken.quiet c.min-kept.result c.min-kept.ensures
           (omega (arith, bound, most, c.loop-taken-test.true)) (take c.min-kept.result c.take_piece.new.piece) refl taken.steady call.offered call.held call.tables call.appends,
     )
 
 pub returns : goal.returns
-returns g c = record { session = too_long _ _ _ _ _ _ _ _ c.loop-taken.invariant.1 (omega (arith, c.loop-taken-test.false)) }
+returns g c = record { session = too_long _ _ _ _ _ _ _ _ _ c.loop-taken.invariant.1 (omega (arith, c.loop-taken-test.false)) }

@@ -1,30 +1,29 @@
-use Rattle.std.proofs.Common.{subst, Option}
-use Rattle.obs_files.specs.declared.words.Form.{Form}
-use Rattle.obs_engine.specs.Forms.{TakesInput}
-use Rattle.obs_engine.proofs.Endings.{usage_complete, usage_ends}
-use Rattle.obs_engine.proofs.Ran.{ran_at}
+use Rattle.std.proofs.Common.{◌≤◌, map, subst, sym}
+use Rattle.std.specs.Prelude.{string_bytes}
+use Rattle.obs_files.specs.Limits.{Limits, usual_limits}
+use Rattle.obs_files.specs.Words.{form_of}
+use Rattle.obs_engine.proofs.Ran.{failed_as, front_as, tells_as}
 use Rattle.obs_engine.proofs.program.run.Goals as goal
 
-pub returns-in_default-clause-stated : goal.returns-in_default-clause-stated
-returns-in_default-clause-stated g c = λ told tells. usage_ends _ told _ _ _ _ c.in_default.ensures.form c.refuse_words.ensures.replied.ends
-
-pub returns-in_default-clause-complete : goal.returns-in_default-clause-complete
-returns-in_default-clause-complete g c = λ told tells files input has. usage_complete _ told c.in_default.ensures.form has c.refuse_words.ensures.replied
+pub run_within-requires : goal.run_within-requires
+run_within-requires g c = record { furthest = subst (λ (l : Limits). l.bytes ≤ g.F.Files.furthest) (sym c.usual.ensures.usual) g.met.F.Files.usual }
 
 pub returns : goal.returns
 returns g c =
-    let ran = ran_at _ _ c.in-Some.ensures.form c.command.ensures.ran in
+    let same = c.usual.ensures.usual in
+    let ran = c.run_within.ensures in
+    let form = form_of (map string_bytes c.args.words.now) in
     record {
-      stated = ran.stated;
-      complete = ran.complete;
+      stated = λ told tells. ran.stated told (tells_as _ usual_limits same form _ _ told tells);
+      complete = λ told tells. ran.complete told (tells_as _ usual_limits same form _ _ told tells);
       statuses = ran.statuses;
-      read = ran.read;
+      read = λ e. failed_as _ usual_limits same form _ _ _ _ _ _ _ _ _ (ran.read e);
       write = ran.write;
       quiet_files = ran.quiet_files;
       quiet_input = ran.quiet_input;
       quiet_output = ran.quiet_output;
       memory = ran.memory;
       memory_input = ran.memory_input;
-      taken = ran.taken;
-      input = λ none. c.command.ensures.input (λ takes. none (subst (λ (o : Option Form). TakesInput o) c.in-Some.ensures.form takes));
+      taken = λ takes bytes is. front_as _ usual_limits same form bytes _ _ (ran.taken takes bytes is);
+      input = ran.input;
     }

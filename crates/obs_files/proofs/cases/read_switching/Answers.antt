@@ -8,6 +8,6 @@ pub read_table-requires-2 : goal.read_table-requires-2
 read_table-requires-2 c =
     record {
       empty =
-          other_names Nodes Switches (λ header t row. refl) c.args.nodes.now c.new-case.result c.read_table.new.case c.read_table.ensures.first_rows
-          ∙ ap (names_in Switches) c.new-case.ensures.empty;
+          other_names Nodes Switches (λ header t row. refl) c.args.nodes.now c.within-case.result c.read_table.new.case c.read_table.ensures.first_rows
+          ∙ ap (names_in Switches) c.within-case.ensures.empty;
     }

@@ -17,10 +17,10 @@ returns-in_err-take_next-clause-stated g c = λ file told.
     let low : k < length (words_of form) = omega (arith, c.loop-k-test.true, c.file_count-k-end.ensures.count) in
     let part = c.file-word.result.1.now in
     let why = c.in_err-take_next.field-0.0 in
-    contents_not_taken (parts_of form) file (words_of form) why c.from_residual.result c.from_residual.ensures.1
-    (λ fault e. reading_refused (parts_of form) (words_of form) _ _ _ c.loop-k.invariant c.file-word.result.0 part
+    contents_not_taken c.args.limits (parts_of form) file (words_of form) why c.from_residual.result c.from_residual.ensures.1
+    (λ fault e. reading_refused c.args.limits (parts_of form) (words_of form) _ _ _ c.loop-k.invariant c.file-word.result.0 part
     (word_here form k low c.file-word.result.0 c.file-word.ensures.word) (part_here form k low part c.file-word.ensures.part) (fault_of fault)
-    (λ bytes is. subst (λ (w : CaseError). IsNext part bytes (bytes_of c.loop-k.contents.items) (bytes_of c.take_next.new.contents.items) (Err w)) e
+    (λ bytes is. subst (λ (w : CaseError). IsNext c.args.limits part bytes (bytes_of c.loop-k.contents.items) (bytes_of c.take_next.new.contents.items) (Err w)) e
     (c.in_err-take_next.ensures.stated bytes is))
     file told)
 
@@ -29,7 +29,7 @@ returns-in_err-take_next-clause-read g c = λ e.
     let form = c.args.form in
     let k = c.loop-k.k in
     let low : k < length (words_of form) = omega (arith, c.loop-k-test.true, c.file_count-k-end.ensures.count) in
-    reading_failed (parts_of form) (words_of form) _ _ _ c.loop-k.invariant c.file-word.result.0 c.file-word.result.1.now
+    reading_failed c.args.limits (parts_of form) (words_of form) _ _ _ c.loop-k.invariant c.file-word.result.0 c.file-word.result.1.now
     (word_here form k low c.file-word.result.0 c.file-word.ensures.word) (part_here form k low c.file-word.result.1.now c.file-word.ensures.part)
     (c.in_err-take_next.ensures.read (is_read _ c.from_residual.result c.from_residual.ensures.1 e)) c.in_err-take_next.ensures.others
 
@@ -52,7 +52,7 @@ loop-k-preserved g c =
     let k = c.loop-k.k in
     let low : k < length (words_of form) = omega (arith, c.loop-k-test.true, c.file_count-k-end.ensures.count) in
     let next = c.in_ok-take_next.ensures in
-    reading_goes_on (parts_of form) (words_of form) _ _ _ c.loop-k.invariant c.file-word.result.0 c.file-word.result.1.now
+    reading_goes_on c.args.limits (parts_of form) (words_of form) _ _ _ c.loop-k.invariant c.file-word.result.0 c.file-word.result.1.now
     (word_here form k low c.file-word.result.0 c.file-word.ensures.word) (part_here form k low c.file-word.result.1.now c.file-word.ensures.part)
     next.stated
     next.same (next.quiet (ok_not_read _)) next.steady (next.count (refl {a = true})) next.short

@@ -22,7 +22,7 @@ returns-in_err-add_buses c =
     let p = err_from_is_err_and c.from_residual.result c.from_residual.ensures.1 in
     record {
       read = rw (p.1, p.2)
-          (stop_in_buses c.args.cdf.now c.sections-parts.result.buses.now c.sections-parts.result.branches.now c.sections-parts.result.buses_from c.sections-parts.result.branches_from c.sections-parts.result.end are c.add_buses.new.case c.add_buses.new.case c.in_err-add_buses.field-0.0 c.in_err-add_buses.ensures.read);
+          (stop_in_buses c.args.case.now.most c.args.cdf.now c.sections-parts.result.buses.now c.sections-parts.result.branches.now c.sections-parts.result.buses_from c.sections-parts.result.branches_from c.sections-parts.result.end are c.add_buses.new.case c.add_buses.new.case c.in_err-add_buses.field-0.0 c.in_err-add_buses.ensures.read);
     }
 
 pub returns-in_err-add_branches : goal.returns-in_err-add_branches
@@ -33,8 +33,8 @@ returns-in_err-add_branches c =
     let p = err_from_is_err_and c.from_residual-in_err-add_branches.result c.from_residual-in_err-add_branches.ensures.1 in
     record {
       read = rw (p.1, p.2)
-          (stop_in_branches c.args.cdf.now c.sections-parts.result.buses.now c.sections-parts.result.branches.now c.sections-parts.result.buses_from c.sections-parts.result.branches_from c.sections-parts.result.end are c.add_buses.new.case read c.add_branches.new.case c.add_branches.new.case c.in_err-add_branches.field-0.0
-          (c.in_err-add_branches.ensures.read read.0 (buses_read c.args.cdf.now c.sections-parts.result.buses.now c.sections-parts.result.branches.now c.sections-parts.result.buses_from c.sections-parts.result.branches_from c.sections-parts.result.end are c.add_buses.new.case read) read.2));
+          (stop_in_branches c.args.case.now.most c.args.cdf.now c.sections-parts.result.buses.now c.sections-parts.result.branches.now c.sections-parts.result.buses_from c.sections-parts.result.branches_from c.sections-parts.result.end are c.add_buses.new.case read c.add_branches.new.case c.add_branches.new.case c.in_err-add_branches.field-0.0
+          (c.in_err-add_branches.ensures.read c.args.case.now.most read.0 (buses_read c.args.case.now.most c.args.cdf.now c.sections-parts.result.buses.now c.sections-parts.result.branches.now c.sections-parts.result.buses_from c.sections-parts.result.branches_from c.sections-parts.result.end are c.add_buses.new.case read) read.2));
     }
 
 pub returns-in-Some : goal.returns-in-Some
@@ -43,8 +43,8 @@ returns-in-Some c =
     record { buses = c.sections-parts.ensures.buses; buses_from = c.sections-parts.ensures.buses_from; branches = c.sections-parts.ensures.branches; branches_from = c.sections-parts.ensures.branches_from; end = c.sections-parts.ensures.end } in
     let read = c.in_ok-add_buses.ensures.read in
     record {
-      read = stop_at_end c.args.cdf.now c.sections-parts.result.buses.now c.sections-parts.result.branches.now c.sections-parts.result.buses_from c.sections-parts.result.branches_from c.sections-parts.result.end are c.add_buses.new.case read c.add_branches.new.case
-          (c.in_ok-add_branches.ensures.read read.0 (buses_read c.args.cdf.now c.sections-parts.result.buses.now c.sections-parts.result.branches.now c.sections-parts.result.buses_from c.sections-parts.result.branches_from c.sections-parts.result.end are c.add_buses.new.case read) read.2) c.in-Some.fault c.in-Some.is;
+      read = stop_at_end c.args.case.now.most c.args.cdf.now c.sections-parts.result.buses.now c.sections-parts.result.branches.now c.sections-parts.result.buses_from c.sections-parts.result.branches_from c.sections-parts.result.end are c.add_buses.new.case read c.add_branches.new.case
+          (c.in_ok-add_branches.ensures.read c.args.case.now.most read.0 (buses_read c.args.case.now.most c.args.cdf.now c.sections-parts.result.buses.now c.sections-parts.result.branches.now c.sections-parts.result.buses_from c.sections-parts.result.branches_from c.sections-parts.result.end are c.add_buses.new.case read) read.2) c.in-Some.fault c.in-Some.is;
     }
 
 pub returns-in-None : goal.returns-in-None
@@ -53,6 +53,6 @@ returns-in-None c =
     record { buses = c.sections-parts.ensures.buses; buses_from = c.sections-parts.ensures.buses_from; branches = c.sections-parts.ensures.branches; branches_from = c.sections-parts.ensures.branches_from; end = c.sections-parts.ensures.end } in
     let read = c.in_ok-add_buses.ensures.read in
     record {
-      read = file_read c.args.cdf.now c.sections-parts.result.buses.now c.sections-parts.result.branches.now c.sections-parts.result.buses_from c.sections-parts.result.branches_from c.sections-parts.result.end are c.add_buses.new.case read c.add_branches.new.case
-          (c.in_ok-add_branches.ensures.read read.0 (buses_read c.args.cdf.now c.sections-parts.result.buses.now c.sections-parts.result.branches.now c.sections-parts.result.buses_from c.sections-parts.result.branches_from c.sections-parts.result.end are c.add_buses.new.case read) read.2) c.in-None.is;
+      read = file_read c.args.case.now.most c.args.cdf.now c.sections-parts.result.buses.now c.sections-parts.result.branches.now c.sections-parts.result.buses_from c.sections-parts.result.branches_from c.sections-parts.result.end are c.add_buses.new.case read c.add_branches.new.case
+          (c.in_ok-add_branches.ensures.read c.args.case.now.most read.0 (buses_read c.args.case.now.most c.args.cdf.now c.sections-parts.result.buses.now c.sections-parts.result.branches.now c.sections-parts.result.buses_from c.sections-parts.result.branches_from c.sections-parts.result.end are c.add_buses.new.case read) read.2) c.in-None.is;
     }

@@ -1,4 +1,4 @@
-use Rattle.std.proofs.Common.{◌≡◌, ◌+◌, List, [], length}
+use Rattle.std.proofs.Common.{◌≡◌, ℕ, ◌+◌, List, [], length}
 use Rattle.obs_text.specs.Lines.{lines_of}
 use Rattle.obs_bus_branch.specs.Buses.{AreNamed, Bus, tables_of_rows}
 use Rattle.obs_bus_branch.proofs.RowsRead.{ReadSoFar}
@@ -9,5 +9,5 @@ use Rattle.obs_ieee_cdf.proofs.rows.add_branches.Given as goal
 abbrev pub invariant-loop-line : goal.invariant-loop-line
 invariant-loop-line l =
     (l.at + length (lines_of l.line-iterator) ≡ l.first + length (lines_of l.section))
-    × ((buses : List Bus) → AreBuses buses → l.initial.case ≡ tables_of_rows buses [] →
-    ReadSoFar (read_branch buses) (tables_of_rows buses) (AreNamed 1) (numbered l.first (lines_of l.section)) l.case (numbered l.at (lines_of l.line-iterator)))
+    × ((most : ℕ) (buses : List Bus) → AreBuses buses → l.initial.case ≡ tables_of_rows most buses [] →
+    ReadSoFar (read_branch most buses) (tables_of_rows most buses) (AreNamed 1) (numbered l.first (lines_of l.section)) l.case (numbered l.at (lines_of l.line-iterator)))

@@ -9,4 +9,4 @@ use Rattle.obs_ieee_cdf.proofs.rows.add_buses.Given as goal
 abbrev pub invariant-loop-line : goal.invariant-loop-line
 invariant-loop-line l =
     (l.at + length (lines_of l.line-iterator) ≡ l.first + length (lines_of l.section))
-    × ReadSoFar read_bus (λ buses. tables_of_rows buses []) AreBuses (numbered l.first (lines_of l.section)) l.case (numbered l.at (lines_of l.line-iterator))
+    × ReadSoFar (read_bus l.initial.case.most) (λ buses. tables_of_rows l.initial.case.most buses []) AreBuses (numbered l.first (lines_of l.section)) l.case (numbered l.at (lines_of l.line-iterator))

@@ -1,4 +1,4 @@
-use Rattle.std.proofs.Common.{◌≡◌, List, [], is_none}
+use Rattle.std.proofs.Common.{◌≡◌, ℕ, List, [], is_none}
 use Rattle.obs_bus_branch.specs.Buses.{AreNamed}
 use Rattle.obs_bus_branch.proofs.RowsRead.{ReadSoFar}
 use Rattle.obs_matpower.specs.Left.{rows_left}
@@ -9,5 +9,5 @@ use Rattle.obs_matpower.proofs.add.add_branches.Given as goal
 
 abbrev pub invariant-loop-row : goal.invariant-loop-row
 invariant-loop-row l =
-    (buses : List BusRow) → AreBuses (buses_of buses) → l.initial.case ≡ held_branches buses [] → l.isolated ≡ isolated_of buses →
-    ReadSoFar (read_branch buses) (held_branches buses) (AreNamed 1) (rows_of (is_none l.part.end) l.part.line l.part.text.now) l.case (rows_left l.row-iterator)
+    (most : ℕ) (buses : List BusRow) → AreBuses (buses_of buses) → l.initial.case ≡ held_branches most buses [] → l.isolated ≡ isolated_of buses →
+    ReadSoFar (read_branch most buses) (held_branches most buses) (AreNamed 1) (rows_of (is_none l.part.end) l.part.line l.part.text.now) l.case (rows_left l.row-iterator)

@@ -1,7 +1,6 @@
 use Rattle.std.proofs.Common.{◌≡◌, ◌<◌, None, Some, Err, [], ◌∷◌, ◌++◌, length, decimal, false, sym, ap, ◌∙◌, subst, arith}
 use Rattle.obs_text.specs.Names.{is_name}
 use Rattle.obs_case.specs.Adds.{Refuses, node_fault, node_of, with_node}
-use Rattle.obs_case.specs.Tables.{most_rows}
 use Rattle.obs_bus_branch.proofs.NumberLemmas.{is_name-decimal}
 use Rattle.obs_matpower.specs.Fields.{is_short, number_in, type_in}
 use Rattle.obs_matpower.specs.Read.{BusRow, read_bus}
@@ -19,16 +18,19 @@ add_node-requires c =
 
 pub returns-in-Ok : goal.returns-in-Ok
 returns-in-Ok c = record {
-  read = λ earlier are is flags.
+  read = λ most earlier are is flags.
       let row = c.args.row.now in
       let n = c.in-Some.number in
       let kind = c.in-Some-type_in.kind in
       let number : number_in 1 row ≡ Some n = cc in
       let typed : type_in 2 row ≡ Some kind = cc in
       let long : is_short 2 row ≡ false = sym c.is_short.ensures.short ∙ c.if-is_short.false in
-      let few : length earlier < most_rows = (let count = ap length c.nodes.ensures.rows ∙ ap (λ t. length t.nodes) is ∙ nodes-length earlier in omega (arith, count, c.if-nodes-ge-MOST_ROWS.false)) in
+      let few : length earlier < most = (
+      let count = ap length c.nodes.ensures.rows ∙ ap (λ t. length t.nodes) is ∙ nodes-length earlier in
+      let limit = c.most.ensures.limit ∙ ap (λ t. t.most) is in
+      omega (arith, count, limit, c.if-nodes-most.false)) in
       let accepted : node_fault c.args.case.now (decimal n) ≡ None = subst (λ name. node_fault c.args.case.now name ≡ None) c.text.ensures.decimal c.in_default-add_node.ensures.accepted in
-      bus_accepted earlier c.args.at row n kind are few long number typed c.args.case.now c.add_node.new.self c.args.isolated.now.items c.push.new.self.items is flags accepted
+      bus_accepted most earlier c.args.at row n kind are few long number typed c.args.case.now c.add_node.new.self c.args.isolated.now.items c.push.new.self.items is flags accepted
       (c.in_default-add_node.ensures.added
       ∙ ap (λ name. with_node c.args.case.now (node_of name c.is_source.result)) c.text.ensures.decimal
       ∙ ap (λ source. with_node c.args.case.now (node_of (decimal n) source)) c.is_source.ensures.source)
@@ -37,17 +39,20 @@ returns-in-Ok c = record {
 
 pub returns-in-Err : goal.returns-in-Err
 returns-in-Err c = record {
-  read = λ earlier are is flags.
+  read = λ most earlier are is flags.
       let row = c.args.row.now in
       let n = c.in-Some.number in
       let kind = c.in-Some-type_in.kind in
       let number : number_in 1 row ≡ Some n = cc in
       let typed : type_in 2 row ≡ Some kind = cc in
       let long : is_short 2 row ≡ false = sym c.is_short.ensures.short ∙ c.if-is_short.false in
-      let few : length earlier < most_rows = (let count = ap length c.nodes.ensures.rows ∙ ap (λ t. length t.nodes) is ∙ nodes-length earlier in omega (arith, count, c.if-nodes-ge-MOST_ROWS.false)) in
-      let held = λ (bus : BusRow). held_buses (earlier ++ bus ∷ []) in
+      let few : length earlier < most = (
+      let count = ap length c.nodes.ensures.rows ∙ ap (λ t. length t.nodes) is ∙ nodes-length earlier in
+      let limit = c.most.ensures.limit ∙ ap (λ t. t.most) is in
+      omega (arith, count, limit, c.if-nodes-most.false)) in
+      let held = λ (bus : BusRow). held_buses most (earlier ++ bus ∷ []) in
       let refused : Refuses (node_fault c.args.case.now (decimal n)) c.in-Err.fault = subst (λ name. Refuses (node_fault c.args.case.now name) c.in-Err.fault) c.text.ensures.decimal c.in-Err.ensures.refused in
-      any_after (read_bus earlier c.args.at row) held (held_buses []) (c.add_node.new.self, c.args.isolated.now.items) c.stop.result
-      (subst (λ stop. Answers (read_bus earlier c.args.at row) held (held_buses []) (Err stop)) (sym c.stop.ensures.stop)
-      (bus_refused earlier c.args.at row n kind are few long number typed c.args.case.now (held_buses []) c.in-Err.fault is refused));
+      any_after (read_bus most earlier c.args.at row) held (held_buses most []) (c.add_node.new.self, c.args.isolated.now.items) c.stop.result
+      (subst (λ stop. Answers (read_bus most earlier c.args.at row) held (held_buses most []) (Err stop)) (sym c.stop.ensures.stop)
+      (bus_refused most earlier c.args.at row n kind are few long number typed c.args.case.now (held_buses most []) c.in-Err.fault is refused));
 }

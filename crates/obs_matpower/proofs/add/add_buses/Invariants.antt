@@ -8,4 +8,4 @@ use Rattle.obs_matpower.proofs.add.add_buses.Given as goal
 
 abbrev pub invariant-loop-row : goal.invariant-loop-row
 invariant-loop-row l =
-    ReadSoFar read_bus held_buses (λ rows. AreBuses (buses_of rows)) (rows_of (is_none l.part.end) l.part.line l.part.text.now) (l.case, l.isolated.items) (rows_left l.row-iterator)
+    ReadSoFar (read_bus l.initial.case.most) (held_buses l.initial.case.most) (λ rows. AreBuses (buses_of rows)) (rows_of (is_none l.part.end) l.part.line l.part.text.now) (l.case, l.isolated.items) (rows_left l.row-iterator)

@@ -21,8 +21,8 @@ invariant_of-self c =
     let good = ap is_name c.new.ensures.bytes ∙ c.requires.name in
     let at = place.ensures.at ∙ ap (λ u. place_of (place_names u c.args.kind) c.args.at.now) view in
     let fault = place.ensures.fault ∙ ap (λ u. place_fault u c.args.kind c.args.at.now) view in
-    either (λ rows. IsValid (record t { meters = rows })) t.meters c.add.new.rows.keys row c.add.result (first_fault (name_fault (meter_names t) c.new.result) place.result.fault) c.self.invariant
-    (λ free. let f = no_fault (meter_names t) c.new.result place.result.fault free in
+    either (λ rows. IsValid (record t { meters = rows })) t.meters c.add.new.rows.keys row c.add.result (first_fault (name_fault t.most (meter_names t) c.new.result) place.result.fault) c.self.invariant
+    (λ free. let f = no_fault t.most (meter_names t) c.new.result place.result.fault free in
     let within : place.result.at < places t c.args.kind = subst (λ k. k < places t c.args.kind) (sym at) (place_low t c.args.kind c.args.at.now (sym fault ∙ f.2)) in
     valid-meters t c.self.invariant (Ok 0) row (t.meters ++ row ∷ []) good (λ full. f.0 (length-map t.meters (λ (r : Meter). r.name) ∙ full)) within f.1 refl tt)
     c.add.ensures.accepted c.add.ensures.added c.add.ensures.unchanged
@@ -31,12 +31,12 @@ abbrev as_row : List ℕ → Kind → ℕ → Bool → Meter
 as_row name kind at inservice = record { name = name; kind = kind; at = at; inservice = inservice }
 
 -- the fault of the row, and the row itself
-fault_is : (c : After-add) → first_fault (name_fault (meter_names (tables_of c.self.inside)) c.new.result) c.find_place-place.result.fault ≡ meter_fault c.args.self.now c.args.name.now c.args.kind c.args.at.now
+fault_is : (c : After-add) → first_fault (name_fault (tables_of c.self.inside).most (meter_names (tables_of c.self.inside)) c.new.result) c.find_place-place.result.fault ≡ meter_fault c.args.self.now c.args.name.now c.args.kind c.args.at.now
 fault_is c =
     let t = tables_of c.self.inside in
-    ap (λ n. first_fault (name_fault (meter_names t) n) c.find_place-place.result.fault) c.new.ensures.bytes
-    ∙ (ap (λ f. first_fault (name_fault (meter_names t) c.args.name.now) f) c.find_place-place.ensures.fault
-    ∙ ap (λ u. first_fault (name_fault (meter_names u) c.args.name.now) (place_fault c.args.self.now c.args.kind c.args.at.now)) c.self.view_is)
+    ap (λ n. first_fault (name_fault t.most (meter_names t) n) c.find_place-place.result.fault) c.new.ensures.bytes
+    ∙ (ap (λ f. first_fault (name_fault t.most (meter_names t) c.args.name.now) f) c.find_place-place.ensures.fault
+    ∙ ap (λ u. first_fault (name_fault u.most (meter_names u) c.args.name.now) (place_fault c.args.self.now c.args.kind c.args.at.now)) c.self.view_is)
 
 row_is : (c : After-add) → as_row c.new.result c.args.kind c.find_place-place.result.at c.args.inservice ≡ meter_of c.args.self.now c.args.name.now c.args.kind c.args.at.now c.args.inservice
 row_is c =
@@ -51,7 +51,7 @@ returns-clause-refused c = subst (λ f. IfErr c.add.result (Refuses f)) (fault_i
 
 pub returns-clause-never_unknown_node : goal.returns-clause-never_unknown_node
 returns-clause-never_unknown_node c =
-    never_node (meter_names (tables_of c.self.inside)) c.new.result c.find_place-place.result.fault c.add.result c.add.ensures.refused
+    never_node (tables_of c.self.inside).most (meter_names (tables_of c.self.inside)) c.new.result c.find_place-place.result.fault c.add.result c.add.ensures.refused
     (never_node_of_place _ c.find_place-place.result.fault c.find_place-place.ensures.fault)
 
 pub returns-clause-position : goal.returns-clause-position

@@ -14,7 +14,7 @@ invariant_of-self c =
     let t = tables_of c.self.inside in
     let row : Node = record { name = c.new.result; source = c.args.source; absolute = false } in
     let good = ap is_name c.new.ensures.bytes ∙ c.requires.name in
-    either (λ rows. IsValid (record t { nodes = rows })) t.nodes c.add.new.rows.keys row c.add.result (first_fault (name_fault (node_names t) c.new.result) None) c.self.invariant
-    (λ free. let f = no_fault (node_names t) c.new.result None free in
+    either (λ rows. IsValid (record t { nodes = rows })) t.nodes c.add.new.rows.keys row c.add.result (first_fault (name_fault t.most (node_names t) c.new.result) None) c.self.invariant
+    (λ free. let f = no_fault t.most (node_names t) c.new.result None free in
     valid-nodes t c.self.invariant (Ok 0) row (t.nodes ++ row ∷ []) good (λ full. f.0 (length-map t.nodes (λ (r : Node). r.name) ∙ full)) f.1 refl tt)
     c.add.ensures.accepted c.add.ensures.added c.add.ensures.unchanged

@@ -19,8 +19,8 @@ invariant_of-self c =
     let row : Switch = record { name = c.new.result; from = ends.result.from; to = ends.result.to; closed = c.args.closed } in
     let good = ap is_name c.new.ensures.bytes ∙ c.requires.name in
     let nodes = length-map t.nodes (λ (r : Node). r.name) in
-    either (λ rows. IsValid (record t { switches = rows })) t.switches c.add.new.rows.keys row c.add.result (first_fault (name_fault (switch_names t) c.new.result) ends.result.fault) c.self.invariant
-    (λ free. let f = no_fault (switch_names t) c.new.result ends.result.fault free in
+    either (λ rows. IsValid (record t { switches = rows })) t.switches c.add.new.rows.keys row c.add.result (first_fault (name_fault t.most (switch_names t) c.new.result) ends.result.fault) c.self.invariant
+    (λ free. let f = no_fault t.most (switch_names t) c.new.result ends.result.fault free in
     let low = ends_within (node_names t) c.args.from.now c.args.to.now (sym ends.ensures.fault ∙ f.2) in
     let from : ends.result.from < length t.nodes = subst (λ n. ends.result.from < n) nodes (subst (λ a. a < length (node_names t)) (sym ends.ensures.from) low.0) in
     let to : ends.result.to < length t.nodes = subst (λ n. ends.result.to < n) nodes (subst (λ a. a < length (node_names t)) (sym ends.ensures.to) low.1) in
@@ -31,11 +31,11 @@ abbrev as_row : List ℕ → ℕ → ℕ → Bool → Switch
 as_row name from to flag = record { name = name; from = from; to = to; closed = flag }
 
 -- the fault of the row, and the row itself
-fault_is : (c : After-add) → first_fault (name_fault (switch_names (tables_of c.self.inside)) c.new.result) c.find_ends-ends.result.fault ≡ switch_fault c.args.self.now c.args.name.now c.args.from.now c.args.to.now
+fault_is : (c : After-add) → first_fault (name_fault (tables_of c.self.inside).most (switch_names (tables_of c.self.inside)) c.new.result) c.find_ends-ends.result.fault ≡ switch_fault c.args.self.now c.args.name.now c.args.from.now c.args.to.now
 fault_is c =
     let t = tables_of c.self.inside in
-    ap (λ n. first_fault (name_fault (switch_names t) n) c.find_ends-ends.result.fault) c.new.ensures.bytes
-    ∙ (ap (λ f. first_fault (name_fault (switch_names t) c.args.name.now) f) c.find_ends-ends.ensures.fault
+    ap (λ n. first_fault (name_fault t.most (switch_names t) n) c.find_ends-ends.result.fault) c.new.ensures.bytes
+    ∙ (ap (λ f. first_fault (name_fault t.most (switch_names t) c.args.name.now) f) c.find_ends-ends.ensures.fault
     ∙ ap (λ u. switch_fault u c.args.name.now c.args.from.now c.args.to.now) c.self.view_is)
 
 row_is : (c : After-add) → as_row c.new.result c.find_ends-ends.result.from c.find_ends-ends.result.to c.args.closed ≡ switch_of (tables_of c.self.inside) c.args.name.now c.args.from.now c.args.to.now c.args.closed
@@ -52,7 +52,7 @@ returns-clause-refused c = subst (λ f. IfErr c.add.result (Refuses f)) (fault_i
 
 pub returns-clause-never_unknown_place : goal.returns-clause-never_unknown_place
 returns-clause-never_unknown_place c =
-    never_place (switch_names (tables_of c.self.inside)) c.new.result c.find_ends-ends.result.fault c.add.result c.add.ensures.refused
+    never_place (tables_of c.self.inside).most (switch_names (tables_of c.self.inside)) c.new.result c.find_ends-ends.result.fault c.add.result c.add.ensures.refused
     (never_place_of_ends _ c.find_ends-ends.result.fault c.find_ends-ends.ensures.fault)
 
 pub returns-clause-position : goal.returns-clause-position

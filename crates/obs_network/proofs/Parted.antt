@@ -4,7 +4,7 @@ use Rattle.std.specs.Prelude.{◌==◌, nat_lt}
 use Rattle.std.specs.List.{range_with_len, sum_by}
 use Rattle.std.proofs.lemmas.Bool.{cases_eq, cases_lt, eq-eqb, le-ltb, lt-ltb, ne_eqb}
 use Rattle.std.proofs.lemmas.List.Sums.{sum_by-cons}
-use Rattle.obs_claimed.proofs.Small.{filter_few}
+use Rattle.obs_matroid.proofs.Lists.{length-split}
 
 module _ {X : Type 0} (f : X → ℕ) where
   abbrev at_number : ℕ → X → Bool
@@ -37,5 +37,5 @@ module _ {X : Type 0} (f : X → ℕ) where
   pub parts_few : (xs : List X) (n : ℕ) → sum_by (λ c. length (filter (λ x. f x == c) xs)) (range_with_len 0 n) ≤ length xs
   parts_few xs n =
       let parts = parts_from xs 0 n in
-      let all = filter_few (from_on 0) xs in
+      let all = length-split (from_on 0) xs in
       omega (arith, parts, all)

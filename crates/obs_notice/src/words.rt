@@ -2,14 +2,14 @@
 ghost use Rattle.std.specs.Prelude.{◌≡◌, ◌≢◌, Ok, Err, IsOkAnd, MatchResult, vec_len};
 ghost use Rattle.std.specs.IoError.{error_kind};
 
-use obs_engine::Status;
+use obs_files::Status;
 use std::alloc::{AllocError, Global};
 use std::env;
 use std::io::{self, ErrorKind};
 use std::rt::Env;
 
 /// The words behind the program's own name.
-pub(crate) fn words_of(rt: &(impl Env + AllocGlobal)) -> io::Result<Vec<String>> {
+pub fn words_of(rt: &(impl Env + AllocGlobal)) -> io::Result<Vec<String>> {
     let mut all = env::args(rt)?;
     let _program = all.next();
     let mut words = Vec::new(rt.alloc());
@@ -21,7 +21,7 @@ pub(crate) fn words_of(rt: &(impl Env + AllocGlobal)) -> io::Result<Vec<String>>
 
 /// What is to be run: the words, no words where they can't be read, or for want of memory nothing, with the status that
 /// says so.
-pub(crate) fn or_status(
+pub fn or_status(
     alloc: Global,
     words: io::Result<Vec<String>>,
 ) -> Result<Vec<String>, Status>

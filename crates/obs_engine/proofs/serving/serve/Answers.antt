@@ -1,18 +1,18 @@
 use Rattle.std.proofs.Common.{inl, inr, sym, ◌∙◌}
 use Rattle.obs_notice.proofs.Named.{named_file, named_input}
 use Rattle.obs_notice.proofs.Said.{writes_part}
-use Rattle.obs.proofs.serve.serve.Goals as goal
+use Rattle.obs_engine.proofs.serving.serve.Goals as goal
 
 pub returns-clause-says : goal.returns-clause-says
 returns-clause-says g c = rw (sym c.failed.ensures.word) (writes_part _ _ c.say-said.result _ c.say-said.ensures.says)
 
 pub returns-clause-named : goal.returns-clause-named
 returns-clause-named g c = λ e.
-    let files = c.run-status.new.files in
-    elim (c.run-status.ensures.read e) [
-      | inl failed ↦ named_file files.faults _ files.failed _ _ _ _ _ c.requires.fresh failed.file
+    let files = c.run_within-status.new.files in
+    elim (c.run_within-status.ensures.read e) [
+      | inl failed ↦ named_file files.faults _ files.failed _ _ _ _ _ _ c.requires.fresh failed.file
       | inr failed ↦ named_input files.faults _ files.failed _ _ failed.rose
     ]
 
 pub returns-clause-beneath : goal.returns-clause-beneath
-returns-clause-beneath g c = λ no w. c.run-status.new.files.noted w (c.run-status.ensures.quiet_files no w ∙ c.requires.fresh w)
+returns-clause-beneath g c = λ no w. c.run_within-status.new.files.noted w (c.run_within-status.ensures.quiet_files no w ∙ c.requires.fresh w)
