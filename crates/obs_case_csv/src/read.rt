@@ -132,7 +132,7 @@ pub fn add_tables(
     }
 }
 
-// Reads the five tables in their order into a case without rows under this limit, up to the first fault.
+// Reads the five tables in their order into a case without rows, under its limit, up to the first fault.
 fn fill_case(
     alloc: Global,
     case: &mut Case,
