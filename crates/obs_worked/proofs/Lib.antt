@@ -1,0 +1,2 @@
+mod Assigned
+mod Computed

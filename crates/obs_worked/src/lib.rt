@@ -1,0 +1,9 @@
+//! Definitions evaluated on small cases that were worked out by hand.
+#![tactic(auto)]
+
+pub mod answers;
+pub mod certificates;
+pub mod networks;
+pub mod reports;
+pub mod sessions;
+pub mod studies;

@@ -1,0 +1,26 @@
+// What is printed of worked cases.
+ghost use Rattle.obs_worked.specs.Reports.{AbsolutePairIsReported, AngleIsBought, GivenIsPrinted, NodesArePrinted, OneBusIsReported, ParallelIsReported, PlanIsPrinted, RowOfFourIsReported, ShortfallIsPrinted, StarIsReported, TriangleIsReported, WithoutSourceIsReported};
+
+/// Nodes and their buses.
+pub fn nodes()
+    ensures printed { NodesArePrinted }
+{}
+
+/// The counts, the claims, the islands and the critical meters of a case.
+pub fn reports()
+    ensures row { RowOfFourIsReported }
+    ensures triangle { TriangleIsReported }
+    ensures parallel { ParallelIsReported }
+    ensures star { StarIsReported }
+    ensures without_source { WithoutSourceIsReported }
+    ensures one_bus { OneBusIsReported }
+    ensures absolute { AbsolutePairIsReported }
+{}
+
+/// A plan with its pairs and layers, or a shortfall.
+pub fn placements()
+    ensures plan { PlanIsPrinted }
+    ensures given { GivenIsPrinted }
+    ensures angle { AngleIsBought }
+    ensures shortfall { ShortfallIsPrinted }
+{}
