@@ -2,7 +2,7 @@
 use Rattle.std.specs.Prelude.{true, false, List, [], ◌∷◌}
 use Rattle.obs_case.specs.Tables.{Tables}
 use Rattle.obs_case.specs.declared.rows.Candidate.{Candidate}
-use Rattle.obs_case.specs.declared.rows.Kind.TheVariants.{Flow, Injection, Angle}
+use Rattle.obs_case.specs.declared.rows.Kind.TheVariants.{Flow, Injection, Zero, Angle}
 use Rattle.obs_worked.specs.Rows.{absolute_node, branch, branch_out, candidate, meter, node, switch}
 
 -- the same tables with these candidates
@@ -144,6 +144,16 @@ abbrev pub absolute_offered : Tables
 absolute_offered = record absolute_pair {
   meters = meter "f1" Flow 0 ∷ [];
   candidates = candidate "c1" Angle 0 7 ∷ candidate "c2" Angle 1 4 ∷ [];
+}
+
+-- a component that isn't absolute, whose angle items are idle, and an absolute bus alone; a zero and an angle meter stand first
+abbrev pub behind_meters : Tables
+behind_meters = record {
+  nodes = node "a" true ∷ node "b" false ∷ absolute_node "c" true ∷ [];
+  switches = [];
+  branches = branch "L1" 0 1 ∷ [];
+  meters = meter "m1" Zero 2 ∷ meter "m2" Angle 0 ∷ [];
+  candidates = candidate "c1" Angle 0 0 ∷ candidate "c2" Flow 0 5 ∷ candidate "c3" Angle 2 6 ∷ [];
 }
 
 -- two angle meters at one bus, and a flow

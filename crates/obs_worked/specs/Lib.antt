@@ -6,3 +6,4 @@ pub mod Reports
 pub mod Studies
 pub mod Sessions
 pub mod Certificates
+pub mod Faults

@@ -7,7 +7,9 @@ use Rattle.obs_script.specs.declared.command.Ask.TheVariants.{Report, Place}
 use Rattle.obs_engine.specs.Asks.{ask_reply}
 use Rattle.obs_engine.specs.Replies.{Reply}
 use Rattle.obs_engine.specs.Topology.{topology_reply}
-use Rattle.obs_worked.specs.Cases.{absolute_offered, absolute_pair, one_bus, one_open, parallel, row_given, row_lacking, row_of_four, row_offered, star, three_joined, triangle, without_source}
+use Rattle.obs_engine.specs.Trials.{trial_reply}
+use Rattle.obs_trial.specs.Trial.{trial_of}
+use Rattle.obs_worked.specs.Cases.{absolute_offered, absolute_pair, behind_meters, one_bus, one_open, parallel, row_given, row_lacking, row_of_four, row_offered, star, three_joined, triangle, without_source}
 use Rattle.obs_worked.specs.Rows.{printed}
 
 -- a reply of these lines, with this status
@@ -80,7 +82,22 @@ abbrev pub AngleIsBought : Type 0
 AngleIsBought = IsPrinted (ask_reply Place absolute_offered) Done (
     "cost 4" ∷ "chosen c2" ∷ "pair meter f1 L1" ∷ "pair candidate c2 angle" ∷ "layer 0 4 0 1" ∷ "end" ∷ [])
 
+-- two candidates are needed and two layers; an idle candidate costs nothing and isn't chosen
+abbrev pub TwoLayersArePrinted : Type 0
+TwoLayersArePrinted = IsPrinted (ask_reply Place behind_meters) Done (
+    "cost 11" ∷ "chosen c2" ∷ "chosen c3" ∷ "pair candidate c2 L1" ∷ "pair candidate c3 angle" ∷ "layer 0 5 0 0" ∷ "layer 5 6 0 1" ∷ "end" ∷ [])
+
 -- why no candidates complete the meters
 abbrev pub ShortfallIsPrinted : Type 0
 ShortfallIsPrinted = IsPrinted (ask_reply Place row_lacking) Short (
     "shortfall 2 0" ∷ "inside meter f1" ∷ "inside meter f2" ∷ "inside meter ib" ∷ "inside candidate p1" ∷ "end" ∷ [])
+
+-- a generated case of one node, and one of two rows, where its edits took as many searches as they were
+abbrev pub TrialsArePrinted : Type 0
+TrialsArePrinted =
+    IsPrinted (trial_reply 1 0 (trial_of 1 0) 0) Done (
+    "trial 1 0" ∷ "count buses 1" ∷ "count energised 1" ∷ "count branches 0" ∷ "count meters 0" ∷ "count needed 0" ∷ "count rank 0"
+    ∷ "verdict observable" ∷ "islands 1" ∷ "dips 0" ∷ "edits 0" ∷ "searches 0" ∷ "end" ∷ [])
+    × IsPrinted (trial_reply 2 1 (trial_of 2 1) 8) Done (
+    "trial 2 1" ∷ "count buses 4" ∷ "count energised 4" ∷ "count branches 4" ∷ "count meters 4" ∷ "count needed 3" ∷ "count rank 3"
+    ∷ "verdict observable" ∷ "islands 1" ∷ "dips 0" ∷ "edits 8" ∷ "searches 8" ∷ "end" ∷ [])

@@ -44,3 +44,8 @@ tabbed byte = if byte == 0x20 then 0x09 else byte
 abbrev pub printed : List String → List ℕ
 printed [] = []
 printed (line ∷ lines) = map tabbed (codes line) ++ 0x0A ∷ printed lines
+
+-- lines of an input, each with its line feed
+abbrev pub typed : List String → List ℕ
+typed [] = []
+typed (line ∷ lines) = codes line ++ 0x0A ∷ typed lines

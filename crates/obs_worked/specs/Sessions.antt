@@ -1,15 +1,10 @@
 -- The answers to the lines of sessions over worked cases.
-use Prim.Native.String.{String}
-use Rattle.std.specs.Prelude.{ℕ, false, List, [], ◌∷◌, ◌++◌, codes}
+use Rattle.std.specs.Prelude.{false, [], ◌∷◌}
 use Rattle.obs_files.specs.declared.status.Status.TheVariants.{Done, Short}
 use Rattle.obs_engine.specs.Sessions.{session_reply}
 use Rattle.obs_worked.specs.Cases.{ring, row_of_four}
 use Rattle.obs_worked.specs.Reports.{IsPrinted}
-
--- lines of an input, each with its line feed
-abbrev pub typed : List String → List ℕ
-typed [] = []
-typed (line ∷ lines) = codes line ++ 0x0A ∷ typed lines
+use Rattle.obs_worked.specs.Rows.{typed}
 
 -- a switch of a ring is opened and nothing is parted, and then a second one; each time the counts are asked for
 abbrev pub SwitchesAreOpened : Type 0

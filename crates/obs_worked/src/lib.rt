@@ -3,6 +3,7 @@
 
 pub mod answers;
 pub mod certificates;
+pub mod faults;
 pub mod networks;
 pub mod reports;
 pub mod sessions;

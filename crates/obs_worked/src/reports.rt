@@ -1,5 +1,5 @@
 // What is printed of worked cases.
-ghost use Rattle.obs_worked.specs.Reports.{AbsolutePairIsReported, AngleIsBought, GivenIsPrinted, NodesArePrinted, OneBusIsReported, ParallelIsReported, PlanIsPrinted, RowOfFourIsReported, ShortfallIsPrinted, StarIsReported, TriangleIsReported, WithoutSourceIsReported};
+ghost use Rattle.obs_worked.specs.Reports.{AbsolutePairIsReported, AngleIsBought, GivenIsPrinted, NodesArePrinted, OneBusIsReported, ParallelIsReported, PlanIsPrinted, RowOfFourIsReported, ShortfallIsPrinted, StarIsReported, TrialsArePrinted, TriangleIsReported, TwoLayersArePrinted, WithoutSourceIsReported};
 
 /// Nodes and their buses.
 pub fn nodes()
@@ -22,5 +22,11 @@ pub fn placements()
     ensures plan { PlanIsPrinted }
     ensures given { GivenIsPrinted }
     ensures angle { AngleIsBought }
+    ensures layers { TwoLayersArePrinted }
     ensures shortfall { ShortfallIsPrinted }
+{}
+
+/// What a generated case comes to.
+pub fn trials()
+    ensures printed { TrialsArePrinted }
 {}

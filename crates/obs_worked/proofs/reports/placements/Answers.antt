@@ -4,4 +4,4 @@ use Rattle.obs_worked.proofs.reports.placements.Goals as goal
 
 pub returns : goal.returns
 unfolding computed
-returns c = record { plan = refl; given = refl; angle = refl; shortfall = refl }
+returns c = record { plan = refl; given = refl; angle = refl; layers = refl; shortfall = refl }
