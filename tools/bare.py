@@ -31,10 +31,11 @@ class Bare:
             if parts[3] == "declared":
                 self.take_type(self.sources.declared(item.module))
                 continue
-            module = item.module if item.module in self.sources.specs else item.module.rpartition(".")[0]
-            if module not in self.modules:
-                self.modules.append(module)
-                self.follow(self.sources.specs[module].imports)
+            root = ".".join(parts[:4])
+            for module, file in self.sources.specs.items():
+                if (module == root or module.startswith(root + ".")) and module not in self.modules:
+                    self.modules.append(module)
+                    self.follow(file.imports)
 
     def take_type(self, item):
         if item in self.types:
@@ -59,9 +60,11 @@ class Bare:
         os.makedirs(folder)
         files = [file for file in self.sources.specs.values() if file.crate == crate and file.module in self.modules]
         for file in files:
-            shutil.copy(file.path, folder)
+            path = os.path.join(folder, *file.module.split(".")[3:]) + ".antt"
+            os.makedirs(os.path.dirname(path), exist_ok=True)
+            shutil.copy(file.path, path)
         with open(os.path.join(folder, "Lib.antt"), "w", encoding="utf-8") as root:
-            root.write("".join(f"pub mod {file.module.rpartition('.')[2]}\n" for file in files))
+            root.write("".join(f"pub mod {name}\n" for name in dict.fromkeys(file.module.split(".")[3] for file in files)))
 
     def write_types(self, to, crate):
         """Writes the types of a crate, each in the module in which it stands."""

@@ -111,6 +111,8 @@ class SpecFile:
                 doc_above = None
                 continue
             text = "\n".join(lines[first:end])
+            if re.match(r"(pub )?mod ", line):
+                continue
             if line.startswith("use "):
                 self.imports += imports_of(" ".join(text[4:].split()))
                 doc = []
@@ -163,16 +165,19 @@ def blocks(lines):
 
 
 def spec_files(top, crate):
-    """The files of a crate's specs/ in the order in which specs/Lib.antt names them."""
+    """The files of a crate's specs/ in the order in which specs/Lib.antt names them, and files that name others."""
     folder = os.path.join(top, "crates", crate, "specs")
-    found = []
     root = os.path.join(folder, "Lib.antt")
-    if not os.path.exists(root):
-        return found
+    return files_named(crate, root, folder, f"Rattle.{crate}.specs") if os.path.exists(root) else []
+
+
+def files_named(crate, root, folder, module):
+    """The files that the `mod` lines of one file name, each before those that it names itself."""
+    found = []
     with open(root, encoding="utf-8") as file:
-        for line in file:
-            match = re.match(r"(?:pub )?mod (\w+)", line)
-            if match:
-                path = os.path.join(folder, match.group(1) + ".antt")
-                found.append(SpecFile(crate, path, f"Rattle.{crate}.specs.{match.group(1)}"))
+        names = re.findall(r"^(?:pub )?mod (\w+)", file.read(), re.M)
+    for name in names:
+        path = os.path.join(folder, name + ".antt")
+        found.append(SpecFile(crate, path, f"{module}.{name}"))
+        found += files_named(crate, path, os.path.join(folder, name), f"{module}.{name}")
     return found

@@ -27,6 +27,9 @@ of the kit's library is the kit's ([what is trusted](../README.md#what-isnt)).
 This page is written by `tools/statement` from the sources, by their names and imports; [statement.txt](../tools/statement.txt) lists the claims.
 `tools/statement --check` says where it differs from them. A sentence here is the first one of the comment above the definition, which the link
 opens. Where a definition has no comment of its own, its clause stands here, or *as above* where it shares the comment of the one above it.
+
+That they mean what their sentences say is seen on small cases: [obs_worked](../crates/obs_worked/README.md) has the prover evaluate them, with values
+that were worked out by hand, and `tools/slips.py` shows that slips in definitions are refused there.
 """
 
 
