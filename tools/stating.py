@@ -59,14 +59,15 @@ def link(top, item, words=None):
 
 
 def sentence(item):
-    """The first sentence of what is said of a definition, as text of a table; else its only clause, where that is one line."""
-    if item.doc:
-        words = re.split(r"(?<=\.)\s+(?=[A-Z`])", item.doc)[0].rstrip(".")
+    """The first sentence of what is said of a definition, as text of a table; else its only clause, where that is short."""
+    header = item.place.lines[0][2:].strip() if item.place.lines[0].startswith("--") and not item.shares else ""
+    if item.doc or header and len(item.clauses) > 1:
+        words = re.split(r"(?<=\.)\s+(?=[A-Z`])", item.doc or header)[0].rstrip(".")
         words = re.sub(r"([|*])", r"\\\1", words).replace("<", "&lt;")
         return words[0].upper() + words[1:]
-    lines = item.place.lines[item.first:item.last]
-    if isinstance(item, Definition) and len(lines) == 1:
-        return "`" + lines[0].strip().replace("|", "\\|") + "`"
+    clause = " ".join(" ".join(item.place.lines[item.first:item.last]).split()).replace("|", "\\|")
+    if isinstance(item, Definition) and len(item.clauses) == 1 and len(clause) <= 170:
+        return f"`{clause}`"
     return "*As above.*" if item.shares else "-"
 
 
