@@ -3,7 +3,7 @@ import os
 import re
 
 from declarations import Declared, rust_files
-from definitions import Definition, member_names, spec_files
+from definitions import Definition, member_names, spec_files, tokens_of
 from scopes import Walk, tree_of, walk_definition
 
 # Constructors of the kit that clauses match.
@@ -186,11 +186,29 @@ def rests_on(sources, item):
         walk_definition(item, names)
         return names.found
     if item.kind in ("trait", "call"):
-        return in_clauses(sources, item)
+        return in_clauses(sources, item) + in_signature(sources, item)
     model = sources.models.get((item.place.crate, item.name))
     if model:
         return in_model(sources, item, *model)
-    return [found for name in item.field_types() if (found := sources.rust_type(name, item.place))]
+    return ghost_fields(sources, item) + [found for name in item.field_types() if (found := sources.rust_type(name, item.place))]
+
+
+def in_signature(sources, item):
+    """The types that the parameters and the result of a call name."""
+    if item.kind == "trait":
+        return []
+    head = re.split(r"\n\s+(?:requires|ensures)", "\n".join(item.text()))[0]
+    return [found for name in re.findall(r"\b[A-Z]\w*", head) if name not in item.parameters() and (found := sources.rust_type(name, item.place))]
+
+
+def ghost_fields(sources, item):
+    """What the types of a struct's public ghost fields name."""
+    names = Names(sources, item.place)
+    for line in item.text():
+        match = re.match(r"    pub ghost \w+: \{(.*)\}", line)
+        if match:
+            Walk(names).walk(tree_of(tokens_of([match.group(1)], item.first)), set())
+    return names.found
 
 
 def in_clauses(sources, item):
