@@ -7,3 +7,4 @@ pub mod Studies
 pub mod Sessions
 pub mod Certificates
 pub mod Faults
+pub mod Runs

@@ -6,5 +6,6 @@ pub mod certificates;
 pub mod faults;
 pub mod networks;
 pub mod reports;
+pub mod runs;
 pub mod sessions;
 pub mod studies;

@@ -1,0 +1,69 @@
+-- What is stated of whole calls: from the words and the bytes of files to the printed bytes and the status.
+use Prim.Native.String.{String}
+use Rattle.std.specs.Prelude.{◌≡◌, List, [], ◌∷◌, codes, map, slice_index_or}
+use Rattle.obs_files.specs.declared.status.Status.{Status}
+use Rattle.obs_files.specs.declared.status.Status.TheVariants.{Done, Short, Usage, InputFault}
+use Rattle.obs_files.specs.Words.{form_of}
+use Rattle.obs_engine.specs.Replies.{Reply}
+use Rattle.obs_engine.specs.Stated.{IsStated, Told}
+use Rattle.obs_worked.specs.Rows.{printed, typed}
+
+-- the lines of the file of each word, by its position, and those of the input
+abbrev pub told_of : List (List String) → List String → Told
+told_of files input = record { file = λ w. typed (slice_index_or files w []); input = typed input }
+
+-- to these words, files and input no other reply is stated than this one
+abbrev pub IsReply : List String → List (List String) → List String → Reply → Type 0
+IsReply words files input wanted = (reply : Reply) → IsStated (form_of (map codes words)) (told_of files input) reply → reply ≡ wanted
+
+-- a reply of these lines
+abbrev pub reply_of : Status → List String → Reply
+reply_of status lines = record { status = status; text = printed lines }
+
+-- the tables of a row of four buses behind two words, with a table of nodes
+abbrev pub row_files : List String → List (List String)
+row_files nodes =
+    [] ∷ [] ∷ nodes ∷ ("switch,from,to,closed" ∷ []) ∷ ("branch,from,to,inservice" ∷ "L1,a,b,1" ∷ "L2,b,c,1" ∷ "L3,c,d,1" ∷ [])
+    ∷ ("meter,kind,at,inservice" ∷ "f1,flow,L1,1" ∷ "f2,flow,L1,1" ∷ "ib,injection,b,1" ∷ []) ∷ []
+
+-- two nodes that a switch joins, by an order of columns of their own
+abbrev pub TopologyIsAnswered : Type 0
+TopologyIsAnswered = IsReply ("topology" ∷ "n" ∷ "s" ∷ [])
+    ([] ∷ ("source,node" ∷ "1,a" ∷ "0,b" ∷ "0,c" ∷ []) ∷ ("switch,from,to,closed" ∷ "S1,a,b,1" ∷ "S2,b,c,0" ∷ []) ∷ []) []
+    (reply_of Done ("node a a" ∷ "node b a" ∷ "node c c" ∷ "count buses 2" ∷ "end" ∷ []))
+
+-- the report of a row of four buses
+abbrev pub ReportIsAnswered : Type 0
+ReportIsAnswered = IsReply ("report" ∷ "tables" ∷ "n" ∷ "s" ∷ "b" ∷ "m" ∷ [])
+    (row_files ("node,source" ∷ "a,1" ∷ "b,0" ∷ "c,0" ∷ "d,0" ∷ [])) []
+    (reply_of Short (
+    "count buses 4" ∷ "count energised 4" ∷ "count branches 3" ∷ "count meters 3" ∷ "count needed 3" ∷ "count rank 2" ∷ "verdict short"
+    ∷ "bound a 1 1" ∷ "inside meter f1" ∷ "inside meter f2"
+    ∷ "island a a" ∷ "island a b" ∷ "island a c" ∷ "island d d" ∷ "critical ib" ∷ "end" ∷ []))
+
+-- a session of the same case
+abbrev pub SessionIsAnswered : Type 0
+SessionIsAnswered = IsReply ("session" ∷ "tables" ∷ "n" ∷ "s" ∷ "b" ∷ "m" ∷ [])
+    (row_files ("node,source" ∷ "a,1" ∷ "b,0" ∷ "c,0" ∷ "d,0" ∷ [])) ("trip L1" ∷ "restore L1" ∷ [])
+    (reply_of Short ("ok 0 0" ∷ "ok 2 3" ∷ []))
+
+-- a fault of a table in the place of an answer
+abbrev pub FaultIsAnswered : Type 0
+FaultIsAnswered = IsReply ("report" ∷ "tables" ∷ "n" ∷ "s" ∷ "b" ∷ "m" ∷ [])
+    (row_files ("node,source" ∷ "a,1" ∷ "b,0" ∷ "c,2" ∷ "d,0" ∷ [])) []
+    (reply_of InputFault ("fault nodes 3 6 BadFlag" ∷ []))
+
+-- the usage line
+abbrev pub usage : Reply
+usage = record {
+  status = Usage;
+  text = typed (
+      "usage: obs topology N S | report FORM | place FORM CAND | session FORM | verify FORM CERT | trial N SEED | outages FORM | pairs FORM | stations FORM"
+      ∷ []);
+}
+
+-- words that have no form: a file is missing, and a trial has no rows
+abbrev pub UsageIsAnswered : Type 0
+UsageIsAnswered =
+    IsReply ("report" ∷ "tables" ∷ "n" ∷ []) [] [] usage
+    × IsReply ("trial" ∷ "0" ∷ "5" ∷ []) [] [] usage
