@@ -53,6 +53,42 @@ FaultIsAnswered = IsReply ("report" ∷ "tables" ∷ "n" ∷ "s" ∷ "b" ∷ "m"
     (row_files ("node,source" ∷ "a,1" ∷ "b,0" ∷ "c,2" ∷ "d,0" ∷ [])) []
     (reply_of InputFault ("fault nodes 3 6 BadFlag" ∷ []))
 
+-- two buses of which the first is fed, with a branch between them and a flow: the report by the names that the file's numbers give
+abbrev pub two_buses : Reply
+two_buses = reply_of Done (
+    "count buses 2" ∷ "count energised 2" ∷ "count branches 1" ∷ "count meters 1" ∷ "count needed 1" ∷ "count rank 1" ∷ "verdict observable"
+    ∷ "tree 1" ∷ "pair meter F1 L1" ∷ "island 1 1" ∷ "island 1 2" ∷ "critical F1" ∷ "end" ∷ [])
+
+-- a file behind two words, and a table with one flow
+abbrev pub file_and_flow : List String → List (List String)
+file_and_flow lines = [] ∷ [] ∷ lines ∷ ("meter,kind,at,inservice" ∷ "F1,flow,L1,1" ∷ []) ∷ []
+
+-- a file in the IEEE format whose second bus has this line
+abbrev pub cdf_lines : String → List String
+cdf_lines bus =
+    "a title" ∷ "BUS DATA FOLLOWS" ∷ "   1 Bus 1     HV  1  1  3" ∷ bus ∷ "-999"
+    ∷ "BRANCH DATA FOLLOWS" ∷ "   1    2  1  1 1 0" ∷ "-999" ∷ "END OF DATA" ∷ []
+
+-- the report of it, and the fault where the second bus has the number of the first
+abbrev pub CdfIsAnswered : Type 0
+CdfIsAnswered =
+    IsReply ("report" ∷ "cdf" ∷ "c" ∷ "m" ∷ []) (file_and_flow (cdf_lines "   2 Bus 2     HV  1  1  0")) [] two_buses
+    × IsReply ("report" ∷ "cdf" ∷ "c" ∷ "m" ∷ []) (file_and_flow (cdf_lines "   1 Bus 2     HV  1  1  0")) []
+    (reply_of InputFault ("fault cdf 4 7 BusTwice" ∷ []))
+
+-- a file of MATPOWER whose buses have this line, and whose second branch is out of service
+abbrev pub mat_lines : String → List String
+mat_lines buses =
+    "function mpc = two" ∷ "mpc.bus = [" ∷ buses ∷ "];"
+    ∷ "mpc.branch = [" ∷ " 1, 2, 0, 0, 0, 0, 0, 0, 0, 0, 1" ∷ " 2 1 0 0 0 0 0 0 0 0 0.; % out of service" ∷ "];" ∷ []
+
+-- the report of it, and the fault where a bus has no type
+abbrev pub MatIsAnswered : Type 0
+MatIsAnswered =
+    IsReply ("report" ∷ "matpower" ∷ "c" ∷ "m" ∷ []) (file_and_flow (mat_lines " 1 3 0; 2 1 0; % two buses")) [] two_buses
+    × IsReply ("report" ∷ "matpower" ∷ "c" ∷ "m" ∷ []) (file_and_flow (mat_lines " 1 5 0; 2 1 0;")) []
+    (reply_of InputFault ("fault matpower 3 6 BadType" ∷ []))
+
 -- the usage line
 abbrev pub usage : Reply
 usage = record {
