@@ -21,10 +21,7 @@ pub fn words_of(rt: &(impl Env + AllocGlobal)) -> io::Result<Vec<String>> {
 
 /// What is to be run: the words, no words where they can't be read, or for want of memory nothing, with the status that
 /// says so.
-pub fn or_status(
-    alloc: Global,
-    words: io::Result<Vec<String>>,
-) -> Result<Vec<String>, Status>
+pub fn or_status(alloc: Global, words: io::Result<Vec<String>>) -> Result<Vec<String>, Status>
     ensures words { MatchResult words (λ all. result ≡ Ok all) (λ error.
         (error_kind error ≡ ErrorKind.OutOfMemory → result ≡ Err Status.NoMemory)
         × (error_kind error ≢ ErrorKind.OutOfMemory → IsOkAnd result (λ none. vec_len none ≡ 0))) }
