@@ -18,3 +18,4 @@ pub mod Noting
 pub mod Changing
 pub mod Longest
 pub mod Losing
+pub mod Beside

@@ -59,12 +59,14 @@ pub record AreListed (flags : List Bool) (listed : List ℕ) : Type 0 where
   pub exactly : (m : ℕ) → In m listed ↔ (has_flag flags m ≡ true)
 
 -- what a work value is seen as: a flag for each meter that the last closed search reached, these meters in the order in which it
--- reached them, the meters that are noted, what each meter touches as it was copied, and the sizes that it was made for
+-- reached them, the meters that are noted, what each meter touches as it was copied, a flag for each meter that is kept as loose, and
+-- the sizes that it was made for
 pub record Work : Type 0 where
   pub reached : List Bool
   pub listed : List ℕ
   pub noted : Noted
   pub touches : List Touch
+  pub loose : List Bool
   pub sizes : Sizes
 
 -- what the meters of a search touch: what was copied, or what is given

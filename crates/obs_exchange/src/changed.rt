@@ -38,6 +38,7 @@ pub fn search_by<L: Ledger>(
     ensures listed { result ≡ Found.Closed → AreListed work.new.reached work.new.listed }
     ensures noted { work.new.noted ≡ work.old.noted }
     ensures copied { work.new.touches ≡ work.old.touches }
+    ensures same_loose { work.new.loose ≡ work.old.loose }
     ensures tick { steps.new ≡ steps.old + 1 }
     ensures stands { StandsOver a.new g.now (slice_set ms.now.touches m touch) }
     ensures whole { IsWhole a.new }

@@ -30,6 +30,7 @@ mod free;
 pub mod laws;
 mod loss;
 mod memory;
+mod near;
 mod noted;
 mod pass;
 mod queue;

@@ -1,8 +1,8 @@
 // The arrays of a search.
-ghost use Rattle.std.specs.Prelude.{◌≡◌, ◌+◌, ◌<◌, true, false, [], length, replicate, slice_set, IfOk};
+ghost use Rattle.std.specs.Prelude.{◌≡◌, ◌+◌, ◌<◌, ◌≤◌, ◌&&◌, ℕ, true, false, [], length, replicate, slice_set, IfOk};
 ghost use Rattle.obs_meter.specs.Sizes.{HasRoomFor};
 ghost use Rattle.obs_meter.specs.Touches.{AreInRange};
-ghost use Rattle.obs_assign.specs.Assignment.{HasRoomOf, IsWhole, StandsOver};
+ghost use Rattle.obs_assign.specs.Assignment.{HasRoomOf, IsWhole, StandsOver, has_flag};
 ghost use Rattle.obs_exchange.specs.declared.Found.{Found};
 ghost use Rattle.obs_exchange.specs.declared.Sources.TheVariants.{All};
 ghost use Rattle.obs_exchange.specs.Found.{AreListed, CanBegin, IsFound, searched};
@@ -10,6 +10,7 @@ ghost use Rattle.obs_exchange.specs.Noting.{AreNoted};
 
 use crate::find::grow;
 use crate::memory::NoMemory;
+use crate::near::Near;
 use crate::noted::Noted;
 use crate::pass::{Pass, next_tried};
 use crate::scratch::Scratch;
@@ -36,6 +37,10 @@ pub struct Work {
     noted: Noted,
     // the meters, copied, for searches where one of them touches something else
     copy: Meters,
+    // the meters that a caller keeps as loose
+    loose: Vec<bool>,
+    // sources by what they touch: a hint
+    near: Near,
     // where the next search begins to try sources
     pass: Pass,
 }
@@ -52,6 +57,7 @@ impl Model for Work {
           listed = take w.count w.scratch.trail.queue;
           noted = w.noted;
           touches = w.copy.touches;
+          loose = w.loose.items;
           sizes = record {
             meters = length w.scratch.trail.marks;
             branches = length w.scratch.trail.walked;
@@ -61,7 +67,8 @@ impl Model for Work {
 
     ghost invariant = { λ w.
         (w.meters ≤ length w.scratch.trail.marks) × (w.count ≤ length w.scratch.trail.marks)
-        × (length w.noted.flags ≡ length w.scratch.trail.marks) × (w.copy.most ≡ length w.scratch.trail.marks) };
+        × (length w.noted.flags ≡ length w.scratch.trail.marks) × (w.copy.most ≡ length w.scratch.trail.marks)
+        × (length w.loose.items ≡ length w.scratch.trail.marks) };
 }
 
 // Written out: so a caller's proof sees one call, and not the drop of each field.
@@ -74,6 +81,8 @@ impl Drop for Work {
             pairs: _,
             noted: _,
             copy: _,
+            loose: _,
+            near: _,
             pass: _,
         } = self;
     }
@@ -84,6 +93,30 @@ fn picked<'a>(given: &'a Meters, copy: &'a Meters, copied: bool) -> &'a Meters
     ensures touches { result.now.touches ≡ searched copied copy.now.touches given.now.touches }
 {
     if copied { copy } else { given }
+}
+
+/// Sets all flags.
+fn loosen(flags: &mut [bool])
+    ensures set { (m : ℕ) → m < length flags.old → has_flag flags.new m ≡ true }
+    ensures same_length { length flags.new ≡ length flags.old }
+{
+    for m in 0..flags.len() {
+        flags[m] = true;
+    }
+}
+
+/// Takes back the flags that aren't set among the kept ones.
+fn narrow(flags: &mut [bool], kept: &[bool])
+    requires room { length kept.now ≤ length flags.old }
+    ensures narrowed { (m : ℕ) → m < length kept.now
+        → has_flag flags.new m ≡ (has_flag flags.old m && has_flag kept.now m) }
+    ensures same_length { length flags.new ≡ length flags.old }
+{
+    for m in 0..kept.len() {
+        if !kept[m] {
+            flags[m] = false;
+        }
+    }
 }
 
 impl Work {
@@ -99,6 +132,7 @@ impl Work {
           listed = [];
           noted = record { all = true; flags = replicate most_meters false };
           touches = [];
+          loose = replicate most_meters false;
           sizes = record { meters = most_meters; branches = most_branches; vertices = most_vertices };
         }) }
     {
@@ -109,6 +143,8 @@ impl Work {
             pairs: 0,
             noted: Noted::make(alloc, most_meters)?,
             copy: Meters::make(alloc, most_meters)?,
+            loose: vec![in alloc; false; most_meters as usize]?,
+            near: Near::make(alloc, most_vertices)?,
             pass: Pass::new(),
         })
     }
@@ -134,6 +170,7 @@ impl Work {
         requires room { HasRoomFor self.old.sizes g.now ms.now.touches }
         ensures noted { AreNoted g.now.ends ms.now.touches All a.now self.new.noted }
         ensures copied { self.new.touches ≡ ms.now.touches }
+        ensures same_loose { self.new.loose ≡ self.old.loose }
         ensures same_sizes { self.new.sizes ≡ self.old.sizes }
     {
         self.noted.put_sources(g, ms, a);
@@ -149,6 +186,54 @@ impl Work {
         ensures low { m < length self.old.noted.flags }
     {
         self.noted.put(m, noted);
+    }
+
+    /// Notes a meter as one that may be a source, for `near`. Nothing rests on it.
+    pub fn note_near(&mut self, g: &Graph, ms: &Meters, m: u32)
+        requires m { m < length ms.now.touches }
+        requires in_range { AreInRange g.now ms.now.touches }
+        ensures same { self.new ≡ self.old }
+    {
+        self.near.put(g, ms, m);
+    }
+
+    /// Looks around a branch for meters that were noted so, nearer ones first. Says how many there are. Nothing rests on
+    /// it.
+    pub fn look_near(&mut self, g: &Graph, e: u32) -> usize
+        requires e { e < length g.now.ends }
+        ensures same { self.new ≡ self.old }
+    {
+        self.near.find(g, e)
+    }
+
+    /// The meter of this number among those that the last `look_near` found, if there is one.
+    pub fn near(&self, k: usize) -> Option<u32> {
+        self.near.named(k)
+    }
+
+    /// Whether the meter is kept as loose.
+    pub fn is_loose(&self, m: u32) -> bool
+        requires m { m < self.now.sizes.meters }
+        ensures loose { result ≡ has_flag self.now.loose m }
+    {
+        self.loose[m as usize]
+    }
+
+    /// Keeps all meters as loose.
+    pub fn loosen(&mut self)
+        ensures loose { (m : ℕ) → m < self.old.sizes.meters → has_flag self.new.loose m ≡ true }
+        ensures same { self.new ≡ record self.old { loose = self.new.loose } }
+    {
+        loosen(&mut self.loose);
+    }
+
+    /// Keeps as loose only those that the last search reached too, where that search ended with `Closed`.
+    pub fn narrow(&mut self)
+        ensures loose { (m : ℕ) → m < length self.old.reached
+            → has_flag self.new.loose m ≡ (has_flag self.old.loose m && has_flag self.old.reached m) }
+        ensures same { self.new ≡ record self.old { loose = self.new.loose } }
+    {
+        narrow(&mut self.loose, self.scratch.marks(self.meters));
     }
 
     /// Notes all meters.
@@ -187,6 +272,7 @@ impl Work {
         ensures listed { result ≡ Found.Closed → AreListed self.new.reached self.new.listed }
         ensures noted { self.new.noted ≡ self.old.noted }
         ensures same_touches { self.new.touches ≡ self.old.touches }
+        ensures same_loose { self.new.loose ≡ self.old.loose }
         ensures tick { steps.new ≡ steps.old + 1 }
         ensures stands { StandsOver a.new g.now (searched copied self.old.touches ms.now.touches) }
         ensures whole { IsWhole a.new }

@@ -24,7 +24,7 @@ use Rattle.obs_first.specs.Deciding.{KeepsFrozen}
 
 -- a thawed meter lost its pair
 module _ (a b : Assignment) (m : ℕ) (slots : b.slots ≡ set a.slots m None) (thawed : is_frozen a m ≡ false) where
-  other_slot : (k : ℕ) → (k ≡ m → ⊥) → branch_at b k ≡ branch_at a k
+  pub other_slot : (k : ℕ) → (k ≡ m → ⊥) → branch_at b k ≡ branch_at a k
   other_slot k n = ap (λ (s : List (Option ℕ)). get_or s k None) slots ∙ get_or-set_other a.slots m k None None n
 
   pub dropped_frozen : b.frozen ≡ set a.frozen m false → b.frozen ≡ a.frozen

@@ -32,3 +32,11 @@ HasFrozenOf-kept ends touches a b B e k h = record {
 
 pub HasFrozenOf-pairs : (a b : Assignment) (g : Graph) (touches : List Touch) → IsWhole b → StandsOver b g touches → KeepsFrozen a b → HasFrozenOf g.ends touches a (pairs b)
 HasFrozenOf-pairs a b g touches w s k = record { assigns = IsAssignmentAt-standing b g touches w s; extends = Extends-kept a b k }
+
+-- what has the frozen pairs of b has those of a, where they are frozen in b too
+pub HasFrozenOf-back : (ends : List (Option Ends)) (touches : List Touch) (a b : Assignment) (B : List Pair) → ((x : ℕ) → is_frozen a x ≡ true → is_frozen b x ≡ true) → KeepsFrozen a b
+    → HasFrozenOf ends touches b B → HasFrozenOf ends touches a B
+HasFrozenOf-back ends touches a b B more k h = record {
+  assigns = h.assigns;
+  extends = λ p i f. h.extends p (slot_at b.slots p.0 p.1 (k p.0 f ∙ slot_from a.slots p i)) (more p.0 f);
+}

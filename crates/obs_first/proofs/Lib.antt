@@ -8,3 +8,4 @@ pub mod Counting
 pub mod Swapping
 pub mod Listed
 pub mod Lawful
+mod Beside

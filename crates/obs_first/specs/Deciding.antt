@@ -1,7 +1,8 @@
 -- How the first assignment is found, meter by meter: the decided pairs are frozen.
-use Rattle.std.specs.Prelude.{◌≡◌, ◌⊎◌, ◌↔◌, ℕ, ◌+◌, ◌<◌, ◌≤◌, Bool, true, Option, None, Some, List, length, slice_index_or, slice_set}
+use Rattle.std.specs.Prelude.{◌≡◌, ◌⊎◌, ◌↔◌, ℕ, ◌+◌, ◌<◌, ◌≤◌, Bool, true, false, Option, None, Some, List, length, slice_index_or, slice_set}
 use Rattle.std.specs.List.{range_with_len}
 use Rattle.obs_graph.specs.declared.Ends.{Ends}
+use Rattle.obs_graph.specs.Graph.{Graph}
 use Rattle.obs_matroid.specs.Assignments.{Pair, items, part}
 use Rattle.obs_matroid.specs.Closed.{Extends}
 use Rattle.obs_matroid.specs.First.{IsBefore, IsNotAfter}
@@ -9,10 +10,13 @@ use Rattle.obs_matroid.specs.Lists.{In}
 use Rattle.obs_meter.specs.declared.Touch.{Touch}
 use Rattle.obs_meter.specs.declared.Touch.TheVariants.{Edge, Nothing}
 use Rattle.obs_meter.specs.Assignments.{IsAssignmentAt}
-use Rattle.obs_meter.specs.Touches.{every_item}
-use Rattle.obs_assign.specs.Assignment.{Assignment, branch_at, is_frozen, pairs}
+use Rattle.obs_meter.specs.Sizes.{HasRoomFor}
+use Rattle.obs_meter.specs.Touches.{every_item, is_live}
+use Rattle.obs_assign.specs.Assignment.{Assignment, branch_at, has_flag, is_frozen, pairs}
 use Rattle.obs_exchange.specs.declared.Sources.TheVariants.{All, One}
 use Rattle.obs_exchange.specs.Closed.{IsLeastClosedAt}
+use Rattle.obs_exchange.specs.Found.{Work}
+use Rattle.obs_exchange.specs.Noting.{AreNoted}
 
 -- B is an assignment of the meters that has the frozen pairs of a
 pub record HasFrozenOf (ends : List (Option Ends)) (touches : List Touch) (a : Assignment) (B : List Pair) : Type 0 where
@@ -26,6 +30,20 @@ frozen_pairs a = part (is_frozen a) (pairs a)
 -- the frozen meters of a have in b the branches that they have in a
 abbrev pub KeepsFrozen : Assignment → Assignment → Type 0
 KeepsFrozen a b = (x : ℕ) → is_frozen a x ≡ true → branch_at b x ≡ branch_at a x
+
+-- each live meter that isn't loose is critical beside the frozen pairs: no assignment that has these and nothing for the meter is so long
+abbrev pub AreCriticalBeside : List (Option Ends) → List Touch → Assignment → List Bool → ℕ → Type 0
+AreCriticalBeside ends touches a loose long =
+    (m : ℕ) → is_live ends touches m ≡ true → has_flag loose m ≡ false
+    → (B : List Pair) → HasFrozenOf ends touches a B → (In m (items B) → ⊥) → length B < long
+
+-- what the work value knows while meters are decided: there is room for its searches, the live meters without a pair are noted, what the
+-- meters touch is copied, and the live meters that aren't loose are critical beside the frozen pairs
+pub record IsPrepared (g : Graph) (touches : List Touch) (a : Assignment) (work : Work) (long : ℕ) : Type 0 where
+  pub room : HasRoomFor work.sizes g touches
+  pub noted : AreNoted g.ends touches All a work.noted
+  pub copied : work.touches ≡ touches
+  pub critical : AreCriticalBeside g.ends touches a work.loose long
 
 -- the meter m took e in b, where it is frozen as those of a are, and the pairs are as many as they are to be
 pub record HasTaken (a b : Assignment) (m e long : ℕ) : Type 0 where

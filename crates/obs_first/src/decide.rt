@@ -2,12 +2,9 @@
 ghost use Rattle.std.specs.Prelude.{◌≡◌, ◌+◌, ◌<◌, ℕ, Some, length, slice_index_or};
 ghost use Rattle.obs_graph.specs.Positions.{AreBranches};
 ghost use Rattle.obs_meter.specs.declared.Touch.TheVariants.{Nothing};
-ghost use Rattle.obs_meter.specs.Sizes.{HasRoomFor};
 ghost use Rattle.obs_meter.specs.Touches.{AreInRange};
 ghost use Rattle.obs_assign.specs.Assignment.{HasRoomOf, IsWhole, StandsOver};
-ghost use Rattle.obs_exchange.specs.declared.Sources.TheVariants.{All};
-ghost use Rattle.obs_exchange.specs.Noting.{AreNoted};
-ghost use Rattle.obs_first.specs.Deciding.{IsDecided, IsPassed, frozen_pairs};
+ghost use Rattle.obs_first.specs.Deciding.{IsDecided, IsPassed, IsPrepared, frozen_pairs};
 
 use crate::trying::take_branch;
 use obs_assign::{Assignment, Steps};
@@ -68,10 +65,8 @@ pub fn decide<L: Ledger>(
     requires whole { IsWhole a.old }
     requires stands { StandsOver a.old g.now ms.now.touches }
     requires in_range { AreInRange g.now ms.now.touches }
-    requires room { HasRoomFor work.old.sizes g.now ms.now.touches }
-    requires noted { AreNoted g.now.ends ms.now.touches All a.old work.old.noted }
+    requires prepared { IsPrepared g.now ms.now.touches a.old work.old rank }
     requires m { m < length ms.now.touches }
-    requires copied { work.old.touches ≡ ms.now.touches }
     requires decided { IsDecided g.now.ends ms.now.touches a.old m rank }
     requires taken { taken ≡ length (frozen_pairs a.old) }
     ensures decided { IsDecided g.now.ends ms.now.touches a.new (m + 1) rank }
@@ -80,8 +75,7 @@ pub fn decide<L: Ledger>(
     ensures whole { IsWhole a.new }
     ensures same_room { HasRoomOf a.old a.new }
     ensures same_sizes { work.new.sizes ≡ work.old.sizes }
-    ensures noted { AreNoted g.now.ends ms.now.touches All a.new work.new.noted }
-    ensures copied { work.new.touches ≡ ms.now.touches }
+    ensures prepared { IsPrepared g.now ms.now.touches a.new work.new rank }
 {
     if taken >= rank {
         return taken;

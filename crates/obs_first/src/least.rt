@@ -1,15 +1,18 @@
 // The first assignment.
 ghost use Rattle.std.specs.Prelude.{◌≡◌, false, length, replicate};
+ghost use Rattle.obs_graph.specs.Positions.{AreBranches};
 ghost use Rattle.obs_meter.specs.Assignments.{IsRhoAt};
 ghost use Rattle.obs_meter.specs.Sizes.{HasRoomFor};
 ghost use Rattle.obs_meter.specs.Touches.{AreInRange, live_items};
 ghost use Rattle.obs_assign.specs.Assignment.{HasRoomOf, IsWhole, StandsOver, pairs};
 ghost use Rattle.obs_exchange.specs.Laws.{IsThawed};
+ghost use Rattle.obs_exchange.specs.Longest.{IsLongest};
+ghost use Rattle.obs_first.specs.Deciding.{IsPrepared};
 ghost use Rattle.obs_first.specs.First.{first_pairs};
 
 use crate::decide::decide;
 use obs_assign::{Assignment, Steps};
-use obs_exchange::Work;
+use obs_exchange::{Work, close};
 use obs_graph::Graph;
 use obs_meter::Meters;
 use std::sync::ledger::Ledger;
@@ -22,6 +25,42 @@ fn thaw(a: &mut Assignment) -> u32
 {
     a.unpin_all();
     a.length()
+}
+
+/// Notes the meters without a pair where they touch branches.
+fn note_near(g: &Graph, ms: &Meters, a: &Assignment, work: &mut Work)
+    requires in_range { AreInRange g.now ms.now.touches }
+    requires meters { length ms.now.touches ≡ length a.now.slots }
+    ensures same { work.new ≡ work.old }
+{
+    for m in 0..ms.count() {
+        if a.branch_of(m).is_none() {
+            work.note_near(g, ms, m);
+        }
+    }
+}
+
+/// Tells by a closing search which meters are critical, and notes the live meters without a pair.
+fn prepare<L: Ledger>(
+    g: &Graph,
+    ms: &Meters,
+    a: &mut Assignment,
+    work: &mut Work,
+    steps: &mut Steps<L>,
+)
+    requires branches { AreBranches g.now.vertices g.now.ends }
+    requires longest { IsLongest g.now ms.now.touches a.old }
+    requires in_range { AreInRange g.now ms.now.touches }
+    requires room { HasRoomFor work.old.sizes g.now ms.now.touches }
+    ensures same { a.new ≡ a.old }
+    ensures prepared { IsPrepared g.now ms.now.touches a.old work.new (length (pairs a.old)) }
+    ensures same_sizes { work.new.sizes ≡ work.old.sizes }
+{
+    close(g, ms, a, work, steps);
+    work.loosen();
+    work.narrow();
+    work.note_sources(g, ms, a);
+    note_near(g, ms, a, work);
 }
 
 /// Makes a longest assignment the first one: of the longest assignments the least, compared meter by meter, where a
@@ -47,7 +86,7 @@ pub fn first<L: Ledger>(
 {
     let _ = g.vertices();
     let rank = thaw(a);
-    work.note_sources(g, ms, a);
+    prepare(g, ms, a, work, steps);
     let mut taken = 0;
     for m in 0..ms.count() {
         taken = decide(g, ms, a, m, rank, taken, work, steps);

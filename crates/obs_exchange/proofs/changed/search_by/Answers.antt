@@ -49,6 +49,9 @@ returns-clause-noted g c = ap (λ (w : Work). w.noted) c.change-2.ensures.change
 pub returns-clause-same_sizes : goal.returns-clause-same_sizes
 returns-clause-same_sizes g c = ap (λ (w : Work). w.sizes) c.change-2.ensures.changed ∙ c.run-found.ensures.same_sizes ∙ ap (λ (w : Work). w.sizes) c.change.ensures.changed
 
+pub returns-clause-same_loose : goal.returns-clause-same_loose
+returns-clause-same_loose g c = ap (λ (w : Work). w.loose) c.change-2.ensures.changed ∙ c.run-found.ensures.same_loose ∙ ap (λ (w : Work). w.loose) c.change.ensures.changed
+
 pub returns-clause-tick : goal.returns-clause-tick
 returns-clause-tick g c = c.run-found.ensures.tick
 

@@ -3,7 +3,7 @@ use Rattle.std.proofs.lemmas.List.{take_all}
 use Rattle.obs_matroid.specs.Lists.{In}
 use Rattle.obs_matroid.proofs.Contained.{In-get_or}
 use Rattle.obs_meter.specs.Touches.{touch_at}
-use Rattle.obs_exchange.proofs.Lengthening.{room_again, rooms}
+use Rattle.obs_exchange.proofs.Lengthening.{rooms}
 use Rattle.obs_first.specs.Deciding.{HasRefused}
 use Rattle.obs_first.proofs.Aside.{enough_at_last}
 use Rattle.obs_first.proofs.Counting.{Decided-full, count_same, count_taken, next_thawed}
@@ -44,11 +44,9 @@ loop-e-preserved g c =
       trying = Trying-more c.args.g.now c.args.ms.now.touches c.args.a.now l.a b c.args.m c.args.rank (touch_at c.args.g.now.ends c.args.ms.now.touches c.args.m) l.e-index 0 l.invariant.trying (omega arith)
           (subst (λ e. HasRefused c.args.g.now.ends c.args.ms.now.touches l.a b c.args.m e c.args.rank) (ap (λ ys. get_or ys l.e-index 0) is) c.if-take_branch.ensures.taken.0)
           c.take_branch.ensures.keeps c.take_branch.ensures.stands c.take_branch.ensures.whole;
-      room = room_again c.args.g.now c.args.ms.now.touches l.work.sizes c.take_branch.new.work.sizes c.take_branch.ensures.same_sizes l.invariant.room;
       same_room = rooms c.args.a.now l.a b l.invariant.same_room c.take_branch.ensures.same_room;
       same_sizes = c.take_branch.ensures.same_sizes ∙ l.invariant.same_sizes;
-      noted = c.take_branch.ensures.noted;
-      copied = c.take_branch.ensures.copied;
+      prepared = c.take_branch.ensures.prepared;
       under_way = c.if-take_branch.ensures.taken.1;
     }
 
@@ -64,11 +62,9 @@ loop-e-preserved-then-e-low g c =
     record {
       trying = Trying-passed c.args.g.now touches c.args.a.now l.a c.args.m c.args.rank xs k 0 l.invariant.trying (omega arith)
           (refused_passed c.args.g.now touches c.args.a.now c.args.m c.args.rank (get_or xs k 0) c.requires.decided c.requires.m passed);
-      room = l.invariant.room;
       same_room = l.invariant.same_room;
       same_sizes = l.invariant.same_sizes;
-      noted = l.invariant.noted;
-      copied = l.invariant.copied;
+      prepared = l.invariant.prepared;
       under_way = l.invariant.under_way;
     }
 
@@ -119,15 +115,6 @@ take_branch-requires-clause-stands g c = c.loop-e.invariant.trying.stands
 pub take_branch-requires-clause-in_range : goal.take_branch-requires-clause-in_range
 take_branch-requires-clause-in_range g c = c.requires.in_range
 
-pub take_branch-requires-clause-room : goal.take_branch-requires-clause-room
-take_branch-requires-clause-room g c = c.loop-e.invariant.room
-
-pub take_branch-requires-clause-noted : goal.take_branch-requires-clause-noted
-take_branch-requires-clause-noted g c = c.loop-e.invariant.noted
-
-pub take_branch-requires-clause-copied : goal.take_branch-requires-clause-copied
-take_branch-requires-clause-copied g c = c.loop-e.invariant.copied
-
 pub take_branch-requires-clause-m : goal.take_branch-requires-clause-m
 take_branch-requires-clause-m g c = c.requires.m
 
@@ -149,12 +136,6 @@ returns-then-take_branch-clause-same_room g c = rooms c.args.a.now c.loop-e.a c.
 pub returns-then-take_branch-clause-same_sizes : goal.returns-then-take_branch-clause-same_sizes
 returns-then-take_branch-clause-same_sizes g c = c.take_branch.ensures.same_sizes ∙ c.loop-e.invariant.same_sizes
 
-pub returns-then-take_branch-clause-noted : goal.returns-then-take_branch-clause-noted
-returns-then-take_branch-clause-noted g c = c.take_branch.ensures.noted
-
-pub returns-then-take_branch-clause-copied : goal.returns-then-take_branch-clause-copied
-returns-then-take_branch-clause-copied g c = c.take_branch.ensures.copied
-
 pub returns-clause-stands : goal.returns-clause-stands
 returns-clause-stands g c = c.loop-e.invariant.trying.stands
 
@@ -167,14 +148,17 @@ returns-clause-same_room g c = c.loop-e.invariant.same_room
 pub returns-clause-same_sizes : goal.returns-clause-same_sizes
 returns-clause-same_sizes g c = c.loop-e.invariant.same_sizes
 
-pub returns-clause-noted : goal.returns-clause-noted
-returns-clause-noted g c = c.loop-e.invariant.noted
-
-pub returns-clause-copied : goal.returns-clause-copied
-returns-clause-copied g c = c.loop-e.invariant.copied
-
 pub take_branch-requires-clause-branches : goal.take_branch-requires-clause-branches
 take_branch-requires-clause-branches g c = c.requires.branches
 
 pub take_branch-requires-clause-whole : goal.take_branch-requires-clause-whole
 take_branch-requires-clause-whole g c = c.loop-e.invariant.trying.whole
+
+pub take_branch-requires-clause-prepared : goal.take_branch-requires-clause-prepared
+take_branch-requires-clause-prepared g c = c.loop-e.invariant.prepared
+
+pub returns-then-take_branch-clause-prepared : goal.returns-then-take_branch-clause-prepared
+returns-then-take_branch-clause-prepared g c = c.take_branch.ensures.prepared
+
+pub returns-clause-prepared : goal.returns-clause-prepared
+returns-clause-prepared g c = c.loop-e.invariant.prepared

@@ -1,9 +1,6 @@
 use Rattle.std.proofs.Common.{◌≡◌, length}
 use Rattle.obs_assign.specs.Assignment.{HasRoomOf, IsWhole, StandsOver}
-use Rattle.obs_meter.specs.Sizes.{HasRoomFor}
-use Rattle.obs_exchange.specs.declared.Sources.TheVariants.{All}
-use Rattle.obs_exchange.specs.Noting.{AreNoted}
-use Rattle.obs_first.specs.Deciding.{IsDecided, frozen_pairs}
+use Rattle.obs_first.specs.Deciding.{IsDecided, IsPrepared, frozen_pairs}
 use Rattle.obs_first.proofs.least.first.Given as goal
 
 abbrev pub invariant-loop-m : goal.invariant-loop-m
@@ -12,9 +9,7 @@ invariant-loop-m g l = record {
   taken : l.taken ≡ length (frozen_pairs l.a);
   whole : IsWhole l.a;
   stands : StandsOver l.a l.g l.ms.touches;
-  room : HasRoomFor l.work.sizes l.g l.ms.touches;
   same_room : HasRoomOf l.fn.a l.a;
   same_sizes : l.work.sizes ≡ l.fn.work.sizes;
-  noted : AreNoted l.g.ends l.ms.touches All l.a l.work.noted;
-  copied : l.work.touches ≡ l.ms.touches;
+  prepared : IsPrepared l.g l.ms.touches l.a l.work l.rank;
 }

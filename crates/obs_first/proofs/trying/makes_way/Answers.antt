@@ -1,11 +1,9 @@
 use Rattle.std.proofs.Common.{◌≡◌, ◌∙◌, false, ap, sym, subst, arith}
 use Rattle.std.specs.Prelude.{MatchBool}
 use Rattle.obs_assign.specs.Assignment.{Assignment, HasRoomOf, IsWhole, StandsOver, branch_at, is_frozen}
-use Rattle.obs_exchange.specs.declared.Sources.TheVariants.{All}
-use Rattle.obs_exchange.specs.Noting.{AreNoted}
-use Rattle.obs_exchange.proofs.Lengthening.{room_again, rooms}
+use Rattle.obs_exchange.proofs.Lengthening.{rooms}
 use Rattle.obs_exchange.proofs.Walking.{touched_there}
-use Rattle.obs_first.specs.Deciding.{AreEnoughFor, HasRefused, IsUnderWay, KeepsFrozen}
+use Rattle.obs_first.specs.Deciding.{AreEnoughFor, HasRefused, IsPrepared, IsUnderWay, KeepsFrozen}
 use Rattle.obs_first.proofs.Frozen.{KeepsFrozen-on}
 use Rattle.obs_first.proofs.Aside.{way_or_refused}
 use Rattle.obs_first.proofs.Taking.{HasRefused-joined}
@@ -45,15 +43,6 @@ set_aside-requires-clause-stands g c = subst (λ (d : Assignment). StandsOver d 
 pub set_aside-requires-clause-in_range : goal.set_aside-requires-clause-in_range
 set_aside-requires-clause-in_range g c = c.requires.in_range
 
-pub set_aside-requires-clause-room : goal.set_aside-requires-clause-room
-set_aside-requires-clause-room g c = c.requires.room
-
-pub set_aside-requires-clause-noted : goal.set_aside-requires-clause-noted
-set_aside-requires-clause-noted g c = subst (λ (d : Assignment). AreNoted c.args.g.now.ends c.args.ms.now.touches All d c.args.work.now.noted) (sym c.may_pin.ensures.same) c.requires.noted
-
-pub set_aside-requires-clause-copied : goal.set_aside-requires-clause-copied
-set_aside-requires-clause-copied g c = c.requires.copied
-
 pub set_aside-requires-clause-m : goal.set_aside-requires-clause-m
 set_aside-requires-clause-m g c = c.requires.m
 
@@ -68,15 +57,6 @@ reaches-requires-clause-stands g c = c.set_aside.ensures.stands
 
 pub reaches-requires-clause-in_range : goal.reaches-requires-clause-in_range
 reaches-requires-clause-in_range g c = c.requires.in_range
-
-pub reaches-requires-clause-room : goal.reaches-requires-clause-room
-reaches-requires-clause-room g c = room_again c.args.g.now c.args.ms.now.touches c.args.work.now.sizes c.set_aside.new.work.sizes c.set_aside.ensures.same_sizes c.requires.room
-
-pub reaches-requires-clause-noted : goal.reaches-requires-clause-noted
-reaches-requires-clause-noted g c = c.set_aside.ensures.noted
-
-pub reaches-requires-clause-copied : goal.reaches-requires-clause-copied
-reaches-requires-clause-copied g c = c.set_aside.ensures.copied
 
 pub reaches-requires-clause-m : goal.reaches-requires-clause-m
 reaches-requires-clause-m g c = c.requires.m
@@ -105,12 +85,6 @@ returns-else-set_aside-clause-same_room g c = rooms c.args.a.now c.set_aside.new
 pub returns-else-set_aside-clause-same_sizes : goal.returns-else-set_aside-clause-same_sizes
 returns-else-set_aside-clause-same_sizes g c = c.reaches.ensures.same_sizes ∙ c.set_aside.ensures.same_sizes
 
-pub returns-else-set_aside-clause-noted : goal.returns-else-set_aside-clause-noted
-returns-else-set_aside-clause-noted g c = c.reaches.ensures.noted
-
-pub returns-else-set_aside-clause-copied : goal.returns-else-set_aside-clause-copied
-returns-else-set_aside-clause-copied g c = c.reaches.ensures.copied
-
 pub returns-then-set_aside-clause-frozen : goal.returns-then-set_aside-clause-frozen
 returns-then-set_aside-clause-frozen g c = c.set_aside.ensures.frozen ∙ ap (λ (d : Assignment). d.frozen) c.may_pin.ensures.same
 
@@ -129,8 +103,23 @@ returns-then-not-may_pin-clause-keeps g c = λ k f. ap (λ (d : Assignment). bra
 pub returns-then-not-may_pin-clause-stands : goal.returns-then-not-may_pin-clause-stands
 returns-then-not-may_pin-clause-stands g c = subst (λ (d : Assignment). StandsOver d c.args.g.now c.args.ms.now.touches) (sym c.may_pin.ensures.same) c.requires.stands
 
-pub returns-then-not-may_pin-clause-noted : goal.returns-then-not-may_pin-clause-noted
-returns-then-not-may_pin-clause-noted g c = subst (λ (d : Assignment). AreNoted c.args.g.now.ends c.args.ms.now.touches All d c.args.work.now.noted) (sym c.may_pin.ensures.same) c.requires.noted
-
 pub returns-then-not-may_pin-clause-whole : goal.returns-then-not-may_pin-clause-whole
 returns-then-not-may_pin-clause-whole g c = subst (λ (d : Assignment). IsWhole d) (sym c.may_pin.ensures.same) c.requires.whole
+
+pub set_aside-requires-clause-branches : goal.set_aside-requires-clause-branches
+set_aside-requires-clause-branches g c = c.requires.branches
+
+pub set_aside-requires-clause-whole : goal.set_aside-requires-clause-whole
+set_aside-requires-clause-whole g c = subst (λ (d : Assignment). IsWhole d) (sym c.may_pin.ensures.same) c.requires.whole
+
+pub set_aside-requires-clause-prepared : goal.set_aside-requires-clause-prepared
+set_aside-requires-clause-prepared g c = subst (λ (d : Assignment). IsPrepared c.args.g.now c.args.ms.now.touches d c.args.work.now c.args.rank) (sym c.may_pin.ensures.same) c.requires.prepared
+
+pub reaches-requires-clause-prepared : goal.reaches-requires-clause-prepared
+reaches-requires-clause-prepared g c = (c.args.rank, c.set_aside.ensures.prepared)
+
+pub returns-else-set_aside-clause-prepared : goal.returns-else-set_aside-clause-prepared
+returns-else-set_aside-clause-prepared g c = c.reaches.ensures.prepared c.args.rank c.set_aside.ensures.prepared
+
+pub returns-then-not-may_pin-clause-prepared : goal.returns-then-not-may_pin-clause-prepared
+returns-then-not-may_pin-clause-prepared g c = subst (λ (d : Assignment). IsPrepared c.args.g.now c.args.ms.now.touches d c.args.work.now c.args.rank) (sym c.may_pin.ensures.same) c.requires.prepared

@@ -1,5 +1,5 @@
-use Rattle.std.proofs.Common.{◌≡◌, ◌<◌, ◌∙◌, true, false, length, set, sym, ap, subst, inl, arith}
-use Rattle.obs_assign.specs.Assignment.{Assignment, HasRoomOf, IsWhole, StandsOver, branch_at, is_frozen}
+use Rattle.std.proofs.Common.{◌≡◌, ℕ, ◌<◌, ◌∙◌, Bool, true, false, List, length, set, sym, ap, subst, inl, arith, get_or-set_other}
+use Rattle.obs_assign.specs.Assignment.{Assignment, HasRoomOf, IsWhole, StandsOver, branch_at, has_flag, is_frozen}
 use Rattle.obs_assign.specs.Spare.{IsSpare}
 use Rattle.obs_assign.proofs.Afterwards.{pin_kept, pin_taken}
 use Rattle.obs_exchange.specs.declared.Sources.TheVariants.{All}
@@ -9,8 +9,9 @@ use Rattle.obs_exchange.proofs.Lengthening.{rooms}
 use Rattle.obs_exchange.proofs.Walking.{touched_there}
 use Rattle.obs_meter.specs.Sizes.{Sizes}
 use Rattle.obs_matroid.proofs.Lists.{clash}
-use Rattle.obs_first.specs.Deciding.{AreEnoughFor, HasRefused, IsUnderWay, KeepsFrozen}
+use Rattle.obs_first.specs.Deciding.{AreEnoughFor, HasRefused, IsPrepared, IsUnderWay, KeepsFrozen}
 use Rattle.obs_first.proofs.Aside.{HasRefused-kept, pinned_long}
+use Rattle.obs_first.proofs.Beside.{IsPrepared-more}
 use Rattle.obs_first.proofs.Frozen.{frozen_same}
 use Rattle.obs_first.proofs.Taking.{AreNoted-pinned, HasRefused-joined}
 use Rattle.obs_first.proofs.trying.take_branch.Goals as goal
@@ -69,35 +70,40 @@ returns-clause-keeps g c =
     pin_kept s c.args.g.now.ends m c.args.e c.in-Some.x c.pin_for.new.self.slots p low k (λ y. clash f (ap (is_frozen a) y ∙ c.requires.thawed)) (λ y. clash there (ap (is_frozen s) y ∙ p.thawed))
     ∙ (ap (λ (d : Assignment). branch_at d k) same ∙ w.keeps k f)
 
-pub returns-clause-noted : goal.returns-clause-noted
-returns-clause-noted g c =
+pub returns-clause-prepared : goal.returns-clause-prepared
+returns-clause-prepared g c =
     let ends = c.args.g.now.ends in
     let touches = c.args.ms.now.touches in
+    let a = c.args.a.now in
+    let b = c.makes_way.new.a in
     let s = c.spare.new.self in
     let w = c.makes_way.ensures in
     let n = c.makes_way.new.work.noted in
+    let m = c.args.m in
     let same = sym c.spare.ensures.same in
-    let h : AreNoted ends touches All s n = subst (λ (d : Assignment). AreNoted ends touches All d n) same w.noted in
-    let low : c.args.m < length s.slots = subst (λ (d : Assignment). c.args.m < length d.slots) same (omega (arith, w.stands.meters, c.requires.m)) in
-    let first : c.note.new.self.noted ≡ record n { flags = set n.flags c.in-Some.x true } = ap (λ (v : Work). v.noted) c.note.ensures.noted in
-    let second = ap (λ (v : Work). v.noted) c.note-2.ensures.noted in
-    subst (λ (k : Noted). AreNoted ends touches All c.pin_for.new.self k) (sym (second ∙ ap (λ (k : Noted). record k { flags = set k.flags c.args.m false }) first))
-    (AreNoted-pinned ends touches s c.pin_for.new.self c.args.m c.args.e c.in-Some.x n low c.pin_for.ensures.pinned c.note.ensures.low h)
+    let h : AreNoted ends touches All s n = subst (λ (d : Assignment). AreNoted ends touches All d n) same w.prepared.noted in
+    let low : m < length s.slots = subst (λ (d : Assignment). m < length d.slots) same (omega (arith, w.stands.meters, c.requires.m)) in
+    let first = c.note.ensures.noted in
+    let second = c.note_near.ensures.same ∙ c.note-2.ensures.noted in
+    let p = c.pin_for.ensures.pinned in
+    let thawed : is_frozen b m ≡ false = frozen_same a b w.frozen m ∙ c.requires.thawed in
+    let there : (k : ℕ) → is_frozen b k ≡ true → is_frozen s k ≡ true = λ k f. ap (λ (d : Assignment). is_frozen d k) c.spare.ensures.same ∙ f in
+    let other : (k : ℕ) → is_frozen b k ≡ true → k ≡ m → ⊥ = λ k f y. clash f (ap (is_frozen b) y ∙ thawed) in
+    IsPrepared-more c.args.g.now touches b c.pin_for.new.self c.makes_way.new.work c.note_near.new.self c.args.rank
+    (ap (λ (v : Work). v.sizes) second ∙ ap (λ (v : Work). v.sizes) first) (ap (λ (v : Work). v.touches) second ∙ ap (λ (v : Work). v.touches) first) (ap (λ (v : Work). v.loose) second ∙ ap (λ (v : Work). v.loose) first)
+    (subst (λ (k : Noted). AreNoted ends touches All c.pin_for.new.self k) (sym (ap (λ (v : Work). v.noted) second ∙ ap (λ (k : Noted). record k { flags = set k.flags m false }) (ap (λ (v : Work). v.noted) first)))
+    (AreNoted-pinned ends touches s c.pin_for.new.self m c.args.e c.in-Some.x n low p c.note.ensures.low h))
+    (λ k f.
+    pin_kept s ends m c.args.e c.in-Some.x c.pin_for.new.self.slots p low k (other k f) (λ y. clash (there k f) (ap (is_frozen s) y ∙ p.thawed))
+    ∙ ap (λ (d : Assignment). branch_at d k) c.spare.ensures.same)
+    w.prepared
+    (λ k f. ap (λ (l : List Bool). has_flag l k) c.pin_for.ensures.frozen ∙ (get_or-set_other s.frozen m k true false (other k f) ∙ there k f))
 
 pub makes_way-requires-clause-stands : goal.makes_way-requires-clause-stands
 makes_way-requires-clause-stands g c = c.requires.stands
 
 pub makes_way-requires-clause-in_range : goal.makes_way-requires-clause-in_range
 makes_way-requires-clause-in_range g c = c.requires.in_range
-
-pub makes_way-requires-clause-room : goal.makes_way-requires-clause-room
-makes_way-requires-clause-room g c = c.requires.room
-
-pub makes_way-requires-clause-noted : goal.makes_way-requires-clause-noted
-makes_way-requires-clause-noted g c = c.requires.noted
-
-pub makes_way-requires-clause-copied : goal.makes_way-requires-clause-copied
-makes_way-requires-clause-copied g c = c.requires.copied
 
 pub makes_way-requires-clause-m : goal.makes_way-requires-clause-m
 makes_way-requires-clause-m g c = c.requires.m
@@ -136,13 +142,13 @@ pub note-requires : goal.note-requires
 note-requires g c =
     let same = ap (λ (d : Assignment). length d.slots) c.spare.ensures.same in
     let sizes = ap (λ (z : Sizes). z.meters) c.makes_way.ensures.same_sizes in
-    record { m = omega (arith, c.pin_for.ensures.pinned.low, same, c.makes_way.ensures.stands.meters, sizes, c.requires.room.meters) }
+    record { m = omega (arith, c.pin_for.ensures.pinned.low, same, c.makes_way.ensures.stands.meters, sizes, c.requires.prepared.room.meters) }
 
 pub note-requires-2 : goal.note-requires-2
 note-requires-2 g c =
     let sizes = ap (λ (v : Work). v.sizes.meters) c.note.ensures.noted in
     let before = ap (λ (z : Sizes). z.meters) c.makes_way.ensures.same_sizes in
-    record { m = omega (arith, c.requires.m, sizes, before, c.requires.room.meters) }
+    record { m = omega (arith, c.requires.m, sizes, before, c.requires.prepared.room.meters) }
 
 pub returns-then-not-makes_way-clause-taken : goal.returns-then-not-makes_way-clause-taken
 returns-then-not-makes_way-clause-taken g c = c.if-not-makes_way.ensures.way
@@ -162,12 +168,6 @@ returns-then-not-makes_way-clause-same_room g c = c.makes_way.ensures.same_room
 pub returns-then-not-makes_way-clause-same_sizes : goal.returns-then-not-makes_way-clause-same_sizes
 returns-then-not-makes_way-clause-same_sizes g c = c.makes_way.ensures.same_sizes
 
-pub returns-then-not-makes_way-clause-noted : goal.returns-then-not-makes_way-clause-noted
-returns-then-not-makes_way-clause-noted g c = c.makes_way.ensures.noted
-
-pub returns-then-not-makes_way-clause-copied : goal.returns-then-not-makes_way-clause-copied
-returns-then-not-makes_way-clause-copied g c = c.makes_way.ensures.copied
-
 pub returns-in_default-clause-keeps : goal.returns-in_default-clause-keeps
 returns-in_default-clause-keeps g c = subst (λ (d : Assignment). KeepsFrozen c.args.a.now d) (sym c.spare.ensures.same) c.makes_way.ensures.keeps
 
@@ -183,12 +183,6 @@ returns-in_default-clause-same_room g c = subst (λ (d : Assignment). HasRoomOf 
 pub returns-in_default-clause-same_sizes : goal.returns-in_default-clause-same_sizes
 returns-in_default-clause-same_sizes g c = c.makes_way.ensures.same_sizes
 
-pub returns-in_default-clause-noted : goal.returns-in_default-clause-noted
-returns-in_default-clause-noted g c = subst (λ (d : Assignment). AreNoted c.args.g.now.ends c.args.ms.now.touches All d c.makes_way.new.work.noted) (sym c.spare.ensures.same) c.makes_way.ensures.noted
-
-pub returns-in_default-clause-copied : goal.returns-in_default-clause-copied
-returns-in_default-clause-copied g c = c.makes_way.ensures.copied
-
 pub returns-clause-stands : goal.returns-clause-stands
 returns-clause-stands g c = c.pin_for.ensures.stands
 
@@ -199,13 +193,24 @@ pub returns-clause-same_room : goal.returns-clause-same_room
 returns-clause-same_room g c = rooms c.args.a.now c.makes_way.new.a c.pin_for.new.self c.makes_way.ensures.same_room (subst (λ (d : Assignment). HasRoomOf d c.pin_for.new.self) c.spare.ensures.same c.pin_for.ensures.same_room)
 
 pub returns-clause-same_sizes : goal.returns-clause-same_sizes
-returns-clause-same_sizes g c = ap (λ (v : Work). v.sizes) c.note-2.ensures.noted ∙ (ap (λ (v : Work). v.sizes) c.note.ensures.noted ∙ c.makes_way.ensures.same_sizes)
-
-pub returns-clause-copied : goal.returns-clause-copied
-returns-clause-copied g c = ap (λ (v : Work). v.touches) c.note-2.ensures.noted ∙ (ap (λ (v : Work). v.touches) c.note.ensures.noted ∙ c.makes_way.ensures.copied)
+returns-clause-same_sizes g c = ap (λ (v : Work). v.sizes) c.note_near.ensures.same ∙ (ap (λ (v : Work). v.sizes) c.note-2.ensures.noted ∙ (ap (λ (v : Work). v.sizes) c.note.ensures.noted ∙ c.makes_way.ensures.same_sizes))
 
 pub makes_way-requires-clause-branches : goal.makes_way-requires-clause-branches
 makes_way-requires-clause-branches g c = c.requires.branches
 
 pub makes_way-requires-clause-whole : goal.makes_way-requires-clause-whole
 makes_way-requires-clause-whole g c = c.requires.whole
+
+pub makes_way-requires-clause-prepared : goal.makes_way-requires-clause-prepared
+makes_way-requires-clause-prepared g c = c.requires.prepared
+
+pub returns-then-not-makes_way-clause-prepared : goal.returns-then-not-makes_way-clause-prepared
+returns-then-not-makes_way-clause-prepared g c = c.makes_way.ensures.prepared
+
+pub returns-in_default-clause-prepared : goal.returns-in_default-clause-prepared
+returns-in_default-clause-prepared g c = subst (λ (d : Assignment). IsPrepared c.args.g.now c.args.ms.now.touches d c.makes_way.new.work c.args.rank) (sym c.spare.ensures.same) c.makes_way.ensures.prepared
+
+pub note_near-requires : goal.note_near-requires
+note_near-requires g c =
+    let same = ap (λ (d : Assignment). length d.slots) c.spare.ensures.same in
+    record { m = omega (arith, c.pin_for.ensures.pinned.low, same, c.makes_way.ensures.stands.meters); in_range = c.requires.in_range }

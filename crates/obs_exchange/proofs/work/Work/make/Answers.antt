@@ -1,4 +1,4 @@
-use Rattle.std.proofs.Common.{◌≡◌, false, length, refl, ap, ◌∙◌, arith}
+use Rattle.std.proofs.Common.{◌≡◌, false, length, refl, sym, ap, ◌∙◌, arith}
 use Rattle.std.proofs.lemmas.List.{length-replicate}
 use Rattle.obs_meter.specs.Held.{Meters}
 use Rattle.obs_exchange.specs.Noting.{Noted}
@@ -14,6 +14,7 @@ invariant_of-result c =
       omega arith,
       omega (arith, noted, marks),
       omega (arith, copied, marks),
+      ap length (c.in_ok-vec.ensures.items_if_clones_equal (λ y e. e)) ∙ length-replicate c.args.most_meters false ∙ sym marks,
     )
 
 pub returns : goal.returns
@@ -21,4 +22,4 @@ returns c =
     let made = c.in_ok-make.ensures.room in
     let marks = ap (λ (t : Trail). length t.marks) made.blank ∙ length-replicate c.args.most_meters false in
     let walked = ap (λ (t : Trail). length t.walked) made.blank ∙ length-replicate c.args.most_branches false in
-    record { empty = rw (marks, walked, made.room, c.in_ok-make-2.ensures.made, ap (λ (m : Meters). m.touches) c.in_ok-make-3.ensures.empty) refl }
+    record { empty = rw (marks, walked, made.room, c.in_ok-make-2.ensures.made, ap (λ (m : Meters). m.touches) c.in_ok-make-3.ensures.empty, c.in_ok-vec.ensures.items_if_clones_equal (λ y e. e)) refl }

@@ -17,6 +17,7 @@ invariant_of-self g c =
       omega (arith, i.1, same),
       i.2 ∙ sym same,
       i.3 ∙ sym same,
+      i.4 ∙ sym same,
     )
 
 pub invariant_of-self-in-Err : goal.invariant_of-self-in-Err
@@ -28,6 +29,7 @@ invariant_of-self-in-Err g c =
       c.in-Err.ensures.few,
       i.2 ∙ sym same,
       i.3 ∙ sym same,
+      i.4 ∙ sym same,
     )
 
 pub returns-in-Ok-clause-found : goal.returns-in-Ok-clause-found
@@ -102,6 +104,12 @@ returns-in-Ok-clause-same_touches g c = ap (λ (w : Work). w.touches) c.self.vie
 
 pub returns-in-Err-clause-same_touches : goal.returns-in-Err-clause-same_touches
 returns-in-Err-clause-same_touches g c = ap (λ (w : Work). w.touches) c.self.view_is
+
+pub returns-in-Ok-clause-same_loose : goal.returns-in-Ok-clause-same_loose
+returns-in-Ok-clause-same_loose g c = ap (λ (w : Work). w.loose) c.self.view_is
+
+pub returns-in-Err-clause-same_loose : goal.returns-in-Err-clause-same_loose
+returns-in-Err-clause-same_loose g c = ap (λ (w : Work). w.loose) c.self.view_is
 
 pub returns-in-Ok-clause-tick : goal.returns-in-Ok-clause-tick
 returns-in-Ok-clause-tick g c = c.grow-m.ensures.tick
