@@ -3,18 +3,24 @@ use Prim.Native.String.{String}
 use Rattle.std.specs.Prelude.{◌≡◌, List, [], ◌∷◌, codes, map, slice_index_or}
 use Rattle.obs_files.specs.declared.status.Status.{Status}
 use Rattle.obs_files.specs.declared.status.Status.TheVariants.{Done, Short, Usage, InputFault}
+use Rattle.obs_files.specs.Limits.{Limits, usual_limits}
 use Rattle.obs_files.specs.Words.{form_of}
 use Rattle.obs_engine.specs.Replies.{Reply}
 use Rattle.obs_engine.specs.Stated.{IsStated, Told}
 use Rattle.obs_worked.specs.Rows.{printed, typed}
 
--- the lines of the file of each word, by its position, and those of the input
-abbrev pub told_of : List (List String) → List String → Told
-told_of files input = record { file = λ w. typed (slice_index_or files w []); input = typed input }
+-- these limits, the lines of the file of each word, by its position, and those of the input
+abbrev pub told_of : Limits → List (List String) → List String → Told
+told_of limits files input = record { limits = limits; file = λ w. typed (slice_index_or files w []); input = typed input }
 
--- to these words, files and input no other reply is stated than this one
+-- with these limits no other reply is stated to these words, files and input than this one
+abbrev pub IsReplyWithin : Limits → List String → List (List String) → List String → Reply → Type 0
+IsReplyWithin limits words files input wanted =
+    (reply : Reply) → IsStated (form_of (map codes words)) (told_of limits files input) reply → reply ≡ wanted
+
+-- the same with the limits that hold where none are given
 abbrev pub IsReply : List String → List (List String) → List String → Reply → Type 0
-IsReply words files input wanted = (reply : Reply) → IsStated (form_of (map codes words)) (told_of files input) reply → reply ≡ wanted
+IsReply words files input wanted = IsReplyWithin usual_limits words files input wanted
 
 -- a reply of these lines
 abbrev pub reply_of : Status → List String → Reply
