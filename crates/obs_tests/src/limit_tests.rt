@@ -1,7 +1,7 @@
 // Runs with other limits than the usual ones: each form takes as many rows and bytes as the limits allow, and no more.
 use crate::reference_cases::NO_BRANCHES;
 use crate::tests::{Ended, Outside, QUIET, entries, kept, outcome, sink, source, texts};
-use crate::worked::{NO_METERS, NO_SWITCHES, SESSION, many_nodes, path};
+use crate::worked::{NO_METERS, NO_SWITCHES, PATH_BRANCHES, PATH_NODES, SESSION, many_nodes, path};
 use obs_engine::{Limits, Status, begin_session_within, run_within};
 use obs_io::{MemFiles, MemSink, MemSource};
 use std::alloc::Global;
@@ -345,12 +345,24 @@ fn few_rows_and_bytes_may_be_the_limits(rt: HostRuntime) -> Result<(), Fail> {
     has_fault(&rt, alloc, three, &TABLES, &files, fault)?;
     is_answered(&rt, alloc, four, &TABLES, &files, b"count\tbuses\t4\n")?;
     let fits = padded(alloc, NO_METERS, b'\n', 2494)?;
-    let files = [b"".as_slice(), files[1], files[2], files[3], &fits];
-    is_answered(&rt, alloc, four, &TABLES, &files, b"count\tbuses\t4\n")?;
+    let fitting = [
+        b"".as_slice(),
+        PATH_NODES,
+        NO_SWITCHES,
+        PATH_BRANCHES,
+        &fits,
+    ];
+    is_answered(&rt, alloc, four, &TABLES, &fitting, b"count\tbuses\t4\n")?;
     let long = padded(alloc, NO_METERS, b'\n', 2495)?;
-    let files = [b"".as_slice(), files[1], files[2], files[3], &long];
+    let longer = [
+        b"".as_slice(),
+        PATH_NODES,
+        NO_SWITCHES,
+        PATH_BRANCHES,
+        &long,
+    ];
     let fault = b"fault\tmeters\t0\t14\tTooLong\n";
-    has_fault(&rt, alloc, four, &TABLES, &files, fault)?;
+    has_fault(&rt, alloc, four, &TABLES, &longer, fault)?;
     ends_with(&rt, alloc, four, 2494, Status::Short)?;
     ends_with(&rt, alloc, four, 2495, Status::SessionTooLong)
 }
