@@ -268,6 +268,12 @@ fn ends_with(
     Ok(())
 }
 
+// A case of two buses and a branch, with blanks behind it.
+fn long_case(alloc: Global, head: &[u8], row: &[u8], tail: &[u8]) -> Result<Vec<u8>, Fail> {
+    let case = repeated(alloc, head, row, 1, tail)?;
+    padded(alloc, &case, b' ', 16_777_217)
+}
+
 #[test]
 fn each_form_has_the_bytes_of_its_limits(rt: HostRuntime) -> Result<(), Fail> {
     let alloc = rt.alloc();
@@ -275,35 +281,23 @@ fn each_form_has_the_bytes_of_its_limits(rt: HostRuntime) -> Result<(), Fail> {
     let files = [b"".as_slice(), &nodes, NO_SWITCHES, NO_BRANCHES, NO_METERS];
     let fault = b"fault\tnodes\t0\t14\tTooLong\n";
     are_large(&rt, alloc, &TABLES, &files, fault, b"count\tbuses\t1\n")?;
-    let cdf = repeated(alloc, CDF_HEAD, b"   1    2\n", 1, b"-999\n")?;
-    let long = padded(alloc, &cdf, b' ', 16_777_217)?;
+    let two = b"count\tbuses\t2\n";
+    let cdf = long_case(alloc, CDF_HEAD, b"   1    2\n", b"-999\n")?;
     let fault = b"fault\tcdf\t0\t14\tTooLong\n";
-    are_large(
-        &rt,
-        alloc,
-        &CDF,
-        &[b"", &long, NO_METERS],
-        fault,
-        b"count\tbuses\t2\n",
-    )?;
-    two_are_large(
-        &rt,
-        alloc,
-        &VERIFY,
-        &cdf,
-        &long,
-        b"fault\tcertificate\t0\t14\tTooLong\n",
-    )?;
-    let matpower = repeated(alloc, MATPOWER_HEAD, b"1 2 0 0 0 0 0 0 0 0 1\n", 1, b"]\n")?;
-    let long = padded(alloc, &matpower, b' ', 16_777_217)?;
+    are_large(&rt, alloc, &CDF, &[b"", &cdf, NO_METERS], fault, two)?;
+    let none = b"BUS DATA\n-999\nBRANCH DATA\n-999\n";
+    let fault = b"fault\tcertificate\t0\t14\tTooLong\n";
+    two_are_large(&rt, alloc, &VERIFY, none, &cdf, fault)?;
+    let row = b"1 2 0 0 0 0 0 0 0 0 1\n";
+    let matpower = long_case(alloc, MATPOWER_HEAD, row, b"]\n")?;
     let fault = b"fault\tmatpower\t0\t14\tTooLong\n";
     are_large(
         &rt,
         alloc,
         &MATPOWER,
-        &[b"", &long, NO_METERS],
+        &[b"", &matpower, NO_METERS],
         fault,
-        b"count\tbuses\t2\n",
+        two,
     )?;
     ends_with(
         &rt,
