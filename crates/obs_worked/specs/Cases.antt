@@ -1,6 +1,6 @@
 -- The cases on which the definitions are evaluated. Each is small enough to be worked out by hand.
 use Rattle.std.specs.Prelude.{true, false, List, [], ◌∷◌}
-use Rattle.obs_case.specs.Tables.{Tables}
+use Rattle.obs_case.specs.Tables.{Tables, usual_rows}
 use Rattle.obs_case.specs.declared.rows.Candidate.{Candidate}
 use Rattle.obs_case.specs.declared.rows.Kind.TheVariants.{Flow, Injection, Zero, Angle}
 use Rattle.obs_worked.specs.Rows.{absolute_node, branch, branch_out, candidate, meter, node, switch}
@@ -17,6 +17,7 @@ three_joined = record {
   branches = [];
   meters = [];
   candidates = [];
+  most = usual_rows;
 }
 
 -- three nodes, between the last two of which the switch is open
@@ -27,6 +28,7 @@ one_open = record {
   branches = [];
   meters = [];
   candidates = [];
+  most = usual_rows;
 }
 
 -- three nodes of one bus, which three switches in a ring join
@@ -37,6 +39,7 @@ ring = record {
   branches = [];
   meters = [];
   candidates = [];
+  most = usual_rows;
 }
 
 -- two components of two buses, of which the first has a source; the last branch is out of service
@@ -47,6 +50,7 @@ two_parts = record {
   branches = branch "L1" 0 1 ∷ branch "L2" 2 3 ∷ branch_out "L3" 0 1 ∷ [];
   meters = [];
   candidates = [];
+  most = usual_rows;
 }
 
 -- the same where a switch makes one bus of the second component, so that its branch isn't live
@@ -61,11 +65,12 @@ without_source = record {
   branches = branch "L1" 0 1 ∷ [];
   meters = meter "f1" Flow 0 ∷ [];
   candidates = [];
+  most = usual_rows;
 }
 
 -- one bus alone
 abbrev pub one_bus : Tables
-one_bus = record { nodes = node "a" true ∷ []; switches = []; branches = []; meters = []; candidates = [] }
+one_bus = record { nodes = node "a" true ∷ []; switches = []; branches = []; meters = []; candidates = []; most = usual_rows }
 
 -- a row of four buses: two flows measure its first branch, and an injection stands at its second bus
 abbrev pub row_of_four : Tables
@@ -75,6 +80,7 @@ row_of_four = record {
   branches = branch "L1" 0 1 ∷ branch "L2" 1 2 ∷ branch "L3" 2 3 ∷ [];
   meters = meter "f1" Flow 0 ∷ meter "f2" Flow 0 ∷ meter "ib" Injection 1 ∷ [];
   candidates = [];
+  most = usual_rows;
 }
 
 -- the same with three candidates, of which the second is bought
@@ -97,6 +103,7 @@ triangle = record {
   branches = branch "L1" 0 1 ∷ branch "L2" 1 2 ∷ branch "L3" 2 0 ∷ [];
   meters = meter "ia" Injection 0 ∷ meter "f1" Flow 0 ∷ [];
   candidates = [];
+  most = usual_rows;
 }
 
 -- two parallel branches, each with a flow
@@ -107,6 +114,7 @@ parallel = record {
   branches = branch "L1" 0 1 ∷ branch "L2" 0 1 ∷ [];
   meters = meter "f1" Flow 0 ∷ meter "f2" Flow 1 ∷ [];
   candidates = [];
+  most = usual_rows;
 }
 
 -- a star whose hub has the one injection
@@ -117,6 +125,7 @@ star = record {
   branches = branch "L1" 0 1 ∷ branch "L2" 0 2 ∷ branch "L3" 0 3 ∷ [];
   meters = meter "ih" Injection 0 ∷ [];
   candidates = [];
+  most = usual_rows;
 }
 
 -- a row of five buses with two injections, each of which touches branches that lead out of any smaller set that it would span
@@ -127,6 +136,7 @@ row_of_five = record {
   branches = branch "L1" 0 1 ∷ branch "L2" 1 2 ∷ branch "L3" 2 3 ∷ branch "L4" 3 4 ∷ [];
   meters = meter "ib" Injection 1 ∷ meter "ic" Injection 2 ∷ [];
   candidates = [];
+  most = usual_rows;
 }
 
 -- an absolute bus and another, with a flow between them and an angle meter
@@ -137,6 +147,7 @@ absolute_pair = record {
   branches = branch "L1" 0 1 ∷ [];
   meters = meter "f1" Flow 0 ∷ meter "g1" Angle 1 ∷ [];
   candidates = [];
+  most = usual_rows;
 }
 
 -- the same without the angle meter, which can be bought at either bus
@@ -154,6 +165,7 @@ behind_meters = record {
   branches = branch "L1" 0 1 ∷ [];
   meters = meter "m1" Zero 2 ∷ meter "m2" Angle 0 ∷ [];
   candidates = candidate "c1" Angle 0 0 ∷ candidate "c2" Flow 0 5 ∷ candidate "c3" Angle 2 6 ∷ [];
+  most = usual_rows;
 }
 
 -- two angle meters at one bus, and a flow
@@ -168,6 +180,7 @@ angles_apart = record {
   branches = branch "L1" 0 1 ∷ branch "L2" 1 2 ∷ [];
   meters = meter "g1" Angle 0 ∷ meter "g2" Angle 2 ∷ [];
   candidates = [];
+  most = usual_rows;
 }
 
 -- a row of three buses with two flows at each branch
@@ -178,6 +191,7 @@ two_classes = record {
   branches = branch "L1" 0 1 ∷ branch "L2" 1 2 ∷ [];
   meters = meter "f1" Flow 0 ∷ meter "f2" Flow 1 ∷ meter "g1" Flow 0 ∷ meter "g2" Flow 1 ∷ [];
   candidates = [];
+  most = usual_rows;
 }
 
 -- three flows at one branch: any two of them can be lost
@@ -188,6 +202,7 @@ three_flows = record {
   branches = branch "L1" 0 1 ∷ [];
   meters = meter "f1" Flow 0 ∷ meter "f2" Flow 0 ∷ meter "f3" Flow 0 ∷ [];
   candidates = [];
+  most = usual_rows;
 }
 
 -- two buses that an open switch makes one station
@@ -198,6 +213,7 @@ open_station = record {
   branches = branch "L1" 0 1 ∷ [];
   meters = meter "f1" Flow 0 ∷ meter "ib" Injection 1 ∷ [];
   candidates = [];
+  most = usual_rows;
 }
 
 -- two parallel branches that lead from either side, each with a flow

@@ -2,19 +2,25 @@
 use Prim.Native.String.{String}
 use Rattle.std.specs.Prelude.{◌≡◌, List, [], ◌∷◌, codes, map, slice_index_or}
 use Rattle.obs_files.specs.declared.status.Status.{Status}
-use Rattle.obs_files.specs.declared.status.Status.TheVariants.{Done, Short, Usage, InputFault}
+use Rattle.obs_files.specs.declared.status.Status.TheVariants.{Done, Short, Usage, InputFault, SessionTooLong}
+use Rattle.obs_files.specs.Limits.{Limits, large_limits, limits_of, usual_limits}
 use Rattle.obs_files.specs.Words.{form_of}
 use Rattle.obs_engine.specs.Replies.{Reply}
 use Rattle.obs_engine.specs.Stated.{IsStated, Told}
 use Rattle.obs_worked.specs.Rows.{printed, typed}
 
--- the lines of the file of each word, by its position, and those of the input
-abbrev pub told_of : List (List String) → List String → Told
-told_of files input = record { file = λ w. typed (slice_index_or files w []); input = typed input }
+-- these limits, the lines of the file of each word, by its position, and those of the input
+abbrev pub told_of : Limits → List (List String) → List String → Told
+told_of limits files input = record { limits = limits; file = λ w. typed (slice_index_or files w []); input = typed input }
 
--- to these words, files and input no other reply is stated than this one
+-- with these limits no other reply is stated to these words, files and input than this one
+abbrev pub IsReplyWithin : Limits → List String → List (List String) → List String → Reply → Type 0
+IsReplyWithin limits words files input wanted =
+    (reply : Reply) → IsStated (form_of (map codes words)) (told_of limits files input) reply → reply ≡ wanted
+
+-- the same with the limits that hold where none are given
 abbrev pub IsReply : List String → List (List String) → List String → Reply → Type 0
-IsReply words files input wanted = (reply : Reply) → IsStated (form_of (map codes words)) (told_of files input) reply → reply ≡ wanted
+IsReply words files input wanted = IsReplyWithin usual_limits words files input wanted
 
 -- a reply of these lines
 abbrev pub reply_of : Status → List String → Reply
@@ -103,3 +109,42 @@ abbrev pub UsageIsAnswered : Type 0
 UsageIsAnswered =
     IsReply ("report" ∷ "tables" ∷ "n" ∷ []) [] [] usage
     × IsReply ("trial" ∷ "0" ∷ "5" ∷ []) [] [] usage
+
+-- the limits that hold where none are given, and the largest
+abbrev pub LimitsAreGiven : Type 0
+LimitsAreGiven = (usual_limits ≡ limits_of 20000 16777216) × (large_limits ≡ limits_of 1000000 1073741824)
+
+-- the files of two words that have three nodes and two switches, and the reply to them
+abbrev pub three_nodes : List (List String)
+three_nodes = [] ∷ ("node,source" ∷ "a,1" ∷ "b,0" ∷ "c,0" ∷ []) ∷ ("switch,from,to,closed" ∷ "S1,a,b,1" ∷ "S2,b,c,0" ∷ []) ∷ []
+
+abbrev pub three_named : Reply
+three_named = reply_of Done ("node a a" ∷ "node b a" ∷ "node c c" ∷ "count buses 2" ∷ "end" ∷ [])
+
+-- so many rows are well in a table, and one more is too many
+abbrev pub RowsAreLimited : Type 0
+RowsAreLimited =
+    IsReplyWithin (limits_of 3 100) ("topology" ∷ "n" ∷ "s" ∷ []) three_nodes [] three_named
+    × IsReplyWithin (limits_of 2 100) ("topology" ∷ "n" ∷ "s" ∷ []) three_nodes [] (reply_of InputFault ("fault nodes 3 12 TooMany" ∷ []))
+    × IsReplyWithin (limits_of 1 1000) ("report" ∷ "cdf" ∷ "c" ∷ "m" ∷ []) (file_and_flow (cdf_lines "   2 Bus 2     HV  1  1  0")) []
+    (reply_of InputFault ("fault cdf 4 9 TooMany" ∷ []))
+    × IsReplyWithin (limits_of 1 1000) ("report" ∷ "matpower" ∷ "c" ∷ "m" ∷ []) (file_and_flow (mat_lines " 1 3 0; 2 1 0;")) []
+    (reply_of InputFault ("fault matpower 3 9 TooMany" ∷ []))
+
+-- a file of so many bytes is well, and one of a byte more is too long, whatever its rows are. The longer file has 40 bytes
+abbrev pub FilesAreLimited : Type 0
+FilesAreLimited =
+    IsReplyWithin (limits_of 3 40) ("topology" ∷ "n" ∷ "s" ∷ []) three_nodes [] three_named
+    × IsReplyWithin (limits_of 3 39) ("topology" ∷ "n" ∷ "s" ∷ []) three_nodes [] (reply_of InputFault ("fault switches 0 14 TooLong" ∷ []))
+
+-- a session of the row of four buses over this input, where the longest file has 67 bytes, which is the limit
+abbrev pub IsSessionOfRow : List String → Reply → Type 0
+IsSessionOfRow input wanted =
+    IsReplyWithin (limits_of 4 67) ("session" ∷ "tables" ∷ "n" ∷ "s" ∷ "b" ∷ "m" ∷ [])
+    (row_files ("node,source" ∷ "a,1" ∷ "b,0" ∷ "c,0" ∷ "d,0" ∷ [])) input wanted
+
+-- an input of so many bytes is answered whole, and of one of a byte more each line that ends within them
+abbrev pub InputsAreLimited : Type 0
+InputsAreLimited =
+    IsSessionOfRow ("trip L1" ∷ "# a remark of as many bytes as are left for a line" ∷ "trip L2" ∷ []) (reply_of Done ("ok 0 0" ∷ "ok 0 0" ∷ []))
+    × IsSessionOfRow ("trip L1" ∷ "# a remark of as many bytes as are left for a line." ∷ "trip L2" ∷ []) (reply_of SessionTooLong ("ok 0 0" ∷ []))

@@ -1,6 +1,7 @@
 -- The answers to the lines of sessions over worked cases.
 use Rattle.std.specs.Prelude.{false, [], ◌∷◌}
 use Rattle.obs_files.specs.declared.status.Status.TheVariants.{Done, Short}
+use Rattle.obs_files.specs.Limits.{usual_limits}
 use Rattle.obs_engine.specs.Sessions.{session_reply}
 use Rattle.obs_worked.specs.Cases.{ring, row_of_four}
 use Rattle.obs_worked.specs.Reports.{IsPrinted}
@@ -8,7 +9,7 @@ use Rattle.obs_worked.specs.Rows.{typed}
 
 -- a switch of a ring is opened and nothing is parted, and then a second one; each time the counts are asked for
 abbrev pub SwitchesAreOpened : Type 0
-SwitchesAreOpened = IsPrinted (session_reply false ring (typed ("open S3" ∷ "status" ∷ "open S1" ∷ "status" ∷ []))) Done (
+SwitchesAreOpened = IsPrinted (session_reply usual_limits.bytes false ring (typed ("open S3" ∷ "status" ∷ "open S1" ∷ "status" ∷ []))) Done (
     "ok 0 0"
     ∷ "count buses 1" ∷ "count energised 1" ∷ "count branches 0" ∷ "count meters 0" ∷ "count needed 0" ∷ "count rank 0" ∷ "verdict observable" ∷ "end"
     ∷ "ok 0 0"
@@ -17,7 +18,7 @@ SwitchesAreOpened = IsPrinted (session_reply false ring (typed ("open S3" ∷ "s
 
 -- a meter is lost and a branch tripped; the answers are those of the case after both
 abbrev pub LossesAreAnswered : Type 0
-LossesAreAnswered = IsPrinted (session_reply false row_of_four (typed ("lose f2" ∷ "trip L3" ∷ "tree" ∷ "islands" ∷ "critical" ∷ []))) Done (
+LossesAreAnswered = IsPrinted (session_reply usual_limits.bytes false row_of_four (typed ("lose f2" ∷ "trip L3" ∷ "tree" ∷ "islands" ∷ "critical" ∷ []))) Done (
     "ok 2 3" ∷ "ok 2 2"
     ∷ "tree a" ∷ "pair meter f1 L1" ∷ "pair meter ib L2" ∷ "end"
     ∷ "island a a" ∷ "island a b" ∷ "island a c" ∷ "end"
@@ -26,6 +27,6 @@ LossesAreAnswered = IsPrinted (session_reply false row_of_four (typed ("lose f2"
 -- each refusal; an empty line and a remark have no answer
 abbrev pub LinesAreRefused : Type 0
 LinesAreRefused = IsPrinted
-    (session_reply false row_of_four (typed ("place" ∷ "trip" ∷ "trip " ∷ "report x" ∷ "trip L9" ∷ "lose z" ∷ "open S9" ∷ "" ∷ "# note" ∷ []))) Short (
+    (session_reply usual_limits.bytes false row_of_four (typed ("place" ∷ "trip" ∷ "trip " ∷ "report x" ∷ "trip L9" ∷ "lose z" ∷ "open S9" ∷ "" ∷ "# note" ∷ []))) Short (
     "refused 8 NoCandidates" ∷ "refused 4 WordMissing" ∷ "refused 3 BadName" ∷ "refused 1 UnknownCommand" ∷ "refused 6 UnknownBranch"
     ∷ "refused 7 UnknownMeter" ∷ "refused 5 UnknownSwitch" ∷ [])

@@ -1,5 +1,5 @@
 // What is stated of whole calls.
-ghost use Rattle.obs_worked.specs.Runs.{CdfIsAnswered, FaultIsAnswered, MatIsAnswered, ReportIsAnswered, SessionIsAnswered, TopologyIsAnswered, UsageIsAnswered};
+ghost use Rattle.obs_worked.specs.Runs.{CdfIsAnswered, FaultIsAnswered, FilesAreLimited, InputsAreLimited, LimitsAreGiven, MatIsAnswered, ReportIsAnswered, RowsAreLimited, SessionIsAnswered, TopologyIsAnswered, UsageIsAnswered};
 
 /// Words and files have one reply, which is that of the case that the files are.
 pub fn answers()
@@ -18,4 +18,12 @@ pub fn formats()
 pub fn refusals()
     ensures fault { FaultIsAnswered }
     ensures usage { UsageIsAnswered }
+{}
+
+/// Rows, files and an input that are just as many or as long as the limits say are well, and one row or byte more isn't.
+pub fn limits()
+    ensures given { LimitsAreGiven }
+    ensures rows { RowsAreLimited }
+    ensures bytes { FilesAreLimited }
+    ensures input { InputsAreLimited }
 {}
