@@ -7,7 +7,7 @@ Writes into FOLDER a cargo workspace of these crates with no clause, no model an
 FOLDER/bodies. With the word again it builds what stands there, so bodies can be changed in FOLDER/obs_*/src. Nothing is proved. In place
 of obs_case and obs_script stand bodies/case.rs and bodies/script.rs, which read tables without quotes and find no fault. The program takes
 
-    bodies report|place|outages|session NODES SWITCHES BRANCHES METERS [CANDIDATES]
+    bodies report|place|outages|pairs|stations|session NODES SWITCHES BRANCHES METERS [CANDIDATES]
 
 and a session's lines from standard input. On standard error it says how long it took, by kinds of lines too, how many searches were made,
 and a number that all answers went into: two bodies that answer alike have the same. It needs cargo and rustc.
@@ -20,7 +20,7 @@ import sys
 
 CRATES = (
     "obs_graph obs_forest obs_meter obs_assign obs_exchange obs_rankcut obs_critical obs_first obs_islands obs_placement obs_switch "
-    "obs_network obs_kept obs_outage obs_repair obs_edit"
+    "obs_network obs_kept obs_outage obs_pairs obs_station obs_repair obs_edit"
 ).split()
 # What a plain file takes the place of, each a crate of its own.
 STANDS = {"obs_case": "case.rs", "obs_script": "script.rs", "shim": "shim.rs"}
@@ -143,7 +143,7 @@ def write_all(folder):
     for name, file in STANDS.items():
         manifest(folder, name, [])
         write(os.path.join(folder, name, "src", "lib.rs"), open(os.path.join(HERE, "bodies", file)).read())
-    used = ["shim", "obs_case", "obs_script", "obs_assign", "obs_network", "obs_placement", "obs_outage", "obs_edit"]
+    used = "shim obs_case obs_script obs_assign obs_network obs_placement obs_kept obs_outage obs_pairs obs_station obs_edit".split()
     manifest(folder, "drive", used)
     write(os.path.join(folder, "drive", "src", "main.rs"), open(os.path.join(HERE, "bodies", "main.rs")).read())
     write(os.path.join(folder, "Cargo.toml"), WORKSPACE)

@@ -2,10 +2,12 @@
 """Measures the program over full tables of shapes, and prints a row of docs/MEASURED.md for each.
 
 Usage: tools/times.py PROGRAM [--studies] [SHAPE..]
+       tools/times.py PROGRAM [--studies] FOLDER/METERS.csv..
 
 The shapes are those of tools/shapes.py, all where none is named. Of each it gives the user time of `report`, of `place` with all meters and
-with a tenth of them, and of `topology`, or with --studies that of `outages`, `pairs` and `stations`, and the most memory of these. A run
-that has taken 100 seconds of processor time is ended, one of a study after 300.
+with a tenth of them, and of `topology`, or with --studies that of `outages`, `pairs` and `stations`, and the most memory of these. Of a
+table of meters with the other tables beside it in a folder, as tools/networks.py writes them, it gives those of `report`, of `place` with
+candidates.csv and of `topology`, or of the studies. A run that has taken 100 seconds of processor time is ended, one of a study after 300.
 """
 import os
 import resource
@@ -46,6 +48,12 @@ COMMANDS = {
     "`place`, few meters": ["place", "tables", *TABLES, "few.csv", "candidates.csv"],
     "`topology`": ["topology", *TABLES[:2]],
 }
+# Those over a folder's tables; behind the last one stands the table of meters, but for `topology`.
+COMMANDS_OF_FOLDERS = {
+    "`report`": ["report", "tables", *TABLES, "meters.csv"],
+    "`place`": COMMANDS["`place`, all meters"],
+    "`topology`": COMMANDS["`topology`"],
+}
 COMMANDS_OF_STUDIES = {f"`{study}`": [study, "tables", *TABLES, "meters.csv"] for study in STUDIES}
 
 
@@ -55,11 +63,26 @@ def row(program, name, folder, commands):
     return f"| `{name}` | {' | '.join(shown(seconds) for seconds, _ in found)} | {max(megabytes):.0f} MB |"
 
 
+def folder_row(program, path, commands):
+    """The row of a table of meters with the other tables beside it."""
+    folder, meters = os.path.split(os.path.abspath(path))
+    named = {head: [meters if word == "meters.csv" else word for word in words] for head, words in commands.items()}
+    return row(program, f"{os.path.basename(folder)}/{meters[:-4]}", folder, named)
+
+
 def main():
+    if len(sys.argv) < 2:
+        sys.exit(__doc__)
     program, names = os.path.abspath(sys.argv[1]), sys.argv[2:]
     of_studies = names[:1] == ["--studies"]
-    commands, names = (COMMANDS_OF_STUDIES, names[1:]) if of_studies else (COMMANDS, names)
+    names = names[1:] if of_studies else names
+    of_folders = bool(names) and all(name.endswith(".csv") for name in names)
+    commands = COMMANDS_OF_STUDIES if of_studies else COMMANDS_OF_FOLDERS if of_folders else COMMANDS
     print(f"| Tables | {' | '.join(commands)} | Memory |\n|{'---|' * (len(commands) + 2)}", flush=True)
+    if of_folders:
+        for path in names:
+            print(folder_row(program, path, commands), flush=True)
+        return
     for name in names or shapes.SHAPES:
         with tempfile.TemporaryDirectory() as folder:
             shapes.write(name, folder)

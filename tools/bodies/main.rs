@@ -1,11 +1,14 @@
-//! Runs reports, placements, outages and sessions by the bodies without clauses, and says how long they took.
+//! Runs reports, placements, studies and sessions by the bodies without clauses, and says how long they took.
 
 use obs_assign::{Assignment, Steps};
 use obs_case::Case;
 use obs_edit::{Done, Session};
+use obs_kept::Kept;
 use obs_outage::Outages;
+use obs_pairs::{PairWork, find_classes};
 use obs_placement::Placement;
 use obs_script::Ask;
+use obs_station::StationWork;
 use shim::{Counted, Global};
 use std::io::Read;
 use std::time::Instant;
@@ -136,6 +139,36 @@ fn lines(session: &mut Session, steps: &mut Steps<Counted>, hash: &mut Hash) {
     }
 }
 
+/// Answers `outages`, `pairs` or `stations`, where the command is one of these.
+fn study(command: &str, case: &mut Case, steps: &mut Steps<Counted>, hash: &mut Hash) -> bool {
+    match command {
+        "outages" => {
+            let mut outages = Outages::make(Global, case, steps).expect("memory");
+            outages.find_list(case, steps);
+            for entry in outages.found() {
+                hash.add_all(&[entry.branch, entry.rank, entry.needed]);
+            }
+        }
+        "pairs" => {
+            let mut kept = Kept::make(Global, case, steps).expect("memory");
+            let (g, ms) = (kept.network.graph(), kept.network.meters());
+            let mut work = PairWork::make(Global, ms.count(), g.positions(), g.vertices()).expect("memory");
+            find_classes(g, ms, &mut kept.pairs, &mut work, steps);
+            hash.add_all(work.list());
+        }
+        "stations" => {
+            let mut kept = Kept::make(Global, case, steps).expect("memory");
+            let mut work = StationWork::make(Global, case).expect("memory");
+            work.find_losses(case, &kept.network, &mut kept.pairs, steps);
+            for entry in work.list() {
+                hash.add_all(&[entry.node, entry.lost, entry.rank]);
+            }
+        }
+        _ => return false,
+    }
+    true
+}
+
 fn main() {
     let words: Vec<String> = std::env::args().collect();
     let (command, paths) = (words[1].as_str(), &words[2..]);
@@ -143,13 +176,7 @@ fn main() {
     let mut steps: Steps<Counted> = Steps::begin();
     let mut hash = Hash(7);
     let began = Instant::now();
-    if command == "outages" {
-        let mut outages = Outages::make(Global, &case, &mut steps).expect("memory");
-        outages.find_list(&mut case, &mut steps);
-        for entry in outages.found() {
-            hash.add_all(&[entry.branch, entry.rank, entry.needed]);
-        }
-    } else {
+    if !study(command, &mut case, &mut steps, &mut hash) {
         let mut session =
             Session::begin(Global, case, paths.len() > 4, &mut steps).expect("memory");
         eprintln!("begun after {:.1} ms", began.elapsed().as_secs_f64() * 1e3);
@@ -157,7 +184,7 @@ fn main() {
             "report" => answer(&mut session, &mut steps, Ask::Report, &mut hash),
             "place" => answer(&mut session, &mut steps, Ask::Place, &mut hash),
             "session" => lines(&mut session, &mut steps, &mut hash),
-            _ => panic!("report, place, outages or session"),
+            _ => panic!("report, place, outages, pairs, stations or session"),
         }
     }
     let all = began.elapsed().as_secs_f64() * 1e3;

@@ -48,6 +48,10 @@ impl<F: Files> Files for Counted<F> {
 
     ghost steady = { λ s w. F.steady s.inner w };
 
+    ghost furthest = { F.furthest };
+
+    ghost usual = { F.usual };
+
     fn part(&mut self, word: usize, at: u64, into: &mut [u8]) -> Result<usize, Failed> {
         self.calls = self.calls.saturating_add(1);
         self.inner.part(word, at, into)

@@ -1,7 +1,7 @@
 // Runs with other limits than the usual ones: each form takes as many rows and bytes as the limits allow, and no more.
 use crate::reference_cases::NO_BRANCHES;
 use crate::tests::{Ended, Outside, QUIET, entries, kept, outcome, sink, source, texts};
-use crate::worked::{NO_METERS, NO_SWITCHES, SESSION, many_nodes, path};
+use crate::worked::{NO_METERS, NO_SWITCHES, PATH_BRANCHES, PATH_NODES, SESSION, many_nodes, path};
 use obs_engine::{Limits, Status, begin_session_within, run_within};
 use obs_io::{MemFiles, MemSink, MemSource};
 use std::alloc::Global;
@@ -268,6 +268,12 @@ fn ends_with(
     Ok(())
 }
 
+// A case of two buses and a branch, with blanks behind it.
+fn long_case(alloc: Global, head: &[u8], row: &[u8], tail: &[u8]) -> Result<Vec<u8>, Fail> {
+    let case = repeated(alloc, head, row, 1, tail)?;
+    padded(alloc, &case, b' ', 16_777_217)
+}
+
 #[test]
 fn each_form_has_the_bytes_of_its_limits(rt: HostRuntime) -> Result<(), Fail> {
     let alloc = rt.alloc();
@@ -275,35 +281,23 @@ fn each_form_has_the_bytes_of_its_limits(rt: HostRuntime) -> Result<(), Fail> {
     let files = [b"".as_slice(), &nodes, NO_SWITCHES, NO_BRANCHES, NO_METERS];
     let fault = b"fault\tnodes\t0\t14\tTooLong\n";
     are_large(&rt, alloc, &TABLES, &files, fault, b"count\tbuses\t1\n")?;
-    let cdf = repeated(alloc, CDF_HEAD, b"   1    2\n", 1, b"-999\n")?;
-    let long = padded(alloc, &cdf, b' ', 16_777_217)?;
+    let two = b"count\tbuses\t2\n";
+    let cdf = long_case(alloc, CDF_HEAD, b"   1    2\n", b"-999\n")?;
     let fault = b"fault\tcdf\t0\t14\tTooLong\n";
-    are_large(
-        &rt,
-        alloc,
-        &CDF,
-        &[b"", &long, NO_METERS],
-        fault,
-        b"count\tbuses\t2\n",
-    )?;
-    two_are_large(
-        &rt,
-        alloc,
-        &VERIFY,
-        &cdf,
-        &long,
-        b"fault\tcertificate\t0\t14\tTooLong\n",
-    )?;
-    let matpower = repeated(alloc, MATPOWER_HEAD, b"1 2 0 0 0 0 0 0 0 0 1\n", 1, b"]\n")?;
-    let long = padded(alloc, &matpower, b' ', 16_777_217)?;
+    are_large(&rt, alloc, &CDF, &[b"", &cdf, NO_METERS], fault, two)?;
+    let none = b"BUS DATA\n-999\nBRANCH DATA\n-999\n";
+    let fault = b"fault\tcertificate\t0\t14\tTooLong\n";
+    two_are_large(&rt, alloc, &VERIFY, none, &cdf, fault)?;
+    let row = b"1 2 0 0 0 0 0 0 0 0 1\n";
+    let matpower = long_case(alloc, MATPOWER_HEAD, row, b"]\n")?;
     let fault = b"fault\tmatpower\t0\t14\tTooLong\n";
     are_large(
         &rt,
         alloc,
         &MATPOWER,
-        &[b"", &long, NO_METERS],
+        &[b"", &matpower, NO_METERS],
         fault,
-        b"count\tbuses\t2\n",
+        two,
     )?;
     ends_with(
         &rt,
@@ -345,12 +339,24 @@ fn few_rows_and_bytes_may_be_the_limits(rt: HostRuntime) -> Result<(), Fail> {
     has_fault(&rt, alloc, three, &TABLES, &files, fault)?;
     is_answered(&rt, alloc, four, &TABLES, &files, b"count\tbuses\t4\n")?;
     let fits = padded(alloc, NO_METERS, b'\n', 2494)?;
-    let files = [b"".as_slice(), files[1], files[2], files[3], &fits];
-    is_answered(&rt, alloc, four, &TABLES, &files, b"count\tbuses\t4\n")?;
+    let fitting = [
+        b"".as_slice(),
+        PATH_NODES,
+        NO_SWITCHES,
+        PATH_BRANCHES,
+        &fits,
+    ];
+    is_answered(&rt, alloc, four, &TABLES, &fitting, b"count\tbuses\t4\n")?;
     let long = padded(alloc, NO_METERS, b'\n', 2495)?;
-    let files = [b"".as_slice(), files[1], files[2], files[3], &long];
+    let longer = [
+        b"".as_slice(),
+        PATH_NODES,
+        NO_SWITCHES,
+        PATH_BRANCHES,
+        &long,
+    ];
     let fault = b"fault\tmeters\t0\t14\tTooLong\n";
-    has_fault(&rt, alloc, four, &TABLES, &files, fault)?;
+    has_fault(&rt, alloc, four, &TABLES, &longer, fault)?;
     ends_with(&rt, alloc, four, 2494, Status::Short)?;
     ends_with(&rt, alloc, four, 2495, Status::SessionTooLong)
 }
