@@ -20,7 +20,7 @@ enum obs_status {
     OBS_SHORT = 1,            /* all was answered, and something falls short */
     OBS_USAGE = 2,            /* the words have none of the program's forms: the usage line is written */
     OBS_INPUT_FAULT = 3,      /* a file is too long or has a fault, whose line is written */
-    OBS_TEXT_TOO_LONG = 5,    /* the text is longer than its block, which is full of its front: call again with a longer one */
+    OBS_TEXT_TOO_LONG = 5,    /* the text is longer than its block, which has a front of it: call again with a longer one */
     OBS_NO_MEMORY = 6,        /* there was no memory, and nothing is written */
     OBS_SESSION_TOO_LONG = 7, /* the input of a session has more bytes than a file may have: what was answered before is written */
     OBS_MALFORMED = 8,        /* the blocks are no words and contents, and nothing is written */
@@ -40,7 +40,7 @@ enum obs_status {
  * written                   how many bytes of text were written, also where the answer is no good one.
  *
  * A table has at most 20,000 rows, a file and the input at most 16,777,216 bytes. obs_run_within is the same where large is 0, and else
- * within 1,000,000 rows and 1,073,741,824 bytes.
+ * within 1,000,000 rows and 1,073,741,824 bytes; the case of a trial has the same limits in both.
  *
  * No pointer is kept after the call. The call has no state: any number of threads may call at once, each with a text and a
  * written of its own.

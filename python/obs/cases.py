@@ -25,15 +25,20 @@ class Case:
 
     form    tables, cdf or matpower.
     files   pairs of a part (nodes, case, meters, ..) and the bytes of its file.
-    limits  usual or large: how much its tables and files, and those that are handed with it, may hold.
+    limits  usual or large: how much its tables and files, and those that are handed with it, may hold. Files that were read
+            from paths end one byte behind it, so a case with other limits is made anew and not from this one.
     """
 
     form: str
     files: tuple
     limits: str = "usual"
 
+    def __post_init__(self):
+        library.most_bytes(self.limits)
+
     def __repr__(self):
-        return f"Case({self.form}: {', '.join(f'{part} {len(content)} bytes' for part, content in self.files)})"
+        limits = "" if self.limits == "usual" else f", limits={self.limits!r}"
+        return f"Case({self.form}: {', '.join(f'{part} {len(content)} bytes' for part, content in self.files)}{limits})"
 
 
 def tables(nodes, switches, branches, meters, limits="usual"):

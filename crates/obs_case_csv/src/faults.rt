@@ -55,7 +55,7 @@ pub enum RowFault {
     UnknownNode = 10,
     /// The place names no branch for a flow, or no node for another kind.
     UnknownPlace = 11,
-    /// The row's number is 20,001.
+    /// The row is one more than the limit: row 20,001, where no other limit is given.
     TooMany = 12,
 }
 

@@ -8,7 +8,7 @@ pub record Limits : Type 0 where
   pub rows : ℕ
   pub bytes : ℕ
 
--- a case may have so many rows and a file so many bytes, and each answer to such a case is no longer than a file
+-- a case may have so many rows and a file so many bytes, and each certificate that is printed of such a case is no longer than a file
 pub record IsLimits (limits : Limits) : Type 0 where
   pub few_rows : limits.rows ≤ most_rows
   pub few_bytes : limits.bytes ≤ most_file_bytes

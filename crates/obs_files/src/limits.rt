@@ -8,8 +8,8 @@ use obs_case::{MOST_ROWS, USUAL_ROWS};
 use obs_text::{MOST_FILE_BYTES, USUAL_FILE_BYTES};
 use std::marker::Model;
 
-/// The most rows of each table that files give, and the most bytes of a file and of a session's input. Whatever is
-/// answered to a case of so many rows fits into a file of so many bytes.
+/// The most rows of each table that files give, and the most bytes of a file and of a session's input. Each certificate
+/// that is printed of a case of so many rows fits into a file of so many bytes.
 #[derive(Clone, Copy)]
 pub struct Limits {
     rows: u32,

@@ -19,7 +19,7 @@ pub struct InputFault {
 }
 
 impl InputFault {
-    /// The fault of a part whose file has more than 16,777,216 bytes.
+    /// The fault of a part whose file has more bytes than the limit.
     pub fn too_long(part: &'static [u8]) -> InputFault
         ensures fault { fault_of result ≡ too_long part.now }
     {
