@@ -6,8 +6,8 @@ Usage: tools/times.py PROGRAM [--studies] [SHAPE..]
 
 The shapes are those of tools/shapes.py, all where none is named. Of each it gives the user time of `report`, of `place` with all meters and
 with a tenth of them, and of `topology`, or with --studies that of `outages`, `pairs` and `stations`, and the most memory of these. Of a
-table of meters with the other tables beside it in a folder, as tools/networks.py writes them, it gives those of `report`, of `place` with
-candidates.csv and of `topology`, or of the studies. A run that has taken 100 seconds of processor time is ended, one of a study after 300.
+table of meters with the other tables beside it in a folder, as tools/networks.py writes them, it gives those of `report` and of `topology`, or
+of the studies. A run that has taken 100 seconds of processor time is ended, one of a study after 300.
 """
 import os
 import resource
@@ -48,10 +48,9 @@ COMMANDS = {
     "`place`, few meters": ["place", "tables", *TABLES, "few.csv", "candidates.csv"],
     "`topology`": ["topology", *TABLES[:2]],
 }
-# Those over a folder's tables; behind the last one stands the table of meters, but for `topology`.
+# Those over the tables of a folder.
 COMMANDS_OF_FOLDERS = {
     "`report`": ["report", "tables", *TABLES, "meters.csv"],
-    "`place`": COMMANDS["`place`, all meters"],
     "`topology`": COMMANDS["`topology`"],
 }
 COMMANDS_OF_STUDIES = {f"`{study}`": [study, "tables", *TABLES, "meters.csv"] for study in STUDIES}
