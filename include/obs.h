@@ -1,6 +1,6 @@
 /* obs in C: topological observability of power networks, over blocks of bytes. obs_run answers once; a session stays between calls.
  *
- * The library is libobs.a or libobs.so; tools/library builds both. crates/obs_c/README.md says what is proved of the calls and
+ * The library is libobs.a or libobs.so; tools/library builds and installs both. crates/obs_c/README.md says what is proved of the calls and
  * what the caller must uphold. docs/FORMATS.md has the words, the files and the printed lines. */
 #ifndef OBS_H
 #define OBS_H
@@ -9,9 +9,19 @@
 #include <stddef.h>
 #include <stdint.h>
 
+/* The version of this header, as text and by its three numbers. */
+#define OBS_VERSION "0.7.0"
+#define OBS_VERSION_MAJOR 0
+#define OBS_VERSION_MINOR 7
+#define OBS_VERSION_PATCH 0
+#define OBS_VERSION_NUMBER (OBS_VERSION_MAJOR * 1000000u + OBS_VERSION_MINOR * 1000u + OBS_VERSION_PATCH)
+
 #ifdef __cplusplus
 extern "C" {
 #endif
+
+/* The version of the library that is called, as OBS_VERSION_NUMBER has that of this header. */
+uint32_t obs_version(void);
 
 /* What the calls answer: the exit statuses of the program, of which 5 speaks of the block for the text, and two more. 4 never comes,
  * since no file is opened. */
@@ -30,13 +40,14 @@ enum obs_status {
 /* Runs obs once, and answers one of the numbers above.
  *
  * words, words_length       the words behind the program's own name, each ended by a zero byte: "report\0cdf\0C\0M" is four
- *                           words in 15 bytes with the zero byte that C adds. Each is UTF-8. A word that names a file is any name: no file is opened.
+ *                           words in 15 bytes with the zero byte that C adds. Each is UTF-8. A word that names a file is any name:
+ *                           no file is opened.
  * contents, contents_length the contents of all files, one behind another, in the order of their words.
  * lengths, lengths_count    for each word how many bytes of contents are its file's; 0 for a word that names none. The count is
  *                           that of the words, and the lengths sum up to contents_length.
  * input, input_length       what a session reads.
- * text, text_length         room for what is printed. The call asks malloc for as many bytes while it runs. It isn't ended by a zero byte. What stands behind the written bytes is
- *                           left as it was.
+ * text, text_length         room for what is printed. It isn't ended by a zero byte. What stands behind the written bytes is left as it
+ *                           was. While it runs the call asks malloc for as many bytes and one more.
  * written                   how many bytes of text were written, also where the answer is no good one.
  *
  * A table has at most 20,000 rows, a file and the input at most 16,777,216 bytes. obs_run_within is the same where large is 0, and else

@@ -72,7 +72,8 @@ def records_of(content):
 def table_of(part, rows):
     """The bytes of a table with these rows of text."""
     quoted = lambda field: '"' + field.replace('"', '""') + '"' if any(mark in field for mark in ',"\r\n') else field
-    lines = [",".join(map(quoted, fields)) + "\n" for fields in [model_reads.COLUMNS[part], *rows]]
+    columns = model_reads.COLUMNS[part] + model_reads.FURTHER.get(part, [])
+    lines = [",".join(map(quoted, fields)) + "\n" for fields in [columns[: len(rows[0])] if rows else model_reads.COLUMNS[part], *rows]]
     return "".join(lines).encode("utf-8", "surrogateescape")
 
 
@@ -86,12 +87,18 @@ def case_of(kind, contents):
     return model_reads.with_items(*read(contents["case"]), tables["meters"], offered)
 
 
-def run(program, words, folder):
-    """What obs prints. Where it has no answer its lines on standard error stand already."""
+def run(program, words, folder, is_quiet=False):
+    """What obs prints. Where it has no answer its lines on standard error stand already. What it says beside an answer stands too, unless
+    this is to be quiet: of one case it is enough to hear it beside the report.
+    """
     try:
-        done = subprocess.run([program, *words], cwd=folder, stdin=subprocess.DEVNULL, stdout=subprocess.PIPE)
+        done = subprocess.run(
+            [program, *words], cwd=folder, stdin=subprocess.DEVNULL, stdout=subprocess.PIPE, stderr=subprocess.PIPE if is_quiet else None
+        )
     except OSError as error:
         raise Failure(OWN_FAILURE, f"the program can't be run: {error}\n") from error
+    if is_quiet and done.returncode not in (0, 1):
+        sys.stderr.write(done.stderr.decode("utf-8", "backslashreplace"))
     text = done.stdout.decode("utf-8", "surrogateescape")
     if done.returncode not in (0, 1):
         raise Failure(done.returncode if done.returncode > 0 else 128 - done.returncode, text)
@@ -166,11 +173,12 @@ def ask(program, form, asks_losses=None):
 
 
 class Answer:
-    """The case of a form whose files have these contents, and what obs answered."""
+    """The case of a form whose files have these contents, and what obs answered. Of one that isn't the caller's own it is to be quiet."""
 
-    def __init__(self, program, form, contents, asks_losses=None):
+    def __init__(self, program, form, contents, asks_losses=None, is_quiet=False):
         self.form = form
         self.contents = contents
+        self.is_quiet = is_quiet
         with tempfile.TemporaryDirectory() as folder:
             words = self.ask(program, folder)
             self.losses = asks_losses(program, folder, words) if asks_losses else None
@@ -186,11 +194,11 @@ class Answer:
                 file.write(content)
         words, with_candidates = self.form.words(names)
         self.topology = run(program, ["topology", *words[1:3]], folder)[0] if self.form.kind == "tables" else None
-        lines, self.status = run(program, ["report", *words], folder)
+        lines, self.status = run(program, ["report", *words], folder, self.is_quiet)
         self.take_report(lines)
         self.plan = self.shortfall = None
         if "candidates" in self.contents:
-            lines, self.status = run(program, ["place", *with_candidates], folder)
+            lines, self.status = run(program, ["place", *with_candidates], folder, True)
             self.take_placement(lines)
         return words
 
@@ -203,7 +211,7 @@ class Answer:
         place = lambda kind, at: (self.case.branches if kind == "flow" else self.case.nodes)[at][0]
         records = [[name, kind, place(kind, at), "1"] for name, kind, at in rows]
         contents = {part: content for part, content in self.contents.items() if part != "candidates"}
-        return Answer(program, self.form, contents | {"meters": table_of("meters", records)})
+        return Answer(program, self.form, contents | {"meters": table_of("meters", records)}, is_quiet=True)
 
     def take_report(self, lines):
         self.counts = {line[1]: int(line[2]) for line in lines if line[0] == "count"}
@@ -268,8 +276,11 @@ class Answer:
         for e in self.ties:
             self.ties_of.setdefault(self.part[self.ends[e][0]], []).append(e)
         self.injected = {self.place(self.case.meters[m]) for m in self.live_meters if self.case.meters[m][1] in ("injection", "zero")}
-        angles = {self.place(self.case.meters[m]) for m in self.live_meters if self.case.meters[m][1] == "angle"}
-        self.with_reference = {self.part[u]: self.island[u] for u in angles}
+        self.angle_meters = {}
+        for m in self.live_meters:
+            if self.case.meters[m][1] == "angle":
+                self.angle_meters.setdefault(self.part[self.place(self.case.meters[m])], []).append(m)
+        self.with_reference = {part: self.island[self.place(self.case.meters[some[0]])] for part, some in self.angle_meters.items()}
         self.short_parts = [part for part in self.parts if self.names[part] in self.bounds]
         self.meter_at = {row[0]: m for m, row in enumerate(self.case.meters)}
         self.candidate_at = {row[0]: c for c, row in enumerate(self.case.candidates)}
@@ -292,6 +303,10 @@ class Answer:
 
     def need(self, part):
         return len(self.parts[part]) - (part not in self.absolute)
+
+    def untied(self, part):
+        """The buses of an absolute part that no angle meter ties to its time reference, with what they are measured against each other."""
+        return [u for u in self.parts[part] if self.island[u] != self.with_reference.get(part)]
 
     def missing(self, part):
         """How many pairs a short component lacks: its bound is what it can have."""

@@ -15,17 +15,17 @@ class Library:
     def __init__(self, file, folder):
         os.environ["OBS_LIBRARY"] = os.path.abspath(file)
         sys.path.insert(0, os.path.join(HOME, "python"))
-        from obs import calls, library
+        from obs import calls, library, program
 
-        self.library, self.calls, self.folder = library, calls, folder
+        self.library, self.calls, self.program, self.folder = library, calls, program, folder
 
     def run(self, words, given=b""):
         """What is written, and the status: that of the program too where a word isn't UTF-8, or a file can't be read."""
         words = [os.fsencode(word) for word in words]
-        if not all(map(is_text, words)):
+        if not all(map(self.program.is_text, words)):
             words = []
         pairs = [(word, None) for word in words]
-        names = file_words(words)
+        names = self.program.file_words(words)
         status, text = self.library.call(pairs, given)
         if status == self.library.USAGE or not names:
             return text, status
@@ -47,19 +47,3 @@ class Library:
                 return file.read(MOST_BYTES + 1)
         except OSError:
             return None
-
-
-def is_text(word):
-    try:
-        word.decode()
-    except UnicodeDecodeError:
-        return False
-    return True
-
-
-def file_words(words):
-    """The positions of the words that name files, in words that have a form."""
-    first = {b"topology": 1, b"trial": len(words)}.get(words[0], 2) if words else 0
-    behind = 6 if words[1:2] == [b"tables"] else 4
-    offers = words[:1] in ([b"session"], [b"verify"]) and words[behind : behind + 1] == [b"with"] and len(words) > behind + 1
-    return [k for k in range(first, len(words)) if not (offers and k == behind)]

@@ -104,7 +104,7 @@ def compare_command(r, number, runs, form, read):
         text, status = STUDIES[command](case, Network)
     else:
         text, status = Text(case).ask(command), Text(case).status(command)
-    runs.compare(number, f"{command} {form[0]}", words, text, status, lines)
+    runs.compare(number, f"{command} {form[0]}", words, text, status, lines, Text(case).said(command) if not fault and status < 2 else None)
     if r.random() < 0.02:
         compare_outside(r, number, runs, words, lines, text if status < 2 else None)
 

@@ -7,10 +7,11 @@ Each number from FIRST (0) on makes one case, for COUNT (1000) cases, with names
 that the drawing has each bus and each live branch once, that its groups are the islands and the dead parts, that each branch between
 two islands is named, and that a flow meter at it, and an injection at a bus that is named as free, raises the rank by one, and in an
 absolute part an angle meter at a bus outside of the island that is named as tied to the reference, and at no other bus; and that of a
-part without a source those switches and branches are named that would feed it, and no others; and that no purchase makes more pairs than
-the cheapest of the chosen candidates do for as much money. Of each tenth number the picture by Graphviz has each bus with its name and
-colour, and of each hundredth the page as Chromium has it, where these are there. The others are files in the IEEE format and of
-MATPOWER: the report of the tables that tools/tables writes is to be that of the file. It stops at the first case that differs.
+part without a source those switches and branches are named that would feed it, and no others; that of each outage those buses are told
+that go dead; and that no purchase makes more pairs than the cheapest of the chosen candidates do for as much money. Of each tenth number
+the picture by Graphviz has each bus with its name and colour, and none covers what is written at a line; and of each hundredth the page as
+Chromium has it, where these are there. The others are files in the IEEE format and of MATPOWER: the report of the tables that
+tools/tables writes is to be that of the file. It stops at the first case that differs.
 """
 import collections
 import html
@@ -29,7 +30,11 @@ from beware import feeds_of
 from compare import FILES, cdf_of, csv_of, items_of, matpower_of, random_case, records_of
 from drawing import UNSOURCED, Drawing, colours_of
 from explaining import sections_of
+from layout import covered
+from losing import cut_of
 from model import Case, Network
+from model_text import SUMMARY
+from severed import cuts_of
 from wording import Words, quoted, shown
 
 HARD_NAMES = ["\\", "\\N", "a\\", "&amp;", "&#65;", "<b>", "</script>", "\udcff\udcfe", "\u200b", " x ", "%s", "}", "a -- b", "C:\\new\\g"]
@@ -127,6 +132,20 @@ def see_feeds(number, case, found):
     return len(wanted)
 
 
+def see_cuts(number, case, network, found):
+    """That of each outage those buses are named which go dead, and as many pairs fewer are needed as is said."""
+    cuts = cuts_of(found)
+    for e in network.live_branches:
+        case.branches[e][3] = False
+        without = Network(case)
+        case.branches[e][3] = True
+        dead = [u for u, part in enumerate(without.component) if network.component[u] in network.energised and part not in without.energised]
+        cut = cut_of(cuts, e)
+        if (cut.dead, cut.buses(), network.needed - cut.fewer) != (len(dead), dead, without.needed):
+            fail(number, "an outage cuts off other buses", e, cut, dead)
+    return len(network.live_branches)
+
+
 def see_purchases(number, case, network, found):
     """That the cheapest chosen candidates make a pair each, and as many as any candidates for no more than they cost."""
     cost = lambda some: sum(case.candidates[c][3] for c in some)
@@ -164,10 +183,13 @@ def see_picture(number, folder, words, found):
     tool = [os.path.join(TOOLS, "draw"), "--obs", PROGRAM]
     for option, name in [("--svg", "picture.svg"), ("--page", "page.html")]:
         made = run(*tool, option, name, *words)
-        if made.returncode not in (0, 1) or made.stderr:
+        if made.returncode not in (0, 1) or not SUMMARY.fullmatch(made.stderr):
             fail(number, "draw says", made)
         with open(os.path.join(folder, name), encoding="utf-8") as file:
-            see_nodes(number, found, file.read())
+            text = file.read()
+        see_nodes(number, found, text)
+        if covered(text):
+            fail(number, "a bus covers what is written at a line", covered(text))
     if number % 100 == 0 and shutil.which("chromium"):
         page = run("chromium", "--headless", "--no-sandbox", "--disable-gpu", "--dump-dom", "file://" + os.path.join(folder, "page.html"))
         see_nodes(number, found, page.stdout.decode())
@@ -187,7 +209,7 @@ def see_case(r, number, folder, case):
     drawn, lines = groups_of(Drawing(found, Words(found, 20)).text())
     if drawn != groups or sorted(lines) != sorted((e, *ends) for e, ends in network.rows.items()):
         fail(number, "other groups or branches are drawn", drawn, groups, lines)
-    counts = {"rows that feed a part": see_feeds(number, case, found)}
+    counts = {"rows that feed a part": see_feeds(number, case, found), "outages": see_cuts(number, case, network, found)}
     counts["purchases"] = see_purchases(number, case, network, found) if found.plan else 0
     if number % 10 == 0 and shutil.which("dot"):
         see_picture(number, folder, words, found)

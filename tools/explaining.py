@@ -9,7 +9,7 @@ from wording import counted, quoted, shown
 def sections_of(answer, words):
     """At most as many parts that fall short have a section of their own as a list has names."""
     first, others = answer.short_parts[: words.most], answer.short_parts[words.most :]
-    found = [("Beware", all_warnings(answer, words)), ("Verdict", verdict(answer, words))]
+    found = [("Beware", all_warnings(answer, words)), ("Verdict", verdict(answer, words)), ("Time reference", references(answer, words))]
     found += [short_part(answer, words, part) for part in first]
     more = [f"{words.bus(part)}, {counted(len(answer.parts[part]), 'bus', 'buses')}: {answer.missing(part):,} missing" for part in others]
     found += [("Further parts that fall short", [(f"There are {len(more):,}:", more)])] if more else []
@@ -56,7 +56,7 @@ def verdict(answer, words):
     buses, branches = counted(counts["energised"], "bus", "buses"), counted(counts["branches"], "branch", "branches")
     parts, meters = counted(len(answer.parts), "part has a source", "parts have a source"), counted(counts["meters"], "live meter")
     size = f"{parts}: {buses}, {branches} in service, {meters}."
-    need = counted(needed, "branch of a tree needs a meter of its own", "branches of a tree need a meter of their own")
+    need = needs(needed - len(answer.absolute), len(answer.absolute))
     if answer.verdict == "observable":
         if not needed:
             return ["obs says observable, since nothing is needed."] + ([size] if answer.parts else [])
@@ -68,9 +68,35 @@ def verdict(answer, words):
     return entries + ([f"{enough}: {words.list(map(quoted, answer.trees))}."] if good else [])
 
 
+def needs(branches, ties):
+    """What needs a meter, branches of trees and ties to time references apart."""
+    some = [counted(branches, "branch of a tree", "branches of a tree")] if branches or not ties else []
+    some += [counted(ties, "tie to the time reference", "ties to the time reference")] if ties else []
+    return " and ".join(some) + (" needs a meter of its own" if branches + ties == 1 else " need a meter of their own")
+
+
+def references(answer, words):
+    """What is tied to the time reference of each absolute part, and what isn't."""
+    if not answer.absolute:
+        return []
+    parts = [part for part in answer.parts if part in answer.absolute]
+    one = "part is" if len(parts) == 1 else "parts are"
+    sentence = f"{len(parts):,} {one} absolute: to be estimated against the time reference. Each needs one tie to it, by an angle meter:"
+    return [(sentence, [reference(answer, words, part) for part in parts])]
+
+
+def reference(answer, words, part):
+    name = f"the part of {words.bus(part)}, {counted(len(answer.parts[part]), 'bus', 'buses')}"
+    meters, untied = answer.angle_meters.get(part, []), answer.untied(part)
+    if not meters:
+        return f"{name}: not tied, since it has no live angle meter"
+    by = words.list(quoted(answer.case.meters[m][0]) for m in meters)
+    return f"{name}: tied by {by}" + (f", but for {counted(len(untied), 'bus', 'buses')}: {words.buses(untied)}" if untied else "")
+
+
 def short_part(answer, words, part):
     """What a short component lacks, and where a meter would help."""
-    buses, bound = answer.parts[part], answer.bounds[answer.names[part]]
+    buses = answer.parts[part]
     islands = sorted(answer.islands_of[part], key=lambda i: -len(answer.islands[i]))
     alone = [island for island in islands if len(answer.islands[island]) == 1]
     several = [f"island {words.bus(i)}, {counted(len(answer.islands[i]), 'bus', 'buses')}: {words.buses(answer.islands[i])}"
@@ -82,18 +108,25 @@ def short_part(answer, words, part):
         entries += [f"{counted(len(alone), 'bus stands', 'buses stand')} alone: {words.buses(alone)}."] if alone else []
         entries += tied(answer, words, part)
     entries += referred(answer, words, part) + out_of_service(answer, words, part)
-    needed = f"{answer.need(part):,} {'is' if answer.need(part) == 1 else 'are'} needed"
-    others = counted(bound.outside, "other live meter is", "other live meters are")
-    if bound.inside:
-        listed = [words.meter(answer.meter_at[name]) for name in bound.inside]
-        most = counted(bound.rank + bound.outside, "pair", "pairs")
-        branches = counted(bound.rank, "branch", "branches")
-        entries.append((f"Why: all of these together stand for {branches} of a tree, and {others} there. That makes {most} at the most, "
-                        f"and {needed}.", listed))
-    else:
-        entries.append(f"Why: {counted(bound.outside, 'live meter is', 'live meters are')} there, and {needed}.")
+    entries.append(why(answer, words, part))
     missing = counted(answer.missing(part), "pair is", "pairs are")
     return f"The part of {words.bus(part)}, {counted(len(buses), 'bus', 'buses')}: {missing} missing", entries
+
+
+def why(answer, words, part):
+    """What the bound of a short component says."""
+    bound, need = answer.bounds[answer.names[part]], answer.need(part)
+    needed = f"{need:,} {'is' if need == 1 else 'are'} needed"
+    needed += f": {counted(need - 1, 'branch', 'branches')} and 1 tie" if part in answer.absolute else ""
+    if not bound.inside:
+        return f"Why: {counted(bound.outside, 'live meter is', 'live meters are')} there, and {needed}."
+    rows = [answer.meter_at[name] for name in bound.inside]
+    has_tie = any(answer.case.meters[m][1] == "angle" for m in rows)
+    stand = counted(bound.rank, "branch or tie", "branches and ties") if has_tie else counted(bound.rank, "branch", "branches") + " of a tree"
+    others = counted(bound.outside, "other live meter is", "other live meters are")
+    most = counted(bound.rank + bound.outside, "pair", "pairs")
+    return (f"Why: all of these together stand for {stand}, and {others} there. That makes {most} at the most, and {needed}.",
+            [words.meter(m) for m in rows])
 
 
 def free_ends(answer, part):
@@ -125,7 +158,7 @@ def referred(answer, words, part):
 def out_of_service(answer, words, part):
     """The meters out of service that would make a pair more."""
     ties, free = set(answer.ties_of.get(part, [])), free_ends(answer, part)
-    untied = {u for u in answer.parts[part] if part in answer.absolute and answer.island[u] != answer.with_reference.get(part)}
+    untied = set(answer.untied(part)) if part in answer.absolute else set()
     places = {"flow": ties, "injection": free, "zero": set(), "angle": untied}
     out = [m for m, row in enumerate(answer.case.meters) if not row[3] and answer.place(row) in places[row[1]]]
     return [("Meters out of service that would do so:", [words.meter(m) for m in out])] if out else []

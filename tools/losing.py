@@ -1,5 +1,6 @@
 """What the studies of losses printed of a case, in sentences: of each branch, of meters that fail together, and of each station."""
-from answer import run
+from answer import OWN_FAILURE, Failure, run
+from severed import Cut, cuts_of
 from wording import counted, quoted
 
 STUDIES = ["outages", "pairs", "stations"]
@@ -7,7 +8,7 @@ STUDIES = ["outages", "pairs", "stations"]
 
 def ask_losses(program, folder, words):
     """The lines of each study, without the last one."""
-    return {study: run(program, [study, *words], folder)[0][:-1] for study in STUDIES}
+    return {study: run(program, [study, *words], folder, True)[0][:-1] for study in STUDIES}
 
 
 def loss_sections(answer, words):
@@ -37,30 +38,56 @@ def worse_of(answer, lines):
 
 
 def loss_of(answer, line):
-    return f"{counted(missing_of(line), 'pair')} missing" + (f", {missing_now(answer):,} now" if missing_now(answer) else "")
+    missing = counted(missing_of(line), "pair") if missing_of(line) else "no pair"
+    return f"{missing} missing" + (f", {missing_now(answer):,} now" if missing_now(answer) else "")
 
 
 def outages(answer, words, lines):
-    worse, needed = worse_of(answer, lines), answer.counts["needed"]
-    branch_at = {answer.case.branches[e][0]: e for e in answer.live_branches}
-    branch = lambda line: words.branch(branch_at[line[1]])
-    cut = [line for line in lines if int(line[3]) < needed]
+    """Outages that leave buses dead come first, and count as harmless nowhere: what is dead needs nothing, and can't be short."""
     if not lines:
         return []
-    entries = []
+    branch_at = {answer.case.branches[e][0]: e for e in answer.live_branches}
+    cuts = cuts_seen(answer, lines, branch_at)
+    dead = [line for line in lines if cut_of(cuts, branch_at[line[1]]).dead]
+    others = [line for line in lines if not cut_of(cuts, branch_at[line[1]]).dead]
+    dead.sort(key=lambda line: (-cuts[branch_at[line[1]]].dead, -missing_of(line)))
+    worse, entries = worse_of(answer, others), []
+    item = lambda line, *more: f"{words.branch(branch_at[line[1]])}: {', '.join([*more, loss_of(answer, line)])}"
+    if dead:
+        # No more rows are written than a list has, and to name the dead buses of each would take long.
+        items = [item(line, dead_buses(words, cuts[branch_at[line[1]]], k < words.most)) for k, line in enumerate(dead)]
+        entries.append((f"If {one_of(dead, 'trips')}, buses go dead. What is dead needs nothing, so fewer pairs are needed then:", items))
     if worse:
-        any_one = "this one trips" if len(worse) == 1 else f"any one of these {len(worse):,} trips"
-        entries.append((f"If {any_one}, {lost(answer)}:", [f"{branch(line)}: {loss_of(answer, line)}" for line in worse]))
-    others = len(lines) - len(worse)
-    if others:
-        any_one = "Any other branch" if worse else "Any one branch"
-        entries.append(f"{any_one} may trip, {others:,} of {counted(len(lines), 'live branch', 'live branches')}: {kept(answer)}.")
-    if cut:
-        these = "This one" if len(cut) == 1 else f"These {len(cut):,}"
-        feeds = "takes" if len(cut) == 1 else "take"
-        items = [f"{branch(line)}: {counted(needed - int(line[3]), 'pair')} fewer needed" for line in cut]
-        entries.append((f"{these} {feeds} something away: buses go dead, or a part falls in two. So fewer pairs are needed then:", items))
+        entries.append((f"If {one_of(worse, 'trips')}, {lost(answer)}:", [item(line) for line in worse]))
+    rest = len(others) - len(worse)
+    if rest:
+        which = "any other branch trips" if dead or worse else "any one branch trips"
+        entries.append(f"If {which}, {rest:,} of {counted(len(lines), 'live branch', 'live branches')}, no bus goes dead and {kept(answer)}.")
+    split = [line for line in others if cut_of(cuts, branch_at[line[1]]).fewer]
+    if split:
+        items = [f"{words.branch(branch_at[line[1]])}: {counted(cuts[branch_at[line[1]]].fewer, 'pair')} fewer needed" for line in split]
+        entries.append((f"If {one_of(split, 'trips')}, a part falls in two, each with a source. So fewer pairs are needed then:", items))
     return entries
+
+
+def cut_of(cuts, e):
+    return cuts.get(e, Cut(0, list, 0))
+
+
+def dead_buses(words, cut, is_named):
+    return f"{counted(cut.dead, 'bus', 'buses')} dead" + (f" ({words.buses(cut.buses())})" if is_named else "")
+
+
+def cuts_seen(answer, lines, branch_at):
+    """What the outages cut off, by the tables. The needed numbers are to be those that obs printed."""
+    cuts, needed = cuts_of(answer), answer.counts["needed"]
+    if any(int(line[3]) != needed - cut_of(cuts, branch_at[line[1]]).fewer for line in lines):
+        raise Failure(OWN_FAILURE, "the files were read otherwise than obs read them\n")
+    return cuts
+
+
+def one_of(lines, does):
+    return f"this one {does}" if len(lines) == 1 else f"any one of these {len(lines):,} {does}"
 
 
 def lost(answer):
@@ -68,7 +95,8 @@ def lost(answer):
 
 
 def kept(answer):
-    return "the meters suffice then too" if answer.verdict == "observable" else "no more is missing then than now"
+    """Where the case is short already nothing is said that would pass for an all-clear."""
+    return "the meters suffice" if answer.verdict == "observable" else "no more is missing than now"
 
 
 def pairs(answer, words, lines):
@@ -76,15 +104,15 @@ def pairs(answer, words, lines):
     classes = {}
     for _, first, meter in lines:
         classes.setdefault(first, []).append(words.meter(answer.meter_at[meter]))
-    alone = " that isn't critical alone" if answer.critical else ""
     if not answer.live_meters or len(answer.critical) == len(answer.live_meters):
         return []
+    alone = " that isn't critical alone" if answer.critical else ""
     if not classes:
-        return [f"Any two meters may fail together{', if neither is critical alone' if answer.critical else ''}."]
+        return [f"If any two meters fail{', of which neither is critical alone' if answer.critical else ''}, {kept(answer)}."]
     listed = lambda meters: "; ".join(meters[: words.most]) + (f"; and {len(meters) - words.most:,} more" if len(meters) > words.most else "")
     names = [f"{counted(len(meters), 'meter')}: {listed(meters)}" for meters in classes.values()]
     two_of = "two of these" if len(classes) == 1 else f"two of one of these {len(classes):,} groups"
-    return [(f"Any one meter{alone} may fail. But if {two_of} fail, {lost(answer)}:", names)]
+    return [(f"If any one meter{alone} fails, {kept(answer)}. But if {two_of} fail, {lost(answer)}:", names)]
 
 
 def stations(answer, lines):
@@ -99,5 +127,5 @@ def stations(answer, lines):
         entries.append((f"If all meters of {these} are lost, {lost(answer)}:", list(map(station, worse))))
     if others:
         any_one = "any other station" if worse else "any one station"
-        entries.append(f"All meters of {any_one} may be lost, {others:,} of {counted(len(lines), 'station')}: {kept(answer)}.")
+        entries.append(f"If all meters of {any_one} are lost, {others:,} of {counted(len(lines), 'station')}, {kept(answer)}.")
     return entries

@@ -2,7 +2,9 @@
 from model import Case
 from model_text import content_lines, is_name, line
 
-MOST_ROWS = 20000
+# The rows of a table and the bytes of a file at most: those of obs, and those of obs_large.
+LIMITS = {"usual": (20000, 16777216), "large": (1000000, 1073741824)}
+MOST_ROWS = LIMITS["usual"][0]
 COLUMNS = {
     "nodes": ["node", "source"],
     "switches": ["switch", "from", "to", "closed"],
@@ -54,8 +56,8 @@ def fault_of_row(part, fields, seen, names):
     return next((name for name, fails in tests if fails), None)
 
 
-def read_table(part, records, names):
-    """The rows that records are. The positions of names of nodes and branches are in `names`."""
+def read_table(part, records, names, most=MOST_ROWS):
+    """The rows that records are, `most` at most. The positions of names of nodes and branches are in `names`."""
     if not records:
         raise Fault(part, 0, "NoHeader", OF_TABLES)
     columns = [word.encode() for word in COLUMNS[part]]
@@ -66,7 +68,7 @@ def read_table(part, records, names):
         raise Fault(part, 0, "ColumnTwice", OF_TABLES)
     places, seen, rows = [records[0].index(column) for column in columns], {}, []
     for number, record in enumerate(records[1:], 1):
-        if number > MOST_ROWS:
+        if number > most:
             raise Fault(part, number, "TooMany", OF_TABLES)
         if max(places) >= len(record):
             raise Fault(part, number, "ShortRow", OF_TABLES)
@@ -87,19 +89,20 @@ def read_table(part, records, names):
     return rows
 
 
-def read_tables(records):
+def read_tables(records, most=MOST_ROWS):
     """The case that five tables are, of which the last may be absent (None)."""
     names, rows = {"nodes": {}, "branches": {}}, []
     for part, table in zip(COLUMNS, records):
-        rows.append([] if table is None else read_table(part, table, names))
+        rows.append([] if table is None else read_table(part, table, names, most))
     return Case(*rows)
 
 
-def with_items(nodes, branches, meters, candidates):
+def with_items(nodes, branches, meters, candidates, most=MOST_ROWS):
     """The case of these nodes and branches with tables of meters and candidates."""
     names = {"nodes": {row[0].encode(): i for i, row in enumerate(nodes)}}
     names["branches"] = {row[0].encode(): i for i, row in enumerate(branches)}
-    return Case(nodes, [], branches, read_table("meters", meters, names), read_table("candidates", candidates, names))
+    items = [read_table(part, some, names, most) for part, some in (("meters", meters), ("candidates", candidates))]
+    return Case(nodes, [], branches, *items)
 
 
 def section(lines, start, begins, missing, still_open):
@@ -116,7 +119,7 @@ def section(lines, start, begins, missing, still_open):
     raise Fault("cdf", 0, still_open, OF_CDF)
 
 
-def read_cdf(content):
+def read_cdf(content, most=MOST_ROWS):
     lines, nodes, buses, branches, behind = content_lines(content), [], {}, [], 0
     for number, text in section(lines, 0, b"BUS DATA", "NoBusSection", "BusSectionOpen"):
         if number is None:
@@ -135,7 +138,7 @@ def read_cdf(content):
         if number is None:
             break
         ends = [text[0:4].strip(b" "), text[5:9].strip(b" ")]
-        if len(branches) == MOST_ROWS:
+        if len(branches) == most:
             raise Fault("cdf", number, "TooMany", OF_CDF)
         if not all(are_digits(end, 4) for end in ends):
             raise Fault("cdf", number, "BadBusNumber", OF_CDF)
@@ -172,13 +175,13 @@ def whole_value(word):
     return int(digits) if are_digits(digits, 9) and not zeros.strip(b"0") else None
 
 
-def fault_of_matpower_row(rows, values, tests):
-    if len(rows) == MOST_ROWS:
+def fault_of_matpower_row(rows, most, values, tests):
+    if len(rows) == most:
         return "TooMany"
     return next((name for name, fails in tests if fails()), None) if values else "ShortRow"
 
 
-def read_matpower(content):
+def read_matpower(content, most=MOST_ROWS):
     lines, nodes, buses, isolated, branches = [text.split(b"%")[0] for text in content_lines(content)], [], {}, set(), []
     rows, is_ended = matpower_rows(lines, b"mpc.bus", "NoBusTable")
     for number, values in rows:
@@ -188,7 +191,7 @@ def read_matpower(content):
             ("BadType", lambda w=words: w[1] not in (1, 2, 3, 4)),
             ("BusTwice", lambda w=words: w[0] in buses),
         ]
-        fault = fault_of_matpower_row(nodes, values[1:], tests)
+        fault = fault_of_matpower_row(nodes, most, values[1:], tests)
         if fault:
             raise Fault("matpower", number, fault, OF_MATPOWER)
         buses[words[0]] = len(nodes)
@@ -204,7 +207,7 @@ def read_matpower(content):
             ("UnknownBus", lambda w=words: not set(w[:2]) <= buses.keys()),
             ("BadStatus", lambda w=words: w[2] not in (0, 1)),
         ]
-        fault = fault_of_matpower_row(branches, values[10:], tests)
+        fault = fault_of_matpower_row(branches, most, values[10:], tests)
         if fault:
             raise Fault("matpower", number, fault, OF_MATPOWER)
         ends = [buses[word] for word in words[:2]]

@@ -1,7 +1,12 @@
 """The printed text of a small case, of a session and of a trial, by the lines of docs/FORMATS.md."""
 import copy
+import re
 
 from model import Case, Network
+
+# the commands whose answers have a summary, and what this says
+SUMMED = ["report", "place", "outages", "pairs", "stations"]
+SUMMARY = re.compile(rb"(obs: (no bus is|buses) [^\n]*\n)*")
 
 ASKS = ["status", "tree", "bound", "islands", "critical", "report", "place", "cert"]
 
@@ -52,6 +57,23 @@ class Text:
         words = ["buses", "energised", "branches", "meters", "needed", "rank"]
         counts = "".join(line("count", word, number) for word, number in zip(words, numbers))
         return counts + line("verdict", "observable" if n.all_observable() else "short")
+
+    def said(self, command):
+        """What is said on standard error beside a whole answer."""
+        n = self.network
+        if command not in SUMMED:
+            return ""
+        energised = sum(1 for c in n.component if c in n.energised)
+        at = [n.bus[self.case.meters[m][2]] for m in n.meters if self.case.meters[m][1] in ("injection", "zero")]
+        crowded = sum(1 for u in set(at) if at.count(u) > 1)
+        text = ""
+        if energised == 0:
+            text = "obs: no bus is energised, since no node is a source. So there is nothing to observe.\n"
+        elif energised < len(n.names):
+            text = f"obs: buses that are energised: {energised:,} of {len(n.names):,}. The others are left out.\n"
+        if crowded:
+            text += f"obs: buses at which more than one live injection or zero stands: {crowded:,}. An estimator has one equation at each.\n"
+        return text
 
     def claims(self, trees=True, bounds=True):
         n, text = self.network, ""

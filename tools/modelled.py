@@ -3,10 +3,10 @@
 
 Usage: tools/modelled.py WORDS
 
-The words, the files, what is printed and the status are those of the program, but nothing is said on standard error. Assignments are
-found by tools/model_middle.py, so cases of some dozens of buses take a second. The searches of a trial are as few as they may be. So
-`tools/compare.py tools/modelled.py` and `tools/middle.py tools/modelled.py` hold the models against each other and against themselves,
-and `examples/check tools/modelled.py` the examples and the pages against the definitions.
+The words, the files, what is printed and the status are those of the program, but on standard error no more is said than what stands
+beside a whole answer. Assignments are found by tools/model_middle.py, so cases of some dozens of buses take a second. The searches of a
+trial are as few as they may be. So `tools/compare.py tools/modelled.py` and `tools/middle.py tools/modelled.py` hold the models against
+each other and against themselves, and `examples/check tools/modelled.py` the examples and the pages against the definitions.
 """
 import sys
 
@@ -15,7 +15,7 @@ import model_reads
 from answer import records_of
 from model_middle import Middle
 from model_studies import STUDIES
-from model_text import Text, line, session, trial
+from model_text import Text, answer_line, trial
 from model_words import have_form, usage
 
 MOST_BYTES = 16777216
@@ -57,6 +57,22 @@ def case_of(words, contents):
     return model_reads.with_items(*read(contents[words.form]), table("meters"), table("candidates"))
 
 
+def answer_lines(case, offered):
+    """Answers each line of the input as it comes, and gives the status."""
+    left = MOST_BYTES
+    while True:
+        line = sys.stdin.buffer.readline(left + 1)
+        if len(line) > left:
+            return 7
+        if not line:
+            return Text(case, Middle).status()
+        left -= len(line)
+        line = line.removesuffix(b"\n").removesuffix(b"\r")
+        if line and not line.startswith(b"#"):
+            sys.stdout.buffer.write(answer_line(case, offered, line, Middle).encode("utf-8", "surrogateescape"))
+            sys.stdout.buffer.flush()
+
+
 def answered(words):
     """The text and the status."""
     if not have_form(words):
@@ -72,12 +88,11 @@ def answered(words):
     if words.command == "verify":
         return model_claims.verify(case, contents["certificate"], Middle)
     if words.command == "session":
-        given = sys.stdin.buffer.read(MOST_BYTES + 1)
-        found = session(case, words.offered, given[:MOST_BYTES], Middle)
-        return (found[0], 7) if len(given) > MOST_BYTES else found
+        return "", answer_lines(case, words.offered)
+    text = Text(case, Middle)
+    sys.stderr.write(text.said(words.command))
     if words.command in STUDIES:
         return STUDIES[words.command](case, Middle)
-    text = Text(case, Middle)
     if words.command == "topology":
         return text.topology(), 0
     return text.ask(words.command), text.status(words.command)

@@ -113,6 +113,14 @@ def bound_rows(found, words):
     return rows
 
 
+def reference_rows(found, words):
+    rows = []
+    for part in (part for part in found.parts if part in found.absolute):
+        by = ", ".join(quoted(found.case.meters[m][0]) for m in found.angle_meters.get(part, []))
+        rows.append((shown(found.names[part]), len(found.parts[part]), by or "none", words.buses(found.untied(part)) or "none"))
+    return rows
+
+
 def tables(found, words):
     meters, candidates = found.case.meters, found.case.candidates
     chosen = [candidates[found.candidate_at[name]] for name in found.plan.chosen] if found.plan else []
@@ -122,6 +130,8 @@ def tables(found, words):
     bound_head = ["part", "needed", "rank of the listed meters", "other live meters", "missing", "listed meters"]
     return "\n".join([
         table("Parts without a source", ["first bus", "buses", "their nodes"], dead),
+        table("Absolute parts and their time reference", ["part", "buses", "tied by the angle meters", "buses that aren't tied"],
+              reference_rows(found, words)),
         table("Islands", ["island", "part", "buses", "their names"], island_rows(found, words)),
         table("Branches between islands", ["branch", "from", "island", "to", "island"], ties),
         table("Bounds of parts that fall short", bound_head, bound_rows(found, words)),

@@ -39,16 +39,19 @@ class Runs:
             done = subprocess.run([self.program, *words], cwd=self.folder, input=given, capture_output=True, timeout=MOST_SECONDS)
         except subprocess.TimeoutExpired:
             return b"", "none: it didn't end"
+        self.said = done.stderr
         return done.stdout, done.returncode
 
-    def compare(self, number, kind, words, text, status, given=b""):
-        """Runs the words; what is written and the status are to be these."""
+    def compare(self, number, kind, words, text, status, given=b"", said=None):
+        """Runs the words; what is written, the status and, where it is given, what is said are to be these."""
         found = self.run(words, given)
         last = text.rstrip("\n").split("\t")[-1] if text.startswith(("fault", "flaw")) else "answered"
         self.count[f"{kind}: {last}"] += 1
         wanted = (text.encode("utf-8", "surrogateescape"), status)
         if found != wanted:
             self.differs(number, words, given, found, wanted)
+        if said is not None and not self.library and self.said != said.encode():
+            self.differs(number, words, given, (self.said, "says"), (said.encode(), "says"))
 
     def alike(self, number, kind, words, given, found, wanted):
         """Counts a case of which two answers are to be the same, and what was run last for the one that is judged."""

@@ -16,9 +16,13 @@ A table is a path, or the bytes of a file, or its rows: tuples in the order of t
 columns, or a frame of pandas. Names are bytes in obs. Text is encoded in UTF-8 and decoded from it with the handler `surrogateescape`, so
 any bytes go through and come back: `name.encode("utf-8", "surrogateescape")` gives them.
 
+`frame` makes a frame of pandas of an answer, where pandas is there. `python -m obs WORDS` answers as the program does, by the same bytes
+and the same status, and says nothing beside a whole answer; `python -m obs --large WORDS` does so within the largest limits.
+
 The library is the file that the variable OBS_LIBRARY names; else libobs.so beside this package, in the folder that holds `python`, or
-where tools/library builds it. It is read at the first call. Any number of threads may call at once, and other threads of Python go on
-meanwhile. A process that was forked off one with threads mustn't call: of multiprocessing take the method "spawn".
+where a checkout builds it. It is read at the first call. `version` is its version, and `__version__` that of this package. Any number
+of threads may call at once, and other threads of Python go on meanwhile. A process that was forked off one with threads mustn't call: of
+multiprocessing take the method "spawn".
 
 `LiveSession` is a session that stays open between calls: the case is read once, and each line is answered as it comes.
 
@@ -30,11 +34,13 @@ from .answers import Stations, Step, Topology, Tree, Valid
 from .calls import outages, pairs, place, report, run, session, stations, topology, verify
 from .cases import COLUMNS, Case, cdf, matpower, tables
 from .faults import Ended, Error, Fault, LibraryMissing, Malformed, NoMemory, NotUnderstood, SessionTooLong
+from .frames import frame
 from .stays import LiveSession
+from .versions import VERSION as __version__, version
 
 __all__ = [
     "Bound", "COLUMNS", "Case", "Counts", "Ended", "Error", "Fault", "Flaw", "Item", "Layer", "LibraryMissing", "LiveSession", "Loss",
     "Malformed", "NoMemory", "NotUnderstood", "Ok", "Outage", "Outages", "Pair", "Pairs", "Plan", "Refused", "Report", "Session",
-    "SessionTooLong", "Shortfall", "Stations", "Step", "Topology", "Tree", "Valid", "cdf", "matpower", "outages", "pairs", "place",
-    "report", "run", "session", "stations", "tables", "topology", "verify",
+    "SessionTooLong", "Shortfall", "Stations", "Step", "Topology", "Tree", "Valid", "__version__", "cdf", "frame", "matpower", "outages",
+    "pairs", "place", "report", "run", "session", "stations", "tables", "topology", "verify", "version",
 ]

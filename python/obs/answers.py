@@ -1,25 +1,28 @@
-"""The answers, and how they are read from the printed lines. `str` of an answer is the text that was printed.
+"""The answers. `str` of an answer is the text that was printed.
 
 Names are text; of bytes that are no UTF-8, `surrogateescape` made text. Ranks, needs and numbers outside are numbers of pairs; costs and
 prices are in the unit of the table of candidates.
 """
+from __future__ import annotations
+
 import dataclasses
 import typing
 
-from .faults import NotUnderstood
+# Lines, each of words and numbers.
+Words = typing.Sequence[typing.Sequence[object]]
 
 
 class Lines:
     """An answer, or a part of one: `lines` gives its lines, each a list of words."""
 
-    def lines(self):
+    def lines(self) -> Words:
         raise NotImplementedError
 
-    def __str__(self):
+    def __str__(self) -> str:
         return "".join("\t".join(map(str, words)) + "\n" for words in self.lines())
 
 
-def _lines_of(parts):
+def _lines_of(parts: typing.Iterable[Lines]) -> typing.List[typing.Sequence[object]]:
     return [words for part in parts for words in part.lines()]
 
 
@@ -36,11 +39,11 @@ class Counts(Lines):
     verdict: str  # observable or short
 
     @property
-    def missing(self):
+    def missing(self) -> int:
         """How many pairs are missing."""
         return self.needed - self.rank
 
-    def lines(self):
+    def lines(self) -> Words:
         names = [field.name for field in dataclasses.fields(self) if field.name != "verdict"]
         return [["count", name, getattr(self, name)] for name in names] + [["verdict", self.verdict]]
 
@@ -52,7 +55,7 @@ class Item(Lines):
     sort: str  # meter or candidate
     name: str
 
-    def lines(self):
+    def lines(self) -> Words:
         return [["inside", self.sort, self.name]]
 
 
@@ -64,7 +67,7 @@ class Pair(Lines):
     name: str
     branch: str  # its name; of an item of the kind angle the word angle
 
-    def lines(self):
+    def lines(self) -> Words:
         return [["pair", self.sort, self.name, self.branch]]
 
 
@@ -77,7 +80,7 @@ class Tree(Lines):
     component: str
     pairs: typing.Tuple[Pair, ...]
 
-    def lines(self):
+    def lines(self) -> Words:
         return [["tree", self.component]] + _lines_of(self.pairs)
 
 
@@ -90,7 +93,7 @@ class Bound(Lines):
     outside: int  # how many other live meters the part has
     inside: typing.Tuple[Item, ...]
 
-    def lines(self):
+    def lines(self) -> Words:
         return [["bound", self.component, self.rank, self.outside]] + _lines_of(self.inside)
 
 
@@ -99,40 +102,45 @@ class Report(Lines):
     """What a report prints, or one ask of a session. What wasn't asked is None."""
 
     counts: typing.Optional[Counts] = None
-    claims: typing.Optional[tuple] = None  # a Tree or a Bound for each energised part, or those of one sort
-    island_of: typing.Optional[dict] = None  # for each energised bus, in their order, the first bus of its island
+    # a Tree or a Bound for each energised part, or those of one sort
+    claims: typing.Optional[typing.Tuple[typing.Union[Tree, Bound], ...]] = None
+    island_of: typing.Optional[typing.Dict[str, str]] = None  # for each energised bus, in their order, the first bus of its island
     critical: typing.Optional[typing.Tuple[str, ...]] = None  # the meters of which each loss lowers the rank
 
     @property
-    def observable(self):
-        """Whether the verdict is observable. Look at counts.energised too: dead parts need nothing."""
+    def observable(self) -> bool:
+        """Whether the verdict is observable. Look at counts.energised too: dead parts need nothing. Raises ValueError without counts."""
+        if self.counts is None:
+            raise ValueError("no verdict was asked for")
         return self.counts.verdict == "observable"
 
     @property
-    def trees(self):
+    def trees(self) -> typing.Tuple[Tree, ...]:
         return tuple(claim for claim in self.claims or () if isinstance(claim, Tree))
 
     @property
-    def bounds(self):
+    def bounds(self) -> typing.Tuple[Bound, ...]:
         return tuple(claim for claim in self.claims or () if isinstance(claim, Bound))
 
     @property
-    def islands(self):
-        """For the first bus of each island the list of its buses. Inside of an island all can be estimated."""
-        found = {}
+    def islands(self) -> typing.Dict[str, typing.List[str]]:
+        """For the first bus of each island the list of its buses. Inside of an island all can be estimated. Raises ValueError without."""
+        if self.island_of is None:
+            raise ValueError("no islands were asked for")
+        found: typing.Dict[str, typing.List[str]] = {}
         for bus, first in self.island_of.items():
             found.setdefault(first, []).append(bus)
         return found
 
     @property
-    def certificate(self):
-        """The trees and bounds as text that `verify` takes."""
+    def certificate(self) -> str:
+        """The trees and bounds as text that `verify` takes. Raises ValueError where none were asked for."""
         if self.claims is None:
             raise ValueError("no trees or bounds were asked for")
         return "".join(map(str, self.claims)) + "end\n"
 
-    def lines(self):
-        counts = self.counts.lines() if self.counts else []
+    def lines(self) -> Words:
+        counts = list(self.counts.lines()) if self.counts else []
         islands = [["island", first, bus] for bus, first in (self.island_of or {}).items()]
         critical = [["critical", name] for name in self.critical or ()]
         return counts + _lines_of(self.claims or ()) + islands + critical + [["end"]]
@@ -148,7 +156,7 @@ class Layer(Lines):
     outside: int  # how many other live items there are below the price `high`
     inside: typing.Tuple[Item, ...]  # the items that this layer adds to the list
 
-    def lines(self):
+    def lines(self) -> Words:
         return [["layer", self.low, self.high, self.rank, self.outside]] + _lines_of(self.inside)
 
 
@@ -162,11 +170,11 @@ class Plan(Lines):
     layers: typing.Tuple[Layer, ...]
 
     @property
-    def certificate(self):
+    def certificate(self) -> str:
         """The plan as text that `verify` takes, with the same candidates."""
         return str(self)
 
-    def lines(self):
+    def lines(self) -> Words:
         chosen = [["chosen", name] for name in self.chosen]
         return [["cost", self.cost]] + chosen + _lines_of(self.pairs) + _lines_of(self.layers) + [["end"]]
 
@@ -180,11 +188,11 @@ class Shortfall(Lines):
     inside: typing.Tuple[Item, ...]
 
     @property
-    def certificate(self):
+    def certificate(self) -> str:
         """The shortfall as text that `verify` takes, with the same candidates."""
         return str(self)
 
-    def lines(self):
+    def lines(self) -> Words:
         return [["shortfall", self.rank, self.outside]] + _lines_of(self.inside) + [["end"]]
 
 
@@ -192,10 +200,10 @@ class Shortfall(Lines):
 class Topology(Lines):
     """The buses that the closed switches make."""
 
-    bus_of: dict  # for each node, in their order, the first node of its bus
+    bus_of: typing.Dict[str, str]  # for each node, in their order, the first node of its bus
     buses: int  # how many there are
 
-    def lines(self):
+    def lines(self) -> Words:
         return [["node", node, first] for node, first in self.bus_of.items()] + [["count", "buses", self.buses], ["end"]]
 
 
@@ -205,7 +213,7 @@ class Valid(Lines):
 
     claims: int  # how many there are
 
-    def lines(self):
+    def lines(self) -> Words:
         return [["valid", self.claims]]
 
 
@@ -217,7 +225,7 @@ class Flaw(Lines):
     code: int
     name: str  # of the flaw, as WrongOutside
 
-    def lines(self):
+    def lines(self) -> Words:
         return [["flaw", self.claim, self.code, self.name]]
 
 
@@ -228,7 +236,7 @@ class Ok(Lines):
     rank: int
     needed: int
 
-    def lines(self):
+    def lines(self) -> Words:
         return [["ok", self.rank, self.needed]]
 
 
@@ -239,7 +247,7 @@ class Refused(Lines):
     code: int
     name: str
 
-    def lines(self):
+    def lines(self) -> Words:
         return [["refused", self.code, self.name]]
 
 
@@ -250,7 +258,7 @@ class Step(Lines):
     line: str
     answer: Lines
 
-    def lines(self):
+    def lines(self) -> Words:
         return self.answer.lines()
 
 
@@ -262,10 +270,10 @@ class Session(Lines):
     observable: bool  # the present case, at the end
 
     @property
-    def answers(self):
+    def answers(self) -> typing.Tuple[Lines, ...]:
         return tuple(step.answer for step in self.steps)
 
-    def lines(self):
+    def lines(self) -> Words:
         return _lines_of(self.steps)
 
 
@@ -279,11 +287,11 @@ class Outage(Lines):
     verdict: str  # observable or short
 
     @property
-    def missing(self):
+    def missing(self) -> int:
         """How many pairs are missing."""
         return self.needed - self.rank
 
-    def lines(self):
+    def lines(self) -> Words:
         return [["outage", self.branch, self.rank, self.needed, self.verdict]]
 
 
@@ -295,11 +303,11 @@ class Outages(Lines):
     observable: bool  # the case, and each of the outage cases
 
     @property
-    def short(self):
+    def short(self) -> typing.Tuple[str, ...]:
         """The branches of which each outage leaves a case that is short."""
         return tuple(entry.branch for entry in self.entries if entry.verdict == "short")
 
-    def lines(self):
+    def lines(self) -> Words:
         return _lines_of(self.entries) + [["end"]]
 
 
@@ -307,18 +315,18 @@ class Outages(Lines):
 class Pairs(Lines):
     """The meters that are critical together: of a class one can be lost and the rank stays, of two it falls."""
 
-    class_of: dict  # for each meter that has a partner, in their order, the first meter of its class
+    class_of: typing.Dict[str, str]  # for each meter that has a partner, in their order, the first meter of its class
     observable: bool  # the case
 
     @property
-    def classes(self):
+    def classes(self) -> typing.Dict[str, typing.List[str]]:
         """For the first meter of each class the list of its meters."""
-        found = {}
+        found: typing.Dict[str, typing.List[str]] = {}
         for meter, first in self.class_of.items():
             found.setdefault(first, []).append(meter)
         return found
 
-    def lines(self):
+    def lines(self) -> Words:
         return [["class", first, meter] for meter, first in self.class_of.items()] + [["end"]]
 
 
@@ -333,11 +341,11 @@ class Loss(Lines):
     verdict: str  # observable or short
 
     @property
-    def missing(self):
+    def missing(self) -> int:
         """How many pairs are missing."""
         return self.needed - self.rank
 
-    def lines(self):
+    def lines(self) -> Words:
         return [["station", self.station, self.lost, self.rank, self.needed, self.verdict]]
 
 
@@ -349,144 +357,9 @@ class Stations(Lines):
     observable: bool  # the case, and what each loss leaves
 
     @property
-    def short(self):
+    def short(self) -> typing.Tuple[str, ...]:
         """The stations of which each loss leaves a case that is short, by their first nodes."""
         return tuple(entry.station for entry in self.entries if entry.verdict == "short")
 
-    def lines(self):
+    def lines(self) -> Words:
         return _lines_of(self.entries) + [["end"]]
-
-
-# The parts of a report that each ask of a session has.
-ASKS = {
-    "status": ("counts",),
-    "tree": ("claims",),
-    "bound": ("claims",),
-    "cert": ("claims",),
-    "islands": ("island_of",),
-    "critical": ("critical",),
-    "report": ("counts", "claims", "island_of", "critical"),
-}
-
-
-class Reading:
-    """Printed lines, read from the top."""
-
-    def __init__(self, text):
-        self.lines = [line.split("\t") for line in text.decode("utf-8", "surrogateescape").split("\n")]
-        self.at = 0
-        if self.lines.pop() != [""]:
-            raise NotUnderstood("the text doesn't end with a line feed")
-
-    def word(self):
-        """The first word of the next line, or None behind the last."""
-        return self.lines[self.at][0] if self.at < len(self.lines) else None
-
-    def line(self, word, count):
-        """The words behind this first word of the next line, which are so many."""
-        if self.word() != word or len(self.lines[self.at]) != count + 1:
-            found = "\t".join(self.lines[self.at]) if self.at < len(self.lines) else "nothing more"
-            raise NotUnderstood(f"a line {word} was expected, and there is: {found}")
-        self.at += 1
-        return self.lines[self.at - 1][1:]
-
-    def all(self, word, count):
-        """The words of all next lines that begin with this word."""
-        found = []
-        while self.word() == word:
-            found.append(self.line(word, count))
-        return found
-
-    def numbers(self, word, count):
-        return list(map(int, self.line(word, count)))
-
-    def pairs(self):
-        return tuple(Pair(*words) for words in self.all("pair", 3))
-
-    def items(self):
-        return tuple(Item(*words) for words in self.all("inside", 2))
-
-    def counts(self):
-        found = [int(self.line("count", 2)[1]) for _ in dataclasses.fields(Counts)[:-1]]
-        return Counts(*found, *self.line("verdict", 1))
-
-    def claims(self):
-        found = []
-        while self.word() in ("tree", "bound"):
-            if self.word() == "tree":
-                found.append(Tree(*self.line("tree", 1), self.pairs()))
-            else:
-                component, rank, outside = self.line("bound", 3)
-                found.append(Bound(component, int(rank), int(outside), self.items()))
-        return tuple(found)
-
-    def island_of(self):
-        return {bus: first for first, bus in self.all("island", 2)}
-
-    def critical(self):
-        return tuple(name for name, in self.all("critical", 1))
-
-    def report(self, parts=ASKS["report"]):
-        found = Report(**{part: getattr(self, part)() for part in parts})
-        self.line("end", 0)
-        return found
-
-    def layers(self):
-        found = []
-        while self.word() == "layer":
-            found.append(Layer(*self.numbers("layer", 4), self.items()))
-        return tuple(found)
-
-    def placement(self):
-        if self.word() == "shortfall":
-            found = Shortfall(*self.numbers("shortfall", 2), self.items())
-        else:
-            cost, = self.numbers("cost", 1)
-            found = Plan(cost, tuple(name for name, in self.all("chosen", 1)), self.pairs(), self.layers())
-        self.line("end", 0)
-        return found
-
-    def topology(self):
-        bus_of = dict(self.all("node", 2))
-        found = Topology(bus_of, int(self.line("count", 2)[1]))
-        self.line("end", 0)
-        return found
-
-    def outages(self, observable):
-        entries = [Outage(name, int(rank), int(needed), word) for name, rank, needed, word in self.all("outage", 4)]
-        self.line("end", 0)
-        return Outages(tuple(entries), observable)
-
-    def classes(self, observable):
-        class_of = {meter: first for first, meter in self.all("class", 2)}
-        self.line("end", 0)
-        return Pairs(class_of, observable)
-
-    def stations(self, observable):
-        entries = [Loss(name, *map(int, numbers), word) for name, *numbers, word in self.all("station", 5)]
-        self.line("end", 0)
-        return Stations(tuple(entries), observable)
-
-    def verified(self):
-        if self.word() == "valid":
-            return Valid(*self.numbers("valid", 1))
-        claim, code, name = self.line("flaw", 3)
-        return Flaw(int(claim), int(code), name)
-
-    def step(self, line):
-        """The answer to a line of a session."""
-        if self.word() == "refused":
-            code, name = self.line("refused", 2)
-            return Refused(int(code), name)
-        if line == "place":
-            return self.placement()
-        return self.report(ASKS[line]) if line in ASKS else Ok(*self.numbers("ok", 2))
-
-    def session(self, lines, observable):
-        return Session(tuple(Step(line, self.step(line)) for line in lines), observable)
-
-    def end(self, found):
-        """What was found, where nothing more stands."""
-        if self.at != len(self.lines):
-            self.line("nothing more", 0)
-        return found

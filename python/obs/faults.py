@@ -1,4 +1,5 @@
 """What is raised where there is no answer."""
+from __future__ import annotations
 
 
 class Error(Exception):
@@ -15,7 +16,13 @@ class Fault(Error):
     text   the line that is printed.
     """
 
-    def __init__(self, text):
+    part: str
+    row: int
+    code: int
+    name: str
+    text: str
+
+    def __init__(self, text: str) -> None:
         _, self.part, row, code, self.name = text.rstrip("\n").split("\t")
         self.row, self.code, self.text = int(row), int(code), text
         where = "line" if self.part in ("cdf", "matpower", "certificate") else "row"
@@ -25,7 +32,7 @@ class Fault(Error):
 class SessionTooLong(Error):
     """The lines of a session have more bytes than a file may have. `text` has the answers to those that end within so many."""
 
-    def __init__(self, text, most=16_777_216):
+    def __init__(self, text: str, most: int = 16_777_216) -> None:
         self.text = text
         super().__init__(f"the lines of the session have more than {most:,} bytes")
 

@@ -4,6 +4,7 @@ use obs_assign::{Assignment, Steps};
 use obs_case::Case;
 use obs_edit::{Done, Session};
 use obs_kept::Kept;
+use obs_network::Present;
 use obs_outage::Outages;
 use obs_pairs::{PairWork, find_classes};
 use obs_placement::Placement;
@@ -159,7 +160,7 @@ fn study(command: &str, case: &mut Case, steps: &mut Steps<Counted>, hash: &mut 
         "stations" => {
             let mut kept = Kept::make(Global, case, steps).expect("memory");
             let mut work = StationWork::make(Global, case).expect("memory");
-            work.find_losses(case, &kept.network, &mut kept.pairs, steps);
+            work.find_losses(&Present::of(case, &kept.network), &mut kept.pairs, steps);
             for entry in work.list() {
                 hash.add_all(&[entry.node, entry.lost, entry.rank]);
             }

@@ -13,6 +13,7 @@ use crate::Move;
 use crate::hold::empty;
 use crate::lose::unlist;
 use crate::memory::NoMemory;
+use crate::places::Places;
 use crate::retain::retain_pairs;
 use obs_forest::Forest;
 use obs_graph::search::Search;
@@ -33,6 +34,8 @@ pub struct Kept {
     owners: Vec<Option<u32>>,
     // the branches of the pairs, at the front
     list: Vec<u32>,
+    // where each of them stands there: a hint
+    places: Places,
     // the branches of the pairs, held
     forest: Forest,
 }
@@ -63,6 +66,7 @@ impl Drop for Kept {
             slots: _,
             owners: _,
             list: _,
+            places: _,
             forest: _,
         } = self;
     }
@@ -87,12 +91,14 @@ impl Kept {
         empty(&mut owners);
         let list = vec![in alloc; 0; most_meters as usize]?;
         let forest = Forest::make(alloc, most_vertices, most_branches)?;
+        let places = Places::make(alloc, most_branches)?;
         Ok(Kept {
             meters: 0,
             count: 0,
             slots,
             owners,
             list,
+            places,
             forest,
         })
     }
@@ -155,6 +161,7 @@ impl Kept {
         self.list[known] = x.branch;
         self.count += 1;
         self.forest.refill_from(g, &self.list[..known + 1], known);
+        self.places.note(x.branch, known as u32);
     }
 
     /// Takes away the pair of a meter and its branch e.
@@ -165,7 +172,7 @@ impl Kept {
     {
         self.slots[m as usize] = None;
         self.owners[e as usize] = None;
-        unlist(&mut self.list, self.count as usize, e);
+        unlist(&mut self.list, self.count as usize, e, &mut self.places);
         self.count -= 1;
         self.forest
             .refill_without(g, &self.list[..self.count as usize], e);

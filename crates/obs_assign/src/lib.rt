@@ -15,6 +15,7 @@ pub mod laws;
 mod lose;
 mod memory;
 mod path;
+mod places;
 mod retain;
 mod spare;
 mod steps;

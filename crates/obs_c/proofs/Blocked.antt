@@ -1,16 +1,14 @@
--- A run over blocks: what it is told, that no read fails, and what stands of what it wrote.
-use Rattle.std.proofs.Common.{◌⊎◌, ◌≡◌, ℕ, ◌+◌, ◌≤◌, min, List, [], ◌∷◌, ◌++◌, length, take, drop, Option, Some, inl, inr, ⊎_elim, sym, ap, ◌∙◌, subst, arith}
-use Rattle.std.proofs.lemmas.List.{length-map, length-take-le, take-append-le, take_all}
+-- A run over blocks: what it is told, that no read fails, and how it ends.
+use Rattle.std.proofs.Common.{◌≡◌, ℕ, ◌+◌, ◌≤◌, min, List, [], ◌∷◌, length, Option, Some, inl, inr, sym, ap, ◌∙◌, subst, arith}
+use Rattle.std.proofs.lemmas.List.{length-map}
 use Rattle.std.specs.Prelude.{String, map, string_bytes}
 use Rattle.obs_c.specs.Blocks.{AreLengths}
 use Rattle.obs_files.specs.declared.status.Status.{Status}
-use Rattle.obs_files.specs.declared.status.Status.TheVariants.{NoMemory}
-use Rattle.obs_engine.specs.Ending.{Answers, Ends, HasRoom}
-use Rattle.obs_engine.specs.Replies.{Reply}
+use Rattle.obs_engine.specs.Ending.{Ends}
 use Rattle.obs_engine.specs.Forms.{AnyReadFailed}
 use Rattle.obs_files.specs.Limits.{Limits}
 use Rattle.obs_files.specs.Outside.{AreTold}
-use Rattle.obs_engine.specs.Stated.{IsStated, Tells, Told}
+use Rattle.obs_engine.specs.Stated.{Tells, Told}
 use Rattle.obs_files.specs.Words.{file_words, form_of}
 
 told_all : (limits : Limits) (content : ℕ → Option (List ℕ)) (file : ℕ → List ℕ) → ((w : ℕ) → content w ≡ Some (file w)) → (words : List ℕ) → AreTold limits content file words
@@ -35,39 +33,14 @@ none_failed limits words content before now left left_now input_before input_now
     not_risen input_before input_now input.rose no_input
 
 -- how the run ends, where its words are those of the block
-pub ends_in : (limits : Limits) (list words : List (List ℕ)) (told : Told) (content : ℕ → Option (List ℕ)) (left left_now : Option (List ℕ)) (status : Status) (before after : Option (List ℕ)) (bytes : List ℕ)
-    → told.limits ≡ limits → list ≡ words → ((w : ℕ) → content w ≡ Some (told.file w)) → left ≡ Some told.input → before ≡ Some [] → after ≡ Some bytes
+pub ends_in : (limits : Limits) (list words : List (List ℕ)) (told : Told) (content : ℕ → Option (List ℕ)) (left left_now : Option (List ℕ)) (status : Status) (before after start end : Option (List ℕ))
+    → told.limits ≡ limits → list ≡ words → ((w : ℕ) → content w ≡ Some (told.file w)) → left ≡ Some told.input → before ≡ start → after ≡ end
     → ((t : Told) → Tells limits (form_of list) content left t → Ends (form_of list) t left_now status before after)
-    → Ends (form_of words) told left_now status (Some []) (Some bytes)
-ends_in limits list words told content left left_now status before after bytes held same are is none all stated =
-    subst (λ (l : List (List ℕ)). Ends (form_of l) told left_now status (Some []) (Some bytes)) same
-    (subst (λ (b : Option (List ℕ)). Ends (form_of list) told left_now status b (Some bytes)) none
+    → Ends (form_of words) told left_now status start end
+ends_in limits list words told content left left_now status before after start end held same are is none all stated =
+    subst (λ (l : List (List ℕ)). Ends (form_of l) told left_now status start end) same
+    (subst (λ (b : Option (List ℕ)). Ends (form_of list) told left_now status b end) none
     (subst (λ (a : Option (List ℕ)). Ends (form_of list) told left_now status before a) all (stated told (tells limits list told content left held are is))))
-
--- where the block has room for the text, all of it is answered, or there is no memory
-pub answers_in : (limits : Limits) (list words : List (List ℕ)) (told : Told) (content : ℕ → Option (List ℕ)) (left : Option (List ℕ)) (status : Status) (before after : Option (List ℕ)) (bytes : List ℕ) (room : ℕ) (has_room : ℕ → Type 0)
-    → told.limits ≡ limits → list ≡ words → ((w : ℕ) → content w ≡ Some (told.file w)) → left ≡ Some told.input → before ≡ Some [] → after ≡ Some bytes
-    → ((n : ℕ) → n ≤ room → has_room n)
-    → ((reply : Reply) → IsStated (form_of words) told reply → length reply.text ≤ room)
-    → ((t : Told) → Tells limits (form_of list) content left t → HasRoom (form_of list) t has_room → (status ≡ NoMemory) ⊎ Answers (form_of list) t status before after)
-    → (status ≡ NoMemory) ⊎ Answers (form_of words) told status (Some []) (Some bytes)
-answers_in limits list words told content left status before after bytes room has_room held same are is none all fits short complete =
-    let wide : HasRoom (form_of list) told has_room = λ reply stated.
-    let low : length reply.text ≤ room = short reply (subst (λ (l : List (List ℕ)). IsStated (form_of l) told reply) same stated) in
-    (0, fits (length reply.text + 0) (omega (arith, low))) in
-    ⊎_elim
-    (λ (e : status ≡ NoMemory). inl e)
-    (λ (answers : Answers (form_of list) told status before after).
-    inr (subst (λ (l : List (List ℕ)). Answers (form_of l) told status (Some []) (Some bytes)) same
-    (subst (λ (b : Option (List ℕ)). Answers (form_of list) told status b (Some bytes)) none
-    (subst (λ (a : Option (List ℕ)). Answers (form_of list) told status before a) all answers))))
-    (complete told (tells limits list told content left held are is) wide)
-
--- what stands in the block at the end: as much of the bytes as it has room for
-pub stands : (bytes text copied : List ℕ) (count : ℕ) → count ≡ min (length bytes) (length text) → copied ≡ take count bytes → take count (copied ++ drop count text) ≡ take count bytes
-stands bytes text copied count is same =
-    let len : length copied ≡ count = ap (λ xs. length xs) same ∙ length-take-le count bytes (omega (arith, is)) in
-    take-append-le count copied (drop count text) (omega (arith, len)) ∙ take_all count copied (omega (arith, len)) ∙ same
 
 -- lengths for as many words as were listed
 pub lengths_of : {A : Type 0} (words : List (List ℕ)) (list : List (String A)) (contents lengths : List ℕ) (count : ℕ) → map string_bytes list ≡ words → count ≡ length list

@@ -1,6 +1,6 @@
 pub mod Blocked
 pub mod Ended
-pub mod Ending
+pub mod Given
 pub mod HandleValues
 pub mod LooseValues
 pub mod Staying

@@ -3,3 +3,4 @@ pub mod Calls
 pub mod Kept
 pub mod Laws
 pub mod Stays
+pub mod Version

@@ -1,8 +1,8 @@
 -- How a session that stays between calls begins, and what one line does to it.
-use Rattle.std.specs.Prelude.{ℕ, ◌≡◌, ◌<◌, ◌⊎◌, ◌++◌, List, [], length, Option, None, Some}
+use Rattle.std.specs.Prelude.{ℕ, ◌≡◌, ◌⊎◌, List, [], Option, None, Some}
 use Rattle.obs_io.specs.Contents.{content_at}
 use Rattle.obs_edit.specs.Sessions.{Session}
-use Rattle.obs_files.specs.declared.status.Status.TheVariants.{Done, NoMemory, WriteFault}
+use Rattle.obs_files.specs.declared.status.Status.TheVariants.{Done, NoMemory}
 use Rattle.obs_files.specs.Codes.{code_of}
 use Rattle.obs_engine.specs.Lines.{line_case}
 use Rattle.obs_engine.specs.Replies.{Reply}
@@ -10,6 +10,7 @@ use Rattle.obs_engine.specs.Stays.{IsBegun, IsNotBegun, line_reply}
 use Rattle.obs_files.specs.Limits.{Limits}
 use Rattle.obs_files.specs.Words.{form_of}
 use Rattle.obs_c.specs.Blocks.{IsCall, malformed, words_in}
+use Rattle.obs_c.specs.Calls.{IsGiven}
 
 -- the number that is answered where a session has begun already, and where none has whose line is to be answered
 abbrev pub out_of_turn : ℕ
@@ -18,12 +19,6 @@ out_of_turn = 9
 -- nothing is done and nothing written, and this is answered
 abbrev pub IsLeft : Option Session → Option Session → ℕ → List ℕ → ℕ → Type 0
 IsLeft before after number bytes answer = (number ≡ answer) × (after ≡ before) × (bytes ≡ [])
-
--- a reply is given in a block with this room: its number and its whole text; or, where the text is longer than the room, a front of it
-abbrev pub IsGiven : Reply → ℕ → ℕ → List ℕ → Type 0
-IsGiven reply room number bytes =
-    ((number ≡ code_of reply.status) × (bytes ≡ reply.text))
-    ⊎ ((number ≡ code_of WriteFault) × (room < length reply.text) × ((rest : List ℕ) × (reply.text ≡ bytes ++ rest)))
 
 -- a session began with the case of these files, and stays; nothing is written
 pub record IsOpened (limits : Limits) (words contents lengths : List ℕ) (after : Option Session) (number : ℕ) (bytes : List ℕ) : Type 0 where

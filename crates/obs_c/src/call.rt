@@ -1,18 +1,17 @@
 // The call.
 ghost use Rattle.std.specs.Prelude.{◌≡◌, ◌≤◌, ◌⊎◌, drop, length, take};
 ghost use Rattle.obs_files.specs.Codes.{code_of};
-ghost use Rattle.obs_engine.specs.Replies.{Reply};
-ghost use Rattle.obs_engine.specs.Stated.{IsStated};
-ghost use Rattle.obs_files.specs.Words.{form_of};
 ghost use Rattle.obs_c.specs.Blocks.{IsCall, malformed, words_in};
-ghost use Rattle.obs_c.specs.Calls.{IsAnswered, IsWhole, limits_for, told_by};
+ghost use Rattle.obs_c.specs.Calls.{IsAnswered, limits_for, told_by};
 ghost use Rattle.obs_files.specs.Limits.{usual_limits};
 
+use crate::deliver::deliver;
+use crate::front::Front;
 use crate::lengths::are_lengths;
 use crate::limits::limits_for;
 use crate::words::{WordsFault, words_of};
 use obs_engine::{Status, run_within};
-use obs_io::{BlockFiles, BlockSource, MemSink};
+use obs_io::{BlockFiles, BlockSource};
 use std::alloc::Global;
 
 // The number that is answered where the blocks aren't words and contents.
@@ -36,17 +35,10 @@ pub extern "C" fn obs_run(
     ensures refused { (IsCall words.now contents.now lengths.now → ⊥)
         → ((result ≡ malformed) ⊎ (result ≡ code_of Status.NoMemory)) × (written.new ≡ 0) × (text.new ≡ text.old) }
 
-    // What is written and answered is what is stated for the words, the contents and the input.
+    // A reply that is stated for the words, the contents and the input is given: as much of its text as fits, and its number,
+    // or 5 where not all of it does. Or there is no memory, and nothing is written.
     ensures stated { IsCall words.now contents.now lengths.now
-        → IsAnswered (words_in words.now) (told_by usual_limits contents.now lengths.now input.now)
-        result (take written.new text.new) }
-
-    // Where the block has room for the text, all of it is answered, or there is no memory.
-    ensures complete { IsCall words.now contents.now lengths.now
-        → ((reply : Reply) → IsStated (form_of (words_in words.now)) (told_by usual_limits contents.now lengths.now input.now) reply
-        → length reply.text ≤ length text.old)
-        → (result ≡ code_of Status.NoMemory)
-        ⊎ IsWhole (words_in words.now) (told_by usual_limits contents.now lengths.now input.now)
+        → IsAnswered (words_in words.now) (told_by usual_limits contents.now lengths.now input.now) (length text.old)
         result (take written.new text.new) }
 
     // Behind what was written the block is as it was.
@@ -72,17 +64,10 @@ pub extern "C" fn obs_run_within(
     ensures refused { (IsCall words.now contents.now lengths.now → ⊥)
         → ((result ≡ malformed) ⊎ (result ≡ code_of Status.NoMemory)) × (written.new ≡ 0) × (text.new ≡ text.old) }
 
-    // What is written and answered is what is stated for the words, the contents and the input.
+    // A reply that is stated for the words, the contents and the input is given: as much of its text as fits, and its number,
+    // or 5 where not all of it does. Or there is no memory, and nothing is written.
     ensures stated { IsCall words.now contents.now lengths.now
-        → IsAnswered (words_in words.now) (told_by (limits_for large) contents.now lengths.now input.now)
-        result (take written.new text.new) }
-
-    // Where the block has room for the text, all of it is answered, or there is no memory.
-    ensures complete { IsCall words.now contents.now lengths.now
-        → ((reply : Reply) → IsStated (form_of (words_in words.now)) (told_by (limits_for large) contents.now lengths.now input.now) reply
-        → length reply.text ≤ length text.old)
-        → (result ≡ code_of Status.NoMemory)
-        ⊎ IsWhole (words_in words.now) (told_by (limits_for large) contents.now lengths.now input.now)
+        → IsAnswered (words_in words.now) (told_by (limits_for large) contents.now lengths.now input.now) (length text.old)
         result (take written.new text.new) }
 
     // Behind what was written the block is as it was.
@@ -98,7 +83,7 @@ pub extern "C" fn obs_run_within(
     if !are_lengths(list.len(), contents, lengths) {
         return MALFORMED;
     }
-    let Ok(mut output) = MemSink::with_room(alloc, text.len(), usize::MAX, Vec::new(alloc)) else {
+    let Ok(mut output) = Front::with_room(alloc, text.len() + 1) else {
         return Status::NoMemory.code();
     };
     let mut files = BlockFiles::new(contents, lengths);
@@ -111,12 +96,5 @@ pub extern "C" fn obs_run_within(
         &mut source,
         &mut output,
     );
-    let bytes = output.written();
-    let count = bytes.len().min(text.len());
-    text[..count].copy_from_slice(&bytes[..count]);
-    *written = count;
-    if count < bytes.len() {
-        return Status::WriteFault.code();
-    }
-    status.code()
+    deliver(output.bytes(), status, text, written)
 }

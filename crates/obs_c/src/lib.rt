@@ -3,6 +3,8 @@
 #![tactic(auto)]
 
 mod call;
+mod deliver;
+mod front;
 mod handle;
 pub mod laws;
 mod lengths;
@@ -10,9 +12,11 @@ mod limits;
 mod loose;
 mod slot;
 mod stay;
+mod version;
 mod words;
 
 pub use call::{obs_run, obs_run_within};
 pub use handle::Handle;
 pub use slot::Slot;
 pub use stay::{obs_session_begin, obs_session_begin_within, obs_session_end, obs_session_line};
+pub use version::obs_version;

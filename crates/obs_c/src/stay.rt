@@ -1,16 +1,17 @@
 // A session that stays between calls.
-ghost use Rattle.std.specs.Prelude.{◌≡◌, ◌<◌, ◌≤◌, None, drop, length, take};
-ghost use Rattle.obs_files.specs.Codes.{code_of};
+ghost use Rattle.std.specs.Prelude.{◌≡◌, ◌≤◌, None, drop, length, take};
 ghost use Rattle.obs_c.specs.Calls.{limits_for};
 ghost use Rattle.obs_c.specs.Stays.{IsLineAnswered, IsBeginning};
 ghost use Rattle.obs_files.specs.Limits.{usual_limits};
 
+use crate::deliver::deliver;
+use crate::front::Front;
 use crate::lengths::are_lengths;
 use crate::limits::limits_for;
 use crate::slot::Slot;
 use crate::words::{WordsFault, words_of};
 use obs_engine::{Status, answer_one, begin_session_within};
-use obs_io::{BlockFiles, MemSink};
+use obs_io::BlockFiles;
 use std::alloc::Global;
 
 // The number that is answered where the blocks aren't words and contents.
@@ -18,25 +19,6 @@ const MALFORMED: u8 = 8;
 
 // The number that is answered where a session has begun already, and where none has whose line is to be answered.
 const OUT_OF_TURN: u8 = 9;
-
-// Copies bytes into a block, as many as there is room for, says how many, and answers the number of their status, or 5
-// where the block is too short.
-fn deliver(bytes: &[u8], status: Status, text: &mut [u8], written: &mut usize) -> u8
-    ensures whole { length bytes.now ≤ length text.old
-        → (result ≡ code_of status) × (take written.new text.new ≡ bytes.now) }
-    ensures part { length text.old < length bytes.now
-        → (result ≡ code_of Status.WriteFault) × (take written.new text.new ≡ take (length text.old) bytes.now) }
-    ensures within { written.new ≤ length text.old }
-    ensures rest { drop written.new text.new ≡ drop written.new text.old }
-{
-    let count = bytes.len().min(text.len());
-    text[..count].copy_from_slice(&bytes[..count]);
-    *written = count;
-    if count < bytes.len() {
-        return Status::WriteFault.code();
-    }
-    status.code()
-}
 
 /// Begins a session, which stays. The words, the contents and the lengths are those of `obs_run`, with the words of a
 /// session. The answer is 0 where it began, and nothing is written; 2 with the usage line for other words; else what
@@ -94,7 +76,7 @@ pub extern "C" fn obs_session_begin_within(
     if !are_lengths(list.len(), contents, lengths) {
         return MALFORMED;
     }
-    let Ok(mut output) = MemSink::with_room(alloc, text.len(), usize::MAX, Vec::new(alloc)) else {
+    let Ok(mut output) = Front::with_room(alloc, text.len() + 1) else {
         return Status::NoMemory.code();
     };
     let mut files = BlockFiles::new(contents, lengths);
@@ -106,7 +88,7 @@ pub extern "C" fn obs_session_begin_within(
             slot.put(session);
             Status::Done.code()
         }
-        Err(status) => deliver(output.written(), status, text, written),
+        Err(status) => deliver(output.bytes(), status, text, written),
     }
 }
 
@@ -133,13 +115,13 @@ pub extern "C" fn obs_session_line(
     let Some(mut session) = slot.take(alloc) else {
         return OUT_OF_TURN;
     };
-    let Ok(mut output) = MemSink::with_room(alloc, text.len(), usize::MAX, Vec::new(alloc)) else {
+    let Ok(mut output) = Front::with_room(alloc, text.len() + 1) else {
         slot.put(session);
         return Status::NoMemory.code();
     };
     let status = answer_one(&mut output, &mut session, line);
     slot.put(session);
-    deliver(output.written(), status, text, written)
+    deliver(output.bytes(), status, text, written)
 }
 
 /// Ends a session, and gives back its memory. Nothing stays, also where none had begun.

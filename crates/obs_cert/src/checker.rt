@@ -10,11 +10,10 @@ use crate::flaw::Flaw;
 use crate::keys::sort_keys;
 use crate::layers::count_live;
 use crate::memory::NoMemory;
-use crate::present::Present;
 use crate::walk::next_claim;
 use crate::work::Work;
 use obs_case::Case;
-use obs_network::Network;
+use obs_network::{Network, Present};
 use std::alloc::Global;
 use std::marker::Model;
 

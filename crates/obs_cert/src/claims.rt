@@ -17,11 +17,11 @@ use crate::forests::{forest, has_pair_twice, has_unknown_pair};
 use crate::lists::{count, has_outside, has_twice, has_unknown};
 use crate::pairs::has_untouched;
 use crate::plans::plan;
-use crate::present::Present;
 use crate::scopes::{Scope, component_named};
 use crate::stars::measure_listed;
 use crate::walk::{ClaimLines, Sort, walk_items, walk_pairs};
 use crate::work::Work;
+use obs_network::Present;
 
 // The flaw of a tree claim.
 fn tree(

@@ -12,10 +12,10 @@ ghost use Rattle.obs_cert.specs.Walked.{parts_in};
 use crate::flaw::FlawCode;
 use crate::lists::{has_twice, has_unknown};
 use crate::pairs::{has_branch_twice, has_unknown_branch, measure_pairs};
-use crate::present::Present;
 use crate::walk::{Sort, walk_items, walk_pairs};
 use crate::work::Work;
 use obs_case::Case;
+use obs_network::Present;
 
 /// Whether a name or a word of the pairs stands for nothing.
 pub(crate) fn has_unknown_pair(case: &Case, rest: &[u8]) -> bool

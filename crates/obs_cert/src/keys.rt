@@ -4,9 +4,9 @@ ghost use Rattle.obs_case.specs.Tables.{IsValid};
 ghost use Rattle.obs_cert.specs.Keys.{AreKeys, key_of, keys_of};
 ghost use Rattle.obs_cert.specs.Scopes.{is_below, scope_of};
 
-use crate::present::Present;
 use crate::scopes::{is_live, is_meter, price_at};
 use obs_case::Case;
+use obs_network::Present;
 
 // The key of an item.
 fn key_of(present: &Present<'_>, m: u32) -> u128

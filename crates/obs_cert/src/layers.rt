@@ -14,10 +14,10 @@ use crate::joins::clear;
 use crate::keys::count_below;
 use crate::lists::{count, join_items};
 use crate::numbers::item_of;
-use crate::present::Present;
 use crate::scopes::{is_live, is_meter, price_at};
 use crate::walk::{Items, Layers, Sort, walk_items};
 use obs_case::Case;
+use obs_network::Present;
 
 /// What is known of the items that were listed so far:
 /// whether one is idle, and what the dearest of the candidates costs.

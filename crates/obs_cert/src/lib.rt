@@ -19,7 +19,6 @@ mod numbers;
 mod pairs;
 mod place;
 mod plans;
-mod present;
 mod scopes;
 mod stars;
 mod walk;

@@ -14,10 +14,10 @@ ghost use Rattle.obs_cert.specs.Scopes.{price_at, touches_of};
 use crate::joins::{clear, join_all};
 use crate::marks::mark;
 use crate::numbers::{is_known, item_of};
-use crate::present::Present;
 use crate::scopes::{Scope, in_scope, price_at};
 use crate::walk::Items;
 use obs_case::Case;
+use obs_network::Present;
 
 /// Whether an item isn't in its table.
 pub(crate) fn has_unknown(case: &Case, items: Items<'_>) -> bool

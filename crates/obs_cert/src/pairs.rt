@@ -12,11 +12,11 @@ ghost use Rattle.obs_cert.specs.Numbered.{pairs_of};
 use crate::joins::{clear, ends_of, join};
 use crate::marks::mark;
 use crate::numbers::{branch_of, is_known_branch, item_of};
-use crate::present::Present;
 use crate::scopes::touches;
 use crate::walk::Pairs;
 use obs_case::Case;
 use obs_graph::Graph;
+use obs_network::Present;
 
 /// Whether a word of a pair stands for no branch.
 pub(crate) fn has_unknown_branch(case: &Case, pairs: Pairs<'_>) -> bool

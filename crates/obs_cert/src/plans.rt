@@ -19,11 +19,11 @@ use crate::layers::{
 };
 use crate::lists::{cost, has_outside, has_twice, has_unknown};
 use crate::pairs::has_untouched;
-use crate::present::Present;
 use crate::scopes::Scope;
 use crate::walk::{Sort, walk_items, walk_layers, walk_pairs};
 use crate::work::Work;
 use obs_case::Case;
+use obs_network::Present;
 
 // The flaw of the cost, and of what the layers state beside their ranks and numbers outside.
 fn costs(case: &Case, number: u64, needed: u32, rest: &[u8]) -> Option<FlawCode>

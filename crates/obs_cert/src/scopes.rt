@@ -10,10 +10,10 @@ ghost use Rattle.obs_cert.specs.Scopes.{is_live_item, is_this, named_component, 
 ghost use Rattle.obs_case.specs.Tables.{has_name, node_names};
 ghost use Rattle.obs_cert.specs.InScope.{in_scope};
 
-use crate::present::Present;
 use obs_case::Case;
 use obs_graph::Graph;
 use obs_meter::Meters;
+use obs_network::Present;
 
 /// Which items a claim may speak of.
 #[derive(Clone, Copy)]

@@ -15,8 +15,8 @@ use crate::joins::{clear, join_all};
 use crate::line::Item;
 use crate::lists::measure_items;
 use crate::numbers::item_of;
-use crate::present::Present;
 use crate::walk::{Items, Sort, walk_items};
+use obs_network::Present;
 
 // The one item that is listed.
 fn only(items: Items<'_>) -> Option<Item<'_>>

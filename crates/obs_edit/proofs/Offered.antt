@@ -12,10 +12,7 @@ use Rattle.obs_network.specs.Network.{Network, case_branches, case_needed, case_
 use Rattle.obs_network.proofs.OfCase.{case_vertex_count-le, length-case_branches, length-case_offered}
 use Rattle.obs_edit.specs.Planned.{offered_room}
 
-module _ (t : Tables) (n : Network) (g : Graph) (i : Meters) (same : n ≡ network_of t) (graph : g ≡ n.graph) (offered : i ≡ n.offered) where
-  graph_is : g ≡ (network_of t).graph
-  graph_is = graph ∙ ap (λ (x : Network). x.graph) same
-
+module _ (t : Tables) (n : Network) (g : Graph) (i : Meters) (same : n ≡ network_of t) (graph_is : g ≡ (network_of t).graph) (offered : i ≡ n.offered) where
   touches_are : i.touches ≡ case_offered t
   touches_are = ap (λ (x : Meters). x.touches) offered ∙ ap (λ (x : Network). x.offered.touches) same
 

@@ -3,7 +3,7 @@ use Rattle.std.proofs.Common.{◌≡◌, ◌∙◌, Bool, false, refl, sym, subs
 use Rattle.obs_case.specs.Tables.{Tables}
 use Rattle.obs_matroid.proofs.Lists.{clash}
 use Rattle.obs_assign.specs.Assignment.{StandsOver, pairs}
-use Rattle.obs_network.specs.Network.{Network, network_of}
+use Rattle.obs_network.specs.Network.{case_offered, network_of}
 use Rattle.obs_edit.specs.Planned.{Planning, case_placed_pairs, case_placement, new_planning}
 use Rattle.obs_edit.specs.Sessions.{IsPlacing}
 
@@ -21,13 +21,13 @@ pub placing_begun : (t : Tables) (offered at_hand : Bool) (p : Planning) → at_
 placing_begun t offered at_hand p none made = subst (λ (x : Planning). IsPlacing t offered at_hand x) (sym made) (placing_made t offered at_hand none)
 
 -- as it is found over the network of a case, in the arrays of another
-pub placing_found : (t : Tables) (network : Network) (old new : Planning) (offered at_hand : Bool) → IsPlacing t offered at_hand old → network ≡ network_of t
-    → new.placed ≡ case_placement t → pairs new.pairs ≡ case_placed_pairs t → StandsOver new.pairs network.graph network.offered.touches
+pub placing_found : (t : Tables) (old new : Planning) (offered at_hand : Bool) → IsPlacing t offered at_hand old
+    → new.placed ≡ case_placement t → pairs new.pairs ≡ case_placed_pairs t → StandsOver new.pairs (network_of t).graph (case_offered t)
     → new.prices ≡ old.prices → new.sizes ≡ old.sizes → (now : Bool) → IsPlacing t offered now new
-placing_found t network old new offered at_hand was same placed paired stands prices sizes now = record {
+placing_found t old new offered at_hand was placed paired stands prices sizes now = record {
   prices = prices ∙ was.prices;
   sizes = λ some. sizes ∙ was.sizes some;
   placed = λ _. placed;
   pairs = λ _. paired;
-  stands = λ _. subst (λ (n : Network). StandsOver new.pairs n.graph n.offered.touches) same stands;
+  stands = λ _. stands;
 }

@@ -12,6 +12,7 @@ use crate::asks::{find_first, find_islands};
 use crate::placing::place;
 use crate::session::Session;
 use obs_assign::{Assignment, Steps};
+use obs_network::Present;
 use obs_placement::Placement;
 use obs_rankcut::Bound;
 use obs_repair::{find_bound, find_critical};
@@ -27,13 +28,11 @@ impl Session {
         if self.answers.hand.first {
             return;
         }
-        find_first(
-            &self.case,
-            &self.network,
-            &mut self.held.pairs,
-            &mut self.held.work,
-            steps,
-        );
+        let present = Present {
+            case: &self.case,
+            network: &self.network,
+        };
+        find_first(&present, &mut self.held.pairs, &mut self.held.work, steps);
         self.answers.hand.first = true;
     }
 
@@ -47,9 +46,12 @@ impl Session {
         if self.answers.hand.critical {
             return;
         }
+        let present = Present {
+            case: &self.case,
+            network: &self.network,
+        };
         find_critical(
-            &self.case,
-            &self.network,
+            &present,
             &mut self.held.pairs,
             &mut self.held.work,
             &mut self.answers.marks,
@@ -69,7 +71,11 @@ impl Session {
         if self.answers.hand.islands {
             return;
         }
-        find_islands(&self.case, &self.network, &mut self.answers.islands, steps);
+        let present = Present {
+            case: &self.case,
+            network: &self.network,
+        };
+        find_islands(&present, &mut self.answers.islands, steps);
         self.answers.hand.islands = true;
     }
 
@@ -83,9 +89,12 @@ impl Session {
         ensures pairs { self.new.pairs ≡ self.old.pairs }
         ensures at_hand { self.new.at_hand ≡ record self.old.at_hand { bound = Some c } }
     {
+        let present = Present {
+            case: &self.case,
+            network: &self.network,
+        };
         self.answers.measured = find_bound(
-            &self.case,
-            &self.network,
+            &present,
             &self.held.pairs,
             &self.answers.marks,
             &mut self.answers.inside,
@@ -151,7 +160,11 @@ impl Session {
         if self.answers.hand.placed {
             return;
         }
-        place(&self.case, &self.network, &mut self.placing, steps);
+        let present = Present {
+            case: &self.case,
+            network: &self.network,
+        };
+        place(&present, &mut self.placing, steps);
         self.answers.hand.placed = true;
     }
 

@@ -5,7 +5,7 @@ ghost use Rattle.obs_meter.specs.Sizes.{HasRoomFor};
 ghost use Rattle.obs_meter.specs.Touches.{AreInRange};
 ghost use Rattle.obs_assign.specs.Assignment.{StandsOver, pairs as pairs_at};
 ghost use Rattle.obs_placement.specs.Placed.{placed_of, placement_of};
-ghost use Rattle.obs_network.specs.Network.{network_of};
+ghost use Rattle.obs_network.specs.Network.{case_offered, network_of};
 ghost use Rattle.obs_edit.specs.Planned.{case_placed_pairs, case_placement, new_planning, offered_room, placed_pairs, planning_of};
 
 use crate::pairing::Pairing;
@@ -13,7 +13,7 @@ use obs_assign::{Assignment, Steps};
 use obs_case::{Candidate, Case};
 use obs_graph::Graph;
 use obs_meter::Meters;
-use obs_network::{Network, position_count, vertex_room};
+use obs_network::{Present, position_count, vertex_room};
 use obs_placement::{PlaceWork, Placement, find_placement};
 use obs_repair::NoMemory;
 use std::alloc::Global;
@@ -170,24 +170,19 @@ impl Placing {
 }
 
 /// Finds the placement of a case, and its pairs. No memory is taken.
-pub(crate) fn place<L: Ledger>(
-    case: &Case,
-    network: &Network,
-    placing: &mut Placing,
-    steps: &mut Steps<L>,
-)
-    requires network { network.now ≡ network_of case.now }
-    requires prices { placing.old.prices ≡ prices_of case.now.candidates }
-    requires sizes { placing.old.sizes ≡ offered_room case.now }
-    ensures placed { placing.new.placed ≡ case_placement case.now }
-    ensures pairs { pairs_at placing.new.pairs ≡ case_placed_pairs case.now }
-    ensures stands { StandsOver placing.new.pairs network.now.graph network.now.offered.touches }
+pub(crate) fn place<L: Ledger>(present: &Present<'_>, placing: &mut Placing, steps: &mut Steps<L>)
+    requires prices { placing.old.prices ≡ prices_of present.now.candidates }
+    requires sizes { placing.old.sizes ≡ offered_room present.now }
+    ensures placed { placing.new.placed ≡ case_placement present.now }
+    ensures pairs { pairs_at placing.new.pairs ≡ case_placed_pairs present.now }
+    ensures stands { StandsOver placing.new.pairs (network_of present.now).graph (case_offered present.now) }
     ensures same_prices { placing.new.prices ≡ placing.old.prices }
     ensures same_sizes { placing.new.sizes ≡ placing.old.sizes }
 {
-    let meters = case.meters().len() as u32;
+    let network = present.network();
+    let meters = present.case().meters().len() as u32;
     placing.find(
-        network.graph(),
+        present.graph(),
         network.offered(),
         meters,
         network.needed(),

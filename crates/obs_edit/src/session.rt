@@ -16,7 +16,7 @@ use crate::hand::AtHand;
 use crate::placing::Placing;
 use obs_assign::{Assignment, Steps};
 use obs_case::Case;
-use obs_network::Network;
+use obs_network::{Network, Present};
 use obs_repair::{
     Edit, Held, Meant, NoMemory, Refusal, fill, has_enough, is_set, make_held, meant, repair,
     set_flag,
@@ -123,7 +123,11 @@ impl Session {
         let Ok(answers) = make_answers(alloc, &case) else {
             return Err(NoMemory);
         };
-        fill(&case, &network, &mut held.pairs, &mut held.work, steps);
+        let present = Present {
+            case: &case,
+            network: &network,
+        };
+        fill(&present, &mut held.pairs, &mut held.work, steps);
         Ok(Session {
             case,
             network,
@@ -184,7 +188,11 @@ impl Session {
         requires energised { is_energised_component self.now.tables c ≡ true }
         ensures observable { IsTrue result ↔ IsObservable self.now.tables c }
     {
-        has_enough(&self.case, &self.network, &self.held.pairs, c)
+        let present = Present {
+            case: &self.case,
+            network: &self.network,
+        };
+        has_enough(&present, &self.held.pairs, c)
     }
 
     // What is said of an edit that took so many searches.

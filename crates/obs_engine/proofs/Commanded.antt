@@ -20,6 +20,7 @@ use Rattle.obs_engine.specs.Sessions.{IsTakenFront, SessionAt, answered_within, 
 use Rattle.obs_engine.specs.Stated.{Told}
 use Rattle.obs_engine.proofs.Endings.{behind_of, complete_stated, ends_stated, replied_statuses, unwritten}
 use Rattle.obs_engine.proofs.Replied.{case-can, case_no_failure, nothing_before, stated_no_failure}
+use Rattle.obs_engine.proofs.Summed.{not_for_files}
 
 -- the reply to files that are this case
 files_replied : (form : Form) (t : Tables) (certificate : List ℕ) (reply : Reply) (told : Told) → case_in_files told.limits form told.file ≡ Ok t → certificate_in form told.file ≡ certificate
@@ -155,21 +156,11 @@ nothing_taken {status = status} left stops input is = record {
   rest = is;
   within = omega arith;
   bound = omega arith;
-  all = λ e. absurd (by stops e);
+  all = λ e. not_for_files stops e;
   too_long = λ e. absurd (long stops e);
   refused = λ e. refl;
 }
   where
-    by : (status ≡ InputFault) ⊎ (status ≡ ReadFault) ⊎ (status ≡ WriteFault) ⊎ (status ≡ NoMemory) → (status ≡ Done) ⊎ (status ≡ Short) → ⊥
-    by (inl s) (inl e) = absurd cc
-    by (inl s) (inr e) = absurd cc
-    by (inr (inl s)) (inl e) = absurd cc
-    by (inr (inl s)) (inr e) = absurd cc
-    by (inr (inr (inl s))) (inl e) = absurd cc
-    by (inr (inr (inl s))) (inr e) = absurd cc
-    by (inr (inr (inr s))) (inl e) = absurd cc
-    by (inr (inr (inr s))) (inr e) = absurd cc
-
     long : (status ≡ InputFault) ⊎ (status ≡ ReadFault) ⊎ (status ≡ WriteFault) ⊎ (status ≡ NoMemory) → status ≡ SessionTooLong → ⊥
     long (inl s) e = absurd cc
     long (inr (inl s)) e = absurd cc

@@ -26,3 +26,4 @@ pub mod OutagesBorne
 pub mod LossesBorne
 pub mod FailTogether
 pub mod Staying
+pub mod Summed

@@ -14,6 +14,7 @@ pub mod Stated
 pub mod StationReply
 pub mod Stays
 pub mod Studies
+pub mod Summaries
 pub mod Tasks
 pub mod Topology
 pub mod Trials

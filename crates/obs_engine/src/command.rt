@@ -5,6 +5,7 @@ ghost use Rattle.obs_files.specs.Words.{HasRows};
 ghost use Rattle.obs_engine.specs.Forms.{TakesInput};
 ghost use Rattle.obs_engine.specs.Trials.{AreInService};
 ghost use Rattle.obs_engine.specs.Runs.{IsAnswered, IsRun};
+ghost use Rattle.obs_engine.specs.Summaries.{IsSummed, IsWholeAnswer, form_summary};
 
 use crate::refused::refuse_files;
 use crate::studies::answer_study;
@@ -14,10 +15,12 @@ use crate::verify::answer_verify;
 use obs_case::Case;
 use obs_files::{CaseCommand, Form, Limits, Status, take_case};
 use obs_io::{Files, Sink, Source};
+use obs_notice::Summary;
 use obs_script::Ask;
 use std::alloc::Global;
 
-// Answers a case: in a session the lines of the input, which may have so many bytes, and where a certificate is checked its claims.
+// Answers a case: in a session the lines of the input, which may have so many bytes, and where a certificate is checked its claims. The
+// summary of the case is that which goes with the answer.
 fn answer_case<S: Source, W: Sink>(
     alloc: Global,
     form: Form,
@@ -26,16 +29,17 @@ fn answer_case<S: Source, W: Sink>(
     most_bytes: usize,
     input: &mut S,
     output: &mut W,
-) -> Status
+) -> (Status, Option<Summary>)
     requires few { length certificate.now ≤ most_file_bytes }
     requires bound { most_bytes ≤ most_file_bytes }
     requires inservice { (rows seed : ℕ) → form ≡ Form.Trial rows seed → AreInService case }
     ensures answered { IsAnswered S.left S.faults S.steady W.written W.faults W.has_room most_bytes form case certificate.now
-        input.old input.new output.old output.new result }
+        input.old input.new output.old output.new result.0 }
     ensures input { (TakesInput (Some form) → ⊥) → input.new ≡ input.old }
+    ensures summary { IsWholeAnswer result.0 → result.1 ≡ form_summary form case }
 {
     match form {
-        Form::Topology => answer_topology(alloc, output, &case),
+        Form::Topology => (answer_topology(alloc, output, &case), None),
         Form::Case(command, _) => match command {
             CaseCommand::Report => {
                 let task = Task::Answer(Ask::Report);
@@ -55,7 +59,9 @@ fn answer_case<S: Source, W: Sink>(
                     output,
                 )
             }
-            CaseCommand::Verify { .. } => answer_verify(alloc, output, &case, certificate),
+            CaseCommand::Verify { .. } => {
+                (answer_verify(alloc, output, &case, certificate), None)
+            }
             CaseCommand::Study(study) => answer_study(alloc, study, case, output),
         },
         Form::Trial { rows, seed } => {
@@ -65,7 +71,7 @@ fn answer_case<S: Source, W: Sink>(
     }
 }
 
-/// Runs a command of this form.
+/// Runs a command of this form, with the summary of the case that goes with its answer.
 pub(crate) fn command<F: Files, S: Source, W: Sink>(
     alloc: Global,
     limits: Limits,
@@ -73,12 +79,13 @@ pub(crate) fn command<F: Files, S: Source, W: Sink>(
     files: &mut F,
     input: &mut S,
     output: &mut W,
-) -> Status
+) -> (Status, Option<Summary>)
     requires furthest { limits.bytes ≤ F.furthest }
     requires rows { HasRows form }
     ensures ran { IsRun F.content F.faults F.steady S.left S.faults S.steady W.written W.faults W.has_room limits (Some form)
-        files.old files.new input.old input.new output.old output.new result }
+        files.old files.new input.old input.new output.old output.new result.0 }
     ensures input { (TakesInput (Some form) → ⊥) → input.new ≡ input.old }
+    ensures summary { IsWholeAnswer result.0 → IsSummed limits (Some form) (F.content files.old) result.1 }
 {
     match take_case(alloc, limits, files, form) {
         Ok(taken) => answer_case(
@@ -90,6 +97,6 @@ pub(crate) fn command<F: Files, S: Source, W: Sink>(
             input,
             output,
         ),
-        Err(why) => refuse_files(output, why),
+        Err(why) => (refuse_files(output, why), None),
     }
 }

@@ -18,12 +18,14 @@ mod serving;
 mod stations;
 mod stays;
 mod studies;
+mod summary;
 mod tasks;
 mod topology;
 mod trial;
 mod verify;
 
 pub use obs_files::{Limits, Status};
-pub use program::{run, run_within};
+pub use obs_notice::Summary;
+pub use program::{run, run_with_summary, run_within};
 pub use serving::serve;
 pub use stays::{answer_one, begin_session, begin_session_within};

@@ -1,5 +1,5 @@
 // The outages of a case, printed.
-ghost use Rattle.std.specs.Prelude.{◌≡◌, ◌<◌, [], ◌∷◌, All, codes, decimal, length};
+ghost use Rattle.std.specs.Prelude.{◌≡◌, ◌<◌, [], ◌∷◌, All, Some, codes, decimal, length};
 ghost use Rattle.obs_network.specs.Network.{network_of};
 ghost use Rattle.obs_kept.specs.Kept.{AreLongest};
 ghost use Rattle.obs_outage.specs.Outages.{outages_of};
@@ -7,12 +7,15 @@ ghost use Rattle.obs_report.specs.Lines.{line_of};
 ghost use Rattle.obs_report.specs.Printed.{Appends, Prints};
 ghost use Rattle.obs_engine.specs.OutageReply.{are_met, outage_line, outages_reply, outages_status, outages_text};
 ghost use Rattle.obs_engine.specs.Replies.{IsReplied};
+ghost use Rattle.obs_engine.specs.Summaries.{IsWholeAnswer, summary_of};
 
 use crate::judged::{kept_verdict, printed_status};
+use crate::summary::sum_up;
 use obs_assign::Steps;
 use obs_case::Case;
 use obs_files::Status;
 use obs_io::{Failed, Sink};
+use obs_notice::Summary;
 use obs_outage::{Outage, Outages};
 use obs_report::{LineBuffer, branch_name, verdict_word};
 use obs_text::Digits;
@@ -108,19 +111,24 @@ fn print_outages<W: Sink>(output: &mut W, case: &Case, entries: &[Outage]) -> Re
     lines.finish(output)
 }
 
-/// Answers `outages` on a case, which is as it was afterwards. All is found before the first byte is written.
+/// Answers `outages` on a case, which is as it was afterwards, with its summary. All is found before the first byte is written.
 pub(crate) fn answer_outages<W: Sink, L: Ledger>(
     alloc: Global,
     output: &mut W,
     case: &mut Case,
     steps: &mut Steps<L>,
-) -> Status
-    ensures replied { IsReplied W.written W.faults W.has_room output.old output.new result (outages_reply case.old) }
+) -> (Status, Option<Summary>)
+    ensures replied { IsReplied W.written W.faults W.has_room output.old output.new result.0 (outages_reply case.old) }
+    ensures summary { IsWholeAnswer result.0 → result.1 ≡ Some (summary_of case.old) }
 {
     let Ok(mut outages) = Outages::make(alloc, case, steps) else {
-        return Status::NoMemory;
+        return (Status::NoMemory, None);
+    };
+    let Ok(summary) = sum_up(alloc, case, outages.network()) else {
+        return (Status::NoMemory, None);
     };
     outages.find_list(case, steps);
     let status = status_of(case, &outages);
-    printed_status(print_outages(output, case, outages.found()), status)
+    let outcome = print_outages(output, case, outages.found());
+    (printed_status(outcome, status), Some(summary))
 }

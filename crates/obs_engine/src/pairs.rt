@@ -6,8 +6,10 @@ ghost use Rattle.obs_kept.specs.Kept.{AreLongest};
 ghost use Rattle.obs_report.specs.Printed.{Appends, Prints};
 ghost use Rattle.obs_engine.specs.PairReply.{case_classes, class_line, class_lines, classes_text, pairs_reply};
 ghost use Rattle.obs_engine.specs.Replies.{IsReplied};
+ghost use Rattle.obs_engine.specs.Summaries.{IsWholeAnswer, summary_of};
 
 use crate::judged::{kept_verdict, printed_status};
+use crate::summary::sum_up;
 use obs_assign::Steps;
 use obs_case::Case;
 use obs_files::Status;
@@ -15,6 +17,7 @@ use obs_graph::Graph;
 use obs_io::{Failed, Sink};
 use obs_kept::Kept;
 use obs_meter::Meters;
+use obs_notice::Summary;
 use obs_pairs::{NoMemory, PairWork, find_classes};
 use obs_report::{LineBuffer, meter_name};
 use std::alloc::Global;
@@ -96,22 +99,27 @@ fn print_classes<W: Sink>(output: &mut W, case: &Case, work: &PairWork) -> Resul
     lines.finish(output)
 }
 
-/// Answers `pairs` on a case. All is found before the first byte is written.
+/// Answers `pairs` on a case, with its summary. All is found before the first byte is written.
 pub(crate) fn answer_pairs<W: Sink, L: Ledger>(
     alloc: Global,
     output: &mut W,
     case: &Case,
     steps: &mut Steps<L>,
-) -> Status
-    ensures replied { IsReplied W.written W.faults W.has_room output.old output.new result (pairs_reply case.now) }
+) -> (Status, Option<Summary>)
+    ensures replied { IsReplied W.written W.faults W.has_room output.old output.new result.0 (pairs_reply case.now) }
+    ensures summary { IsWholeAnswer result.0 → result.1 ≡ Some (summary_of case.now) }
 {
     let Ok(mut kept) = Kept::make(alloc, case, steps) else {
-        return Status::NoMemory;
+        return (Status::NoMemory, None);
     };
     let Ok(mut work) = make_work(alloc, kept.network.graph(), kept.network.meters()) else {
-        return Status::NoMemory;
+        return (Status::NoMemory, None);
+    };
+    let Ok(summary) = sum_up(alloc, case, &kept.network) else {
+        return (Status::NoMemory, None);
     };
     find_case_classes(case, &mut kept, &mut work, steps);
     let status = kept_verdict(case, &kept.network, &kept.pairs);
-    printed_status(print_classes(output, case, &work), status)
+    let outcome = print_classes(output, case, &work);
+    (printed_status(outcome, status), Some(summary))
 }

@@ -5,15 +5,47 @@ ghost use Rattle.obs_engine.specs.Ending.{Answers, Ends, HasRoom};
 ghost use Rattle.obs_engine.specs.Forms.{AnyReadFailed, CanAnswer, TakesInput};
 ghost use Rattle.obs_files.specs.Limits.{usual_limits};
 ghost use Rattle.obs_files.specs.Outside.{IsFileWord};
+ghost use Rattle.obs_engine.specs.Runs.{IsRun};
 ghost use Rattle.obs_engine.specs.Sessions.{IsTakenFront};
 ghost use Rattle.obs_engine.specs.Stated.{Told, Tells};
+ghost use Rattle.obs_engine.specs.Summaries.{IsSummed, IsWholeAnswer};
 ghost use Rattle.obs_files.specs.Words.{form_of};
 
 use crate::command::command;
 use crate::refused::refuse_words;
 use obs_files::{Limits, Status, form_of_words};
 use obs_io::{Files, Sink, Source};
+use obs_notice::Summary;
 use std::alloc::Global;
+
+/// Does all that the program does, with these limits, and hands back what is said of the case beside the answer: a report's,
+/// a placement's and a study's has a summary. The words are those behind the program's own name; `files` numbers a file by
+/// the position of its word. The input is taken by sessions alone, and has as many bytes as a file at the most.
+pub fn run_with_summary<F: Files, S: Source, W: Sink>(
+    alloc: Global,
+    limits: Limits,
+    words: &[String],
+    files: &mut F,
+    input: &mut S,
+    output: &mut W,
+) -> (Status, Option<Summary>)
+    // Files can be read as far as the limit.
+    requires furthest { limits.bytes ≤ F.furthest }
+
+    // It is a run of the words.
+    ensures ran { IsRun F.content F.faults F.steady S.left S.faults S.steady W.written W.faults W.has_room
+        limits (form_of (map string_bytes words.now)) files.old files.new input.old input.new output.old output.new result.0 }
+    ensures input { (TakesInput (form_of (map string_bytes words.now)) → ⊥) → input.new ≡ input.old }
+
+    // The summary that goes with a whole answer is that of the case which the files are.
+    ensures summary { IsWholeAnswer result.0
+        → IsSummed limits (form_of (map string_bytes words.now)) (F.content files.old) result.1 }
+{
+    let Some(form) = form_of_words(words) else {
+        return (refuse_words(output), None);
+    };
+    command(alloc, limits, form, files, input, output)
+}
 
 /// Does all that the program does, with these limits. The words are those behind the program's own name; `files` numbers
 /// a file by the position of its word. The input is taken by sessions alone, and has as many bytes as a file at the most.
@@ -62,10 +94,7 @@ pub fn run_within<F: Files, S: Source, W: Sink>(
         → IsTakenFront limits.bytes bytes (S.left input.new) result }
     ensures input { (TakesInput (form_of (map string_bytes words.now)) → ⊥) → input.new ≡ input.old }
 {
-    let Some(form) = form_of_words(words) else {
-        return refuse_words(output);
-    };
-    command(alloc, limits, form, files, input, output)
+    run_with_summary(alloc, limits, words, files, input, output).0
 }
 
 /// Does all that the program does, with the usual limits. The words are those behind the program's own name; `files` numbers

@@ -1,19 +1,19 @@
 // A run, and what is said of it on standard error.
-ghost use Rattle.std.specs.Prelude.{◌≡◌, ◌≢◌, ◌≤◌, ◌+◌, ℕ, length, map, slice_index, string_bytes};
+ghost use Rattle.std.specs.Prelude.{◌≡◌, ◌≢◌, ◌≤◌, ℕ, map, slice_index, string_bytes};
 ghost use Rattle.obs_engine.specs.Forms.{TakesInput};
 ghost use Rattle.obs_engine.specs.Runs.{IsRun};
 ghost use Rattle.obs_files.specs.Words.{form_of};
-ghost use Rattle.obs_io.specs.Bytes.{Wrote, WrotePart};
-ghost use Rattle.obs_notice.specs.Notices.{NamesFailure, failed_word, notice};
+ghost use Rattle.obs_engine.specs.Summaries.{IsSaid};
+ghost use Rattle.obs_notice.specs.Notices.{NamesFailure, failed_word};
 
-use crate::program::run_within;
+use crate::program::run_with_summary;
 use obs_files::{Limits, Status};
 use obs_io::{Files, Sink, Source};
 use obs_notice::{Noted, say};
 use std::alloc::Global;
 
-/// Runs the words within these limits, and says on `errors` what happened where no answer was given or not the whole one. What is said, or
-/// that it could not be said, changes nothing of the run.
+/// Runs the words within these limits, and says on `errors` what happened where no answer was given or not the whole one, and beside a
+/// whole one what the summary of the case says. What is said, or that it could not be said, changes nothing of the run.
 pub fn serve<F: Files, S: Source, W: Sink, E: Sink>(
     alloc: Global,
     limits: Limits,
@@ -30,14 +30,9 @@ pub fn serve<F: Files, S: Source, W: Sink, E: Sink>(
         S.left S.faults S.steady W.written W.faults W.has_room
         limits (form_of (map string_bytes words.now)) files.old files.new input.old input.new output.old output.new result }
     ensures input { (TakesInput (form_of (map string_bytes words.now)) → ⊥) → input.new ≡ input.old }
-    // a front of the notice is said, and all of it where there is room
-    ensures says { WrotePart (E.written errors.old) (E.written errors.new)
-        (notice limits (map string_bytes words.now) result (failed_word files.new.faults)) }
-    ensures whole { (rest : ℕ)
-        → E.has_room errors.old
-        (length (notice limits (map string_bytes words.now) result (failed_word files.new.faults)) + rest)
-        → Wrote (E.written errors.old) (E.written errors.new)
-        (notice limits (map string_bytes words.now) result (failed_word files.new.faults)) }
+    // a front of the notice is said, and all of it where there is room; in a whole answer's that is the summary of the case
+    ensures says { IsSaid limits (map string_bytes words.now) (⟦<Noted<F> as Files>⟧.content files.old) result
+        (failed_word files.new.faults) (E.written errors.old) (E.written errors.new) (E.has_room errors.old) }
     // after a failed read the named word is one of whose file a read failed beneath,
     // and none is named only where one of the input failed
     ensures named { result ≡ Status.ReadFault
@@ -45,7 +40,7 @@ pub fn serve<F: Files, S: Source, W: Sink, E: Sink>(
     // where a run doesn't end for a failed read, no read of the files beneath has failed since they were noted
     ensures beneath { result ≢ Status.ReadFault → (w : ℕ) → F.faults files.new.inner w ≡ 0 }
 {
-    let status = run_within(alloc, limits, words, files, input, output);
-    let _said = say(errors, limits, words, status, files.failed());
+    let (status, summary) = run_with_summary(alloc, limits, words, files, input, output);
+    let _said = say(errors, limits, words, status, files.failed(), summary);
     status
 }

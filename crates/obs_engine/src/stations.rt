@@ -1,19 +1,23 @@
 // The stations of a case and the loss of their meters, printed.
-ghost use Rattle.std.specs.Prelude.{◌≡◌, ◌<◌, [], ◌∷◌, All, codes, decimal, length};
+ghost use Rattle.std.specs.Prelude.{◌≡◌, ◌<◌, [], ◌∷◌, All, Some, codes, decimal, length};
 ghost use Rattle.obs_network.specs.Network.{network_of};
 ghost use Rattle.obs_kept.specs.Kept.{AreLongest};
 ghost use Rattle.obs_report.specs.Lines.{line_of};
 ghost use Rattle.obs_report.specs.Printed.{Appends, Prints};
 ghost use Rattle.obs_station.specs.Stations.{losses_of};
 ghost use Rattle.obs_engine.specs.Replies.{IsReplied};
+ghost use Rattle.obs_engine.specs.Summaries.{IsWholeAnswer, summary_of};
 ghost use Rattle.obs_engine.specs.StationReply.{are_borne, loss_line, losses_text, stations_reply, stations_status};
 
 use crate::judged::{kept_verdict, printed_status};
+use crate::summary::sum_up;
 use obs_assign::Steps;
 use obs_case::Case;
 use obs_files::Status;
 use obs_io::{Failed, Sink};
 use obs_kept::Kept;
+use obs_network::Present;
+use obs_notice::Summary;
 use obs_report::{LineBuffer, node_name, verdict_word};
 use obs_station::{Loss, StationWork};
 use obs_text::Digits;
@@ -119,23 +123,28 @@ fn print_losses<W: Sink>(
     lines.finish(output)
 }
 
-/// Answers `stations` on a case. All is found before the first byte is written.
+/// Answers `stations` on a case, with its summary. All is found before the first byte is written.
 pub(crate) fn answer_stations<W: Sink, L: Ledger>(
     alloc: Global,
     output: &mut W,
     case: &Case,
     steps: &mut Steps<L>,
-) -> Status
-    ensures replied { IsReplied W.written W.faults W.has_room output.old output.new result (stations_reply case.now) }
+) -> (Status, Option<Summary>)
+    ensures replied { IsReplied W.written W.faults W.has_room output.old output.new result.0 (stations_reply case.now) }
+    ensures summary { IsWholeAnswer result.0 → result.1 ≡ Some (summary_of case.now) }
 {
     let Ok(mut kept) = Kept::make(alloc, case, steps) else {
-        return Status::NoMemory;
+        return (Status::NoMemory, None);
     };
     let Ok(mut work) = StationWork::make(alloc, case) else {
-        return Status::NoMemory;
+        return (Status::NoMemory, None);
     };
-    work.find_losses(case, &kept.network, &mut kept.pairs, steps);
+    let Ok(summary) = sum_up(alloc, case, &kept.network) else {
+        return (Status::NoMemory, None);
+    };
+    let present = Present::of(case, &kept.network);
+    work.find_losses(&present, &mut kept.pairs, steps);
     let status = status_of(case, &kept, work.list());
     let outcome = print_losses(output, case, kept.network.needed(), work.list());
-    printed_status(outcome, status)
+    (printed_status(outcome, status), Some(summary))
 }

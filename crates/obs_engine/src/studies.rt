@@ -1,7 +1,8 @@
 // Studies of a case: what the loss of one branch, of two meters or of a station's meters does. They need no session.
-ghost use Rattle.std.specs.Prelude.{◌≡◌, ◌<◌};
+ghost use Rattle.std.specs.Prelude.{◌≡◌, ◌<◌, Some};
 ghost use Rattle.obs_engine.specs.Replies.{IsReplied};
 ghost use Rattle.obs_engine.specs.Studies.{study_reply};
+ghost use Rattle.obs_engine.specs.Summaries.{IsWholeAnswer, summary_of};
 
 use crate::outages::answer_outages;
 use crate::pairs::answer_pairs;
@@ -10,6 +11,7 @@ use obs_assign::Steps;
 use obs_case::Case;
 use obs_files::{Status, Study};
 use obs_io::Sink;
+use obs_notice::Summary;
 use std::alloc::Global;
 use std::marker::Brand;
 use std::sync::ledger::{Blank, Ledger};
@@ -21,11 +23,12 @@ fn study_counted<W: Sink, L: Ledger>(
     mut case: Case,
     output: &mut W,
     blank: Blank,
-) -> Status
+) -> (Status, Option<Summary>)
     requires name { blank.name ≡ L.name }
     requires parts { blank.parts ≡ L.parts }
     requires some { 0 < L.parts }
-    ensures replied { IsReplied W.written W.faults W.has_room output.old output.new result (study_reply study case) }
+    ensures replied { IsReplied W.written W.faults W.has_room output.old output.new result.0 (study_reply study case) }
+    ensures summary { IsWholeAnswer result.0 → result.1 ≡ Some (summary_of case) }
 {
     let mut steps = Steps::<L>::begin(blank);
     match study {
@@ -35,14 +38,15 @@ fn study_counted<W: Sink, L: Ledger>(
     }
 }
 
-/// Answers a study of a case. All memory is taken before anything is written.
+/// Answers a study of a case, with the summary of the case. All memory is taken before anything is written.
 pub(crate) fn answer_study<W: Sink>(
     alloc: Global,
     study: Study,
     case: Case,
     output: &mut W,
-) -> Status
-    ensures replied { IsReplied W.written W.faults W.has_room output.old output.new result (study_reply study case) }
+) -> (Status, Option<Summary>)
+    ensures replied { IsReplied W.written W.faults W.has_room output.old output.new result.0 (study_reply study case) }
+    ensures summary { IsWholeAnswer result.0 → result.1 ≡ Some (summary_of case) }
 {
     study_counted::<W, Brand>(alloc, study, case, output, Blank::new(1))
 }

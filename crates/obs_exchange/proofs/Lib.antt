@@ -19,3 +19,4 @@ pub mod Changing
 pub mod Longest
 pub mod Losing
 pub mod Beside
+pub mod Shut

@@ -1,5 +1,5 @@
 -- What a search is over. It stays as it is while the search runs.
-use Rattle.std.specs.Prelude.{◌≡◌, ℕ, suc, ◌≤◌, Bool, Option, List, length}
+use Rattle.std.specs.Prelude.{◌≡◌, ℕ, suc, ◌≤◌, ◌||◌, ◌&&◌, Bool, Option, is_some, List, [], ◌∷◌, length}
 use Rattle.obs_graph.specs.declared.search.Up.{Up}
 use Rattle.obs_graph.specs.Graph.{Graph}
 use Rattle.obs_graph.specs.Joined.{IsForest}
@@ -23,8 +23,19 @@ abbrev pub end_of : Sources → ℕ → ℕ
 end_of All n = n
 end_of (One m) n = suc m
 
+-- the flags of frozen meters, and of those meters with a pair whose flag is set in a second list
+abbrev pub frozen_by : List Bool → List Bool → List (Option ℕ) → List Bool
+frozen_by [] shut slots = []
+frozen_by (f ∷ fs) [] slots = f ∷ fs
+frozen_by (f ∷ fs) (s ∷ ss) [] = f ∷ fs
+frozen_by (f ∷ fs) (s ∷ ss) (e ∷ es) = (f || (s && is_some e)) ∷ frozen_by fs ss es
+
+-- the assignment, as if the flagged meters that have pairs were frozen too
+abbrev pub shut_by : List Bool → Assignment → Assignment
+shut_by shut a = record a { frozen = frozen_by a.frozen shut a.slots }
+
 -- a graph, what meters touch in it, an assignment, and from which meters the search begins; and by vertex its way up in
--- the forest of the assignment, and how many branches lead up from it
+-- the forest of the assignment, and how many branches lead up from it; and for how many vertices there is room
 pub record Setting : Type 0 where
   pub graph : Graph
   pub touches : List Touch
@@ -32,6 +43,7 @@ pub record Setting : Type 0 where
   pub sources : Sources
   pub ups : List (Option Up)
   pub depths : List ℕ
+  pub room : ℕ
 
 -- what is true of every setting
 pub record IsSound (over : Setting) : Type 0 where
@@ -56,3 +68,13 @@ touched_in over m = touch_at over.graph.ends over.touches m
 -- whether the branches of the pairs join the ends of e
 abbrev pub is_joined_in : Setting → ℕ → Bool
 is_joined_in over e = joins over.graph.ends (branches (pairs over.assignment)) e
+
+-- a search over the same, but for meters with pairs that it passes over like frozen ones
+pub record IsOpen (over ahead : Setting) : Type 0 where
+  pub shut : List Bool
+  pub graph : ahead.graph ≡ over.graph
+  pub touches : ahead.touches ≡ over.touches
+  pub assignment : ahead.assignment ≡ shut_by shut over.assignment
+  pub sources : ahead.sources ≡ over.sources
+  pub room : ahead.room ≡ over.room
+  pub sound : IsSound ahead

@@ -1,5 +1,5 @@
 // The sources, one after the other.
-ghost use Rattle.std.specs.Prelude.{◌≡◌, ◌<◌, ◌≤◌, true, MatchOption, length};
+ghost use Rattle.std.specs.Prelude.{◌≡◌, ◌<◌, ◌≤◌, true, IfSome, MatchOption, length};
 ghost use Rattle.obs_assign.specs.Assignment.{has_flag};
 ghost use Rattle.obs_exchange.specs.Noting.{AreNotedIn};
 ghost use Rattle.obs_exchange.specs.Searching.{AreMarked, IsDone, IsEnd, IsRunning};
@@ -9,6 +9,7 @@ ghost use Rattle.obs_exchange.specs.Trail.{Follows};
 use crate::noted::Noted;
 use crate::setting::Setting;
 use crate::stars::Stars;
+use crate::tops::Tops;
 use crate::trail::Trail;
 use crate::visit::spread;
 use obs_assign::Move;
@@ -20,7 +21,7 @@ fn spread_source(
     m: u32,
     trail: &mut Trail,
     stars: &mut Stars,
-    tops: &mut [u32],
+    tops: &mut Tops,
 ) -> Option<Move>
     requires first { first_of over.now.sources ≤ m }
     requires end { m < end_of over.now.sources (length over.now.touches) }
@@ -51,7 +52,7 @@ fn spread_range(
     limit: u32,
     trail: &mut Trail,
     stars: &mut Stars,
-    tops: &mut [u32],
+    tops: &mut Tops,
 ) -> Option<Move>
     requires noted { AreNotedIn over.now noted.now }
     requires first { first_of over.now.sources ≤ first }
@@ -75,6 +76,59 @@ fn spread_range(
     None
 }
 
+/// As `spread_source`, where the meter isn't flagged as one to pass over.
+fn spread_unshut(
+    over: &Setting<'_>,
+    m: u32,
+    trail: &mut Trail,
+    stars: &mut Stars,
+    tops: &mut Tops,
+) -> Option<Move>
+    requires first { first_of over.now.sources ≤ m }
+    requires end { m < end_of over.now.sources (length over.now.touches) }
+    requires running { IsRunning over.now trail.old stars.old tops.old }
+    requires done { IsDone trail.old }
+    ensures running { IsRunning over.now trail.new stars.new tops.new }
+    ensures found { MatchOption result (IsDone trail.new) (λ x. IsEnd over.now trail.new x) }
+    ensures follows { Follows trail.old trail.new }
+    ensures same_room { length stars.new ≡ length stars.old }
+{
+    if over.is_shut(m) {
+        return None;
+    }
+    spread_source(over, m, trail, stars, tops)
+}
+
+/// Visits what is reached from the live sources from one meter on, one after the other, up to the first free branch.
+/// Those that are flagged as ones to pass over aren't begun with.
+pub fn spread_open(
+    over: &Setting<'_>,
+    noted: &Noted,
+    first: u32,
+    trail: &mut Trail,
+    stars: &mut Stars,
+    tops: &mut Tops,
+) -> Option<Move>
+    requires room { length over.now.touches ≤ length noted.now.flags }
+    requires first { first_of over.now.sources ≤ first }
+    requires running { IsRunning over.now trail.old stars.old tops.old }
+    requires done { IsDone trail.old }
+    ensures running { IsRunning over.now trail.new stars.new tops.new }
+    ensures found { IfSome result (λ x. IsEnd over.now trail.new x) }
+    ensures follows { Follows trail.old trail.new }
+    ensures same_room { length stars.new ≡ length stars.old }
+{
+    let limit = over.end();
+    let mut m = noted.next(first, limit);
+    while m < limit {
+        if let Some(x) = spread_unshut(over, m, trail, stars, tops) {
+            return Some(x);
+        }
+        m = noted.next(1 + m, limit);
+    }
+    None
+}
+
 /// Marks the live sources, those from the given meter on before the others, and visits what is reached from each before
 /// the next, up to the first free branch. The second range is the whole one; its marked meters are passed over.
 pub fn spread_all(
@@ -83,7 +137,7 @@ pub fn spread_all(
     middle: u32,
     trail: &mut Trail,
     stars: &mut Stars,
-    tops: &mut [u32],
+    tops: &mut Tops,
 ) -> Option<Move>
     requires noted { AreNotedIn over.now noted.now }
     requires middle { first_of over.now.sources ≤ middle }

@@ -2,20 +2,19 @@
 ghost use Rattle.std.specs.Prelude.{◌≡◌, ◌+◌, ◌<◌, ◌≤◌, IfErr, IfOk, IfSome, MatchResult, length, drop, take};
 ghost use Rattle.obs_assign.specs.Assignment.{HasRoomOf, IsWhole, StandsOver, has_flag};
 ghost use Rattle.obs_exchange.specs.declared.Sources.{Sources};
-ghost use Rattle.obs_exchange.specs.Blank.{AreNumbers};
 ghost use Rattle.obs_exchange.specs.Closed.{IsLeastClosedAt};
 ghost use Rattle.obs_exchange.specs.Found.{AreListed, HasGrown};
 ghost use Rattle.obs_exchange.specs.Noting.{AreNotedIn};
-ghost use Rattle.obs_exchange.specs.Searching.{BeginsAtSource, CanMove, IsEnd, IsFreeFor, IsReady};
-ghost use Rattle.obs_exchange.specs.Setting.{IsSound, IsSourceIn, Setting, first_of};
+ghost use Rattle.obs_exchange.specs.Searching.{BeginsAtSource, CanMove, IsDone, IsEnd, IsFreeFor, IsReady, IsRunning};
+ghost use Rattle.obs_exchange.specs.Setting.{IsOpen, IsSound, IsSourceIn, Setting, first_of};
 
-use crate::begin::spread_all;
+use crate::begin::{spread_all, spread_open};
 use crate::free::untried_branch;
 use crate::noted::Noted;
 use crate::pass::Start;
 use crate::setting::Setting;
 use crate::stars::Stars;
-use crate::tops::separate;
+use crate::tops::Tops;
 use crate::trail::Trail;
 use obs_assign::{Assignment, Move, Steps};
 use obs_graph::Graph;
@@ -66,31 +65,90 @@ fn trace(last: Move, trail: &Trail, path: &mut [Move]) -> usize
     start
 }
 
-/// Looks for a path of moves that gives a source a pair, writes it at the end of the array and says where it begins.
-/// Where there is no such path, it says how many meters it reached: these are the first of the queue, and the marks are
-/// the least closed set. Of the sources those from `tried` on are tried for a free branch. Where none is found, it
-/// searches from the sources, those from `searched` on before the others.
-pub fn find(
-    over: &Setting<'_>,
+/// Marks nothing, and notes that no branch was walked or met: a search begins.
+fn start_anew(over: &Setting<'_>, trail: &mut Trail, stars: &mut Stars, tops: &mut Tops)
+    requires sound { IsSound over.now }
+    requires meters { length over.now.touches ≤ length trail.old.marks }
+    requires branches { length over.now.graph.ends ≤ length trail.old.walked }
+    requires stars { over.now.graph.vertices ≤ length stars.old }
+    requires tops { length tops.old ≡ over.now.room }
+    requires fits { over.now.graph.vertices ≤ over.now.room }
+    ensures running { IsRunning over.now trail.new stars.new tops.new }
+    ensures done { IsDone trail.new }
+    ensures same_meters { length trail.new.marks ≡ length trail.old.marks }
+    ensures same_branches { length trail.new.walked ≡ length trail.old.walked }
+    ensures same_vertices { length stars.new ≡ length stars.old }
+    ensures same_tops { length tops.new ≡ length tops.old }
+{
+    let _ = over;
+    trail.clear();
+    stars.clear();
+    tops.separate();
+}
+
+/// Where what earlier searches closed is closed still, looks for a path that passes it over, writes it at the end of the
+/// array and says where it begins.
+fn find_open(
+    ahead: &Setting<'_>,
     noted: &Noted,
     start: Start,
     trail: &mut Trail,
     stars: &mut Stars,
-    tops: &mut [u32],
-    numbers: &[u32],
+    tops: &mut Tops,
+    path: &mut [Move],
+) -> Option<usize>
+    requires sound { IsSound ahead.now }
+    requires room { length ahead.now.touches ≤ length noted.now.flags }
+    requires searched { first_of ahead.now.sources ≤ start.searched }
+    requires meters { length ahead.now.touches ≤ length trail.old.marks }
+    requires branches { length ahead.now.graph.ends ≤ length trail.old.walked }
+    requires stars { ahead.now.graph.vertices ≤ length stars.old }
+    requires tops { length tops.old ≡ ahead.now.room }
+    requires fits { ahead.now.graph.vertices ≤ ahead.now.room }
+    requires path { length trail.old.marks ≤ length path.old }
+    ensures bound { IfSome result (λ k. k ≤ length path.new) }
+    ensures ready { IfSome result (λ k. IsReady ahead.now (drop k path.new)) }
+    ensures same_meters { length trail.new.marks ≡ length trail.old.marks }
+    ensures same_branches { length trail.new.walked ≡ length trail.old.walked }
+    ensures same_vertices { length stars.new ≡ length stars.old }
+    ensures same_tops { length tops.new ≡ length tops.old }
+{
+    if !start.kept {
+        return None;
+    }
+    start_anew(ahead, trail, stars, tops);
+    match spread_open(ahead, noted, start.searched, trail, stars, tops) {
+        Some(x) => Some(trace(x, trail, path)),
+        None => None,
+    }
+}
+
+/// Looks for a path of moves that gives a source a pair, writes it at the end of the array and says where it begins.
+/// Where there is no such path, it says how many meters it reached: these are the first of the queue, and the marks are
+/// the least closed set. Of the sources those from `tried` on are tried for a free branch. Where none is found, it
+/// searches from the sources, those from `searched` on before the others, and first as if the meters that `ahead` passes
+/// over were frozen.
+pub fn find(
+    over: &Setting<'_>,
+    ahead: &Setting<'_>,
+    noted: &Noted,
+    start: Start,
+    trail: &mut Trail,
+    stars: &mut Stars,
+    tops: &mut Tops,
     path: &mut [Move],
 ) -> Result<usize, usize>
     requires sound { IsSound over.now }
+    requires ahead { IsOpen over.now ahead.now }
     requires noted { AreNotedIn over.now noted.now }
     requires tried { first_of over.now.sources ≤ start.tried }
     requires searched { first_of over.now.sources ≤ start.searched }
     requires meters { length over.now.touches ≤ length trail.old.marks }
     requires branches { length over.now.graph.ends ≤ length trail.old.walked }
     requires stars { over.now.graph.vertices ≤ length stars.old }
-    requires tops { over.now.graph.vertices ≤ length tops.old }
+    requires tops { length tops.old ≡ over.now.room }
+    requires fits { over.now.graph.vertices ≤ over.now.room }
     requires path { length trail.old.marks ≤ length path.old }
-    requires numbered { over.now.graph.vertices ≤ length numbers.now }
-    requires numbers { AreNumbers numbers.now }
     ensures bound { IfOk result (λ k. k ≤ length path.new) }
     ensures few { IfErr result (λ count. count ≤ length trail.new.marks) }
     ensures found { MatchResult result
@@ -102,6 +160,7 @@ pub fn find(
     ensures same_meters { length trail.new.marks ≡ length trail.old.marks }
     ensures same_branches { length trail.new.walked ≡ length trail.old.walked }
     ensures same_vertices { length stars.new ≡ length stars.old }
+    ensures same_tops { length tops.new ≡ length tops.old }
 {
     stars.renew(start.anew);
     if let Some(x) = free_move(over, noted, start.tried, stars) {
@@ -109,10 +168,10 @@ pub fn find(
         path[last] = x;
         return Ok(last);
     }
-    trail.clear();
-    stars.clear();
-    let tops = &mut tops[..over.vertices() as usize];
-    separate(tops, numbers);
+    if let Some(k) = find_open(ahead, noted, start, trail, stars, tops, path) {
+        return Ok(k);
+    }
+    start_anew(over, trail, stars, tops);
     match spread_all(over, noted, start.searched, trail, stars, tops) {
         Some(x) => Ok(trace(x, trail, path)),
         None => Err(trail.tail()),

@@ -55,3 +55,47 @@ pub fn untried_branch(over: &Setting<'_>, m: u32, stars: &mut Stars) -> Option<u
         }
     }
 }
+
+/// How many of the branches that the meter touches `untried_branch` passes over in a search from one meter alone.
+fn passed_over(over: &Setting<'_>, m: u32, stars: &Stars) -> u32
+    requires m { m < length over.now.touches }
+    requires room { over.now.graph.vertices ≤ length stars.now }
+{
+    if !over.is_single() {
+        return 0;
+    }
+    match over.hub(m) {
+        Some(h) => stars.tried(h.vertex),
+        None => 0,
+    }
+}
+
+/// The first free branch that the meter touches.
+fn first_branch(over: &Setting<'_>, m: u32) -> Option<u32>
+    requires m { m < length over.now.touches }
+    ensures free { IfSome result (λ e. IsFreeFor over.now m e) }
+{
+    let touched = over.touched(m);
+    match free_place(over, touched, 0) {
+        Some(k) => Some(touched[k]),
+        None => None,
+    }
+}
+
+/// A free branch that the meter touches: as `untried_branch`, and where a search begins at one meter alone also one that
+/// was passed over. It may have become free since it was tried.
+pub fn free_branch(over: &Setting<'_>, m: u32, stars: &mut Stars) -> Option<u32>
+    requires m { m < length over.now.touches }
+    requires room { over.now.graph.vertices ≤ length stars.old }
+    ensures free { IfSome result (λ e. IsFreeFor over.now m e) }
+    ensures same { stars.new ≡ stars.old }
+{
+    let passed = passed_over(over, m, stars);
+    if let Some(e) = untried_branch(over, m, stars) {
+        return Some(e);
+    }
+    if passed == 0 {
+        return None;
+    }
+    first_branch(over, m)
+}

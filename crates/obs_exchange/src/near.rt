@@ -8,10 +8,10 @@ use obs_meter::Meters;
 use std::alloc::Global;
 
 /// How many vertices are looked at around a branch.
-const MOST_VERTICES: usize = 200;
+const MOST_VERTICES: usize = 1500;
 
 /// How many meters are named.
-const MOST_NEAR: usize = 8;
+const MOST_NEAR: usize = 40;
 
 /// By vertex the last meter that was noted there, and what a walk around a branch writes.
 #[derive(Drop)]
@@ -111,13 +111,18 @@ impl Near {
         count.saturating_add(1)
     }
 
-    /// Meets the vertices at the other ends of the branches at one.
+    /// Meets the vertices at the other ends of the branches at one: of so many of these, and until so many are met.
     fn meet_around(&mut self, g: &Graph, v: u32, tail: usize) -> usize {
         if v >= g.vertices() {
             return tail;
         }
         let mut tail = tail;
+        let mut looked: usize = 0;
         for e in g.branches_at(v) {
+            if looked >= MOST_VERTICES || tail >= MOST_VERTICES {
+                return tail;
+            }
+            looked = looked.saturating_add(1);
             if *e < g.positions() {
                 if let Some(ends) = g.ends(*e) {
                     let first = self.meet(ends.a, tail);

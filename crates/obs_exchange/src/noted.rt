@@ -147,7 +147,7 @@ impl Noted {
         ensures length { length self.new.flags ≡ length self.old.flags }
     {
         self.all = false;
-        let over = Setting::new(g, ms, a, Sources::All);
+        let over = Setting::new(g, ms, a, Sources::All, g.vertices() as usize);
         put_sources(&over, &mut self.flags, &mut self.blocks);
     }
 

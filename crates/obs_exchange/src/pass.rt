@@ -17,13 +17,14 @@ pub(crate) struct Pass {
     pairs: u32,
 }
 
-/// Where a search begins: the first meter that it tries for a free branch, the first that it searches from, and whether
-/// the branches at the vertices are counted anew.
+/// Where a search begins: the first meter that it tries for a free branch, the first that it searches from, whether the
+/// branches at the vertices are counted anew, and whether what earlier searches closed is closed still.
 #[derive(Clone, Copy)]
 pub(crate) struct Start {
     pub tried: u32,
     pub searched: u32,
     pub anew: bool,
+    pub kept: bool,
 }
 
 impl Pass {
@@ -60,8 +61,8 @@ impl Pass {
     }
 
     /// Where a search begins. A pass over all sources counts anew where it begins, and a search from one meter where the
-    /// pairs are fewer than at the search before. Nothing rests on the counts.
-    pub(crate) fn start(self, a: &Assignment, from: Sources, before: u32) -> Start
+    /// pairs are fewer than at the search before. Nothing rests on the counts, nor on whether meters were shut.
+    pub(crate) fn start(self, a: &Assignment, from: Sources, before: u32, shut: bool) -> Start
         ensures tried { first_of from ≤ result.tried }
         ensures searched { first_of from ≤ result.searched }
     {
@@ -72,11 +73,13 @@ impl Pass {
                 tried: pass.next,
                 searched: pass.searched,
                 anew: pass.next == 0,
+                kept: shut && pass.pairs > 0,
             },
             Sources::One(m) => Start {
                 tried: m,
                 searched: m,
                 anew: pairs == 0 || pairs < before,
+                kept: false,
             },
         }
     }

@@ -5,7 +5,7 @@ ghost use Rattle.obs_exchange.specs.Closed.{IsLeastClosedAt};
 ghost use Rattle.obs_exchange.specs.Found.{AreListed};
 ghost use Rattle.obs_exchange.specs.Noting.{AreNotedIn};
 ghost use Rattle.obs_exchange.specs.Searching.{IsReady};
-ghost use Rattle.obs_exchange.specs.Setting.{IsSound, first_of};
+ghost use Rattle.obs_exchange.specs.Setting.{IsOpen, IsSound, first_of};
 ghost use Rattle.obs_exchange.specs.Trail.{HasRoomOnly};
 
 use crate::find::find;
@@ -14,7 +14,7 @@ use crate::noted::Noted;
 use crate::pass::Start;
 use crate::setting::Setting;
 use crate::stars::Stars;
-use crate::tops::number;
+use crate::tops::Tops;
 use crate::trail::Trail;
 use obs_assign::Move;
 use std::alloc::Global;
@@ -27,16 +27,13 @@ pub(crate) struct Scratch {
     // what it knows of the branches at each vertex
     stars: Stars,
     // where the vertex leads to, towards the top of its class
-    tops: Vec<u32>,
-    // the numbers of the vertices
-    numbers: Vec<u32>,
+    tops: Tops,
     // the moves to a free branch, at the end
     path: Vec<Move>,
 }
 
 impl Model for Scratch {
     ghost use Rattle.std.specs.Prelude.{◌≡◌, length};
-    ghost use Rattle.obs_exchange.specs.Blank.{AreNumbers};
     ghost use Rattle.obs_exchange.specs.Trail.{Scratch};
 
     ghost Value = { Scratch };
@@ -44,8 +41,7 @@ impl Model for Scratch {
     ghost view = { λ s. record { trail = s.trail; path = s.path.items; vertices = length s.stars } };
 
     ghost invariant = { λ s.
-        (length s.path.items ≡ length s.trail.marks) × (length s.tops.items ≡ length s.stars)
-        × (length s.numbers.items ≡ length s.stars) × AreNumbers s.numbers.items };
+        (length s.path.items ≡ length s.trail.marks) × (length s.tops ≡ length s.stars) };
 }
 
 // Written out: so a caller's proof sees one call, and not the drop of each field.
@@ -55,7 +51,6 @@ impl Drop for Scratch {
             trail: _,
             stars: _,
             tops: _,
-            numbers: _,
             path: _,
         } = self;
     }
@@ -75,17 +70,13 @@ impl Scratch {
             meter: 0,
             branch: 0,
         };
-        let Ok(mut numbers) = vec![in alloc; 0; most_vertices as usize] else {
-            return Err(NoMemory);
-        };
-        number(&mut numbers);
         let Ok(trail) = Trail::make(alloc, most_meters, most_branches) else {
             return Err(NoMemory);
         };
         let Ok(stars) = Stars::make(alloc, most_vertices) else {
             return Err(NoMemory);
         };
-        let Ok(tops) = vec![in alloc; 0; most_vertices as usize] else {
+        let Ok(tops) = Tops::make(alloc, most_vertices) else {
             return Err(NoMemory);
         };
         let Ok(path) = vec![in alloc; no_move; most_meters as usize] else {
@@ -95,25 +86,34 @@ impl Scratch {
             trail,
             stars,
             tops,
-            numbers,
             path,
         })
+    }
+
+    /// For how many vertices there is room.
+    pub(crate) fn vertices(&self) -> usize
+        ensures vertices { result ≡ self.now.vertices }
+    {
+        self.tops.len()
     }
 
     /// `find` on these arrays.
     pub(crate) fn find(
         &mut self,
         over: &Setting<'_>,
+        ahead: &Setting<'_>,
         noted: &Noted,
         start: Start,
     ) -> Result<usize, usize>
         requires sound { IsSound over.now }
+        requires ahead { IsOpen over.now ahead.now }
         requires noted { AreNotedIn over.now noted.now }
         requires tried { first_of over.now.sources ≤ start.tried }
         requires searched { first_of over.now.sources ≤ start.searched }
         requires meters { length over.now.touches ≤ length self.old.trail.marks }
         requires branches { length over.now.graph.ends ≤ length self.old.trail.walked }
         requires vertices { over.now.graph.vertices ≤ self.old.vertices }
+        requires room { over.now.room ≡ self.old.vertices }
         ensures bound { IfOk result (λ k. k ≤ length self.new.path) }
         ensures few { IfErr result (λ count. count ≤ length self.new.trail.marks) }
         ensures found { MatchResult result
@@ -129,12 +129,12 @@ impl Scratch {
     {
         find(
             over,
+            ahead,
             noted,
             start,
             &mut self.trail,
             &mut self.stars,
             &mut self.tops,
-            &self.numbers,
             &mut self.path,
         )
     }
@@ -153,6 +153,11 @@ impl Scratch {
         ensures marks { result.now ≡ take meters self.now.trail.marks }
     {
         self.trail.marks(meters)
+    }
+
+    /// The places of the queue, of which the last search filled the first ones.
+    pub(crate) fn queue(&self) -> &[u32] {
+        self.trail.queue()
     }
 
     /// The first meters of the queue.

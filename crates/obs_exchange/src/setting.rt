@@ -4,7 +4,7 @@ ghost use Rattle.obs_graph.specs.Positions.{branches_at};
 ghost use Rattle.obs_meter.specs.declared.Touch.{Touch};
 ghost use Rattle.obs_meter.specs.Touches.{AreInRange, hub_of};
 ghost use Rattle.obs_assign.specs.Assignment.{StandsOver, branch_at, is_frozen};
-ghost use Rattle.obs_exchange.specs.Setting.{IsSound, IsSourceIn, end_of, first_of, is_joined_in, touched_in};
+ghost use Rattle.obs_exchange.specs.Setting.{IsSound, IsSourceIn, end_of, first_of, is_joined_in, shut_by, touched_in};
 
 use crate::Sources;
 use obs_assign::Assignment;
@@ -24,39 +24,46 @@ pub struct Setting<'a> {
     sources: Sources,
     // the ways up in the forest of the assignment
     ways: Ways<'a>,
+    // for how many vertices a search has room
+    room: usize,
+    // meters that are passed over like frozen ones, where they have a pair
+    shut: &'a [bool],
 }
 
 impl<'a> Model for Setting<'a> {
-    ghost use Rattle.obs_exchange.specs.Setting.{IsSound, Setting};
+    ghost use Rattle.obs_exchange.specs.Setting.{IsSound, Setting, shut_by};
 
     ghost Value = { Setting };
 
     ghost view = { λ s. record {
       graph = s.graph.now;
       touches = s.meters.now.touches;
-      assignment = s.assignment.now;
+      assignment = shut_by s.shut.now s.assignment.now;
       sources = s.sources;
       ups = s.ways.ups.now;
       depths = s.ways.depths.now;
+      room = s.room;
     } };
 
     ghost invariant = { λ s. IsSound (record {
       graph = s.graph.now;
       touches = s.meters.now.touches;
-      assignment = s.assignment.now;
+      assignment = shut_by s.shut.now s.assignment.now;
       sources = s.sources;
       ups = s.ways.ups.now;
       depths = s.ways.depths.now;
+      room = s.room;
     }) };
 }
 
 impl<'a> Setting<'a> {
-    /// A search from these sources over an assignment that stands.
+    /// A search from these sources over an assignment that stands, with room for so many vertices.
     pub fn new(
         graph: &'a Graph,
         meters: &'a Meters,
         assignment: &'a Assignment,
         sources: Sources,
+        room: usize,
     ) -> Setting<'a>
         requires stands { StandsOver assignment.now graph.now meters.now.touches }
         requires in_range { AreInRange graph.now meters.now.touches }
@@ -65,6 +72,7 @@ impl<'a> Setting<'a> {
         ensures touches { result.touches ≡ meters.now.touches }
         ensures assignment { result.assignment ≡ assignment.now }
         ensures sources { result.sources ≡ sources }
+        ensures room { result.room ≡ room }
         ensures sound { IsSound result }
     {
         let _ = graph.vertices();
@@ -75,6 +83,40 @@ impl<'a> Setting<'a> {
             assignment,
             sources,
             ways,
+            room,
+            shut: &[],
+        }
+    }
+
+    /// The same, where the flagged meters that have pairs are passed over like frozen ones.
+    pub fn shut(
+        graph: &'a Graph,
+        meters: &'a Meters,
+        assignment: &'a Assignment,
+        sources: Sources,
+        room: usize,
+        shut: &'a [bool],
+    ) -> Setting<'a>
+        requires stands { StandsOver assignment.now graph.now meters.now.touches }
+        requires in_range { AreInRange graph.now meters.now.touches }
+        requires low { end_of sources (length meters.now.touches) ≤ length meters.now.touches }
+        ensures graph { result.graph ≡ graph.now }
+        ensures touches { result.touches ≡ meters.now.touches }
+        ensures assignment { result.assignment ≡ shut_by shut.now assignment.now }
+        ensures sources { result.sources ≡ sources }
+        ensures room { result.room ≡ room }
+        ensures sound { IsSound result }
+    {
+        let _ = graph.vertices();
+        let ways = assignment.forest().ways();
+        Setting {
+            graph,
+            meters,
+            assignment,
+            sources,
+            ways,
+            room,
+            shut,
         }
     }
 
@@ -128,7 +170,29 @@ impl<'a> Setting<'a> {
         requires m { m < length self.now.touches }
         ensures frozen { result ≡ is_frozen self.now.assignment m }
     {
-        self.assignment.frozen(m)
+        if self.assignment.frozen(m) {
+            return true;
+        }
+        if (m as usize) >= self.shut.len() {
+            return false;
+        }
+        self.shut[m as usize] && self.assignment.branch_of(m).is_some()
+    }
+
+    /// Whether the search begins at one meter alone.
+    pub fn is_single(&self) -> bool {
+        match self.sources {
+            Sources::All => false,
+            Sources::One(_) => true,
+        }
+    }
+
+    /// Whether the meter is flagged as one to pass over.
+    pub fn is_shut(&self, m: u32) -> bool {
+        match self.shut.get(m as usize) {
+            Some(shut) => *shut,
+            None => false,
+        }
     }
 
     /// The branches that the meter touches.

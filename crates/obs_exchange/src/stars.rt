@@ -1,6 +1,7 @@
 // What a search knows of the branches at each vertex.
 ghost use Rattle.std.specs.Prelude.{◌≡◌, ◌<◌, IfOk, length, replicate, slice_index_or, slice_set};
 
+use crate::flags::Flags;
 use crate::memory::NoMemory;
 use std::alloc::Global;
 use std::marker::Model;
@@ -9,26 +10,25 @@ use std::marker::Model;
 /// former: nothing rests on the latter.
 pub struct Stars {
     // whether branches at the vertex were walked, and how many of the first where that is so
-    walked: Vec<bool>,
+    walked: Flags,
     fronts: Vec<u32>,
     tried: Vec<u32>,
-    // no flag and no count, for as many vertices
-    clear: Vec<bool>,
-    zeros: Vec<u32>,
+    // by vertex the round in which it was tried, and the number of this round
+    rounds: Vec<u32>,
+    round: u32,
 }
 
 impl Model for Stars {
     ghost use Rattle.std.specs.Prelude.{◌≡◌, ℕ, List, length};
-    ghost use Rattle.obs_exchange.specs.Blank.{AreClear};
     ghost use Rattle.obs_exchange.specs.Stars.{fronts_of};
 
     ghost Value = { List ℕ };
 
-    ghost view = { λ s. fronts_of s.walked.items s.fronts.items };
+    ghost view = { λ s. fronts_of s.walked s.fronts.items };
 
     ghost invariant = { λ s.
-        (length s.fronts.items ≡ length s.walked.items) × (length s.tried.items ≡ length s.walked.items)
-        × (length s.zeros.items ≡ length s.walked.items) × AreClear (length s.walked.items) s.clear.items };
+        (length s.fronts.items ≡ length s.walked) × (length s.tried.items ≡ length s.walked)
+        × (length s.rounds.items ≡ length s.walked) };
 }
 
 // Written out: so a caller's proof sees one call, and not the drop of each field.
@@ -38,8 +38,8 @@ impl Drop for Stars {
             walked: _,
             fronts: _,
             tried: _,
-            clear: _,
-            zeros: _,
+            rounds: _,
+            round: _,
         } = self;
     }
 }
@@ -50,7 +50,7 @@ impl Stars {
         ensures made { IfOk result (λ s. s ≡ replicate most_vertices 0) }
     {
         let vertices = most_vertices as usize;
-        let Ok(walked) = vec![in alloc; false; vertices] else {
+        let Ok(walked) = Flags::make(alloc, most_vertices) else {
             return Err(NoMemory);
         };
         let Ok(fronts) = vec![in alloc; 0; vertices] else {
@@ -59,18 +59,15 @@ impl Stars {
         let Ok(tried) = vec![in alloc; 0; vertices] else {
             return Err(NoMemory);
         };
-        let Ok(clear) = vec![in alloc; false; vertices] else {
-            return Err(NoMemory);
-        };
-        let Ok(zeros) = vec![in alloc; 0; vertices] else {
+        let Ok(rounds) = vec![in alloc; 0; vertices] else {
             return Err(NoMemory);
         };
         Ok(Stars {
             walked,
             fronts,
             tried,
-            clear,
-            zeros,
+            rounds,
+            round: 0,
         })
     }
 
@@ -79,8 +76,11 @@ impl Stars {
         requires v { v < length self.now }
         ensures walked { result ≡ slice_index_or self.now v 0 }
     {
-        let v = v as usize;
-        if self.walked[v] { self.fronts[v] } else { 0 }
+        if self.walked.at(v) {
+            self.fronts[v as usize]
+        } else {
+            0
+        }
     }
 
     /// Notes that so many of the first branches at the vertex were walked.
@@ -88,24 +88,26 @@ impl Stars {
         requires v { v < length self.old }
         ensures walked { self.new ≡ slice_set self.old v count }
     {
-        let v = v as usize;
-        self.walked[v] = true;
-        self.fronts[v] = count;
+        self.walked.set(v);
+        self.fronts[v as usize] = count;
     }
 
     /// Notes that no branch was walked, and keeps how many were tried in vain.
     pub fn clear(&mut self)
         ensures cleared { self.new ≡ replicate (length self.old) 0 }
     {
-        let vertices = self.walked.len();
-        self.walked.copy_from_slice(&self.clear[..vertices]);
+        self.walked.clear();
     }
 
     /// How many of the first branches at the vertex were tried in vain.
     pub fn tried(&self, v: u32) -> u32
         requires v { v < length self.now }
     {
-        self.tried[v as usize]
+        if self.rounds[v as usize] == self.round {
+            self.tried[v as usize]
+        } else {
+            0
+        }
     }
 
     /// Sets the count of a vertex.
@@ -114,6 +116,7 @@ impl Stars {
         ensures same { self.new ≡ self.old }
     {
         self.tried[v as usize] = count;
+        self.rounds[v as usize] = self.round;
     }
 
     /// Begins all counts anew, where that is asked for.
@@ -121,7 +124,7 @@ impl Stars {
         ensures same { self.new ≡ self.old }
     {
         if anew {
-            self.tried.copy_from_slice(&self.zeros);
+            self.round = self.round.wrapping_add(1);
         }
     }
 }

@@ -4,6 +4,7 @@ ghost use Rattle.obs_assign.specs.Assignment.{has_flag};
 ghost use Rattle.obs_exchange.specs.Searching.{parent_of};
 ghost use Rattle.obs_exchange.specs.Trail.{AreFull, cleared, new_trail, pushed};
 
+use crate::flags::Flags;
 use crate::memory::NoMemory;
 use obs_assign::Move;
 use std::alloc::Global;
@@ -12,7 +13,7 @@ use std::marker::Model;
 /// The marked meters with their parents, in a queue, and the branches that were walked.
 pub struct Trail {
     // whether the meter is marked
-    marks: Vec<bool>,
+    marks: Flags,
     // the move by which the meter was reached
     parents: Vec<Option<Move>>,
     // the marked meters, in their order
@@ -21,37 +22,33 @@ pub struct Trail {
     head: usize,
     tail: usize,
     // whether the branch was walked
-    walked: Vec<bool>,
-    // no flag, for as many meters and branches
-    clear: Vec<bool>,
+    walked: Flags,
 }
 
 impl Model for Trail {
     ghost use Rattle.std.specs.Prelude.{length};
-    ghost use Rattle.obs_exchange.specs.Blank.{AreClear};
     ghost use Rattle.obs_exchange.specs.Trail.{AreFull, Trail};
 
     ghost Value = { Trail };
 
     ghost view = { λ t. record {
-      marks = t.marks.items;
+      marks = t.marks;
       parents = t.parents.items;
       queue = t.queue.items;
       head = t.head;
       tail = t.tail;
-      walked = t.walked.items;
+      walked = t.walked;
     } };
 
     ghost invariant = { λ t.
         AreFull (record {
-          marks = t.marks.items;
+          marks = t.marks;
           parents = t.parents.items;
           queue = t.queue.items;
           head = t.head;
           tail = t.tail;
-          walked = t.walked.items;
-        })
-        × AreClear (length t.marks.items) t.clear.items × AreClear (length t.walked.items) t.clear.items };
+          walked = t.walked;
+        }) };
 }
 
 // Written out: so a caller's proof sees one call, and not the drop of each field.
@@ -64,7 +61,6 @@ impl Drop for Trail {
             head: _,
             tail: _,
             walked: _,
-            clear: _,
         } = self;
     }
 }
@@ -75,8 +71,7 @@ impl Trail {
         ensures made { IfOk result (λ t. t ≡ new_trail most_meters most_branches) }
     {
         let meters = most_meters as usize;
-        let branches = most_branches as usize;
-        let Ok(marks) = vec![in alloc; false; meters] else {
+        let Ok(marks) = Flags::make(alloc, most_meters) else {
             return Err(NoMemory);
         };
         let Ok(parents) = vec![in alloc; None; meters] else {
@@ -85,10 +80,7 @@ impl Trail {
         let Ok(queue) = vec![in alloc; 0; meters] else {
             return Err(NoMemory);
         };
-        let Ok(walked) = vec![in alloc; false; branches] else {
-            return Err(NoMemory);
-        };
-        let Ok(clear) = vec![in alloc; false; meters.max(branches)] else {
+        let Ok(walked) = Flags::make(alloc, most_branches) else {
             return Err(NoMemory);
         };
         Ok(Trail {
@@ -98,7 +90,6 @@ impl Trail {
             head: 0,
             tail: 0,
             walked,
-            clear,
         })
     }
 
@@ -107,7 +98,7 @@ impl Trail {
         requires meters { meters ≤ length self.now.marks }
         ensures marks { result.now ≡ take meters self.now.marks }
     {
-        &self.marks[..meters]
+        self.marks.first(meters)
     }
 
     /// The first meters of the queue.
@@ -116,6 +107,11 @@ impl Trail {
         ensures queued { result.now ≡ take count self.now.queue }
     {
         &self.queue[..count]
+    }
+
+    /// All places of the queue.
+    pub fn queue(&self) -> &[u32] {
+        &self.queue
     }
 
     /// How many meters came into the queue.
@@ -130,7 +126,7 @@ impl Trail {
         requires m { m < length self.now.marks }
         ensures marked { result ≡ has_flag self.now.marks m }
     {
-        self.marks[m as usize]
+        self.marks.at(m)
     }
 
     /// The move by which the meter was reached, or None.
@@ -161,7 +157,7 @@ impl Trail {
         requires e { e < length self.now.walked }
         ensures walked { result ≡ has_flag self.now.walked e }
     {
-        self.walked[e as usize]
+        self.walked.at(e)
     }
 
     /// Marks nothing, empties the queue and walks no branch.
@@ -169,10 +165,8 @@ impl Trail {
         ensures cleared { self.new ≡ cleared self.old }
         ensures full { AreFull self.new }
     {
-        let meters = self.marks.len();
-        let branches = self.walked.len();
-        self.marks.copy_from_slice(&self.clear[..meters]);
-        self.walked.copy_from_slice(&self.clear[..branches]);
+        self.marks.clear();
+        self.walked.clear();
         self.head = 0;
         self.tail = 0;
     }
@@ -183,7 +177,7 @@ impl Trail {
         requires tail { self.old.tail < length self.old.marks }
         ensures pushed { self.new ≡ pushed self.old x by }
     {
-        self.marks[x as usize] = true;
+        self.marks.set(x);
         self.parents[x as usize] = by;
         self.queue[self.tail] = x;
         self.tail += 1;
@@ -194,7 +188,7 @@ impl Trail {
         requires e { e < length self.old.walked }
         ensures walked { self.new ≡ record self.old { walked = slice_set self.old.walked e true } }
     {
-        self.walked[e as usize] = true;
+        self.walked.set(e);
     }
 
     /// Goes on to the next meter of the queue.

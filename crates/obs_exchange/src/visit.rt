@@ -5,9 +5,10 @@ ghost use Rattle.obs_exchange.specs.Searching.{AreStarred, AreWalkedOf, IsDone, 
 ghost use Rattle.obs_exchange.specs.Setting.{touched_in};
 ghost use Rattle.obs_exchange.specs.Trail.{Follows, Stays};
 
-use crate::free::{count, untried_branch};
+use crate::free::{count, free_branch};
 use crate::setting::Setting;
 use crate::stars::Stars;
+use crate::tops::Tops;
 use crate::trail::Trail;
 use crate::walk::walk;
 use obs_assign::Move;
@@ -44,7 +45,7 @@ fn walk_touched(
     m: u32,
     touched: &[u32],
     trail: &mut Trail,
-    tops: &mut [u32],
+    tops: &mut Tops,
 ) -> Option<u32>
     requires touched { touched.now ≡ touched_in over.now m }
     requires visiting { IsVisiting over.now trail.old m }
@@ -73,7 +74,7 @@ fn visit(
     m: u32,
     trail: &mut Trail,
     stars: &mut Stars,
-    tops: &mut [u32],
+    tops: &mut Tops,
 ) -> Option<u32>
     requires m { m < length over.now.touches }
     requires visiting { IsVisiting over.now trail.old m }
@@ -89,7 +90,7 @@ fn visit(
     if is_starred(over, m, stars) {
         return None;
     }
-    if let Some(e) = untried_branch(over, m, stars) {
+    if let Some(e) = free_branch(over, m, stars) {
         return Some(e);
     }
     match walk_touched(over, m, over.touched(m), trail, tops) {
@@ -106,7 +107,7 @@ pub fn spread(
     over: &Setting<'_>,
     trail: &mut Trail,
     stars: &mut Stars,
-    tops: &mut [u32],
+    tops: &mut Tops,
 ) -> Option<Move>
     requires running { IsRunning over.now trail.old stars.old tops.old }
     ensures running { IsRunning over.now trail.new stars.new tops.new }

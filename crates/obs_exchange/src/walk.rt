@@ -10,13 +10,13 @@ ghost use Rattle.obs_exchange.specs.Trail.{Stays};
 
 use crate::queue::reach_owner;
 use crate::setting::Setting;
-use crate::tops::top_of;
+use crate::tops::{Tops, top_of};
 use crate::trail::Trail;
 use obs_assign::Move;
 
 /// Meets the branch above a top: reaches the meter that has it, and makes the class of the top one with that of the
 /// vertex above. Gives the top of that class.
-fn meet(over: &Setting<'_>, by: Move, top: u32, trail: &mut Trail, tops: &mut [u32]) -> u32
+fn meet(over: &Setting<'_>, by: Move, top: u32, trail: &mut Trail, tops: &mut Tops) -> u32
     requires touched { In by.branch (touched_in over.now by.meter) }
     requires top { top < over.now.graph.vertices }
     requires own { slice_index tops.old top ≡ top }
@@ -37,13 +37,13 @@ fn meet(over: &Setting<'_>, by: Move, top: u32, trail: &mut Trail, tops: &mut [u
 {
     let up = over.up(top);
     reach_owner(over, by, up.branch, trail);
-    tops[top as usize] = up.vertex;
+    tops.lead(top, up.vertex);
     top_of(over, tops, up.vertex)
 }
 
 /// Marks the meters whose pairs a branch needs that isn't free: goes up from both its ends, always from the deeper top,
 /// until these are of one class.
-fn reach_needed(over: &Setting<'_>, by: Move, trail: &mut Trail, tops: &mut [u32])
+fn reach_needed(over: &Setting<'_>, by: Move, trail: &mut Trail, tops: &mut Tops)
     requires touched { In by.branch (touched_in over.now by.meter) }
     requires joined { is_joined_in over.now by.branch ≡ true }
     requires visiting { IsVisiting over.now trail.old by.meter }
@@ -66,7 +66,7 @@ fn reach_needed(over: &Setting<'_>, by: Move, trail: &mut Trail, tops: &mut [u32
 }
 
 /// Walks one branch of the visited meter, where it wasn't walked yet, and says whether it is free.
-pub fn walk(over: &Setting<'_>, by: Move, trail: &mut Trail, tops: &mut [u32]) -> bool
+pub fn walk(over: &Setting<'_>, by: Move, trail: &mut Trail, tops: &mut Tops) -> bool
     requires touched { In by.branch (touched_in over.now by.meter) }
     requires visiting { IsVisiting over.now trail.old by.meter }
     requires classes { AreClasses over.now trail.old.marks tops.old }

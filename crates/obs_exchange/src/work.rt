@@ -9,6 +9,8 @@ ghost use Rattle.obs_exchange.specs.Found.{AreListed, CanBegin, IsFound, searche
 ghost use Rattle.obs_exchange.specs.Noting.{AreNoted};
 
 use crate::find::grow;
+use crate::flags::Flags;
+use crate::like::Like;
 use crate::memory::NoMemory;
 use crate::near::Near;
 use crate::noted::Noted;
@@ -16,7 +18,7 @@ use crate::pass::{Pass, next_tried};
 use crate::scratch::Scratch;
 use crate::setting::Setting;
 use crate::{Found, Sources};
-use obs_assign::{Assignment, Steps};
+use obs_assign::{Assignment, Move, Steps};
 use obs_graph::Graph;
 use obs_meter::{Meters, Touch};
 use std::alloc::Global;
@@ -41,8 +43,12 @@ pub struct Work {
     loose: Vec<bool>,
     // sources by what they touch: a hint
     near: Near,
+    // meters by what they touch: a hint
+    like: Like,
     // where the next search begins to try sources
     pass: Pass,
+    // meters from which no path led, as long as pairs are only added: a hint
+    shut: Flags,
 }
 
 impl Model for Work {
@@ -83,7 +89,9 @@ impl Drop for Work {
             copy: _,
             loose: _,
             near: _,
+            like: _,
             pass: _,
+            shut: _,
         } = self;
     }
 }
@@ -93,6 +101,21 @@ fn picked<'a>(given: &'a Meters, copy: &'a Meters, copied: bool) -> &'a Meters
     ensures touches { result.now.touches ≡ searched copied copy.now.touches given.now.touches }
 {
     if copied { copy } else { given }
+}
+
+/// Flags the meters that a search reached before it came to the source at which its path begins.
+fn shut_front(shut: &mut Flags, queue: &[u32], path: &[Move]) {
+    if path.len() < 2 {
+        return;
+    }
+    for m in queue {
+        if *m == path[0].meter {
+            return;
+        }
+        if (*m as usize) < shut.len() {
+            shut.set(*m);
+        }
+    }
 }
 
 /// Sets all flags.
@@ -145,7 +168,9 @@ impl Work {
             copy: Meters::make(alloc, most_meters)?,
             loose: vec![in alloc; false; most_meters as usize]?,
             near: Near::make(alloc, most_vertices)?,
+            like: Like::make(alloc, most_branches, most_vertices)?,
             pass: Pass::new(),
+            shut: Flags::make(alloc, most_meters)?,
         })
     }
 
@@ -209,6 +234,18 @@ impl Work {
     /// The meter of this number among those that the last `look_near` found, if there is one.
     pub fn near(&self, k: usize) -> Option<u32> {
         self.near.named(k)
+    }
+
+    /// Notes a meter by what it touches, for `like`. Nothing rests on it.
+    pub fn note_like(&mut self, touch: Touch, m: u32)
+        ensures same { self.new ≡ self.old }
+    {
+        self.like.put(touch, m);
+    }
+
+    /// The last meter that was noted so and may touch this, if there is one.
+    pub fn like(&self, touch: Touch) -> Option<u32> {
+        self.like.find(touch)
     }
 
     /// Whether the meter is kept as loose.
@@ -281,15 +318,21 @@ impl Work {
     {
         let ms = picked(ms, &self.copy, copied);
         self.meters = ms.count() as usize;
-        let start = self.pass.start(a, from, self.pairs);
+        let start = self.pass.start(a, from, self.pairs, self.shut.is_any());
         self.pairs = a.length();
-        let found = self
-            .scratch
-            .find(&Setting::new(g, ms, a, from), &self.noted, start);
+        let room = self.scratch.vertices();
+        self.shut.clear_unless(start.kept);
+        let found = self.scratch.find(
+            &Setting::new(g, ms, a, from, room),
+            &Setting::shut(g, ms, a, from, room, self.shut.all()),
+            &self.noted,
+            start,
+        );
         match found {
             Ok(k) => {
                 let path = self.scratch.path(k);
                 let next = next_tried(path, ms.count());
+                shut_front(&mut self.shut, self.scratch.queue(), path);
                 let m = grow(g, ms, a, path, steps);
                 self.pass = Pass::after(a, from, next, m);
                 Found::Grown(m)

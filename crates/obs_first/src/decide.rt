@@ -13,33 +13,30 @@ use obs_graph::Graph;
 use obs_meter::Meters;
 use std::sync::ledger::Ledger;
 
-/// How many meters before a meter are looked at for one that touches the same.
-const LOOKS_BACK: u32 = 1000;
-
-/// The nearest meter before m that touches the same, of the last thousand.
-fn same_before(ms: &Meters, m: u32) -> Option<u32>
+/// A meter before m that touches the same, where the last one that was noted does.
+fn same_before(ms: &Meters, m: u32, work: &Work) -> Option<u32>
     requires m { m < length ms.now.touches }
     ensures before { (k : ℕ) → result ≡ Some k → k < m }
     ensures same { (k : ℕ) → result ≡ Some k →
         slice_index_or ms.now.touches k Nothing ≡ slice_index_or ms.now.touches m Nothing }
 {
     let kind = ms.kind(m);
-    for k in (m.saturating_sub(LOOKS_BACK)..m).rev() {
-        if ms.kind(k) == kind {
-            return Some(k);
-        }
+    let k = work.like(kind)?;
+    if k < m && ms.kind(k) == kind {
+        Some(k)
+    } else {
+        None
     }
-    None
 }
 
 /// A bound below which the meter can have no branch: where one before it touches the same, this one can have none that
 /// would have been lower there.
-fn lowest_for(ms: &Meters, a: &Assignment, m: u32) -> u32
+fn lowest_for(ms: &Meters, a: &Assignment, m: u32, work: &Work) -> u32
     requires m { m < length ms.now.touches }
     requires meters { length ms.now.touches ≡ length a.now.slots }
     ensures passed { (y : ℕ) → y < result → IsPassed ms.now.touches a.now m y }
 {
-    let Some(k) = same_before(ms, m) else {
+    let Some(k) = same_before(ms, m, work) else {
         return 0;
     };
     match a.branch_of(k) {
@@ -80,7 +77,8 @@ pub fn decide<L: Ledger>(
     if taken >= rank {
         return taken;
     }
-    let low = lowest_for(ms, a, m);
+    let low = lowest_for(ms, a, m, work);
+    work.note_like(ms.kind(m), m);
     for e in ms.touch(g, m) {
         if *e < low {
             continue;

@@ -117,8 +117,8 @@ fn wins_near<L: Ledger>(
 }
 
 /// Takes the pair of the meter away, and looks for one pair more among the others, where the meter isn't known to be
-/// critical beside the frozen pairs: first from sources near the branch that it had. Says whether the pairs are enough then. Where they aren't, the search has told
-/// which meters may be loose still.
+/// critical beside the frozen pairs: first from sources near the branch that it had. Says whether the pairs are enough
+/// then. Where they aren't, the search has told which meters may be loose still.
 fn give_up<L: Ledger>(
     g: &Graph,
     ms: &Meters,

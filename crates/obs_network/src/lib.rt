@@ -12,6 +12,7 @@ mod located;
 mod marks;
 mod memory;
 mod network;
+mod present;
 mod rebuild;
 mod refreshing;
 mod room;
@@ -21,6 +22,7 @@ mod touching;
 
 pub use memory::NoMemory;
 pub use network::Network;
+pub use present::Present;
 pub use room::{position_count, vertex_room};
 pub use sides::Sides;
 pub use switched::buses_of_case;

@@ -1,6 +1,6 @@
 -- Texts that are written one behind the other.
 use Rattle.std.proofs.Common.{ℕ, ◌≡◌, ◌<◌, ◌∙◌, ◌+◌, zero, suc, refl, ap, sym, subst, arith, List, [], ◌∷◌, ◌++◌, length, take, drop, Option, Some, None, Result, Ok, Err, append_assoc, append-nil, true, false, ◌-◌}
-use Rattle.std.specs.Prelude.{slice_index, ⊤}
+use Rattle.std.specs.Prelude.{IsOk, slice_index, ⊤}
 use Rattle.std.proofs.Math.Seq.{take-length}
 use Rattle.std.proofs.lemmas.List.{length-append}
 use Rattle.obs_io.specs.Bytes.{Wrote, WrotePart, Writes}
@@ -30,6 +30,11 @@ room_front p x y rest has =
 pub writes_part : {T E : Type 0} (a b : Option (List ℕ)) (r : Result T E) (x : List ℕ) → Writes a b r x → WrotePart a b x
 writes_part a b (Ok v) x wrote = (x, [], sym (append-nil x), wrote)
 writes_part a b (Err f) x part = part
+
+-- and all of it, where the call succeeded
+pub writes_whole : {T E : Type 0} (a b : Option (List ℕ)) (r : Result T E) (x : List ℕ) → IsOk r → Writes a b r x → Wrote a b x
+writes_whole a b (Ok v) x good wrote = wrote
+writes_whole a b (Err f) x good part = absurd cc
 
 -- a name's front, and one byte more
 said_more : (name : List ℕ) (at : ℕ) → at < length name → name_said (take (suc at) name) ≡ name_said (take at name) ++ byte_said (slice_index name at)

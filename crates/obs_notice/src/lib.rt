@@ -3,8 +3,11 @@
 
 mod noted;
 mod notice;
+mod numbers;
+mod summary;
 mod words;
 
 pub use noted::Noted;
 pub use notice::say;
+pub use summary::Summary;
 pub use words::{or_status, words_of};

@@ -1,8 +1,10 @@
-// What is said on standard error where no answer was given, or not the whole one.
+// What is said on standard error of a run.
 ghost use Rattle.std.specs.Prelude.{◌≡◌, ◌<◌, ◌+◌, ◌++◌, ℕ, [], length, map, string_bytes, slice_index_or, IsOk};
 ghost use Rattle.obs_io.specs.Bytes.{Writes};
-ghost use Rattle.obs_notice.specs.Notices.{byte_said, comma_said, digit_code, digits_said, name_said, notice, read_notice, too_long_notice};
+ghost use Rattle.obs_notice.specs.Notices.{byte_said, digit_code, name_said, notice, read_notice, too_long_notice};
 
+use crate::numbers::write_around;
+use crate::summary::{Summary, say_summary};
 use obs_files::{Limits, Status};
 use obs_io::{Failed, Sink, write_all};
 use obs_text::Digits;
@@ -127,63 +129,6 @@ fn say_unread<E: Sink>(
     }
 }
 
-// Writes a digit of a number that has so many digits behind it.
-fn write_digit<E: Sink>(errors: &mut E, digit: u8, behind: usize) -> Result<(), Failed>
-    ensures writes { Writes (E.written errors.old) (E.written errors.new) result (comma_said behind digit) }
-    ensures succeeds { (rest : ℕ) → E.has_room errors.old (length (comma_said behind digit) + rest) → IsOk result }
-    ensures room { (rest : ℕ) → E.has_room errors.old (length (comma_said behind digit) + rest) → E.has_room errors.new rest }
-{
-    if behind > 0 && behind % 3 == 0 {
-        return write_all(errors, &[digit, 44]);
-    }
-    write_all(errors, &[digit])
-}
-
-// Writes the digits of a number.
-fn write_digits<E: Sink>(errors: &mut E, digits: &[u8]) -> Result<(), Failed>
-    ensures writes { Writes (E.written errors.old) (E.written errors.new) result (digits_said digits.now) }
-    ensures succeeds { (rest : ℕ) → E.has_room errors.old (length (digits_said digits.now) + rest) → IsOk result }
-    ensures room { (rest : ℕ) → E.has_room errors.old (length (digits_said digits.now) + rest) → E.has_room errors.new rest }
-{
-    if digits.is_empty() {
-        return Ok(());
-    }
-    match write_digit(errors, digits[0], digits.len() - 1) {
-        Ok(()) => write_digits(errors, &digits[1..]),
-        Err(Failed) => Err(Failed),
-    }
-}
-
-// Writes a number's digits and then a text.
-fn write_number<E: Sink>(errors: &mut E, digits: &[u8], second: &[u8]) -> Result<(), Failed>
-    ensures writes { Writes (E.written errors.old) (E.written errors.new) result (digits_said digits.now ++ second.now) }
-    ensures succeeds { (rest : ℕ) → E.has_room errors.old (length (digits_said digits.now ++ second.now) + rest)
-        → IsOk result }
-{
-    match write_digits(errors, digits) {
-        Ok(()) => write_all(errors, second),
-        Err(Failed) => Err(Failed),
-    }
-}
-
-// Writes a text, then a number's digits and then a text.
-fn write_around<E: Sink>(
-    errors: &mut E,
-    first: &[u8],
-    digits: &[u8],
-    third: &[u8],
-) -> Result<(), Failed>
-    ensures writes { Writes (E.written errors.old) (E.written errors.new) result
-        (first.now ++ (digits_said digits.now ++ third.now)) }
-    ensures succeeds { (rest : ℕ) → E.has_room errors.old (length (first.now ++ (digits_said digits.now ++ third.now)) + rest)
-        → IsOk result }
-{
-    match write_all(errors, first) {
-        Ok(()) => write_number(errors, digits, third),
-        Err(Failed) => Err(Failed),
-    }
-}
-
 // Says that the session's input has more bytes than are taken.
 fn say_too_long<E: Sink>(errors: &mut E, limits: Limits) -> Result<(), Failed>
     ensures says { Writes (E.written errors.old) (E.written errors.new) result (too_long_notice limits) }
@@ -195,22 +140,24 @@ fn say_too_long<E: Sink>(errors: &mut E, limits: Limits) -> Result<(), Failed>
 }
 
 /// Says what happened in a run that ended with this status, and what to do, where no answer was given or not the whole
-/// one. The word is that of the file of which a read failed, and the limits are those of the run.
+/// one. The word is that of the file of which a read failed, and the limits are those of the run. Of a whole answer it
+/// says what the summary of the case says, where there is one.
 pub fn say<E: Sink>(
     errors: &mut E,
     limits: Limits,
     words: &[String],
     status: Status,
     failed: Option<usize>,
+    summary: Option<Summary>,
 ) -> Result<(), Failed>
     ensures says { Writes (E.written errors.old) (E.written errors.new) result
-        (notice limits (map string_bytes words.now) status failed) }
+        (notice limits (map string_bytes words.now) status failed summary) }
     ensures succeeds { (rest : ℕ)
-        → E.has_room errors.old (length (notice limits (map string_bytes words.now) status failed) + rest) → IsOk result }
+        → E.has_room errors.old (length (notice limits (map string_bytes words.now) status failed summary) + rest)
+        → IsOk result }
 {
     match status {
-        Status::Done => Ok(()),
-        Status::Short => Ok(()),
+        Status::Done | Status::Short => say_summary(errors, summary),
         Status::Usage => write_all(errors, USAGE),
         Status::InputFault => write_all(errors, INPUT_FAULT),
         Status::ReadFault => say_unread(errors, words, failed),

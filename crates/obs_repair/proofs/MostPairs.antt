@@ -4,14 +4,12 @@ use Rattle.std.specs.Prelude.{IsTrue, nat_lt, if◌then◌else◌}
 use Rattle.std.proofs.lemmas.Bool.{cases_Bool, cases_eq}
 use Rattle.std.proofs.lemmas.Bool.Decides.{nat_tests}
 use Rattle.std.proofs.lemmas.List.{length-map}
-use Rattle.obs_graph.specs.Graph.{Graph}
 use Rattle.obs_case.specs.Tables.{IsValid, Tables}
 use Rattle.obs_matroid.specs.Lists.{In}
 use Rattle.obs_matroid.specs.Assignments.{Pair, items}
 use Rattle.obs_matroid.proofs.Lists.{length-within}
 use Rattle.obs_matroid.proofs.Pairs.{In-items, In-items_from}
 use Rattle.obs_matroid.proofs.Slots.{IsDistinct-slots, slot_from}
-use Rattle.obs_meter.specs.Held.{Meters}
 use Rattle.obs_meter.specs.Touches.{every_item}
 use Rattle.obs_meter.proofs.Assigned.{every-to_live}
 use Rattle.obs_assign.specs.Assignment.{Assignment, branch_at, pairs}
@@ -69,15 +67,12 @@ module _ (t : Tables) (e : Edit) (n : Network) (a : Assignment) (h : IsBefore t 
   bound_by false is = bound_needed
   bound_by true is = bound_alone is e refl said
 
-  pub bound_now : (g : Graph) (ms : Meters) (had needed most : ℕ) → g ≡ after.graph → ms ≡ after.meters → had ≡ length (pairs a) → needed ≡ after.needed → most ≡ most_pairs e alone had needed
-      → IsMost g.ends ms.touches most
-  bound_now g ms had needed most is_graph are_meters h_is n_is m_is =
+  pub bound_now : (had needed most : ℕ) → had ≡ length (pairs a) → needed ≡ after.needed → most ≡ most_pairs e alone had needed
+      → IsMost (case_branches t) (case_meters t) most
+  bound_now had needed most h_is n_is m_is =
       let s : needed ≡ case_needed t = n_is ∙ ap (λ (x : Network). x.needed) net in
       let k : most ≡ most_pairs e alone (length (pairs a)) (case_needed t) = m_is ∙ (ap (λ x. most_pairs e alone x needed) h_is ∙ ap (λ x. most_pairs e alone (length (pairs a)) x) s) in
-      let graph_now : g ≡ (network_of t).graph = is_graph ∙ ap (λ (x : Network). x.graph) net in
-      let meters_now : ms ≡ (network_of t).meters = are_meters ∙ ap (λ (x : Network). x.meters) net in
-      subst (λ (x : Graph). IsMost x.ends ms.touches most) (sym graph_now)
-      (subst (λ (x : Meters). IsMost (case_branches t) x.touches most) (sym meters_now) (subst (λ (x : ℕ). Most x) (sym k) (bound_by alone refl)))
+      subst (λ (x : ℕ). Most x) (sym k) (bound_by alone refl)
 
 -- the pairs that are left, and what is made of them
 module _ (e : Edit) (a b : Assignment) (l : AreLeft e a b) where

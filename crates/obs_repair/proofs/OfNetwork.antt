@@ -1,5 +1,5 @@
 -- What is read off the network of a case, and the room for it.
-use Rattle.std.proofs.Common.{◌≡◌, ℕ, ◌≤◌, length, sym, ap, ◌∙◌, subst, arith}
+use Rattle.std.proofs.Common.{◌≡◌, ℕ, ◌≤◌, length, sym, ap, subst, arith}
 use Rattle.std.proofs.lemmas.List.{length-map}
 use Rattle.obs_graph.specs.Graph.{Graph}
 use Rattle.obs_case.specs.Tables.{IsValid, Tables, most_rows}
@@ -9,7 +9,7 @@ use Rattle.obs_meter.specs.Touches.{every_item}
 use Rattle.obs_meter.proofs.Assigned.{rho_at-unique}
 use Rattle.obs_assign.specs.Assignment.{Assignment, Fits, pairs}
 use Rattle.obs_exchange.specs.Found.{Work}
-use Rattle.obs_network.specs.Network.{Network, case_branches, case_meters, case_needed, network_of}
+use Rattle.obs_network.specs.Network.{case_branches, case_meters, case_needed, network_of}
 use Rattle.obs_network.specs.Observable.{case_live_meters, case_rank}
 use Rattle.obs_network.proofs.FewLost.{rank_is}
 use Rattle.obs_network.proofs.OfCase.{case_vertex_count-le, length-case_branches, length-case_meters}
@@ -30,28 +30,21 @@ fits_case t a w r = record {
   branches = let p = r.pair_branches in omega (arith, p, length-case_branches t);
 }
 
-pub fits_network : (n : Network) (t : Tables) (g : Graph) (i : Meters) (a : Assignment) (w : Work) → n ≡ network_of t → g ≡ n.graph → i ≡ n.meters → HasRoom t a w → Fits a g i.touches
-fits_network n t g i a w same graph meters r =
-    let gs : g ≡ (network_of t).graph = graph ∙ ap (λ (x : Network). x.graph) same in
-    let is : i ≡ (network_of t).meters = meters ∙ ap (λ (x : Network). x.meters) same in
-    subst (λ (h : Graph). Fits a h i.touches) (sym gs) (subst (λ (j : Meters). Fits a (network_of t).graph j.touches) (sym is) (fits_case t a w r))
+pub fits_network : (t : Tables) (g : Graph) (i : Meters) (a : Assignment) (w : Work) → g ≡ (network_of t).graph → i ≡ (network_of t).meters → HasRoom t a w → Fits a g i.touches
+fits_network t g i a w graph meters r =
+    subst (λ (h : Graph). Fits a h i.touches) (sym graph) (subst (λ (j : Meters). Fits a (network_of t).graph j.touches) (sym meters) (fits_case t a w r))
 
 -- the needed number bounds the pairs
-pub most_of_network : (n : Network) (t : Tables) (g : Graph) (i : Meters) (k : ℕ) → IsValid t → n ≡ network_of t → g ≡ n.graph → i ≡ n.meters → k ≡ n.needed → IsMost g.ends i.touches k
-most_of_network n t g i k v same graph meters needed =
-    let gs : g ≡ (network_of t).graph = graph ∙ ap (λ (x : Network). x.graph) same in
-    let is : i ≡ (network_of t).meters = meters ∙ ap (λ (x : Network). x.meters) same in
-    let ks : k ≡ case_needed t = needed ∙ ap (λ (x : Network). x.needed) same in
+pub most_of_network : (t : Tables) (g : Graph) (i : Meters) (k : ℕ) → IsValid t → g ≡ (network_of t).graph → i ≡ (network_of t).meters → k ≡ case_needed t → IsMost g.ends i.touches k
+most_of_network t g i k v graph meters needed =
     let most : IsMost (case_branches t) (case_meters t) (case_needed t) = λ B x. most_pairs t v (case_meters t) (every_item (case_meters t)) B x in
-    subst (λ (h : Graph). IsMost h.ends i.touches k) (sym gs)
-    (subst (λ (j : Meters). IsMost (case_branches t) j.touches k) (sym is) (subst (λ (x : ℕ). IsMost (case_branches t) (case_meters t) x) (sym ks) most))
+    subst (λ (h : Graph). IsMost h.ends i.touches k) (sym graph)
+    (subst (λ (j : Meters). IsMost (case_branches t) j.touches k) (sym meters) (subst (λ (x : ℕ). IsMost (case_branches t) (case_meters t) x) (sym needed) most))
 
 -- what is the longest over the graph and the meters of the network is so over those of the case
-pub IsLongest-of_network : (n : Network) (t : Tables) (g : Graph) (i : Meters) (a : Assignment) → n ≡ network_of t → g ≡ n.graph → i ≡ n.meters → IsLongest g i.touches a → AreLongest t a
-IsLongest-of_network n t g i a same graph meters h =
-    let gs : g ≡ (network_of t).graph = graph ∙ ap (λ (x : Network). x.graph) same in
-    let is : i ≡ (network_of t).meters = meters ∙ ap (λ (x : Network). x.meters) same in
-    subst (λ (h : Graph). IsLongest h (case_meters t) a) gs (subst (λ (j : Meters). IsLongest g j.touches a) is h)
+pub IsLongest-of_network : (t : Tables) (g : Graph) (i : Meters) (a : Assignment) → g ≡ (network_of t).graph → i ≡ (network_of t).meters → IsLongest g i.touches a → AreLongest t a
+IsLongest-of_network t g i a graph meters h =
+    subst (λ (h : Graph). IsLongest h (case_meters t) a) graph (subst (λ (j : Meters). IsLongest g j.touches a) meters h)
 
 -- what was made for the rows of a case has room for its network
 pub room_of_rows : (t : Tables) (s : Sizes) (g : Graph) (ms : Meters) → g ≡ (network_of t).graph → ms ≡ (network_of t).meters → s ≡ case_room t → HasRoomFor s g ms.touches

@@ -2,7 +2,7 @@
 use Rattle.std.proofs.Common.{◌≡◌, ℕ, ◌*◌, ◌≤◌, Bool, length, sym, ap, ◌∙◌, subst, arith}
 use Rattle.obs_case.specs.Tables.{IsValid, Tables}
 use Rattle.obs_assign.specs.Assignment.{Assignment, pairs}
-use Rattle.obs_network.specs.Network.{Network, Rows, case_meters, case_position_count, case_vertex_room, network_of}
+use Rattle.obs_network.specs.Network.{Network, Rows, case_branches, case_meters, case_position_count, case_vertex_count, case_vertex_room, network_of}
 use Rattle.obs_network.proofs.OfCase.{case_vertex_count-le, length-case_branches, length-case_meters}
 use Rattle.obs_repair.specs.declared.edit.Edit.{Edit}
 use Rattle.obs_repair.specs.declared.edit.Edit.TheVariants as edit
@@ -23,17 +23,17 @@ room-edited t e = ap (λ (r : Rows). 2 * r.nodes) (rows-edited t e)
 pub parts_room-edited : (t : Tables) (e : Edit) (p : Parts) → HasRoomForParts t p → HasRoomForParts (edited t e) p
 parts_room-edited t e p r = record { vertices = r.vertices ∙ sym (room-edited t e); positions = r.positions ∙ sym (positions-edited t e) }
 
-module _ (t : Tables) (e : Edit) (n : Network) (a : Assignment) (h : IsBefore t e n a) (after : Network) (net : after ≡ network_of t) (p : Parts) (room : HasRoomForParts t p) where
-  net_edited : after ≡ network_of (edited h.before e)
-  net_edited = net ∙ ap network_of h.same
+module _ (t : Tables) (e : Edit) (n : Network) (a : Assignment) (h : IsBefore t e n a) (p : Parts) (room : HasRoomForParts t p) where
+  net_edited : network_of t ≡ network_of (edited h.before e)
+  net_edited = ap network_of h.same
 
   pub place_before : IsPlaceIn e n
   place_before =
       place_by h.before e n h.row (ap (λ (x : Network). length x.graph.ends) h.network ∙ length-case_branches h.before) (ap (λ (x : Network). length x.meters.touches) h.network)
 
-  pub place_after : IsPlaceIn e after
+  pub place_after : IsPlaceIn e (network_of t)
   place_after =
-      place_by h.before e after h.row
+      place_by h.before e (network_of t) h.row
       (ap (λ (x : Network). length x.graph.ends) net_edited ∙ (length-case_branches (edited h.before e) ∙ positions-edited h.before e))
       (ap (λ (x : Network). length x.meters.touches) net_edited ∙ meters-edited h.before e)
 
@@ -45,25 +45,21 @@ module _ (t : Tables) (e : Edit) (n : Network) (a : Assignment) (h : IsBefore t 
       let r = room.vertices in
       omega (arith, few, same, as_many, r)
 
-  pub room_after : after.graph.vertices ≤ length p.first
-  room_after =
-      let few = case_vertex_count-le t in
-      let same = ap (λ (x : Network). x.graph.vertices) net in
-      let r = room.vertices in
-      omega (arith, few, same, r)
+  pub room_after : case_vertex_count t ≤ length p.first
+  room_after = let r = room.vertices in omega (arith, case_vertex_count-le t, r)
 
-  pub positions_after : length after.graph.ends ≡ p.positions
-  positions_after = ap (λ (x : Network). length x.graph.ends) net ∙ (length-case_branches t ∙ sym room.positions)
+  pub positions_after : length (case_branches t) ≡ p.positions
+  positions_after = length-case_branches t ∙ sym room.positions
 
   -- what bounded the pairs of the network before
-  pub bound_before : (valid : IsValid t) (alone between : Bool) (had : ℕ) → IsSaidAlone e alone n after → IsSaidBetween e between n p.first → had ≡ length (pairs a) → BoundsNetwork n p.first (length (pairs a))
-      → AreBoundBefore e alone between after p.first had
+  pub bound_before : (valid : IsValid t) (alone between : Bool) (had : ℕ) → IsSaidAlone e alone n (network_of t) → IsSaidBetween e between n p.first → had ≡ length (pairs a) → BoundsNetwork n p.first (length (pairs a))
+      → AreBoundBefore e alone between (network_of t) p.first had
   bound_before valid alone between had said parted is bound = record {
     before = h.before;
     valid = h.valid;
     valid_after = subst IsValid h.same valid;
     network = net_edited;
-    said_alone = subst (λ (x : Network). IsSaidAlone e alone x after) h.network said;
+    said_alone = subst (λ (x : Network). IsSaidAlone e alone x (network_of t)) h.network said;
     said_between = subst (λ (x : Network). IsSaidBetween e between x p.first) h.network parted;
     bound = subst (λ (x : Network). BoundsNetwork x p.first had) h.network (subst (λ k. BoundsNetwork n p.first k) (sym is) bound);
   }

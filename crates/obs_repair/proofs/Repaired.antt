@@ -19,7 +19,7 @@ use Rattle.obs_assign.specs.Still.{AreRetained, is_still, still}
 use Rattle.obs_assign.proofs.Standing.{IsAssignmentAt-standing, length-retained, still_at, still_from}
 use Rattle.obs_assign.proofs.Slotted.{none_some}
 use Rattle.obs_exchange.specs.Lengthened.{HasLengthened}
-use Rattle.obs_network.specs.Network.{Network, case_branches, case_meters, case_position_count, case_vertex_count, case_vertex_room, network_of}
+use Rattle.obs_network.specs.Network.{case_branches, case_meters, case_position_count, case_vertex_count, case_vertex_room, network_of}
 use Rattle.obs_network.specs.Edited.{ArePresent}
 use Rattle.obs_network.proofs.KeptForests.{forest_closed, forest_opened, forest_rank, forest_with_branch, forest_with_meter}
 use Rattle.obs_network.proofs.OfCase.{case_branches-are, case_vertex_count-le, length-case_branches}
@@ -71,13 +71,7 @@ pub kept-same : (t : Tables) (a : Assignment) → StandsOver a (network_of t).gr
 kept-same t a stands = AreKept-by t a a refl (λ p i. still_at (case_branches t) (case_meters t) (pairs a) p i (stands.touched p.0 p.1 (slot_from a.slots p i))) (few_standing t a)
 
 -- the pairs that are retained in the network after an edit
-module _ (n : Network) (t : Tables) (e : Edit) (a : Assignment) (v : IsValid t) (b : StoodBefore t e a) (net : n ≡ network_of t) (g : Graph) (is_graph : g ≡ n.graph) (ms : Meters) (are_meters : ms ≡ n.meters) where
-  graph_now : g ≡ (network_of t).graph
-  graph_now = is_graph ∙ ap (λ (x : Network). x.graph) net
-
-  meters_now : ms ≡ (network_of t).meters
-  meters_now = are_meters ∙ ap (λ (x : Network). x.meters) net
-
+module _ (t : Tables) (e : Edit) (a : Assignment) (v : IsValid t) (b : StoodBefore t e a) (g : Graph) (graph_now : g ≡ (network_of t).graph) (ms : Meters) (meters_now : ms ≡ (network_of t).meters) where
   pub as_many_meters : length ms.touches ≡ length a.slots
   as_many_meters =
       ap (λ (i : Meters). length i.touches) meters_now

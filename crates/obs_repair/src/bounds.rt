@@ -1,41 +1,37 @@
 // What longest pairs show: the critical meters, and the bound of a component.
 ghost use Rattle.std.specs.Prelude.{◌≡◌, ◌<◌, ◌≤◌, length, take};
-ghost use Rattle.obs_network.specs.Network.{case_component_count, network_of};
+ghost use Rattle.obs_network.specs.Network.{case_component_count};
 ghost use Rattle.obs_repair.specs.Bounds.{AreMarks, bound_meters, bound_outside, bound_rank, case_critical_meters};
 ghost use Rattle.obs_repair.specs.Kept.{AreLongest, HasRoom};
 
 use crate::components::{count_paired, list_marked};
 use obs_assign::{Assignment, Steps};
-use obs_case::Case;
 use obs_critical::CriticalWork;
 use obs_exchange::{Work, close};
-use obs_network::Network;
+use obs_network::Present;
 use std::sync::ledger::Ledger;
 
 /// Marks the live meters that aren't critical, and lists those that are. One search shows which they are.
 pub fn find_critical<L: Ledger>(
-    case: &Case,
-    network: &Network,
+    present: &Present<'_>,
     pairs: &mut Assignment,
     work: &mut Work,
     marks: &mut [bool],
     list: &mut CriticalWork,
     steps: &mut Steps<L>,
 )
-    requires network { network.now ≡ network_of case.now }
-    requires longest { AreLongest case.now pairs.old }
-    requires room { HasRoom case.now pairs.old work.old }
-    requires marks { length marks.old ≡ length case.now.meters }
-    requires list { list.old.most_meters ≡ length case.now.meters }
-    ensures marks { AreMarks case.now marks.new }
-    ensures critical { list.new.list ≡ case_critical_meters case.now }
+    requires longest { AreLongest present.now pairs.old }
+    requires room { HasRoom present.now pairs.old work.old }
+    requires marks { length marks.old ≡ length present.now.meters }
+    requires list { list.old.most_meters ≡ length present.now.meters }
+    ensures marks { AreMarks present.now marks.new }
+    ensures critical { list.new.list ≡ case_critical_meters present.now }
     ensures same { pairs.new ≡ pairs.old }
     ensures same_sizes { work.new.sizes ≡ work.old.sizes }
     ensures same_room { list.new.most_meters ≡ list.old.most_meters }
 {
-    let _nodes = case.nodes();
-    let g = network.graph();
-    let ms = network.meters();
+    let g = present.graph();
+    let ms = present.meters();
     close(g, ms, pairs, work, steps);
     let reached = work.reached();
     marks.copy_from_slice(reached);
@@ -54,25 +50,22 @@ pub struct Measured {
 /// Lists the meters of a component's bound, and measures it. The rank of what they touch is the number of the
 /// component's pairs without one for each other live meter, so this goes through the component's meters alone.
 pub fn find_bound(
-    case: &Case,
-    network: &Network,
+    present: &Present<'_>,
     pairs: &Assignment,
     marks: &[bool],
     inside: &mut [u32],
     c: u32,
 ) -> Measured
-    requires network { network.now ≡ network_of case.now }
-    requires longest { AreLongest case.now pairs.now }
-    requires marks { AreMarks case.now marks.now }
-    requires inside { length inside.old ≡ length case.now.meters }
-    requires component { c < case_component_count case.now }
-    ensures listed { take result.listed inside.new ≡ bound_meters case.now c }
-    ensures rank { result.rank ≡ bound_rank case.now c }
-    ensures outside { result.outside ≡ bound_outside case.now c }
+    requires longest { AreLongest present.now pairs.now }
+    requires marks { AreMarks present.now marks.now }
+    requires inside { length inside.old ≡ length present.now.meters }
+    requires component { c < case_component_count present.now }
+    ensures listed { take result.listed inside.new ≡ bound_meters present.now c }
+    ensures rank { result.rank ≡ bound_rank present.now c }
+    ensures outside { result.outside ≡ bound_outside present.now c }
     ensures few { result.listed ≤ length inside.new }
 {
-    let _nodes = case.nodes();
-    let meters = network.live_meters(c);
+    let meters = present.network().live_meters(c);
     let listed = list_marked(meters, marks, inside);
     let outside = (meters.len() - listed) as u32;
     let rank = count_paired(meters, pairs) - outside;

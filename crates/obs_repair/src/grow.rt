@@ -1,20 +1,21 @@
 // The searches of a repair.
 ghost use Rattle.std.specs.Prelude.{◌≡◌, ◌+◌, ◌-◌, ◌≤◌, ℕ, true, length};
-ghost use Rattle.obs_graph.specs.Positions.{AreBranches};
 ghost use Rattle.obs_meter.specs.Sizes.{HasRoomFor};
 ghost use Rattle.obs_assign.specs.Assignment.{HasRoomOf, StandsOver, pairs};
 ghost use Rattle.obs_exchange.specs.declared.Sources.TheVariants.{All};
 ghost use Rattle.obs_exchange.specs.Found.{HasClosed};
 ghost use Rattle.obs_exchange.specs.Laws.{IsThawed};
 ghost use Rattle.obs_exchange.specs.Lengthened.{HasLengthened};
-ghost use Rattle.obs_exchange.specs.Longest.{IsLongest, IsMost};
+ghost use Rattle.obs_exchange.specs.Longest.{IsMost};
+ghost use Rattle.obs_network.specs.Network.{case_branches, case_meters, network_of};
 ghost use Rattle.obs_repair.specs.declared.edit.Edit.TheVariants.{Meter};
+ghost use Rattle.obs_repair.specs.Kept.{AreLongest};
 ghost use Rattle.obs_repair.specs.Repairing.{IsBack, IsMeterBack};
 
 use crate::edit::Edit;
 use obs_assign::{Assignment, Steps};
 use obs_exchange::{Found, Lengthened, Sources, Work, regrow, search};
-use obs_network::Network;
+use obs_network::Present;
 use std::sync::ledger::Ledger;
 
 /// The meter that the edit puts in service.
@@ -34,28 +35,27 @@ fn back(edit: Edit) -> Option<u32>
 /// Searches once from a meter that came back, where there are fewer pairs than there can be. Says how many searches it
 /// took.
 fn search_back<L: Ledger>(
-    network: &Network,
+    present: &Present<'_>,
     m: u32,
     most: u32,
     a: &mut Assignment,
     work: &mut Work,
     steps: &mut Steps<L>,
 ) -> u32
-    requires branches { AreBranches network.now.graph.vertices network.now.graph.ends }
-    requires stands { StandsOver a.old network.now.graph network.now.meters.touches }
+    requires stands { StandsOver a.old (network_of present.now).graph (case_meters present.now) }
     requires thawed { IsThawed a.old }
-    requires room { HasRoomFor work.old.sizes network.now.graph network.now.meters.touches }
-    requires most { IsMost network.now.graph.ends network.now.meters.touches most }
-    requires back { IsBack network.now.graph network.now.meters.touches m a.old }
-    ensures longest { IsLongest network.now.graph network.now.meters.touches a.new }
+    requires room { HasRoomFor work.old.sizes (network_of present.now).graph (case_meters present.now) }
+    requires most { IsMost (case_branches present.now) (case_meters present.now) most }
+    requires back { IsBack (network_of present.now).graph (case_meters present.now) m a.old }
+    ensures longest { AreLongest present.now a.new }
     ensures lengthened { HasLengthened a.old a.new result }
     ensures bound { result ≤ most - length (pairs a.old) }
     ensures ticks { steps.new ≡ steps.old + result }
     ensures same_room { HasRoomOf a.old a.new }
     ensures same_sizes { work.new.sizes ≡ work.old.sizes }
 {
-    let g = network.graph();
-    let ms = network.meters();
+    let g = present.graph();
+    let ms = present.meters();
     let _ = a.turns();
     if a.length() >= most {
         return 0;
@@ -71,23 +71,22 @@ fn search_back<L: Ledger>(
 /// can be missing, so that one search from it is enough. Says how many searches it took, and whether one from all sources
 /// ended closed.
 pub(crate) fn grow<L: Ledger>(
-    network: &Network,
+    present: &Present<'_>,
     edit: Edit,
     most: u32,
     a: &mut Assignment,
     work: &mut Work,
     steps: &mut Steps<L>,
 ) -> Lengthened
-    requires branches { AreBranches network.now.graph.vertices network.now.graph.ends }
-    requires stands { StandsOver a.old network.now.graph network.now.meters.touches }
+    requires stands { StandsOver a.old (network_of present.now).graph (case_meters present.now) }
     requires thawed { IsThawed a.old }
-    requires room { HasRoomFor work.old.sizes network.now.graph network.now.meters.touches }
-    requires most { IsMost network.now.graph.ends network.now.meters.touches most }
-    requires back { (m : ℕ) → edit ≡ Meter m true → IsBack network.now.graph network.now.meters.touches m a.old }
-    ensures longest { IsLongest network.now.graph network.now.meters.touches a.new }
+    requires room { HasRoomFor work.old.sizes (network_of present.now).graph (case_meters present.now) }
+    requires most { IsMost (case_branches present.now) (case_meters present.now) most }
+    requires back { (m : ℕ) → edit ≡ Meter m true → IsBack (network_of present.now).graph (case_meters present.now) m a.old }
+    ensures longest { AreLongest present.now a.new }
     ensures lengthened { HasLengthened a.old a.new result.searches }
     ensures closed { result.closed ≡ true
-        → HasClosed network.now.graph.ends network.now.meters.touches All a.new a.new work.new.reached }
+        → HasClosed (case_branches present.now) (case_meters present.now) All a.new a.new work.new.reached }
     ensures bound { result.searches ≤ most - length (pairs a.old) }
     ensures ticks { steps.new ≡ steps.old + result.searches }
     ensures same_room { HasRoomOf a.old a.new }
@@ -95,9 +94,9 @@ pub(crate) fn grow<L: Ledger>(
 {
     match back(edit) {
         Some(m) => Lengthened {
-            searches: search_back(network, m, most, a, work, steps),
+            searches: search_back(present, m, most, a, work, steps),
             closed: false,
         },
-        None => regrow(network.graph(), network.meters(), a, most, work, steps),
+        None => regrow(present.graph(), present.meters(), a, most, work, steps),
     }
 }

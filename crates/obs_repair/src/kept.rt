@@ -1,6 +1,5 @@
 // The kept pairs, the arrays of their searches, and the parts that bound them.
 ghost use Rattle.std.specs.Prelude.{◌≡◌, IfOk, false};
-ghost use Rattle.obs_network.specs.Network.{network_of};
 ghost use Rattle.obs_repair.specs.Parts.{HasRoomForParts};
 ghost use Rattle.obs_repair.specs.Kept.{AreLongest, HasRoom};
 
@@ -9,7 +8,7 @@ use crate::parts::Parts;
 use obs_assign::{Assignment, Steps};
 use obs_case::Case;
 use obs_exchange::{Work, lengthen};
-use obs_network::{Network, position_count, vertex_room};
+use obs_network::{Present, position_count, vertex_room};
 use std::alloc::Global;
 use std::sync::ledger::Ledger;
 
@@ -52,22 +51,19 @@ pub fn make_held(alloc: Global, case: &Case) -> Result<Held, NoMemory>
     Ok(Held { pairs, work, parts })
 }
 
-/// Makes the pairs a longest assignment of the meters of a network.
+/// Makes the pairs a longest assignment of the case's meters.
 pub fn fill<L: Ledger>(
-    case: &Case,
-    network: &Network,
+    present: &Present<'_>,
     pairs: &mut Assignment,
     work: &mut Work,
     steps: &mut Steps<L>,
 )
-    requires network { network.now ≡ network_of case.now }
-    requires room { HasRoom case.now pairs.old work.old }
-    ensures longest { AreLongest case.now pairs.new }
-    ensures room { HasRoom case.now pairs.new work.new }
+    requires room { HasRoom present.now pairs.old work.old }
+    ensures longest { AreLongest present.now pairs.new }
+    ensures room { HasRoom present.now pairs.new work.new }
 {
-    let _nodes = case.nodes();
-    let g = network.graph();
-    let ms = network.meters();
+    let g = present.graph();
+    let ms = present.meters();
     pairs.clear(g, ms);
-    let _ = lengthen(g, ms, pairs, network.needed(), work, steps);
+    let _ = lengthen(g, ms, pairs, present.network().needed(), work, steps);
 }

@@ -17,7 +17,7 @@ use crate::parts::Parts;
 use obs_assign::{Assignment, Steps};
 use obs_case::Case;
 use obs_exchange::Work;
-use obs_network::Network;
+use obs_network::{Network, Present};
 use std::sync::ledger::Ledger;
 
 /// Whether the flag of the row is what the edit sets it to.
@@ -116,21 +116,20 @@ fn most_pairs(edit: Edit, alone: bool, had: u32, needed: u32) -> u32
 
 /// Gives up the pairs that don't stand any more, and of the others at most one, whose branch closes a cycle where a
 /// switch was closed. Where nothing changed but the meter or the branch of the edit, all stand.
-fn keep_standing(case: &Case, network: &Network, edit: Edit, alone: bool, a: &mut Assignment)
-    requires network { network.now ≡ network_of case.now }
-    requires before { StoodBefore case.now edit a.old }
-    requires alone { IsTrue alone → StandsOver a.old (network_of case.now).graph (case_meters case.now) }
+fn keep_standing(present: &Present<'_>, edit: Edit, alone: bool, a: &mut Assignment)
+    requires before { StoodBefore present.now edit a.old }
+    requires alone { IsTrue alone → StandsOver a.old (network_of present.now).graph (case_meters present.now) }
     requires thawed { IsThawed a.old }
-    requires vertices { case_vertex_room case.now ≤ a.old.forest.most_vertices }
-    ensures kept { AreKept case.now a.old a.new }
+    requires vertices { case_vertex_room present.now ≤ a.old.forest.most_vertices }
+    ensures kept { AreKept present.now a.old a.new }
     ensures same { IsTrue alone → a.new ≡ a.old }
-    ensures stands { StandsOver a.new (network_of case.now).graph (case_meters case.now) }
+    ensures stands { StandsOver a.new (network_of present.now).graph (case_meters present.now) }
     ensures whole { IsWhole a.new }
     ensures thawed { IsThawed a.new }
     ensures same_room { HasRoomOf a.old a.new }
 {
     if !alone {
-        let _ = a.retain_touching(network.graph(), network.meters());
+        let _ = a.retain_touching(present.graph(), present.meters());
     }
 }
 
@@ -164,10 +163,11 @@ pub fn repair<L: Ledger>(
     let between = is_between(edit, network, parts);
     give_up(case, network, edit, a);
     let alone = follow(case, edit, network);
-    keep_standing(case, network, edit, alone, a);
-    let bound = limit(edit, alone, between, had, network, parts);
+    let present = Present { case, network };
+    keep_standing(&present, edit, alone, a);
+    let bound = limit(edit, alone, between, had, &present, parts);
     let most = most_pairs(edit, alone, had, network.needed());
-    let grown = grow(network, edit, least(most, bound), a, work, steps);
-    settle(network, a, work.reached(), grown.closed, bound, parts);
+    let grown = grow(&present, edit, least(most, bound), a, work, steps);
+    settle(&present, a, work.reached(), grown.closed, bound, parts);
     grown.searches
 }

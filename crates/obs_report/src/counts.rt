@@ -11,8 +11,8 @@ use obs_io::{Failed, Sink};
 use obs_meter::Meters;
 use obs_network::Network;
 
-// How many buses energised components have.
-fn count_energised(network: &Network) -> u32
+/// How many buses energised components have.
+pub fn count_energised(network: &Network) -> u32
     ensures energised { result ≡ energised_buses network.now }
 {
     let mut energised = 0;

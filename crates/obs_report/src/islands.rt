@@ -1,6 +1,7 @@
 // The lines on islands.
 ghost use Rattle.std.specs.Prelude.{◌≡◌, ◌<◌, ◌≤◌, ℕ, [], ◌∷◌, length, slice_index};
 ghost use Rattle.obs_network.specs.Network.{network_of};
+ghost use Rattle.obs_network.specs.Switched.{case_bus_count};
 ghost use Rattle.obs_report.specs.Islands.{island_line, island_lines, islands_text};
 ghost use Rattle.obs_report.specs.Printed.{Appends, Prints};
 
@@ -8,28 +9,22 @@ use crate::line_buffer::LineBuffer;
 use crate::names::bus_name;
 use obs_case::Case;
 use obs_io::{Failed, Sink};
-use obs_network::Network;
+use obs_network::{Network, Present};
 
 // Prints the line of a bus and the first bus of its island.
 fn print_island<W: Sink>(
     lines: &mut LineBuffer,
     output: &mut W,
-    case: &Case,
-    network: &Network,
+    present: &Present<'_>,
     first: u32,
     bus: u32,
 )
-    requires network { network.now ≡ network_of case.now }
-    requires first { first < network.now.buses.count }
-    requires bus { bus < network.now.buses.count }
+    requires first { first < case_bus_count present.now }
+    requires bus { bus < case_bus_count present.now }
     ensures printed { Prints W.written W.faults W.has_room output.old output.new lines.old lines.new
-        (island_line case.now first bus) }
+        (island_line present.now first bus) }
 {
-    let words: [&[u8]; 3] = [
-        b"island",
-        bus_name(case, network, first),
-        bus_name(case, network, bus),
-    ];
+    let words: [&[u8]; 3] = [b"island", bus_name(present, first), bus_name(present, bus)];
     lines.line(output, &words);
 }
 
@@ -37,20 +32,19 @@ fn print_island<W: Sink>(
 fn print_bus<W: Sink>(
     lines: &mut LineBuffer,
     output: &mut W,
-    case: &Case,
-    network: &Network,
+    present: &Present<'_>,
     islands: &[u32],
     bus: u32,
 )
-    requires network { network.now ≡ network_of case.now }
-    requires bus { bus < network.now.buses.count }
+    requires bus { bus < case_bus_count present.now }
     requires place { bus < length islands.now }
     requires low { slice_index islands.now bus ≤ bus }
     ensures printed { Prints W.written W.faults W.has_room output.old output.new lines.old lines.new
-        (island_lines case.now islands.now (bus ∷ [])) }
+        (island_lines present.now islands.now (bus ∷ [])) }
 {
+    let network = present.network();
     if network.energised(network.component(bus)) {
-        print_island(lines, output, case, network, islands[bus as usize], bus);
+        print_island(lines, output, present, islands[bus as usize], bus);
     }
 }
 
@@ -68,9 +62,10 @@ pub fn print_islands<W: Sink>(
     ensures appends { Appends W.written W.faults W.has_room output.old output.new result
         (islands_text case.now islands.now) }
 {
+    let present = Present::of(case, network);
     let mut lines = LineBuffer::new();
     for bus in 0..network.buses().count() {
-        print_bus(&mut lines, output, case, network, islands, bus);
+        print_bus(&mut lines, output, &present, islands, bus);
     }
     lines.finish(output)
 }

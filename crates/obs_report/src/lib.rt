@@ -14,7 +14,7 @@ mod totals;
 mod trees;
 mod words;
 
-pub use counts::{print_counts, verdict_word};
+pub use counts::{count_energised, print_counts, verdict_word};
 pub use islands::print_islands;
 pub use line_buffer::LineBuffer;
 pub use lines::{print_count, print_fault, print_last_line, print_ok, print_refused};

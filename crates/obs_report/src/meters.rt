@@ -9,7 +9,7 @@ use crate::line_buffer::LineBuffer;
 use crate::names::{component_name, meter_name};
 use obs_case::Case;
 use obs_io::{Failed, Sink};
-use obs_network::Network;
+use obs_network::{Network, Present};
 use obs_rankcut::Bound;
 use obs_text::Digits;
 
@@ -49,7 +49,7 @@ pub fn print_bound<W: Sink>(
     ensures appends { Appends W.written W.faults W.has_room output.old output.new result
         (bound_text case.now c bound.now.inside.now bound.now.rank bound.now.outside) }
 {
-    let name = component_name(case, network, c);
+    let name = component_name(&Present::of(case, network), c);
     let mut lines = LineBuffer::new();
     print_numbers(&mut lines, output, name, bound.rank, bound.outside);
     print_list(&mut lines, output, case, bound.inside);

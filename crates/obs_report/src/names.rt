@@ -1,13 +1,13 @@
 // The names of rows, buses and components.
 ghost use Rattle.std.specs.Prelude.{◌≡◌, ◌<◌, length, slice_index};
-ghost use Rattle.obs_case.specs.Tables.{IsValid};
-ghost use Rattle.obs_network.specs.Network.{network_of};
+ghost use Rattle.obs_network.specs.Network.{case_first_buses};
+ghost use Rattle.obs_network.specs.Switched.{case_bus_count};
 ghost use Rattle.obs_report.specs.Items.{branch_name, candidate_name, meter_name};
 ghost use Rattle.obs_report.specs.Meters.{bus_name, component_name};
 ghost use Rattle.obs_report.specs.Nodes.{node_name};
 
 use obs_case::{Branch, Candidate, Case, Meter, Node};
-use obs_network::Network;
+use obs_network::Present;
 
 /// The name of the node at a position.
 pub fn node_name(case: &Case, node: u32) -> &[u8]
@@ -50,22 +50,18 @@ pub(crate) fn first_of(members: &[u32]) -> u32
 }
 
 /// The name of a bus.
-pub(crate) fn bus_name<'a>(case: &'a Case, network: &Network, bus: u32) -> &'a [u8]
-    requires network { network.now ≡ network_of case.now }
-    requires bus { bus < network.now.buses.count }
-    ensures name { result.now ≡ bus_name case.now bus }
-    ensures valid { IsValid case.now }
+pub(crate) fn bus_name<'a>(present: &Present<'a>, bus: u32) -> &'a [u8]
+    requires bus { bus < case_bus_count present.now }
+    ensures name { result.now ≡ bus_name present.now bus }
 {
-    let first = first_of(network.buses().members(bus));
-    case.nodes()[first as usize].name.bytes()
+    let first = first_of(present.network().buses().members(bus));
+    node_name(present.case(), first)
 }
 
 /// The name of a component.
-pub(crate) fn component_name<'a>(case: &'a Case, network: &Network, c: u32) -> &'a [u8]
-    requires network { network.now ≡ network_of case.now }
-    requires component { c < length network.now.components.first_buses }
-    ensures name { result.now ≡ component_name case.now c }
-    ensures valid { IsValid case.now }
+pub(crate) fn component_name<'a>(present: &Present<'a>, c: u32) -> &'a [u8]
+    requires component { c < length (case_first_buses present.now) }
+    ensures name { result.now ≡ component_name present.now c }
 {
-    bus_name(case, network, network.first_bus(c))
+    bus_name(present, present.network().first_bus(c))
 }

@@ -15,7 +15,7 @@ use crate::names::component_name;
 use obs_assign::Assignment;
 use obs_case::Case;
 use obs_io::{Failed, Sink};
-use obs_network::Network;
+use obs_network::{Network, Present};
 
 // Prints a line for each of these meters that has a branch.
 fn print_pairs<W: Sink>(
@@ -51,7 +51,7 @@ pub fn print_tree<W: Sink>(
     ensures appends { Appends W.written W.faults W.has_room output.old output.new result
         (tree_text case.now c (pairs_of pairs.now.slots)) }
 {
-    let name = component_name(case, network, c);
+    let name = component_name(&Present::of(case, network), c);
     let mut lines = LineBuffer::new();
     lines.line(output, &[b"tree", name]);
     print_pairs(&mut lines, output, case, network.live_meters(c), pairs);

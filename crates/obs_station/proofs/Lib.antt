@@ -4,4 +4,9 @@ pub mod Summed
 pub mod Listing
 pub mod Stationed
 pub mod Finding
+pub mod Falling
+pub mod Ahead
+pub mod Marked
+pub mod Members
+pub mod Pairs
 pub mod OtherMeters

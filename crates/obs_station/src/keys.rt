@@ -2,12 +2,11 @@
 ghost use Rattle.std.specs.Prelude.{◌≡◌, ◌+◌, ◌<◌, ◌≤◌, ◌^◌, ℕ, suc, length, slice_index};
 ghost use Rattle.obs_case.specs.Tables.{places};
 ghost use Rattle.obs_switch.specs.Groups.{AreGroups};
-ghost use Rattle.obs_network.specs.Network.{network_of};
 ghost use Rattle.obs_station.specs.Held.{key_of};
 ghost use Rattle.obs_station.specs.Stations.{all_links, case_station_count, case_stations, meter_stations, place_node};
 
 use obs_case::{Case, Kind, Switch};
-use obs_network::Network;
+use obs_network::Present;
 use obs_switch::group::group;
 use obs_switch::{Buses, Link};
 
@@ -55,54 +54,50 @@ fn station_of(case: &Case, stations: &Buses, m: u32) -> u32
 }
 
 // The key of a meter: its station where it is live, else the number of stations.
-fn key_of(case: &Case, network: &Network, stations: &Buses, m: u32) -> u32
-    requires network { network.now ≡ network_of case.now }
-    requires stations { stations.now.buses ≡ case_stations case.now }
-    requires count { stations.now.count ≡ case_station_count case.now }
-    requires meter { m < length case.now.meters }
-    ensures key { result ≡ key_of case.now m }
+fn key_of(present: &Present<'_>, stations: &Buses, m: u32) -> u32
+    requires stations { stations.now.buses ≡ case_stations present.now }
+    requires count { stations.now.count ≡ case_station_count present.now }
+    requires meter { m < length present.now.meters }
+    ensures key { result ≡ key_of present.now m }
     ensures below { result ≤ stations.now.count }
 {
-    if network.meters().live(network.graph(), m) {
-        station_of(case, stations, m)
+    if present.meters().live(present.graph(), m) {
+        station_of(present.case(), stations, m)
     } else {
         stations.count()
     }
 }
 
 // Writes the key of each meter.
-fn write_keys(case: &Case, network: &Network, stations: &Buses, keys: &mut [u32])
-    requires network { network.now ≡ network_of case.now }
-    requires stations { stations.now.buses ≡ case_stations case.now }
-    requires count { stations.now.count ≡ case_station_count case.now }
-    requires one_each { length keys.old ≡ length case.now.meters }
-    ensures keys { (m : ℕ) → m < length keys.new → slice_index keys.new m ≡ key_of case.now m }
+fn write_keys(present: &Present<'_>, stations: &Buses, keys: &mut [u32])
+    requires stations { stations.now.buses ≡ case_stations present.now }
+    requires count { stations.now.count ≡ case_station_count present.now }
+    requires one_each { length keys.old ≡ length present.now.meters }
+    ensures keys { (m : ℕ) → m < length keys.new → slice_index keys.new m ≡ key_of present.now m }
     ensures below { (m : ℕ) → m < length keys.new → slice_index keys.new m ≤ stations.now.count }
     ensures few { length keys.new < 2 ^ 32 }
 {
-    for m in 0..case.meters().len() {
-        keys[m] = key_of(case, network, stations, m as u32);
+    for m in 0..present.case().meters().len() {
+        keys[m] = key_of(present, stations, m as u32);
     }
 }
 
 /// Writes the key of each meter, and the meters one station after another, and behind them the idle ones.
 pub(crate) fn write_members(
-    case: &Case,
-    network: &Network,
+    present: &Present<'_>,
     stations: &Buses,
     keys: &mut [u32],
     members: &mut [u32],
     starts: &mut [usize],
 )
-    requires network { network.now ≡ network_of case.now }
-    requires stations { stations.now.buses ≡ case_stations case.now }
-    requires count { stations.now.count ≡ case_station_count case.now }
-    requires one_each { length keys.old ≡ length case.now.meters }
+    requires stations { stations.now.buses ≡ case_stations present.now }
+    requires count { stations.now.count ≡ case_station_count present.now }
+    requires one_each { length keys.old ≡ length present.now.meters }
     requires members { length members.old ≡ length keys.old }
     requires starts { stations.now.count < length starts.old }
-    ensures keys { (m : ℕ) → m < length keys.new → slice_index keys.new m ≡ key_of case.now m }
+    ensures keys { (m : ℕ) → m < length keys.new → slice_index keys.new m ≡ key_of present.now m }
     ensures groups { AreGroups keys.new members.new starts.new (suc stations.now.count) }
 {
-    write_keys(case, network, stations, keys);
+    write_keys(present, stations, keys);
     group(keys, members, &mut starts[..stations.count() as usize + 1]);
 }

@@ -5,6 +5,7 @@ mod keys;
 pub mod laws;
 mod losses;
 mod memory;
+mod redundant;
 mod stations;
 mod without;
 

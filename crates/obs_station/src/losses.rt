@@ -14,7 +14,7 @@ use obs_assign::{Assignment, Steps};
 use obs_case::Case;
 use obs_exchange::Work;
 use obs_meter::Meters;
-use obs_network::Network;
+use obs_network::{Network, Present};
 use std::alloc::Global;
 use std::marker::Model;
 use std::sync::ledger::Ledger;
@@ -120,29 +120,28 @@ impl StationWork {
     /// together. Takes no memory.
     pub fn find_losses<L: Ledger>(
         &mut self,
-        case: &Case,
-        network: &Network,
+        present: &Present<'_>,
         a: &mut Assignment,
         steps: &mut Steps<L>,
     )
-        requires rows { self.old.rows ≡ rows_of case.now }
-        requires network { network.now ≡ network_of case.now }
-        requires longest { AreLongest case.now a.old }
-        ensures losses { self.new.found ≡ losses_of case.now }
-        ensures longest { AreLongest case.now a.new }
-        ensures ticks { steps.new ≤ steps.old + (length (case_live_meters case.now) + length (losses_of case.now)) }
+        requires rows { self.old.rows ≡ rows_of present.now }
+        requires longest { AreLongest present.now a.old }
+        ensures losses { self.new.found ≡ losses_of present.now }
+        ensures longest { AreLongest present.now a.new }
+        ensures ticks { steps.new ≤ steps.old + (length (case_live_meters present.now) + length (losses_of present.now)) }
         ensures turns_rise { a.old.turns ≤ a.new.turns }
         ensures turns_most { a.new.turns
-            ≤ a.old.turns + (length (case_live_meters case.now) + length (losses_of case.now)) }
+            ≤ a.old.turns + (length (case_live_meters present.now) + length (losses_of present.now)) }
         ensures same_room { HasRoomOf a.old a.new }
         ensures rows { self.new.rows ≡ self.old.rows }
     {
-        self.stations.refill(case, network);
-        self.left.refill(network.meters().touches());
+        let meters = present.meters();
+        self.stations.refill(present);
+        self.left.refill(meters.touches());
         self.count = write_losses(
-            network.graph(),
-            network.meters(),
-            &self.stations,
+            present.graph(),
+            meters,
+            &mut self.stations,
             a,
             &mut self.left,
             &mut self.exchange,
@@ -178,7 +177,7 @@ impl StationWork {
         ensures same_room { HasRoomOf a.old a.new }
         ensures* given_back { sem 𝓛 (GivenBack self.entry (λ w. (w.rows ≡ self.old.rows) × (w.found ≡ losses_of case.now))) }
     {
-        self.find_losses(case, network, a, steps);
+        self.find_losses(&Present::of(case, network), a, steps);
         self.list()
     }
 }

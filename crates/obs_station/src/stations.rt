@@ -1,16 +1,14 @@
 // The stations of a case, and the live meters of each.
-ghost use Rattle.std.specs.Prelude.{◌≡◌, ◌<◌, ◌≤◌, ◌^◌, [], All, IfOk, length, slice_index};
-ghost use Rattle.obs_case.specs.Tables.{IsValid};
+ghost use Rattle.std.specs.Prelude.{◌≡◌, ◌<◌, ◌≤◌, ◌^◌, ℕ, false, [], All, IfOk, filter, length, replicate, slice_index};
 ghost use Rattle.obs_switch.specs.Buses.{members_of};
 ghost use Rattle.obs_switch.specs.Groups.{items_with};
-ghost use Rattle.obs_network.specs.Network.{network_of};
+ghost use Rattle.obs_assign.specs.Assignment.{has_flag};
 ghost use Rattle.obs_station.specs.Held.{has_any, keys_of};
 ghost use Rattle.obs_station.specs.Stations.{case_station_count, case_stations};
 
 use crate::keys::{write_links, write_members};
 use crate::memory::NoMemory;
-use obs_case::Case;
-use obs_network::Network;
+use obs_network::Present;
 use obs_switch::group::group_of;
 use obs_switch::{Buses, Link};
 use std::alloc::Global;
@@ -30,6 +28,8 @@ pub(crate) struct Stations {
     members: Vec<u32>,
     // where each key begins there
     starts: Vec<usize>,
+    // of each meter whether it is marked as redundant
+    redundant: Vec<bool>,
 }
 
 impl Model for Stations {
@@ -41,11 +41,13 @@ impl Model for Stations {
     ghost view = { λ s. record {
       buses = s.buses;
       keys = take s.meters s.keys.items;
+      redundant = s.redundant.items;
       switches = length s.links.items;
       most_meters = length s.keys.items;
     } };
 
-    ghost invariant = { λ s. AreListed s.meters s.buses s.keys.items s.members.items s.starts.items };
+    ghost invariant = { λ s.
+        AreListed s.meters s.buses s.keys.items s.members.items s.starts.items s.redundant.items };
 }
 
 // Written out: so a caller's proof sees one call, and not the drop of each field.
@@ -58,8 +60,34 @@ impl Drop for Stations {
             keys: _,
             members: _,
             starts: _,
+            redundant: _,
         } = self;
     }
+}
+
+// Clears all flags.
+fn clear(flags: &mut [bool])
+    ensures clear { (m : ℕ) → has_flag flags.new m ≡ false }
+    ensures same_length { length flags.new ≡ length flags.old }
+{
+    for m in 0..flags.len() {
+        flags[m] = false;
+    }
+}
+
+// How many of the listed meters have their flag set.
+fn count_set(flags: &[bool], list: &[u32]) -> u32
+    requires low { All (λ m. m < length flags.now) list.now }
+    requires few { length list.now < 2 ^ 32 }
+    ensures count { result ≡ length (filter (has_flag flags.now) list.now) }
+{
+    let mut count = 0;
+    for m in list {
+        if flags[*m as usize] {
+            count += 1;
+        }
+    }
+    count
 }
 
 impl Stations {
@@ -73,6 +101,7 @@ impl Stations {
         ensures empty { IfOk result (λ s. s ≡ record {
           buses = record { buses = []; count = 0; most_nodes = nodes };
           keys = [];
+          redundant = replicate meters false;
           switches = switches;
           most_meters = meters;
         }) }
@@ -84,28 +113,27 @@ impl Stations {
             keys: vec![in alloc; 0; meters as usize]?,
             members: vec![in alloc; 0; meters as usize]?,
             starts: vec![in alloc; 0; nodes as usize + 1]?,
+            redundant: vec![in alloc; false; meters as usize]?,
         })
     }
 
-    /// Makes the stations those of a case, which determines the network.
-    pub(crate) fn refill(&mut self, case: &Case, network: &Network)
-        requires switches { self.old.switches ≡ length case.now.switches }
-        requires nodes { self.old.buses.most_nodes ≡ length case.now.nodes }
-        requires meters { self.old.most_meters ≡ length case.now.meters }
-        requires network { network.now ≡ network_of case.now }
-        ensures stations { self.new.buses.buses ≡ case_stations case.now }
-        ensures count { self.new.buses.count ≡ case_station_count case.now }
+    /// Makes the stations those of a case.
+    pub(crate) fn refill(&mut self, present: &Present<'_>)
+        requires switches { self.old.switches ≡ length present.now.switches }
+        requires nodes { self.old.buses.most_nodes ≡ length present.now.nodes }
+        requires meters { self.old.most_meters ≡ length present.now.meters }
+        ensures stations { self.new.buses.buses ≡ case_stations present.now }
+        ensures count { self.new.buses.count ≡ case_station_count present.now }
         ensures nodes { self.new.buses.most_nodes ≡ self.old.buses.most_nodes }
-        ensures keys { self.new.keys ≡ keys_of case.now }
+        ensures keys { self.new.keys ≡ keys_of present.now }
         ensures switches { self.new.switches ≡ self.old.switches }
         ensures meters { self.new.most_meters ≡ self.old.most_meters }
-        ensures valid { IsValid case.now }
     {
+        let case = present.case();
         write_links(case.switches(), &mut self.links);
         self.buses.relabel(case.nodes().len() as u32, &self.links);
         write_members(
-            case,
-            network,
+            present,
             &self.buses,
             &mut self.keys,
             &mut self.members,
@@ -140,6 +168,38 @@ impl Stations {
         ensures small { length result.now < 2 ^ 32 }
     {
         group_of(&self.keys[..self.meters], &self.members, &self.starts, c)
+    }
+
+    /// Marks the meters of which the flag is set as redundant, and no others.
+    pub(crate) fn mark(&mut self, flags: &[bool])
+        requires one_each { length flags.now ≡ self.old.most_meters }
+        ensures marked { self.new ≡ record self.old { redundant = flags.now } }
+    {
+        self.redundant.copy_from_slice(flags);
+    }
+
+    /// Marks no meter as redundant.
+    pub(crate) fn mark_none(&mut self)
+        ensures none { (m : ℕ) → has_flag self.new.redundant m ≡ false }
+        ensures same { self.new ≡ record self.old { redundant = self.new.redundant } }
+    {
+        clear(&mut self.redundant);
+    }
+
+    /// How many of the live meters of a station are marked as redundant.
+    pub(crate) fn redundant(&self, c: u32) -> u32
+        requires station { c < self.now.buses.count }
+        ensures redundant { result ≡ length (filter (has_flag self.now.redundant) (items_with self.now.keys c)) }
+    {
+        count_set(&self.redundant, self.meters(c))
+    }
+
+    /// The station to which a live meter belongs.
+    pub(crate) fn station(&self, m: u32) -> u32
+        requires meter { m < length self.now.keys }
+        ensures station { result ≡ slice_index self.now.keys m }
+    {
+        self.keys[m as usize]
     }
 
     /// Whether a station has a live meter.

@@ -1,5 +1,5 @@
 // The pairs without the meters of a station.
-ghost use Rattle.std.specs.Prelude.{◌≡◌, ◌+◌, ◌<◌, ◌≤◌, All, ℕ, length, take};
+ghost use Rattle.std.specs.Prelude.{◌≡◌, ◌≢◌, ◌+◌, ◌<◌, ◌≤◌, ⊤, All, IfSome, MatchOption, None, Some, ℕ, length, take};
 ghost use Rattle.std.specs.List.{range_with_len};
 ghost use Rattle.obs_graph.specs.Positions.{AreBranches};
 ghost use Rattle.obs_switch.specs.Buses.{members_of};
@@ -8,17 +8,28 @@ ghost use Rattle.obs_meter.specs.Assignments.{rho_at};
 ghost use Rattle.obs_meter.specs.Lost.{is_listed, left_of};
 ghost use Rattle.obs_meter.specs.Sizes.{HasRoomFor};
 ghost use Rattle.obs_meter.specs.Touches.{AreInRange, live_items};
-ghost use Rattle.obs_assign.specs.Assignment.{HasRoomOf};
+ghost use Rattle.obs_matroid.specs.Lists.{In};
+ghost use Rattle.obs_assign.specs.Assignment.{HasRoomOf, branch_at};
 ghost use Rattle.obs_exchange.specs.Longest.{IsLongest};
-ghost use Rattle.obs_station.specs.Held.{loss_in, losses_in};
+ghost use Rattle.obs_exchange.specs.declared.Sources.TheVariants.{All as AllSources};
+ghost use Rattle.obs_exchange.specs.Closed.{IsSource};
+ghost use Rattle.obs_station.specs.Held.{AreRedundant, AreStationed, IsFirst, first_count, loss_in, losses_in};
 
 use crate::losses::Loss;
+use crate::redundant::mark_redundant;
 use crate::stations::Stations;
 use obs_assign::{Assignment, Steps};
 use obs_exchange::{Work, lose, regain, regrow};
 use obs_graph::Graph;
 use obs_meter::Meters;
 use std::sync::ledger::Ledger;
+
+// The loss of a station that is known before the others.
+#[derive(Clone, Copy)]
+pub(crate) struct First {
+    station: u32,
+    loss: Loss,
+}
 
 // The rank without the listed meters. They are lost and regained, and the pairs are as many as there can be again.
 fn rank_without<L: Ledger>(
@@ -41,6 +52,7 @@ fn rank_without<L: Ledger>(
     ensures longest { IsLongest g.now ms.now.touches a.new }
     ensures left { left.new ≡ left.old }
     ensures ticks { steps.new ≤ steps.old + (length list.now + 1) }
+    ensures vacant { (m : ℕ) → In m list.now → branch_at a.old m ≡ None → steps.new ≤ steps.old + length list.now }
     ensures turns_rise { a.old.turns ≤ a.new.turns }
     ensures turns_most { a.new.turns ≤ a.old.turns + length list.now }
     ensures same_room { HasRoomOf a.old a.new }
@@ -55,7 +67,8 @@ fn rank_without<L: Ledger>(
     rank
 }
 
-// What the loss of a station's meters does.
+// What the loss of a station's meters does. Each critical meter costs one, and a redundant one nothing where it is the only
+// one; else the pairs without the meters are searched for.
 fn loss_of<L: Ledger>(
     g: &Graph,
     ms: &Meters,
@@ -74,17 +87,26 @@ fn loss_of<L: Ledger>(
     requires keys { length stations.now.keys ≡ length ms.now.touches }
     requires station { c < stations.now.buses.count }
     requires some { 0 < length (members_of stations.now.buses.buses c) }
+    requires stationed { AreStationed g.now ms.now.touches stations.now }
+    requires redundant { AreRedundant g.now ms.now.touches stations.now.redundant }
     ensures loss { result ≡ loss_in g.now ms.now.touches stations.now c }
     ensures longest { IsLongest g.now ms.now.touches a.new }
     ensures left { left.new ≡ left.old }
     ensures ticks { steps.new ≤ steps.old + (length (items_with stations.now.keys c) + 1) }
+    ensures vacant { (m : ℕ) → In m (items_with stations.now.keys c) → branch_at a.old m ≡ None
+        → steps.new ≤ steps.old + length (items_with stations.now.keys c) }
     ensures turns_rise { a.old.turns ≤ a.new.turns }
     ensures turns_most { a.new.turns ≤ a.old.turns + length (items_with stations.now.keys c) }
     ensures same_room { HasRoomOf a.old a.new }
     ensures same_sizes { exchange.new.sizes ≡ exchange.old.sizes }
 {
     let list = stations.meters(c);
-    let rank = rank_without(g, ms, list, a, left, exchange, steps);
+    let redundant = stations.redundant(c);
+    let rank = if redundant <= 1 {
+        a.length() - (list.len() as u32 - redundant)
+    } else {
+        rank_without(g, ms, list, a, left, exchange, steps)
+    };
     Loss {
         node: stations.node(c),
         lost: list.len() as u32,
@@ -92,11 +114,67 @@ fn loss_of<L: Ledger>(
     }
 }
 
-/// Writes an entry for each station with a live meter, and says how many there are.
-pub(crate) fn write_losses<L: Ledger>(
+// The loss of the station of a live meter without a pair, where there is one.
+fn first_loss<L: Ledger>(
     g: &Graph,
     ms: &Meters,
     stations: &Stations,
+    vacant: Option<u32>,
+    a: &mut Assignment,
+    left: &mut Meters,
+    exchange: &mut Work,
+    steps: &mut Steps<L>,
+) -> Option<First>
+    requires branches { AreBranches g.now.vertices g.now.ends }
+    requires longest { IsLongest g.now ms.now.touches a.old }
+    requires in_range { AreInRange g.now ms.now.touches }
+    requires room { HasRoomFor exchange.old.sizes g.now ms.now.touches }
+    requires left { left.old.touches ≡ ms.now.touches }
+    requires keys { length stations.now.keys ≡ length ms.now.touches }
+    requires some { (c : ℕ) → c < stations.now.buses.count → 0 < length (members_of stations.now.buses.buses c) }
+    requires stationed { AreStationed g.now ms.now.touches stations.now }
+    requires redundant { AreRedundant g.now ms.now.touches stations.now.redundant }
+    requires vacant { IfSome vacant (λ m. IsSource g.now.ends ms.now.touches AllSources a.old m) }
+    ensures first { IfSome result (λ f. IsFirst g.now ms.now.touches stations.now f) }
+    ensures none { vacant ≡ None → result ≡ None }
+    ensures some { IfSome vacant (λ _. result ≢ None) }
+    ensures longest { IsLongest g.now ms.now.touches a.new }
+    ensures left { left.new ≡ left.old }
+    ensures ticks { steps.new ≤ steps.old + first_count stations.now result }
+    ensures turns_rise { a.old.turns ≤ a.new.turns }
+    ensures turns_most { a.new.turns ≤ a.old.turns + first_count stations.now result }
+    ensures same_room { HasRoomOf a.old a.new }
+    ensures same_sizes { exchange.new.sizes ≡ exchange.old.sizes }
+{
+    match vacant {
+        None => None,
+        Some(m) => {
+            let station = stations.station(m);
+            let loss = loss_of(g, ms, stations, station, a, left, exchange, steps);
+            Some(First { station, loss })
+        }
+    }
+}
+
+// The loss of a station, where it is known before the others.
+fn known_loss(first: Option<First>, c: u32) -> Option<Loss>
+    ensures known { MatchOption result
+        (MatchOption first ⊤ (λ f. f.station ≢ c))
+        (λ l. first ≡ Some (record { station = c; loss = l })) }
+{
+    match first {
+        None => None,
+        Some(f) => { if f.station == c { Some(f.loss) } else { None } }
+    }
+}
+
+/// Writes an entry for each station with a live meter, and says how many there are. Which meters are redundant is found
+/// first, by one search at the most. The station of a meter without a pair comes before the others: it takes a search
+/// less than it may.
+pub(crate) fn write_losses<L: Ledger>(
+    g: &Graph,
+    ms: &Meters,
+    stations: &mut Stations,
     a: &mut Assignment,
     left: &mut Meters,
     exchange: &mut Work,
@@ -108,24 +186,32 @@ pub(crate) fn write_losses<L: Ledger>(
     requires in_range { AreInRange g.now ms.now.touches }
     requires room { HasRoomFor exchange.old.sizes g.now ms.now.touches }
     requires left { left.old.touches ≡ ms.now.touches }
-    requires keys { length stations.now.keys ≡ length ms.now.touches }
-    requires some { (c : ℕ) → c < stations.now.buses.count → 0 < length (members_of stations.now.buses.buses c) }
-    requires entries { stations.now.buses.most_nodes ≤ length entries.old }
+    requires keys { length stations.old.keys ≡ length ms.now.touches }
+    requires meters { stations.old.most_meters ≡ length ms.now.touches }
+    requires some { (c : ℕ) → c < stations.old.buses.count → 0 < length (members_of stations.old.buses.buses c) }
+    requires stationed { AreStationed g.now ms.now.touches stations.old }
+    requires entries { stations.old.buses.most_nodes ≤ length entries.old }
     ensures losses { take result entries.new
-        ≡ losses_in g.now ms.now.touches stations.now (range_with_len 0 stations.now.buses.count) }
+        ≡ losses_in g.now ms.now.touches stations.old (range_with_len 0 stations.old.buses.count) }
     ensures few { result ≤ length entries.old }
+    ensures same_stations { stations.new ≡ record stations.old { redundant = stations.new.redundant } }
     ensures longest { IsLongest g.now ms.now.touches a.new }
     ensures left { left.new ≡ left.old }
-    ensures ticks { steps.new ≤ steps.old + (group_start stations.now.keys stations.now.buses.count + result) }
+    ensures ticks { steps.new ≤ steps.old + (group_start stations.old.keys stations.old.buses.count + result) }
     ensures turns_rise { a.old.turns ≤ a.new.turns }
-    ensures turns_most { a.new.turns ≤ a.old.turns + group_start stations.now.keys stations.now.buses.count }
+    ensures turns_most { a.new.turns ≤ a.old.turns + group_start stations.old.keys stations.old.buses.count }
     ensures same_room { HasRoomOf a.old a.new }
     ensures same_sizes { exchange.new.sizes ≡ exchange.old.sizes }
 {
+    let vacant = mark_redundant(g, ms, stations, a, exchange, steps);
+    let first = first_loss(g, ms, stations, vacant, a, left, exchange, steps);
     let mut found = 0;
     for c in 0..stations.count() {
         if stations.has_any(c) {
-            entries[found] = loss_of(g, ms, stations, c, a, left, exchange, steps);
+            entries[found] = match known_loss(first, c) {
+                Some(loss) => loss,
+                None => loss_of(g, ms, stations, c, a, left, exchange, steps),
+            };
             found += 1;
         }
     }

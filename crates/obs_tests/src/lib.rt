@@ -76,6 +76,8 @@ mod study_caller_tests;
 #[cfg(test)]
 mod study_tests;
 #[cfg(test)]
+mod summary_tests;
+#[cfg(test)]
 mod tests;
 #[cfg(test)]
 mod text_tests;

@@ -43,6 +43,7 @@ fn run_and_say(
         &words,
         ended.status,
         files.failed(),
+        None,
     );
     let notice = Vec::from_slice(alloc, errors.written())?;
     Ok(Heard { ended, notice })

@@ -12,6 +12,7 @@ use Rattle.obs_engine.specs.Claimed.{claims_on, claims_on_all}
 use Rattle.obs_engine.specs.Lines.{line_case, line_text}
 use Rattle.obs_engine.specs.OutageReply.{outages_status}
 use Rattle.obs_engine.specs.StationReply.{stations_status}
+use Rattle.obs_engine.specs.Summaries.{crowded_buses}
 use Rattle.obs_engine.specs.Trials.{dip_meters, island_count, trial_text}
 use Rattle.obs_files.specs.Files.{parsed}
 use Rattle.obs_islands.specs.Firsts.{in_one_island, is_spanned, island_first, some_part}
@@ -30,5 +31,5 @@ use Rattle.obs_trial.specs.Trial.{trial_of}
 
 -- the definitions that a proof computes with
 unfoldable pub computed : ⊤
-unfolding digits csv_on_literals field_at parsed line_rows rows_from values_of numbered_rows changed_at are_different first_fault rows_before case_first_pairs case_islands block_text bound_claim claims_text component_claim report_status tree_claim claims_on claims_on_all line_case line_text outages_status stations_status dip_meters island_count trial_text in_one_island is_spanned island_first some_part is_partner is_raising first_of first_with is_critical rho_of losing case_absolute case_angles case_branches case_component_count case_components case_energised case_first_buses case_live case_meters case_needed case_offered case_rows case_sizes case_rank outage_rows outages_of bound_meters bound_outside bound_rank case_critical_meters component_meters component_rank is_critical_meter is_short short_components loss_stations losses_of meter_stations trial_of
+unfolding digits csv_on_literals field_at parsed line_rows rows_from values_of numbered_rows changed_at are_different first_fault rows_before case_first_pairs case_islands block_text bound_claim claims_text component_claim report_status tree_claim crowded_buses claims_on claims_on_all line_case line_text outages_status stations_status dip_meters island_count trial_text in_one_island is_spanned island_first some_part is_partner is_raising first_of first_with is_critical rho_of losing case_absolute case_angles case_branches case_component_count case_components case_energised case_first_buses case_live case_meters case_needed case_offered case_rows case_sizes case_rank outage_rows outages_of bound_meters bound_outside bound_rank case_critical_meters component_meters component_rank is_critical_meter is_short short_components loss_stations losses_of meter_stations trial_of
 computed = tt

@@ -57,6 +57,12 @@ two_parts = record {
 abbrev pub one_part_shut : Tables
 one_part_shut = record two_parts { switches = switch "S1" 2 3 true ∷ [] }
 
+-- the two components again: two injections and a zero in the first, of which two stand at one bus, and two idle ones in the second
+abbrev pub crowded_parts : Tables
+crowded_parts = record two_parts {
+  meters = meter "ia" Injection 0 ∷ meter "za" Zero 0 ∷ meter "ib" Injection 1 ∷ meter "ic" Injection 2 ∷ meter "jc" Injection 2 ∷ [];
+}
+
 -- two buses without a source
 abbrev pub without_source : Tables
 without_source = record {

@@ -1,20 +1,33 @@
 -- What is printed of worked cases, byte by byte, and with which status.
 use Prim.Native.String.{String}
-use Rattle.std.specs.Prelude.{◌≡◌, List, [], ◌∷◌}
+use Rattle.std.specs.Prelude.{◌≡◌, List, [], ◌∷◌, Some}
 use Rattle.obs_files.specs.declared.status.Status.{Status}
 use Rattle.obs_files.specs.declared.status.Status.TheVariants.{Done, Short}
+use Rattle.obs_notice.specs.Notices.{summary_notice}
 use Rattle.obs_script.specs.declared.command.Ask.TheVariants.{Report, Place}
 use Rattle.obs_engine.specs.Asks.{ask_reply}
 use Rattle.obs_engine.specs.Replies.{Reply}
+use Rattle.obs_engine.specs.Summaries.{summary_of}
 use Rattle.obs_engine.specs.Topology.{topology_reply}
 use Rattle.obs_engine.specs.Trials.{trial_reply}
 use Rattle.obs_trial.specs.Trial.{trial_of}
-use Rattle.obs_worked.specs.Cases.{absolute_offered, absolute_pair, behind_meters, one_bus, one_open, parallel, row_given, row_lacking, row_of_four, row_offered, star, three_joined, triangle, without_source}
-use Rattle.obs_worked.specs.Rows.{printed}
+use Rattle.obs_worked.specs.Cases.{absolute_offered, absolute_pair, behind_meters, crowded_parts, one_bus, one_open, parallel, row_given, row_lacking, row_of_four, row_offered, star, three_joined, triangle, without_source}
+use Rattle.obs_worked.specs.Rows.{printed, typed}
 
 -- a reply of these lines, with this status
 abbrev pub IsPrinted : Reply → Status → List String → Type 0
 IsPrinted reply status lines = reply ≡ record { status = status; text = printed lines }
+
+-- what is said of a case beside its answer
+abbrev pub SummariesAreSaid : Type 0
+SummariesAreSaid =
+    (summary_of crowded_parts ≡ record { buses = 4; energised = 2; crowded = 1 }) × (summary_of without_source ≡ record { buses = 2; energised = 0; crowded = 0 })
+    × (summary_of row_of_four ≡ record { buses = 4; energised = 4; crowded = 0 })
+    × (summary_notice (Some (summary_of crowded_parts)) ≡ typed (
+    "obs: buses that are energised: 2 of 4. The others are left out."
+    ∷ "obs: buses at which more than one live injection or zero stands: 1. An estimator has one equation at each." ∷ []))
+    × (summary_notice (Some (summary_of without_source)) ≡ typed ("obs: no bus is energised, since no node is a source. So there is nothing to observe." ∷ []))
+    × (summary_notice (Some (summary_of row_of_four)) ≡ [])
 
 -- the nodes with their buses
 abbrev pub NodesArePrinted : Type 0

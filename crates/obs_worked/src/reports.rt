@@ -1,5 +1,5 @@
 // What is printed of worked cases.
-ghost use Rattle.obs_worked.specs.Reports.{AbsolutePairIsReported, AngleIsBought, GivenIsPrinted, NodesArePrinted, OneBusIsReported, ParallelIsReported, PlanIsPrinted, RowOfFourIsReported, ShortfallIsPrinted, StarIsReported, TrialsArePrinted, TriangleIsReported, TwoLayersArePrinted, WithoutSourceIsReported};
+ghost use Rattle.obs_worked.specs.Reports.{AbsolutePairIsReported, AngleIsBought, GivenIsPrinted, NodesArePrinted, OneBusIsReported, ParallelIsReported, PlanIsPrinted, RowOfFourIsReported, ShortfallIsPrinted, StarIsReported, SummariesAreSaid, TrialsArePrinted, TriangleIsReported, TwoLayersArePrinted, WithoutSourceIsReported};
 
 /// Nodes and their buses.
 pub fn nodes()
@@ -24,6 +24,11 @@ pub fn placements()
     ensures angle { AngleIsBought }
     ensures layers { TwoLayersArePrinted }
     ensures shortfall { ShortfallIsPrinted }
+{}
+
+/// What is said of a case beside its answer.
+pub fn summaries()
+    ensures said { SummariesAreSaid }
 {}
 
 /// What a generated case comes to.

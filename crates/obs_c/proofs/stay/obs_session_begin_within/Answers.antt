@@ -1,7 +1,8 @@
-use Rattle.std.proofs.Common.{◌≡◌, ◌+◌, length, refl, ap, ◌∙◌, Err, None, Some, arith, rules}
+use Rattle.std.proofs.Common.{◌≡◌, length, refl, ap, ◌∙◌, Err, None, Some, rules}
 use Rattle.std.specs.Prelude.{map, string_bytes}
 use Rattle.obs_c.specs.Blocks.{IsCall, words_in}
 use Rattle.obs_c.proofs.Blocked.{lengths_of}
+use Rattle.obs_c.proofs.Given.{filled}
 use Rattle.obs_c.proofs.Staying.{begun_already, begun_malformed, begun_starved, no_call, opened, refused}
 use Rattle.obs_c.proofs.stay.obs_session_begin_within.Goals as goal
 
@@ -45,10 +46,9 @@ returns-clause-begun c =
       words = c.in-Ok.ensures.well;
       lengths = lengths_of (words_in c.args.words.now) c.in-Ok.list.items c.args.contents.now c.args.lengths.now c.len.result c.in-Ok.ensures.words (c.len.ensures ∙ c.in-Ok.list.ok.0) (c.are_lengths.ensures.lengths.0 c.if-not-are_lengths.false);
     } in
-    refused _ c.limits_for.result c.limits_for.ensures.limits c.args.words.now c.args.contents.now c.args.lengths.now (length c.args.text.now) list _ call same c.new-files.ensures.content c.in-Err.status _ _ _ _ _ _ _
-    c.in_default.ensures.taken c.take.ensures.none c.in-Ok-with_room.ensures.written c.written.ensures.written
+    refused _ c.limits_for.result c.limits_for.ensures.limits c.args.words.now c.args.contents.now c.args.lengths.now (length c.args.text.now) list _ call same c.new-files.ensures.content c.in-Err.status _ _ _ c.bytes.result.now _ _ _ _
+    c.in_default.ensures.taken c.take.ensures.none c.in-Ok-with_room.ensures.written c.bytes.ensures.written
     (record { whole = c.deliver.ensures.whole; part = c.deliver.ensures.part })
     (λ e. c.in-Err.ensures.steady (λ w i. c.new-files.ensures.steady w) (ap Err e))
-    (λ file told reply not fits e.
-    c.in-Err.ensures.room file told reply 0 not (c.in-Ok-with_room.ensures.room c.new.ensures.items (length reply.text + 0) (omega (arith, fits))) (ap Err e))
+    (λ e. filled _ _ _ _ c.in-Ok-with_room.ensures.faults c.bytes.ensures.full (c.in-Err.ensures.write (ap Err e)))
     c.in-Err.ensures.begins

@@ -1,6 +1,6 @@
-use Rattle.std.proofs.Common.{◌+◌, length, refl, ap, ◌∙◌, sym, Some, arith}
-use Rattle.obs_engine.specs.Stays.{line_reply}
+use Rattle.std.proofs.Common.{length, refl, ap, ◌∙◌, sym, Some}
 use Rattle.obs_engine.proofs.Staying.{line_no_memory}
+use Rattle.obs_c.proofs.Given.{filled}
 use Rattle.obs_c.proofs.Staying.{line_done, line_starved, line_unbegun}
 use Rattle.obs_c.proofs.stay.obs_session_line.Goals as goal
 
@@ -13,10 +13,9 @@ returns-in_default-with_room-clause-answered c = line_starved c.args.line.now _ 
 pub returns-clause-answered : goal.returns-clause-answered
 returns-clause-answered c =
     let answered = c.answer_one-status.ensures in
-    let reply = line_reply c.deref_mut.result.now.offered c.deref_mut.result.now.tables c.args.line.now in
-    line_done c.args.line.now _ (length c.args.text.now) _ _ _ c.deref_mut.result.now c.answer_one-status.new.session c.answer_one-status.result _ _ _
+    line_done c.args.line.now _ (length c.args.text.now) _ _ _ c.deref_mut.result.now c.answer_one-status.new.session c.answer_one-status.result _ _ _ c.bytes.result.now
     (c.in-Some.ensures.taken ∙ ap Some (sym c.deref_mut.ensures.value)) c.put-2.ensures.value
-    answered.offered answered.tables c.in-Ok.ensures.written c.written.ensures.written
+    answered.offered answered.tables c.in-Ok.ensures.written c.bytes.ensures.written
     (record { whole = c.deliver.ensures.whole; part = c.deliver.ensures.part })
     answered.replied.reads (line_no_memory _ _ answered.statuses)
-    (λ fits. answered.replied.room 0 (c.in-Ok.ensures.room c.new.ensures.items (length reply.text + 0) (omega (arith, fits)))) answered.replied.ends
+    (λ e. filled _ _ _ _ c.in-Ok.ensures.faults c.bytes.ensures.full (answered.replied.write e)) answered.replied.ends

@@ -1,15 +1,13 @@
-use Rattle.std.proofs.Common.{◌∙◌, ap}
-use Rattle.obs_network.specs.Network.{Network}
+use Rattle.std.proofs.Common.{◌∙◌}
 use Rattle.obs_edit.proofs.Answered.{islands_of_network}
 use Rattle.obs_repair.proofs.OfNetwork.{room_of_rows}
 use Rattle.obs_edit.proofs.asks.find_islands.Goals as goal
 
 pub find_islands-requires-clause-room : goal.find_islands-requires-clause-room
 find_islands-requires-clause-room g c =
-    room_of_rows c.args.case.now c.args.islands.now.sizes c.graph.result.now c.meters.result.now (c.graph.ensures.graph ∙ ap (λ (n : Network). n.graph) c.requires.network)
-    (c.meters.ensures.meters ∙ ap (λ (n : Network). n.meters) c.requires.network) c.requires.room
+    room_of_rows c.args.present.now c.args.islands.now.sizes c.graph.result.now c.meters.result.now c.graph.ensures.graph c.meters.ensures.meters c.requires.room
 
 pub returns-clause-islands : goal.returns-clause-islands
 returns-clause-islands g c =
     c.find_islands.ensures.islands
-    ∙ islands_of_network c.args.case.now c.graph.result.now c.meters.result.now (c.graph.ensures.graph ∙ ap (λ (n : Network). n.graph) c.requires.network) (c.meters.ensures.meters ∙ ap (λ (n : Network). n.meters) c.requires.network)
+    ∙ islands_of_network c.args.present.now c.graph.result.now c.meters.result.now c.graph.ensures.graph c.meters.ensures.meters

@@ -7,6 +7,7 @@ use Rattle.obs_engine.specs.Asks.{ask_reply}
 use Rattle.obs_engine.specs.Commands.{IsCaseReply}
 use Rattle.obs_engine.specs.Forms.{TakesInput}
 use Rattle.obs_engine.specs.Studies.{study_reply}
+use Rattle.obs_engine.specs.Summaries.{form_summary}
 use Rattle.obs_engine.specs.Topology.{topology_reply}
 use Rattle.obs_engine.specs.Verify.{verify_reply}
 use Rattle.obs_engine.proofs.Commanded.{IsSessionForm, replied_answered, session_answered, session_form}
@@ -22,6 +23,7 @@ returns-in-Topology g c =
           replied_answered c.args.form t beside (topology_reply t) (λ bytes input. subst (λ (f : Form). IsCaseReply bytes f input beside t (topology_reply t)) (sym is) refl)
           (λ takes. subst (λ (f : Form). TakesInput (Some f)) is takes) refl refl c.answer_topology.ensures.replied;
       input = λ none. refl;
+      summary = λ whole. ap (λ (f : Form). form_summary f t) (sym is);
     }
 
 pub returns-in-Report : goal.returns-in-Report
@@ -36,6 +38,7 @@ returns-in-Report g c =
           replied_answered c.args.form t beside reply (λ bytes input. subst (λ (f : Form). IsCaseReply bytes f input beside t reply) (sym is) refl)
           (λ takes. subst (λ (f : Form). TakesInput (Some f)) is takes) (ap (λ s. g.S.Source.left s) done.0) (ap (λ s. g.S.Source.faults s) done.0) done.1;
       input = λ none. done.0;
+      summary = λ whole. c.begin_task.ensures.summary whole ∙ ap (λ (f : Form). form_summary f t) (sym is);
     }
 
 pub returns-in-Place : goal.returns-in-Place
@@ -50,6 +53,7 @@ returns-in-Place g c =
           replied_answered c.args.form t beside reply (λ bytes input. subst (λ (f : Form). IsCaseReply bytes f input beside t reply) (sym is) refl)
           (λ takes. subst (λ (f : Form). TakesInput (Some f)) is takes) (ap (λ s. g.S.Source.left s) done.0) (ap (λ s. g.S.Source.faults s) done.0) done.1;
       input = λ none. done.0;
+      summary = λ whole. c.begin_task-in-Place.ensures.summary whole ∙ ap (λ (f : Form). form_summary f t) (sym is);
     }
 
 pub returns-in-Session : goal.returns-in-Session
@@ -59,6 +63,7 @@ returns-in-Session g c =
     record {
       answered = session_answered c.args.form c.in-Session.offered c.args.case c.args.certificate.now is c.begin_task-in-Session.ensures.done;
       input = λ none. absurd (none is.takes);
+      summary = λ whole. c.begin_task-in-Session.ensures.summary whole ∙ ap (λ (f : Form). form_summary f c.args.case) (sym form);
     }
 
 pub returns-in-Verify : goal.returns-in-Verify
@@ -72,6 +77,7 @@ returns-in-Verify g c =
           replied_answered c.args.form t beside reply (λ bytes input. subst (λ (f : Form). IsCaseReply bytes f input beside t reply) (sym is) refl)
           (λ takes. subst (λ (f : Form). TakesInput (Some f)) is takes) refl refl c.answer_verify.ensures.replied;
       input = λ none. refl;
+      summary = λ whole. ap (λ (f : Form). form_summary f t) (sym is);
     }
 
 pub returns-in-Study : goal.returns-in-Study
@@ -85,6 +91,7 @@ returns-in-Study g c =
           replied_answered c.args.form t beside reply (λ bytes input. subst (λ (f : Form). IsCaseReply bytes f input beside t reply) (sym is) refl)
           (λ takes. subst (λ (f : Form). TakesInput (Some f)) is takes) refl refl c.answer_study.ensures.replied;
       input = λ none. refl;
+      summary = λ whole. c.answer_study.ensures.summary whole ∙ ap (λ (f : Form). form_summary f t) (sym is);
     }
 
 pub begin_task-requires-in-Trial-clause-inservice : goal.begin_task-requires-in-Trial-clause-inservice
@@ -102,4 +109,5 @@ returns-in-Trial g c =
           replied_answered c.args.form t beside reply (λ bytes input. subst (λ (f : Form). IsCaseReply bytes f input beside t reply) (sym is) done.1.1)
           (λ takes. subst (λ (f : Form). TakesInput (Some f)) is takes) (ap (λ s. g.S.Source.left s) done.0) (ap (λ s. g.S.Source.faults s) done.0) done.1.2;
       input = λ none. done.0;
+      summary = λ whole. c.begin_task-in-Trial.ensures.summary whole ∙ ap (λ (f : Form). form_summary f t) (sym is);
     }

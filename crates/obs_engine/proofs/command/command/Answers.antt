@@ -9,6 +9,7 @@ use Rattle.obs_engine.proofs.Endings.{behind_of, complete_stated, ends_stated}
 use Rattle.obs_engine.proofs.Replied.{nothing_before, refused_reply, stated_no_failure, stated_reply}
 use Rattle.obs_files.proofs.Taking.{ok_not_read, read_is}
 use Rattle.obs_engine.proofs.Generated.{generated_in_service}
+use Rattle.obs_engine.proofs.Summed.{not_for_files}
 use Rattle.obs_engine.proofs.command.command.Goals as goal
 
 pub answer_case-requires-clause-inservice : goal.answer_case-requires-clause-inservice
@@ -23,6 +24,13 @@ answer_case-requires-clause-bound g c =
 pub returns-in-Ok-clause-ran : goal.returns-in-Ok-clause-ran
 returns-in-Ok-clause-ran g c = answered_ran c.in-Ok.taken.case c.deref.result.now (λ file told. let here = c.in-Ok.ensures.stated file told in (here.0, here.1 ∙ sym c.deref.ensures.value)) (c.in-Ok.ensures.quiet (ok_not_read _))
     (answered_by c.bytes.result c.args.limits.bytes c.bytes.ensures.bytes c.answer_case.ensures.answered)
+
+pub returns-in-Ok-clause-summary : goal.returns-in-Ok-clause-summary
+returns-in-Ok-clause-summary g c = λ whole. record {
+  case = c.in-Ok.taken.case;
+  read = λ file told. (c.in-Ok.ensures.stated file told).0;
+  is = c.answer_case.ensures.summary whole;
+}
 
 pub returns-in-Err-clause-ran : goal.returns-in-Err-clause-ran
 returns-in-Err-clause-ran g c =
@@ -53,3 +61,6 @@ returns-in-Err-clause-ran g c =
       memory_input = λ e. refl;
       taken = λ takes input is. nothing_taken left refused.statuses input is;
     }
+
+pub returns-in-Err-clause-summary : goal.returns-in-Err-clause-summary
+returns-in-Err-clause-summary g c = λ whole. not_for_files c.refuse_files.ensures.statuses whole

@@ -6,10 +6,11 @@ use Rattle.obs_engine.proofs.Asked.{appends_as}
 use Rattle.obs_engine.proofs.Endings.{replied_memory}
 use Rattle.obs_engine.proofs.Replied.{outages_status-is, replied_verdict}
 use Rattle.obs_engine.proofs.Studied.{outages_below}
+use Rattle.obs_engine.proofs.Summed.{not_for_memory}
 use Rattle.obs_engine.proofs.outages.answer_outages.Goals as goal
 
-pub print_outages-requires : goal.print_outages-requires
-print_outages-requires g c =
+pub print_outages-outcome-requires : goal.print_outages-outcome-requires
+print_outages-outcome-requires g c =
     let t = c.args.case.now in
     let listed = c.found.ensures.found ∙ c.find_list.ensures.list in
     record {
@@ -19,15 +20,16 @@ print_outages-requires g c =
     }
 
 pub returns-in_default : goal.returns-in_default
-returns-in_default g c = record { replied = replied_memory (outages_reply c.args.case.now) }
+returns-in_default g c = record { replied = replied_memory (outages_reply c.args.case.now); summary = λ whole. not_for_memory whole }
 
-pub returns : goal.returns
-returns g c =
+pub returns-in_default-sum_up : goal.returns-in_default-sum_up
+returns-in_default-sum_up g c = record { replied = replied_memory (outages_reply c.args.case.now); summary = λ whole. not_for_memory whole }
+
+pub returns-clause-replied : goal.returns-clause-replied
+returns-clause-replied g c =
     let t = c.args.case.now in
     let listed = c.found.ensures.found ∙ c.find_list.ensures.list in
     let text = ap (λ (u : Tables). outages_text u c.found.result.now) c.find_list.ensures.case ∙ ap (λ (os : List Outage). outages_text t os) listed in
     let status = c.status_of-status.ensures.status ∙ ap (λ (u : Tables). outages_status u) c.find_list.ensures.case in
-    record {
-      replied = replied_verdict (outages_reply t) c.print_outages.result c.status_of-status.result c.printed_status.result c.printed_status.ensures.status
-          status (outages_status-is t) (appends_as text c.print_outages.ensures.appends);
-    }
+    replied_verdict (outages_reply t) c.print_outages-outcome.result c.status_of-status.result c.printed_status.result c.printed_status.ensures.status
+    status (outages_status-is t) (appends_as text c.print_outages-outcome.ensures.appends)

@@ -1,12 +1,12 @@
-use Rattle.std.proofs.Common.{◌≡◌, ◌-◌, length, take, false, sym, ap, ◌∙◌, subst, arith}
-use Rattle.std.proofs.lemmas.List.{length-replicate, length-take-le}
+use Rattle.std.proofs.Common.{◌≡◌, ◌≤◌, ◌-◌, length, sym, ap, ◌∙◌, subst, arith}
+use Rattle.obs_graph.specs.Graph.{Graph}
+use Rattle.obs_exchange.specs.declared.Sources.{Sources}
 use Rattle.obs_exchange.specs.Searching.{IsReady}
-use Rattle.obs_exchange.specs.Trail.{Trail}
-use Rattle.obs_exchange.proofs.Beginning.{AreStarred-start, IsSearching-start}
+use Rattle.obs_exchange.specs.Setting.{first_of}
 use Rattle.obs_exchange.proofs.Closing.{AreListed-queue, IsLeastClosedAt-search, tail_low}
 use Rattle.obs_exchange.proofs.Growing.{IsReady-one}
+use Rattle.obs_exchange.proofs.Shut.{IsReady-shut}
 use Rattle.obs_exchange.proofs.Tracing.{drop_last}
-use Rattle.obs_exchange.proofs.Upward.{AreClasses-own}
 use Rattle.obs_exchange.proofs.find.find.Goals as goal
 
 pub returns-in-Some-clause-found : goal.returns-in-Some-clause-found
@@ -14,41 +14,6 @@ returns-in-Some-clause-found c = let r = c.requires in let f = c.in-Some.ensures
     subst (IsReady c.args.over.now)
     (sym (drop_last c.args.path.now (length c.args.path.now - 1) c.in-Some.x (omega (arith, low, r.path, r.meters))))
     (IsReady-one c.args.over.now c.in-Some.x r.sound f.0 f.1 f.2)
-
-pub returns-in-None-clause-found : goal.returns-in-None-clause-found
-returns-in-None-clause-found c = let f = c.in-None.ensures.found in let n = c.spread_all.new in
-    IsLeastClosedAt-search c.args.over.now n.trail c.spread_all.ensures.running.searching f.0 f.1
-
-pub returns-in-None-clause-few : goal.returns-in-None-clause-few
-returns-in-None-clause-few c = let n = c.spread_all.new.trail in let s = c.spread_all.ensures.running.searching in
-    let t = tail_low c.args.over.now n s in
-    omega (arith, t, c.tail.ensures.tail, s.marks_len)
-
-pub returns-in-None-clause-listed : goal.returns-in-None-clause-listed
-returns-in-None-clause-listed c = rw c.tail.ensures.tail (AreListed-queue c.args.over.now c.spread_all.new.trail c.spread_all.ensures.running.searching)
-
-pub spread_all-requires-clause-running : goal.spread_all-requires-clause-running
-spread_all-requires-clause-running c =
-    let r = c.requires in
-    let over = c.args.over.now in
-    let len : length (take c.vertices.result c.args.tops.now) ≡ over.graph.vertices =
-    length-take-le c.vertices.result c.args.tops.now (rw c.vertices.ensures.vertices r.tops) ∙ c.vertices.ensures.vertices in
-    rw (c.clear.ensures.cleared, c.clear-2.ensures.cleared)
-    (record {
-      searching = IsSearching-start over r.sound c.args.trail.now r.meters r.branches (rw c.clear.ensures.cleared at c.clear.ensures.full);
-      starred = AreStarred-start over _ _ (rw (c.free_move.ensures.same, c.renew.ensures.same) r.stars);
-      classes = AreClasses-own over _ c.separate.new.tops (c.separate.ensures.length ∙ len)
-          (λ k l. c.separate.ensures.own k (rw (c.separate.ensures.length, len) l));
-    })
-
-pub free_move-requires-clause-noted : goal.free_move-requires-clause-noted
-free_move-requires-clause-noted c = c.requires.noted
-
-pub free_move-requires-clause-first : goal.free_move-requires-clause-first
-free_move-requires-clause-first c = c.requires.tried
-
-pub free_move-requires-clause-room : goal.free_move-requires-clause-room
-free_move-requires-clause-room c = omega (arith, ap length c.renew.ensures.same, c.requires.stars)
 
 pub overflow_sub-last : goal.overflow_sub-last
 overflow_sub-last c = let low = c.in-Some.ensures.free.0 in omega (arith, low, c.requires.meters, c.requires.path)
@@ -59,53 +24,99 @@ bounds-path-last c = let low = c.in-Some.ensures.free.0 in omega (arith, low, c.
 pub returns-in-Some-clause-same_vertices : goal.returns-in-Some-clause-same_vertices
 returns-in-Some-clause-same_vertices c = ap length (c.free_move.ensures.same ∙ c.renew.ensures.same)
 
-pub slice_bounds-tops-end : goal.slice_bounds-tops-end
-slice_bounds-tops-end c = omega (arith, c.vertices.ensures.vertices, c.requires.tops)
+pub free_move-requires-clause-noted : goal.free_move-requires-clause-noted
+free_move-requires-clause-noted c = c.requires.noted
 
-pub slice_bounds-tops-end-2 : goal.slice_bounds-tops-end-2
-slice_bounds-tops-end-2 c = sym (length-take-le c.vertices.result c.args.tops.now (omega (arith, c.vertices.ensures.vertices, c.requires.tops)))
+pub free_move-requires-clause-first : goal.free_move-requires-clause-first
+free_move-requires-clause-first c = c.requires.tried
 
-pub separate-requires-clause-room : goal.separate-requires-clause-room
-separate-requires-clause-room c = omega (arith, length-take-le c.vertices.result c.args.tops.now (omega (arith, c.vertices.ensures.vertices, c.requires.tops)), c.vertices.ensures.vertices, c.requires.numbered)
+pub free_move-requires-clause-room : goal.free_move-requires-clause-room
+free_move-requires-clause-room c = omega (arith, ap length c.renew.ensures.same, c.requires.stars)
 
-pub separate-requires-clause-numbers : goal.separate-requires-clause-numbers
-separate-requires-clause-numbers c = c.requires.numbers
+-- what the search that passes meters over is over
+pub find_open-requires : goal.find_open-requires
+find_open-requires c =
+    let r = c.requires in
+    let stars = ap length (c.free_move.ensures.same ∙ c.renew.ensures.same) in
+    let o = r.ahead in
+    let touches = ap length o.touches in
+    let ends = ap (λ (g : Graph). length g.ends) o.graph in
+    let vertices = ap (λ (g : Graph). g.vertices) o.graph in
+    record {
+      sound = o.sound;
+      room = omega (arith, touches, r.noted.room);
+      searched = subst (λ (s : Sources). first_of s ≤ c.args.start.searched) (sym o.sources) r.searched;
+      meters = omega (arith, touches, r.meters);
+      branches = omega (arith, ends, r.branches);
+      stars = omega (arith, vertices, r.stars, stars);
+      tops = r.tops ∙ sym o.room;
+      fits = omega (arith, vertices, o.room, r.fits);
+      path = r.path;
+    }
 
-pub spread_all-requires-clause-noted : goal.spread_all-requires-clause-noted
-spread_all-requires-clause-noted c = c.requires.noted
+pub returns-in-Some-find_open-clause-found : goal.returns-in-Some-find_open-clause-found
+returns-in-Some-find_open-clause-found c = let r = c.requires in
+    IsReady-shut c.args.over.now c.args.ahead.now r.ahead _ c.in-Some-find_open.ensures.ready
 
-pub spread_all-requires-clause-middle : goal.spread_all-requires-clause-middle
-spread_all-requires-clause-middle c = c.requires.searched
+pub start_anew-requires : goal.start_anew-requires
+start_anew-requires c =
+    let r = c.requires in
+    let f = c.find_open.ensures in
+    let stars = ap length (c.free_move.ensures.same ∙ c.renew.ensures.same) in
+    record {
+      sound = r.sound;
+      meters = omega (arith, r.meters, f.same_meters);
+      branches = omega (arith, r.branches, f.same_branches);
+      stars = omega (arith, r.stars, stars, f.same_vertices);
+      tops = f.same_tops ∙ r.tops;
+      fits = r.fits;
+    }
 
-pub spread_all-requires-clause-done : goal.spread_all-requires-clause-done
-spread_all-requires-clause-done c = ap (λ (t : Trail). t.head) c.clear.ensures.cleared ∙ sym (ap (λ (t : Trail). t.tail) c.clear.ensures.cleared)
+pub spread_all-requires : goal.spread_all-requires
+spread_all-requires c = let s = c.start_anew.ensures in
+    record { noted = c.requires.noted; middle = c.requires.searched; running = s.running; done = s.done }
 
-pub trace-requires-clause-end : goal.trace-requires-clause-end
-trace-requires-clause-end c = (c.args.over.now, c.in-Some-spread_all.ensures.found)
+pub trace-requires : goal.trace-requires
+trace-requires c = record {
+  end = (c.args.over.now, c.in-Some-spread_all.ensures.found);
+  room = omega (arith, c.in-Some-spread_all.ensures.follows.meters, c.start_anew.ensures.same_meters, c.find_open.ensures.same_meters, c.find_open.auto.path, c.requires.path);
+}
 
-pub trace-requires-clause-room : goal.trace-requires-clause-room
-trace-requires-clause-room c = omega (arith, c.spread_all.ensures.follows.meters ∙ ap (λ (t : Trail). length t.marks) c.clear.ensures.cleared ∙ length-replicate (length c.args.trail.now.marks) false, c.requires.path)
+pub returns-in-Some-spread_all : goal.returns-in-Some-spread_all
+returns-in-Some-spread_all c =
+    let e = c.in-Some-spread_all.ensures in
+    let f = c.find_open.ensures in
+    let s = c.start_anew.ensures in
+    record {
+      bound = c.trace.ensures.bound;
+      few = tt;
+      found = c.trace.ensures.ready c.args.over.now e.found;
+      listed = tt;
+      same_meters = e.follows.meters ∙ s.same_meters ∙ f.same_meters;
+      same_branches = e.follows.branches ∙ s.same_branches ∙ f.same_branches;
+      same_vertices = e.same_room ∙ s.same_vertices ∙ f.same_vertices ∙ ap length (c.free_move.ensures.same ∙ c.renew.ensures.same);
+      same_tops = e.running.classes.are_tops.tops_len ∙ sym c.requires.tops;
+    }
 
-pub returns-in-Some-spread_all-clause-bound : goal.returns-in-Some-spread_all-clause-bound
-returns-in-Some-spread_all-clause-bound c = c.trace.ensures.bound
+pub returns-in-None : goal.returns-in-None
+returns-in-None c =
+    let e = c.spread_all.ensures in
+    let n = c.spread_all.new.trail in
+    let q = e.running.searching in
+    let t = tail_low c.args.over.now n q in
+    let f = c.find_open.ensures in
+    let s = c.start_anew.ensures in
+    let found = c.in-None.ensures.found in
+    record {
+      bound = tt;
+      few = omega (arith, t, c.tail.ensures.tail, q.marks_len);
+      found = IsLeastClosedAt-search c.args.over.now n q found.0 found.1;
+      listed = rw c.tail.ensures.tail (AreListed-queue c.args.over.now n q);
+      same_meters = e.follows.meters ∙ s.same_meters ∙ f.same_meters;
+      same_branches = e.follows.branches ∙ s.same_branches ∙ f.same_branches;
+      same_vertices = e.same_room ∙ s.same_vertices ∙ f.same_vertices ∙ ap length (c.free_move.ensures.same ∙ c.renew.ensures.same);
+      same_tops = e.running.classes.are_tops.tops_len ∙ sym c.requires.tops;
+    }
 
-pub returns-in-Some-spread_all-clause-found : goal.returns-in-Some-spread_all-clause-found
-returns-in-Some-spread_all-clause-found c = c.trace.ensures.ready c.args.over.now c.in-Some-spread_all.ensures.found
-
-pub returns-in-Some-spread_all-clause-same_meters : goal.returns-in-Some-spread_all-clause-same_meters
-returns-in-Some-spread_all-clause-same_meters c = c.spread_all.ensures.follows.meters ∙ ap (λ (t : Trail). length t.marks) c.clear.ensures.cleared ∙ length-replicate (length c.args.trail.now.marks) false
-
-pub returns-in-Some-spread_all-clause-same_branches : goal.returns-in-Some-spread_all-clause-same_branches
-returns-in-Some-spread_all-clause-same_branches c = c.spread_all.ensures.follows.branches ∙ ap (λ (t : Trail). length t.walked) c.clear.ensures.cleared ∙ length-replicate (length c.args.trail.now.walked) false
-
-pub returns-in-Some-spread_all-clause-same_vertices : goal.returns-in-Some-spread_all-clause-same_vertices
-returns-in-Some-spread_all-clause-same_vertices c = c.spread_all.ensures.same_room ∙ ap length c.clear-2.ensures.cleared ∙ length-replicate (length c.free_move.new.stars) 0 ∙ ap length (c.free_move.ensures.same ∙ c.renew.ensures.same)
-
-pub returns-in-None-clause-same_meters : goal.returns-in-None-clause-same_meters
-returns-in-None-clause-same_meters c = c.spread_all.ensures.follows.meters ∙ ap (λ (t : Trail). length t.marks) c.clear.ensures.cleared ∙ length-replicate (length c.args.trail.now.marks) false
-
-pub returns-in-None-clause-same_branches : goal.returns-in-None-clause-same_branches
-returns-in-None-clause-same_branches c = c.spread_all.ensures.follows.branches ∙ ap (λ (t : Trail). length t.walked) c.clear.ensures.cleared ∙ length-replicate (length c.args.trail.now.walked) false
-
-pub returns-in-None-clause-same_vertices : goal.returns-in-None-clause-same_vertices
-returns-in-None-clause-same_vertices c = c.spread_all.ensures.same_room ∙ ap length c.clear-2.ensures.cleared ∙ length-replicate (length c.free_move.new.stars) 0 ∙ ap length (c.free_move.ensures.same ∙ c.renew.ensures.same)
+pub returns-in-Some-find_open-clause-same_vertices : goal.returns-in-Some-find_open-clause-same_vertices
+returns-in-Some-find_open-clause-same_vertices c = c.in-Some-find_open.ensures.same_vertices ∙ ap length (c.free_move.ensures.same ∙ c.renew.ensures.same)

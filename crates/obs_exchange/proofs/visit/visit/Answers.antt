@@ -4,11 +4,11 @@ use Rattle.obs_exchange.proofs.Visiting.{AreStarred-kept}
 use Rattle.obs_exchange.proofs.visit.visit.Goals as goal
 
 pub returns-in-Some-walk_touched-clause-starred : goal.returns-in-Some-walk_touched-clause-starred
-returns-in-Some-walk_touched-clause-starred c = let u = c.untried_branch in let w = c.walk_touched in
+returns-in-Some-walk_touched-clause-starred c = let u = c.free_branch in let w = c.walk_touched in
     AreStarred-kept c.args.over.now u.new.stars c.args.trail.now.walked w.new.trail.walked (rw u.ensures.same c.requires.starred) w.ensures.stays.follows.walked
 
 pub returns-in-None-clause-starred : goal.returns-in-None-clause-starred
-returns-in-None-clause-starred c = let u = c.untried_branch in let w = c.walk_touched in
+returns-in-None-clause-starred c = let u = c.free_branch in let w = c.walk_touched in
     c.star.ensures.starred w.new.trail.walked c.in-None.ensures.walked
     (AreStarred-kept c.args.over.now u.new.stars c.args.trail.now.walked w.new.trail.walked (rw u.ensures.same c.requires.starred) w.ensures.stays.follows.walked)
 
@@ -30,11 +30,11 @@ returns-then-is_starred-clause-classes c = c.requires.classes
 pub returns-then-is_starred-clause-stays : goal.returns-then-is_starred-clause-stays
 returns-then-is_starred-clause-stays c = Stays-same c.args.trail.now
 
-pub untried_branch-requires-clause-m : goal.untried_branch-requires-clause-m
-untried_branch-requires-clause-m c = c.requires.m
+pub free_branch-requires-clause-m : goal.free_branch-requires-clause-m
+free_branch-requires-clause-m c = c.requires.m
 
-pub untried_branch-requires-clause-room : goal.untried_branch-requires-clause-room
-untried_branch-requires-clause-room c = c.requires.starred.room
+pub free_branch-requires-clause-room : goal.free_branch-requires-clause-room
+free_branch-requires-clause-room c = c.requires.starred.room
 
 pub returns-in-Some-clause-visiting : goal.returns-in-Some-clause-visiting
 returns-in-Some-clause-visiting c = c.requires.visiting
@@ -43,7 +43,7 @@ pub returns-in-Some-clause-classes : goal.returns-in-Some-clause-classes
 returns-in-Some-clause-classes c = c.requires.classes
 
 pub returns-in-Some-clause-starred : goal.returns-in-Some-clause-starred
-returns-in-Some-clause-starred c = rw c.untried_branch.ensures.same c.requires.starred
+returns-in-Some-clause-starred c = rw c.free_branch.ensures.same c.requires.starred
 
 pub returns-in-Some-clause-walked : goal.returns-in-Some-clause-walked
 returns-in-Some-clause-walked c = c.in-Some.ensures.free
@@ -52,7 +52,7 @@ pub returns-in-Some-clause-stays : goal.returns-in-Some-clause-stays
 returns-in-Some-clause-stays c = Stays-same c.args.trail.now
 
 pub returns-in-Some-clause-same_room : goal.returns-in-Some-clause-same_room
-returns-in-Some-clause-same_room c = ap length c.untried_branch.ensures.same
+returns-in-Some-clause-same_room c = ap length c.free_branch.ensures.same
 
 pub touched-requires : goal.touched-requires
 touched-requires c = record { m = c.requires.m }
@@ -70,7 +70,7 @@ pub star-requires-clause-m : goal.star-requires-clause-m
 star-requires-clause-m c = c.requires.m
 
 pub star-requires-clause-room : goal.star-requires-clause-room
-star-requires-clause-room c = omega (arith, ap length c.untried_branch.ensures.same, c.requires.starred.room)
+star-requires-clause-room c = omega (arith, ap length c.free_branch.ensures.same, c.requires.starred.room)
 
 pub returns-in-Some-walk_touched-clause-visiting : goal.returns-in-Some-walk_touched-clause-visiting
 returns-in-Some-walk_touched-clause-visiting c = c.in-Some-walk_touched.ensures.visiting
@@ -97,7 +97,7 @@ pub returns-in-None-clause-stays : goal.returns-in-None-clause-stays
 returns-in-None-clause-stays c = c.in-None.ensures.stays
 
 pub returns-in-Some-walk_touched-clause-same_room : goal.returns-in-Some-walk_touched-clause-same_room
-returns-in-Some-walk_touched-clause-same_room c = ap length c.untried_branch.ensures.same
+returns-in-Some-walk_touched-clause-same_room c = ap length c.free_branch.ensures.same
 
 pub returns-in-None-clause-same_room : goal.returns-in-None-clause-same_room
-returns-in-None-clause-same_room c = c.star.ensures.same_room ∙ ap length c.untried_branch.ensures.same
+returns-in-None-clause-same_room c = c.star.ensures.same_room ∙ ap length c.free_branch.ensures.same

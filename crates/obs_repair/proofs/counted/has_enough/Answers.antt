@@ -11,30 +11,30 @@ use Rattle.obs_repair.proofs.counted.has_enough.Goals as goal
 
 pub live_meters-requires : goal.live_meters-requires
 live_meters-requires c = record {
-  component = let low = c.requires.component in let n = count_of c.args.network.now c.args.case.now c.requires.network in omega (arith, low, n);
+  component = let low = c.requires.component in let n = count_of c.network-network.result.now c.args.present.now c.network-network.ensures.network in omega (arith, low, n);
 }
 
 pub count_paired-requires-clause-few : goal.count_paired-requires-clause-few
 count_paired-requires-clause-few c =
-    let e = ap (λ (xs : List ℕ). length xs) (c.live_meters.ensures.meters ∙ ap (λ (n : Network). live_meters_of n c.args.c) c.requires.network) in
-    let f = few_in_component c.args.case.now c.args.c in
-    let m = few_meters c.args.case.now c.nodes-nodes.ensures.valid in
-    let l = length-case_meters c.args.case.now in
+    let e = ap (λ (xs : List ℕ). length xs) (c.live_meters.ensures.meters ∙ ap (λ (n : Network). live_meters_of n c.args.c) c.network-network.ensures.network) in
+    let f = few_in_component c.args.present.now c.args.c in
+    let m = few_meters c.args.present.now c.network-network.ensures.valid in
+    let l = length-case_meters c.args.present.now in
     omega (arith, e, f, m, l)
 
 pub need-requires : goal.need-requires
 need-requires c = record {
-  component = let low = c.requires.component in let n = count_of c.args.network.now c.args.case.now c.requires.network in omega (arith, low, n);
+  component = let low = c.requires.component in let n = count_of c.network-network.result.now c.args.present.now c.network-network.ensures.network in omega (arith, low, n);
 }
 
 pub returns : goal.returns
 returns c =
-    let t = c.args.case.now in
-    let same = c.live_meters.ensures.meters ∙ ap (λ (n : Network). live_meters_of n c.args.c) c.requires.network in
-    let count = count_of_pairs t c.nodes-nodes.ensures.valid c.args.a.now c.requires.longest c.args.c c.count_paired.result
+    let t = c.args.present.now in
+    let same = c.live_meters.ensures.meters ∙ ap (λ (n : Network). live_meters_of n c.args.c) c.network-network.ensures.network in
+    let count = count_of_pairs t c.network-network.ensures.valid c.args.a.now c.requires.longest c.args.c c.count_paired.result
     (c.count_paired.ensures.count ∙ ap (λ (xs : List ℕ). length (filter (λ m. is_some (branch_at c.args.a.now m)) xs)) same) in
     record {
       observable =
-          enough_observable t c.nodes-nodes.ensures.valid c.args.a.now c.requires.longest c.args.c c.count_paired.result c.need.result c.requires.component count
-          (c.need.ensures.need ∙ need_from c.args.network.now t c.args.c c.requires.network);
+          enough_observable t c.network-network.ensures.valid c.args.a.now c.requires.longest c.args.c c.count_paired.result c.need.result c.requires.component count
+          (c.need.ensures.need ∙ need_from c.network-network.result.now t c.args.c c.network-network.ensures.network);
     }

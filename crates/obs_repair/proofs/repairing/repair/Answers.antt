@@ -1,10 +1,8 @@
-use Rattle.std.proofs.Common.{◌≡◌, ap, refl, sym, subst, arith}
-use Rattle.obs_graph.specs.Positions.{AreBranches}
+use Rattle.std.proofs.Common.{sym, subst, arith}
 use Rattle.obs_assign.specs.Assignment.{Assignment, StandsOver}
-use Rattle.obs_exchange.specs.Longest.{IsLongest}
-use Rattle.obs_case.specs.Tables.{IsValid, Tables}
 use Rattle.obs_network.specs.Network.{Network, network_of}
-use Rattle.obs_network.proofs.OfCase.{case_branches-are, case_vertex_count-le, few_nodes}
+use Rattle.obs_network.specs.Observable.{case_rank}
+use Rattle.obs_network.proofs.OfCase.{case_branches-are}
 use Rattle.obs_repair.specs.declared.edit.Edit.{Edit}
 use Rattle.obs_repair.specs.Repairing.{AreLeft, IsBack, IsBefore, IsSaidAlone}
 use Rattle.obs_repair.specs.Parts.{BoundsWhereKnown}
@@ -18,6 +16,9 @@ use Rattle.obs_repair.proofs.PartRoom.{bound_before, place_after, place_before, 
 use Rattle.obs_repair.proofs.Repaired.{IsRepaired-by}
 use Rattle.obs_repair.proofs.repairing.repair.Goals as goal
 
+pub invariant_of-present : goal.invariant_of-present
+invariant_of-present g c = (c.follow-alone.ensures.network, valid_now c.args.case.now c.requires.before.before c.args.edit c.requires.before.same c.requires.before.valid)
+
 pub keep_standing-requires-clause-alone : goal.keep_standing-requires-clause-alone
 keep_standing-requires-clause-alone g c =
     let h = c.requires.before in
@@ -29,60 +30,41 @@ keep_standing-requires-clause-alone g c =
 pub is_between-between-requires : goal.is_between-between-requires
 is_between-between-requires g c =
     let h = c.requires.before in record {
-      place = place_before c.args.case.now c.args.edit c.args.network.now c.args.a.now h (network_of c.args.case.now) refl c.args.parts.now c.requires.parts_room;
-      room = room_before c.args.case.now c.args.edit c.args.network.now c.args.a.now h (network_of c.args.case.now) refl c.args.parts.now c.requires.parts_room;
+      place = place_before c.args.case.now c.args.edit c.args.network.now c.args.a.now h c.args.parts.now c.requires.parts_room;
+      room = room_before c.args.case.now c.args.edit c.args.network.now c.args.a.now h c.args.parts.now c.requires.parts_room;
     }
 
 pub limit-bound-requires : goal.limit-bound-requires
 limit-bound-requires g c =
     let h = c.requires.before in
-    let n = c.follow-alone.new.network in
-    let net = c.follow-alone.ensures.network in record {
-      before = λ known. bound_before c.args.case.now c.args.edit c.args.network.now c.args.a.now h n net c.args.parts.now c.requires.parts_room
-          (valid_now c.args.case.now c.requires.before.before c.args.edit c.requires.before.same c.requires.before.valid) c.follow-alone.result c.is_between-between.result c.length-had.result c.follow-alone.ensures.alone c.is_between-between.ensures.between c.length-had.ensures.length (c.requires.bounded known);
-      place = place_after c.args.case.now c.args.edit c.args.network.now c.args.a.now h n net c.args.parts.now c.requires.parts_room;
-      room = room_after c.args.case.now c.args.edit c.args.network.now c.args.a.now h n net c.args.parts.now c.requires.parts_room;
-    }
-
--- the graph's branches are between its vertices
-branches_are : (n : Network) (t : Tables) → IsValid t → n ≡ network_of t → AreBranches n.graph.vertices n.graph.ends
-branches_are n t valid is = subst (λ (x : Network). AreBranches x.graph.vertices x.graph.ends) (sym is) (case_branches-are t valid)
-
-pub grow-grown-requires-clause-branches : goal.grow-grown-requires-clause-branches
-grow-grown-requires-clause-branches g c =
-    branches_are c.follow-alone.new.network c.args.case.now (valid_now c.args.case.now c.requires.before.before c.args.edit c.requires.before.same c.requires.before.valid) c.follow-alone.ensures.network
-
-pub settle-requires-clause-branches : goal.settle-requires-clause-branches
-settle-requires-clause-branches g c =
-    branches_are c.follow-alone.new.network c.args.case.now (valid_now c.args.case.now c.requires.before.before c.args.edit c.requires.before.same c.requires.before.valid) c.follow-alone.ensures.network
-
-pub settle-requires-clause-few : goal.settle-requires-clause-few
-settle-requires-clause-few g c =
     let t = c.args.case.now in
-    let valid = valid_now t c.requires.before.before c.args.edit c.requires.before.same c.requires.before.valid in
-    omega (arith, ap (λ (x : Network). x.graph.vertices) c.follow-alone.ensures.network, case_vertex_count-le t, few_nodes t valid)
+    let said = subst (λ (x : Network). IsSaidAlone c.args.edit c.follow-alone.result c.args.network.now x) c.follow-alone.ensures.network c.follow-alone.ensures.alone in
+    record {
+      before = λ known. bound_before t c.args.edit c.args.network.now c.args.a.now h c.args.parts.now c.requires.parts_room (valid_now c.args.case.now c.requires.before.before c.args.edit c.requires.before.same c.requires.before.valid)
+          c.follow-alone.result c.is_between-between.result c.length-had.result said c.is_between-between.ensures.between c.length-had.ensures.length (c.requires.bounded known);
+      place = place_after t c.args.edit c.args.network.now c.args.a.now h c.args.parts.now c.requires.parts_room;
+      room = room_after t c.args.edit c.args.network.now c.args.a.now h c.args.parts.now c.requires.parts_room;
+    }
 
 pub grow-grown-requires-clause-most : goal.grow-grown-requires-clause-most
 grow-grown-requires-clause-most g c =
-    let n = c.follow-alone.new.network in
-    let ok = branches_are n c.args.case.now (valid_now c.args.case.now c.requires.before.before c.args.edit c.requires.before.same c.requires.before.valid) c.follow-alone.ensures.network in
-    most-least n c.args.parts.now.first c.most_pairs-most.result c.least.result c.limit-bound.result ok
-    (bound_now c.args.case.now c.args.edit c.args.network.now c.args.a.now c.requires.before (valid_now c.args.case.now c.requires.before.before c.args.edit c.requires.before.same c.requires.before.valid) c.follow-alone.result n c.follow-alone.ensures.network c.follow-alone.ensures.alone
-    n.graph n.meters c.length-had.result c.needed.result c.most_pairs-most.result refl refl c.length-had.ensures.length c.needed.ensures.needed c.most_pairs-most.ensures.most)
+    let t = c.args.case.now in
+    let valid = valid_now t c.requires.before.before c.args.edit c.requires.before.same c.requires.before.valid in
+    most-least (network_of t) c.args.parts.now.first c.most_pairs-most.result c.least.result c.limit-bound.result (case_branches-are t valid)
+    (bound_now t c.args.edit c.args.network.now c.args.a.now c.requires.before valid c.follow-alone.result c.follow-alone.new.network c.follow-alone.ensures.network c.follow-alone.ensures.alone
+    c.length-had.result c.needed.result c.most_pairs-most.result c.length-had.ensures.length c.needed.ensures.needed c.most_pairs-most.ensures.most)
     c.limit-bound.ensures.limit c.least.ensures.one
 
 pub grow-grown-requires-clause-back : goal.grow-grown-requires-clause-back
 grow-grown-requires-clause-back g c m is =
     let t = c.args.case.now in
-    let n = c.follow-alone.new.network in
     let b = c.give_up.new.a in
     let k = c.keep_standing.ensures in
-    let surely = subst (λ (x : Edit). IsSaidAlone x c.follow-alone.result c.args.network.now n) is c.follow-alone.ensures.alone in
+    let surely = subst (λ (x : Edit). IsSaidAlone x c.follow-alone.result c.args.network.now c.follow-alone.new.network) is c.follow-alone.ensures.alone in
     let stands = subst (λ (x : Assignment). StandsOver x (network_of t).graph (network_of t).meters.touches) (k.same surely) k.stands in
     let back = is_back t (valid_now c.args.case.now c.requires.before.before c.args.edit c.requires.before.same c.requires.before.valid) c.args.network.now c.args.a.now m (subst (λ (x : Edit). IsBefore t x c.args.network.now c.args.a.now) is c.requires.before)
     b (subst (λ (x : Edit). AreLeft x c.args.a.now b) is c.give_up.ensures.left) stands in
-    subst (λ (x : Assignment). IsBack n.graph n.meters.touches m x) (sym (k.same surely))
-    (subst (λ (x : Network). IsBack x.graph x.meters.touches m b) (sym c.follow-alone.ensures.network) back)
+    subst (λ (x : Assignment). IsBack (network_of t).graph (network_of t).meters.touches m x) (sym (k.same surely)) back
 
 pub returns-clause-repaired : goal.returns-clause-repaired
 returns-clause-repaired g c =
@@ -103,13 +85,13 @@ returns-clause-without_pair g c at is none =
 
 pub settle-requires-clause-room : goal.settle-requires-clause-room
 settle-requires-clause-room g c =
-    room_after c.args.case.now c.args.edit c.args.network.now c.args.a.now c.requires.before c.follow-alone.new.network c.follow-alone.ensures.network c.args.parts.now c.requires.parts_room
+    room_after c.args.case.now c.args.edit c.args.network.now c.args.a.now c.requires.before c.args.parts.now c.requires.parts_room
 
 pub settle-requires-clause-positions : goal.settle-requires-clause-positions
 settle-requires-clause-positions g c =
-    positions_after c.args.case.now c.args.edit c.args.network.now c.args.a.now c.requires.before c.follow-alone.new.network c.follow-alone.ensures.network c.args.parts.now c.requires.parts_room
+    positions_after c.args.case.now c.args.edit c.args.network.now c.args.a.now c.requires.before c.args.parts.now c.requires.parts_room
 
 pub returns-clause-bounded : goal.returns-clause-bounded
 returns-clause-bounded g c =
-    subst (λ k. BoundsWhereKnown c.follow-alone.new.network c.settle.new.parts k)
-    (rank_of_longest c.args.case.now (valid_now c.args.case.now c.requires.before.before c.args.edit c.requires.before.same c.requires.before.valid) c.grow-grown.new.a (subst (λ (x : Network). IsLongest x.graph x.meters.touches c.grow-grown.new.a) c.follow-alone.ensures.network c.grow-grown.ensures.longest)) c.settle.ensures.bounded
+    subst (λ (x : Network). BoundsWhereKnown x c.settle.new.parts (case_rank c.args.case.now)) (sym c.follow-alone.ensures.network)
+    (subst (λ k. BoundsWhereKnown (network_of c.args.case.now) c.settle.new.parts k) (rank_of_longest c.args.case.now (valid_now c.args.case.now c.requires.before.before c.args.edit c.requires.before.same c.requires.before.valid) c.grow-grown.new.a c.grow-grown.ensures.longest) c.settle.ensures.bounded)

@@ -28,11 +28,9 @@ loop-bus-init g c =
     let all : case_bus_count t - 0 ≡ case_bus_count t = omega arith in
     ([], nothing_printed _, ap (λ n. island_lines t c.args.islands.now (range_with_len 0 n)) all)
 
-pub print_bus-requires-clause-network : goal.print_bus-requires-clause-network
-print_bus-requires-clause-network g c = c.requires.network
-
 pub print_bus-requires-clause-bus : goal.print_bus-requires-clause-bus
-print_bus-requires-clause-bus g c = omega (arith, c.loop-bus-test.true, c.count-bus-end.ensures.count, ap (λ (b : Buses). b.count) c.buses.ensures.buses)
+print_bus-requires-clause-bus g c =
+    omega (arith, c.loop-bus-test.true, counted g (goal.at.print_bus-requires-clause-bus g c).After-count-bus-end, ap case_bus_count c.of-present.ensures.case)
 
 pub print_bus-requires-clause-place : goal.print_bus-requires-clause-place
 print_bus-requires-clause-place g c =
@@ -51,7 +49,7 @@ loop-bus-preserved g c =
     let islands = c.args.islands.now in
     let low : c.loop-bus.bus < case_bus_count t = omega (arith, c.loop-bus-test.true, counted g (goal.at.loop-bus-preserved g c).After-count-bus-end) in (
       inv.0 ++ island_lines t islands (c.loop-bus.bus ∷ []),
-      then_printed inv.1 c.print_bus.ensures.printed,
+      then_printed inv.1 (rw c.of-present.ensures.case at c.print_bus.ensures.printed),
       row_more (λ bus. island_line t (slice_index islands bus) bus) (is_energised_bus t) c.loop-bus.bus (case_bus_count t) inv.0 (islands_text t islands) low inv.2,
     )
 

@@ -1,11 +1,10 @@
 use Rattle.std.proofs.Common.{length, ap, ◌∙◌, arith}
 use Rattle.obs_meter.specs.Held.{Meters}
-use Rattle.obs_network.specs.Network.{Network}
 use Rattle.obs_network.proofs.OfCase.{length-case_meters}
 use Rattle.obs_station.proofs.keys.key_of.Goals as goal
 
 pub live-requires-clause-item : goal.live-requires-clause-item
 live-requires-clause-item c =
     let low = c.requires.meter in
-    let all = ap (λ (m : Meters). length m.touches) c.meters.ensures.meters ∙ (ap (λ (n : Network). length n.meters.touches) c.requires.network ∙ length-case_meters c.args.case.now) in
+    let all = ap (λ (m : Meters). length m.touches) c.meters.ensures.meters ∙ length-case_meters c.args.present.now in
     omega (arith, low, all)

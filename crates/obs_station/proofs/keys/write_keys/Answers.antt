@@ -1,8 +1,5 @@
 use Rattle.obs_station.proofs.keys.write_keys.Goals as goal
 
-pub key_of-requires-clause-network : goal.key_of-requires-clause-network
-key_of-requires-clause-network c = c.requires.network
-
 pub key_of-requires-clause-stations : goal.key_of-requires-clause-stations
 key_of-requires-clause-stations c = c.requires.stations
 

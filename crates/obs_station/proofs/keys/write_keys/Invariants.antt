@@ -6,6 +6,6 @@ use Rattle.obs_station.proofs.keys.write_keys.Given as goal
 -- the keys of the meters so far
 abbrev pub invariant-loop-m : goal.invariant-loop-m
 invariant-loop-m l = record {
-  keys : (k : ℕ) → k < l.m → slice_index l.keys k ≡ key_of l.case k;
+  keys : (k : ℕ) → k < l.m → slice_index l.keys k ≡ key_of l.present k;
   below : (k : ℕ) → k < l.m → slice_index l.keys k ≤ l.stations.count;
 }

@@ -1,8 +1,5 @@
 use Rattle.obs_station.proofs.keys.write_members.Goals as goal
 
-pub write_keys-requires-clause-network : goal.write_keys-requires-clause-network
-write_keys-requires-clause-network c = c.requires.network
-
 pub write_keys-requires-clause-stations : goal.write_keys-requires-clause-stations
 write_keys-requires-clause-stations c = c.requires.stations
 

@@ -1,60 +1,55 @@
-use Rattle.std.proofs.Common.{ℕ, ◌<◌, length, refl, subst, ap, arith}
-use Rattle.std.specs.Prelude.{All}
+use Rattle.std.proofs.Common.{◌≡◌, ℕ, ◌+◌, ◌≤◌, List, length, refl, ap, ◌∙◌, arith}
+use Rattle.obs_meter.specs.Assignments.{rho_at}
+use Rattle.obs_meter.specs.Lost.{is_listed, left_of}
+use Rattle.obs_meter.specs.Touches.{live_items}
+use Rattle.obs_assign.specs.Assignment.{has_flag, pairs}
+use Rattle.obs_matroid.proofs.Lists.{length-split}
+use Rattle.obs_switch.specs.Groups.{items_with}
+use Rattle.obs_station.specs.Held.{loss_in}
+use Rattle.obs_station.proofs.Falling.{settled}
 use Rattle.obs_station.proofs.Grouped.{loss_made}
+use Rattle.obs_station.proofs.Members.{members-distinct, members-live}
+use Rattle.obs_station.proofs.without.loss_of.Given.{Over}
 use Rattle.obs_station.proofs.without.loss_of.Goals as goal
+use Rattle.obs_station.proofs.without.loss_of.Goals.{After-redundant-redundant, else-redundant-le1, then-redundant-le1}
 
-pub rank_without-rank-requires-clause-low : goal.rank_without-rank-requires-clause-low
-rank_without-rank-requires-clause-low g c = subst (λ (n : ℕ). All (λ m. m < n) c.meters-list.result.now) c.requires.keys c.meters-list.ensures.low
+module _ (g : Over) (c : After-redundant-redundant g) where
+  abbrev rank : List ℕ → ℕ
+  rank list = rho_at c.args.g.now.vertices c.args.g.now.ends c.args.ms.now.touches (left_of (is_listed list) (live_items c.args.g.now.ends c.args.ms.now.touches))
+
+  -- where at most one is redundant the rank is less by one for each other one
+  less : c.redundant-redundant.result ≤ 1
+      → (rank c.meters-list.result.now + length c.meters-list.result.now ≡ length (pairs c.args.a.now) + c.redundant-redundant.result)
+      × (c.redundant-redundant.result ≤ length c.meters-list.result.now)
+  less few =
+      let list = items_with c.args.stations.now.keys c.args.c in
+      let flags = c.args.stations.now.redundant in
+      let is : c.meters-list.result.now ≡ list = c.meters-list.ensures.meters in
+      let count = c.redundant-redundant.ensures.redundant in
+      let s =
+      settled c.args.g.now c.args.ms.now.touches c.requires.branches flags c.requires.redundant c.args.a.now list c.requires.longest (members-distinct c.args.stations.now.keys c.args.c)
+      (members-live c.args.g.now c.args.ms.now.touches c.args.stations.now c.args.c c.requires.stationed c.requires.station) (omega (arith, count, few)) in
+      let long = ap (λ (l : List ℕ). length l) is in
+      let same = ap rank is in
+      let split = length-split (has_flag flags) list in
+      (omega (arith, s, long, same, count), omega (arith, split, long, count))
+
+pub overflow_sub-rank-then-redundant-le1 : goal.overflow_sub-rank-then-redundant-le1
+overflow_sub-rank-then-redundant-le1 g c =
+    let d = (goal.at.overflow_sub-rank-then-redundant-le1 g c).After-redundant-redundant in
+    let few = c.if-redundant-le1.true in
+    let l = (less g d few).0 in
+    let long = c.length.ensures.length in
+    omega (arith, l, long)
 
 pub returns-clause-loss : goal.returns-clause-loss
 returns-clause-loss g c =
-    loss_made c.args.g.now c.args.ms.now.touches c.args.stations.now c.args.c c.node.result (length c.meters-list.result.now) c.rank_without-rank.result c.meters-list.result.now
-    c.meters-list.ensures.meters c.node.ensures.node refl c.rank_without-rank.ensures.rank
-
-pub rank_without-rank-requires-clause-branches : goal.rank_without-rank-requires-clause-branches
-rank_without-rank-requires-clause-branches g c = c.requires.branches
-
-pub rank_without-rank-requires-clause-longest : goal.rank_without-rank-requires-clause-longest
-rank_without-rank-requires-clause-longest g c = c.requires.longest
-
-pub rank_without-rank-requires-clause-in_range : goal.rank_without-rank-requires-clause-in_range
-rank_without-rank-requires-clause-in_range g c = c.requires.in_range
-
-pub rank_without-rank-requires-clause-room : goal.rank_without-rank-requires-clause-room
-rank_without-rank-requires-clause-room g c = c.requires.room
-
-pub rank_without-rank-requires-clause-left : goal.rank_without-rank-requires-clause-left
-rank_without-rank-requires-clause-left g c = c.requires.left
-
-pub meters-list-requires : goal.meters-list-requires
-meters-list-requires g c = record { station = c.requires.station }
-
-pub node-requires-clause-station : goal.node-requires-clause-station
-node-requires-clause-station g c = c.requires.station
-
-pub node-requires-clause-some : goal.node-requires-clause-some
-node-requires-clause-some g c = c.requires.some
-
-pub overflow_cast-result : goal.overflow_cast-result
-overflow_cast-result g c = omega (arith, c.meters-list.ensures.small)
-
-pub returns-clause-longest : goal.returns-clause-longest
-returns-clause-longest g c = c.rank_without-rank.ensures.longest
-
-pub returns-clause-left : goal.returns-clause-left
-returns-clause-left g c = c.rank_without-rank.ensures.left
-
-pub returns-clause-turns_rise : goal.returns-clause-turns_rise
-returns-clause-turns_rise g c = c.rank_without-rank.ensures.turns_rise
-
-pub returns-clause-same_room : goal.returns-clause-same_room
-returns-clause-same_room g c = c.rank_without-rank.ensures.same_room
-
-pub returns-clause-same_sizes : goal.returns-clause-same_sizes
-returns-clause-same_sizes g c = c.rank_without-rank.ensures.same_sizes
-
-pub returns-clause-ticks : goal.returns-clause-ticks
-returns-clause-ticks g c = let few = ap length c.meters-list.ensures.meters in omega (arith, few, c.rank_without-rank.ensures.ticks)
-
-pub returns-clause-turns_most : goal.returns-clause-turns_most
-returns-clause-turns_most g c = let few = ap length c.meters-list.ensures.meters in omega (arith, few, c.rank_without-rank.ensures.turns_most)
+    let d = (goal.at.returns-clause-loss g c).After-redundant-redundant in
+    let made : (r : ℕ) → r ≡ rank g d c.meters-list.result.now → record { node = c.node.result; lost = length c.meters-list.result.now; rank = r } ≡ loss_in c.args.g.now c.args.ms.now.touches c.args.stations.now c.args.c =
+    λ r e. loss_made c.args.g.now c.args.ms.now.touches c.args.stations.now c.args.c c.node.result (length c.meters-list.result.now) r c.meters-list.result.now c.meters-list.ensures.meters
+    c.node.ensures.node refl e in
+    elim c.if-redundant-le1.branch [
+      | then-redundant-le1 w ↦ made c.if-redundant-le1.rank
+          (let few = w.if-redundant-le1.true in let l = (less g d few).0 in let some = (less g d few).1 in let long = w.length.ensures.length in let is = w.rank-is in omega (arith, l, some, long, is))
+      | else-redundant-le1 w ↦ made c.if-redundant-le1.rank (w.rank-is ∙ w.rank_without-rank.ensures.rank)
+    ]

@@ -9,6 +9,7 @@ use Rattle.obs_meter.proofs.Lost.{in_range-losing, length-losing, room-losing}
 use Rattle.obs_exchange.specs.Longest.{IsLongest, IsMost}
 use Rattle.obs_exchange.proofs.Lengthening.{room_again, rooms}
 use Rattle.obs_exchange.proofs.Losing.{most-left, most-longest, stands-all}
+use Rattle.obs_station.proofs.Pairs.{fewer_lost}
 use Rattle.obs_station.proofs.Regaining.{as_long, left_again, left_is, rank_left}
 use Rattle.obs_station.proofs.without.rank_without.Goals as goal
 
@@ -123,3 +124,14 @@ returns-clause-longest g c = c.regrow-2.ensures.longest
 
 pub returns-clause-same_sizes : goal.returns-clause-same_sizes
 returns-clause-same_sizes g c = c.regrow-2.ensures.same_sizes ∙ c.regrow.ensures.same_sizes
+
+pub returns-clause-vacant : goal.returns-clause-vacant
+returns-clause-vacant g c = λ m i bare.
+    let most = c.length-most.ensures.length in
+    let fewer = fewer_lost c.args.a.now c.lose.new.a c.args.list.now m c.lose.ensures.slots i bare in
+    let one = c.regrow.ensures.lengthened.all_but_one in
+    let b1 = c.regrow.ensures.bound in
+    let b2 = c.regrow-2.ensures.bound in
+    let t1 = c.regrow.ensures.ticks in
+    let t2 = c.regrow-2.ensures.ticks in
+    omega (arith, most, fewer, one, b1, b2, t1, t2)

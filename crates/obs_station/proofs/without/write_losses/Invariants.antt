@@ -2,6 +2,7 @@ use Rattle.std.proofs.Common.{◌≡◌, ◌+◌, ◌≤◌}
 use Rattle.obs_assign.specs.Assignment.{HasRoomOf}
 use Rattle.obs_exchange.specs.Longest.{IsLongest}
 use Rattle.obs_switch.specs.Groups.{group_start}
+use Rattle.obs_station.specs.Held.{ahead, entries_ahead}
 use Rattle.obs_station.proofs.Listing.{IsListing}
 use Rattle.obs_station.proofs.without.write_losses.Given as goal
 
@@ -11,9 +12,9 @@ invariant-loop-c g l = record {
   low : l.c ≤ l.stations.buses.count;
   longest : IsLongest l.g l.ms.touches l.a;
   left : l.left ≡ l.fn.left;
-  ticks : l.steps ≤ l.fn.steps + (group_start l.stations.keys l.c + l.found);
+  ticks : l.steps ≤ l.fn.steps + (ahead l.stations l.first l.c + entries_ahead l.first l.c) + (group_start l.stations.keys l.c + l.found);
   turns_rise : l.fn.a.turns ≤ l.a.turns;
-  turns_most : l.a.turns ≤ l.fn.a.turns + group_start l.stations.keys l.c;
+  turns_most : l.a.turns ≤ l.fn.a.turns + ahead l.stations l.first l.c + group_start l.stations.keys l.c;
   same_room : HasRoomOf l.fn.a l.a;
   same_sizes : l.exchange.sizes ≡ l.fn.exchange.sizes;
 }

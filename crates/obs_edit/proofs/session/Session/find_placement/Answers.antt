@@ -5,7 +5,6 @@ use Rattle.obs_edit.proofs.session.Session.find_placement.Goals as goal
 
 pub place-requires : goal.place-requires
 place-requires g c = record {
-  network = c.self.invariant.network;
   prices = c.self.invariant.placing.prices;
   sizes = c.self.invariant.placing.sizes (ap (λ (k : Session). k.offered) c.self.view_is ∙ c.requires.candidates);
 }
@@ -23,6 +22,5 @@ invariant_of-self g c =
       bounded = was.bounded;
       answer_room = was.answer_room;
       answers = record { first = was.answers.first; marks = was.answers.marks; critical = was.answers.critical; islands = was.answers.islands; bound = was.answers.bound };
-      placing = placing_found c.self.inside.case c.self.inside.network c.self.inside.placing c.place.new.placing c.self.inside.offered c.self.inside.answers.hand.placed was.placing was.network
-          found.placed found.pairs found.stands found.same_prices found.same_sizes true;
+      placing = placing_found c.self.inside.case c.self.inside.placing c.place.new.placing c.self.inside.offered c.self.inside.answers.hand.placed was.placing found.placed found.pairs found.stands found.same_prices found.same_sizes true;
     }

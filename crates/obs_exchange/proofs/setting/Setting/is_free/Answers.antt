@@ -1,3 +1,4 @@
+use Rattle.obs_exchange.specs.Setting.{shut_by}
 use Rattle.obs_exchange.proofs.Walking.{free_is}
 use Rattle.obs_exchange.proofs.setting.Setting.is_free.Goals as goal
 
@@ -7,6 +8,6 @@ returns c =
     let f = c.forest-forest.ensures.forest in
     rw (← c.self.view_is)
     (record {
-      free = free_is s.assignment.now s.graph.now.ends c.args.e c.ends-ends.result c.piece.result c.piece-2.result c.self.invariant.whole c.self.invariant.stands.forest.held
+      free = free_is (shut_by s.shut.now s.assignment.now) s.graph.now.ends c.args.e c.ends-ends.result c.piece.result c.piece-2.result c.self.invariant.whole c.self.invariant.stands.forest.held
           (rw (← c.self.view_is) at c.ends-ends.ensures.ends) (rw (← f) c.piece.ensures.first) (rw (← f) c.piece-2.ensures.first);
     })

@@ -1,9 +1,10 @@
-use Rattle.std.proofs.Common.{ℕ, refl, sym, subst, ap, ◌∙◌}
+use Rattle.std.proofs.Common.{ℕ, [], refl, sym, subst, ap, ◌∙◌}
 use Rattle.obs_graph.specs.Joined.{IsForest}
 use Rattle.obs_graph.specs.Positions.{present}
 use Rattle.obs_forest.specs.Cycle.{AreWays}
 use Rattle.obs_forest.specs.Forest.{Forest}
 use Rattle.obs_exchange.specs.Setting.{IsSound}
+use Rattle.obs_exchange.proofs.Shut.{IsSound-shut, shut_none}
 use Rattle.obs_exchange.proofs.setting.Setting.new.Goals as goal
 use Rattle.obs_exchange.proofs.setting.Setting.new.Goals.{After-ways-ways}
 
@@ -14,6 +15,7 @@ sound : (c : After-ways-ways) → IsSound (record {
   sources = c.args.sources;
   ups = c.ways-ways.result.ups.now;
   depths = c.ways-ways.result.depths.now;
+  room = c.args.room;
 })
 sound c =
     let f = c.forest.ensures.forest in
@@ -35,7 +37,7 @@ sound c =
     }
 
 pub invariant_of-result : goal.invariant_of-result
-invariant_of-result c = sound c
+invariant_of-result c = IsSound-shut _ [] (sound (goal.at.invariant_of-result c).After-ways-ways)
 
 pub returns : goal.returns
-returns c = record { graph = refl; touches = refl; assignment = refl; sources = refl; sound = sound c }
+returns c = record { graph = refl; touches = refl; assignment = shut_none c.args.assignment.now; sources = refl; room = refl; sound = IsSound-shut _ [] (sound (goal.at.returns c).After-ways-ways) }

@@ -6,4 +6,4 @@ use Rattle.obs_exchange.proofs.stars.Stars.make.Goals as goal
 pub returns : goal.returns
 returns c =
     let counts = c.in-Ok-vec.fronts.items in
-    record { made = ap (λ (bs : List Bool). fronts_of bs counts) (c.in-Ok.ensures.items_if_clones_equal (λ y e. e)) ∙ fronts_of-none c.args.most_vertices counts }
+    record { made = ap (λ (bs : List Bool). fronts_of bs counts) c.in-Ok.ensures.made ∙ fronts_of-none c.args.most_vertices counts }

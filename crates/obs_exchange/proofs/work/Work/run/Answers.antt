@@ -5,6 +5,7 @@ use Rattle.obs_meter.specs.Touches.{AreInRange}
 use Rattle.obs_assign.specs.Assignment.{StandsOver}
 use Rattle.obs_exchange.specs.Found.{AreListed, HasClosed, HasGrown, Work, searched}
 use Rattle.obs_exchange.specs.Noting.{AreNoted, Noted}
+use Rattle.obs_exchange.specs.Setting.{shut_by}
 use Rattle.obs_exchange.proofs.Closing.{HasClosed-flags}
 use Rattle.obs_exchange.proofs.work.Work.run.Goals as goal
 
@@ -137,3 +138,23 @@ returns-in-Ok-clause-same_sizes g c = rw (c.find-found.ensures.same_meters, c.fi
 
 pub returns-in-Err-clause-same_sizes : goal.returns-in-Err-clause-same_sizes
 returns-in-Err-clause-same_sizes g c = rw (c.find-found.ensures.same_meters, c.find-found.ensures.same_branches, c.find-found.ensures.same_vertices) (ap (λ (w : Work). w.sizes) c.self.view_is)
+
+pub shut-requires-clause-stands : goal.shut-requires-clause-stands
+shut-requires-clause-stands g c = subst (λ (X : List Touch). StandsOver c.args.a.now c.args.g.now X) (sym (c.picked-ms.ensures.touches ∙ ap (λ (w : Work). searched c.args.copied w.touches c.args.ms.now.touches) c.self.view_is)) c.requires.stands
+
+pub shut-requires-clause-in_range : goal.shut-requires-clause-in_range
+shut-requires-clause-in_range g c = subst (λ (X : List Touch). AreInRange c.args.g.now X) (sym (c.picked-ms.ensures.touches ∙ ap (λ (w : Work). searched c.args.copied w.touches c.args.ms.now.touches) c.self.view_is)) c.requires.in_range
+
+pub find-found-requires-clause-ahead : goal.find-found-requires-clause-ahead
+find-found-requires-clause-ahead g c =
+    let n = c.new.ensures in
+    let s = c.shut.ensures in
+    record {
+      shut = c.all.result.now;
+      graph = s.graph ∙ sym n.graph;
+      touches = s.touches ∙ sym n.touches;
+      assignment = s.assignment ∙ ap (shut_by c.all.result.now) (sym n.assignment);
+      sources = s.sources ∙ sym n.sources;
+      room = s.room ∙ sym n.room;
+      sound = s.sound;
+    }

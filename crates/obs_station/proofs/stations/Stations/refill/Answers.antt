@@ -1,6 +1,7 @@
 use Rattle.std.proofs.Common.{◌≡◌, ℕ, suc, ◌++◌, List, length, take, drop, sym, ap, ◌∙◌, subst, arith}
 use Rattle.std.proofs.lemmas.List.{take_all}
 use Rattle.obs_graph.proofs.Stored.{written_back}
+use Rattle.obs_case.specs.Tables.{Tables}
 use Rattle.obs_switch.specs.declared.link.Link.{Link}
 use Rattle.obs_switch.specs.Buses.{LinksBelow, bus_count, buses_of}
 use Rattle.obs_switch.specs.Groups.{AreGroups}
@@ -19,21 +20,21 @@ links_back c =
     let same : length c.write_links.new.links ≡ length ins.items = c.write_links.auto.links ∙ ap length c.deref_mut.ensures.value in
     written_back ins.len c.write_links.new.links ins.items same ins.ok.0
 
-links_are : (c : After-deref) → c.deref.result.now ≡ all_links c.args.case.now.switches
-links_are c = c.deref.ensures.value ∙ (links_back c ∙ (c.write_links.ensures.links ∙ ap all_links c.switches.ensures.rows))
+links_are : (c : After-deref) → c.deref.result.now ≡ all_links c.args.present.now.switches
+links_are c = c.deref.ensures.value ∙ (links_back c ∙ (c.write_links.ensures.links ∙ (ap all_links c.switches.ensures.rows ∙ ap (λ (t : Tables). all_links t.switches) c.case-case.ensures.case)))
 
-nodes_are : (c : After-deref) → length c.nodes.result.now ≡ length c.args.case.now.nodes
-nodes_are c = ap length c.nodes.ensures.rows
+nodes_are : (c : After-deref) → length c.nodes.result.now ≡ length c.args.present.now.nodes
+nodes_are c = ap length c.nodes.ensures.rows ∙ ap (λ (t : Tables). length t.nodes) c.case-case.ensures.case
 
-stations_are : (c : After-relabel) → c.relabel.new.self.buses ≡ case_stations c.args.case.now
+stations_are : (c : After-relabel) → c.relabel.new.self.buses ≡ case_stations c.args.present.now
 stations_are c =
     c.relabel.ensures.buses
-    ∙ (ap (λ (n : ℕ). buses_of n c.deref.result.now) (ap length c.nodes.ensures.rows) ∙ ap (λ (ls : List Link). buses_of (length c.args.case.now.nodes) ls) (links_are c.before))
+    ∙ (ap (λ (n : ℕ). buses_of n c.deref.result.now) (nodes_are c.before) ∙ ap (λ (ls : List Link). buses_of (length c.args.present.now.nodes) ls) (links_are c.before))
 
-count_is : (c : After-relabel) → c.relabel.new.self.count ≡ case_station_count c.args.case.now
+count_is : (c : After-relabel) → c.relabel.new.self.count ≡ case_station_count c.args.present.now
 count_is c =
     c.relabel.ensures.count
-    ∙ (ap (λ (n : ℕ). bus_count n c.deref.result.now) (ap length c.nodes.ensures.rows) ∙ ap (λ (ls : List Link). bus_count (length c.args.case.now.nodes) ls) (links_are c.before))
+    ∙ (ap (λ (n : ℕ). bus_count n c.deref.result.now) (nodes_are c.before) ∙ ap (λ (ls : List Link). bus_count (length c.args.present.now.nodes) ls) (links_are c.before))
 
 pub relabel-requires-clause-room : goal.relabel-requires-clause-room
 relabel-requires-clause-room c =
@@ -42,9 +43,9 @@ relabel-requires-clause-room c =
 
 pub relabel-requires-clause-ends : goal.relabel-requires-clause-ends
 relabel-requires-clause-ends c =
-    let t = c.args.case.now in
+    let t = c.args.present.now in
     subst (λ (n : ℕ). LinksBelow n c.deref.result.now) (sym (nodes_are c))
-    (subst (λ (ls : List Link). LinksBelow (length t.nodes) ls) (sym (links_are c)) (links-below t c.nodes.ensures.valid))
+    (subst (λ (ls : List Link). LinksBelow (length t.nodes) ls) (sym (links_are c)) (links-below t c.case-case.ensures.valid))
 
 pub write_members-requires-clause-stations : goal.write_members-requires-clause-stations
 write_members-requires-clause-stations c = stations_are (goal.at.write_members-requires-clause-stations c).After-relabel
@@ -66,7 +67,7 @@ write_members-requires-clause-members c =
 
 pub write_members-requires-clause-starts : goal.write_members-requires-clause-starts
 write_members-requires-clause-starts c =
-    let t = c.args.case.now in
+    let t = c.args.present.now in
     let starts : length c.deref_mut-4.result.now ≡ length c.self.inside.starts.items = ap length c.deref_mut-4.ensures.value in
     let most = ap (λ (s : Stations). s.buses.most_nodes) c.self.view_is in
     let count = count_is (goal.at.write_members-requires-clause-starts c).After-relabel in
@@ -92,15 +93,15 @@ module _ (c : After-write_members) where
   starts_back = written_back c.self.inside.starts.len c.write_members.new.starts c.self.inside.starts.items starts_len c.self.inside.starts.ok.0
 
   -- there are as many keys as meters
-  keys_meters : length c.write_members.new.keys ≡ length c.args.case.now.meters
+  keys_meters : length c.write_members.new.keys ≡ length c.args.present.now.meters
   keys_meters = let most = ap (λ (s : Stations). s.most_meters) c.self.view_is in omega (arith, keys_len, most, c.requires.meters)
 
 pub invariant_of-self : goal.invariant_of-self
 invariant_of-self c =
     let d = (goal.at.invariant_of-self c).After-write_members in
-    let t = c.args.case.now in
+    let t = c.args.present.now in
     let i = c.self.invariant in
-    let meters : length c.meters.result.now ≡ length t.meters = ap length c.meters.ensures.rows in
+    let meters : length c.meters.result.now ≡ length t.meters = ap length c.meters.ensures.rows ∙ ap (λ (s : Tables). length s.meters) c.case-case.ensures.case in
     let count = count_is (goal.at.invariant_of-self c).After-relabel in
     let most = ap (λ (s : Stations). s.buses.most_nodes) c.self.view_is in
     let front : take (length c.meters.result.now) c.write_members.new.keys ≡ c.write_members.new.keys =
@@ -112,6 +113,7 @@ invariant_of-self c =
       few = omega (arith, count, bus_count-le (length t.nodes) (all_links t.switches), c.requires.nodes, most, c.relabel.ensures.room);
       members_len = omega (arith, keys_len d, members_len d, i.members_len);
       starts_len = omega (arith, starts_len d, i.starts_len, c.relabel.ensures.room);
+      redundant_len = omega (arith, keys_len d, i.redundant_len);
       groups =
           subst (λ (ks : List ℕ). AreGroups ks c.write_members.new.members c.write_members.new.starts (suc c.relabel.new.self.count)) (sym front) c.write_members.ensures.groups;
     })
@@ -128,8 +130,8 @@ returns-clause-nodes c = c.relabel.ensures.room ∙ ap (λ (s : Stations). s.bus
 pub returns-clause-keys : goal.returns-clause-keys
 returns-clause-keys c =
     let d = (goal.at.returns-clause-keys c).After-write_members in
-    let t = c.args.case.now in
-    let meters : length c.meters.result.now ≡ length t.meters = ap length c.meters.ensures.rows in
+    let t = c.args.present.now in
+    let meters : length c.meters.result.now ≡ length t.meters = ap length c.meters.ensures.rows ∙ ap (λ (s : Tables). length s.meters) c.case-case.ensures.case in
     rw (keys_back d)
     (take_all (length c.meters.result.now) c.write_members.new.keys (omega (arith, meters, keys_meters d))
     ∙ keys-are t c.write_members.new.keys (keys_meters d) c.write_members.ensures.keys)
@@ -144,6 +146,3 @@ pub returns-clause-meters : goal.returns-clause-meters
 returns-clause-meters c =
     let d = (goal.at.returns-clause-meters c).After-write_members in
     rw (keys_back d) (keys_len d ∙ ap (λ (s : Stations). s.most_meters) c.self.view_is)
-
-pub returns-clause-valid : goal.returns-clause-valid
-returns-clause-valid c = c.nodes.ensures.valid

@@ -1,0 +1,28 @@
+use Rattle.std.proofs.Common.{length, ◌+◌}
+use Rattle.obs_notice.specs.Notices.{digits_said}
+use Rattle.obs_notice.proofs.Said.{no_success, part_front, room_front, writes_behind}
+use Rattle.obs_notice.proofs.numbers.write_number.Goals as goal
+
+pub returns-in-Ok-clause-writes : goal.returns-in-Ok-clause-writes
+returns-in-Ok-clause-writes g c = writes_behind _ _ _ c.write_all.result (digits_said c.args.digits.now) c.args.second.now c.in-Ok.ensures.writes c.write_all.ensures.writes
+
+pub returns-in-Ok-clause-succeeds : goal.returns-in-Ok-clause-succeeds
+returns-in-Ok-clause-succeeds g c = λ rest has.
+    let room = room_front (g.E.Sink.has_room c.args.errors.now) (digits_said c.args.digits.now) c.args.second.now rest has in
+    c.write_all.ensures.succeeds rest (c.in-Ok.ensures.room (length c.args.second.now + rest) room)
+
+pub returns-in-Ok-clause-room : goal.returns-in-Ok-clause-room
+returns-in-Ok-clause-room g c = λ rest has.
+    let room = room_front (g.E.Sink.has_room c.args.errors.now) (digits_said c.args.digits.now) c.args.second.now rest has in
+    c.write_all.ensures.room rest (c.in-Ok.ensures.room (length c.args.second.now + rest) room)
+
+pub returns-in-Err-clause-writes : goal.returns-in-Err-clause-writes
+returns-in-Err-clause-writes g c = part_front _ _ (digits_said c.args.digits.now) c.args.second.now c.in-Err.ensures.writes
+
+pub returns-in-Err-clause-succeeds : goal.returns-in-Err-clause-succeeds
+returns-in-Err-clause-succeeds g c = λ rest has.
+    c.in-Err.ensures.succeeds (length c.args.second.now + rest) (room_front (g.E.Sink.has_room c.args.errors.now) (digits_said c.args.digits.now) c.args.second.now rest has)
+
+pub returns-in-Err-clause-room : goal.returns-in-Err-clause-room
+returns-in-Err-clause-room g c = λ rest has.
+    no_success (c.in-Err.ensures.succeeds (length c.args.second.now + rest) (room_front (g.E.Sink.has_room c.args.errors.now) (digits_said c.args.digits.now) c.args.second.now rest has))
