@@ -7,9 +7,10 @@ Requests for memory are counted: calls of malloc, calloc, realloc and their kind
 below, SESSIONS (200) random sessions over 12 to 60 nodes with edits and all asks, and three such over full tables. In each run some
 requests are to be made before the first byte is taken from the standard input or written to the standard output, and none after it. A
 session takes no byte before it has begun. `place`, `verify` and `trial` write nothing before they have found their answer, so two runs
-are held against each other: `place` makes as many requests as a session over the same files, but for the one word more that this has; a
-certificate whose first claim fails as many as one that holds; and a trial as many as one with another seed. So are those of a study of
-losses, which writes nothing before all is found: over the same rows, none of which is in service, it makes as many.
+are held against each other: `place` makes as many requests as a session over the same files, but for the one word more that this has, and
+for the list in which it counts the injections at each bus for its summary; a certificate whose first claim fails as many as one that
+holds; and a trial as many as one with another seed. So are those of a study of losses, which writes nothing before all is found: over the
+same rows, none of which is in service, it makes as many.
 
 Then each command is run again and again. The first request is refused, then the second alone, and so on, up to the last. Such a run is
 to end with 6 and nothing written.
@@ -33,6 +34,8 @@ from runs import Runs
 
 TABLES = ["nodes.csv", "switches.csv", "branches.csv", "meters.csv"]
 EXAMPLES = os.path.join(os.path.dirname(os.path.abspath(__file__)), "..", "examples")
+# Some lists have a sixteenth of the length of an array. Over so many buses none of them is empty, which would take no request.
+MANY = 16
 EVERY_ASK = ["place", "status", "tree", "bound", "islands", "critical", "cert", "report", "place"]
 FULL = ["grid", "small", "stations"]
 COMMANDS = [
@@ -159,8 +162,8 @@ def count_session(watched, runs, name, tables, r, edits):
     half = len(lines) // 2
     count = watched.count(name, folder, words, relations.lines_of([*lines[:half], *EVERY_ASK, *lines[half:], *EVERY_ASK]))
     placed = watched.count(f"{name}, place", folder, ["place", *form, offered])
-    placed += watched.word
-    watched.see(placed == count, f"{name}: {placed} requests of place with a word more, {count} of a session")
+    placed += watched.word - 1
+    watched.see(placed == count, f"{name}: {placed} requests of place with a word more and no summary, {count} of a session")
     for ask in "cert", "place":
         claims = watched.run(folder, words, relations.lines_of([ask]))[1].split(b"\n")
         if len(claims) > 3:
@@ -172,6 +175,9 @@ def count_session(watched, runs, name, tables, r, edits):
 
 def count_studies(watched, runs, name, tables, studies):
     """Where no branch and no meter is in service nothing is searched: as many requests as where some are."""
+    tables = tables.copy()
+    nodes = tables.rows["nodes"]
+    nodes += [[f"alone {k}", *["0"] * (len(nodes[0]) - 1)] for k in range(MANY)]
     out = tables.copy()
     for row in [*out.rows["branches"], *out.rows["meters"]]:
         row[-1] = "0"
