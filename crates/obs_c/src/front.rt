@@ -6,7 +6,7 @@ ghost use Rattle.obs_io.specs.Causes.{HasCause};
 use obs_io::{Failed, NoMemory, Sink};
 use std::alloc::Global;
 
-/// The front of a text, with at most so many bytes. No byte of a longer text is taken beyond.
+/// The front of a text, with at most so many bytes. What a longer text has beyond them is counted as a failed write.
 #[derive(Drop)]
 pub(crate) struct Front {
     bytes: Vec<u8>,

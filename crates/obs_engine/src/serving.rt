@@ -30,7 +30,8 @@ pub fn serve<F: Files, S: Source, W: Sink, E: Sink>(
         S.left S.faults S.steady W.written W.faults W.has_room
         limits (form_of (map string_bytes words.now)) files.old files.new input.old input.new output.old output.new result }
     ensures input { (TakesInput (form_of (map string_bytes words.now)) → ⊥) → input.new ≡ input.old }
-    // a front of the notice is said, and all of it where there is room; in a whole answer's that is the summary of the case
+    // a front of the notice is said, and all of it where there is room; beside a whole answer it says what the summary of
+    // the case does
     ensures says { IsSaid limits (map string_bytes words.now) (⟦<Noted<F> as Files>⟧.content files.old) result
         (failed_word files.new.faults) (E.written errors.old) (E.written errors.new) (E.has_room errors.old) }
     // after a failed read the named word is one of whose file a read failed beneath,

@@ -1,5 +1,5 @@
-// What is said of a case beside its answer: of which buses it says nothing, and at which an estimator has fewer equations than there are
-// meters.
+// What is said of a case beside its answer: how many of its buses are energised, where not all are, and at how many more than
+// one injection stands.
 ghost use Rattle.std.specs.Prelude.{◌+◌, ◌++◌, ℕ, length, IsOk};
 ghost use Rattle.obs_io.specs.Bytes.{Writes};
 ghost use Rattle.obs_notice.specs.Notices.{crowded_notice, energised_notice, part_notice, summary_notice};
