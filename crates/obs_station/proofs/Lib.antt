@@ -4,6 +4,7 @@ pub mod Summed
 pub mod Listing
 pub mod Stationed
 pub mod Finding
+pub mod Going
 pub mod Falling
 pub mod Ahead
 pub mod Marked

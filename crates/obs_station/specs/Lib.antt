@@ -1,3 +1,4 @@
 pub mod Stations
 pub mod Held
 pub mod Lending
+pub mod Going

@@ -1,19 +1,16 @@
 // The pairs without the meters of a station.
 ghost use Rattle.std.specs.Prelude.{◌≡◌, ◌≢◌, ◌+◌, ◌<◌, ◌≤◌, ⊤, All, IfSome, MatchOption, None, Some, ℕ, length, take};
 ghost use Rattle.std.specs.List.{range_with_len};
-ghost use Rattle.obs_graph.specs.Positions.{AreBranches};
-ghost use Rattle.obs_switch.specs.Buses.{members_of};
 ghost use Rattle.obs_switch.specs.Groups.{group_start, items_with};
 ghost use Rattle.obs_meter.specs.Assignments.{rho_at};
 ghost use Rattle.obs_meter.specs.Lost.{is_listed, left_of};
-ghost use Rattle.obs_meter.specs.Sizes.{HasRoomFor};
-ghost use Rattle.obs_meter.specs.Touches.{AreInRange, live_items};
+ghost use Rattle.obs_meter.specs.Touches.{live_items};
 ghost use Rattle.obs_matroid.specs.Lists.{In};
-ghost use Rattle.obs_assign.specs.Assignment.{HasRoomOf, branch_at};
-ghost use Rattle.obs_exchange.specs.Longest.{IsLongest};
+ghost use Rattle.obs_assign.specs.Assignment.{branch_at};
 ghost use Rattle.obs_exchange.specs.declared.Sources.TheVariants.{All as AllSources};
 ghost use Rattle.obs_exchange.specs.Closed.{IsSource};
-ghost use Rattle.obs_station.specs.Held.{AreRedundant, AreStationed, IsFirst, first_count, loss_in, losses_in};
+ghost use Rattle.obs_station.specs.Going.{AreGrouped, GoesOn, IsReady};
+ghost use Rattle.obs_station.specs.Held.{AreRedundant, IsFirst, first_count, loss_in, losses_in};
 
 use crate::losses::Loss;
 use crate::redundant::mark_redundant;
@@ -41,22 +38,14 @@ fn rank_without<L: Ledger>(
     exchange: &mut Work,
     steps: &mut Steps<L>,
 ) -> u32
-    requires branches { AreBranches g.now.vertices g.now.ends }
-    requires longest { IsLongest g.now ms.now.touches a.old }
-    requires in_range { AreInRange g.now ms.now.touches }
-    requires room { HasRoomFor exchange.old.sizes g.now ms.now.touches }
-    requires left { left.old.touches ≡ ms.now.touches }
+    requires ready { IsReady g.now ms.now.touches a.old left.old exchange.old }
     requires low { All (λ m. m < length ms.now.touches) list.now }
     ensures rank { result ≡ rho_at g.now.vertices g.now.ends ms.now.touches
         (left_of (is_listed list.now) (live_items g.now.ends ms.now.touches)) }
-    ensures longest { IsLongest g.now ms.now.touches a.new }
-    ensures left { left.new ≡ left.old }
     ensures ticks { steps.new ≤ steps.old + (length list.now + 1) }
     ensures vacant { (m : ℕ) → In m list.now → branch_at a.old m ≡ None → steps.new ≤ steps.old + length list.now }
-    ensures turns_rise { a.old.turns ≤ a.new.turns }
-    ensures turns_most { a.new.turns ≤ a.old.turns + length list.now }
-    ensures same_room { HasRoomOf a.old a.new }
-    ensures same_sizes { exchange.new.sizes ≡ exchange.old.sizes }
+    ensures goes_on { GoesOn g.now ms.now.touches a.old a.new left.old left.new exchange.old exchange.new
+        (length list.now) }
 {
     let most = a.length();
     lose(g, left, list, a);
@@ -79,26 +68,16 @@ fn loss_of<L: Ledger>(
     exchange: &mut Work,
     steps: &mut Steps<L>,
 ) -> Loss
-    requires branches { AreBranches g.now.vertices g.now.ends }
-    requires longest { IsLongest g.now ms.now.touches a.old }
-    requires in_range { AreInRange g.now ms.now.touches }
-    requires room { HasRoomFor exchange.old.sizes g.now ms.now.touches }
-    requires left { left.old.touches ≡ ms.now.touches }
-    requires keys { length stations.now.keys ≡ length ms.now.touches }
+    requires stations { AreGrouped g.now ms.now.touches stations.now }
+    requires ready { IsReady g.now ms.now.touches a.old left.old exchange.old }
     requires station { c < stations.now.buses.count }
-    requires some { 0 < length (members_of stations.now.buses.buses c) }
-    requires stationed { AreStationed g.now ms.now.touches stations.now }
     requires redundant { AreRedundant g.now ms.now.touches stations.now.redundant }
     ensures loss { result ≡ loss_in g.now ms.now.touches stations.now c }
-    ensures longest { IsLongest g.now ms.now.touches a.new }
-    ensures left { left.new ≡ left.old }
     ensures ticks { steps.new ≤ steps.old + (length (items_with stations.now.keys c) + 1) }
     ensures vacant { (m : ℕ) → In m (items_with stations.now.keys c) → branch_at a.old m ≡ None
         → steps.new ≤ steps.old + length (items_with stations.now.keys c) }
-    ensures turns_rise { a.old.turns ≤ a.new.turns }
-    ensures turns_most { a.new.turns ≤ a.old.turns + length (items_with stations.now.keys c) }
-    ensures same_room { HasRoomOf a.old a.new }
-    ensures same_sizes { exchange.new.sizes ≡ exchange.old.sizes }
+    ensures goes_on { GoesOn g.now ms.now.touches a.old a.new left.old left.new exchange.old exchange.new
+        (length (items_with stations.now.keys c)) }
 {
     let list = stations.meters(c);
     let redundant = stations.redundant(c);
@@ -125,26 +104,16 @@ fn first_loss<L: Ledger>(
     exchange: &mut Work,
     steps: &mut Steps<L>,
 ) -> Option<First>
-    requires branches { AreBranches g.now.vertices g.now.ends }
-    requires longest { IsLongest g.now ms.now.touches a.old }
-    requires in_range { AreInRange g.now ms.now.touches }
-    requires room { HasRoomFor exchange.old.sizes g.now ms.now.touches }
-    requires left { left.old.touches ≡ ms.now.touches }
-    requires keys { length stations.now.keys ≡ length ms.now.touches }
-    requires some { (c : ℕ) → c < stations.now.buses.count → 0 < length (members_of stations.now.buses.buses c) }
-    requires stationed { AreStationed g.now ms.now.touches stations.now }
+    requires stations { AreGrouped g.now ms.now.touches stations.now }
+    requires ready { IsReady g.now ms.now.touches a.old left.old exchange.old }
     requires redundant { AreRedundant g.now ms.now.touches stations.now.redundant }
     requires vacant { IfSome vacant (λ m. IsSource g.now.ends ms.now.touches AllSources a.old m) }
     ensures first { IfSome result (λ f. IsFirst g.now ms.now.touches stations.now f) }
     ensures none { vacant ≡ None → result ≡ None }
     ensures some { IfSome vacant (λ _. result ≢ None) }
-    ensures longest { IsLongest g.now ms.now.touches a.new }
-    ensures left { left.new ≡ left.old }
     ensures ticks { steps.new ≤ steps.old + first_count stations.now result }
-    ensures turns_rise { a.old.turns ≤ a.new.turns }
-    ensures turns_most { a.new.turns ≤ a.old.turns + first_count stations.now result }
-    ensures same_room { HasRoomOf a.old a.new }
-    ensures same_sizes { exchange.new.sizes ≡ exchange.old.sizes }
+    ensures goes_on { GoesOn g.now ms.now.touches a.old a.new left.old left.new exchange.old exchange.new
+        (first_count stations.now result) }
 {
     match vacant {
         None => None,
@@ -181,27 +150,17 @@ pub(crate) fn write_losses<L: Ledger>(
     entries: &mut [Loss],
     steps: &mut Steps<L>,
 ) -> usize
-    requires branches { AreBranches g.now.vertices g.now.ends }
-    requires longest { IsLongest g.now ms.now.touches a.old }
-    requires in_range { AreInRange g.now ms.now.touches }
-    requires room { HasRoomFor exchange.old.sizes g.now ms.now.touches }
-    requires left { left.old.touches ≡ ms.now.touches }
-    requires keys { length stations.old.keys ≡ length ms.now.touches }
+    requires stations { AreGrouped g.now ms.now.touches stations.old }
+    requires ready { IsReady g.now ms.now.touches a.old left.old exchange.old }
     requires meters { stations.old.most_meters ≡ length ms.now.touches }
-    requires some { (c : ℕ) → c < stations.old.buses.count → 0 < length (members_of stations.old.buses.buses c) }
-    requires stationed { AreStationed g.now ms.now.touches stations.old }
     requires entries { stations.old.buses.most_nodes ≤ length entries.old }
     ensures losses { take result entries.new
         ≡ losses_in g.now ms.now.touches stations.old (range_with_len 0 stations.old.buses.count) }
     ensures few { result ≤ length entries.old }
     ensures same_stations { stations.new ≡ record stations.old { redundant = stations.new.redundant } }
-    ensures longest { IsLongest g.now ms.now.touches a.new }
-    ensures left { left.new ≡ left.old }
     ensures ticks { steps.new ≤ steps.old + (group_start stations.old.keys stations.old.buses.count + result) }
-    ensures turns_rise { a.old.turns ≤ a.new.turns }
-    ensures turns_most { a.new.turns ≤ a.old.turns + group_start stations.old.keys stations.old.buses.count }
-    ensures same_room { HasRoomOf a.old a.new }
-    ensures same_sizes { exchange.new.sizes ≡ exchange.old.sizes }
+    ensures goes_on { GoesOn g.now ms.now.touches a.old a.new left.old left.new exchange.old exchange.new
+        (group_start stations.old.keys stations.old.buses.count) }
 {
     let vacant = mark_redundant(g, ms, stations, a, exchange, steps);
     let first = first_loss(g, ms, stations, vacant, a, left, exchange, steps);

@@ -7,6 +7,7 @@ use Rattle.obs_matroid.proofs.Lists.{length-split}
 use Rattle.obs_switch.specs.Groups.{items_with}
 use Rattle.obs_station.specs.Held.{loss_in}
 use Rattle.obs_station.proofs.Falling.{settled}
+use Rattle.obs_station.proofs.Going.{goes_nowhere, goes_within}
 use Rattle.obs_station.proofs.Grouped.{loss_made}
 use Rattle.obs_station.proofs.Members.{members-distinct, members-live}
 use Rattle.obs_station.proofs.without.loss_of.Given.{Over}
@@ -27,8 +28,8 @@ module _ (g : Over) (c : After-redundant-redundant g) where
       let is : c.meters-list.result.now ≡ list = c.meters-list.ensures.meters in
       let count = c.redundant-redundant.ensures.redundant in
       let s =
-      settled c.args.g.now c.args.ms.now.touches c.requires.branches flags c.requires.redundant c.args.a.now list c.requires.longest (members-distinct c.args.stations.now.keys c.args.c)
-      (members-live c.args.g.now c.args.ms.now.touches c.args.stations.now c.args.c c.requires.stationed c.requires.station) (omega (arith, count, few)) in
+      settled c.args.g.now c.args.ms.now.touches c.requires.ready.branches flags c.requires.redundant c.args.a.now list c.requires.ready.longest (members-distinct c.args.stations.now.keys c.args.c)
+      (members-live c.args.g.now c.args.ms.now.touches c.args.stations.now c.args.c c.requires.stations.stationed c.requires.station) (omega (arith, count, few)) in
       let long = ap (λ (l : List ℕ). length l) is in
       let same = ap rank is in
       let split = length-split (has_flag flags) list in
@@ -52,4 +53,15 @@ returns-clause-loss g c =
       | then-redundant-le1 w ↦ made c.if-redundant-le1.rank
           (let few = w.if-redundant-le1.true in let l = (less g d few).0 in let some = (less g d few).1 in let long = w.length.ensures.length in let is = w.rank-is in omega (arith, l, some, long, is))
       | else-redundant-le1 w ↦ made c.if-redundant-le1.rank (w.rank-is ∙ w.rank_without-rank.ensures.rank)
+    ]
+
+pub returns-clause-goes_on : goal.returns-clause-goes_on
+returns-clause-goes_on g c =
+    let ts = c.args.ms.now.touches in
+    let long = ap (λ (l : List ℕ). length l) c.meters-list.ensures.meters in
+    elim c.if-redundant-le1.branch [
+      | then-redundant-le1 w ↦ rw (w.a-is, w.left-is, w.exchange-is) (goes_nowhere c.args.g.now ts c.args.a.now c.args.a.now c.args.left.now c.args.exchange.now c.args.exchange.now _ c.requires.ready refl refl)
+      | else-redundant-le1 w ↦ rw (w.a-is, w.left-is, w.exchange-is)
+          (goes_within c.args.g.now ts c.args.a.now w.rank_without-rank.new.a c.args.left.now w.rank_without-rank.new.left c.args.exchange.now w.rank_without-rank.new.exchange (length c.meters-list.result.now) _
+          w.rank_without-rank.ensures.goes_on (omega (arith, long)))
     ]

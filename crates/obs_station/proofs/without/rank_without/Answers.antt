@@ -14,37 +14,37 @@ use Rattle.obs_station.proofs.Regaining.{as_long, left_again, left_is, rank_left
 use Rattle.obs_station.proofs.without.rank_without.Goals as goal
 
 pub lose-requires-clause-low : goal.lose-requires-clause-low
-lose-requires-clause-low g c = subst (λ (t : List Touch). All (λ m. m < length t) c.args.list.now) (sym c.requires.left) c.requires.low
+lose-requires-clause-low g c = subst (λ (t : List Touch). All (λ m. m < length t) c.args.list.now) (sym c.requires.ready.left) c.requires.low
 
 pub regrow-requires-clause-in_range : goal.regrow-requires-clause-in_range
 regrow-requires-clause-in_range g c =
     let touches = c.args.ms.now.touches in
-    subst (λ (t : List Touch). AreInRange c.args.g.now t) (sym (left_is c.args.list.now c.args.left.now c.lose.new.left touches c.requires.left c.lose.ensures.left))
-    (in_range-losing (is_listed c.args.list.now) touches c.args.g.now c.requires.in_range)
+    subst (λ (t : List Touch). AreInRange c.args.g.now t) (sym (left_is c.args.list.now c.args.left.now c.lose.new.left touches c.requires.ready.left c.lose.ensures.left))
+    (in_range-losing (is_listed c.args.list.now) touches c.args.g.now c.requires.ready.in_range)
 
 pub regrow-requires-clause-room : goal.regrow-requires-clause-room
 regrow-requires-clause-room g c =
     let touches = c.args.ms.now.touches in
-    subst (λ (t : List Touch). HasRoomFor c.args.exchange.now.sizes c.args.g.now t) (sym (left_is c.args.list.now c.args.left.now c.lose.new.left touches c.requires.left c.lose.ensures.left))
-    (room-losing (is_listed c.args.list.now) touches c.args.exchange.now.sizes c.args.g.now c.requires.room)
+    subst (λ (t : List Touch). HasRoomFor c.args.exchange.now.sizes c.args.g.now t) (sym (left_is c.args.list.now c.args.left.now c.lose.new.left touches c.requires.ready.left c.lose.ensures.left))
+    (room-losing (is_listed c.args.list.now) touches c.args.exchange.now.sizes c.args.g.now c.requires.ready.room)
 
 pub regrow-requires-clause-most : goal.regrow-requires-clause-most
 regrow-requires-clause-most g c =
     let touches = c.args.ms.now.touches in
     let ends = c.args.g.now.ends in
-    subst (λ (t : List Touch). IsMost ends t c.length-most.result) (sym (left_is c.args.list.now c.args.left.now c.lose.new.left touches c.requires.left c.lose.ensures.left))
+    subst (λ (t : List Touch). IsMost ends t c.length-most.result) (sym (left_is c.args.list.now c.args.left.now c.lose.new.left touches c.requires.ready.left c.lose.ensures.left))
     (most-left (is_listed c.args.list.now) ends touches c.length-most.result
-    (subst (λ (most : ℕ). IsMost ends touches most) (sym c.length-most.ensures.length) (most-longest c.args.g.now touches c.args.a.now c.requires.longest)))
+    (subst (λ (most : ℕ). IsMost ends touches most) (sym c.length-most.ensures.length) (most-longest c.args.g.now touches c.args.a.now c.requires.ready.longest)))
 
 pub regain-requires-clause-count : goal.regain-requires-clause-count
 regain-requires-clause-count g c =
     let touches = c.args.ms.now.touches in
-    ap (λ (t : List Touch). length t) (left_is c.args.list.now c.args.left.now c.lose.new.left touches c.requires.left c.lose.ensures.left) ∙ length-losing (is_listed c.args.list.now) touches
+    ap (λ (t : List Touch). length t) (left_is c.args.list.now c.args.left.now c.lose.new.left touches c.requires.ready.left c.lose.ensures.left) ∙ length-losing (is_listed c.args.list.now) touches
 
 pub regrow-requires-2-clause-stands : goal.regrow-requires-2-clause-stands
 regrow-requires-2-clause-stands g c =
     let touches = c.args.ms.now.touches in
-    let is = left_is c.args.list.now c.args.left.now c.lose.new.left touches c.requires.left c.lose.ensures.left in
+    let is = left_is c.args.list.now c.args.left.now c.lose.new.left touches c.requires.ready.left c.lose.ensures.left in
     let h : IsLongest c.args.g.now (losing (is_listed c.args.list.now) touches) c.regrow.new.a = subst (λ (t : List Touch). IsLongest c.args.g.now t c.regrow.new.a) is c.regrow.ensures.longest in
     stands-all (is_listed c.args.list.now) c.args.g.now touches c.regrow.new.a h.stands
 
@@ -52,24 +52,18 @@ pub regrow-requires-2-clause-thawed : goal.regrow-requires-2-clause-thawed
 regrow-requires-2-clause-thawed g c = c.regrow.ensures.longest.thawed
 
 pub regrow-requires-2-clause-room : goal.regrow-requires-2-clause-room
-regrow-requires-2-clause-room g c = room_again c.args.g.now c.args.ms.now.touches c.args.exchange.now.sizes c.regrow.new.work.sizes c.regrow.ensures.same_sizes c.requires.room
+regrow-requires-2-clause-room g c = room_again c.args.g.now c.args.ms.now.touches c.args.exchange.now.sizes c.regrow.new.work.sizes c.regrow.ensures.same_sizes c.requires.ready.room
 
 pub regrow-requires-2-clause-most : goal.regrow-requires-2-clause-most
 regrow-requires-2-clause-most g c =
-    subst (λ (most : ℕ). IsMost c.args.g.now.ends c.args.ms.now.touches most) (sym c.length-most.ensures.length) (most-longest c.args.g.now c.args.ms.now.touches c.args.a.now c.requires.longest)
+    subst (λ (most : ℕ). IsMost c.args.g.now.ends c.args.ms.now.touches most) (sym c.length-most.ensures.length) (most-longest c.args.g.now c.args.ms.now.touches c.args.a.now c.requires.ready.longest)
 
 pub returns-clause-rank : goal.returns-clause-rank
 returns-clause-rank g c =
     let touches = c.args.ms.now.touches in
-    let is = left_is c.args.list.now c.args.left.now c.lose.new.left touches c.requires.left c.lose.ensures.left in
+    let is = left_is c.args.list.now c.args.left.now c.lose.new.left touches c.requires.ready.left c.lose.ensures.left in
     let h : IsLongest c.args.g.now (losing (is_listed c.args.list.now) touches) c.regrow.new.a = subst (λ (t : List Touch). IsLongest c.args.g.now t c.regrow.new.a) is c.regrow.ensures.longest in
-    c.length-rank.ensures.length ∙ rank_left c.args.g.now touches c.args.list.now c.regrow.new.a c.requires.branches h
-
-pub returns-clause-left : goal.returns-clause-left
-returns-clause-left g c =
-    let touches = c.args.ms.now.touches in
-    let is = left_is c.args.list.now c.args.left.now c.lose.new.left touches c.requires.left c.lose.ensures.left in
-    left_again c.args.list.now c.args.left.now c.lose.new.left c.regain.new.left touches c.requires.left c.lose.ensures.left (c.regain.ensures.left (is_listed c.args.list.now) is)
+    c.length-rank.ensures.length ∙ rank_left c.args.g.now touches c.args.list.now c.regrow.new.a c.requires.ready.branches h
 
 pub returns-clause-ticks : goal.returns-clause-ticks
 returns-clause-ticks g c =
@@ -82,30 +76,11 @@ returns-clause-ticks g c =
     let t2 = c.regrow-2.ensures.ticks in
     omega (arith, most, few, one, b1, b2, t1, t2)
 
-pub returns-clause-turns_rise : goal.returns-clause-turns_rise
-returns-clause-turns_rise g c =
-    let t0 = c.lose.ensures.turns in
-    let t1 = c.regrow.ensures.lengthened.turns_rise in
-    let t2 = c.regrow-2.ensures.lengthened.turns_rise in
-    omega (arith, t0, t1, t2)
-
-pub returns-clause-turns_most : goal.returns-clause-turns_most
-returns-clause-turns_most g c =
-    let few = c.lose.ensures.few in
-    let t0 = c.lose.ensures.turns in
-    let t1 = c.regrow.ensures.lengthened.turns_found in
-    let t2 = c.regrow-2.ensures.lengthened.turns_found in
-    let same = as_long c.args.g.now c.args.ms.now.touches c.args.a.now c.regrow-2.new.a c.requires.longest c.regrow-2.ensures.longest in
-    omega (arith, few, t0, t1, t2, same)
-
-pub returns-clause-same_room : goal.returns-clause-same_room
-returns-clause-same_room g c = rooms c.args.a.now c.regrow.new.a c.regrow-2.new.a (rooms c.args.a.now c.lose.new.a c.regrow.new.a c.lose.ensures.same_room c.regrow.ensures.same_room) c.regrow-2.ensures.same_room
-
 pub lose-requires-clause-stands : goal.lose-requires-clause-stands
-lose-requires-clause-stands g c = subst (λ (t : List Touch). StandsOver c.args.a.now c.args.g.now t) (sym c.requires.left) c.requires.longest.stands
+lose-requires-clause-stands g c = subst (λ (t : List Touch). StandsOver c.args.a.now c.args.g.now t) (sym c.requires.ready.left) c.requires.ready.longest.stands
 
 pub lose-requires-clause-thawed : goal.lose-requires-clause-thawed
-lose-requires-clause-thawed g c = c.requires.longest.thawed
+lose-requires-clause-thawed g c = c.requires.ready.longest.thawed
 
 pub regrow-requires-clause-stands : goal.regrow-requires-clause-stands
 regrow-requires-clause-stands g c = c.lose.ensures.stands
@@ -117,13 +92,7 @@ pub regain-requires-clause-low : goal.regain-requires-clause-low
 regain-requires-clause-low g c = c.requires.low
 
 pub regrow-requires-2-clause-in_range : goal.regrow-requires-2-clause-in_range
-regrow-requires-2-clause-in_range g c = c.requires.in_range
-
-pub returns-clause-longest : goal.returns-clause-longest
-returns-clause-longest g c = c.regrow-2.ensures.longest
-
-pub returns-clause-same_sizes : goal.returns-clause-same_sizes
-returns-clause-same_sizes g c = c.regrow-2.ensures.same_sizes ∙ c.regrow.ensures.same_sizes
+regrow-requires-2-clause-in_range g c = c.requires.ready.in_range
 
 pub returns-clause-vacant : goal.returns-clause-vacant
 returns-clause-vacant g c = λ m i bare.
@@ -135,3 +104,23 @@ returns-clause-vacant g c = λ m i bare.
     let t1 = c.regrow.ensures.ticks in
     let t2 = c.regrow-2.ensures.ticks in
     omega (arith, most, fewer, one, b1, b2, t1, t2)
+
+pub returns-clause-goes_on : goal.returns-clause-goes_on
+returns-clause-goes_on g c =
+    let touches = c.args.ms.now.touches in
+    let is = left_is c.args.list.now c.args.left.now c.lose.new.left touches c.requires.ready.left c.lose.ensures.left in
+    let few = c.lose.ensures.few in
+    let t0 = c.lose.ensures.turns in
+    let rise = c.regrow.ensures.lengthened.turns_rise in
+    let rise_again = c.regrow-2.ensures.lengthened.turns_rise in
+    let most = c.regrow.ensures.lengthened.turns_found in
+    let most_again = c.regrow-2.ensures.lengthened.turns_found in
+    let same = as_long c.args.g.now touches c.args.a.now c.regrow-2.new.a c.requires.ready.longest c.regrow-2.ensures.longest in
+    record {
+      longest = c.regrow-2.ensures.longest;
+      left = left_again c.args.list.now c.args.left.now c.lose.new.left c.regain.new.left touches c.requires.ready.left c.lose.ensures.left (c.regain.ensures.left (is_listed c.args.list.now) is);
+      turns_rise = omega (arith, t0, rise, rise_again);
+      turns_most = omega (arith, few, t0, most, most_again, same);
+      same_room = rooms c.args.a.now c.regrow.new.a c.regrow-2.new.a (rooms c.args.a.now c.lose.new.a c.regrow.new.a c.lose.ensures.same_room c.regrow.ensures.same_room) c.regrow-2.ensures.same_room;
+      same_sizes = c.regrow-2.ensures.same_sizes ∙ c.regrow.ensures.same_sizes;
+    }

@@ -1,14 +1,13 @@
 use Rattle.std.proofs.Common.{◌≡◌, ◌≢◌, ℕ, ◌+◌, ◌<◌, ◌≤◌, true, false, Option, Some, None, length, take, refl, sym, ap, ◌∙◌, subst, arith}
 use Rattle.std.specs.Prelude.{⊤, IfSome, MatchOption}
 use Rattle.std.specs.List.{range_with_len}
-use Rattle.obs_meter.specs.Held.{Meters}
-use Rattle.obs_assign.specs.Assignment.{Assignment, HasRoomOf}
-use Rattle.obs_exchange.proofs.Lengthening.{rooms, room_again}
 use Rattle.obs_matroid.proofs.Lists.{clash}
-use Rattle.obs_switch.specs.Groups.{group_start}
+use Rattle.obs_switch.specs.Groups.{group_start, items_with}
 use Rattle.obs_station.specs.declared.without.First.{First}
-use Rattle.obs_station.specs.Held.{IsFirst, Stations, ahead, entries_ahead, has_any, losses_in}
+use Rattle.obs_station.specs.Going.{AreGrouped}
+use Rattle.obs_station.specs.Held.{IsFirst, Stations, ahead, entries_ahead, first_count, has_any, losses_in}
 use Rattle.obs_station.proofs.Ahead.{ahead-at, ahead-begin, ahead-end, ahead-past, begun}
+use Rattle.obs_station.proofs.Going.{goes_further, goes_nowhere, goes_within, grouped_marked, ready_again}
 use Rattle.obs_station.proofs.Listing.{Listing-all, Listing-more, Listing-over}
 use Rattle.obs_station.proofs.Summed.{items-next}
 use Rattle.obs_station.proofs.without.write_losses.Given.{Over}
@@ -16,10 +15,6 @@ use Rattle.obs_station.proofs.without.write_losses.Goals as goal
 use Rattle.obs_station.proofs.without.write_losses.Goals.{After-first_loss-first, else-has_any, in-None, in-Some, then-has_any}
 
 module _ (g : Over) (c : After-first_loss-first g) where
-  -- what is so of the stations before they were marked is so of them now, but for the marks
-  now : (P : Stations → Type 0) → P (record c.args.stations.now { redundant = c.mark_redundant-vacant.new.stations.redundant }) → P c.mark_redundant-vacant.new.stations
-  now P h = subst P (sym c.mark_redundant-vacant.ensures.same_stations) h
-
   -- the first loss is that of a station with a live meter
   first_is : (f : First) → c.first_loss-first.result ≡ Some f → IsFirst c.args.g.now c.args.ms.now.touches c.mark_redundant-vacant.new.stations f
   first_is f e = subst (λ (o : Option First). IfSome o (λ f. IsFirst c.args.g.now c.args.ms.now.touches c.mark_redundant-vacant.new.stations f)) e c.first_loss-first.ensures.first
@@ -56,8 +51,11 @@ loop-c-preserved g c =
     let nodes = ap (λ (x : Stations). x.buses.most_nodes) c.mark_redundant-vacant.ensures.same_stations in
     omega (arith, c.requires.entries, l.auto.entries, few, count, nodes) in
     let ticks = i.ticks in
-    let rise = i.turns_rise in
-    let most = i.turns_most in
+    let G = c.args.g.now in
+    let A = c.args.a.now in
+    let L = c.args.left.now in
+    let X = c.args.exchange.now in
+    let was = ahead s o l.c + group_start s.keys l.c in
     elim c.if-has_any.branch [
       | then-has_any w ↦
           let any : has_any s l.c ≡ true = sym c.has_any.ensures.any ∙ w.if-has_any.true in
@@ -76,13 +74,8 @@ loop-c-preserved g c =
                 (record {
                   listing = Listing-more c.args.g.now touches s n l.entries l.found l.c i.listing x low room any first.loss;
                   low = omega (arith, low);
-                  longest = i.longest;
-                  left = i.left;
                   ticks = omega (arith, ticks, next, a0, a1, b0, b1);
-                  turns_rise = i.turns_rise;
-                  turns_most = omega (arith, most, next, a0, b0);
-                  same_room = i.same_room;
-                  same_sizes = i.same_sizes;
+                  goes_on = goes_within G touches A l.a L l.left X l.exchange was _ i.goes_on (omega (arith, next, a0, b0));
                 }))
             | in-None v ↦
                 let e = v.loss_of.ensures in
@@ -90,20 +83,13 @@ loop-c-preserved g c =
                 let past0 = past.0 in
                 let past1 = past.1 in
                 let ticks_more = e.ticks in
-                let rise_more = e.turns_rise in
-                let most_more = e.turns_most in
                 rw (w.a-is, w.left-is, w.exchange-is, w.entries-is, w.found-is, w.steps-is)
                 (rw (v.a-is, v.left-is, v.exchange-is, v.entries-is, v.steps-is)
                 (record {
                   listing = Listing-more c.args.g.now touches s n l.entries l.found l.c i.listing v.loss_of.result low room any e.loss;
                   low = omega (arith, low);
-                  longest = e.longest;
-                  left = e.left ∙ i.left;
                   ticks = omega (arith, ticks, ticks_more, next, past0, past1);
-                  turns_rise = omega (arith, rise, rise_more);
-                  turns_most = omega (arith, most, most_more, next, past0);
-                  same_room = rooms c.args.a.now l.a v.loss_of.new.a i.same_room e.same_room;
-                  same_sizes = e.same_sizes ∙ i.same_sizes;
+                  goes_on = goes_further G touches A l.a v.loss_of.new.a L l.left v.loss_of.new.left X l.exchange v.loss_of.new.exchange was (length (items_with s.keys l.c)) _ i.goes_on e.goes_on (omega (arith, next, past0));
                 }))
           ]
       | else-has_any w ↦
@@ -115,39 +101,27 @@ loop-c-preserved g c =
           (record {
             listing = Listing-over c.args.g.now touches s n l.entries l.found l.c i.listing low none;
             low = omega (arith, low);
-            longest = i.longest;
-            left = i.left;
             ticks = omega (arith, ticks, next, past0, past1);
-            turns_rise = i.turns_rise;
-            turns_most = omega (arith, most, next, past0);
-            same_room = i.same_room;
-            same_sizes = i.same_sizes;
+            goes_on = goes_within G touches A l.a L l.left X l.exchange was _ i.goes_on (omega (arith, next, past0));
           })
     ]
 
 pub loop-c-init : goal.loop-c-init
 loop-c-init g c =
     let s = c.mark_redundant-vacant.new.stations in
-    let n = s.buses.count in
     let o = c.first_loss-first.result in
     let m = c.mark_redundant-vacant.ensures in
     let f = c.first_loss-first.ensures in
     let ticks = begun c.mark_redundant-vacant.result o s c.args.steps.now c.mark_redundant-vacant.new.steps c.first_loss-first.new.steps m.ticks f.none f.some f.ticks in
-    let turns = ap (λ (a : Assignment). a.turns) m.same_pairs in
-    let rise = f.turns_rise in
-    let most = f.turns_most in
     let begin = (ahead-begin s o).0 in
     let zero : group_start s.keys 0 ≡ 0 = refl in
     record {
       listing = record { bound = omega arith; lists = ap (λ (k : ℕ). losses_in c.args.g.now c.args.ms.now.touches s (range_with_len 0 k)) (omega arith) };
       low = omega arith;
-      longest = f.longest;
-      left = f.left;
       ticks = omega (arith, ticks, zero);
-      turns_rise = omega (arith, turns, rise);
-      turns_most = omega (arith, turns, most, begin, zero);
-      same_room = subst (λ (a : Assignment). HasRoomOf a c.first_loss-first.new.a) m.same_pairs f.same_room;
-      same_sizes = f.same_sizes ∙ m.same_sizes;
+      goes_on = goes_further c.args.g.now c.args.ms.now.touches c.args.a.now c.mark_redundant-vacant.new.a c.first_loss-first.new.a c.args.left.now c.args.left.now c.first_loss-first.new.left
+          c.args.exchange.now c.mark_redundant-vacant.new.exchange c.first_loss-first.new.exchange 0 (first_count s o) _
+          (goes_nowhere c.args.g.now c.args.ms.now.touches c.args.a.now c.mark_redundant-vacant.new.a c.args.left.now c.args.exchange.now c.mark_redundant-vacant.new.exchange 0 c.requires.ready m.same_pairs m.same_sizes) f.goes_on (omega (arith, begin, zero));
     }
 
 pub returns-clause-losses : goal.returns-clause-losses
@@ -177,47 +151,51 @@ returns-clause-ticks g c =
     let was = ap (λ (x : Stations). group_start x.keys x.buses.count) c.mark_redundant-vacant.ensures.same_stations in
     omega (arith, ticks, same, was, none0, none1)
 
-pub returns-clause-turns_most : goal.returns-clause-turns_most
-returns-clause-turns_most g c =
-    let d = (goal.at.returns-clause-turns_most g c).After-first_loss-first in
+pub returns-clause-goes_on : goal.returns-clause-goes_on
+returns-clause-goes_on g c =
+    let d = (goal.at.returns-clause-goes_on g c).After-first_loss-first in
     let s = c.mark_redundant-vacant.new.stations in
     let o = c.first_loss-first.result in
     let e = c.count-c-end.ensures.count in
     let f = c.loop-c-test.false in
     let l = c.loop-c in
     let low = l.invariant.low in
-    let most = l.invariant.turns_most in
     let all : l.c ≡ s.buses.count = omega (arith, e, f, low) in
     let none0 = ap (ahead s o) all ∙ (ahead-end s o s.buses.count (below g d)).0 in
     let same = ap (group_start s.keys) all in
     let was = ap (λ (x : Stations). group_start x.keys x.buses.count) c.mark_redundant-vacant.ensures.same_stations in
-    omega (arith, most, same, was, none0)
+    goes_within c.args.g.now c.args.ms.now.touches c.args.a.now l.a c.args.left.now l.left c.args.exchange.now l.exchange (ahead s o l.c + group_start s.keys l.c) _ l.invariant.goes_on
+    (omega (arith, same, was, none0))
 
-pub loss_of-requires-clause-keys : goal.loss_of-requires-clause-keys
-loss_of-requires-clause-keys g c =
-    let d = (goal.at.loss_of-requires-clause-keys g c).After-first_loss-first in
-    now g d (λ (x : Stations). length x.keys ≡ length c.args.ms.now.touches) c.requires.keys
+pub mark_redundant-vacant-requires-clause-branches : goal.mark_redundant-vacant-requires-clause-branches
+mark_redundant-vacant-requires-clause-branches g c = c.requires.ready.branches
 
-pub loss_of-requires-clause-longest : goal.loss_of-requires-clause-longest
-loss_of-requires-clause-longest g c = c.loop-c.invariant.longest
+pub mark_redundant-vacant-requires-clause-longest : goal.mark_redundant-vacant-requires-clause-longest
+mark_redundant-vacant-requires-clause-longest g c = c.requires.ready.longest
 
-pub loss_of-requires-clause-left : goal.loss_of-requires-clause-left
-loss_of-requires-clause-left g c = ap (λ (m : Meters). m.touches) c.loop-c.invariant.left ∙ c.requires.left
+pub mark_redundant-vacant-requires-clause-in_range : goal.mark_redundant-vacant-requires-clause-in_range
+mark_redundant-vacant-requires-clause-in_range g c = c.requires.ready.in_range
 
-pub loss_of-requires-clause-room : goal.loss_of-requires-clause-room
-loss_of-requires-clause-room g c = room_again c.args.g.now c.args.ms.now.touches c.args.exchange.now.sizes c.loop-c.exchange.sizes c.loop-c.invariant.same_sizes c.requires.room
+pub mark_redundant-vacant-requires-clause-room : goal.mark_redundant-vacant-requires-clause-room
+mark_redundant-vacant-requires-clause-room g c = c.requires.ready.room
 
-pub returns-clause-longest : goal.returns-clause-longest
-returns-clause-longest g c = c.loop-c.invariant.longest
+pub first_loss-first-requires-clause-ready : goal.first_loss-first-requires-clause-ready
+first_loss-first-requires-clause-ready g c =
+    let m = c.mark_redundant-vacant in
+    let x = c.args.exchange.now in
+    ready_again c.args.g.now c.args.ms.now.touches c.args.a.now m.new.a c.args.left.now c.args.left.now x m.new.exchange 0 c.requires.ready
+    (goes_nowhere c.args.g.now c.args.ms.now.touches c.args.a.now m.new.a c.args.left.now x m.new.exchange 0 c.requires.ready m.ensures.same_pairs m.ensures.same_sizes)
 
-pub returns-clause-left : goal.returns-clause-left
-returns-clause-left g c = c.loop-c.invariant.left
+pub first_loss-first-requires-clause-stations : goal.first_loss-first-requires-clause-stations
+first_loss-first-requires-clause-stations g c =
+    subst (λ (x : Stations). AreGrouped c.args.g.now c.args.ms.now.touches x) (sym c.mark_redundant-vacant.ensures.same_stations)
+    (grouped_marked c.args.g.now c.args.ms.now.touches c.args.stations.now c.mark_redundant-vacant.new.stations.redundant c.requires.stations)
 
-pub returns-clause-turns_rise : goal.returns-clause-turns_rise
-returns-clause-turns_rise g c = c.loop-c.invariant.turns_rise
+pub loss_of-requires-clause-ready : goal.loss_of-requires-clause-ready
+loss_of-requires-clause-ready g c =
+    ready_again c.args.g.now c.args.ms.now.touches c.args.a.now c.loop-c.a c.args.left.now c.loop-c.left c.args.exchange.now c.loop-c.exchange _ c.requires.ready c.loop-c.invariant.goes_on
 
-pub returns-clause-same_room : goal.returns-clause-same_room
-returns-clause-same_room g c = c.loop-c.invariant.same_room
-
-pub returns-clause-same_sizes : goal.returns-clause-same_sizes
-returns-clause-same_sizes g c = c.loop-c.invariant.same_sizes
+pub loss_of-requires-clause-stations : goal.loss_of-requires-clause-stations
+loss_of-requires-clause-stations g c =
+    subst (λ (x : Stations). AreGrouped c.args.g.now c.args.ms.now.touches x) (sym c.mark_redundant-vacant.ensures.same_stations)
+    (grouped_marked c.args.g.now c.args.ms.now.touches c.args.stations.now c.mark_redundant-vacant.new.stations.redundant c.requires.stations)

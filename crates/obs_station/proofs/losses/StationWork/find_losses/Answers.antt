@@ -37,37 +37,31 @@ refill-requires-2 g c =
     ap length c.touches.ensures.touches ∙ (ap (λ (m : Meters). length m.touches) c.meters-meters.ensures.meters ∙ length-case_meters t) in
     record { room = omega (arith, meters, all, c.self.invariant.left) }
 
-pub write_losses-self-inside-requires-clause-longest : goal.write_losses-self-inside-requires-clause-longest
-write_losses-self-inside-requires-clause-longest g c =
-    over_case c.args.present.now c.graph.result.now c.graph.ensures.graph c.meters-meters.result.now c.meters-meters.ensures.meters
-    (λ h ts. IsLongest h ts c.args.a.now) c.requires.longest
-
-pub write_losses-self-inside-requires-clause-in_range : goal.write_losses-self-inside-requires-clause-in_range
-write_losses-self-inside-requires-clause-in_range g c =
-    subst (λ (h : Graph). AreInRange h c.meters-meters.result.now.touches) (sym c.graph.ensures.graph) c.meters-meters.ensures.in_range
-
-pub write_losses-self-inside-requires-clause-room : goal.write_losses-self-inside-requires-clause-room
-write_losses-self-inside-requires-clause-room g c =
+pub write_losses-self-inside-requires-clause-ready : goal.write_losses-self-inside-requires-clause-ready
+write_losses-self-inside-requires-clause-ready g c =
     let t = c.args.present.now in
+    let h = c.graph.result.now in
+    let ms = c.meters-meters.result.now in
     let sizes = c.self.inside.exchange.sizes in
     let rows = ap (λ (w : StationWork). w.rows) c.self.view_is ∙ c.requires.rows in
-    over_case t c.graph.result.now c.graph.ensures.graph c.meters-meters.result.now c.meters-meters.ensures.meters (λ h ts. HasRoomFor sizes h ts)
-    (room_for t _ sizes c.self.invariant.sizes rows)
+    record {
+      branches = c.graph.ensures.branches;
+      longest = over_case t h c.graph.ensures.graph ms c.meters-meters.ensures.meters (λ h ts. IsLongest h ts c.args.a.now) c.requires.longest;
+      in_range = subst (λ (h : Graph). AreInRange h ms.touches) (sym c.graph.ensures.graph) c.meters-meters.ensures.in_range;
+      room = over_case t h c.graph.ensures.graph ms c.meters-meters.ensures.meters (λ h ts. HasRoomFor sizes h ts) (room_for t _ sizes c.self.invariant.sizes rows);
+      left = ap (λ (m : Meters). m.touches) c.refill-2.ensures.whole ∙ c.touches.ensures.touches;
+    }
 
-pub write_losses-self-inside-requires-clause-left : goal.write_losses-self-inside-requires-clause-left
-write_losses-self-inside-requires-clause-left g c =
-    ap (λ (m : Meters). m.touches) c.refill-2.ensures.whole
-    ∙ c.touches.ensures.touches
-
-pub write_losses-self-inside-requires-clause-keys : goal.write_losses-self-inside-requires-clause-keys
-write_losses-self-inside-requires-clause-keys g c =
+pub write_losses-self-inside-requires-clause-stations : goal.write_losses-self-inside-requires-clause-stations
+write_losses-self-inside-requires-clause-stations g c =
     let t = c.args.present.now in
     let all = touches_are t c.graph.result.now c.graph.ensures.graph c.meters-meters.result.now c.meters-meters.ensures.meters in
-    ap length c.refill.ensures.keys ∙ (length-map-range_with_len (key_of t) 0 (length t.meters) ∙ (sym (length-case_meters t) ∙ sym (ap length all)))
-
-pub write_losses-self-inside-requires-clause-some : goal.write_losses-self-inside-requires-clause-some
-write_losses-self-inside-requires-clause-some g c =
-    λ k l. subst (λ (b : List ℕ). 0 < length (members_of b k)) (sym c.refill.ensures.stations) (some_node c.args.present.now k (omega (arith, l, c.refill.ensures.count)))
+    record {
+      keys = ap length c.refill.ensures.keys ∙ (length-map-range_with_len (key_of t) 0 (length t.meters) ∙ (sym (length-case_meters t) ∙ sym (ap length all)));
+      some = λ k l. subst (λ (b : List ℕ). 0 < length (members_of b k)) (sym c.refill.ensures.stations) (some_node t k (omega (arith, l, c.refill.ensures.count)));
+      stationed = over_case t c.graph.result.now c.graph.ensures.graph c.meters-meters.result.now c.meters-meters.ensures.meters (λ h ts. AreStationed h ts c.refill.new.self)
+          (stationed t c.meters-meters.ensures.valid c.refill.new.self c.refill.ensures.keys c.refill.ensures.count);
+    }
 
 pub write_losses-self-inside-requires-clause-entries : goal.write_losses-self-inside-requires-clause-entries
 write_losses-self-inside-requires-clause-entries g c =
@@ -115,12 +109,12 @@ invariant_of-self g c =
     let w = c.write_losses-self-inside in
     let i = c.self.invariant in
     let of : ℕ → ℕ → Sizes = λ meters nodes. record { meters = meters; branches = c.self.inside.branches + (meters + c.self.inside.candidates); vertices = 2 * nodes } in
-    let own : w.new.left.most ≡ c.self.inside.left.most = ap (λ (m : Meters). m.most) (w.ensures.left ∙ c.refill-2.ensures.whole) in
+    let own : w.new.left.most ≡ c.self.inside.left.most = ap (λ (m : Meters). m.most) (w.ensures.goes_on.left ∙ c.refill-2.ensures.whole) in
     rw (entries_back g d)
     (record {
       left = own ∙ (i.left ∙ sym (meters_now g d));
       sizes =
-          w.ensures.same_sizes
+          w.ensures.goes_on.same_sizes
           ∙ (i.sizes
           ∙ (ap (λ (m : ℕ). of m c.self.inside.stations.buses.most_nodes) (sym (meters_now g d)) ∙ ap (λ (n : ℕ). of w.new.stations.most_meters n) (sym (nodes_now g d))));
       entries = entries_len g d ∙ (i.entries ∙ sym (nodes_now g d));
@@ -133,7 +127,7 @@ returns-clause-losses g c = let d = (goal.at.returns-clause-losses g c).After-wr
 pub returns-clause-longest : goal.returns-clause-longest
 returns-clause-longest g c =
     longest_network (network_of c.args.present.now) c.args.present.now refl c.graph.result.now c.graph.ensures.graph c.meters-meters.result.now c.meters-meters.ensures.meters c.write_losses-self-inside.new.a
-    c.write_losses-self-inside.ensures.longest
+    c.write_losses-self-inside.ensures.goes_on.longest
 
 pub returns-clause-ticks : goal.returns-clause-ticks
 returns-clause-ticks g c =
@@ -143,7 +137,7 @@ returns-clause-ticks g c =
 pub returns-clause-turns_most : goal.returns-clause-turns_most
 returns-clause-turns_most g c =
     let d = (goal.at.returns-clause-turns_most g c).After-write_losses-self-inside in
-    omega (arith, c.write_losses-self-inside.ensures.turns_most, few g d)
+    omega (arith, c.write_losses-self-inside.ensures.goes_on.turns_most, few g d)
 
 pub returns-clause-rows : goal.returns-clause-rows
 returns-clause-rows g c =
@@ -163,10 +157,10 @@ returns-clause-rows g c =
     ∙ (ap (λ (m : ℕ). of was.buses.most_nodes was.switches m) (meters_now g d) ∙ ap (λ (w : StationWork). w.rows) c.self.view_is))
 
 pub returns-clause-turns_rise : goal.returns-clause-turns_rise
-returns-clause-turns_rise g c = c.write_losses-self-inside.ensures.turns_rise
+returns-clause-turns_rise g c = c.write_losses-self-inside.ensures.goes_on.turns_rise
 
 pub returns-clause-same_room : goal.returns-clause-same_room
-returns-clause-same_room g c = c.write_losses-self-inside.ensures.same_room
+returns-clause-same_room g c = c.write_losses-self-inside.ensures.goes_on.same_room
 
 pub write_losses-self-inside-requires-clause-meters : goal.write_losses-self-inside-requires-clause-meters
 write_losses-self-inside-requires-clause-meters g c =
@@ -174,9 +168,3 @@ write_losses-self-inside-requires-clause-meters g c =
     let rows = ap (λ (w : StationWork). w.rows.meters) c.self.view_is ∙ ap (λ (r : Rows). r.meters) c.requires.rows in
     let all : length c.meters-meters.result.now.touches ≡ length t.meters = ap (λ (m : Meters). length m.touches) c.meters-meters.ensures.meters ∙ length-case_meters t in
     c.refill.ensures.meters ∙ (rows ∙ sym all)
-
-pub write_losses-self-inside-requires-clause-stationed : goal.write_losses-self-inside-requires-clause-stationed
-write_losses-self-inside-requires-clause-stationed g c =
-    let t = c.args.present.now in
-    over_case t c.graph.result.now c.graph.ensures.graph c.meters-meters.result.now c.meters-meters.ensures.meters (λ h ts. AreStationed h ts c.refill.new.self)
-    (stationed t c.meters-meters.ensures.valid c.refill.new.self c.refill.ensures.keys c.refill.ensures.count)
