@@ -4,6 +4,7 @@
 mod decide;
 pub mod laws;
 mod least;
+mod over;
 mod trying;
 
 pub use least::first;
