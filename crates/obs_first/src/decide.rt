@@ -3,10 +3,9 @@ ghost use Rattle.std.specs.Prelude.{◌≡◌, ◌+◌, ◌<◌, ℕ, Some, leng
 ghost use Rattle.obs_meter.specs.declared.Touch.TheVariants.{Nothing};
 ghost use Rattle.obs_first.specs.Deciding.{GoesOn, IsDecided, IsPassed, IsReady, frozen_pairs};
 
-use crate::over::Over;
 use crate::trying::take_branch;
 use obs_assign::{Assignment, Steps};
-use obs_exchange::Work;
+use obs_exchange::{Over, Work};
 use obs_meter::Meters;
 use std::sync::ledger::Ledger;
 

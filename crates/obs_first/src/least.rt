@@ -11,9 +11,8 @@ ghost use Rattle.obs_first.specs.Deciding.{IsReady};
 ghost use Rattle.obs_first.specs.First.{first_pairs};
 
 use crate::decide::decide;
-use crate::over::Over;
 use obs_assign::{Assignment, Steps};
-use obs_exchange::{Work, close};
+use obs_exchange::{Over, Work, close};
 use obs_graph::Graph;
 use obs_meter::Meters;
 use std::sync::ledger::Ledger;

@@ -4,7 +4,6 @@
 mod decide;
 pub mod laws;
 mod least;
-mod over;
 mod trying;
 
 pub use least::first;

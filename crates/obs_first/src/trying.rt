@@ -9,9 +9,8 @@ ghost use Rattle.obs_exchange.specs.declared.Sources.TheVariants.{One};
 ghost use Rattle.obs_exchange.specs.Found.{CanBegin, HasClosed};
 ghost use Rattle.obs_first.specs.Deciding.{AreEnoughFor, GoesOn, HasRefused, HasTaken, IsAside, IsMoved, IsOutOfReach, IsReady, IsUnderWay, IsWithoutPair, MayTake};
 
-use crate::over::Over;
 use obs_assign::{Assignment, Steps};
-use obs_exchange::{Found, Sources, Work, search_by};
+use obs_exchange::{Found, Over, Sources, Work, search_by};
 use obs_graph::Graph;
 use obs_meter::{Meters, Touch};
 use std::sync::ledger::Ledger;
