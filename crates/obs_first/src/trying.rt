@@ -30,7 +30,8 @@ fn wins<L: Ledger>(
     requires begins { CanBegin from a.old }
     ensures won { MatchBool result
         (length (pairs a.new) ≡ length (pairs a.old) + 1)
-        (HasClosed over.now.graph.now.ends (slice_set over.now.meters.now.touches m Nothing) from a.old a.new work.new.reached) }
+        (HasClosed over.now.graph.now.ends (slice_set over.now.meters.now.touches m Nothing)
+        from a.old a.new work.new.reached) }
     ensures bare { branch_at a.new m ≡ None }
     ensures moved { (long : ℕ) → IsReady over.now.graph.now over.now.meters.now.touches a.old work.old long
         → IsMoved over.now.graph.now over.now.meters.now.touches a.old a.new work.old work.new long }

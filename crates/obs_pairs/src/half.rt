@@ -72,9 +72,10 @@ pub(crate) fn reach_from<L: Ledger>(
     requires step { 0 < step }
     requires low { step < 2 ^ 32 }
     ensures same { a.new ≡ a.old }
-    ensures left { left.new ≡ record left.old { touches = losing (is_half a.old step lows) over.now.meters.now.touches } }
-    ensures closed { HasClosed over.now.graph.now.ends (losing (is_half a.old step lows) over.now.meters.now.touches) All a.old a.old
-        exchange.new.reached }
+    ensures left { left.new
+        ≡ record left.old { touches = losing (is_half a.old step lows) over.now.meters.now.touches } }
+    ensures closed { HasClosed over.now.graph.now.ends (losing (is_half a.old step lows) over.now.meters.now.touches)
+        All a.old a.old exchange.new.reached }
     ensures same_sizes { exchange.new.sizes ≡ exchange.old.sizes }
 {
     lose_half(over.meters, a, step, lows, left);

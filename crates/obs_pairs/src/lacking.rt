@@ -20,11 +20,13 @@ pub fn search_without<L: Ledger>(
     steps: &mut Steps<L>,
 )
     requires ready { IsReady over.now.graph.now over.now.meters.now.touches a.old left.old exchange.old }
-    requires redundant { redundant_at over.now.graph.now.vertices over.now.graph.now.ends over.now.meters.now.touches m ≡ true }
+    requires redundant { redundant_at over.now.graph.now.vertices over.now.graph.now.ends
+        over.now.meters.now.touches m ≡ true }
     ensures flags { length exchange.new.reached ≡ length over.now.meters.now.touches }
     ensures lacks { LacksClass over.now.graph.now.vertices over.now.graph.now.ends over.now.meters.now.touches m
         (has_flag exchange.new.reached) }
-    ensures moved { IsMoved over.now.graph.now over.now.meters.now.touches a.old a.new left.old left.new exchange.old exchange.new }
+    ensures moved { IsMoved over.now.graph.now over.now.meters.now.touches
+        a.old a.new left.old left.new exchange.old exchange.new }
 {
     let most = a.length();
     let lost = [m];

@@ -33,7 +33,8 @@ pub(crate) fn renew<L: Ledger>(
 )
     requires ready { IsReady over.now.graph.now over.now.meters.now.touches a.old left.old exchange.old }
     requires waiting { length waiting.now ≡ length over.now.meters.now.touches }
-    ensures moved { IsMoved over.now.graph.now over.now.meters.now.touches a.old a.new left.old left.new exchange.old exchange.new }
+    ensures moved { IsMoved over.now.graph.now over.now.meters.now.touches
+        a.old a.new left.old left.new exchange.old exchange.new }
 {
     let most = a.length();
     lose_marked(over.meters, waiting, left);

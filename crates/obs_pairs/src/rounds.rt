@@ -59,9 +59,12 @@ pub(crate) fn split_in_rounds<L: Ledger>(
     steps: &mut Steps<L>,
 )
     requires ready { IsReady over.now.graph.now over.now.meters.now.touches a.old left.old exchange.old }
-    requires settled { AreSettled over.now.graph.now.vertices over.now.graph.now.ends over.now.meters.now.touches waiting.old list.old 0 }
-    ensures settled { AreSettled over.now.graph.now.vertices over.now.graph.now.ends over.now.meters.now.touches waiting.new list.new 0 }
-    ensures moved { IsMoved over.now.graph.now over.now.meters.now.touches a.old a.new left.old left.new exchange.old exchange.new }
+    requires settled { AreSettled over.now.graph.now.vertices over.now.graph.now.ends
+        over.now.meters.now.touches waiting.old list.old 0 }
+    ensures settled { AreSettled over.now.graph.now.vertices over.now.graph.now.ends
+        over.now.meters.now.touches waiting.new list.new 0 }
+    ensures moved { IsMoved over.now.graph.now over.now.meters.now.touches
+        a.old a.new left.old left.new exchange.old exchange.new }
 {
     let settled = count_settled(waiting, list);
     split(over, a, left, exchange, waiting, list, steps);

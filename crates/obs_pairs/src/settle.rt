@@ -63,9 +63,11 @@ fn settle_all<L: Ledger>(
     steps: &mut Steps<L>,
 )
     requires ready { IsReady over.now.graph.now over.now.meters.now.touches a.old left.old exchange.old }
-    requires settled { AreSettled over.now.graph.now.vertices over.now.graph.now.ends over.now.meters.now.touches waiting.old list.old 0 }
+    requires settled { AreSettled over.now.graph.now.vertices over.now.graph.now.ends
+        over.now.meters.now.touches waiting.old list.old 0 }
     ensures keyed { AreKeyed over.now.graph.now.vertices over.now.graph.now.ends over.now.meters.now.touches list.new }
-    ensures moved { IsMoved over.now.graph.now over.now.meters.now.touches a.old a.new left.old left.new exchange.old exchange.new }
+    ensures moved { IsMoved over.now.graph.now over.now.meters.now.touches
+        a.old a.new left.old left.new exchange.old exchange.new }
 {
     for m in 0..over.meters.count() {
         if waiting[m as usize] {
@@ -88,8 +90,10 @@ fn find_all<L: Ledger>(
     requires ready { IsReady over.now.graph.now over.now.meters.now.touches a.old left.old exchange.old }
     requires waiting { length waiting.old ≡ length over.now.meters.now.touches }
     requires list { length list.old ≡ length over.now.meters.now.touches }
-    ensures classes { list.new ≡ classes_of over.now.graph.now.vertices over.now.graph.now.ends over.now.meters.now.touches }
-    ensures moved { IsMoved over.now.graph.now over.now.meters.now.touches a.old a.new left.old left.new exchange.old exchange.new }
+    ensures classes { list.new
+        ≡ classes_of over.now.graph.now.vertices over.now.graph.now.ends over.now.meters.now.touches }
+    ensures moved { IsMoved over.now.graph.now over.now.meters.now.touches
+        a.old a.new left.old left.new exchange.old exchange.new }
 {
     close(over.graph, over.meters, a, exchange, steps);
     begin(exchange.reached(), waiting, list);
@@ -113,7 +117,8 @@ pub(crate) fn list_classes<L: Ledger>(
     requires list { length over.now.meters.now.touches ≤ length list.old }
     ensures classes { take (length over.now.meters.now.touches) list.new
         ≡ classes_of over.now.graph.now.vertices over.now.graph.now.ends over.now.meters.now.touches }
-    ensures moved { IsMoved over.now.graph.now over.now.meters.now.touches a.old a.new left.old left.new exchange.old exchange.new }
+    ensures moved { IsMoved over.now.graph.now over.now.meters.now.touches
+        a.old a.new left.old left.new exchange.old exchange.new }
 {
     let n = over.meters.count() as usize;
     find_all(

@@ -23,10 +23,13 @@ pub(crate) fn split<L: Ledger>(
     steps: &mut Steps<L>,
 )
     requires ready { IsReady over.now.graph.now over.now.meters.now.touches a.old left.old exchange.old }
-    requires settled { AreSettled over.now.graph.now.vertices over.now.graph.now.ends over.now.meters.now.touches waiting.old list.old 0 }
-    ensures settled { AreSettled over.now.graph.now.vertices over.now.graph.now.ends over.now.meters.now.touches waiting.new list.new 0 }
+    requires settled { AreSettled over.now.graph.now.vertices over.now.graph.now.ends
+        over.now.meters.now.touches waiting.old list.old 0 }
+    ensures settled { AreSettled over.now.graph.now.vertices over.now.graph.now.ends
+        over.now.meters.now.touches waiting.new list.new 0 }
     ensures same { a.new ≡ a.old }
-    ensures moved { IsMoved over.now.graph.now over.now.meters.now.touches a.old a.new left.old left.new exchange.old exchange.new }
+    ensures moved { IsMoved over.now.graph.now over.now.meters.now.touches
+        a.old a.new left.old left.new exchange.old exchange.new }
 {
     start(waiting, list);
     let mut step = 1;
