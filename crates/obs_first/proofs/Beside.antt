@@ -160,12 +160,11 @@ module _ (g : Graph) (touches : List Touch) (a b : Assignment) (w v : Work) (m l
 
 -- what the work value knows where the search then found nothing, and what it reached is kept
 module _ (g : Graph) (touches : List Touch) (a b : Assignment) (w v : Work) (m long : ℕ) (low : m < length touches) (ok : AreBranches g.vertices g.ends) (whole : IsWhole a) (stands : StandsOver a g touches)
-    (paired : branch_at a m ≢ None) (thawed : is_frozen a m ≡ false) (slots : b.slots ≡ set a.slots m None) (flags : b.frozen ≡ set a.frozen m false) (few : length (pairs a) ≤ long)
+    (paired : branch_at a m ≢ None) (thawed : is_frozen a m ≡ false) (slots : b.slots ≡ set a.slots m None) (frozen : b.frozen ≡ a.frozen) (few : length (pairs a) ≤ long)
     (same : v ≡ record w { loose = v.loose }) (closed : HasClosed g.ends (set touches m Nothing) All b b w.reached)
     (narrowed : (k : ℕ) → k < length w.reached → has_flag v.loose k ≡ (has_flag w.loose k && has_flag w.reached k)) where
   pub IsPrepared-narrowed : IsPrepared g touches b w long → IsPrepared g touches b v long
   IsPrepared-narrowed h =
-      let frozen = dropped_frozen a b m slots thawed flags in
       let keeps = dropped_keeps a b m slots thawed in
       let back : AreCriticalBeside g.ends touches a w.loose long =
       AreCriticalBeside-more g.ends touches b a w.loose long (λ x f. sym (keeps x (sym (frozen_same a b frozen x) ∙ f))) (λ x f. sym (frozen_same a b frozen x) ∙ f) h.critical in

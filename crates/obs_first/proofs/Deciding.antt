@@ -22,44 +22,40 @@ use Rattle.obs_meter.proofs.Touched.{touch-rising}
 use Rattle.obs_assign.specs.Assignment.{Assignment, IsWhole, StandsOver, has_flag, is_frozen, pairs}
 use Rattle.obs_assign.proofs.Slotted.{item_slot, slot_item}
 use Rattle.obs_assign.proofs.Standing.{IsAssignmentAt-standing}
-use Rattle.obs_first.specs.Deciding.{HasFrozenOf, HasRefused, IsDecided, KeepsFrozen}
-use Rattle.obs_first.proofs.Frozen.{Extends-kept, HasFrozenOf-kept, HasFrozenOf-pairs, KeepsFrozen-on, frozen_same}
+use Rattle.obs_exchange.specs.Found.{Work}
+use Rattle.obs_first.specs.Deciding.{GoesOn, HasFrozenOf, HasRefused, IsDecided, IsMoved, IsUnderWay, KeepsFrozen}
+use Rattle.obs_first.proofs.Frozen.{Extends-kept, HasFrozenOf-kept, HasFrozenOf-pairs, frozen_same}
 use Rattle.obs_first.proofs.Fronts.{In-take_lower, In-take_more}
+use Rattle.obs_first.proofs.Going.{GoesOn-on}
 
 -- no assignment so long that has the frozen pairs of a gives one of the branches to m
 abbrev pub AreRefused : Graph → List Touch → Assignment → ℕ → ℕ → List ℕ → Type 0
 AreRefused g touches a m long tried = (e : ℕ) → In e tried → (B : List Pair) → HasFrozenOf g.ends touches a B → In (m, e) B → length B < long
 
--- while the meter m of a is decided, and b is what a has become
-pub record IsTrying (g : Graph) (touches : List Touch) (a b : Assignment) (m long : ℕ) (tried : List ℕ) : Type 0 where
-  pub stands : StandsOver b g touches
-  pub whole : IsWhole b
-  pub frozen : b.frozen ≡ a.frozen
-  pub keeps : KeepsFrozen a b
+-- while the meter m of a is decided, and b and w are what a and v have become
+pub record IsTrying (g : Graph) (touches : List Touch) (a b : Assignment) (v w : Work) (m long : ℕ) (tried : List ℕ) : Type 0 where
+  pub moved : IsMoved g touches a b v w long
+  pub under_way : IsUnderWay g.ends touches b m long
   pub refused : AreRefused g touches a m long tried
 
 -- one more branch is refused
-pub Trying-more : (g : Graph) (touches : List Touch) (a b c : Assignment) (m long : ℕ) (xs : List ℕ) (k d : ℕ) → IsTrying g touches a b m long (take k xs) → k < length xs
-    → HasRefused g.ends touches b c m (get_or xs k d) long → KeepsFrozen b c → StandsOver c g touches → IsWhole c → IsTrying g touches a c m long (take (k + 1) xs)
-Trying-more g touches a b c m long xs k d h low r keeps s w = record {
-  stands = s;
-  whole = w;
-  frozen = r.frozen ∙ h.frozen;
-  keeps = KeepsFrozen-on a b c h.frozen h.keeps keeps;
+pub Trying-more : (g : Graph) (touches : List Touch) (a b c : Assignment) (u v w : Work) (m long : ℕ) (xs : List ℕ) (k d : ℕ) → IsTrying g touches a b u v m long (take k xs) → k < length xs
+    → HasRefused g.ends touches b c m (get_or xs k d) long × IsUnderWay g.ends touches c m long → GoesOn g touches b c v w long → IsTrying g touches a c u w m long (take (k + 1) xs)
+Trying-more g touches a b c u v w m long xs k d h low r on = record {
+  moved = record { goes_on = GoesOn-on g touches a b c u v w long h.moved on; frozen = r.0.frozen ∙ h.moved.frozen };
+  under_way = r.1;
   refused = λ e i B x j. elim (In-take_more xs k d e low i) [
     | inl before ↦ h.refused e before B x j
-    | inr same ↦ r.none B (HasFrozenOf-kept g.ends touches a b B h.frozen h.keeps x) (subst (λ y. In (m, y) B) same j)
+    | inr same ↦ r.0.none B (HasFrozenOf-kept g.ends touches a b B h.moved.frozen h.moved.goes_on.keeps x) (subst (λ y. In (m, y) B) same j)
   ];
 }
 
 -- or is known to be refused
-pub Trying-passed : (g : Graph) (touches : List Touch) (a b : Assignment) (m long : ℕ) (xs : List ℕ) (k d : ℕ) → IsTrying g touches a b m long (take k xs) → k < length xs
-    → ((B : List Pair) → HasFrozenOf g.ends touches a B → In (m, get_or xs k d) B → length B < long) → IsTrying g touches a b m long (take (k + 1) xs)
-Trying-passed g touches a b m long xs k d h low r = record {
-  stands = h.stands;
-  whole = h.whole;
-  frozen = h.frozen;
-  keeps = h.keeps;
+pub Trying-passed : (g : Graph) (touches : List Touch) (a b : Assignment) (v w : Work) (m long : ℕ) (xs : List ℕ) (k d : ℕ) → IsTrying g touches a b v w m long (take k xs) → k < length xs
+    → ((B : List Pair) → HasFrozenOf g.ends touches a B → In (m, get_or xs k d) B → length B < long) → IsTrying g touches a b v w m long (take (k + 1) xs)
+Trying-passed g touches a b v w m long xs k d h low r = record {
+  moved = h.moved;
+  under_way = h.under_way;
   refused = λ e i B x j. elim (In-take_more xs k d e low i) [
     | inl before ↦ h.refused e before B x j
     | inr same ↦ r B x (subst (λ y. In (m, y) B) same j)

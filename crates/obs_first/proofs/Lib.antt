@@ -9,3 +9,4 @@ pub mod Swapping
 pub mod Listed
 pub mod Lawful
 mod Beside
+pub mod Going

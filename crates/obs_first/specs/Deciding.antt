@@ -3,6 +3,7 @@ use Rattle.std.specs.Prelude.{◌≡◌, ◌⊎◌, ◌↔◌, ℕ, ◌+◌, ◌
 use Rattle.std.specs.List.{range_with_len}
 use Rattle.obs_graph.specs.declared.Ends.{Ends}
 use Rattle.obs_graph.specs.Graph.{Graph}
+use Rattle.obs_graph.specs.Positions.{AreBranches}
 use Rattle.obs_matroid.specs.Assignments.{Pair, items, part}
 use Rattle.obs_matroid.specs.Closed.{Extends}
 use Rattle.obs_matroid.specs.First.{IsBefore, IsNotAfter}
@@ -11,8 +12,8 @@ use Rattle.obs_meter.specs.declared.Touch.{Touch}
 use Rattle.obs_meter.specs.declared.Touch.TheVariants.{Edge, Nothing}
 use Rattle.obs_meter.specs.Assignments.{IsAssignmentAt}
 use Rattle.obs_meter.specs.Sizes.{HasRoomFor}
-use Rattle.obs_meter.specs.Touches.{every_item, is_live}
-use Rattle.obs_assign.specs.Assignment.{Assignment, branch_at, has_flag, is_frozen, pairs}
+use Rattle.obs_meter.specs.Touches.{AreInRange, every_item, is_live}
+use Rattle.obs_assign.specs.Assignment.{Assignment, HasRoomOf, IsWhole, StandsOver, branch_at, has_flag, is_frozen, pairs}
 use Rattle.obs_exchange.specs.declared.Sources.TheVariants.{All, One}
 use Rattle.obs_exchange.specs.Closed.{IsLeastClosedAt}
 use Rattle.obs_exchange.specs.Found.{Work}
@@ -45,6 +46,32 @@ pub record IsPrepared (g : Graph) (touches : List Touch) (a : Assignment) (work 
   pub copied : work.touches ≡ touches
   pub critical : AreCriticalBeside g.ends touches a work.loose long
 
+-- what holds before a meter is decided, and after it: the pairs stand over the graph and the meters, and the work value is prepared for so
+-- many pairs
+pub record IsReady (g : Graph) (touches : List Touch) (a : Assignment) (work : Work) (long : ℕ) : Type 0 where
+  pub branches : AreBranches g.vertices g.ends
+  pub in_range : AreInRange g touches
+  pub stands : StandsOver a g touches
+  pub whole : IsWhole a
+  pub prepared : IsPrepared g touches a work long
+
+-- b and w, which a and v became, are ready: the frozen meters of a keep their branches, and all sizes are as before
+pub record GoesOn (g : Graph) (touches : List Touch) (a b : Assignment) (v w : Work) (long : ℕ) : Type 0 where
+  pub ready : IsReady g touches b w long
+  pub keeps : KeepsFrozen a b
+  pub same_room : HasRoomOf a b
+  pub same_sizes : w.sizes ≡ v.sizes
+
+-- the same, and no meter was frozen or thawed
+pub record IsMoved (g : Graph) (touches : List Touch) (a b : Assignment) (v w : Work) (long : ℕ) : Type 0 where
+  pub goes_on : GoesOn g touches a b v w long
+  pub frozen : b.frozen ≡ a.frozen
+
+-- one of the meters, without a pair
+pub record IsWithoutPair (touches : List Touch) (a : Assignment) (m : ℕ) : Type 0 where
+  pub low : m < length touches
+  pub bare : branch_at a m ≡ None
+
 -- the meter m took e in b, where it is frozen as those of a are, and the pairs are as many as they are to be
 pub record HasTaken (a b : Assignment) (m e long : ℕ) : Type 0 where
   pub has : branch_at b m ≡ Some e
@@ -73,6 +100,13 @@ pub record IsAside (ends : List (Option Ends)) (touches : List Touch) (a : Assig
 -- while m is decided the pairs are as many as they are to be, or m was set aside
 abbrev pub IsUnderWay : List (Option Ends) → List Touch → Assignment → ℕ → ℕ → Type 0
 IsUnderWay ends touches a m long = (long ≤ length (pairs a)) ⊎ IsAside ends touches a m long
+
+-- m is the meter to decide: all is ready for it, it isn't frozen, and it is under way
+pub record MayTake (g : Graph) (touches : List Touch) (a : Assignment) (work : Work) (m long : ℕ) : Type 0 where
+  pub ready : IsReady g touches a work long
+  pub low : m < length touches
+  pub thawed : is_frozen a m ≡ false
+  pub under_way : IsUnderWay g.ends touches a m long
 
 -- as if m touched e alone, the pairs can't be more: a closed set from m shows it
 abbrev pub IsOutOfReach : List (Option Ends) → List Touch → Assignment → ℕ → ℕ → Type 0

@@ -1,15 +1,11 @@
 // How one meter is decided: it takes the lowest branch with which the pairs can be as many as before.
 ghost use Rattle.std.specs.Prelude.{◌≡◌, ◌+◌, ◌<◌, ℕ, Some, length, slice_index_or};
-ghost use Rattle.obs_graph.specs.Positions.{AreBranches};
 ghost use Rattle.obs_meter.specs.declared.Touch.TheVariants.{Nothing};
-ghost use Rattle.obs_meter.specs.Touches.{AreInRange};
-ghost use Rattle.obs_assign.specs.Assignment.{HasRoomOf, IsWhole, StandsOver};
-ghost use Rattle.obs_first.specs.Deciding.{IsDecided, IsPassed, IsPrepared, frozen_pairs};
+ghost use Rattle.obs_first.specs.Deciding.{GoesOn, IsDecided, IsPassed, IsReady, frozen_pairs};
 
 use crate::trying::take_branch;
 use obs_assign::{Assignment, Steps};
-use obs_exchange::Work;
-use obs_graph::Graph;
+use obs_exchange::{Over, Work};
 use obs_meter::Meters;
 use std::sync::ledger::Ledger;
 
@@ -49,8 +45,7 @@ fn lowest_for(ms: &Meters, a: &Assignment, m: u32, work: &Work) -> u32
 /// with which the pairs can be as many as before, or none where there is no such branch. Says how many have a pair
 /// then. Once all pairs are those of decided meters, the further ones have none.
 pub fn decide<L: Ledger>(
-    g: &Graph,
-    ms: &Meters,
+    over: &Over<'_>,
     a: &mut Assignment,
     m: u32,
     rank: u32,
@@ -58,32 +53,24 @@ pub fn decide<L: Ledger>(
     work: &mut Work,
     steps: &mut Steps<L>,
 ) -> u32
-    requires branches { AreBranches g.now.vertices g.now.ends }
-    requires whole { IsWhole a.old }
-    requires stands { StandsOver a.old g.now ms.now.touches }
-    requires in_range { AreInRange g.now ms.now.touches }
-    requires prepared { IsPrepared g.now ms.now.touches a.old work.old rank }
-    requires m { m < length ms.now.touches }
-    requires decided { IsDecided g.now.ends ms.now.touches a.old m rank }
+    requires ready { IsReady over.now.graph.now over.now.meters.now.touches a.old work.old rank }
+    requires m { m < length over.now.meters.now.touches }
+    requires decided { IsDecided over.now.graph.now.ends over.now.meters.now.touches a.old m rank }
     requires taken { taken ≡ length (frozen_pairs a.old) }
-    ensures decided { IsDecided g.now.ends ms.now.touches a.new (m + 1) rank }
+    ensures decided { IsDecided over.now.graph.now.ends over.now.meters.now.touches a.new (m + 1) rank }
     ensures taken { result ≡ length (frozen_pairs a.new) }
-    ensures stands { StandsOver a.new g.now ms.now.touches }
-    ensures whole { IsWhole a.new }
-    ensures same_room { HasRoomOf a.old a.new }
-    ensures same_sizes { work.new.sizes ≡ work.old.sizes }
-    ensures prepared { IsPrepared g.now ms.now.touches a.new work.new rank }
+    ensures goes_on { GoesOn over.now.graph.now over.now.meters.now.touches a.old a.new work.old work.new rank }
 {
     if taken >= rank {
         return taken;
     }
-    let low = lowest_for(ms, a, m, work);
-    work.note_like(ms.kind(m), m);
-    for e in ms.touch(g, m) {
+    let low = lowest_for(over.meters, a, m, work);
+    work.note_like(over.meters.kind(m), m);
+    for e in over.meters.touch(over.graph, m) {
         if *e < low {
             continue;
         }
-        if take_branch(g, ms, a, m, *e, rank, work, steps) {
+        if take_branch(over, a, m, *e, rank, work, steps) {
             return taken + 1;
         }
     }

@@ -7,12 +7,12 @@ ghost use Rattle.obs_meter.specs.Touches.{AreInRange, live_items};
 ghost use Rattle.obs_assign.specs.Assignment.{HasRoomOf, IsWhole, StandsOver, pairs};
 ghost use Rattle.obs_exchange.specs.Laws.{IsThawed};
 ghost use Rattle.obs_exchange.specs.Longest.{IsLongest};
-ghost use Rattle.obs_first.specs.Deciding.{IsPrepared};
+ghost use Rattle.obs_first.specs.Deciding.{IsReady};
 ghost use Rattle.obs_first.specs.First.{first_pairs};
 
 use crate::decide::decide;
 use obs_assign::{Assignment, Steps};
-use obs_exchange::{Work, close};
+use obs_exchange::{Over, Work, close};
 use obs_graph::Graph;
 use obs_meter::Meters;
 use std::sync::ledger::Ledger;
@@ -53,7 +53,7 @@ fn prepare<L: Ledger>(
     requires in_range { AreInRange g.now ms.now.touches }
     requires room { HasRoomFor work.old.sizes g.now ms.now.touches }
     ensures same { a.new ≡ a.old }
-    ensures prepared { IsPrepared g.now ms.now.touches a.old work.new (length (pairs a.old)) }
+    ensures ready { IsReady g.now ms.now.touches a.new work.new (length (pairs a.old)) }
     ensures same_sizes { work.new.sizes ≡ work.old.sizes }
 {
     close(g, ms, a, work, steps);
@@ -87,9 +87,13 @@ pub fn first<L: Ledger>(
     let _ = g.vertices();
     let rank = thaw(a);
     prepare(g, ms, a, work, steps);
+    let over = Over {
+        graph: g,
+        meters: ms,
+    };
     let mut taken = 0;
     for m in 0..ms.count() {
-        taken = decide(g, ms, a, m, rank, taken, work, steps);
+        taken = decide(&over, a, m, rank, taken, work, steps);
     }
     let _ = thaw(a);
 }

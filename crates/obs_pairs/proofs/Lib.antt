@@ -9,3 +9,4 @@ pub mod Naming
 pub mod Mapped
 pub mod Splitting
 pub mod Halved
+pub mod Moving

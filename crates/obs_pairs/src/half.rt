@@ -1,17 +1,13 @@
 // Searches in which some of the meters without a pair are lost.
 ghost use Rattle.std.specs.Prelude.{◌≡◌, ◌<◌, ◌^◌, if◌then◌else◌, length, slice_index_or};
-ghost use Rattle.obs_graph.specs.Positions.{AreBranches};
 ghost use Rattle.obs_meter.specs.Lost.{losing};
-ghost use Rattle.obs_meter.specs.Sizes.{HasRoomFor};
-ghost use Rattle.obs_meter.specs.Touches.{AreInRange};
 ghost use Rattle.obs_exchange.specs.declared.Sources.TheVariants.{All};
 ghost use Rattle.obs_exchange.specs.Found.{HasClosed};
-ghost use Rattle.obs_exchange.specs.Longest.{IsLongest};
+ghost use Rattle.obs_pairs.specs.Moved.{MaySearch};
 ghost use Rattle.obs_pairs.specs.Split.{is_half};
 
 use obs_assign::{Assignment, Steps};
-use obs_exchange::{Work, close};
-use obs_graph::Graph;
+use obs_exchange::{Over, Work, close};
 use obs_meter::{Meters, Touch};
 use std::sync::ledger::Ledger;
 
@@ -63,8 +59,7 @@ pub(crate) fn restore(ms: &Meters, left: &mut Meters)
 /// Searches once more, where half of the meters without a pair are lost: those whose number lies in the lower half of its
 /// remainder by twice the step, or those whose number doesn't.
 pub(crate) fn reach_from<L: Ledger>(
-    g: &Graph,
-    ms: &Meters,
+    over: &Over<'_>,
     a: &mut Assignment,
     left: &mut Meters,
     exchange: &mut Work,
@@ -72,19 +67,17 @@ pub(crate) fn reach_from<L: Ledger>(
     lows: bool,
     steps: &mut Steps<L>,
 )
-    requires branches { AreBranches g.now.vertices g.now.ends }
-    requires longest { IsLongest g.now ms.now.touches a.old }
-    requires in_range { AreInRange g.now ms.now.touches }
-    requires room { HasRoomFor exchange.old.sizes g.now ms.now.touches }
-    requires count { length left.old.touches ≡ length ms.now.touches }
+    requires may { MaySearch over.now.graph.now over.now.meters.now.touches a.old exchange.old }
+    requires count { length left.old.touches ≡ length over.now.meters.now.touches }
     requires step { 0 < step }
     requires low { step < 2 ^ 32 }
     ensures same { a.new ≡ a.old }
-    ensures left { left.new ≡ record left.old { touches = losing (is_half a.old step lows) ms.now.touches } }
-    ensures closed { HasClosed g.now.ends (losing (is_half a.old step lows) ms.now.touches) All a.old a.old
-        exchange.new.reached }
+    ensures left { left.new
+        ≡ record left.old { touches = losing (is_half a.old step lows) over.now.meters.now.touches } }
+    ensures closed { HasClosed over.now.graph.now.ends (losing (is_half a.old step lows) over.now.meters.now.touches)
+        All a.old a.old exchange.new.reached }
     ensures same_sizes { exchange.new.sizes ≡ exchange.old.sizes }
 {
-    lose_half(ms, a, step, lows, left);
-    close(g, left, a, exchange, steps);
+    lose_half(over.meters, a, step, lows, left);
+    close(over.graph, left, a, exchange, steps);
 }

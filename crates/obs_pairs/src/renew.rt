@@ -1,15 +1,12 @@
 // Other pairs, that leave meters without one whose class isn't known yet.
 ghost use Rattle.std.specs.Prelude.{◌≡◌, length};
 ghost use Rattle.obs_meter.specs.Lost.{losing};
-ghost use Rattle.obs_meter.specs.Sizes.{HasRoomFor};
-ghost use Rattle.obs_meter.specs.Touches.{AreInRange};
-ghost use Rattle.obs_assign.specs.Assignment.{HasRoomOf, has_flag};
-ghost use Rattle.obs_exchange.specs.Longest.{IsLongest};
+ghost use Rattle.obs_assign.specs.Assignment.{has_flag};
+ghost use Rattle.obs_pairs.specs.Moved.{IsMoved, IsReady};
 
 use crate::half::{restore, touch_left};
 use obs_assign::{Assignment, Steps};
-use obs_exchange::{Work, fill, regrow};
-use obs_graph::Graph;
+use obs_exchange::{Over, Work, fill, regrow};
 use obs_meter::Meters;
 use std::sync::ledger::Ledger;
 
@@ -27,27 +24,21 @@ fn lose_marked(ms: &Meters, marks: &[bool], left: &mut Meters)
 /// Makes the pairs anew, as many as before: first without the meters that wait, and then with these for what is lacking.
 /// So as many of them as can be have no pair.
 pub(crate) fn renew<L: Ledger>(
-    g: &Graph,
-    ms: &Meters,
+    over: &Over<'_>,
     a: &mut Assignment,
     left: &mut Meters,
     exchange: &mut Work,
     waiting: &[bool],
     steps: &mut Steps<L>,
 )
-    requires longest { IsLongest g.now ms.now.touches a.old }
-    requires in_range { AreInRange g.now ms.now.touches }
-    requires room { HasRoomFor exchange.old.sizes g.now ms.now.touches }
-    requires left { left.old.touches ≡ ms.now.touches }
-    requires waiting { length waiting.now ≡ length ms.now.touches }
-    ensures longest { IsLongest g.now ms.now.touches a.new }
-    ensures left { left.new ≡ left.old }
-    ensures same_room { HasRoomOf a.old a.new }
-    ensures same_sizes { exchange.new.sizes ≡ exchange.old.sizes }
+    requires ready { IsReady over.now.graph.now over.now.meters.now.touches a.old left.old exchange.old }
+    requires waiting { length waiting.now ≡ length over.now.meters.now.touches }
+    ensures moved { IsMoved over.now.graph.now over.now.meters.now.touches
+        a.old a.new left.old left.new exchange.old exchange.new }
 {
     let most = a.length();
-    lose_marked(ms, waiting, left);
-    fill(g, left, a, most, exchange, steps);
-    restore(ms, left);
-    let _ = regrow(g, ms, a, most, exchange, steps);
+    lose_marked(over.meters, waiting, left);
+    fill(over.graph, left, a, most, exchange, steps);
+    restore(over.meters, left);
+    let _ = regrow(over.graph, over.meters, a, most, exchange, steps);
 }

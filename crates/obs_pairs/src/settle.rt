@@ -1,11 +1,8 @@
 // Classes, settled one after the other.
 ghost use Rattle.std.specs.Prelude.{◌≡◌, ◌&&◌, ◌<◌, ◌≤◌, ◌^◌, if◌then◌else◌, ℕ, not, length, slice_index, take};
-ghost use Rattle.obs_graph.specs.Positions.{AreBranches};
-ghost use Rattle.obs_meter.specs.Sizes.{HasRoomFor};
-ghost use Rattle.obs_meter.specs.Touches.{AreInRange};
-ghost use Rattle.obs_assign.specs.Assignment.{HasRoomOf, has_flag};
+ghost use Rattle.obs_assign.specs.Assignment.{has_flag};
 ghost use Rattle.obs_exchange.specs.Blank.{AreNumbers};
-ghost use Rattle.obs_exchange.specs.Longest.{IsLongest};
+ghost use Rattle.obs_pairs.specs.Moved.{IsMoved, IsReady};
 ghost use Rattle.obs_pairs.specs.Partners.{classes_of};
 ghost use Rattle.obs_pairs.specs.Settled.{AreKeyed, AreSettled};
 
@@ -13,8 +10,7 @@ use crate::lacking::search_without;
 use crate::name::name_all;
 use crate::rounds::split_in_rounds;
 use obs_assign::{Assignment, Steps};
-use obs_exchange::{Work, close};
-use obs_graph::Graph;
+use obs_exchange::{Over, Work, close};
 use obs_meter::Meters;
 use std::sync::ledger::Ledger;
 
@@ -58,8 +54,7 @@ fn settle(marks: &[bool], m: u32, waiting: &mut [bool], list: &mut [u32])
 
 // Settles the class of each waiting meter, one after the other.
 fn settle_all<L: Ledger>(
-    g: &Graph,
-    ms: &Meters,
+    over: &Over<'_>,
     a: &mut Assignment,
     left: &mut Meters,
     exchange: &mut Work,
@@ -67,21 +62,16 @@ fn settle_all<L: Ledger>(
     list: &mut [u32],
     steps: &mut Steps<L>,
 )
-    requires branches { AreBranches g.now.vertices g.now.ends }
-    requires longest { IsLongest g.now ms.now.touches a.old }
-    requires in_range { AreInRange g.now ms.now.touches }
-    requires room { HasRoomFor exchange.old.sizes g.now ms.now.touches }
-    requires left { left.old.touches ≡ ms.now.touches }
-    requires settled { AreSettled g.now.vertices g.now.ends ms.now.touches waiting.old list.old 0 }
-    ensures keyed { AreKeyed g.now.vertices g.now.ends ms.now.touches list.new }
-    ensures longest { IsLongest g.now ms.now.touches a.new }
-    ensures left { left.new ≡ left.old }
-    ensures same_room { HasRoomOf a.old a.new }
-    ensures same_sizes { exchange.new.sizes ≡ exchange.old.sizes }
+    requires ready { IsReady over.now.graph.now over.now.meters.now.touches a.old left.old exchange.old }
+    requires settled { AreSettled over.now.graph.now.vertices over.now.graph.now.ends
+        over.now.meters.now.touches waiting.old list.old 0 }
+    ensures keyed { AreKeyed over.now.graph.now.vertices over.now.graph.now.ends over.now.meters.now.touches list.new }
+    ensures moved { IsMoved over.now.graph.now over.now.meters.now.touches
+        a.old a.new left.old left.new exchange.old exchange.new }
 {
-    for m in 0..ms.count() {
+    for m in 0..over.meters.count() {
         if waiting[m as usize] {
-            search_without(g, ms, a, m, left, exchange, steps);
+            search_without(over, a, m, left, exchange, steps);
             settle(exchange.reached(), m, waiting, list);
         }
     }
@@ -89,8 +79,7 @@ fn settle_all<L: Ledger>(
 
 // Finds the redundant meters, and settles their classes.
 fn find_all<L: Ledger>(
-    g: &Graph,
-    ms: &Meters,
+    over: &Over<'_>,
     a: &mut Assignment,
     left: &mut Meters,
     exchange: &mut Work,
@@ -98,31 +87,24 @@ fn find_all<L: Ledger>(
     list: &mut [u32],
     steps: &mut Steps<L>,
 )
-    requires branches { AreBranches g.now.vertices g.now.ends }
-    requires longest { IsLongest g.now ms.now.touches a.old }
-    requires few { length ms.now.touches < 2 ^ 32 }
-    requires in_range { AreInRange g.now ms.now.touches }
-    requires room { HasRoomFor exchange.old.sizes g.now ms.now.touches }
-    requires left { left.old.touches ≡ ms.now.touches }
-    requires waiting { length waiting.old ≡ length ms.now.touches }
-    requires list { length list.old ≡ length ms.now.touches }
-    ensures classes { list.new ≡ classes_of g.now.vertices g.now.ends ms.now.touches }
-    ensures longest { IsLongest g.now ms.now.touches a.new }
-    ensures left { left.new ≡ left.old }
-    ensures same_room { HasRoomOf a.old a.new }
-    ensures same_sizes { exchange.new.sizes ≡ exchange.old.sizes }
+    requires ready { IsReady over.now.graph.now over.now.meters.now.touches a.old left.old exchange.old }
+    requires waiting { length waiting.old ≡ length over.now.meters.now.touches }
+    requires list { length list.old ≡ length over.now.meters.now.touches }
+    ensures classes { list.new
+        ≡ classes_of over.now.graph.now.vertices over.now.graph.now.ends over.now.meters.now.touches }
+    ensures moved { IsMoved over.now.graph.now over.now.meters.now.touches
+        a.old a.new left.old left.new exchange.old exchange.new }
 {
-    close(g, ms, a, exchange, steps);
+    close(over.graph, over.meters, a, exchange, steps);
     begin(exchange.reached(), waiting, list);
-    split_in_rounds(g, ms, a, left, exchange, waiting, list, steps);
-    settle_all(g, ms, a, left, exchange, waiting, list, steps);
-    name_all(g, ms, list);
+    split_in_rounds(over, a, left, exchange, waiting, list, steps);
+    settle_all(over, a, left, exchange, waiting, list, steps);
+    name_all(over.graph, over.meters, list);
 }
 
 /// Writes the class of each meter. The flags say afterwards which meters' classes aren't known: none.
 pub(crate) fn list_classes<L: Ledger>(
-    g: &Graph,
-    ms: &Meters,
+    over: &Over<'_>,
     a: &mut Assignment,
     left: &mut Meters,
     exchange: &mut Work,
@@ -130,23 +112,17 @@ pub(crate) fn list_classes<L: Ledger>(
     list: &mut [u32],
     steps: &mut Steps<L>,
 )
-    requires branches { AreBranches g.now.vertices g.now.ends }
-    requires longest { IsLongest g.now ms.now.touches a.old }
-    requires in_range { AreInRange g.now ms.now.touches }
-    requires room { HasRoomFor exchange.old.sizes g.now ms.now.touches }
-    requires left { left.old.touches ≡ ms.now.touches }
-    requires waiting { length ms.now.touches ≤ length waiting.old }
-    requires list { length ms.now.touches ≤ length list.old }
-    ensures classes { take (length ms.now.touches) list.new ≡ classes_of g.now.vertices g.now.ends ms.now.touches }
-    ensures longest { IsLongest g.now ms.now.touches a.new }
-    ensures left { left.new ≡ left.old }
-    ensures same_room { HasRoomOf a.old a.new }
-    ensures same_sizes { exchange.new.sizes ≡ exchange.old.sizes }
+    requires ready { IsReady over.now.graph.now over.now.meters.now.touches a.old left.old exchange.old }
+    requires waiting { length over.now.meters.now.touches ≤ length waiting.old }
+    requires list { length over.now.meters.now.touches ≤ length list.old }
+    ensures classes { take (length over.now.meters.now.touches) list.new
+        ≡ classes_of over.now.graph.now.vertices over.now.graph.now.ends over.now.meters.now.touches }
+    ensures moved { IsMoved over.now.graph.now over.now.meters.now.touches
+        a.old a.new left.old left.new exchange.old exchange.new }
 {
-    let n = ms.count() as usize;
+    let n = over.meters.count() as usize;
     find_all(
-        g,
-        ms,
+        over,
         a,
         left,
         exchange,

@@ -11,7 +11,7 @@ use crate::memory::NoMemory;
 use crate::settle::list_classes;
 use crate::shared::mark_shared;
 use obs_assign::{Assignment, Steps};
-use obs_exchange::Work;
+use obs_exchange::{Over, Work};
 use obs_graph::Graph;
 use obs_meter::Meters;
 use std::alloc::Global;
@@ -122,10 +122,14 @@ pub fn find_classes<L: Ledger>(
     ensures same_sizes { work.new.sizes ≡ work.old.sizes }
 {
     let _ = g.vertices();
+    let count = ms.count() as usize;
+    let over = Over {
+        graph: g,
+        meters: ms,
+    };
     work.left.refill(ms.touches());
     list_classes(
-        g,
-        ms,
+        &over,
         a,
         &mut work.left,
         &mut work.exchange,
@@ -133,7 +137,7 @@ pub fn find_classes<L: Ledger>(
         &mut work.list,
         steps,
     );
-    work.count = ms.count() as usize;
+    work.count = count;
     mark_shared(&work.list[..work.count], &mut work.shared);
 }
 

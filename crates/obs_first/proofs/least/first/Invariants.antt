@@ -1,15 +1,13 @@
 use Rattle.std.proofs.Common.{◌≡◌, length}
-use Rattle.obs_assign.specs.Assignment.{HasRoomOf, IsWhole, StandsOver}
-use Rattle.obs_first.specs.Deciding.{IsDecided, IsPrepared, frozen_pairs}
+use Rattle.obs_assign.specs.Assignment.{HasRoomOf}
+use Rattle.obs_first.specs.Deciding.{IsDecided, IsReady, frozen_pairs}
 use Rattle.obs_first.proofs.least.first.Given as goal
 
 abbrev pub invariant-loop-m : goal.invariant-loop-m
 invariant-loop-m g l = record {
   decided : IsDecided l.g.ends l.ms.touches l.a l.m l.rank;
   taken : l.taken ≡ length (frozen_pairs l.a);
-  whole : IsWhole l.a;
-  stands : StandsOver l.a l.g l.ms.touches;
+  ready : IsReady l.g l.ms.touches l.a l.work l.rank;
   same_room : HasRoomOf l.fn.a l.a;
   same_sizes : l.work.sizes ≡ l.fn.work.sizes;
-  prepared : IsPrepared l.g l.ms.touches l.a l.work l.rank;
 }

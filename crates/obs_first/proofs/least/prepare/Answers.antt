@@ -6,39 +6,30 @@ use Rattle.obs_exchange.specs.Closed.{IsLeastClosedAt}
 use Rattle.obs_exchange.specs.Found.{Work}
 use Rattle.obs_exchange.specs.Noting.{AreNoted}
 use Rattle.obs_exchange.proofs.Lengthening.{room_again}
-use Rattle.obs_first.specs.Deciding.{AreCriticalBeside}
+use Rattle.obs_first.specs.Deciding.{AreCriticalBeside, IsReady}
 use Rattle.obs_first.proofs.Beside.{AreCriticalBeside-loose, AreCriticalBeside-narrowed}
 use Rattle.obs_first.proofs.least.prepare.Goals as goal
 
-pub close-requires-clause-longest : goal.close-requires-clause-longest
-close-requires-clause-longest g c = c.requires.longest
+pub close-requires : goal.close-requires
+close-requires g c = record { longest = c.requires.longest; in_range = c.requires.in_range; room = c.requires.room }
 
-pub close-requires-clause-in_range : goal.close-requires-clause-in_range
-close-requires-clause-in_range g c = c.requires.in_range
+pub note_sources-requires : goal.note_sources-requires
+note_sources-requires g c =
+    let sizes = ap (λ (w : Work). w.sizes) c.narrow.ensures.same ∙ (ap (λ (w : Work). w.sizes) c.loosen.ensures.same ∙ c.close.ensures.same_sizes) in
+    record {
+      stands = subst (λ (x : Assignment). StandsOver x c.args.g.now c.args.ms.now.touches) (sym c.close.ensures.same) c.requires.longest.stands;
+      in_range = c.requires.in_range;
+      room = room_again c.args.g.now c.args.ms.now.touches c.args.work.now.sizes c.narrow.new.self.sizes sizes c.requires.room;
+    }
 
-pub close-requires-clause-room : goal.close-requires-clause-room
-close-requires-clause-room g c = c.requires.room
+pub note_near-requires : goal.note_near-requires
+note_near-requires g c = record {
+  in_range = c.requires.in_range;
+  meters = subst (λ (x : Assignment). length c.args.ms.now.touches ≡ length x.slots) (sym c.close.ensures.same) c.requires.longest.stands.meters;
+}
 
-pub note_sources-requires-clause-stands : goal.note_sources-requires-clause-stands
-note_sources-requires-clause-stands g c = subst (λ (x : Assignment). StandsOver x c.args.g.now c.args.ms.now.touches) (sym c.close.ensures.same) c.requires.longest.stands
-
-pub note_sources-requires-clause-in_range : goal.note_sources-requires-clause-in_range
-note_sources-requires-clause-in_range g c = c.requires.in_range
-
-pub note_sources-requires-clause-room : goal.note_sources-requires-clause-room
-note_sources-requires-clause-room g c =
-    room_again c.args.g.now c.args.ms.now.touches c.args.work.now.sizes c.narrow.new.self.sizes
-    (ap (λ (w : Work). w.sizes) c.narrow.ensures.same ∙ (ap (λ (w : Work). w.sizes) c.loosen.ensures.same ∙ c.close.ensures.same_sizes)) c.requires.room
-
-pub returns-clause-same : goal.returns-clause-same
-returns-clause-same g c = c.close.ensures.same
-
-pub returns-clause-same_sizes : goal.returns-clause-same_sizes
-returns-clause-same_sizes g c =
-    ap (λ (w : Work). w.sizes) c.note_near.ensures.same ∙ (c.note_sources.ensures.same_sizes ∙ (ap (λ (w : Work). w.sizes) c.narrow.ensures.same ∙ (ap (λ (w : Work). w.sizes) c.loosen.ensures.same ∙ c.close.ensures.same_sizes)))
-
-pub returns-clause-prepared : goal.returns-clause-prepared
-returns-clause-prepared g c =
+pub returns : goal.returns
+returns g c =
     let ends = c.args.g.now.ends in
     let touches = c.args.ms.now.touches in
     let a = c.args.a.now in
@@ -53,17 +44,22 @@ returns-clause-prepared g c =
     (subst (λ (r : List Bool). IsLeastClosedAt ends touches All c.close.new.a (has_flag r)) (sym reached) f.least) in
     let many : length touches ≤ length loosened.reached = omega (arith, ap length reached, f.flags) in
     let few : length touches ≤ c.close.new.work.sizes.meters = omega (arith, ap (λ (s : Sizes). s.meters) c.close.ensures.same_sizes, c.requires.room.meters) in
-    rw c.note_near.ensures.same (record {
-      room = room_again c.args.g.now touches c.args.work.now.sizes c.note_sources.new.self.sizes (c.note_sources.ensures.same_sizes ∙ sizes) c.requires.room;
-      noted = subst (λ (x : Assignment). AreNoted ends touches All x c.note_sources.new.self.noted) same c.note_sources.ensures.noted;
-      copied = c.note_sources.ensures.copied;
-      critical = subst (λ (r : List Bool). AreCriticalBeside ends touches a r (length (pairs a))) (sym c.note_sources.ensures.same_loose)
-          (AreCriticalBeside-narrowed c.args.g.now touches a (length (pairs a)) c.requires.branches l.whole l.stands (omega arith) loosened.loose loosened.reached c.narrow.new.self.loose many c.narrow.ensures.loose
-          least.closed least.holds (AreCriticalBeside-loose ends touches a loosened.loose (length (pairs a)) c.close.new.work.sizes.meters few c.loosen.ensures.loose));
-    })
-
-pub note_near-requires-clause-in_range : goal.note_near-requires-clause-in_range
-note_near-requires-clause-in_range g c = c.requires.in_range
-
-pub note_near-requires-clause-meters : goal.note_near-requires-clause-meters
-note_near-requires-clause-meters g c = subst (λ (x : Assignment). length c.args.ms.now.touches ≡ length x.slots) (sym c.close.ensures.same) c.requires.longest.stands.meters
+    let sources = c.note_sources.ensures in
+    record {
+      same = same;
+      ready = rw c.note_near.ensures.same (subst (λ (x : Assignment). IsReady c.args.g.now touches x c.note_sources.new.self (length (pairs a))) (sym same) (record {
+        branches = c.requires.branches;
+        in_range = c.requires.in_range;
+        stands = l.stands;
+        whole = l.whole;
+        prepared = record {
+          room = room_again c.args.g.now touches c.args.work.now.sizes c.note_sources.new.self.sizes (sources.same_sizes ∙ sizes) c.requires.room;
+          noted = subst (λ (x : Assignment). AreNoted ends touches All x c.note_sources.new.self.noted) same sources.noted;
+          copied = sources.copied;
+          critical = subst (λ (r : List Bool). AreCriticalBeside ends touches a r (length (pairs a))) (sym sources.same_loose)
+              (AreCriticalBeside-narrowed c.args.g.now touches a (length (pairs a)) c.requires.branches l.whole l.stands (omega arith) loosened.loose loosened.reached c.narrow.new.self.loose many c.narrow.ensures.loose
+              least.closed least.holds (AreCriticalBeside-loose ends touches a loosened.loose (length (pairs a)) c.close.new.work.sizes.meters few c.loosen.ensures.loose));
+        };
+      }));
+      same_sizes = ap (λ (w : Work). w.sizes) c.note_near.ensures.same ∙ (sources.same_sizes ∙ sizes);
+    }

@@ -7,210 +7,133 @@ use Rattle.obs_exchange.specs.Found.{Work}
 use Rattle.obs_exchange.specs.Noting.{AreNoted, Noted}
 use Rattle.obs_exchange.proofs.Lengthening.{rooms}
 use Rattle.obs_exchange.proofs.Walking.{touched_there}
-use Rattle.obs_meter.specs.Sizes.{Sizes}
 use Rattle.obs_matroid.proofs.Lists.{clash}
-use Rattle.obs_first.specs.Deciding.{AreEnoughFor, HasRefused, IsPrepared, IsUnderWay, KeepsFrozen}
+use Rattle.obs_first.specs.Deciding.{AreEnoughFor, GoesOn, HasRefused, IsUnderWay}
 use Rattle.obs_first.proofs.Aside.{HasRefused-kept, pinned_long}
 use Rattle.obs_first.proofs.Beside.{IsPrepared-more}
 use Rattle.obs_first.proofs.Frozen.{frozen_same}
 use Rattle.obs_first.proofs.Taking.{AreNoted-pinned, HasRefused-joined}
 use Rattle.obs_first.proofs.trying.take_branch.Goals as goal
 
-pub spare-requires-clause-present : goal.spare-requires-clause-present
-spare-requires-clause-present g c = touched_there c.args.g.now.ends c.args.ms.now.touches c.args.m c.args.e c.requires.touched
+pub returns-then-not-makes_way : goal.returns-then-not-makes_way
+returns-then-not-makes_way g c = record { taken = c.if-not-makes_way.ensures.way; goes_on = c.makes_way.ensures.moved.goes_on }
 
-pub returns-in_default-clause-taken : goal.returns-in_default-clause-taken
-returns-in_default-clause-taken g c =
-    let ends = c.args.g.now.ends in
-    let touches = c.args.ms.now.touches in
-    let a = c.args.a.now in
-    let b = c.makes_way.new.a in
-    let w = c.makes_way.ensures in
-    let r = HasRefused-joined c.args.g.now touches c.requires.branches b c.args.m c.args.e (frozen_same a b w.frozen c.args.m ∙ c.requires.thawed) c.args.rank
-    (λ p. cc (c.in_default.ensures.may.1 p)) in
-    subst (λ (d : Assignment). HasRefused ends touches a d c.args.m c.args.e c.args.rank × IsUnderWay ends touches d c.args.m c.args.rank) (sym c.spare.ensures.same) (
-      HasRefused-kept ends touches a b c.args.m c.args.e c.args.rank w.frozen w.keeps r,
-      inl c.if-not-makes_way.ensures.way.enough,
-    )
-
-pub returns-clause-taken : goal.returns-clause-taken
-returns-clause-taken g c =
-    let ends = c.args.g.now.ends in
-    let touches = c.args.ms.now.touches in
-    let a = c.args.a.now in
-    let b = c.makes_way.new.a in
-    let s = c.spare.new.self in
-    let w = c.makes_way.ensures in
-    let same = sym c.spare.ensures.same in
-    let p = c.pin_for.ensures.pinned in
-    let m = c.args.m in
-    let low : m < length s.slots = subst (λ (d : Assignment). m < length d.slots) same (omega (arith, w.stands.meters, c.requires.m)) in
+pub spare-requires : goal.spare-requires
+spare-requires g c =
+    let s = c.makes_way.ensures.moved.goes_on.ready.stands in
+    let meters = s.meters in
+    let low = c.requires.may.low in
     record {
-      has = pin_taken s ends m c.args.e c.in-Some.x c.pin_for.new.self.slots p low;
-      frozen = c.pin_for.ensures.frozen ∙ (ap (λ (d : Assignment). set d.frozen m true) c.spare.ensures.same ∙ ap (λ f. set f m true) w.frozen);
-      long_enough = pinned_long c.args.g.now touches s c.pin_for.new.self c.requires.branches
-          (subst (λ (d : Assignment). IsWhole d) same w.whole) (subst (λ (d : Assignment). StandsOver d c.args.g.now touches) same w.stands) m c.args.e c.in-Some.x c.args.rank low c.requires.touched
-          (subst (λ (d : Assignment). is_frozen d m ≡ false) same (frozen_same a b w.frozen m ∙ c.requires.thawed))
-          (subst (λ (d : Assignment). IsSpare ends d.slots d.frozen m c.args.e c.in-Some.x) same c.in-Some.ensures.spare)
-          (subst (λ (d : Assignment). AreEnoughFor d m c.args.e c.args.rank) same c.if-not-makes_way.ensures.way) p;
+      stands = s.forest;
+      m = omega (arith, meters, low);
+      present = touched_there c.args.over.now.graph.now.ends c.args.over.now.meters.now.touches c.args.m c.args.e c.requires.touched;
     }
 
-pub returns-clause-keeps : goal.returns-clause-keeps
-returns-clause-keeps g c =
+pub returns-in_default : goal.returns-in_default
+returns-in_default g c =
+    let graph = c.args.over.now.graph.now in
+    let touches = c.args.over.now.meters.now.touches in
     let a = c.args.a.now in
     let b = c.makes_way.new.a in
-    let s = c.spare.new.self in
-    let w = c.makes_way.ensures in
-    let same = c.spare.ensures.same in
-    let p = c.pin_for.ensures.pinned in
-    let m = c.args.m in
-    let low : m < length s.slots = subst (λ (d : Assignment). m < length d.slots) (sym same) (omega (arith, w.stands.meters, c.requires.m)) in
-    λ k f.
-    let there : is_frozen s k ≡ true = ap (λ (d : Assignment). is_frozen d k) same ∙ (frozen_same a b w.frozen k ∙ f) in
-    pin_kept s c.args.g.now.ends m c.args.e c.in-Some.x c.pin_for.new.self.slots p low k (λ y. clash f (ap (is_frozen a) y ∙ c.requires.thawed)) (λ y. clash there (ap (is_frozen s) y ∙ p.thawed))
-    ∙ (ap (λ (d : Assignment). branch_at d k) same ∙ w.keeps k f)
+    let h = c.makes_way.ensures.moved in
+    let keeps = h.goes_on.keeps in
+    let thawed = frozen_same a b h.frozen c.args.m ∙ c.requires.may.thawed in
+    let r = HasRefused-joined graph touches h.goes_on.ready.branches b c.args.m c.args.e thawed c.args.rank (λ p. cc (c.in_default.ensures.may.1 p)) in
+    let same = sym c.spare.ensures.same in
+    record {
+      taken = subst (λ (d : Assignment). HasRefused graph.ends touches a d c.args.m c.args.e c.args.rank × IsUnderWay graph.ends touches d c.args.m c.args.rank) same (
+        HasRefused-kept graph.ends touches a b c.args.m c.args.e c.args.rank h.frozen keeps r,
+        inl c.if-not-makes_way.ensures.way.enough,
+      );
+      goes_on = subst (λ (d : Assignment). GoesOn graph touches a d c.args.work.now c.makes_way.new.work c.args.rank) same h.goes_on;
+    }
 
-pub returns-clause-prepared : goal.returns-clause-prepared
-returns-clause-prepared g c =
-    let ends = c.args.g.now.ends in
-    let touches = c.args.ms.now.touches in
-    let a = c.args.a.now in
-    let b = c.makes_way.new.a in
-    let s = c.spare.new.self in
-    let w = c.makes_way.ensures in
-    let n = c.makes_way.new.work.noted in
+pub pin_for-requires : goal.pin_for-requires
+pin_for-requires g c =
+    let graph = c.args.over.now.graph.now in
+    let touches = c.args.over.now.meters.now.touches in
+    let h = c.makes_way.ensures.moved in
+    let s = h.goes_on.ready.stands in
+    let meters = s.meters in
+    let low = c.requires.may.low in
     let m = c.args.m in
     let same = sym c.spare.ensures.same in
-    let h : AreNoted ends touches All s n = subst (λ (d : Assignment). AreNoted ends touches All d n) same w.prepared.noted in
-    let low : m < length s.slots = subst (λ (d : Assignment). m < length d.slots) same (omega (arith, w.stands.meters, c.requires.m)) in
+    record {
+      stands = subst (λ (d : Assignment). StandsOver d graph touches) same s;
+      m = subst (λ (d : Assignment). m < length d.slots) same (omega (arith, meters, low));
+      touched = c.requires.touched;
+      thawed = subst (λ (d : Assignment). is_frozen d m ≡ false) same (frozen_same c.args.a.now c.makes_way.new.a h.frozen m ∙ c.requires.may.thawed);
+      spare = subst (λ (d : Assignment). IsSpare graph.ends d.slots d.frozen m c.args.e c.in-Some.x) same c.in-Some.ensures.spare;
+    }
+
+pub returns : goal.returns
+returns g c =
+    let graph = c.args.over.now.graph.now in
+    let ends = graph.ends in
+    let touches = c.args.over.now.meters.now.touches in
+    let a = c.args.a.now in
+    let b = c.makes_way.new.a in
+    let s = c.spare.new.self in
+    let d = c.pin_for.new.self in
+    let v = c.makes_way.new.work in
+    let w = c.note_near.new.self in
+    let m = c.args.m in
+    let e = c.args.e in
+    let x = c.in-Some.x in
+    let h = c.makes_way.ensures.moved in
+    let k = h.goes_on in
+    let p = c.pin_for.ensures.pinned in
+    let same = c.spare.ensures.same in
+    let back = sym same in
+    let meters = k.ready.stands.meters in
+    let below = c.requires.may.low in
+    let low : m < length s.slots = subst (λ (d : Assignment). m < length d.slots) back (omega (arith, meters, below)) in
+    let thawed : is_frozen b m ≡ false = frozen_same a b h.frozen m ∙ c.requires.may.thawed in
+    let there : (y : ℕ) → is_frozen b y ≡ true → is_frozen s y ≡ true = λ y f. ap (λ (d : Assignment). is_frozen d y) same ∙ f in
+    let other : (y : ℕ) → is_frozen b y ≡ true → y ≡ m → ⊥ = λ y f q. clash f (ap (is_frozen b) q ∙ thawed) in
+    let kept : (y : ℕ) → is_frozen b y ≡ true → branch_at d y ≡ branch_at b y = λ y f. pin_kept s ends m e x d.slots p low y (other y f) (λ q. clash (there y f) (ap (is_frozen s) q ∙ p.thawed)) ∙ ap (λ (d : Assignment). branch_at d y) same in
     let first = c.note.ensures.noted in
     let second = c.note_near.ensures.same ∙ c.note-2.ensures.noted in
-    let p = c.pin_for.ensures.pinned in
-    let thawed : is_frozen b m ≡ false = frozen_same a b w.frozen m ∙ c.requires.thawed in
-    let there : (k : ℕ) → is_frozen b k ≡ true → is_frozen s k ≡ true = λ k f. ap (λ (d : Assignment). is_frozen d k) c.spare.ensures.same ∙ f in
-    let other : (k : ℕ) → is_frozen b k ≡ true → k ≡ m → ⊥ = λ k f y. clash f (ap (is_frozen b) y ∙ thawed) in
-    IsPrepared-more c.args.g.now touches b c.pin_for.new.self c.makes_way.new.work c.note_near.new.self c.args.rank
-    (ap (λ (v : Work). v.sizes) second ∙ ap (λ (v : Work). v.sizes) first) (ap (λ (v : Work). v.touches) second ∙ ap (λ (v : Work). v.touches) first) (ap (λ (v : Work). v.loose) second ∙ ap (λ (v : Work). v.loose) first)
-    (subst (λ (k : Noted). AreNoted ends touches All c.pin_for.new.self k) (sym (ap (λ (v : Work). v.noted) second ∙ ap (λ (k : Noted). record k { flags = set k.flags m false }) (ap (λ (v : Work). v.noted) first)))
-    (AreNoted-pinned ends touches s c.pin_for.new.self m c.args.e c.in-Some.x n low p c.note.ensures.low h))
-    (λ k f.
-    pin_kept s ends m c.args.e c.in-Some.x c.pin_for.new.self.slots p low k (other k f) (λ y. clash (there k f) (ap (is_frozen s) y ∙ p.thawed))
-    ∙ ap (λ (d : Assignment). branch_at d k) c.spare.ensures.same)
-    w.prepared
-    (λ k f. ap (λ (l : List Bool). has_flag l k) c.pin_for.ensures.frozen ∙ (get_or-set_other s.frozen m k true false (other k f) ∙ there k f))
-
-pub makes_way-requires-clause-stands : goal.makes_way-requires-clause-stands
-makes_way-requires-clause-stands g c = c.requires.stands
-
-pub makes_way-requires-clause-in_range : goal.makes_way-requires-clause-in_range
-makes_way-requires-clause-in_range g c = c.requires.in_range
-
-pub makes_way-requires-clause-m : goal.makes_way-requires-clause-m
-makes_way-requires-clause-m g c = c.requires.m
-
-pub makes_way-requires-clause-thawed : goal.makes_way-requires-clause-thawed
-makes_way-requires-clause-thawed g c = c.requires.thawed
-
-pub makes_way-requires-clause-touched : goal.makes_way-requires-clause-touched
-makes_way-requires-clause-touched g c = c.requires.touched
-
-pub makes_way-requires-clause-under_way : goal.makes_way-requires-clause-under_way
-makes_way-requires-clause-under_way g c = c.requires.under_way
-
-pub spare-requires-clause-stands : goal.spare-requires-clause-stands
-spare-requires-clause-stands g c = c.makes_way.ensures.stands.forest
-
-pub spare-requires-clause-m : goal.spare-requires-clause-m
-spare-requires-clause-m g c = omega (arith, c.makes_way.ensures.stands.meters, c.requires.m)
-
-pub pin_for-requires-clause-stands : goal.pin_for-requires-clause-stands
-pin_for-requires-clause-stands g c = subst (λ (d : Assignment). StandsOver d c.args.g.now c.args.ms.now.touches) (sym c.spare.ensures.same) c.makes_way.ensures.stands
-
-pub pin_for-requires-clause-m : goal.pin_for-requires-clause-m
-pin_for-requires-clause-m g c = subst (λ (d : Assignment). c.args.m < length d.slots) (sym c.spare.ensures.same) (omega (arith, c.makes_way.ensures.stands.meters, c.requires.m))
-
-pub pin_for-requires-clause-touched : goal.pin_for-requires-clause-touched
-pin_for-requires-clause-touched g c = c.requires.touched
-
-pub pin_for-requires-clause-thawed : goal.pin_for-requires-clause-thawed
-pin_for-requires-clause-thawed g c = subst (λ (d : Assignment). is_frozen d c.args.m ≡ false) (sym c.spare.ensures.same) (frozen_same c.args.a.now c.makes_way.new.a c.makes_way.ensures.frozen c.args.m ∙ c.requires.thawed)
-
-pub pin_for-requires-clause-spare : goal.pin_for-requires-clause-spare
-pin_for-requires-clause-spare g c = subst (λ (d : Assignment). IsSpare c.args.g.now.ends d.slots d.frozen c.args.m c.args.e c.in-Some.x) (sym c.spare.ensures.same) c.in-Some.ensures.spare
+    let sizes : w.sizes ≡ v.sizes = ap (λ (v : Work). v.sizes) second ∙ ap (λ (v : Work). v.sizes) first in
+    let flags = ap (λ (v : Work). v.noted) second ∙ ap (λ (k : Noted). record k { flags = set k.flags m false }) (ap (λ (v : Work). v.noted) first) in
+    let noted = AreNoted-pinned ends touches s d m e x v.noted low p c.note.ensures.low (subst (λ (d : Assignment). AreNoted ends touches All d v.noted) back k.ready.prepared.noted) in
+    record {
+      taken = record {
+        has = pin_taken s ends m e x d.slots p low;
+        frozen = c.pin_for.ensures.frozen ∙ (ap (λ (d : Assignment). set d.frozen m true) same ∙ ap (λ f. set f m true) h.frozen);
+        long_enough = pinned_long graph touches s d k.ready.branches (subst (λ (d : Assignment). IsWhole d) back k.ready.whole) (subst (λ (d : Assignment). StandsOver d graph touches) back k.ready.stands) m e x c.args.rank low
+            c.requires.touched (subst (λ (d : Assignment). is_frozen d m ≡ false) back thawed) (subst (λ (d : Assignment). IsSpare ends d.slots d.frozen m e x) back c.in-Some.ensures.spare)
+            (subst (λ (d : Assignment). AreEnoughFor d m e c.args.rank) back c.if-not-makes_way.ensures.way) p;
+      };
+      goes_on = record {
+        ready = record {
+          branches = k.ready.branches;
+          in_range = k.ready.in_range;
+          stands = c.pin_for.ensures.stands;
+          whole = c.pin_for.ensures.whole;
+          prepared = IsPrepared-more graph touches b d v w c.args.rank sizes (ap (λ (v : Work). v.touches) second ∙ ap (λ (v : Work). v.touches) first) (ap (λ (v : Work). v.loose) second ∙ ap (λ (v : Work). v.loose) first)
+              (subst (λ (k : Noted). AreNoted ends touches All d k) (sym flags) noted) kept k.ready.prepared
+              (λ y f. ap (λ (l : List Bool). has_flag l y) c.pin_for.ensures.frozen ∙ (get_or-set_other s.frozen m y true false (other y f) ∙ there y f));
+        };
+        keeps = λ y f. kept y (frozen_same a b h.frozen y ∙ f) ∙ k.keeps y f;
+        same_room = rooms a b d k.same_room (subst (λ (x : Assignment). HasRoomOf x d) same c.pin_for.ensures.same_room);
+        same_sizes = sizes ∙ k.same_sizes;
+      };
+    }
 
 pub note-requires : goal.note-requires
 note-requires g c =
     let same = ap (λ (d : Assignment). length d.slots) c.spare.ensures.same in
-    let sizes = ap (λ (z : Sizes). z.meters) c.makes_way.ensures.same_sizes in
-    record { m = omega (arith, c.pin_for.ensures.pinned.low, same, c.makes_way.ensures.stands.meters, sizes, c.requires.prepared.room.meters) }
+    let k = c.makes_way.ensures.moved.goes_on.ready in
+    record { m = omega (arith, c.pin_for.ensures.pinned.low, same, k.stands.meters, k.prepared.room.meters) }
 
 pub note-requires-2 : goal.note-requires-2
 note-requires-2 g c =
     let sizes = ap (λ (v : Work). v.sizes.meters) c.note.ensures.noted in
-    let before = ap (λ (z : Sizes). z.meters) c.makes_way.ensures.same_sizes in
-    record { m = omega (arith, c.requires.m, sizes, before, c.requires.prepared.room.meters) }
-
-pub returns-then-not-makes_way-clause-taken : goal.returns-then-not-makes_way-clause-taken
-returns-then-not-makes_way-clause-taken g c = c.if-not-makes_way.ensures.way
-
-pub returns-then-not-makes_way-clause-keeps : goal.returns-then-not-makes_way-clause-keeps
-returns-then-not-makes_way-clause-keeps g c = c.makes_way.ensures.keeps
-
-pub returns-then-not-makes_way-clause-stands : goal.returns-then-not-makes_way-clause-stands
-returns-then-not-makes_way-clause-stands g c = c.makes_way.ensures.stands
-
-pub returns-then-not-makes_way-clause-whole : goal.returns-then-not-makes_way-clause-whole
-returns-then-not-makes_way-clause-whole g c = c.makes_way.ensures.whole
-
-pub returns-then-not-makes_way-clause-same_room : goal.returns-then-not-makes_way-clause-same_room
-returns-then-not-makes_way-clause-same_room g c = c.makes_way.ensures.same_room
-
-pub returns-then-not-makes_way-clause-same_sizes : goal.returns-then-not-makes_way-clause-same_sizes
-returns-then-not-makes_way-clause-same_sizes g c = c.makes_way.ensures.same_sizes
-
-pub returns-in_default-clause-keeps : goal.returns-in_default-clause-keeps
-returns-in_default-clause-keeps g c = subst (λ (d : Assignment). KeepsFrozen c.args.a.now d) (sym c.spare.ensures.same) c.makes_way.ensures.keeps
-
-pub returns-in_default-clause-stands : goal.returns-in_default-clause-stands
-returns-in_default-clause-stands g c = subst (λ (d : Assignment). StandsOver d c.args.g.now c.args.ms.now.touches) (sym c.spare.ensures.same) c.makes_way.ensures.stands
-
-pub returns-in_default-clause-whole : goal.returns-in_default-clause-whole
-returns-in_default-clause-whole g c = subst (λ (d : Assignment). IsWhole d) (sym c.spare.ensures.same) c.makes_way.ensures.whole
-
-pub returns-in_default-clause-same_room : goal.returns-in_default-clause-same_room
-returns-in_default-clause-same_room g c = subst (λ (d : Assignment). HasRoomOf c.args.a.now d) (sym c.spare.ensures.same) c.makes_way.ensures.same_room
-
-pub returns-in_default-clause-same_sizes : goal.returns-in_default-clause-same_sizes
-returns-in_default-clause-same_sizes g c = c.makes_way.ensures.same_sizes
-
-pub returns-clause-stands : goal.returns-clause-stands
-returns-clause-stands g c = c.pin_for.ensures.stands
-
-pub returns-clause-whole : goal.returns-clause-whole
-returns-clause-whole g c = c.pin_for.ensures.whole
-
-pub returns-clause-same_room : goal.returns-clause-same_room
-returns-clause-same_room g c = rooms c.args.a.now c.makes_way.new.a c.pin_for.new.self c.makes_way.ensures.same_room (subst (λ (d : Assignment). HasRoomOf d c.pin_for.new.self) c.spare.ensures.same c.pin_for.ensures.same_room)
-
-pub returns-clause-same_sizes : goal.returns-clause-same_sizes
-returns-clause-same_sizes g c = ap (λ (v : Work). v.sizes) c.note_near.ensures.same ∙ (ap (λ (v : Work). v.sizes) c.note-2.ensures.noted ∙ (ap (λ (v : Work). v.sizes) c.note.ensures.noted ∙ c.makes_way.ensures.same_sizes))
-
-pub makes_way-requires-clause-branches : goal.makes_way-requires-clause-branches
-makes_way-requires-clause-branches g c = c.requires.branches
-
-pub makes_way-requires-clause-whole : goal.makes_way-requires-clause-whole
-makes_way-requires-clause-whole g c = c.requires.whole
-
-pub makes_way-requires-clause-prepared : goal.makes_way-requires-clause-prepared
-makes_way-requires-clause-prepared g c = c.requires.prepared
-
-pub returns-then-not-makes_way-clause-prepared : goal.returns-then-not-makes_way-clause-prepared
-returns-then-not-makes_way-clause-prepared g c = c.makes_way.ensures.prepared
-
-pub returns-in_default-clause-prepared : goal.returns-in_default-clause-prepared
-returns-in_default-clause-prepared g c = subst (λ (d : Assignment). IsPrepared c.args.g.now c.args.ms.now.touches d c.makes_way.new.work c.args.rank) (sym c.spare.ensures.same) c.makes_way.ensures.prepared
+    record { m = omega (arith, c.requires.may.low, sizes, c.makes_way.ensures.moved.goes_on.ready.prepared.room.meters) }
 
 pub note_near-requires : goal.note_near-requires
 note_near-requires g c =
     let same = ap (λ (d : Assignment). length d.slots) c.spare.ensures.same in
-    record { m = omega (arith, c.pin_for.ensures.pinned.low, same, c.makes_way.ensures.stands.meters); in_range = c.requires.in_range }
+    let k = c.makes_way.ensures.moved.goes_on.ready in
+    record { m = omega (arith, c.pin_for.ensures.pinned.low, same, k.stands.meters); in_range = k.in_range }

@@ -1,93 +1,42 @@
-use Rattle.std.proofs.Common.{◌≡◌, ◌<◌, ◌^◌, ℕ, Bool, List, length, ap, sym, ◌∙◌, subst}
-use Rattle.obs_meter.specs.Held.{Meters}
-use Rattle.obs_assign.specs.Assignment.{Assignment, HasRoomOf, has_flag}
-use Rattle.obs_exchange.specs.Longest.{IsLongest}
-use Rattle.obs_exchange.proofs.Lengthening.{room_again, rooms}
+use Rattle.std.proofs.Common.{◌≡◌, ◌<◌, ◌^◌, ℕ, Bool, List, length, refl, ap, sym, ◌∙◌, subst}
+use Rattle.obs_assign.specs.Assignment.{has_flag}
+use Rattle.obs_pairs.proofs.Moving.{IsMoved-on, IsMoved-same}
 use Rattle.obs_pairs.proofs.Settling.{Settled-begun}
 use Rattle.obs_pairs.proofs.Unreached.{closed_redundant}
 use Rattle.obs_pairs.proofs.settle.find_all.Goals as goal
 
-pub split_in_rounds-requires-clause-settled : goal.split_in_rounds-requires-clause-settled
-split_in_rounds-requires-clause-settled g c =
-    let touches = c.args.ms.now.touches in
-    let ok = c.requires.branches in
-    let h = subst (λ (a : Assignment). IsLongest c.args.g.now touches a) (sym c.close.ensures.same) c.requires.longest in
-    let same : c.begin.new.waiting ≡ c.close.new.work.reached = c.begin.ensures.waiting ∙ c.reached.ensures.reached in
-    Settled-begun c.args.g.now.vertices c.args.g.now.ends touches ok c.begin.new.waiting c.begin.new.list (c.begin.auto.waiting ∙ c.requires.waiting) (c.begin.auto.list ∙ c.requires.list) c.begin.ensures.list
-    (λ k. ap (λ (flags : List Bool). has_flag flags k) same ∙ closed_redundant c.args.g.now touches c.close.new.a c.close.new.work.reached ok h c.close.ensures.closed k)
+pub close-requires : goal.close-requires
+close-requires g c = let may = c.requires.ready.may in record { longest = may.longest; in_range = may.in_range; room = may.room }
 
-pub close-requires-clause-room : goal.close-requires-clause-room
-close-requires-clause-room g c = c.requires.room
+pub begin-requires : goal.begin-requires
+begin-requires g c = record {
+  waiting = c.requires.waiting ∙ sym (ap length c.reached.ensures.reached ∙ c.close.ensures.closed.flags);
+  few = subst (λ (n : ℕ). n < 2 ^ 32) (sym c.requires.list) c.requires.ready.may.few;
+}
 
-pub begin-requires-clause-waiting : goal.begin-requires-clause-waiting
-begin-requires-clause-waiting g c = c.requires.waiting ∙ sym (ap length c.reached.ensures.reached ∙ c.close.ensures.closed.flags)
+pub split_in_rounds-requires : goal.split_in_rounds-requires
+split_in_rounds-requires g c =
+    let graph = c.args.over.now.graph.now in
+    let touches = c.args.over.now.meters.now.touches in
+    let e = c.close.ensures in
+    let closed = (IsMoved-same graph touches c.args.a.now c.close.new.a c.args.left.now c.args.left.now c.args.exchange.now c.close.new.work e.same refl e.same_sizes c.requires.ready).ready in
+    let ok = closed.may.branches in
+    let b = c.begin.new in
+    let same : b.waiting ≡ c.close.new.work.reached = c.begin.ensures.waiting ∙ c.reached.ensures.reached in
+    record {
+      ready = closed;
+      settled = Settled-begun graph.vertices graph.ends touches ok b.waiting b.list (c.begin.auto.waiting ∙ c.requires.waiting) (c.begin.auto.list ∙ c.requires.list) c.begin.ensures.list
+          (λ k. ap (λ (flags : List Bool). has_flag flags k) same ∙ closed_redundant graph touches c.close.new.a c.close.new.work.reached ok closed.may.longest e.closed k);
+    }
 
-pub begin-requires-clause-few : goal.begin-requires-clause-few
-begin-requires-clause-few g c = subst (λ (n : ℕ). n < 2 ^ 32) (sym c.requires.list) c.requires.few
+pub settle_all-requires : goal.settle_all-requires
+settle_all-requires g c = record { ready = c.split_in_rounds.ensures.moved.ready; settled = c.split_in_rounds.ensures.settled }
 
-pub split_in_rounds-requires-clause-longest : goal.split_in_rounds-requires-clause-longest
-split_in_rounds-requires-clause-longest g c = subst (λ (a : Assignment). IsLongest c.args.g.now c.args.ms.now.touches a) (sym c.close.ensures.same) c.requires.longest
+pub name_all-requires : goal.name_all-requires
+name_all-requires g c = record { branches = c.requires.ready.may.branches; keyed = c.settle_all.ensures.keyed }
 
-pub split_in_rounds-requires-clause-in_range : goal.split_in_rounds-requires-clause-in_range
-split_in_rounds-requires-clause-in_range g c = c.requires.in_range
-
-pub split_in_rounds-requires-clause-room : goal.split_in_rounds-requires-clause-room
-split_in_rounds-requires-clause-room g c = room_again c.args.g.now c.args.ms.now.touches c.args.exchange.now.sizes c.close.new.work.sizes c.close.ensures.same_sizes c.requires.room
-
-pub split_in_rounds-requires-clause-left : goal.split_in_rounds-requires-clause-left
-split_in_rounds-requires-clause-left g c = c.requires.left
-
-pub settle_all-requires-clause-longest : goal.settle_all-requires-clause-longest
-settle_all-requires-clause-longest g c = c.split_in_rounds.ensures.longest
-
-pub settle_all-requires-clause-in_range : goal.settle_all-requires-clause-in_range
-settle_all-requires-clause-in_range g c = c.requires.in_range
-
-pub settle_all-requires-clause-room : goal.settle_all-requires-clause-room
-settle_all-requires-clause-room g c =
-    let same = c.split_in_rounds.ensures.same_sizes ∙ c.close.ensures.same_sizes in
-    room_again c.args.g.now c.args.ms.now.touches c.args.exchange.now.sizes c.split_in_rounds.new.exchange.sizes same c.requires.room
-
-pub settle_all-requires-clause-left : goal.settle_all-requires-clause-left
-settle_all-requires-clause-left g c = ap (λ (m : Meters). m.touches) c.split_in_rounds.ensures.left ∙ c.requires.left
-
-pub settle_all-requires-clause-settled : goal.settle_all-requires-clause-settled
-settle_all-requires-clause-settled g c = c.split_in_rounds.ensures.settled
-
-pub name_all-requires-clause-keyed : goal.name_all-requires-clause-keyed
-name_all-requires-clause-keyed g c = c.settle_all.ensures.keyed
-
-pub returns-clause-classes : goal.returns-clause-classes
-returns-clause-classes g c = c.name_all.ensures.classes
-
-pub returns-clause-longest : goal.returns-clause-longest
-returns-clause-longest g c = c.settle_all.ensures.longest
-
-pub returns-clause-left : goal.returns-clause-left
-returns-clause-left g c = c.settle_all.ensures.left ∙ c.split_in_rounds.ensures.left
-
-pub returns-clause-same_room : goal.returns-clause-same_room
-returns-clause-same_room g c =
-    let first = subst (λ (a : Assignment). HasRoomOf a c.split_in_rounds.new.a) c.close.ensures.same c.split_in_rounds.ensures.same_room in
-    rooms c.args.a.now c.split_in_rounds.new.a c.settle_all.new.a first c.settle_all.ensures.same_room
-
-pub returns-clause-same_sizes : goal.returns-clause-same_sizes
-returns-clause-same_sizes g c = c.settle_all.ensures.same_sizes ∙ (c.split_in_rounds.ensures.same_sizes ∙ c.close.ensures.same_sizes)
-
-pub split_in_rounds-requires-clause-branches : goal.split_in_rounds-requires-clause-branches
-split_in_rounds-requires-clause-branches g c = c.requires.branches
-
-pub split_in_rounds-requires-clause-few : goal.split_in_rounds-requires-clause-few
-split_in_rounds-requires-clause-few g c = c.requires.few
-
-pub settle_all-requires-clause-branches : goal.settle_all-requires-clause-branches
-settle_all-requires-clause-branches g c = c.requires.branches
-
-pub name_all-requires-clause-branches : goal.name_all-requires-clause-branches
-name_all-requires-clause-branches g c = c.requires.branches
-
-pub close-requires-clause-longest : goal.close-requires-clause-longest
-close-requires-clause-longest g c = c.requires.longest
-
-pub close-requires-clause-in_range : goal.close-requires-clause-in_range
-close-requires-clause-in_range g c = c.requires.in_range
+pub returns : goal.returns
+returns g c =
+    let e = c.close.ensures in
+    let closed = IsMoved-same _ _ _ c.close.new.a _ c.args.left.now _ c.close.new.work e.same refl e.same_sizes c.requires.ready in
+    record { classes = c.name_all.ensures.classes; moved = IsMoved-on _ _ _ _ _ _ _ _ _ _ _ (IsMoved-on _ _ _ _ _ _ _ _ _ _ _ closed c.split_in_rounds.ensures.moved) c.settle_all.ensures.moved }

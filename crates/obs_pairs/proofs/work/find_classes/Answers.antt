@@ -1,4 +1,4 @@
-use Rattle.std.proofs.Common.{◌≡◌, ◌++◌, ℕ, List, length, drop, sym, ap, ◌∙◌, subst}
+use Rattle.std.proofs.Common.{◌≡◌, ◌<◌, ◌^◌, ◌++◌, ℕ, List, length, drop, sym, ap, ◌∙◌, subst}
 use Rattle.std.specs.Prelude.{take}
 use Rattle.obs_graph.proofs.Stored.{written_back}
 use Rattle.obs_meter.specs.Held.{Meters}
@@ -11,31 +11,22 @@ use Rattle.obs_pairs.proofs.work.find_classes.Goals as goal
 pub mark_shared-requires-clause-first : goal.mark_shared-requires-clause-first
 mark_shared-requires-clause-first g c =
     let touches = c.args.ms.now.touches in
-    let list = take c.count.result c.deref.result.now in
+    let list = take c.count-count.result c.deref.result.now in
     let v = c.work.inside.list in
     let new = c.list_classes.new.list in
     let back : take v.len (new ++ drop (length new) v.items) ≡ new = written_back v.len new v.items (c.list_classes.auto.list ∙ ap length c.deref_mut-2.ensures.value) v.ok.0 in
     let is : list ≡ classes_of c.args.g.now.vertices c.args.g.now.ends touches =
-    ap (λ (k : ℕ). take k c.deref.result.now) c.count.ensures.count ∙ (ap (λ (xs : List ℕ). take (length touches) xs) (c.deref.ensures.value ∙ back) ∙ c.list_classes.ensures.classes) in
-    first_of_classes c.args.g.now.vertices c.args.g.now.ends touches c.vertices.ensures.branches list is
+    ap (λ (k : ℕ). take k c.deref.result.now) c.count-count.ensures.count ∙ (ap (λ (xs : List ℕ). take (length touches) xs) (c.deref.ensures.value ∙ back) ∙ c.list_classes.ensures.classes) in
+    first_of_classes c.args.g.now.vertices c.args.g.now.ends touches c.vertices-count.ensures.branches list is
 
 pub returns-clause-longest : goal.returns-clause-longest
-returns-clause-longest g c = c.list_classes.ensures.longest
+returns-clause-longest g c = c.list_classes.ensures.moved.ready.may.longest
 
 pub returns-clause-same_room : goal.returns-clause-same_room
-returns-clause-same_room g c = c.list_classes.ensures.same_room
+returns-clause-same_room g c = c.list_classes.ensures.moved.same_room
 
 pub returns-clause-same_sizes : goal.returns-clause-same_sizes
-returns-clause-same_sizes g c = c.list_classes.ensures.same_sizes ∙ ap (λ (w : PairWork). w.sizes) c.work.view_is
-
-pub list_classes-requires-clause-longest : goal.list_classes-requires-clause-longest
-list_classes-requires-clause-longest g c = c.requires.longest
-
-pub list_classes-requires-clause-in_range : goal.list_classes-requires-clause-in_range
-list_classes-requires-clause-in_range g c = c.requires.in_range
-
-pub list_classes-requires-clause-room : goal.list_classes-requires-clause-room
-list_classes-requires-clause-room g c = subst (λ (w : PairWork). HasRoomFor w.sizes c.args.g.now c.args.ms.now.touches) (sym c.work.view_is) c.requires.room
+returns-clause-same_sizes g c = c.list_classes.ensures.moved.same_sizes ∙ ap (λ (w : PairWork). w.sizes) c.work.view_is
 
 pub returns-clause-classes : goal.returns-clause-classes
 returns-clause-classes g c =
@@ -43,10 +34,16 @@ returns-clause-classes g c =
     let v = c.work.inside.list in
     let new = c.list_classes.new.list in
     let back : take v.len (new ++ drop (length new) v.items) ≡ new = written_back v.len new v.items (c.list_classes.auto.list ∙ ap length c.deref_mut-2.ensures.value) v.ok.0 in
-    ap (λ (k : ℕ). take k (take v.len (new ++ drop (length new) v.items))) c.count.ensures.count ∙ (ap (λ (xs : List ℕ). take (length touches) xs) back ∙ c.list_classes.ensures.classes)
+    ap (λ (k : ℕ). take k (take v.len (new ++ drop (length new) v.items))) c.count-count.ensures.count ∙ (ap (λ (xs : List ℕ). take (length touches) xs) back ∙ c.list_classes.ensures.classes)
 
-pub list_classes-requires-clause-left : goal.list_classes-requires-clause-left
-list_classes-requires-clause-left g c = ap (λ (m : Meters). m.touches) c.refill.ensures.whole ∙ c.touches.ensures.touches
-
-pub list_classes-requires-clause-branches : goal.list_classes-requires-clause-branches
-list_classes-requires-clause-branches g c = c.vertices.ensures.branches
+pub list_classes-requires-clause-ready : goal.list_classes-requires-clause-ready
+list_classes-requires-clause-ready g c = record {
+  may = record {
+    branches = c.vertices-count.ensures.branches;
+    in_range = c.requires.in_range;
+    few = subst (λ (n : ℕ). n < 2 ^ 32) c.count-count.ensures.count c.count-count.type_inv;
+    longest = c.requires.longest;
+    room = subst (λ (w : PairWork). HasRoomFor w.sizes c.args.g.now c.args.ms.now.touches) (sym c.work.view_is) c.requires.room;
+  };
+  left = ap (λ (m : Meters). m.touches) c.refill.ensures.whole ∙ c.touches.ensures.touches;
+}
