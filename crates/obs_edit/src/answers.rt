@@ -6,7 +6,7 @@ ghost use Rattle.obs_edit.specs.Sessions.{HasRoomToAnswer};
 use crate::hand::AtHand;
 use obs_case::Case;
 use obs_critical::CriticalWork;
-use obs_islands::IslandWork;
+use obs_islands::IslandRoom;
 use obs_network::{position_count, vertex_room};
 use obs_repair::{Measured, NoMemory};
 use std::alloc::Global;
@@ -16,7 +16,7 @@ pub(crate) struct Answers {
     // a flag for each meter: whether it is live and not critical
     pub(crate) marks: Vec<bool>,
     pub(crate) critical: CriticalWork,
-    pub(crate) islands: IslandWork,
+    pub(crate) islands: IslandRoom,
     // the list of the bound that was measured last, in its front
     pub(crate) inside: Vec<u32>,
     pub(crate) measured: Measured,
@@ -54,7 +54,7 @@ pub(crate) fn make_answers(alloc: Global, case: &Case) -> Result<Answers, NoMemo
     let Ok(critical) = CriticalWork::make(alloc, meters as u32) else {
         return Err(NoMemory);
     };
-    let Ok(islands) = IslandWork::make(alloc, meters as u32, positions, vertices) else {
+    let Ok(islands) = IslandRoom::make(alloc, meters as u32, positions, vertices) else {
         return Err(NoMemory);
     };
     let Ok(inside) = vec![in alloc; 0; meters] else {

@@ -6,7 +6,7 @@ ghost use Rattle.obs_repair.specs.Kept.{AreLongest, HasRoom, case_room};
 
 use obs_assign::{Assignment, Steps};
 use obs_exchange::Work;
-use obs_islands::IslandWork;
+use obs_islands::{IslandRoom, find_islands_of};
 use obs_network::Present;
 use std::sync::ledger::Ledger;
 
@@ -26,15 +26,12 @@ pub(crate) fn find_first<L: Ledger>(
     obs_first::first(present.graph(), present.meters(), a, work, steps);
 }
 
-/// Finds the islands of the case.
-pub(crate) fn find_islands<L: Ledger>(
-    present: &Present<'_>,
-    islands: &mut IslandWork,
-    steps: &mut Steps<L>,
-)
+/// Finds the islands of the case, from the pairs.
+pub(crate) fn find_islands(present: &Present<'_>, a: &Assignment, islands: &mut IslandRoom)
+    requires longest { AreLongest present.now a.now }
     requires room { islands.old.sizes ≡ case_room present.now }
     ensures islands { islands.new.firsts ≡ case_islands present.now }
     ensures same_sizes { islands.new.sizes ≡ islands.old.sizes }
 {
-    obs_islands::find_islands(present.graph(), present.meters(), islands, steps);
+    find_islands_of(present.graph(), present.meters(), a, islands);
 }

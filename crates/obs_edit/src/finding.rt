@@ -75,7 +75,8 @@ impl Session {
             case: &self.case,
             network: &self.network,
         };
-        find_islands(&present, &mut self.answers.islands, steps);
+        let _ = steps;
+        find_islands(&present, &self.held.pairs, &mut self.answers.islands);
         self.answers.hand.islands = true;
     }
 

@@ -5,6 +5,8 @@ pub mod Between
 pub mod Hubs
 pub mod Noting
 pub mod Crossing
+pub mod Over
+pub mod Remaining
 pub mod Discarding
 pub mod Following
 pub mod Settling

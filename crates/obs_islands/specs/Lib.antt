@@ -2,4 +2,5 @@ pub mod Islands
 pub mod Firsts
 pub mod IslandWork
 pub mod Rounds
+pub mod Left
 pub mod GivenUp

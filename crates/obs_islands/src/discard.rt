@@ -3,7 +3,6 @@ ghost use Rattle.std.specs.Prelude.{◌≡◌, ◌<◌, ◌^◌, length, slice_i
 ghost use Rattle.std.specs.List.{list_any};
 ghost use Rattle.obs_meter.specs.declared.Touch.TheVariants.{Nothing};
 ghost use Rattle.obs_meter.specs.Touches.{AreInRange, IsInRange, touches_branch};
-ghost use Rattle.obs_assign.specs.Assignment.{StandsOver};
 ghost use Rattle.obs_islands.specs.GivenUp.{GivesUp};
 ghost use Rattle.obs_islands.specs.Rounds.{is_crossing, noted, remaining, straddles};
 
@@ -71,7 +70,8 @@ pub(crate) fn discard(
     queue: &mut [u32],
 ) -> bool
     requires few { g.now.vertices < 2 ^ 32 }
-    requires stands { StandsOver pairs.now g.now used.old.touches }
+    requires positions { length g.now.ends ≡ length pairs.now.forest.held }
+    requires meters { length used.old.touches ≡ length pairs.now.slots }
     requires in_range { AreInRange g.now used.old.touches }
     requires firsts { length firsts.now ≡ g.now.vertices }
     requires lowest { length lowest.old ≡ g.now.vertices }

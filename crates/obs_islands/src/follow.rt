@@ -1,6 +1,5 @@
 // What is lost after other branches are.
 ghost use Rattle.std.specs.Prelude.{◌≡◌, ◌+◌, ◌<◌, ◌^◌, ◌==◌, length, slice_set};
-ghost use Rattle.obs_assign.specs.Assignment.{StandsOver};
 ghost use Rattle.obs_islands.specs.GivenUp.{IsQueue, StillGivesUp};
 ghost use Rattle.obs_islands.specs.Rounds.{IsNotedAt, noted};
 
@@ -59,7 +58,8 @@ fn follow_branch(
     queue: &mut [u32],
     tail: &mut usize,
 )
-    requires stands { StandsOver pairs.now g.now ms.now.touches }
+    requires positions { length g.now.ends ≡ length pairs.now.forest.held }
+    requires meters { length ms.now.touches ≡ length pairs.now.slots }
     requires e { e < length g.now.ends }
     requires lowest { length lowest.old ≡ g.now.vertices }
     requires vertex { v < g.now.vertices }
@@ -91,7 +91,8 @@ fn follow_vertex(
     queue: &mut [u32],
     tail: &mut usize,
 )
-    requires stands { StandsOver pairs.now g.now ms.now.touches }
+    requires positions { length g.now.ends ≡ length pairs.now.forest.held }
+    requires meters { length ms.now.touches ≡ length pairs.now.slots }
     requires lowest { length lowest.old ≡ g.now.vertices }
     requires vertex { v < g.now.vertices }
     requires noted { noted lowest.old v < length g.now.ends }
@@ -113,7 +114,8 @@ pub(crate) fn follow(
     queue: &mut [u32],
 )
     requires few { g.now.vertices < 2 ^ 32 }
-    requires stands { StandsOver pairs.now g.now ms.now.touches }
+    requires positions { length g.now.ends ≡ length pairs.now.forest.held }
+    requires meters { length ms.now.touches ≡ length pairs.now.slots }
     requires lowest { length lowest.old ≡ g.now.vertices }
     requires queue { length queue.old ≡ g.now.vertices }
     ensures gives_up { StillGivesUp g.now.ends ms.now.touches pairs.now (noted lowest.old) (noted lowest.new) }

@@ -15,6 +15,14 @@ impl From<AllocError> for NoMemory {
     }
 }
 
+impl From<obs_graph::NoMemory> for NoMemory {
+    ghost from_gives = { λ _ e. e ≡ e };
+
+    fn from(_: obs_graph::NoMemory) -> Self {
+        NoMemory
+    }
+}
+
 impl From<obs_meter::NoMemory> for NoMemory {
     ghost from_gives = { λ _ e. e ≡ e };
 

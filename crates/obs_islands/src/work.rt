@@ -1,13 +1,15 @@
 // Islands, and what they are found in.
-ghost use Rattle.std.specs.Prelude.{◌≡◌, [], IfOk};
+ghost use Rattle.std.specs.Prelude.{◌≡◌, [], IfOk, length};
 ghost use Rattle.obs_meter.specs.Sizes.{HasRoomFor};
 ghost use Rattle.obs_meter.specs.Touches.{AreInRange};
+ghost use Rattle.obs_assign.specs.Assignment.{Fits, HasRoomOf, StandsOver};
+ghost use Rattle.obs_exchange.specs.Laws.{IsThawed};
 ghost use Rattle.obs_islands.specs.Firsts.{islands_of};
 
 use crate::memory::NoMemory;
-use crate::settle::{carry_over, find_firsts};
+use crate::room::{IslandRoom, find_islands_of};
 use obs_assign::{Assignment, Steps};
-use obs_exchange::Work;
+use obs_exchange::{Work, regrow};
 use obs_graph::Graph;
 use obs_meter::Meters;
 use std::alloc::Global;
@@ -16,41 +18,31 @@ use std::sync::ledger::Ledger;
 
 /// Room for finding islands, and those that were found last.
 pub struct IslandWork {
-    // how many vertices, meters and positions there were last
-    vertices: usize,
+    // how many meters and positions there were last
     meters: u32,
     positions: u32,
-    // the first vertex of the island of each vertex
-    firsts: Vec<u32>,
-    // the lowest branch at the vertex that is lost, and the vertices at which one is
-    lowest: Vec<u32>,
-    queue: Vec<u32>,
-    // the meters, as long as they are used: those that are discarded touch nothing
-    used: Meters,
-    // the pairs of these meters, and what finds them
+    // the pairs of the meters, and what finds them
     pairs: Assignment,
     exchange: Work,
+    // what finds the islands from them
+    room: IslandRoom,
 }
 
 impl Model for IslandWork {
-    ghost use Rattle.std.specs.Prelude.{◌≡◌, ◌≤◌, length, take};
+    ghost use Rattle.std.specs.Prelude.{◌≡◌, length};
     ghost use Rattle.obs_islands.specs.IslandWork.{IslandWork};
 
     ghost Value = { IslandWork };
 
-    ghost view = { λ w. record { firsts = take w.vertices w.firsts.items; sizes = w.exchange.sizes } };
+    ghost view = { λ w. w.room };
 
     ghost invariant = { λ w. record {
-      found : w.vertices ≤ length w.firsts.items;
       meters : w.meters ≡ length w.pairs.slots;
       positions : w.positions ≡ length w.pairs.forest.held;
-      lowest : length w.lowest.items ≡ length w.firsts.items;
-      queue : length w.queue.items ≡ length w.firsts.items;
-      used : w.used.most ≡ w.exchange.sizes.meters;
-      pair_meters : w.pairs.most_meters ≡ w.exchange.sizes.meters;
-      pair_branches : w.pairs.forest.most_branches ≡ w.exchange.sizes.branches;
-      pair_vertices : w.pairs.forest.most_vertices ≡ length w.firsts.items;
-      all_vertices : w.exchange.sizes.vertices ≡ length w.firsts.items;
+      pair_meters : w.pairs.most_meters ≡ w.room.sizes.meters;
+      pair_branches : w.pairs.forest.most_branches ≡ w.room.sizes.branches;
+      pair_vertices : w.pairs.forest.most_vertices ≡ w.room.sizes.vertices;
+      exchange : w.exchange.sizes ≡ w.room.sizes;
     } };
 }
 
@@ -58,15 +50,11 @@ impl Model for IslandWork {
 impl Drop for IslandWork {
     fn drop(self) {
         let IslandWork {
-            vertices: _,
             meters: _,
             positions: _,
-            firsts: _,
-            lowest: _,
-            queue: _,
-            used: _,
             pairs: _,
             exchange: _,
+            room: _,
         } = self;
     }
 }
@@ -85,15 +73,11 @@ impl IslandWork {
         }) }
     {
         Ok(IslandWork {
-            vertices: 0,
             meters: 0,
             positions: 0,
-            firsts: vec![in alloc; 0; most_vertices as usize]?,
-            lowest: vec![in alloc; 0; most_vertices as usize]?,
-            queue: vec![in alloc; 0; most_vertices as usize]?,
-            used: Meters::make(alloc, most_meters)?,
             pairs: Assignment::make(alloc, most_meters, most_branches, most_vertices)?,
             exchange: Work::make(alloc, most_meters, most_branches, most_vertices)?,
+            room: IslandRoom::make(alloc, most_meters, most_branches, most_vertices)?,
         })
     }
 
@@ -101,7 +85,24 @@ impl IslandWork {
     pub fn firsts(&self) -> &[u32]
         ensures firsts { result.now ≡ self.now.firsts }
     {
-        &self.firsts[..self.vertices]
+        self.room.firsts()
+    }
+}
+
+/// Carries the pairs over where there are as many meters and positions as before,
+/// and leaves no pair where there are not.
+fn carry_over(g: &Graph, ms: &Meters, pairs: &mut Assignment, meters: u32, positions: u32)
+    requires meters { meters ≡ length pairs.old.slots }
+    requires positions { positions ≡ length pairs.old.forest.held }
+    requires fits { Fits pairs.old g.now ms.now.touches }
+    ensures stands { StandsOver pairs.new g.now ms.now.touches }
+    ensures thawed { IsThawed pairs.new }
+    ensures same_room { HasRoomOf pairs.old pairs.new }
+{
+    if ms.count() == meters && g.positions() == positions {
+        pairs.retain_touching(g, ms);
+    } else {
+        pairs.clear(g, ms);
     }
 }
 
@@ -112,19 +113,16 @@ pub fn find_islands<L: Ledger>(g: &Graph, ms: &Meters, work: &mut IslandWork, st
     ensures islands { work.new.firsts ≡ islands_of g.now.vertices g.now.ends ms.now.touches }
     ensures same_sizes { work.new.sizes ≡ work.old.sizes }
 {
-    work.used.refill(ms.touches());
     carry_over(g, ms, &mut work.pairs, work.meters, work.positions);
-    find_firsts(
+    let _ = regrow(
         g,
-        &mut work.used,
+        ms,
         &mut work.pairs,
+        ms.count(),
         &mut work.exchange,
-        &mut work.firsts,
-        &mut work.lowest,
-        &mut work.queue,
         steps,
     );
-    work.vertices = g.vertices() as usize;
+    find_islands_of(g, ms, &work.pairs, &mut work.room);
     work.meters = ms.count();
     work.positions = g.positions();
 }

@@ -1,13 +1,16 @@
 use Rattle.std.proofs.Common.{◌≡◌}
+use Rattle.obs_graph.specs.Search.{room_of}
 use Rattle.obs_islands.proofs.Crossing.{hubs}
-use Rattle.obs_islands.proofs.Settling.{IsSettling}
+use Rattle.obs_islands.proofs.Settling.{IsNamed, IsSettling}
 use Rattle.obs_islands.proofs.settle.settle.Given as goal
 
-abbrev pub invariant-loop-pairs : goal.invariant-loop-pairs
-invariant-loop-pairs g l = record {
-  settling : IsSettling l.g l.fn.used.touches l.used.touches l.fn.pairs l.fn.exchange l.pairs l.exchange;
+abbrev pub invariant-loop-used : goal.invariant-loop-used
+invariant-loop-used l = record {
+  settling : IsSettling l.g l.fn.used.touches l.used.touches l.pairs;
+  named : IsNamed l.g l.used.touches l.pairs l.firsts;
   most : l.used.most ≡ l.fn.used.most;
+  room : room_of l.search ≡ room_of l.fn.search;
 }
 
-abbrev pub decreases-loop-pairs : goal.decreases-loop-pairs
-decreases-loop-pairs g l = hubs l.used.touches
+abbrev pub decreases-loop-used : goal.decreases-loop-used
+decreases-loop-used l = hubs l.used.touches

@@ -1,0 +1,8 @@
+use Rattle.std.proofs.Common.{ℕ, ◌<◌, None, get_or}
+use Rattle.obs_islands.specs.Left.{IsLeftAt}
+use Rattle.obs_islands.proofs.left.hold_left.Given as goal
+
+abbrev pub invariant-loop-e : goal.invariant-loop-e
+invariant-loop-e l = record {
+  done : (k : ℕ) → k < l.e → IsLeftAt l.g.ends l.used.touches l.pairs k (get_or l.held k None);
+}
