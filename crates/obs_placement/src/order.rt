@@ -58,7 +58,7 @@ pub fn put_known_in_order(since: &[u64], keys: &mut [(u64, u32)])
     requires room { length since.now ≤ length keys.old }
     ensures order { IsOrder (since_at since.now) (length since.now) (take (length since.now) keys.new) }
 {
-    let keys = &mut keys[..since.len()];
-    number_known(since, keys);
-    keys.sort_unstable();
+    let front = &mut keys[..since.len()];
+    number_known(since, front);
+    front.sort_unstable();
 }
