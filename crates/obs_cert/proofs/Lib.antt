@@ -5,6 +5,7 @@ pub mod LawLemmas
 pub mod OrderLemmas
 pub mod WordLemmas
 pub mod JoinLemmas
+pub mod HubLemmas
 pub mod NumberLemmas
 pub mod ScopeLemmas
 pub mod StarLemmas

@@ -1,16 +1,15 @@
 -- What the program reads off a network, as definitions on the case say it.
-use Rattle.std.proofs.Common.{◌≡◌, ℕ, ◌<◌, ◌≤◌, true, false, eqb, Option, Some, List, [], ◌∷◌, length, map, get_or, refl, sym, ap, ◌∙◌, inl, inr, arith}
-use Rattle.std.proofs.lemmas.Bool.{cases_Bool, eq-eqb, eqb-true, or_cases, or_left, or_right}
+use Rattle.std.proofs.Common.{◌≡◌, ℕ, ◌<◌, ◌≤◌, true, false, Option, Some, List, length, map, get_or, sym, ap, ◌∙◌, inl, inr, arith}
+use Rattle.std.proofs.lemmas.Bool.{cases_Bool}
 use Rattle.obs_graph.specs.declared.Ends.{Ends}
 use Rattle.obs_graph.proofs.Present.{present_low}
 use Rattle.obs_matroid.specs.Lists.{In}
-use Rattle.obs_matroid.proofs.Lists.{clash}
 use Rattle.obs_switch.specs.Buses.{members_of}
 use Rattle.obs_switch.proofs.FirstNodes.{buses_of-at, first_member}
 use Rattle.obs_case.specs.Tables.{Tables}
 use Rattle.obs_meter.specs.declared.Touch.{Touch}
 use Rattle.obs_meter.specs.Touches.{touched}
-use Rattle.obs_meter.proofs.Touched.{In-from_any, any-from_In, touched-present}
+use Rattle.obs_meter.proofs.Touched.{In-from_any, touched-present}
 use Rattle.obs_network.specs.Switched.{case_buses, case_first_node, closed_links}
 use Rattle.std.proofs.lemmas.List.{length-map}
 use Rattle.std.specs.Str.{bytes_eq}

@@ -6,6 +6,7 @@ pub mod FlawNames
 pub mod Flaws
 pub mod Forms
 pub mod Given
+pub mod Hubs
 pub mod InScope
 pub mod Joins
 pub mod Keys

@@ -18,6 +18,7 @@ pub record HasRoom (rows : Rows) (w : Work) : Type 0 where
   pub few : length w.ups.items < 2 ^ 32
   pub moved : length w.ups.items ≤ length w.moved.items
   pub stars : length w.ups.items ≤ length w.stars.items
+  pub hubs : length w.ups.items ≤ w.hubs.room
 
 -- they have room, each mark is below the stamp, nothing is joined, and the ranks that are known are those of the case
 pub record IsReady (t : Tables) (stamp : ℕ) (w : Work) : Type 0 where

@@ -89,6 +89,7 @@ fn numbers(
         present,
         rest,
         &mut work.stars,
+        &mut work.hubs,
         &mut work.ups,
         &mut work.moved,
     );

@@ -10,6 +10,7 @@ ghost use Rattle.obs_cert.specs.Numbered.{items_of};
 ghost use Rattle.obs_cert.specs.Scopes.{is_below, is_live_item, scope_of};
 ghost use Rattle.obs_cert.specs.Seen.{Tells, too_dear};
 
+use crate::hubs::Hubs;
 use crate::joins::clear;
 use crate::keys::count_below;
 use crate::lists::{count, join_items};
@@ -103,22 +104,26 @@ pub(crate) fn has_outside_layer(present: &Present<'_>, layers: Layers<'_>) -> bo
 fn join_layers(
     present: &Present<'_>,
     layers: Layers<'_>,
+    hubs: &mut Hubs,
     ups: &mut [u32],
     moved: &mut [u32],
 ) -> (usize, bool)
     requires clear { AreJoined [] ups.old [] }
     requires vertices { case_vertex_room present.now ≤ length ups.old }
     requires room { length ups.old ≤ length moved.old }
+    requires hubs { length ups.old ≤ hubs.old.room }
+    ensures hubs { hubs.new.room ≡ hubs.old.room }
     ensures rank { result.1 ≡ list_any (λ l. wrong_rank present.now l.list l.layer.rank)
         (listed_layers present.now layers.entry) }
     ensures joined { (es : List Ends) × AreJoined es ups.new (take result.0 moved.new) }
     ensures count { result.0 ≤ length moved.new }
 {
+    hubs.clear();
     let mut count = 0;
     let mut wrong = false;
     for layer in layers {
         let items = walk_items(Sort::Inside, layer.rest);
-        count = join_items(present, items, ups, moved, count);
+        count = join_items(present, items, hubs, ups, moved, count);
         if count as u64 != layer.rank {
             wrong = true;
         }
@@ -130,17 +135,20 @@ fn join_layers(
 pub(crate) fn has_wrong_rank(
     present: &Present<'_>,
     layers: Layers<'_>,
+    hubs: &mut Hubs,
     ups: &mut [u32],
     moved: &mut [u32],
 ) -> bool
     requires clear { AreJoined [] ups.old [] }
     requires vertices { case_vertex_room present.now ≤ length ups.old }
     requires room { length ups.old ≤ length moved.old }
+    requires hubs { length ups.old ≤ hubs.old.room }
+    ensures hubs { hubs.new.room ≡ hubs.old.room }
     ensures rank { result ≡ list_any (λ l. wrong_rank present.now l.list l.layer.rank)
         (listed_layers present.now layers.entry) }
     ensures clear { AreJoined [] ups.new [] }
 {
-    let (count, wrong) = join_layers(present, layers, ups, moved);
+    let (count, wrong) = join_layers(present, layers, hubs, ups, moved);
     clear(ups, &moved[..count]);
     wrong
 }

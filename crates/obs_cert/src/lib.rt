@@ -7,6 +7,7 @@ mod claims;
 mod fault;
 mod flaw;
 mod forests;
+mod hubs;
 mod joins;
 mod keys;
 pub mod laws;

@@ -4,6 +4,7 @@ ghost use Rattle.obs_graph.specs.declared.Ends.{Ends};
 ghost use Rattle.obs_case.specs.Tables.{IsValid};
 ghost use Rattle.obs_network.specs.Network.{case_vertex_room, network_of};
 ghost use Rattle.obs_cert.specs.Flaws.{not_inside, rank_of_items, twice, unknown_item};
+ghost use Rattle.obs_cert.specs.Hubs.{AreHubs};
 ghost use Rattle.obs_cert.specs.InScope.{in_scope};
 ghost use Rattle.obs_cert.specs.Joins.{AreJoined, onto};
 ghost use Rattle.obs_cert.specs.Marks.{AreBelow, is_marked};
@@ -11,6 +12,7 @@ ghost use Rattle.obs_cert.specs.Numbered.{items_of};
 ghost use Rattle.obs_meter.specs.Lost.{is_listed};
 ghost use Rattle.obs_cert.specs.Scopes.{price_at, touches_of};
 
+use crate::hubs::{Hubs, is_repeated};
 use crate::joins::{clear, join_all};
 use crate::marks::mark;
 use crate::numbers::{is_known, item_of};
@@ -108,10 +110,11 @@ fn join_touched(
     }
 }
 
-/// Joins the ends of all branches that the items touch.
-pub(crate) fn join_items(
+// Joins the ends of all branches that an item touches, unless they are the rows at a vertex whose rows are joined.
+fn join_item(
     present: &Present<'_>,
-    items: Items<'_>,
+    m: u32,
+    hubs: &mut Hubs,
     ups: &mut [u32],
     moved: &mut [u32],
     count: usize,
@@ -120,16 +123,47 @@ pub(crate) fn join_items(
     requires vertices { (network_of present.now).graph.vertices ≤ length ups.old }
     requires room { length ups.old ≤ length moved.old }
     requires count { count ≤ length moved.old }
+    requires hubs { AreHubs present.now hubs.old.list ups.old }
+    requires hub_room { length ups.old ≤ hubs.old.room }
+    ensures joined { (es : List Ends) → AreJoined es ups.old (take count moved.old) →
+        AreJoined (onto (network_of present.now).graph.ends (touches_of present.now m) es) ups.new (take result moved.new) }
+    ensures count { result ≤ length moved.new }
+    ensures hubs { AreHubs present.now hubs.new.list ups.new }
+    ensures hub_room { hubs.new.room ≡ hubs.old.room }
+{
+    if is_repeated(present, m, hubs) {
+        return count;
+    }
+    join_touched(present, m, ups, moved, count)
+}
+
+/// Joins the ends of all branches that the items touch.
+pub(crate) fn join_items(
+    present: &Present<'_>,
+    items: Items<'_>,
+    hubs: &mut Hubs,
+    ups: &mut [u32],
+    moved: &mut [u32],
+    count: usize,
+) -> usize
+    requires joined { (es : List Ends) × AreJoined es ups.old (take count moved.old) }
+    requires vertices { (network_of present.now).graph.vertices ≤ length ups.old }
+    requires room { length ups.old ≤ length moved.old }
+    requires count { count ≤ length moved.old }
+    requires hubs { AreHubs present.now hubs.old.list ups.old }
+    requires hub_room { length ups.old ≤ hubs.old.room }
     ensures joined { (es : List Ends) → AreJoined es ups.old (take count moved.old) →
         AreJoined (onto (network_of present.now).graph.ends (flat_map (touches_of present.now) (items_of present.now items.entry)) es)
         ups.new (take result moved.new) }
     ensures count { result ≤ length moved.new }
+    ensures hubs { AreHubs present.now hubs.new.list ups.new }
+    ensures hub_room { hubs.new.room ≡ hubs.old.room }
     ensures valid { IsValid present.now }
 {
     let case = present.case();
     let mut count = count;
     for item in items {
-        count = join_touched(present, item_of(case, item), ups, moved, count);
+        count = join_item(present, item_of(case, item), hubs, ups, moved, count);
     }
     count
 }
@@ -138,6 +172,7 @@ pub(crate) fn join_items(
 pub(crate) fn measure_items(
     present: &Present<'_>,
     items: Items<'_>,
+    hubs: &mut Hubs,
     ups: &mut [u32],
     moved: &mut [u32],
 ) -> u32
@@ -145,10 +180,13 @@ pub(crate) fn measure_items(
     requires vertices { case_vertex_room present.now ≤ length ups.old }
     requires few { length ups.old < 2 ^ 32 }
     requires room { length ups.old ≤ length moved.old }
+    requires hubs { length ups.old ≤ hubs.old.room }
     ensures rank { result ≡ rank_of_items present.now (items_of present.now items.entry) }
     ensures clear { AreJoined [] ups.new [] }
+    ensures hubs { hubs.new.room ≡ hubs.old.room }
 {
-    let count = join_items(present, items, ups, moved, 0);
+    hubs.clear();
+    let count = join_items(present, items, hubs, ups, moved, 0);
     clear(ups, &moved[..count]);
     count as u32
 }

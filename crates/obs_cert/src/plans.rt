@@ -64,7 +64,13 @@ fn layers(
     let case = present.case();
     let network = present.network();
     let needed = network.needed();
-    if has_wrong_rank(present, walk_layers(rest), &mut work.ups, &mut work.moved) {
+    if has_wrong_rank(
+        present,
+        walk_layers(rest),
+        &mut work.hubs,
+        &mut work.ups,
+        &mut work.moved,
+    ) {
         return Some(FlawCode::WrongRank);
     }
     if has_wrong_outside(case, keys, walk_layers(rest)) {

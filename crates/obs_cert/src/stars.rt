@@ -11,6 +11,7 @@ ghost use Rattle.obs_cert.specs.Scopes.{touches_of};
 ghost use Rattle.obs_cert.specs.Stars.{AreStarRanks, star_rank};
 ghost use Rattle.obs_cert.specs.Walked.{parts_in};
 
+use crate::hubs::Hubs;
 use crate::joins::{clear, join_all};
 use crate::line::Item;
 use crate::lists::measure_items;
@@ -32,8 +33,8 @@ fn only(items: Items<'_>) -> Option<Item<'_>>
     }
 }
 
-// The vertex at which an item touches the rows of the branch table.
-fn star_of(present: &Present<'_>, m: u32) -> Option<u32>
+/// The vertex at which an item touches the rows of the branch table.
+pub(crate) fn star_of(present: &Present<'_>, m: u32) -> Option<u32>
     ensures star { IfSome result (λ v. touches_of present.now m ≡ branches_at (case_rows present.now) v) }
     ensures vertex { IfSome result (λ v. v < (network_of present.now).graph.vertices) }
     ensures item { IfSome result (λ v. m < length (case_offered present.now)) }
@@ -100,6 +101,7 @@ pub(crate) fn measure_listed(
     present: &Present<'_>,
     rest: &[u8],
     stars: &mut [u32],
+    hubs: &mut Hubs,
     ups: &mut [u32],
     moved: &mut [u32],
 ) -> u32
@@ -109,9 +111,11 @@ pub(crate) fn measure_listed(
     requires room { length ups.old ≤ length moved.old }
     requires stars { length ups.old ≤ length stars.old }
     requires kept { AreStarRanks present.now stars.old }
+    requires hubs { length ups.old ≤ hubs.old.room }
     ensures rank { result ≡ rank_of_items present.now (items_of present.now (parts_in rest.now).inside) }
     ensures clear { AreJoined [] ups.new [] }
     ensures kept { AreStarRanks present.now stars.new }
+    ensures hubs { hubs.new.room ≡ hubs.old.room }
 {
     let case = present.case();
     if let Some(item) = only(walk_items(Sort::Inside, rest)) {
@@ -120,5 +124,5 @@ pub(crate) fn measure_listed(
             return measure_star(present, m, v, stars, ups, moved);
         }
     }
-    measure_items(present, walk_items(Sort::Inside, rest), ups, moved)
+    measure_items(present, walk_items(Sort::Inside, rest), hubs, ups, moved)
 }

@@ -4,6 +4,7 @@ ghost use Rattle.obs_case.specs.Tables.{Tables};
 ghost use Rattle.obs_network.specs.Network.{Rows, rows_of};
 ghost use Rattle.obs_cert.specs.Ready.{HasRoom, IsReady};
 
+use crate::hubs::Hubs;
 use crate::joins::begin;
 use crate::memory::NoMemory;
 use obs_case::Case;
@@ -23,6 +24,8 @@ pub(crate) struct Work {
     pub(crate) moved: Vec<u32>,
     // one more than the rank of the branches at the vertex, or 0 where it wasn't measured yet
     pub(crate) stars: Vec<u32>,
+    // the vertices whose rows were joined already, while a rank is taken
+    pub(crate) hubs: Hubs,
 }
 
 // Written out: so a caller's proof sees one call, and not the drop of each field.
@@ -36,6 +39,7 @@ impl Drop for Work {
             ups: _,
             moved: _,
             stars: _,
+            hubs: _,
         } = self;
     }
 }
@@ -69,6 +73,9 @@ impl Work {
         let Ok(stars) = vec![in alloc; 0; vertices] else {
             return Err(NoMemory);
         };
+        let Ok(hubs) = Hubs::make(alloc, vertex_room(case)) else {
+            return Err(NoMemory);
+        };
         Ok(Work {
             chosen,
             paired,
@@ -77,6 +84,7 @@ impl Work {
             ups,
             moved,
             stars,
+            hubs,
         })
     }
 

@@ -1,13 +1,12 @@
 -- The items that a layer adds are listed after those of the layers before it.
-use Rattle.std.proofs.Common.{◌≡◌, ℕ, ◌+◌, ◌-◌, ◌<◌, ◌≤◌, ◌&&◌, Bool, true, false, not, List, [], ◌∷◌, ◌++◌, length, refl, sym, ap, ◌∙◌, append_assoc, arith, inl, inr, ltb}
+use Rattle.std.proofs.Common.{◌≡◌, ℕ, ◌+◌, ◌≤◌, ◌&&◌, Bool, not, List, [], ◌∷◌, ◌++◌, length, refl, sym, ap, ◌∙◌, arith, inl, inr, ltb}
 use Rattle.std.specs.Prelude.{filter}
 use Rattle.std.specs.List.{range_with_len}
 use Rattle.std.proofs.lemmas.List.FromFn.{length-range_with_len}
 use Rattle.std.proofs.lemmas.Bool.{cases_Bool, cases_lt, le-ltb, lt-ltb}
-use Rattle.std.proofs.lemmas.List.{append-nil, length-append}
+use Rattle.std.proofs.lemmas.List.{length-append}
 use Rattle.obs_graph.specs.Graph.{Graph}
 use Rattle.obs_matroid.proofs.Lists.{filter_same, length-split}
-use Rattle.obs_matroid.proofs.Ranges.{later, later_listed, later_over}
 use Rattle.obs_meter.specs.declared.Touch.{Touch}
 use Rattle.obs_placement.specs.Layers.{added_items, count_known, is_added}
 use Rattle.obs_placement.specs.Taking.{AreKnown, is_listed_at, never, since_at}
@@ -47,38 +46,6 @@ module _ (since : List ℕ) where
       let k = ap length e in
       let a = length-append before (filter (is_added since f t) (range_with_len 0 n)) in
       omega (arith, s, k, a, upto)
-
-  module _ (f t : ℕ) (before : List ℕ) where
-    -- of the items below i those that are added are listed
-    pub record IsAdding (inside : List ℕ) (i : ℕ) : Type 0 where
-      pub lists : inside ++ filter (is_added since f t) (later n i) ≡ before ++ filter (is_added since f t) (range_with_len 0 n)
-
-    module _ (inside : List ℕ) (i : ℕ) (h : IsAdding inside i) where
-      pub IsAdding-ended : n ≤ i → inside ≡ before ++ filter (is_added since f t) (range_with_len 0 n)
-      IsAdding-ended end =
-          let z : n - i ≡ 0 = omega (arith, end) in
-          sym (append-nil inside) ∙ (ap (λ k. inside ++ filter (is_added since f t) (range_with_len i k)) (sym z) ∙ h.lists)
-
-      module _ (low : i < n) where
-        pub IsAdding-over : is_added since f t i ≡ false → IsAdding inside (i + 1)
-        IsAdding-over e = record { lists = rw (← later_over (is_added since f t) n i low e) h.lists }
-
-        pub IsAdding-more : is_added since f t i ≡ true → IsAdding (inside ++ i ∷ []) (i + 1)
-        IsAdding-more e = record {
-          lists =
-              append_assoc inside (i ∷ []) (filter (is_added since f t) (later n (i + 1)))
-              ∙ (ap (λ xs. inside ++ xs) (sym (later_listed (is_added since f t) n i low e)) ∙ h.lists);
-        }
-
-        pub IsAdding-room : f ≤ t → length before ≡ count_known since f → is_added since f t i ≡ true → length inside < n
-        IsAdding-room l upto e =
-            let r = ap length (later_listed (is_added since f t) n i low e) in
-            let all = ap length h.lists in
-            let a = length-append inside (filter (is_added since f t) (later n i)) in
-            let b = length-append before (filter (is_added since f t) (range_with_len 0 n)) in
-            let s = known_split f t l in
-            let k = known_most t in
-            omega (arith, r, all, a, b, s, k, upto)
 
 and_swap : (a b : Bool) → (a && b) ≡ (b && a)
 and_swap a b = elim (cases_Bool a) [

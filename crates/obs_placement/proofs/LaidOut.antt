@@ -13,6 +13,7 @@ use Rattle.obs_meter.specs.declared.Touch.{Touch}
 use Rattle.obs_rankcut.specs.Costs.{price_of}
 use Rattle.obs_placement.specs.declared.plans.Layer.{Layer}
 use Rattle.obs_placement.specs.Answer.{chosen_of, cost_of, is_chosen}
+use Rattle.obs_placement.specs.Choosing.{AreFirstBelow}
 use Rattle.obs_placement.specs.Layers.{added_items, count_known, inside_of, is_price_of, layer_of, layers_of, prices_above}
 use Rattle.obs_placement.specs.Order.{IsOrder, item_at}
 use Rattle.obs_placement.specs.Taking.{since_at}
@@ -102,6 +103,10 @@ priced_candidate n ends touches meters prices x t =
 none_below : (since xs : List ℕ) → length (filter (λ m. ltb (since_at since m) 0) xs) ≡ 0
 none_below since [] = refl
 none_below since (x ∷ xs) = rw (le-ltb (since_at since x) 0 (omega arith)) (none_below since xs)
+
+-- none is below the price 0
+pub AreFirstBelow-none : (since : List ℕ) (keys : List (ℕ × ℕ)) → AreFirstBelow since keys 0 0
+AreFirstBelow-none since keys = record { few = omega arith; below = λ k l. absurd (omega (arith, l)); behind = λ k l u. omega arith }
 
 module _ (n : ℕ) (ends : List (Option Ends)) (touches : List Touch) (meters : ℕ) (prices : List ℕ) (keys : List (ℕ × ℕ)) (since : List ℕ) where
   abbrev price : ℕ → ℕ

@@ -15,3 +15,4 @@ pub mod Growing
 pub mod Refuting
 pub mod Costed
 pub mod Tallied
+pub mod Sorted

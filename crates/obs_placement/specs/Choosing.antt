@@ -1,5 +1,5 @@
 -- What a placement is worked out in.
-use Rattle.std.specs.Prelude.{◌≡◌, ◌⊎◌, ℕ, ◌-◌, ◌<◌, Bool, if◌then◌else◌, List, [], length}
+use Rattle.std.specs.Prelude.{◌≡◌, ◌⊎◌, ℕ, ◌-◌, ◌<◌, ◌≤◌, Bool, if◌then◌else◌, List, [], length}
 use Rattle.obs_matroid.specs.Lists.{In}
 use Rattle.obs_matroid.specs.Assignments.{items}
 use Rattle.obs_meter.specs.Assignments.{rho_at}
@@ -13,10 +13,10 @@ use Rattle.obs_placement.specs.Answer.{cost_of}
 use Rattle.obs_placement.specs.Holding.{Taking}
 use Rattle.obs_placement.specs.Layers.{layer_items, layer_outside, layer_rank}
 use Rattle.obs_placement.specs.Offer.{AreAllKnown, chosen_in, is_chosen_in, price_in}
-use Rattle.obs_placement.specs.Order.{IsOrder}
+use Rattle.obs_placement.specs.Order.{IsOrder, item_at}
 use Rattle.obs_placement.specs.Placed.{Placed}
 use Rattle.obs_placement.specs.Placed.Placed.{cheapest, shortfall}
-use Rattle.obs_placement.specs.Taking.{IsStanding}
+use Rattle.obs_placement.specs.Taking.{IsStanding, since_at}
 
 -- what a work value is seen as: the placement that was found last, the positions that were chosen then, the price from which
 -- on each item isn't critical, the pairs, and the sizes that it was made for, where candidates count as meters
@@ -92,12 +92,19 @@ pub record HasMeasured (o : Offer) (t : ℕ) (inside : List ℕ) (rank outside :
   pub rank_is : rank ≡ layer_rank o.graph.now.vertices o.graph.now.ends o.items.now.touches (price_in o) t
   pub outside_is : outside ≡ layer_outside o.graph.now.vertices o.graph.now.ends o.items.now.touches (price_in o) t
 
--- the layers that are laid out, the items that they list, one layer after another, and for how many of either there is
--- room
+-- the layers that are laid out, the items that they list, one layer after another, the order from which these are taken, and
+-- for how many of each there is room
 pub record Laying : Type 0 where
   pub layers : List Layer
   pub inside : List ℕ
+  pub keys : List (ℕ × ℕ)
   pub room : ℕ
+
+-- of an order of all items, the first p places have those that aren't critical from a price below t on
+pub record AreFirstBelow (since : List ℕ) (keys : List (ℕ × ℕ)) (p t : ℕ) : Type 0 where
+  pub few : p ≤ length since
+  pub below : (k : ℕ) → k < p → since_at since (item_at keys k) < t
+  pub behind : (k : ℕ) → p ≤ k → k < length since → t ≤ since_at since (item_at keys k)
 
 -- what was found: the shortfall, with the list that was measured, or the plan of what was chosen and laid out
 abbrev pub placed_in : Lack → Choosing → List ℕ → Laying → Placed

@@ -1,44 +1,18 @@
 // The layers of a plan, read off the prices from which on items aren't critical.
-ghost use Rattle.std.specs.Prelude.{◌≡◌, ◌+◌, ◌<◌, ◌≤◌, ◌++◌, ◌∷◌, ◌^◌, [], filter, length};
-ghost use Rattle.std.specs.List.{range_with_len};
-ghost use Rattle.obs_placement.specs.Choosing.{IsChosen};
+ghost use Rattle.std.specs.Prelude.{◌≡◌, ◌<◌, ◌≤◌, ◌++◌, ◌∷◌, [], length};
+ghost use Rattle.obs_placement.specs.Choosing.{AreFirstBelow, IsChosen};
 ghost use Rattle.obs_placement.specs.Counting.{live_below, raised_below};
-ghost use Rattle.obs_placement.specs.Layers.{added_items, count_known, is_added, layer_of};
+ghost use Rattle.obs_placement.specs.Layers.{added_items, count_known, layer_of};
 ghost use Rattle.obs_placement.specs.Offer.{AreAllKnown, IsOffer, price_in};
+ghost use Rattle.obs_placement.specs.Order.{IsOrder};
 ghost use Rattle.obs_placement.specs.Placed.{plan_of};
+ghost use Rattle.obs_placement.specs.Taking.{since_at};
 
 use crate::choosing::Choosing;
 use crate::counting::{Tally, count_item, nothing_counted};
 use crate::laying::Laying;
 use crate::offer::Offer;
 use crate::plans::Layer;
-
-/// Whether the item isn't critical from a price on that is at least `from` and below `to`.
-fn is_new(since: &[u64], from: u64, to: u64, m: usize) -> bool
-    requires m { m < length since.now }
-    ensures value { result ≡ is_added since.now from to m }
-{
-    from <= since[m] && since[m] < to
-}
-
-/// Lists the items that aren't critical from a price on that is at least `from` and below `to`, rising, after those
-/// that are listed already.
-fn list_added(since: &[u64], from: u64, to: u64, laying: &mut Laying)
-    requires few { length since.now < 2 ^ 32 }
-    requires room { length since.now ≤ laying.old.room }
-    requires rising { from ≤ to }
-    requires upto { length laying.old.inside ≡ count_known since.now from }
-    ensures listed { laying.new ≡ record laying.old {
-      inside = laying.old.inside ++ filter (is_added since.now from to) (range_with_len 0 (length since.now));
-    } }
-    ensures upto { length laying.new.inside ≡ count_known since.now to }
-{
-    for m in 0..since.len() {
-        if is_new(since, from, to, m) {
-            laying.list(m as u32);
-        }
-    }
-}
 
 /// Lays out the layer from one price to another, after those that are laid out already.
 fn add_layer(
@@ -59,6 +33,8 @@ fn add_layer(
     requires layers { length laying.old.layers < laying.old.room }
     requires inside { length offer.now.items.now.touches ≤ laying.old.room }
     requires upto { length laying.old.inside ≡ count_known since.now from }
+    requires order { IsOrder (since_at since.now) (length since.now) laying.old.keys }
+    requires first { AreFirstBelow since.now laying.old.keys (length laying.old.inside) from }
     ensures layer { laying.new.layers ≡ laying.old.layers
         ++ layer_of offer.now.graph.now.vertices offer.now.graph.now.ends offer.now.items.now.touches
         (price_in offer.now) from to (length laying.old.inside) ∷ [] }
@@ -66,9 +42,11 @@ fn add_layer(
         ++ added_items offer.now.graph.now.vertices offer.now.graph.now.ends offer.now.items.now.touches
         (price_in offer.now) from to }
     ensures upto { length laying.new.inside ≡ count_known since.now to }
+    ensures first { AreFirstBelow since.now laying.old.keys (length laying.new.inside) to }
+    ensures keys { laying.new.keys ≡ laying.old.keys }
     ensures room { laying.new.room ≡ laying.old.room }
 {
-    list_added(since, from, to, laying);
+    laying.list_next(to);
     let listed = laying.inside().len() as u32;
     let outside = tally.live_below - listed;
     laying.add(Layer {
@@ -91,7 +69,7 @@ pub fn add_layers(offer: &Offer<'_>, choosing: &Choosing, laying: &mut Laying)
         offer.now.items.now.touches offer.now.meters offer.now.prices.now).inside }
     ensures room { laying.new.room ≡ laying.old.room }
 {
-    laying.clear();
+    laying.begin(choosing.since());
     let mut last = 0;
     let mut tally = nothing_counted();
     for k in 0..offer.items.count() as usize {

@@ -1,7 +1,8 @@
-// The order in which the items are taken.
-ghost use Rattle.std.specs.Prelude.{◌≡◌, ◌<◌, length};
+// The order in which the items are taken, and that in which the layers list them.
+ghost use Rattle.std.specs.Prelude.{◌≡◌, ◌<◌, ◌≤◌, ◌^◌, length, take};
 ghost use Rattle.obs_placement.specs.Offer.{IsOffer, price_in};
 ghost use Rattle.obs_placement.specs.Order.{AreNumbered, IsOrder};
+ghost use Rattle.obs_placement.specs.Taking.{since_at};
 
 use crate::offer::Offer;
 
@@ -37,4 +38,27 @@ pub fn put_in_order(offer: &Offer<'_>, keys: &mut [(u64, u32)])
 {
     number(offer, keys);
     keys.sort_unstable();
+}
+
+/// Writes each item with the price from which on it isn't critical.
+fn number_known(since: &[u64], keys: &mut [(u64, u32)])
+    requires few { length since.now < 2 ^ 32 }
+    requires count { length keys.old ≡ length since.now }
+    ensures numbered { AreNumbered (since_at since.now) (length since.now) keys.new }
+{
+    for m in 0..since.len() {
+        keys[m] = (since[m], m as u32);
+    }
+}
+
+/// Puts the items, at the front, into the order of the prices from which on they aren't critical and, at one price, of
+/// their numbers.
+pub fn put_known_in_order(since: &[u64], keys: &mut [(u64, u32)])
+    requires few { length since.now < 2 ^ 32 }
+    requires room { length since.now ≤ length keys.old }
+    ensures order { IsOrder (since_at since.now) (length since.now) (take (length since.now) keys.new) }
+{
+    let front = &mut keys[..since.len()];
+    number_known(since, front);
+    front.sort_unstable();
 }

@@ -44,13 +44,14 @@ returns-clause-flaw c test is of inside =
     (outside_is at test is of inside ∙ c.if-from-stated-2.false) (grind (arith, s, f, h, few))
 
 ready : (c : After-measure_listed-rank) (stamp : ℕ) → IsReady c.args.present.now stamp c.args.work.now → IsReady c.args.present.now stamp (record c.args.work.now {
+  hubs = c.measure_listed-rank.new.hubs;
   stars = with_items c.args.work.now.stars c.measure_listed-rank.new.stars;
   ups = with_items c.args.work.now.ups c.measure_listed-rank.new.ups;
   moved = with_items c.args.work.now.moved c.measure_listed-rank.new.moved;
 })
 ready c stamp r =
     let j = c.measure_listed-rank in
-    ready_measured c.args.present.now stamp c.args.work.now j.new.stars j.new.ups j.new.moved r
+    ready_measured c.args.present.now stamp c.args.work.now j.new.hubs j.new.stars j.new.ups j.new.moved r j.ensures.hubs
     (j.auto.stars ∙ ap length c.deref_mut.ensures.value) (j.auto.ups ∙ ap length c.deref_mut-2.ensures.value) (j.auto.moved ∙ ap length c.deref_mut-3.ensures.value) j.ensures.clear j.ensures.kept
 
 pub returns-then-from-stated-clause-ready : goal.returns-then-from-stated-clause-ready
@@ -87,3 +88,6 @@ pub returns-then-from-stated-clause-flaw : goal.returns-then-from-stated-clause-
 returns-then-from-stated-clause-flaw c test is of inside =
     bound_rank c.args.present.now test (items_of c.args.present.now (parts_in c.args.rest.now).inside) c.args.stated.rank c.args.stated.outside c.args.stated.need
     (λ e. c.if-from-stated.true (c.from.ensures ∙ c.measure_listed-rank.ensures.rank ∙ e))
+
+pub measure_listed-rank-requires-clause-hubs : goal.measure_listed-rank-requires-clause-hubs
+measure_listed-rank-requires-clause-hubs c = rw c.deref_mut-2.ensures.value c.requires.room.hubs

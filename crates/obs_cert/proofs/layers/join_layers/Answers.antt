@@ -1,10 +1,12 @@
-use Rattle.std.proofs.Common.{◌≡◌, ◌∷◌, ◌++◌, List, length, refl, sym, subst, take, arith}
+use Rattle.std.proofs.Common.{◌≡◌, [], ◌∷◌, ◌++◌, List, length, refl, sym, ap, ◌∙◌, subst, take, arith}
 use Rattle.std.specs.List.{flat_map}
 use Rattle.obs_graph.specs.declared.Ends.{Ends}
+use Rattle.obs_matroid.specs.Lists.{In}
 use Rattle.obs_network.specs.Network.{network_of}
 use Rattle.obs_cert.specs.Claims.{Layer}
 use Rattle.obs_cert.specs.Flaws.{rank_of_items}
 use Rattle.obs_cert.specs.Given.{layer_said}
+use Rattle.obs_cert.specs.Hubs.{Hubs}
 use Rattle.obs_cert.specs.Joins.{AreJoined, onto}
 use Rattle.obs_cert.specs.Numbered.{items_of}
 use Rattle.obs_cert.specs.Scopes.{touches_of}
@@ -20,7 +22,7 @@ join_items-count-requires-clause-vertices c =
 here : (c : After-join_items-count) → IsRanking c.args.present.now (network_of c.args.present.now).graph.ends (layer_said c.in-Some.layer ∷ c.next.new.self) c.args.layers c.loop-layer.ups c.loop-layer.moved c.loop-layer.count c.loop-layer.wrong
 here c =
     let l = c.loop-layer in
-    subst (λ (ls : List Layer). IsRanking c.args.present.now (network_of c.args.present.now).graph.ends ls c.args.layers l.ups l.moved l.count l.wrong) c.in-Some.ensures.steps l.invariant
+    subst (λ (ls : List Layer). IsRanking c.args.present.now (network_of c.args.present.now).graph.ends ls c.args.layers l.ups l.moved l.count l.wrong) c.in-Some.ensures.steps l.invariant.0
 
 step : (c : After-join_items-count) → (es : List Ends) → AreJoined es c.loop-layer.ups (take c.loop-layer.count c.loop-layer.moved)
     → AreJoined (onto (network_of c.args.present.now).graph.ends (flat_map (touches_of c.args.present.now) (items_of c.args.present.now (layer_said c.in-Some.layer).inside)) es)
@@ -41,14 +43,45 @@ pub loop-layer-preserved : goal.loop-layer-preserved
 loop-layer-preserved c =
     let at = (goal.at.loop-layer-preserved c).After-join_items-count in
     let l = c.loop-layer in
-    let j = c.join_items-count in
-    ranking_on c.args.present.now (network_of c.args.present.now).graph.ends (layer_said c.in-Some.layer) c.next.new.self c.args.layers l.ups l.moved l.count l.wrong j.new.ups j.new.moved j.result
-    (here at) j.ensures.count (step at) (is_rank at) c.if-count-layer.false
+    let j = c.join_items-count in (
+      ranking_on c.args.present.now (network_of c.args.present.now).graph.ends (layer_said c.in-Some.layer) c.next.new.self c.args.layers l.ups l.moved l.count l.wrong j.new.ups j.new.moved j.result
+          (here at) j.ensures.count (step at) (is_rank at) c.if-count-layer.false,
+      j.ensures.hubs,
+      j.ensures.hub_room ∙ l.invariant.2,
+    )
 
 pub loop-layer-preserved-then-count-layer : goal.loop-layer-preserved-then-count-layer
 loop-layer-preserved-then-count-layer c =
     let at = (goal.at.loop-layer-preserved-then-count-layer c).After-join_items-count in
     let l = c.loop-layer in
-    let j = c.join_items-count in
-    ranking_wrong c.args.present.now (network_of c.args.present.now).graph.ends (layer_said c.in-Some.layer) c.next.new.self c.args.layers l.ups l.moved l.count l.wrong j.new.ups j.new.moved j.result
-    (here at) j.ensures.count (step at) (is_rank at) c.if-count-layer.true
+    let j = c.join_items-count in (
+      ranking_wrong c.args.present.now (network_of c.args.present.now).graph.ends (layer_said c.in-Some.layer) c.next.new.self c.args.layers l.ups l.moved l.count l.wrong j.new.ups j.new.moved j.result
+          (here at) j.ensures.count (step at) (is_rank at) c.if-count-layer.true,
+      j.ensures.hubs,
+      j.ensures.hub_room ∙ l.invariant.2,
+    )
+
+pub join_items-count-requires-clause-hubs : goal.join_items-count-requires-clause-hubs
+join_items-count-requires-clause-hubs c = c.loop-layer.invariant.1
+
+pub join_items-count-requires-clause-hub_room : goal.join_items-count-requires-clause-hub_room
+join_items-count-requires-clause-hub_room c = let e = c.loop-layer.invariant.2 in omega (arith, e, c.loop-layer.auto.ups, c.requires.hubs)
+
+pub join_items-count-requires-clause-count : goal.join_items-count-requires-clause-count
+join_items-count-requires-clause-count c = c.loop-layer.invariant.0.fits
+
+pub join_items-count-requires-clause-joined : goal.join_items-count-requires-clause-joined
+join_items-count-requires-clause-joined c =
+    let i = c.loop-layer.invariant.0 in
+    (onto (network_of c.args.present.now).graph.ends (flat_map (touches_of c.args.present.now) i.before) [], i.joined)
+
+pub returns-clause-hubs : goal.returns-clause-hubs
+returns-clause-hubs c = c.loop-layer.invariant.2
+
+pub loop-layer-init : goal.loop-layer-init
+loop-layer-init c =
+    rw c.into_iter-layer-iterator.ensures.into_iter_gives (
+      record { fits = omega arith; before = []; joined = c.requires.clear; going = refl },
+      λ v i. absurd (subst (λ (h : Hubs). In v h.list) c.clear.ensures.empty i),
+      ap (λ (h : Hubs). h.room) c.clear.ensures.empty,
+    )

@@ -1,4 +1,4 @@
-use Rattle.std.proofs.Common.{[], ◌++◌, ◌∙◌, List, ap, arith, sym, subst}
+use Rattle.std.proofs.Common.{[], ◌++◌, ◌∙◌, List, refl, ap, arith, sym, subst}
 use Rattle.std.specs.List.{flat_map}
 use Rattle.obs_case.specs.Tables.{Tables}
 use Rattle.obs_network.specs.Network.{network_of}
@@ -11,18 +11,23 @@ use Rattle.obs_cert.proofs.lists.join_items.Goals as goal
 
 pub loop-item-init : goal.loop-item-init
 loop-item-init c =
-    rw c.into_iter-item-iterator.ensures.into_iter_gives
-    (joining_none (network_of c.args.present.now).graph.ends (flat_map (touches_of c.args.present.now) (items_of c.args.present.now c.args.items)) c.args.ups.now c.args.moved.now c.args.count c.requires.count)
+    rw c.into_iter-item-iterator.ensures.into_iter_gives (
+      joining_none (network_of c.args.present.now).graph.ends (flat_map (touches_of c.args.present.now) (items_of c.args.present.now c.args.items)) c.args.ups.now c.args.moved.now c.args.count c.requires.count,
+      c.requires.hubs,
+      refl,
+    )
 
-pub join_touched-count-requires : goal.join_touched-count-requires
-join_touched-count-requires c =
-    let i = c.loop-item.invariant in
+pub join_item-count-requires : goal.join_item-count-requires
+join_item-count-requires c =
+    let i = c.loop-item.invariant.0 in
     let q = i.joined c.requires.joined.0 c.requires.joined.1 in
     record {
       joined = (q.0, q.1);
       vertices = omega (arith, i.ups_len, c.requires.vertices);
       room = omega (arith, i.ups_len, i.moved_len, c.requires.room);
       count = i.fits;
+      hubs = c.loop-item.invariant.1;
+      hub_room = let e = c.loop-item.invariant.2 in omega (arith, i.ups_len, e, c.requires.hub_room);
     }
 
 pub loop-item-preserved : goal.loop-item-preserved
@@ -34,11 +39,14 @@ loop-item-preserved c =
     let all = flat_map (touches_of case) (items_of case c.args.items) in
     let left = flat_map (touches_of case) (items_of case c.next.new.self) in
     let i : IsJoining ends (touches_of case m ++ left) all c.args.ups.now c.args.moved.now c.args.count l.ups l.moved l.count =
-    subst (λ (is : List Item). IsJoining ends (flat_map (touches_of case) (items_of case is)) all c.args.ups.now c.args.moved.now c.args.count l.ups l.moved l.count) c.in-Some.ensures.steps l.invariant in
-    joining_some ends (touches_of case m) left all c.args.ups.now c.args.moved.now c.args.count l.ups l.moved l.count
-    c.join_touched-count.new.ups c.join_touched-count.new.moved c.join_touched-count.result i
-    c.join_touched-count.ensures.count c.join_touched-count.auto.ups c.join_touched-count.auto.moved
-    (rw (sym (c.item_of.ensures.number ∙ ap (λ (t : Tables). item_of t (item_said c.in-Some.item)) c.case-case.ensures.case)) c.join_touched-count.ensures.joined)
+    subst (λ (is : List Item). IsJoining ends (flat_map (touches_of case) (items_of case is)) all c.args.ups.now c.args.moved.now c.args.count l.ups l.moved l.count) c.in-Some.ensures.steps l.invariant.0 in (
+      joining_some ends (touches_of case m) left all c.args.ups.now c.args.moved.now c.args.count l.ups l.moved l.count
+          c.join_item-count.new.ups c.join_item-count.new.moved c.join_item-count.result i
+          c.join_item-count.ensures.count c.join_item-count.auto.ups c.join_item-count.auto.moved
+          (rw (sym (c.item_of.ensures.number ∙ ap (λ (t : Tables). item_of t (item_said c.in-Some.item)) c.case-case.ensures.case)) c.join_item-count.ensures.joined),
+      c.join_item-count.ensures.hubs,
+      c.join_item-count.ensures.hub_room ∙ l.invariant.2,
+    )
 
 pub returns : goal.returns
 returns c =
@@ -47,5 +55,5 @@ returns c =
     let ends = (network_of c.args.present.now).graph.ends in
     let all = flat_map (touches_of case) (items_of case c.args.items) in
     let i : IsJoining ends [] all c.args.ups.now c.args.moved.now c.args.count l.ups l.moved l.count =
-    subst (λ (is : List Item). IsJoining ends (flat_map (touches_of case) (items_of case is)) all c.args.ups.now c.args.moved.now c.args.count l.ups l.moved l.count) c.in-None.ensures.steps l.invariant in
-    record { joined = joining_end ends all c.args.ups.now c.args.moved.now c.args.count l.ups l.moved l.count i; count = i.fits; valid = c.case-case.ensures.valid }
+    subst (λ (is : List Item). IsJoining ends (flat_map (touches_of case) (items_of case is)) all c.args.ups.now c.args.moved.now c.args.count l.ups l.moved l.count) c.in-None.ensures.steps l.invariant.0 in
+    record { joined = joining_end ends all c.args.ups.now c.args.moved.now c.args.count l.ups l.moved l.count i; count = i.fits; hubs = l.invariant.1; hub_room = l.invariant.2; valid = c.case-case.ensures.valid }

@@ -4,7 +4,7 @@ use Rattle.obs_case.specs.Tables.{Tables}
 use Rattle.obs_cert.specs.Flaws.{Listed, costs_clauses, first_true, listed_layers, wrong_outside}
 use Rattle.obs_cert.specs.Scopes.{is_below}
 use Rattle.obs_cert.specs.Walked.{cost_of, parts_in}
-use Rattle.obs_cert.proofs.ClaimLemmas.{layers_outside, layers_rank, layers_rest, ready_joined}
+use Rattle.obs_cert.proofs.ClaimLemmas.{layers_outside, layers_rank, layers_rest, ready_hubs, ready_joined}
 use Rattle.obs_cert.proofs.plans.layers.Goals as goal
 
 pub returns-then-has_wrong_outside-clause-flaw : goal.returns-then-has_wrong_outside-clause-flaw
@@ -22,17 +22,17 @@ returns-clause-flaw c =
 pub returns-then-has_wrong_rank-clause-ready : goal.returns-then-has_wrong_rank-clause-ready
 returns-then-has_wrong_rank-clause-ready c stamp r =
     let j = c.has_wrong_rank in
-    ready_joined c.args.present.now stamp c.args.work.now j.new.ups j.new.moved r (j.auto.ups ∙ ap length c.deref_mut.ensures.value) (j.auto.moved ∙ ap length c.deref_mut-2.ensures.value) j.ensures.clear
+    ready_joined c.args.present.now stamp (record c.args.work.now { hubs = j.new.hubs }) j.new.ups j.new.moved (ready_hubs c.args.present.now stamp c.args.work.now j.new.hubs r j.ensures.hubs) (j.auto.ups ∙ ap length c.deref_mut.ensures.value) (j.auto.moved ∙ ap length c.deref_mut-2.ensures.value) j.ensures.clear
 
 pub returns-then-has_wrong_outside-clause-ready : goal.returns-then-has_wrong_outside-clause-ready
 returns-then-has_wrong_outside-clause-ready c stamp r =
     let j = c.has_wrong_rank in
-    ready_joined c.args.present.now stamp c.args.work.now j.new.ups j.new.moved r (j.auto.ups ∙ ap length c.deref_mut.ensures.value) (j.auto.moved ∙ ap length c.deref_mut-2.ensures.value) j.ensures.clear
+    ready_joined c.args.present.now stamp (record c.args.work.now { hubs = j.new.hubs }) j.new.ups j.new.moved (ready_hubs c.args.present.now stamp c.args.work.now j.new.hubs r j.ensures.hubs) (j.auto.ups ∙ ap length c.deref_mut.ensures.value) (j.auto.moved ∙ ap length c.deref_mut-2.ensures.value) j.ensures.clear
 
 pub returns-clause-ready : goal.returns-clause-ready
 returns-clause-ready c stamp r =
     let j = c.has_wrong_rank in
-    ready_joined c.args.present.now stamp c.args.work.now j.new.ups j.new.moved r (j.auto.ups ∙ ap length c.deref_mut.ensures.value) (j.auto.moved ∙ ap length c.deref_mut-2.ensures.value) j.ensures.clear
+    ready_joined c.args.present.now stamp (record c.args.work.now { hubs = j.new.hubs }) j.new.ups j.new.moved (ready_hubs c.args.present.now stamp c.args.work.now j.new.hubs r j.ensures.hubs) (j.auto.ups ∙ ap length c.deref_mut.ensures.value) (j.auto.moved ∙ ap length c.deref_mut-2.ensures.value) j.ensures.clear
 
 pub has_wrong_rank-requires-clause-clear : goal.has_wrong_rank-requires-clause-clear
 has_wrong_rank-requires-clause-clear c = rw c.deref_mut.ensures.value c.requires.clear
@@ -55,3 +55,6 @@ has_wrong_outside-requires-clause-once c = rw (c.case-case.ensures.case, c.walk_
 pub returns-then-has_wrong_rank-clause-flaw : goal.returns-then-has_wrong_rank-clause-flaw
 returns-then-has_wrong_rank-clause-flaw c =
     layers_rank c.args.present.now (cost_of c.args.number (parts_in c.args.rest.now)) (rw (sym c.walk_layers.ensures.layers) (sym c.if-has_wrong_rank.ensures.rank))
+
+pub has_wrong_rank-requires-clause-hubs : goal.has_wrong_rank-requires-clause-hubs
+has_wrong_rank-requires-clause-hubs c = rw c.deref_mut.ensures.value c.requires.room.hubs

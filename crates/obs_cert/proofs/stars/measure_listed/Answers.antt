@@ -54,3 +54,9 @@ returns-clause-clear c = c.measure_items.ensures.clear
 
 pub returns-clause-kept : goal.returns-clause-kept
 returns-clause-kept c = c.requires.kept
+
+pub measure_items-requires-clause-hubs : goal.measure_items-requires-clause-hubs
+measure_items-requires-clause-hubs c = c.requires.hubs
+
+pub returns-clause-hubs : goal.returns-clause-hubs
+returns-clause-hubs c = c.measure_items.ensures.hubs

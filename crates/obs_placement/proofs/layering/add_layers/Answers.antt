@@ -4,7 +4,7 @@ use Rattle.obs_assign.specs.Assignment.{has_flag}
 use Rattle.obs_placement.specs.Counting.{live_below, raised_below}
 use Rattle.obs_placement.specs.Offer.{price_in}
 use Rattle.obs_placement.specs.Order.{item_at}
-use Rattle.obs_placement.proofs.LaidOut.{IsLaying-begun, IsLaying-inside, IsLaying-layers, IsLaying-more, IsLaying-over}
+use Rattle.obs_placement.proofs.LaidOut.{AreFirstBelow-none, IsLaying-begun, IsLaying-inside, IsLaying-layers, IsLaying-more, IsLaying-over}
 use Rattle.obs_placement.proofs.Tallied.{AreCounted-none}
 use Rattle.obs_placement.proofs.layering.add_layers.Goals as goal
 use Rattle.obs_placement.proofs.layering.add_layers.Goals.{then-last-price+then-raised, else-last-price, else-last-price-via-then-last-price+else-raised, else-last-price-via-else-last-price}
@@ -13,10 +13,13 @@ pub loop-k-init : goal.loop-k-init
 loop-k-init c =
     let o = c.args.offer.now in
     let chosen = c.args.choosing.now in
-    rw (c.clear.ensures.cleared, c.nothing_counted-tally.ensures.value) (
+    let e = c.begin.ensures in
+    rw (e.begun, c.nothing_counted-tally.ensures.value) (
       IsLaying-begun o.graph.now.vertices o.graph.now.ends o.items.now.touches o.meters o.prices.now chosen.keys chosen.since,
       AreCounted-none o.graph.now o.items.now.touches (price_in o) chosen.keys,
       refl,
+      rw (← c.since.ensures.since) e.order,
+      AreFirstBelow-none chosen.since c.begin.new.self.keys,
     )
 
 pub loop-k-preserved : goal.loop-k-preserved
@@ -39,9 +42,11 @@ loop-k-preserved c =
           rw (w.laying-is, w.last-is) (
             IsLaying-more G.vertices G.ends T o.meters o.prices.now t.keys t.since order c.requires.offer.items l.k l.last l.laying.layers l.laying.inside h low
                 (sym (w.raised.ensures.raised ∙ flag) ∙ w.if-raised.true) c.key-price.result.0 key w.if-last-price.true
-                w.add_layer.new.laying.layers w.add_layer.new.laying.inside e.layer (rw w.since.ensures.since at e.upto) e.listed,
+                w.add_layer.new.laying.layers w.add_layer.new.laying.inside e.layer (rw w.since-then-raised.ensures.since at e.upto) e.listed,
             counted,
             e.room ∙ l.invariant.2,
+            rw e.keys l.invariant.3,
+            rw e.keys (rw (← w.since-then-raised.ensures.since) e.first),
           )
       | else-last-price w ↦ rw (w.laying-is, w.last-is) (
         IsLaying-over G.vertices G.ends T o.meters o.prices.now t.keys t.since order c.requires.offer.items l.k l.last l.laying.layers l.laying.inside h
@@ -51,6 +56,8 @@ loop-k-preserved c =
             ]),
         counted,
         l.invariant.2,
+        l.invariant.3,
+        l.invariant.4,
       )
     ]
 
@@ -86,7 +93,7 @@ pub add_layer-requires-clause-offer : goal.add_layer-requires-clause-offer
 add_layer-requires-clause-offer c = c.requires.offer
 
 pub add_layer-requires-clause-known : goal.add_layer-requires-clause-known
-add_layer-requires-clause-known c = rw c.since.ensures.since c.requires.chosen.known
+add_layer-requires-clause-known c = rw c.since-then-raised.ensures.since c.requires.chosen.known
 
 pub add_layer-requires-clause-live : goal.add_layer-requires-clause-live
 add_layer-requires-clause-live c =
@@ -114,4 +121,10 @@ pub add_layer-requires-clause-inside : goal.add_layer-requires-clause-inside
 add_layer-requires-clause-inside c = let e = c.loop-k.invariant.2 in omega (arith, e, c.requires.room)
 
 pub add_layer-requires-clause-upto : goal.add_layer-requires-clause-upto
-add_layer-requires-clause-upto c = rw c.since.ensures.since c.loop-k.invariant.0.known
+add_layer-requires-clause-upto c = rw c.since-then-raised.ensures.since c.loop-k.invariant.0.known
+
+pub add_layer-requires-clause-order : goal.add_layer-requires-clause-order
+add_layer-requires-clause-order c = rw c.since-then-raised.ensures.since c.loop-k.invariant.3
+
+pub add_layer-requires-clause-first : goal.add_layer-requires-clause-first
+add_layer-requires-clause-first c = rw c.since-then-raised.ensures.since c.loop-k.invariant.4

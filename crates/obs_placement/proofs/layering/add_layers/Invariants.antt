@@ -1,6 +1,9 @@
-use Rattle.std.proofs.Common.{◌≡◌}
+use Rattle.std.proofs.Common.{◌≡◌, length}
+use Rattle.obs_placement.specs.Choosing.{AreFirstBelow}
 use Rattle.obs_placement.specs.Counting.{AreCounted}
 use Rattle.obs_placement.specs.Offer.{price_in}
+use Rattle.obs_placement.specs.Order.{IsOrder}
+use Rattle.obs_placement.specs.Taking.{since_at}
 use Rattle.obs_placement.proofs.LaidOut.{IsLaying}
 use Rattle.obs_placement.proofs.layering.add_layers.Given as goal
 
@@ -8,3 +11,5 @@ abbrev pub invariant-loop-k : goal.invariant-loop-k
 invariant-loop-k l =
     IsLaying l.offer.graph.now.vertices l.offer.graph.now.ends l.offer.items.now.touches l.offer.meters l.offer.prices.now l.choosing.keys l.choosing.since l.k l.last l.laying.layers l.laying.inside
     × AreCounted l.offer.graph.now l.offer.items.now.touches (price_in l.offer) l.choosing.keys l.k l.tally × (l.laying.room ≡ l.fn.laying.room)
+    × IsOrder (since_at l.choosing.since) (length l.choosing.since) l.laying.keys
+    × AreFirstBelow l.choosing.since l.laying.keys (length l.laying.inside) l.last

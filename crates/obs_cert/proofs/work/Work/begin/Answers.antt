@@ -22,6 +22,7 @@ returns-clause-room c = λ rows room.
       few = omega (arith, room.few, long);
       moved = omega (arith, room.moved, long);
       stars = omega (arith, room.stars, long, c.fill-5.ensures.len);
+      hubs = omega (arith, room.hubs, long);
     }
 
 pub returns-clause-ready : goal.returns-clause-ready
