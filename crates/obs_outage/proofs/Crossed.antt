@@ -92,10 +92,10 @@ module _ (e : ℕ) (n o : Network) (same : AreSameBut e n o) (meters : length o.
         | inr ne ↦ ne (slots_apart a.forest.held a.slots h.whole.paired.holds.forest x m e (sym (get_or-set_other a.slots m x None None ne) ∙ at) has)
       ]) stands
 
-  -- and those that are longest over the other network, where the branch is absent, stand over the one
-  pub grown_here : get_or o.graph.ends e None ≡ None → (b : Assignment) → AreLongestOver o b → StandsOver b n.graph n.meters.touches
-  grown_here gone b h = stands_here b h.whole (λ x k.
-      true≢false (sym (touched-present o.graph.ends (get_or o.meters.touches x Nothing) e (h.stands.touched x e k)) ∙ ap (λ (y : Option Ends). is_some y) gone)) h.stands
+  -- and those that stand over the other network, where the branch is absent, stand over the one
+  pub stands_here_without : get_or o.graph.ends e None ≡ None → (b : Assignment) → IsWhole b → StandsOver b o.graph o.meters.touches → StandsOver b n.graph n.meters.touches
+  stands_here_without gone b whole stands = stands_here b whole (λ x k.
+      true≢false (sym (touched-present o.graph.ends (get_or o.meters.touches x Nothing) e (stands.touched x e k)) ∙ ap (λ (y : Option Ends). is_some y) gone)) stands
 
 -- the outage case of a row has none there
 pub gone_out : (t : Tables) → IsValid t → (e : ℕ) → In e (outage_rows t) → get_or (case_branches (outage_case t e)) e None ≡ None

@@ -4,13 +4,16 @@ pub mod Carried
 pub mod Costing
 pub mod Joined
 pub mod Crossed
+pub mod Alone
 pub mod Entries
 pub mod Reported
 pub mod Parting
 pub mod Feeding
 pub mod Putting
+pub mod PutWhole
 pub mod Flagging
 pub mod Sparing
+pub mod Needed
 pub mod SparedBy
 pub mod SideForests
 pub mod Unfed

@@ -4,5 +4,7 @@ pub mod Feeds
 pub mod Spared
 pub mod Sparing
 pub mod Costly
+pub mod Alone
 pub mod Entry
+pub mod Told
 pub mod Lost

@@ -5,12 +5,10 @@ ghost use Rattle.obs_matroid.specs.Lists.{In};
 ghost use Rattle.obs_kept.specs.Kept.{AreLongest};
 ghost use Rattle.obs_network.specs.Network.{case_needed, case_rows, network_of};
 ghost use Rattle.obs_network.specs.Parted.{IsSide, outage_case};
-ghost use Rattle.obs_outage.specs.Costly.{AreCostly};
 ghost use Rattle.obs_outage.specs.Feeds.{AreFeeds, IsFall};
 ghost use Rattle.obs_outage.specs.Lost.{IsConfined, IsConfinedBeside, IsUnfed, IsUnfedBeside};
 ghost use Rattle.obs_outage.specs.Outages.{outage_of, outage_rows};
-ghost use Rattle.obs_outage.specs.Spared.{AreSpared};
-ghost use Rattle.obs_outage.specs.Sparing.{HasFlags};
+ghost use Rattle.obs_outage.specs.Told.{AreTold};
 
 use crate::Outage;
 use crate::dead::{count_lost, is_confined, is_confined_beside};
@@ -150,9 +148,7 @@ pub(crate) fn parted_entry(
     requires valid { IsValid case.now }
     requires network { network.now ≡ network_of case.now }
     requires longest { AreLongest case.now pairs.now }
-    requires flags { HasFlags network.now spared.now }
-    requires spared { AreSpared network.now spared.now.flags }
-    requires costly { AreCostly network.now spared.now.costly }
+    requires told { AreTold network.now spared.now }
     requires feeds { AreFeeds case.now feeds.now }
     requires row { In e (outage_rows case.now) }
     requires side { IsSide (case_rows case.now) e side.now }

@@ -1,15 +1,13 @@
 // The entry of one row.
-ghost use Rattle.std.specs.Prelude.{◌≡◌, ◌≢◌, ◌⊎◌, ◌<◌, ℕ, IfSome, IsTrue, Some, length, true};
+ghost use Rattle.std.specs.Prelude.{◌≡◌, ◌≢◌, ◌⊎◌, ◌<◌, ℕ, IfNone, IfSome, IsTrue, Some, false, length, true};
 ghost use Rattle.obs_matroid.specs.Lists.{In};
 ghost use Rattle.obs_assign.specs.Assignment.{branch_at, has_flag};
 ghost use Rattle.obs_network.specs.Network.{network_of};
 ghost use Rattle.obs_kept.specs.Kept.{AreLongest, HasRoom};
 ghost use Rattle.obs_outage.specs.Feeds.{AreFeeds};
 ghost use Rattle.obs_outage.specs.Outages.{AllStand, outage_of, outage_rows};
-ghost use Rattle.obs_outage.specs.Costly.{AreCostly};
 ghost use Rattle.obs_outage.specs.Entry.{IsKnownEntry};
-ghost use Rattle.obs_outage.specs.Spared.{AreSpared};
-ghost use Rattle.obs_outage.specs.Sparing.{HasFlags};
+ghost use Rattle.obs_outage.specs.Told.{AreTold};
 
 use crate::Outage;
 use crate::bridges::parted_entry;
@@ -29,6 +27,7 @@ fn is_spared(pairs: &Assignment, spared: &[bool], e: u32) -> bool
     requires flags { e < length spared.now }
     ensures spared { IsTrue result →
         (has_flag spared.now e ≡ true) ⊎ ((m : ℕ) → branch_at pairs.now m ≢ Some e) }
+    ensures unspared { result ≡ false → has_flag spared.now e ≡ false }
 {
     spared[e as usize] || pairs.meter_of(e).is_none()
 }
@@ -45,6 +44,8 @@ pub(crate) fn known_entry(
     requires flags { e < length spared.now.flags }
     requires costly { e < length spared.now.costly }
     ensures entry { IfSome result (λ o. IsKnownEntry pairs.now spared.now e needed o) }
+    ensures unspared { IfNone result (has_flag spared.now.flags e ≡ false) }
+    ensures uncostly { IfNone result (has_flag spared.now.costly e ≡ false) }
 {
     let most = pairs.length();
     if is_spared(pairs, spared.flags(), e) {
@@ -83,9 +84,7 @@ pub(crate) fn entry_of<L: Ledger>(
     requires room { HasRoom kept.old.network kept.old.pairs kept.old.work }
     requires other { other.old ≡ kept.old.network }
     requires sides { sides.old.most_vertices ≡ kept.old.network.graph.most_vertices }
-    requires flags { HasFlags kept.old.network spared.now }
-    requires spared { AreSpared kept.old.network spared.now.flags }
-    requires costly { AreCostly kept.old.network spared.now.costly }
+    requires told { AreTold kept.old.network spared.now }
     requires feeds { AreFeeds case.old feeds.now }
     ensures entry { result ≡ outage_of case.old e }
     ensures quiet { AllStand case.old kept.old.pairs e →

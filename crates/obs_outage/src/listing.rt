@@ -4,9 +4,7 @@ ghost use Rattle.obs_network.specs.Network.{network_of};
 ghost use Rattle.obs_kept.specs.Kept.{AreLongest, HasRoom};
 ghost use Rattle.obs_outage.specs.Feeds.{AreFeeds};
 ghost use Rattle.obs_outage.specs.Outages.{outages_of};
-ghost use Rattle.obs_outage.specs.Costly.{AreCostly};
-ghost use Rattle.obs_outage.specs.Spared.{AreSpared};
-ghost use Rattle.obs_outage.specs.Sparing.{HasFlags};
+ghost use Rattle.obs_outage.specs.Told.{AreTold};
 
 use crate::Outage;
 use crate::entry::entry_of;
@@ -42,9 +40,7 @@ pub(crate) fn list_outages<L: Ledger>(
     requires room { HasRoom kept.old.network kept.old.pairs kept.old.work }
     requires other { other.old ≡ kept.old.network }
     requires sides { sides.old.most_vertices ≡ kept.old.network.graph.most_vertices }
-    requires flags { HasFlags kept.old.network spared.now }
-    requires spared { AreSpared kept.old.network spared.now.flags }
-    requires costly { AreCostly kept.old.network spared.now.costly }
+    requires told { AreTold kept.old.network spared.now }
     requires feeds { AreFeeds case.old feeds.now }
     requires entries { length case.old.branches ≤ length entries.old }
     ensures listed { take result entries.new ≡ outages_of case.old }

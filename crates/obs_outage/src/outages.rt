@@ -46,9 +46,7 @@ impl Model for Outages {
     ghost use Rattle.std.specs.Prelude.{◌≡◌, ◌≤◌, length, take};
     ghost use Rattle.obs_kept.specs.Kept.{AreLongestOver, HasRoom};
     ghost use Rattle.obs_outage.specs.Outages.{Outages};
-    ghost use Rattle.obs_outage.specs.Costly.{AreCostly};
-    ghost use Rattle.obs_outage.specs.Spared.{AreSpared};
-    ghost use Rattle.obs_outage.specs.Sparing.{HasFlags};
+    ghost use Rattle.obs_outage.specs.Told.{AreTold};
 
     ghost Value = { Outages };
 
@@ -59,9 +57,7 @@ impl Model for Outages {
       room : HasRoom o.kept.network o.kept.pairs o.kept.work;
       other : o.other ≡ o.kept.network;
       sides : o.sides.most_vertices ≡ o.kept.network.graph.most_vertices;
-      flags : HasFlags o.kept.network o.spared;
-      spared : AreSpared o.kept.network o.spared.flags;
-      costly : AreCostly o.kept.network o.spared.costly;
+      told : AreTold o.kept.network o.spared;
       fed_buses : length o.feeds.of_buses ≡ o.kept.network.rows.nodes;
       fed_components : length o.feeds.of_components ≡ o.kept.network.rows.nodes;
       fed_pairs : length o.feeds.pairs ≡ o.kept.network.rows.nodes;

@@ -1,14 +1,13 @@
 // The branches of a network that a longest assignment can miss, found once for all of them.
-ghost use Rattle.std.specs.Prelude.{◌≡◌, ◌<◌, ◌≤◌, ℕ, All, IfOk, None, length, slice_index_or, take, true};
+ghost use Rattle.std.specs.Prelude.{◌≡◌, ◌<◌, ◌≤◌, ℕ, All, IfOk, None, false, length, slice_index_or, take, true};
 ghost use Rattle.obs_graph.specs.Positions.{branches_at};
 ghost use Rattle.obs_meter.specs.declared.Touch.TheVariants.{Nothing};
 ghost use Rattle.obs_meter.specs.Touches.{AreInRange, IsInRange, touch_at};
 ghost use Rattle.obs_assign.specs.Assignment.{has_flag};
 ghost use Rattle.obs_network.specs.Network.{network_of};
 ghost use Rattle.obs_kept.specs.Kept.{AreLongest, HasRoom};
-ghost use Rattle.obs_outage.specs.Costly.{AreCostly};
-ghost use Rattle.obs_outage.specs.Spared.{AreSpared};
-ghost use Rattle.obs_outage.specs.Sparing.{AreMissed, ArePut, AreTouchedBy, CanBeMissed, HasFlags};
+ghost use Rattle.obs_outage.specs.Sparing.{AreMissed, AreNeeded, ArePaired, ArePut, AreTouchedBy, CanBeMissed, HasFlags, HasFronts, HasPut, HasTouched, IsNeeded};
+ghost use Rattle.obs_outage.specs.Told.{AreTold};
 
 use crate::costly::flag_costly;
 use crate::memory::NoMemory;
@@ -28,6 +27,7 @@ fn put_all(g: &Graph, positions: &[u32], part: &mut [Option<Ends>])
     requires low { All (λ e. e < length g.now.ends) positions.now }
     requires one_each { length part.old ≡ length g.now.ends }
     ensures put { ArePut g.now.ends part.old positions.now part.new }
+    ensures whole { HasPut g.now.ends part.old positions.now part.new }
 {
     for e in positions {
         part[*e as usize] = g.ends(*e);
@@ -40,7 +40,10 @@ fn put_hub(g: &Graph, hub: Hub, fronts: &mut [usize], part: &mut [Option<Ends>])
     requires count { hub.count ≤ length (branches_at g.now.ends hub.vertex) }
     requires fronts { g.now.vertices ≤ length fronts.old }
     requires one_each { length part.old ≡ length g.now.ends }
+    requires known { HasFronts g.now.ends fronts.old part.old }
     ensures put { ArePut g.now.ends part.old (take hub.count (branches_at g.now.ends hub.vertex)) part.new }
+    ensures whole { HasPut g.now.ends part.old (take hub.count (branches_at g.now.ends hub.vertex)) part.new }
+    ensures known { HasFronts g.now.ends fronts.new part.new }
 {
     let known = fronts[hub.vertex as usize];
     if known < hub.count {
@@ -56,7 +59,10 @@ fn put_touched(g: &Graph, ms: &Meters, m: u32, fronts: &mut [usize], part: &mut 
     requires in_range { IsInRange g.now (slice_index_or ms.now.touches m Nothing) }
     requires fronts { g.now.vertices ≤ length fronts.old }
     requires one_each { length part.old ≡ length g.now.ends }
+    requires known { HasFronts g.now.ends fronts.old part.old }
     ensures put { ArePut g.now.ends part.old (touch_at g.now.ends ms.now.touches m) part.new }
+    ensures whole { HasPut g.now.ends part.old (touch_at g.now.ends ms.now.touches m) part.new }
+    ensures known { HasFronts g.now.ends fronts.new part.new }
 {
     match ms.hub(g, m) {
         Some(hub) => put_hub(g, hub, fronts, part),
@@ -69,6 +75,13 @@ fn empty(part: &mut [Option<Ends>])
     ensures none { (e : ℕ) → slice_index_or part.new e None ≡ None }
 {
     part.fill(None);
+}
+
+// Notes that no branch at any vertex is put in.
+fn forget(fronts: &mut [usize])
+    ensures none { (v : ℕ) → slice_index_or fronts.new v 0 ≡ 0 }
+{
+    fronts.fill(0);
 }
 
 // Makes a part have the branches that the marked meters touch.
@@ -84,8 +97,9 @@ fn put_marked(
     requires fronts { g.now.vertices ≤ length fronts.old }
     requires one_each { length part.old ≡ length g.now.ends }
     ensures touched { AreTouchedBy g.now.ends ms.now.touches (has_flag marks.now) part.new }
+    ensures whole { HasTouched g.now.ends ms.now.touches (has_flag marks.now) part.new }
 {
-    fronts.fill(0);
+    forget(fronts);
     empty(part);
     for m in 0..ms.count() {
         if marks[m as usize] {
@@ -110,6 +124,7 @@ fn refill_touched(
     requires vertices { g.now.vertices ≤ touched.old.most_vertices }
     requires branches { length g.now.ends ≤ touched.old.most_branches }
     ensures touched { AreTouchedBy g.now.ends ms.now.touches (has_flag marks.now) touched.new.ends }
+    ensures whole { HasTouched g.now.ends ms.now.touches (has_flag marks.now) touched.new.ends }
     ensures one_each { length touched.new.ends ≡ length g.now.ends }
     ensures vertices { touched.new.vertices ≡ g.now.vertices }
     ensures most_vertices { touched.new.most_vertices ≡ touched.old.most_vertices }
@@ -122,6 +137,7 @@ fn refill_touched(
 // Whether a part has a branch that no pair has. Where it has none its branches are a forest, and no walk finds any joined.
 fn has_unpaired(pairs: &Assignment, part: &Graph) -> bool
     requires one_each { length part.now.ends ≡ length pairs.now.forest.held }
+    ensures paired { result ≡ false → ArePaired pairs.now part.now.ends }
 {
     for e in 0..part.positions() {
         if part.ends(e).is_some() && pairs.meter_of(e).is_none() {
@@ -136,7 +152,9 @@ fn can_be_missed(pairs: &Assignment, part: &Graph, walks: bool, sides: &mut Side
     requires branch { e < length part.now.ends }
     requires one_each { length part.now.ends ≡ length pairs.now.forest.held }
     requires room { part.now.vertices ≤ sides.old.most_vertices }
+    requires paired { walks ≡ false → ArePaired pairs.now part.now.ends }
     ensures missed { result ≡ true → CanBeMissed pairs.now part.now.ends e }
+    ensures needed { result ≡ false → IsNeeded pairs.now part.now.ends e }
     ensures room { sides.new.most_vertices ≡ sides.old.most_vertices }
 {
     if pairs.meter_of(e).is_none() {
@@ -152,6 +170,7 @@ fn flag_rows(pairs: &Assignment, part: &Graph, rows: u32, sides: &mut Sides, fla
     requires flags { length flags.old ≡ length part.now.ends }
     requires room { part.now.vertices ≤ sides.old.most_vertices }
     ensures missed { AreMissed pairs.now part.now.ends flags.new }
+    ensures needed { AreNeeded pairs.now part.now.ends rows flags.new }
     ensures room { sides.new.most_vertices ≡ sides.old.most_vertices }
 {
     flags.fill(false);
@@ -219,7 +238,8 @@ impl Spared {
     }
 
     /// Finds which rows are spared: those that no pair has, and those whose ends are joined by other branches that
-    /// redundant meters touch; and which are costly: those of critical flows. The pairs are longest, and stay.
+    /// redundant meters touch; and which are costly: those of critical flows, and the others that redundant meters touch. The
+    /// pairs are longest, and stay.
     pub(crate) fn find<L: Ledger>(
         &mut self,
         case: &Case,
@@ -232,12 +252,10 @@ impl Spared {
         requires room { HasRoom kept.old.network kept.old.pairs kept.old.work }
         requires flags { HasFlags kept.old.network self.old }
         requires sides { sides.old.most_vertices ≡ kept.old.network.graph.most_vertices }
-        ensures spared { AreSpared kept.new.network self.new.flags }
-        ensures costly { AreCostly kept.new.network self.new.costly }
+        ensures told { AreTold kept.new.network self.new }
         ensures network { kept.new.network ≡ kept.old.network }
         ensures longest { AreLongest case.now kept.new.pairs }
         ensures room { HasRoom kept.new.network kept.new.pairs kept.new.work }
-        ensures flags { HasFlags kept.new.network self.new }
         ensures sides { sides.new.most_vertices ≡ sides.old.most_vertices }
     {
         let rows = case.branches().len() as u32;
@@ -254,7 +272,16 @@ impl Spared {
         );
         flag_rows(&kept.pairs, &self.touched, rows, sides, &mut self.flags);
         let reached = kept.work.reached();
-        flag_costly(g, ms, &kept.pairs, reached, rows, &mut self.costly);
+        flag_costly(
+            g,
+            ms,
+            &kept.pairs,
+            reached,
+            &self.touched,
+            &self.flags,
+            rows,
+            &mut self.costly,
+        );
     }
 
     /// Of each branch whether it is spared.

@@ -66,7 +66,7 @@ known_entry-requires-clause-flags c =
     let low = row_low c.args.case.now c.args.e c.requires.row in
     let many = length-case_branches c.args.case.now in
     let net = ap (λ (x : Network). length x.graph.ends) c.requires.network in
-    let flags = c.requires.flags.branches in
+    let flags = c.requires.told.flags.branches in
     omega (arith, low, many, net, flags)
 
 pub known_entry-requires-clause-costly : goal.known_entry-requires-clause-costly
@@ -74,7 +74,7 @@ known_entry-requires-clause-costly c =
     let low = row_low c.args.case.now c.args.e c.requires.row in
     let many = length-case_branches c.args.case.now in
     let net = ap (λ (x : Network). length x.graph.ends) c.requires.network in
-    let flags = c.requires.flags.costly in
+    let flags = c.requires.told.flags.costly in
     omega (arith, low, many, net, flags)
 
 pub returns-then-fall-eq1 : goal.returns-then-fall-eq1
@@ -87,7 +87,7 @@ returns-then-fall-eq1 c =
     record {
       entry = if_some c.known_entry.result (λ o told.
           known_is t c.requires.valid e (fall.alone c.if-fall-eq1.true) (row_low t e c.requires.row) c.args.pairs.now c.requires.longest c.args.network.now c.requires.network
-          c.args.spared.now c.requires.spared c.requires.costly (c.needed-before.result - c.in_ok-fall.fall) needed o told) c.known_entry.ensures.entry;
+          c.args.spared.now c.requires.told.spared c.requires.told.costly (c.needed-before.result - c.in_ok-fall.fall) needed o told) c.known_entry.ensures.entry;
     }
 
 pub fall_without-requires-clause-network : goal.fall_without-requires-clause-network

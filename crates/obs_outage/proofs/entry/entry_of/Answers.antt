@@ -3,6 +3,8 @@ use Rattle.std.specs.Prelude.{is_some, slice_index_or, take}
 use Rattle.obs_graph.specs.declared.Ends.{Ends}
 use Rattle.obs_graph.specs.Graph.{Graph}
 use Rattle.obs_case.specs.declared.rows.Branch.{Branch}
+use Rattle.obs_matroid.specs.Lists.{In}
+use Rattle.obs_meter.specs.Touches.{touch_at}
 use Rattle.obs_network.specs.Network.{Network, case_branches, case_rows}
 use Rattle.obs_network.proofs.OfCase.{case_vertex_count-le, few_branches, length-case_branches}
 use Rattle.obs_network.specs.Parted.{AreJoinedWithout, IsSide}
@@ -52,7 +54,7 @@ known_entry-requires-clause-flags g c =
     let low = row_low c.args.case.now c.args.e c.requires.row in
     let many = length-case_branches c.args.case.now in
     let net = ap (λ (x : Network). length x.graph.ends) c.requires.network in
-    let flags = c.requires.flags.branches in
+    let flags = c.requires.told.flags.branches in
     omega (arith, low, many, net, flags)
 
 pub known_entry-requires-clause-costly : goal.known_entry-requires-clause-costly
@@ -60,7 +62,7 @@ known_entry-requires-clause-costly g c =
     let low = row_low c.args.case.now c.args.e c.requires.row in
     let many = length-case_branches c.args.case.now in
     let net = ap (λ (x : Network). length x.graph.ends) c.requires.network in
-    let flags = c.requires.flags.costly in
+    let flags = c.requires.told.flags.costly in
     omega (arith, low, many, net, flags)
 
 pub returns-in-Some-clause-entry : goal.returns-in-Some-clause-entry
@@ -72,7 +74,7 @@ returns-in-Some-clause-entry g c =
     ap (λ (x : Graph). x.ends) c.graph.ensures.graph ∙ ap (λ (x : Network). x.graph.ends) c.requires.network in
     let joined = subst (λ (xs : List (Option Ends)). AreJoinedWithout (take (length c.branches.result.now) xs) e) ends (c.walk-joined.ensures.joined c.if-joined.true) in
     joined_is t c.branches.ensures.valid e c.requires.row (length c.branches.result.now) rows joined c.args.kept.now.network c.requires.network c.args.kept.now.pairs c.requires.longest
-    c.args.spared.now c.requires.spared c.requires.costly c.needed-needed.result c.needed-needed.ensures.needed c.in-Some.entry c.in-Some.ensures.entry
+    c.args.spared.now c.requires.told.spared c.requires.told.costly c.needed-needed.result c.needed-needed.ensures.needed c.in-Some.entry c.in-Some.ensures.entry
 
 pub meter_of-requires : goal.meter_of-requires
 meter_of-requires g c =
@@ -197,14 +199,18 @@ parted_entry-requires-clause-row g c = c.requires.row
 pub parted_entry-requires-clause-longest : goal.parted_entry-requires-clause-longest
 parted_entry-requires-clause-longest g c = c.requires.longest
 
-pub parted_entry-requires-clause-spared : goal.parted_entry-requires-clause-spared
-parted_entry-requires-clause-spared g c = c.requires.spared
+pub parted_entry-requires-clause-told : goal.parted_entry-requires-clause-told
+parted_entry-requires-clause-told g c = c.requires.told
 
-pub parted_entry-requires-clause-flags : goal.parted_entry-requires-clause-flags
-parted_entry-requires-clause-flags g c = c.requires.flags
-
-pub parted_entry-requires-clause-costly : goal.parted_entry-requires-clause-costly
-parted_entry-requires-clause-costly g c = c.requires.costly
+pub joined_outage-requires-clause-critical : goal.joined_outage-requires-clause-critical
+joined_outage-requires-clause-critical g c =
+    let t = c.args.case.now in
+    let e = c.args.e in
+    let m = c.in-Some-meter_of.m in
+    let rows = ap (λ (x : Network). x.rows.branches) c.requires.network in
+    let low = row_low t e c.requires.row in
+    let touched = subst (λ (x : Network). In e (touch_at x.graph.ends x.meters.touches m)) (sym c.requires.network) (c.requires.longest.stands.touched m e c.in-Some-meter_of.ensures.meter) in
+    c.requires.told.settled e m (omega (arith, low, rows)) c.in_default.ensures.unspared c.in_default.ensures.uncostly touched
 
 pub parted_entry-requires-clause-feeds : goal.parted_entry-requires-clause-feeds
 parted_entry-requires-clause-feeds g c = c.requires.feeds

@@ -5,10 +5,8 @@ use Rattle.obs_case.specs.Tables.{Tables}
 use Rattle.obs_matroid.specs.Lists.{In}
 use Rattle.obs_network.specs.Network.{Network, network_of}
 use Rattle.obs_kept.specs.Kept.{AreLongest}
-use Rattle.obs_outage.specs.Costly.{AreCostly}
 use Rattle.obs_outage.specs.Feeds.{AreFeeds}
-use Rattle.obs_outage.specs.Spared.{AreSpared}
-use Rattle.obs_outage.specs.Sparing.{HasFlags}
+use Rattle.obs_outage.specs.Told.{AreTold}
 use Rattle.obs_network.proofs.OfCase.{few_branches, length-case_branches}
 use Rattle.obs_outage.specs.Outages.{is_outage_row, outage_rows}
 use Rattle.obs_outage.proofs.Entries.{IsListing-listed, IsListing-over, all_listed, begun, row_in}
@@ -67,14 +65,8 @@ entry_of-requires-clause-sides g c =
     let inv = c.loop-e.invariant in
     inv.sides ∙ (c.requires.sides ∙ ap (λ (x : Network). x.graph.most_vertices) (sym inv.network))
 
-pub entry_of-requires-clause-flags : goal.entry_of-requires-clause-flags
-entry_of-requires-clause-flags g c = subst (λ (x : Network). HasFlags x c.args.spared.now) (sym c.loop-e.invariant.network) c.requires.flags
-
-pub entry_of-requires-clause-spared : goal.entry_of-requires-clause-spared
-entry_of-requires-clause-spared g c = subst (λ (x : Network). AreSpared x c.args.spared.now.flags) (sym c.loop-e.invariant.network) c.requires.spared
-
-pub entry_of-requires-clause-costly : goal.entry_of-requires-clause-costly
-entry_of-requires-clause-costly g c = subst (λ (x : Network). AreCostly x c.args.spared.now.costly) (sym c.loop-e.invariant.network) c.requires.costly
+pub entry_of-requires-clause-told : goal.entry_of-requires-clause-told
+entry_of-requires-clause-told g c = subst (λ (x : Network). AreTold x c.args.spared.now) (sym c.loop-e.invariant.network) c.requires.told
 
 pub entry_of-requires-clause-feeds : goal.entry_of-requires-clause-feeds
 entry_of-requires-clause-feeds g c = subst (λ (x : Tables). AreFeeds x c.args.feeds.now) (sym c.loop-e.invariant.case) c.requires.feeds

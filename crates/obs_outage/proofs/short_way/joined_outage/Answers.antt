@@ -1,20 +1,21 @@
 use Rattle.std.proofs.Common.{true, false, length, refl, sym, ap, ◌∙◌, subst, arith}
 use Rattle.std.proofs.Common.{None, get_or}
+use Rattle.obs_graph.specs.Positions.{AreBranches}
 use Rattle.obs_case.specs.declared.rows.Branch.{Branch}
 use Rattle.obs_case.specs.Flags.{with_branch_inservice}
 use Rattle.obs_case.specs.Tables.{Tables}
 use Rattle.obs_case.proofs.RowLemmas.{length-changed}
 use Rattle.obs_meter.specs.Assignments.{IsRhoAt}
 use Rattle.obs_meter.specs.Touches.{live_items}
-use Rattle.obs_assign.specs.Assignment.{pairs as pairs_at}
 use Rattle.obs_network.specs.Edited.{AreSameBut}
 use Rattle.obs_network.specs.Network.{Network, network_of}
+use Rattle.obs_network.proofs.OfCase.{case_branches-are}
 use Rattle.obs_kept.specs.Kept.{AreLongestOver}
 use Rattle.obs_kept.proofs.OfNetwork.{room_network, room_stays}
 use Rattle.obs_network.specs.Parted.{outage_case}
-use Rattle.obs_outage.proofs.Carried.{has_room_out, most_at_out}
+use Rattle.obs_outage.proofs.Carried.{has_room_out, within_network}
 use Rattle.obs_outage.proofs.Crossed.{gone_out, rank_there}
-use Rattle.obs_outage.proofs.InOutage.{as_many_meters, as_many_rows}
+use Rattle.obs_outage.proofs.InOutage.{as_many_meters, as_many_rows, out_valid}
 use Rattle.obs_outage.proofs.Joined.{entry_by}
 use Rattle.obs_outage.proofs.Restored.{restored, row_low}
 use Rattle.obs_outage.proofs.short_way.joined_outage.Goals as goal
@@ -50,10 +51,23 @@ rank_without-rank-requires-clause-gone g c =
 pub rank_without-rank-requires-clause-longest : goal.rank_without-rank-requires-clause-longest
 rank_without-rank-requires-clause-longest g c = subst (λ (x : Network). AreLongestOver x c.args.pairs.now) (sym c.requires.network) c.requires.longest
 
-pub rank_without-rank-requires-clause-most : goal.rank_without-rank-requires-clause-most
-rank_without-rank-requires-clause-most g c =
-    most_at_out c.args.case.now c.requires.valid c.args.e c.args.pairs.now c.requires.longest c.args.network.now c.requires.network
-    c.refresh_branch.new.self (c.refresh_branch.ensures.whole ∙ ap network_of c.set_branch.ensures.set) (length (pairs_at c.args.pairs.now)) refl
+pub rank_without-rank-requires-clause-branches : goal.rank_without-rank-requires-clause-branches
+rank_without-rank-requires-clause-branches g c =
+    subst (λ (x : Network). AreBranches x.graph.vertices x.graph.ends) (sym c.requires.network) (case_branches-are c.args.case.now c.requires.valid)
+
+pub rank_without-rank-requires-clause-branches_there : goal.rank_without-rank-requires-clause-branches_there
+rank_without-rank-requires-clause-branches_there g c =
+    let t = c.args.case.now in
+    let out = c.refresh_branch.ensures.whole ∙ ap network_of c.set_branch.ensures.set in
+    subst (λ (x : Network). AreBranches x.graph.vertices x.graph.ends) (sym out) (case_branches-are (outage_case t c.args.e) (out_valid t c.requires.valid c.args.e))
+
+pub rank_without-rank-requires-clause-critical : goal.rank_without-rank-requires-clause-critical
+rank_without-rank-requires-clause-critical g c = c.requires.critical
+
+pub rank_without-rank-requires-clause-within : goal.rank_without-rank-requires-clause-within
+rank_without-rank-requires-clause-within g c =
+    let out = c.refresh_branch.ensures.whole ∙ ap network_of c.set_branch.ensures.set in
+    within_network c.args.case.now c.requires.valid c.args.e c.args.network.now c.requires.network c.refresh_branch.new.self out
 
 pub rank_without-rank-requires-clause-room : goal.rank_without-rank-requires-clause-room
 rank_without-rank-requires-clause-room g c =

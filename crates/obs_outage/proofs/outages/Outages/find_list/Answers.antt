@@ -2,10 +2,8 @@ use Rattle.std.proofs.Common.{◌≡◌, ◌≤◌, length, take, sym, ap, ◌�
 use Rattle.obs_graph.proofs.Stored.{written_back}
 use Rattle.obs_network.specs.Network.{Network}
 use Rattle.obs_kept.specs.Kept.{AreLongestOver}
-use Rattle.obs_outage.specs.Costly.{AreCostly}
 use Rattle.obs_outage.specs.Outages.{Outages}
-use Rattle.obs_outage.specs.Spared.{AreSpared}
-use Rattle.obs_outage.specs.Sparing.{HasFlags}
+use Rattle.obs_outage.specs.Told.{AreTold}
 use Rattle.obs_outage.specs.declared.outages.Outage.{Outage}
 use Rattle.obs_outage.proofs.outages.Outages.find_list.Goals as goal
 
@@ -55,14 +53,8 @@ list_outages-self-inside-requires-clause-other g c = c.self.invariant.other
 pub list_outages-self-inside-requires-clause-sides : goal.list_outages-self-inside-requires-clause-sides
 list_outages-self-inside-requires-clause-sides g c = c.self.invariant.sides
 
-pub list_outages-self-inside-requires-clause-flags : goal.list_outages-self-inside-requires-clause-flags
-list_outages-self-inside-requires-clause-flags g c = c.self.invariant.flags
-
-pub list_outages-self-inside-requires-clause-spared : goal.list_outages-self-inside-requires-clause-spared
-list_outages-self-inside-requires-clause-spared g c = c.self.invariant.spared
-
-pub list_outages-self-inside-requires-clause-costly : goal.list_outages-self-inside-requires-clause-costly
-list_outages-self-inside-requires-clause-costly g c = c.self.invariant.costly
+pub list_outages-self-inside-requires-clause-told : goal.list_outages-self-inside-requires-clause-told
+list_outages-self-inside-requires-clause-told g c = c.self.invariant.told
 
 pub list_outages-self-inside-requires-clause-feeds : goal.list_outages-self-inside-requires-clause-feeds
 list_outages-self-inside-requires-clause-feeds g c = c.count.ensures.counted
@@ -90,9 +82,7 @@ invariant_of-self g c =
       room = after.room;
       other = after.other;
       sides = after.sides ∙ inv.sides ∙ ap (λ (x : Network). x.graph.most_vertices) back;
-      flags = subst (λ (x : Network). HasFlags x c.self.inside.spared) back inv.flags;
-      spared = subst (λ (x : Network). AreSpared x c.self.inside.spared.flags) back inv.spared;
-      costly = subst (λ (x : Network). AreCostly x c.self.inside.spared.costly) back inv.costly;
+      told = subst (λ (x : Network). AreTold x c.self.inside.spared) back inv.told;
       fed_buses = c.count.ensures.buses ∙ inv.fed_buses ∙ nodes;
       fed_components = c.count.ensures.components ∙ inv.fed_components ∙ nodes;
       fed_pairs = c.count.ensures.pairs ∙ inv.fed_pairs ∙ nodes;

@@ -2,10 +2,8 @@ use Rattle.std.proofs.Common.{◌≡◌, sym, ap, ◌∙◌, subst}
 use Rattle.obs_assign.specs.Assignment.{Assignment}
 use Rattle.obs_network.specs.Network.{Network}
 use Rattle.obs_kept.specs.Kept.{AreLongestOver}
-use Rattle.obs_outage.specs.Costly.{AreCostly}
 use Rattle.obs_outage.specs.Outages.{AllStand, Outages}
-use Rattle.obs_outage.specs.Spared.{AreSpared}
-use Rattle.obs_outage.specs.Sparing.{HasFlags}
+use Rattle.obs_outage.specs.Told.{AreTold}
 use Rattle.obs_outage.proofs.outages.Outages.one.Goals as goal
 
 pub count-requires-clause-network : goal.count-requires-clause-network
@@ -40,14 +38,8 @@ entry_of-requires-clause-other g c = c.self.invariant.other
 pub entry_of-requires-clause-sides : goal.entry_of-requires-clause-sides
 entry_of-requires-clause-sides g c = c.self.invariant.sides
 
-pub entry_of-requires-clause-flags : goal.entry_of-requires-clause-flags
-entry_of-requires-clause-flags g c = c.self.invariant.flags
-
-pub entry_of-requires-clause-spared : goal.entry_of-requires-clause-spared
-entry_of-requires-clause-spared g c = c.self.invariant.spared
-
-pub entry_of-requires-clause-costly : goal.entry_of-requires-clause-costly
-entry_of-requires-clause-costly g c = c.self.invariant.costly
+pub entry_of-requires-clause-told : goal.entry_of-requires-clause-told
+entry_of-requires-clause-told g c = c.self.invariant.told
 
 pub entry_of-requires-clause-feeds : goal.entry_of-requires-clause-feeds
 entry_of-requires-clause-feeds g c = c.count.ensures.counted
@@ -67,9 +59,7 @@ invariant_of-self g c =
       room = after.room;
       other = after.other;
       sides = after.sides ∙ inv.sides ∙ ap (λ (x : Network). x.graph.most_vertices) back;
-      flags = subst (λ (x : Network). HasFlags x c.self.inside.spared) back inv.flags;
-      spared = subst (λ (x : Network). AreSpared x c.self.inside.spared.flags) back inv.spared;
-      costly = subst (λ (x : Network). AreCostly x c.self.inside.spared.costly) back inv.costly;
+      told = subst (λ (x : Network). AreTold x c.self.inside.spared) back inv.told;
       fed_buses = c.count.ensures.buses ∙ inv.fed_buses ∙ nodes;
       fed_components = c.count.ensures.components ∙ inv.fed_components ∙ nodes;
       fed_pairs = c.count.ensures.pairs ∙ inv.fed_pairs ∙ nodes;

@@ -1,11 +1,14 @@
-use Rattle.std.proofs.Common.{◌≡◌, ◌≤◌, ℕ, true, List, Option, Bool, length, refl, sym, ap, ◌∙◌, subst, arith}
+use Rattle.std.proofs.Common.{◌≡◌, ◌≤◌, ℕ, false, true, List, Option, Bool, length, refl, sym, ap, ◌∙◌, subst, arith}
 use Rattle.obs_graph.specs.declared.Ends.{Ends}
 use Rattle.obs_graph.specs.Graph.{Graph}
 use Rattle.obs_graph.proofs.Stored.{written_back}
 use Rattle.obs_case.specs.declared.rows.Branch.{Branch}
-use Rattle.obs_meter.specs.Touches.{AreInRange}
+use Rattle.obs_matroid.specs.Lists.{In}
+use Rattle.obs_meter.specs.Held.{Meters}
+use Rattle.obs_meter.specs.Touches.{AreInRange, live_items, touch_at}
 use Rattle.obs_assign.specs.Assignment.{Assignment, has_flag}
 use Rattle.obs_exchange.specs.declared.Sources.TheVariants.{All}
+use Rattle.obs_exchange.specs.Critical.{IsCriticalAt}
 use Rattle.obs_exchange.specs.Found.{HasClosed}
 use Rattle.obs_network.specs.Network.{Network}
 use Rattle.obs_network.proofs.OfCase.{length-case_branches, few_branches}
@@ -14,6 +17,7 @@ use Rattle.obs_kept.proofs.OfNetwork.{branches_network, room_network}
 use Rattle.obs_outage.specs.Sparing.{Spared}
 use Rattle.obs_outage.proofs.Costing.{closed_there, costly_network, longest_there}
 use Rattle.obs_outage.proofs.Fitting.{back_length, vertices_there}
+use Rattle.obs_outage.proofs.Needed.{critical_outside}
 use Rattle.obs_outage.proofs.SparedBy.{flags_spared}
 use Rattle.obs_outage.proofs.spared.Spared.find.Goals as goal
 
@@ -25,23 +29,6 @@ flag_rows-requires-clause-rows g c =
     let rows = ap (λ (xs : List Branch). length xs) c.branches.ensures.rows in
     let many = length-case_branches c.args.case.now in
     omega (arith, one, graph, network, rows, many)
-
-pub returns-clause-spared : goal.returns-clause-spared
-returns-clause-spared g c = λ e f.
-    let n = c.args.kept.now.network in
-    let graph = c.graph-g.result.now in
-    let touches = c.meters-ms.result.now.touches in
-    let a = c.args.kept.now.pairs in
-    let reached = c.reached.result.now in
-    let closed = subst (λ (xs : List Bool). HasClosed graph.ends touches All c.close.new.a c.close.new.a xs) (sym c.reached.ensures.reached) c.close.ensures.closed in
-    let same : length c.flag_rows.new.flags ≡ length c.self.inside.flags.items = c.flag_rows.auto.flags ∙ ap length c.deref_mut-3.ensures.value in
-    let back = written_back c.self.inside.flags.len c.flag_rows.new.flags c.self.inside.flags.items same c.self.inside.flags.ok.0 in
-    flags_spared n graph c.meters-ms.result.now c.graph-g.ensures.graph c.meters-ms.ensures.meters
-    (branches_network c.args.kept.now.network c.args.case.now c.requires.network c.graph-g.result.now c.graph-g.ensures.graph c.meters-ms.result.now c.meters-ms.ensures.meters c.branches.ensures.valid)
-    a c.close.new.a c.close.ensures.same
-    (subst (λ (x : Network). AreLongestOver x a) (sym c.requires.network) c.requires.longest) reached closed
-    c.refill_touched.new.touched.ends c.refill_touched.ensures.touched c.flag_rows.new.flags c.flag_rows.ensures.missed e
-    (subst (λ (xs : List Bool). has_flag xs e ≡ true) back f)
 
 pub flag_costly-requires-clause-longest : goal.flag_costly-requires-clause-longest
 flag_costly-requires-clause-longest g c =
@@ -63,14 +50,6 @@ flag_costly-requires-clause-rows g c =
     let rows = ap (λ (xs : List Branch). length xs) c.branches.ensures.rows in
     let many = length-case_branches c.args.case.now in
     omega (arith, graph, network, rows, many)
-
-pub returns-clause-costly : goal.returns-clause-costly
-returns-clause-costly g c = λ e f.
-    let same : length c.flag_costly.new.flags ≡ length c.self.inside.costly.items = c.flag_costly.auto.flags ∙ ap length c.deref_mut-4.ensures.value in
-    let back = written_back c.self.inside.costly.len c.flag_costly.new.flags c.self.inside.costly.items same c.self.inside.costly.ok.0 in
-    costly_network c.args.kept.now.network c.graph-g.result.now c.meters-ms.result.now c.graph-g.ensures.graph c.meters-ms.ensures.meters (branches_network c.args.kept.now.network c.args.case.now c.requires.network c.graph-g.result.now c.graph-g.ensures.graph c.meters-ms.result.now c.meters-ms.ensures.meters c.branches.ensures.valid) c.args.kept.now.pairs c.close.new.a
-    c.close.ensures.same (subst (λ (x : Network). AreLongestOver x c.args.kept.now.pairs) (sym c.requires.network) c.requires.longest) c.flag_costly.new.flags c.flag_costly.ensures.costly e
-    (subst (λ (xs : List Bool). has_flag xs e ≡ true) back f)
 
 pub close-requires-clause-longest : goal.close-requires-clause-longest
 close-requires-clause-longest g c =
@@ -153,18 +132,6 @@ returns-clause-room g c =
       work = c.close.ensures.same_sizes ∙ room.work;
     }
 
-pub returns-clause-flags : goal.returns-clause-flags
-returns-clause-flags g c =
-    let ins = c.self.inside in
-    let flags = back_length ins.flags.len c.flag_rows.new.flags ins.flags.items (c.flag_rows.auto.flags ∙ ap length c.deref_mut-3.ensures.value) ins.flags.ok.0 in
-    let costly = back_length ins.costly.len c.flag_costly.new.flags ins.costly.items (c.flag_costly.auto.flags ∙ ap length c.deref_mut-4.ensures.value) ins.costly.ok.0 in
-    let fronts = back_length ins.fronts.len c.refill_touched.new.fronts ins.fronts.items (c.refill_touched.auto.fronts ∙ ap length c.deref_mut.ensures.value) ins.fronts.ok.0 in
-    record {
-      branches = flags ∙ ap (λ (s : Spared). length s.flags) c.self.view_is ∙ c.requires.flags.branches;
-      costly = costly ∙ ap (λ (s : Spared). length s.costly) c.self.view_is ∙ c.requires.flags.costly;
-      vertices = fronts ∙ ap (λ (s : Spared). s.most_vertices) c.self.view_is ∙ c.requires.flags.vertices;
-    }
-
 pub returns-clause-sides : goal.returns-clause-sides
 returns-clause-sides g c = c.flag_rows.ensures.room
 
@@ -182,3 +149,48 @@ invariant_of-self g c =
 
 pub overflow_cast-rows : goal.overflow_cast-rows
 overflow_cast-rows g c = omega (arith, ap (λ (xs : List Branch). length xs) c.branches.ensures.rows, few_branches c.args.case.now c.branches.ensures.valid)
+
+pub returns-clause-told : goal.returns-clause-told
+returns-clause-told g c =
+    let n = c.args.kept.now.network in
+    let graph = c.graph-g.result.now in
+    let ms = c.meters-ms.result.now in
+    let gg = c.graph-g.ensures.graph in
+    let mm = c.meters-ms.ensures.meters in
+    let a = c.args.kept.now.pairs in
+    let b = c.close.new.a in
+    let reached = c.reached.result.now in
+    let ins = c.self.inside in
+    let ok = branches_network n c.args.case.now c.requires.network graph gg ms mm c.branches.ensures.valid in
+    let here = subst (λ (x : Network). AreLongestOver x a) (sym c.requires.network) c.requires.longest in
+    let closed = subst (λ (xs : List Bool). HasClosed graph.ends ms.touches All b b xs) (sym c.reached.ensures.reached) c.close.ensures.closed in
+    let part = c.refill_touched.new.touched.ends in
+    let touched = c.refill_touched.ensures.touched in
+    let flags_len = c.flag_rows.auto.flags ∙ ap length c.deref_mut-3.ensures.value in
+    let costly_len = c.flag_costly.auto.flags ∙ ap length c.deref_mut-4.ensures.value in
+    let flags_back = written_back ins.flags.len c.flag_rows.new.flags ins.flags.items flags_len ins.flags.ok.0 in
+    let costly_back = written_back ins.costly.len c.flag_costly.new.flags ins.costly.items costly_len ins.costly.ok.0 in
+    let fronts = back_length ins.fronts.len c.refill_touched.new.fronts ins.fronts.items (c.refill_touched.auto.fronts ∙ ap length c.deref_mut.ensures.value) ins.fronts.ok.0 in
+    record {
+      flags = record {
+        branches = back_length ins.flags.len c.flag_rows.new.flags ins.flags.items flags_len ins.flags.ok.0 ∙ ap (λ (s : Spared). length s.flags) c.self.view_is ∙ c.requires.flags.branches;
+        costly = back_length ins.costly.len c.flag_costly.new.flags ins.costly.items costly_len ins.costly.ok.0 ∙ ap (λ (s : Spared). length s.costly) c.self.view_is ∙ c.requires.flags.costly;
+        vertices = fronts ∙ ap (λ (s : Spared). s.most_vertices) c.self.view_is ∙ c.requires.flags.vertices;
+      };
+      spared = λ e f.
+          flags_spared n graph ms gg mm ok a b c.close.ensures.same here reached closed part touched c.flag_rows.new.flags c.flag_rows.ensures.missed e
+          (subst (λ (xs : List Bool). has_flag xs e ≡ true) flags_back f);
+      costly = λ e f.
+          costly_network n graph ms gg mm ok a b c.close.ensures.same here c.flag_costly.new.flags c.flag_costly.ensures.costly e
+          (subst (λ (xs : List Bool). has_flag xs e ≡ true) costly_back f);
+      settled = λ e m low unspared uncostly i.
+          let rows = ap (λ (xs : List Branch). length xs) c.branches.ensures.rows in
+          let many = ap (λ (x : Network). x.rows.branches) c.requires.network in
+          let none = c.flag_costly.ensures.rest e (omega (arith, low, rows, many)) (subst (λ (xs : List Bool). has_flag xs e ≡ false) (sym c.deref.ensures.value) unspared)
+          (subst (λ (xs : List Bool). has_flag xs e ≡ false) costly_back uncostly) in
+          let there = subst (λ (x : Graph). In e (touch_at x.ends ms.touches m)) (sym gg) (subst (λ (x : Meters). In e (touch_at n.graph.ends x.touches m)) (sym mm) i) in
+          let critical = critical_outside graph ms.touches b (longest_there n graph ms gg mm ok a b c.close.ensures.same here) reached
+          (closed_there n graph ms gg mm ok a b c.close.ensures.same here reached closed) part touched c.refill_touched.ensures.whole e none m there in
+          subst (λ (x : Meters). IsCriticalAt n.graph.ends x.touches (live_items n.graph.ends x.touches) m) mm
+          (subst (λ (x : Graph). IsCriticalAt x.ends ms.touches (live_items x.ends ms.touches) m) gg critical);
+    }
