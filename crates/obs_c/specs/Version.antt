@@ -5,7 +5,7 @@ abbrev pub major : ℕ
 major = 0
 
 abbrev pub minor : ℕ
-minor = 7
+minor = 8
 
 abbrev pub patch : ℕ
 patch = 0

@@ -4,7 +4,7 @@ ghost use Rattle.obs_c.specs.Version.{major, minor, patch, version_number};
 
 const MAJOR: u32 = 0;
 
-const MINOR: u32 = 7;
+const MINOR: u32 = 8;
 
 const PATCH: u32 = 0;
 
