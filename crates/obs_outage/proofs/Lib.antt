@@ -5,6 +5,7 @@ pub mod Costing
 pub mod Joined
 pub mod Crossed
 pub mod Alone
+pub mod Readied
 pub mod Entries
 pub mod Reported
 pub mod Parting

@@ -45,14 +45,18 @@ pub record Feeds : Type 0 where
   pub of_components : List ℕ
   pub pairs : List ℕ
 
+-- there is room for one of each for so many nodes
+pub record HasFeedRoom (nodes : ℕ) (f : Feeds) : Type 0 where
+  pub buses : length f.of_buses ≡ nodes
+  pub components : length f.of_components ≡ nodes
+  pub pairs : length f.pairs ≡ nodes
+
 -- these are the numbers of sources of a case, by bus and by component, and of the pairs that any longest assignment has in each
 -- component; there is room for one of each for each node
 pub record AreFeeds (t : Tables) (f : Feeds) : Type 0 where
-  pub buses : length f.of_buses ≡ length t.nodes
-  pub components : length f.of_components ≡ length t.nodes
+  pub room : HasFeedRoom (length t.nodes) f
   pub at_buses : (b : ℕ) → b < length t.nodes → slice_index f.of_buses b ≡ sources_at (bus_at t) (source_nodes t.nodes) b
   pub at_components : (c : ℕ) → c < length t.nodes → slice_index f.of_components c ≡ sources_at (node_component t) (source_nodes t.nodes) c
-  pub pairs : length f.pairs ≡ length t.nodes
   pub at_pairs : (c : ℕ) → c < length t.nodes → (a : Assignment) → AreLongest t a → slice_index f.pairs c ≡ component_pairs t c a
 
 -- an outage takes no branch from a meter but its own

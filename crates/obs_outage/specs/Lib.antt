@@ -7,4 +7,5 @@ pub mod Costly
 pub mod Alone
 pub mod Entry
 pub mod Told
+pub mod Ready
 pub mod Lost

@@ -3,11 +3,10 @@ ghost use Rattle.std.specs.Prelude.{◌≡◌, ◌≢◌, ◌⊎◌, ◌<◌, �
 ghost use Rattle.obs_matroid.specs.Lists.{In};
 ghost use Rattle.obs_assign.specs.Assignment.{branch_at, has_flag};
 ghost use Rattle.obs_network.specs.Network.{network_of};
-ghost use Rattle.obs_kept.specs.Kept.{AreLongest, HasRoom};
 ghost use Rattle.obs_outage.specs.Feeds.{AreFeeds};
 ghost use Rattle.obs_outage.specs.Outages.{AllStand, outage_of, outage_rows};
 ghost use Rattle.obs_outage.specs.Entry.{IsKnownEntry};
-ghost use Rattle.obs_outage.specs.Told.{AreTold};
+ghost use Rattle.obs_outage.specs.Ready.{IsReady};
 
 use crate::Outage;
 use crate::bridges::parted_entry;
@@ -80,21 +79,14 @@ pub(crate) fn entry_of<L: Ledger>(
 ) -> Outage
     requires network { kept.old.network ≡ network_of case.old }
     requires row { In e (outage_rows case.old) }
-    requires longest { AreLongest case.old kept.old.pairs }
-    requires room { HasRoom kept.old.network kept.old.pairs kept.old.work }
-    requires other { other.old ≡ kept.old.network }
-    requires sides { sides.old.most_vertices ≡ kept.old.network.graph.most_vertices }
-    requires told { AreTold kept.old.network spared.now }
+    requires ready { IsReady kept.old other.old sides.old spared.now }
     requires feeds { AreFeeds case.old feeds.now }
     ensures entry { result ≡ outage_of case.old e }
     ensures quiet { AllStand case.old kept.old.pairs e →
         (steps.new ≡ steps.old) × (kept.new.pairs.turns ≡ kept.old.pairs.turns) }
     ensures case { case.new ≡ case.old }
     ensures network { kept.new.network ≡ kept.old.network }
-    ensures longest { AreLongest case.old kept.new.pairs }
-    ensures room { HasRoom kept.new.network kept.new.pairs kept.new.work }
-    ensures other { other.new ≡ kept.new.network }
-    ensures sides { sides.new.most_vertices ≡ sides.old.most_vertices }
+    ensures ready { IsReady kept.new other.new sides.new spared.now }
 {
     let rows = case.branches().len() as u32;
     let joined = sides.walk(kept.network.graph(), rows, e);

@@ -5,7 +5,7 @@ ghost use Rattle.obs_network.specs.Components.{source_nodes};
 ghost use Rattle.obs_network.specs.Network.{network_of};
 ghost use Rattle.obs_assign.specs.Assignment.{Assignment};
 ghost use Rattle.obs_kept.specs.Kept.{AreLongest};
-ghost use Rattle.obs_outage.specs.Feeds.{AreFeeds, component_pairs, pair_component, pairs_below, sources_at};
+ghost use Rattle.obs_outage.specs.Feeds.{AreFeeds, HasFeedRoom, component_pairs, pair_component, pairs_below, sources_at};
 
 use crate::memory::NoMemory;
 use obs_assign::Assignment;
@@ -121,9 +121,7 @@ impl Drop for Feeds {
 impl Feeds {
     /// Room for the numbers of sources of a case.
     pub(crate) fn make(alloc: Global, case: &Case) -> Result<Feeds, NoMemory>
-        ensures buses { IfOk result (λ f. length f.of_buses ≡ length case.now.nodes) }
-        ensures components { IfOk result (λ f. length f.of_components ≡ length case.now.nodes) }
-        ensures pairs { IfOk result (λ f. length f.pairs ≡ length case.now.nodes) }
+        ensures room { IfOk result (λ f. HasFeedRoom (length case.now.nodes) f) }
     {
         let room = case.nodes().len();
         Ok(Feeds {
@@ -137,13 +135,8 @@ impl Feeds {
     pub(crate) fn count(&mut self, case: &Case, network: &Network, pairs: &Assignment)
         requires network { network.now ≡ network_of case.now }
         requires longest { AreLongest case.now pairs.now }
-        requires buses { length self.old.of_buses ≡ length case.now.nodes }
-        requires components { length self.old.of_components ≡ length case.now.nodes }
-        requires pairs { length self.old.pairs ≡ length case.now.nodes }
+        requires room { HasFeedRoom (length case.now.nodes) self.old }
         ensures counted { AreFeeds case.now self.new }
-        ensures buses { length self.new.of_buses ≡ length self.old.of_buses }
-        ensures components { length self.new.of_components ≡ length self.old.of_components }
-        ensures pairs { length self.new.pairs ≡ length self.old.pairs }
     {
         let nodes = case.nodes();
         count_by_bus(nodes, network, &mut self.of_buses);

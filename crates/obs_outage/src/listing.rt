@@ -1,10 +1,9 @@
 // The outage list.
 ghost use Rattle.std.specs.Prelude.{◌≡◌, ◌<◌, ◌≤◌, None, is_some, length, slice_index_or, take};
 ghost use Rattle.obs_network.specs.Network.{network_of};
-ghost use Rattle.obs_kept.specs.Kept.{AreLongest, HasRoom};
 ghost use Rattle.obs_outage.specs.Feeds.{AreFeeds};
 ghost use Rattle.obs_outage.specs.Outages.{outages_of};
-ghost use Rattle.obs_outage.specs.Told.{AreTold};
+ghost use Rattle.obs_outage.specs.Ready.{IsReady};
 
 use crate::Outage;
 use crate::entry::entry_of;
@@ -36,21 +35,14 @@ pub(crate) fn list_outages<L: Ledger>(
     steps: &mut Steps<L>,
 ) -> usize
     requires network { kept.old.network ≡ network_of case.old }
-    requires longest { AreLongest case.old kept.old.pairs }
-    requires room { HasRoom kept.old.network kept.old.pairs kept.old.work }
-    requires other { other.old ≡ kept.old.network }
-    requires sides { sides.old.most_vertices ≡ kept.old.network.graph.most_vertices }
-    requires told { AreTold kept.old.network spared.now }
+    requires ready { IsReady kept.old other.old sides.old spared.now }
     requires feeds { AreFeeds case.old feeds.now }
     requires entries { length case.old.branches ≤ length entries.old }
     ensures listed { take result entries.new ≡ outages_of case.old }
     ensures bound { result ≤ length entries.new }
     ensures case { case.new ≡ case.old }
     ensures network { kept.new.network ≡ kept.old.network }
-    ensures longest { AreLongest case.old kept.new.pairs }
-    ensures room { HasRoom kept.new.network kept.new.pairs kept.new.work }
-    ensures other { other.new ≡ kept.new.network }
-    ensures sides { sides.new.most_vertices ≡ sides.old.most_vertices }
+    ensures ready { IsReady kept.new other.new sides.new spared.now }
 {
     let rows = case.branches().len() as u32;
     let mut count = 0;

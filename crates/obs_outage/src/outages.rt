@@ -44,23 +44,17 @@ pub struct Outages {
 
 impl Model for Outages {
     ghost use Rattle.std.specs.Prelude.{◌≡◌, ◌≤◌, length, take};
-    ghost use Rattle.obs_kept.specs.Kept.{AreLongestOver, HasRoom};
+    ghost use Rattle.obs_outage.specs.Feeds.{HasFeedRoom};
     ghost use Rattle.obs_outage.specs.Outages.{Outages};
-    ghost use Rattle.obs_outage.specs.Told.{AreTold};
+    ghost use Rattle.obs_outage.specs.Ready.{IsReady};
 
     ghost Value = { Outages };
 
     ghost view = { λ o. record { network = o.kept.network; pairs = o.kept.pairs; found = take o.count o.entries.items } };
 
     ghost invariant = { λ o. record {
-      longest : AreLongestOver o.kept.network o.kept.pairs;
-      room : HasRoom o.kept.network o.kept.pairs o.kept.work;
-      other : o.other ≡ o.kept.network;
-      sides : o.sides.most_vertices ≡ o.kept.network.graph.most_vertices;
-      told : AreTold o.kept.network o.spared;
-      fed_buses : length o.feeds.of_buses ≡ o.kept.network.rows.nodes;
-      fed_components : length o.feeds.of_components ≡ o.kept.network.rows.nodes;
-      fed_pairs : length o.feeds.pairs ≡ o.kept.network.rows.nodes;
+      ready : IsReady o.kept o.other o.sides o.spared;
+      feeds : HasFeedRoom o.kept.network.rows.nodes o.feeds;
       entries : length o.entries.items ≡ o.kept.network.rows.branches;
       listed : o.count ≤ length o.entries.items;
     } };

@@ -65,7 +65,7 @@ component_few t n k net low =
 pub pairs_of_component-requires : goal.pairs_of_component-requires
 pairs_of_component-requires c =
     let few = component_few c.args.case.now c.args.network.now c.in_ok-c.c c.requires.network c.in_ok-c.ensures.below in
-    let room = c.requires.feeds.pairs in
+    let room = c.requires.feeds.room.pairs in
     record { component = omega (arith, few, room) }
 
 pub overflow_add-left : goal.overflow_add-left

@@ -35,7 +35,7 @@ sources_of-here-requires-clause-buses c =
     let k = c.in_ok-c.c in
     let p = parted_by t c.args.network.now e k side c.requires.network (row_low t e c.requires.row) (sym c.in_ok-c.ensures.component) (sym c.absolute.ensures.absolute ∙ c.if-absolute.false) c.requires.side in
     let counts = ap (λ (xs : List ℕ). length xs) c.of_buses.ensures.counts in
-    let room = c.requires.feeds.buses in
+    let room = c.requires.feeds.room.buses in
     All-from_In (λ b. b < length c.of_buses.result.now) side (λ b i. let l = side_buses t v e k side p b i in omega (arith, l, case_bus_count-le t, counts, room))
 
 pub of_component-requires : goal.of_component-requires
@@ -46,7 +46,7 @@ of_component-requires c =
     let side = c.args.side.now in
     let k = c.in_ok-c.c in
     let p = parted_by t c.args.network.now e k side c.requires.network (row_low t e c.requires.row) (sym c.in_ok-c.ensures.component) (sym c.absolute.ensures.absolute ∙ c.if-absolute.false) c.requires.side in
-    let room = c.requires.feeds.components in
+    let room = c.requires.feeds.room.components in
     record { component = omega (arith, component_low t v e k side p, room) }
 
 pub overflow_cast-side : goal.overflow_cast-side

@@ -4,9 +4,7 @@ use Rattle.obs_case.specs.declared.rows.Branch.{Branch}
 use Rattle.obs_case.specs.Tables.{Tables}
 use Rattle.obs_matroid.specs.Lists.{In}
 use Rattle.obs_network.specs.Network.{Network, network_of}
-use Rattle.obs_kept.specs.Kept.{AreLongest}
 use Rattle.obs_outage.specs.Feeds.{AreFeeds}
-use Rattle.obs_outage.specs.Told.{AreTold}
 use Rattle.obs_network.proofs.OfCase.{few_branches, length-case_branches}
 use Rattle.obs_outage.specs.Outages.{is_outage_row, outage_rows}
 use Rattle.obs_outage.proofs.Entries.{IsListing-listed, IsListing-over, all_listed, begun, row_in}
@@ -20,10 +18,7 @@ loop-e-init g c = record {
   long = refl;
   case = refl;
   network = refl;
-  longest = c.requires.longest;
-  room = c.requires.room;
-  other = c.requires.other;
-  sides = refl;
+  ready = c.requires.ready;
 }
 
 pub is_present-requires : goal.is_present-requires
@@ -49,24 +44,8 @@ entry_of-requires-clause-network g c =
     let inv = c.loop-e.invariant in
     inv.network ∙ (c.requires.network ∙ ap network_of (sym inv.case))
 
-pub entry_of-requires-clause-longest : goal.entry_of-requires-clause-longest
-entry_of-requires-clause-longest g c =
-    let l = c.loop-e in
-    subst (λ (x : Tables). AreLongest x l.kept.pairs) (sym l.invariant.case) l.invariant.longest
-
-pub entry_of-requires-clause-room : goal.entry_of-requires-clause-room
-entry_of-requires-clause-room g c = c.loop-e.invariant.room
-
-pub entry_of-requires-clause-other : goal.entry_of-requires-clause-other
-entry_of-requires-clause-other g c = c.loop-e.invariant.other
-
-pub entry_of-requires-clause-sides : goal.entry_of-requires-clause-sides
-entry_of-requires-clause-sides g c =
-    let inv = c.loop-e.invariant in
-    inv.sides ∙ (c.requires.sides ∙ ap (λ (x : Network). x.graph.most_vertices) (sym inv.network))
-
-pub entry_of-requires-clause-told : goal.entry_of-requires-clause-told
-entry_of-requires-clause-told g c = subst (λ (x : Network). AreTold x c.args.spared.now) (sym c.loop-e.invariant.network) c.requires.told
+pub entry_of-requires-clause-ready : goal.entry_of-requires-clause-ready
+entry_of-requires-clause-ready g c = c.loop-e.invariant.ready
 
 pub entry_of-requires-clause-feeds : goal.entry_of-requires-clause-feeds
 entry_of-requires-clause-feeds g c = subst (λ (x : Tables). AreFeeds x c.args.feeds.now) (sym c.loop-e.invariant.case) c.requires.feeds
@@ -75,7 +54,7 @@ pub loop-e-preserved : goal.loop-e-preserved
 loop-e-preserved g c =
     let t = c.args.case.now in
     let n = c.args.kept.now.network in
-    let most = c.args.sides.now.most_vertices in
+    let spared = c.args.spared.now in
     let l = c.loop-e in
     let test = c.loop-e-test.true in
     let rows = ap (λ (xs : List Branch). length xs) c.branches.ensures.rows in
@@ -85,12 +64,12 @@ loop-e-preserved g c =
       | then-is_present w ↦
           let r = w.entry_of in
           rw (w.case-is, w.kept-is, w.other-is, w.sides-is, w.entries-is, w.count-is)
-          (IsListing-listed t n (length c.args.entries.now) most l.case l.kept l.other l.sides l.entries l.count l.e l.invariant low
+          (IsListing-listed t n spared (length c.args.entries.now) l.case l.kept l.other l.sides l.entries l.count l.e l.invariant low
           (sym row ∙ sym c.is_present.ensures.present ∙ w.if-is_present.true) c.requires.entries
-          r.new.case r.new.kept r.new.other r.new.sides r.result r.ensures.entry r.ensures.case r.ensures.network r.ensures.longest r.ensures.room r.ensures.other r.ensures.sides)
+          r.new.case r.new.kept r.new.other r.new.sides r.result r.ensures.entry r.ensures.case r.ensures.network r.ensures.ready)
       | else-is_present w ↦
           rw (w.case-is, w.kept-is, w.other-is, w.sides-is, w.entries-is, w.count-is)
-          (IsListing-over t n (length c.args.entries.now) most l.case l.kept l.other l.sides l.entries l.count l.e l.invariant low
+          (IsListing-over t n spared (length c.args.entries.now) l.case l.kept l.other l.sides l.entries l.count l.e l.invariant low
           (sym row ∙ sym c.is_present.ensures.present ∙ w.if-is_present.false))
     ]
 
@@ -109,10 +88,7 @@ returns g c =
       bound = omega (arith, bound, upto, rows, long, room);
       case = inv.case;
       network = inv.network;
-      longest = inv.longest;
-      room = inv.room;
-      other = inv.other;
-      sides = inv.sides;
+      ready = inv.ready;
     }
 
 pub overflow_cast-rows : goal.overflow_cast-rows

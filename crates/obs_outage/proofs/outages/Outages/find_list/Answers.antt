@@ -1,9 +1,9 @@
-use Rattle.std.proofs.Common.{◌≡◌, ◌≤◌, length, take, sym, ap, ◌∙◌, subst, List, arith}
+use Rattle.std.proofs.Common.{◌≡◌, ℕ, ◌≤◌, length, take, sym, ap, ◌∙◌, subst, List, arith}
 use Rattle.obs_graph.proofs.Stored.{written_back}
 use Rattle.obs_network.specs.Network.{Network}
 use Rattle.obs_kept.specs.Kept.{AreLongestOver}
 use Rattle.obs_outage.specs.Outages.{Outages}
-use Rattle.obs_outage.specs.Told.{AreTold}
+use Rattle.obs_outage.specs.Feeds.{HasFeedRoom}
 use Rattle.obs_outage.specs.declared.outages.Outage.{Outage}
 use Rattle.obs_outage.proofs.outages.Outages.find_list.Goals as goal
 
@@ -18,7 +18,7 @@ returns g c =
       list = ap (λ (xs : List Outage). take c.list_outages-self-inside.result xs) back ∙ listed.listed;
       case = listed.case;
       network = listed.network ∙ ap (λ (o : Outages). o.network) c.self.view_is;
-      longest = listed.longest;
+      longest = subst (λ (x : Network). AreLongestOver x c.list_outages-self-inside.new.kept.pairs) (listed.network ∙ ap (λ (o : Outages). o.network) c.self.view_is ∙ c.requires.network) listed.ready.longest;
     }
 
 pub count-requires-clause-network : goal.count-requires-clause-network
@@ -26,35 +26,17 @@ count-requires-clause-network g c = ap (λ (o : Outages). o.network) c.self.view
 
 pub count-requires-clause-longest : goal.count-requires-clause-longest
 count-requires-clause-longest g c =
-    subst (λ (x : Network). AreLongestOver x c.self.inside.kept.pairs) (ap (λ (o : Outages). o.network) c.self.view_is ∙ c.requires.network) c.self.invariant.longest
+    subst (λ (x : Network). AreLongestOver x c.self.inside.kept.pairs) (ap (λ (o : Outages). o.network) c.self.view_is ∙ c.requires.network) c.self.invariant.ready.longest
 
-pub count-requires-clause-buses : goal.count-requires-clause-buses
-count-requires-clause-buses g c = c.self.invariant.fed_buses ∙ ap (λ (x : Network). x.rows.nodes) (ap (λ (o : Outages). o.network) c.self.view_is ∙ c.requires.network)
-
-pub count-requires-clause-components : goal.count-requires-clause-components
-count-requires-clause-components g c = c.self.invariant.fed_components ∙ ap (λ (x : Network). x.rows.nodes) (ap (λ (o : Outages). o.network) c.self.view_is ∙ c.requires.network)
-
-pub count-requires-clause-pairs : goal.count-requires-clause-pairs
-count-requires-clause-pairs g c = c.self.invariant.fed_pairs ∙ ap (λ (x : Network). x.rows.nodes) (ap (λ (o : Outages). o.network) c.self.view_is ∙ c.requires.network)
+pub count-requires-clause-room : goal.count-requires-clause-room
+count-requires-clause-room g c =
+    subst (λ (k : ℕ). HasFeedRoom k c.self.inside.feeds) (ap (λ (x : Network). x.rows.nodes) (ap (λ (o : Outages). o.network) c.self.view_is ∙ c.requires.network)) c.self.invariant.feeds
 
 pub list_outages-self-inside-requires-clause-network : goal.list_outages-self-inside-requires-clause-network
 list_outages-self-inside-requires-clause-network g c = ap (λ (o : Outages). o.network) c.self.view_is ∙ c.requires.network
 
-pub list_outages-self-inside-requires-clause-longest : goal.list_outages-self-inside-requires-clause-longest
-list_outages-self-inside-requires-clause-longest g c =
-    subst (λ (x : Network). AreLongestOver x c.self.inside.kept.pairs) (ap (λ (o : Outages). o.network) c.self.view_is ∙ c.requires.network) c.self.invariant.longest
-
-pub list_outages-self-inside-requires-clause-room : goal.list_outages-self-inside-requires-clause-room
-list_outages-self-inside-requires-clause-room g c = c.self.invariant.room
-
-pub list_outages-self-inside-requires-clause-other : goal.list_outages-self-inside-requires-clause-other
-list_outages-self-inside-requires-clause-other g c = c.self.invariant.other
-
-pub list_outages-self-inside-requires-clause-sides : goal.list_outages-self-inside-requires-clause-sides
-list_outages-self-inside-requires-clause-sides g c = c.self.invariant.sides
-
-pub list_outages-self-inside-requires-clause-told : goal.list_outages-self-inside-requires-clause-told
-list_outages-self-inside-requires-clause-told g c = c.self.invariant.told
+pub list_outages-self-inside-requires-clause-ready : goal.list_outages-self-inside-requires-clause-ready
+list_outages-self-inside-requires-clause-ready g c = c.self.invariant.ready
 
 pub list_outages-self-inside-requires-clause-feeds : goal.list_outages-self-inside-requires-clause-feeds
 list_outages-self-inside-requires-clause-feeds g c = c.count.ensures.counted
@@ -71,21 +53,14 @@ invariant_of-self g c =
     let after = c.list_outages-self-inside.ensures in
     let inv = c.self.invariant in
     let back = sym after.network in
-    let nodes = ap (λ (x : Network). x.rows.nodes) back in
     let there = ap (λ (o : Outages). o.network) c.self.view_is ∙ c.requires.network in
     let entries = c.list_outages-self-inside.new.entries in
     let here = c.self.inside.entries in
     let same : length entries ≡ length here.items = c.list_outages-self-inside.auto.entries ∙ ap length c.deref_mut.ensures.value in
     let written = written_back here.len entries here.items same here.ok.0 in
     record {
-      longest = subst (λ (x : Network). AreLongestOver x c.list_outages-self-inside.new.kept.pairs) (sym (after.network ∙ there)) after.longest;
-      room = after.room;
-      other = after.other;
-      sides = after.sides ∙ inv.sides ∙ ap (λ (x : Network). x.graph.most_vertices) back;
-      told = subst (λ (x : Network). AreTold x c.self.inside.spared) back inv.told;
-      fed_buses = c.count.ensures.buses ∙ inv.fed_buses ∙ nodes;
-      fed_components = c.count.ensures.components ∙ inv.fed_components ∙ nodes;
-      fed_pairs = c.count.ensures.pairs ∙ inv.fed_pairs ∙ nodes;
+      ready = after.ready;
+      feeds = subst (λ (k : ℕ). HasFeedRoom k c.count.new.self) (sym (ap (λ (x : Network). x.rows.nodes) (after.network ∙ there))) c.count.ensures.counted.room;
       entries = ap (λ (xs : List Outage). length xs) written ∙ same ∙ inv.entries ∙ ap (λ (x : Network). x.rows.branches) back;
       listed = subst (λ (xs : List Outage). c.list_outages-self-inside.result ≤ length xs) (sym written) after.bound;
     }

@@ -1,7 +1,8 @@
-use Rattle.std.proofs.Common.{List, length, refl, sym, ap, ◌∙◌, subst, arith}
+use Rattle.std.proofs.Common.{ℕ, List, length, refl, sym, ap, ◌∙◌, subst, arith}
 use Rattle.obs_case.specs.declared.rows.Branch.{Branch}
 use Rattle.obs_kept.specs.Kept.{AreLongestOver}
 use Rattle.obs_network.specs.Network.{Network}
+use Rattle.obs_outage.specs.Feeds.{HasFeedRoom}
 use Rattle.obs_outage.specs.Sparing.{HasFlags}
 use Rattle.obs_outage.proofs.outages.Outages.make.Goals as goal
 
@@ -11,14 +12,14 @@ invariant_of-result g c =
     let nodes = ap (λ (x : Network). x.rows.nodes) net in
     let rows = ap (λ (xs : List Branch). length xs) c.branches.ensures.rows in
     record {
-      longest = subst (λ (x : Network). AreLongestOver x c.find.new.kept.pairs) (sym net) c.find.ensures.longest;
-      room = c.find.ensures.room;
-      other = c.in_ok-other.ensures.whole ∙ sym net;
-      sides = c.find.ensures.sides ∙ c.in_ok-sides.ensures.room ∙ c.vertex_room.ensures.room ∙ sym (ap (λ (x : Network). x.graph.most_vertices) net);
-      told = c.find.ensures.told;
-      fed_buses = c.in_ok-feeds.ensures.buses ∙ sym nodes;
-      fed_components = c.in_ok-feeds.ensures.components ∙ sym nodes;
-      fed_pairs = c.in_ok-feeds.ensures.pairs ∙ sym nodes;
+      ready = record {
+        longest = subst (λ (x : Network). AreLongestOver x c.find.new.kept.pairs) (sym net) c.find.ensures.longest;
+        room = c.find.ensures.room;
+        other = c.in_ok-other.ensures.whole ∙ sym net;
+        sides = c.find.ensures.sides ∙ c.in_ok-sides.ensures.room ∙ c.vertex_room.ensures.room ∙ sym (ap (λ (x : Network). x.graph.most_vertices) net);
+        told = c.find.ensures.told;
+      };
+      feeds = subst (λ (k : ℕ). HasFeedRoom k c.in_ok-feeds.feeds) (sym nodes) c.in_ok-feeds.ensures.room;
       entries = (let many = ap (λ (x : Network). x.rows.branches) net in let len = c.in_ok-entries.ensures.len in omega (arith, many, len, rows));
       listed = omega arith;
     }

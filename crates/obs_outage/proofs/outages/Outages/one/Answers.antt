@@ -1,9 +1,9 @@
-use Rattle.std.proofs.Common.{◌≡◌, sym, ap, ◌∙◌, subst}
+use Rattle.std.proofs.Common.{◌≡◌, ℕ, sym, ap, ◌∙◌, subst}
 use Rattle.obs_assign.specs.Assignment.{Assignment}
 use Rattle.obs_network.specs.Network.{Network}
 use Rattle.obs_kept.specs.Kept.{AreLongestOver}
 use Rattle.obs_outage.specs.Outages.{AllStand, Outages}
-use Rattle.obs_outage.specs.Told.{AreTold}
+use Rattle.obs_outage.specs.Feeds.{HasFeedRoom}
 use Rattle.obs_outage.proofs.outages.Outages.one.Goals as goal
 
 pub count-requires-clause-network : goal.count-requires-clause-network
@@ -11,35 +11,17 @@ count-requires-clause-network g c = ap (λ (o : Outages). o.network) c.self.view
 
 pub count-requires-clause-longest : goal.count-requires-clause-longest
 count-requires-clause-longest g c =
-    subst (λ (x : Network). AreLongestOver x c.self.inside.kept.pairs) (ap (λ (o : Outages). o.network) c.self.view_is ∙ c.requires.network) c.self.invariant.longest
+    subst (λ (x : Network). AreLongestOver x c.self.inside.kept.pairs) (ap (λ (o : Outages). o.network) c.self.view_is ∙ c.requires.network) c.self.invariant.ready.longest
 
-pub count-requires-clause-buses : goal.count-requires-clause-buses
-count-requires-clause-buses g c = c.self.invariant.fed_buses ∙ ap (λ (x : Network). x.rows.nodes) (ap (λ (o : Outages). o.network) c.self.view_is ∙ c.requires.network)
-
-pub count-requires-clause-components : goal.count-requires-clause-components
-count-requires-clause-components g c = c.self.invariant.fed_components ∙ ap (λ (x : Network). x.rows.nodes) (ap (λ (o : Outages). o.network) c.self.view_is ∙ c.requires.network)
-
-pub count-requires-clause-pairs : goal.count-requires-clause-pairs
-count-requires-clause-pairs g c = c.self.invariant.fed_pairs ∙ ap (λ (x : Network). x.rows.nodes) (ap (λ (o : Outages). o.network) c.self.view_is ∙ c.requires.network)
+pub count-requires-clause-room : goal.count-requires-clause-room
+count-requires-clause-room g c =
+    subst (λ (k : ℕ). HasFeedRoom k c.self.inside.feeds) (ap (λ (x : Network). x.rows.nodes) (ap (λ (o : Outages). o.network) c.self.view_is ∙ c.requires.network)) c.self.invariant.feeds
 
 pub entry_of-requires-clause-network : goal.entry_of-requires-clause-network
 entry_of-requires-clause-network g c = ap (λ (o : Outages). o.network) c.self.view_is ∙ c.requires.network
 
-pub entry_of-requires-clause-longest : goal.entry_of-requires-clause-longest
-entry_of-requires-clause-longest g c =
-    subst (λ (x : Network). AreLongestOver x c.self.inside.kept.pairs) (ap (λ (o : Outages). o.network) c.self.view_is ∙ c.requires.network) c.self.invariant.longest
-
-pub entry_of-requires-clause-room : goal.entry_of-requires-clause-room
-entry_of-requires-clause-room g c = c.self.invariant.room
-
-pub entry_of-requires-clause-other : goal.entry_of-requires-clause-other
-entry_of-requires-clause-other g c = c.self.invariant.other
-
-pub entry_of-requires-clause-sides : goal.entry_of-requires-clause-sides
-entry_of-requires-clause-sides g c = c.self.invariant.sides
-
-pub entry_of-requires-clause-told : goal.entry_of-requires-clause-told
-entry_of-requires-clause-told g c = c.self.invariant.told
+pub entry_of-requires-clause-ready : goal.entry_of-requires-clause-ready
+entry_of-requires-clause-ready g c = c.self.invariant.ready
 
 pub entry_of-requires-clause-feeds : goal.entry_of-requires-clause-feeds
 entry_of-requires-clause-feeds g c = c.count.ensures.counted
@@ -52,17 +34,10 @@ invariant_of-self g c =
     let after = c.entry_of.ensures in
     let inv = c.self.invariant in
     let back = sym after.network in
-    let nodes = ap (λ (x : Network). x.rows.nodes) back in
     let there = ap (λ (o : Outages). o.network) c.self.view_is ∙ c.requires.network in
     record {
-      longest = subst (λ (x : Network). AreLongestOver x c.entry_of.new.kept.pairs) (sym (after.network ∙ there)) after.longest;
-      room = after.room;
-      other = after.other;
-      sides = after.sides ∙ inv.sides ∙ ap (λ (x : Network). x.graph.most_vertices) back;
-      told = subst (λ (x : Network). AreTold x c.self.inside.spared) back inv.told;
-      fed_buses = c.count.ensures.buses ∙ inv.fed_buses ∙ nodes;
-      fed_components = c.count.ensures.components ∙ inv.fed_components ∙ nodes;
-      fed_pairs = c.count.ensures.pairs ∙ inv.fed_pairs ∙ nodes;
+      ready = after.ready;
+      feeds = subst (λ (k : ℕ). HasFeedRoom k c.count.new.self) (sym (ap (λ (x : Network). x.rows.nodes) (after.network ∙ there))) c.count.ensures.counted.room;
       entries = inv.entries ∙ ap (λ (x : Network). x.rows.branches) back;
       listed = inv.listed;
     }
@@ -76,6 +51,6 @@ returns g c =
           (ap (λ (o : Outages). o.pairs) c.self.view_is) after.quiet;
       case = after.case;
       network = after.network ∙ ap (λ (o : Outages). o.network) c.self.view_is;
-      longest = after.longest;
+      longest = subst (λ (x : Network). AreLongestOver x c.entry_of.new.kept.pairs) (after.network ∙ ap (λ (o : Outages). o.network) c.self.view_is ∙ c.requires.network) after.ready.longest;
       found = ap (λ (o : Outages). o.found) c.self.view_is;
     }
