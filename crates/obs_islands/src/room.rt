@@ -97,7 +97,7 @@ impl IslandRoom {
     }
 }
 
-/// Finds the islands, where the pairs are a longest assignment of the meters. No search is made.
+/// Finds the islands, where the pairs are a longest assignment of the meters. No search for pairs is made.
 /// `IslandRoom::firsts` then has for each vertex the first vertex of its island.
 pub fn find_islands_of(g: &Graph, ms: &Meters, a: &Assignment, room: &mut IslandRoom)
     requires longest { IsLongest g.now ms.now.touches a.now }

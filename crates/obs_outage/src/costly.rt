@@ -1,4 +1,4 @@
-// The branches of critical flows.
+// The branches that cost a pair: those of critical flows, and those that redundant meters touch and can't do without.
 ghost use Rattle.std.specs.Prelude.{◌≡◌, ◌<◌, ◌≤◌, ℕ, IsSome, IsTrue, None, false, length, slice_index_or, true};
 ghost use Rattle.obs_assign.specs.Assignment.{has_flag};
 ghost use Rattle.obs_exchange.specs.Laws.{HasClosedSet};

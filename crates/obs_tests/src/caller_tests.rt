@@ -16,7 +16,7 @@ use obs_exchange::{Found, Sources, Work, lengthen, search};
 use obs_forest::Forest;
 use obs_graph::{Ends, Graph};
 use obs_io::MemSink;
-use obs_islands::{IslandWork, islands};
+use obs_islands::{IslandWork, find_islands, islands};
 use obs_meter::{Meters, Touch};
 use obs_placement::{Layer, PlaceWork, Placement, place};
 use obs_rankcut::{CutWork, bound};
@@ -243,7 +243,11 @@ fn islands_of_a_row<L: Ledger>(alloc: Global, blank: Blank) -> Result<bool, Fail
     let mut ms = Meters::make(alloc, 3)?;
     ms.refill(&TOUCHES);
     let mut named = IslandWork::make(alloc, 3, 3, 4)?;
-    Ok(islands(&g, &ms, &mut named, &mut steps) == [0, 0, 0, 3].as_slice())
+    find_islands(&g, &ms, &mut named, &mut steps);
+    let first = named.firsts() == [0, 0, 0, 3].as_slice();
+    // with one flow meter alone, the same work finds what that shows
+    ms.refill(&[Touch::Edge(2)]);
+    Ok(first && islands(&g, &ms, &mut named, &mut steps) == [0, 1, 2, 2].as_slice())
 }
 
 // The plan of the same row with three candidates.
