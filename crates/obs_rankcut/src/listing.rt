@@ -2,9 +2,9 @@
 // counted.
 ghost use Rattle.std.specs.Prelude.{◌≡◌, ◌<◌, ◌≤◌, ◌&&◌, All, false, flat_map, length, not, replicate, slice_index_or, take};
 ghost use Rattle.obs_meter.specs.declared.Touch.TheVariants.{Nothing};
-ghost use Rattle.obs_meter.specs.Touches.{AreInRange, IsInRange, touch_at};
+ghost use Rattle.obs_meter.specs.Touches.{IsInRange, touch_at};
 ghost use Rattle.obs_graph.specs.Positions.{branches_at};
-ghost use Rattle.obs_rankcut.specs.Bounds.{listed, listed_rank, unlisted};
+ghost use Rattle.obs_rankcut.specs.Bounds.{CanList, HasRoomToRank, IsCounted, listed, listed_rank};
 ghost use Rattle.obs_rankcut.specs.Flags.{marked};
 ghost use Rattle.obs_rankcut.specs.Marks.{AreFrontsMarked, AreMarkedToo, MarksJust};
 
@@ -83,6 +83,13 @@ fn is_outside(live: bool, mark: bool) -> bool
     live && !mark
 }
 
+// Which meters are marked, and which are of the scope.
+#[derive(Clone, Copy)]
+pub(crate) struct Choice<'a> {
+    pub marks: &'a [bool],
+    pub scope: &'a [bool],
+}
+
 // How many meters are listed, and how many other live meters the scope has.
 #[derive(Clone, Copy)]
 pub(crate) struct Passed {
@@ -94,34 +101,26 @@ pub(crate) struct Passed {
 pub(crate) fn pass(
     g: &Graph,
     ms: &Meters,
-    marks: &[bool],
-    scope: &[bool],
+    choice: &Choice<'_>,
     list: &mut [u32],
     flags: &mut [bool],
     fronts: &mut [usize],
 ) -> Passed
-    requires in_range { AreInRange g.now ms.now.touches }
-    requires marks { length marks.now ≡ length ms.now.touches }
-    requires scope { length scope.now ≡ length ms.now.touches }
-    requires list { length ms.now.touches ≤ length list.old }
+    requires can { CanList g.now ms.now.touches choice.now list.old }
     requires flags { length flags.old ≡ length g.now.ends }
     requires fronts { length fronts.old ≡ g.now.vertices }
-    ensures bound { result.count ≤ length ms.now.touches }
-    ensures listed { take result.count list.new ≡
-        listed g.now.ends ms.now.touches (marked marks.now) (marked scope.now) }
-    ensures outside { result.outside ≡
-        length (unlisted g.now.ends ms.now.touches (marked marks.now) (marked scope.now)) }
+    ensures counted { IsCounted g.now.ends ms.now.touches choice.now list.new result.count result.outside }
     ensures flags { MarksJust (flat_map (touch_at g.now.ends ms.now.touches)
-        (listed g.now.ends ms.now.touches (marked marks.now) (marked scope.now))) flags.new }
+        (listed g.now.ends ms.now.touches (marked choice.now.marks.now) (marked choice.now.scope.now))) flags.new }
 {
     clear(flags);
     begin(fronts);
     let mut count = 0;
     let mut outside = 0;
     for m in 0..ms.count() {
-        if scope[m as usize] {
+        if choice.scope[m as usize] {
             let live = ms.live(g, m);
-            let mark = marks[m as usize];
+            let mark = choice.marks[m as usize];
             if is_listed(live, mark) {
                 list[count] = m;
                 count += 1;
@@ -146,33 +145,22 @@ pub(crate) struct Counted {
 pub(crate) fn count_in(
     g: &Graph,
     ms: &Meters,
-    marks: &[bool],
-    scope: &[bool],
+    choice: &Choice<'_>,
     list: &mut [u32],
     flags: &mut [bool],
     fronts: &mut [usize],
     work: &mut GraphWork,
 ) -> Counted
-    requires in_range { AreInRange g.now ms.now.touches }
-    requires marks { length marks.now ≡ length ms.now.touches }
-    requires scope { length scope.now ≡ length ms.now.touches }
-    requires list { length ms.now.touches ≤ length list.old }
-    requires flags { length g.now.ends ≤ length flags.old }
-    requires fronts { g.now.vertices ≤ length fronts.old }
-    requires branches { length g.now.ends ≤ work.old.most_branches }
-    requires vertices { g.now.vertices ≤ work.old.most_vertices }
-    ensures bound { result.count ≤ length ms.now.touches }
-    ensures listed { take result.count list.new ≡
-        listed g.now.ends ms.now.touches (marked marks.now) (marked scope.now) }
-    ensures rank { result.rank ≡
-        listed_rank g.now.vertices g.now.ends ms.now.touches (marked marks.now) (marked scope.now) }
-    ensures outside { result.outside ≡
-        length (unlisted g.now.ends ms.now.touches (marked marks.now) (marked scope.now)) }
+    requires can { CanList g.now ms.now.touches choice.now list.old }
+    requires room { HasRoomToRank g.now flags.old fronts.old work.old }
+    ensures counted { IsCounted g.now.ends ms.now.touches choice.now list.new result.count result.outside }
+    ensures rank { result.rank ≡ listed_rank g.now.vertices g.now.ends ms.now.touches
+        (marked choice.now.marks.now) (marked choice.now.scope.now) }
     ensures work { work.new ≡ work.old }
 {
     let flags = &mut flags[..g.positions() as usize];
     let fronts = &mut fronts[..g.vertices() as usize];
-    let passed = pass(g, ms, marks, scope, list, flags, fronts);
+    let passed = pass(g, ms, choice, list, flags, fronts);
     Counted {
         count: passed.count,
         rank: g.rank_of(flags, work),

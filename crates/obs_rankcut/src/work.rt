@@ -6,7 +6,7 @@ ghost use Rattle.obs_meter.specs.Touches.{AreInRange};
 ghost use Rattle.obs_rankcut.specs.Bounds.{in_scope, listed, listed_rank, unlisted};
 ghost use Rattle.obs_rankcut.specs.Flags.{marked};
 
-use crate::listing::count_in;
+use crate::listing::{Choice, count_in};
 use crate::memory::NoMemory;
 use obs_graph::{Graph, GraphWork};
 use obs_meter::Meters;
@@ -121,8 +121,7 @@ pub fn measure(
     let counted = count_in(
         g,
         ms,
-        marks,
-        scope,
+        &Choice { marks, scope },
         &mut work.list,
         &mut work.flags,
         &mut work.fronts,
