@@ -4,11 +4,12 @@ ghost use Rattle.std.specs.List.{list_any};
 ghost use Rattle.obs_meter.specs.declared.Touch.TheVariants.{Nothing};
 ghost use Rattle.obs_meter.specs.Touches.{AreInRange, IsInRange, touches_branch};
 ghost use Rattle.obs_islands.specs.GivenUp.{GivesUp};
+ghost use Rattle.obs_islands.specs.Left.{AreOver};
 ghost use Rattle.obs_islands.specs.Rounds.{is_crossing, noted, remaining, straddles};
 
 use crate::follow::follow;
+use crate::pairing::Pairing;
 use crate::pieces::{limit, mark_crossed};
-use obs_assign::Assignment;
 use obs_graph::Graph;
 use obs_meter::{Meters, Touch};
 
@@ -62,28 +63,26 @@ fn keep_others(g: &Graph, used: &mut Meters, lowest: &[u32]) -> bool
 /// Notes at each vertex the lowest branch that lies between two pieces, and what is lost after those. Discards the items
 /// that touch what is noted at their hub, and says whether there is one.
 pub(crate) fn discard(
-    g: &Graph,
+    over: &Pairing<'_>,
     used: &mut Meters,
-    pairs: &Assignment,
     firsts: &[u32],
     lowest: &mut [u32],
     queue: &mut [u32],
 ) -> bool
-    requires few { g.now.vertices < 2 ^ 32 }
-    requires positions { length g.now.ends ≡ length pairs.now.forest.held }
-    requires meters { length used.old.touches ≡ length pairs.now.slots }
-    requires in_range { AreInRange g.now used.old.touches }
-    requires firsts { length firsts.now ≡ g.now.vertices }
-    requires lowest { length lowest.old ≡ g.now.vertices }
-    requires queue { length queue.old ≡ g.now.vertices }
-    ensures gives_up { GivesUp g.now.ends used.old.touches pairs.now
-        (is_crossing g.now.ends firsts.now) (noted lowest.new) }
+    requires few { over.now.graph.now.vertices < 2 ^ 32 }
+    requires over { AreOver over.now used.old.touches }
+    requires in_range { AreInRange over.now.graph.now used.old.touches }
+    requires firsts { length firsts.now ≡ over.now.graph.now.vertices }
+    requires lowest { length lowest.old ≡ over.now.graph.now.vertices }
+    requires queue { length queue.old ≡ over.now.graph.now.vertices }
+    ensures gives_up { GivesUp over.now.graph.now.ends used.old.touches over.now.pairs.now
+        (is_crossing over.now.graph.now.ends firsts.now) (noted lowest.new) }
     ensures remaining { used.new ≡ record used.old {
-      touches = remaining g.now.ends (noted lowest.new) used.old.touches;
+      touches = remaining over.now.graph.now.ends (noted lowest.new) used.old.touches;
     } }
-    ensures some { result ≡ list_any (straddles g.now.ends (noted lowest.new)) used.old.touches }
+    ensures some { result ≡ list_any (straddles over.now.graph.now.ends (noted lowest.new)) used.old.touches }
 {
-    mark_crossed(g, firsts, limit(g, used), lowest);
-    follow(g, used, pairs, lowest, queue);
-    keep_others(g, used, lowest)
+    mark_crossed(over.graph, firsts, limit(over.graph, used), lowest);
+    follow(over, used, lowest, queue);
+    keep_others(over.graph, used, lowest)
 }

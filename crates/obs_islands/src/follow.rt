@@ -1,11 +1,11 @@
 // What is lost after other branches are.
 ghost use Rattle.std.specs.Prelude.{◌≡◌, ◌+◌, ◌<◌, ◌^◌, ◌==◌, length, slice_set};
 ghost use Rattle.obs_islands.specs.GivenUp.{IsQueue, StillGivesUp};
+ghost use Rattle.obs_islands.specs.Left.{AreOver};
 ghost use Rattle.obs_islands.specs.Rounds.{IsNotedAt, noted};
 
+use crate::pairing::Pairing;
 use crate::pieces::lower;
-use obs_assign::Assignment;
-use obs_graph::Graph;
 use obs_meter::Meters;
 
 /// Puts a vertex at the end of the queue.
@@ -49,82 +49,74 @@ fn note(v: u32, e: u32, positions: u32, lowest: &mut [u32], queue: &mut [u32], t
 
 /// Notes the branch at both its ends where the item that has it touches what is noted at v.
 fn follow_branch(
-    g: &Graph,
+    over: &Pairing<'_>,
     ms: &Meters,
-    pairs: &Assignment,
     v: u32,
     e: u32,
     lowest: &mut [u32],
     queue: &mut [u32],
     tail: &mut usize,
 )
-    requires positions { length g.now.ends ≡ length pairs.now.forest.held }
-    requires meters { length ms.now.touches ≡ length pairs.now.slots }
-    requires e { e < length g.now.ends }
-    requires lowest { length lowest.old ≡ g.now.vertices }
-    requires vertex { v < g.now.vertices }
-    requires noted { noted lowest.old v < length g.now.ends }
-    requires queue { IsQueue (length g.now.ends) lowest.old queue.old tail.old }
-    ensures gives_up { StillGivesUp g.now.ends ms.now.touches pairs.now (noted lowest.old) (noted lowest.new) }
-    ensures noted { noted lowest.new v < length g.now.ends }
-    ensures queue { IsQueue (length g.now.ends) lowest.new queue.new tail.new }
+    requires over { AreOver over.now ms.now.touches }
+    requires e { e < length over.now.graph.now.ends }
+    requires vertex { v < over.now.graph.now.vertices }
+    requires lowest { length lowest.old ≡ over.now.graph.now.vertices }
+    requires noted { noted lowest.old v < length over.now.graph.now.ends }
+    requires queue { IsQueue (length over.now.graph.now.ends) lowest.old queue.old tail.old }
+    ensures gives_up { StillGivesUp over.now.graph.now.ends ms.now.touches over.now.pairs.now
+        (noted lowest.old) (noted lowest.new) }
+    ensures noted { noted lowest.new v < length over.now.graph.now.ends }
+    ensures queue { IsQueue (length over.now.graph.now.ends) lowest.new queue.new tail.new }
 {
-    let Some(m) = pairs.meter_of(e) else {
+    let Some(m) = over.pairs.meter_of(e) else {
         return;
     };
-    if !ms.is_touched(g, m, lowest[v as usize]) {
+    if !ms.is_touched(over.graph, m, lowest[v as usize]) {
         return;
     }
-    if let Some(x) = g.ends(e) {
-        note(x.a, e, g.positions(), lowest, queue, tail);
-        note(x.b, e, g.positions(), lowest, queue, tail);
+    if let Some(x) = over.graph.ends(e) {
+        note(x.a, e, over.graph.positions(), lowest, queue, tail);
+        note(x.b, e, over.graph.positions(), lowest, queue, tail);
     }
 }
 
 /// Notes the branches at v that items have which touch what is noted there.
 fn follow_vertex(
-    g: &Graph,
+    over: &Pairing<'_>,
     ms: &Meters,
-    pairs: &Assignment,
     v: u32,
     lowest: &mut [u32],
     queue: &mut [u32],
     tail: &mut usize,
 )
-    requires positions { length g.now.ends ≡ length pairs.now.forest.held }
-    requires meters { length ms.now.touches ≡ length pairs.now.slots }
-    requires lowest { length lowest.old ≡ g.now.vertices }
-    requires vertex { v < g.now.vertices }
-    requires noted { noted lowest.old v < length g.now.ends }
-    requires queue { IsQueue (length g.now.ends) lowest.old queue.old tail.old }
-    ensures gives_up { StillGivesUp g.now.ends ms.now.touches pairs.now (noted lowest.old) (noted lowest.new) }
-    ensures queue { IsQueue (length g.now.ends) lowest.new queue.new tail.new }
+    requires over { AreOver over.now ms.now.touches }
+    requires vertex { v < over.now.graph.now.vertices }
+    requires lowest { length lowest.old ≡ over.now.graph.now.vertices }
+    requires noted { noted lowest.old v < length over.now.graph.now.ends }
+    requires queue { IsQueue (length over.now.graph.now.ends) lowest.old queue.old tail.old }
+    ensures gives_up { StillGivesUp over.now.graph.now.ends ms.now.touches over.now.pairs.now
+        (noted lowest.old) (noted lowest.new) }
+    ensures queue { IsQueue (length over.now.graph.now.ends) lowest.new queue.new tail.new }
 {
-    for e in g.branches_at(v) {
-        follow_branch(g, ms, pairs, v, *e, lowest, queue, tail);
+    for e in over.graph.branches_at(v) {
+        follow_branch(over, ms, v, *e, lowest, queue, tail);
     }
 }
 
 /// Notes what is lost after the branches that are noted: those of the items that touch one of them.
-pub(crate) fn follow(
-    g: &Graph,
-    ms: &Meters,
-    pairs: &Assignment,
-    lowest: &mut [u32],
-    queue: &mut [u32],
-)
-    requires few { g.now.vertices < 2 ^ 32 }
-    requires positions { length g.now.ends ≡ length pairs.now.forest.held }
-    requires meters { length ms.now.touches ≡ length pairs.now.slots }
-    requires lowest { length lowest.old ≡ g.now.vertices }
-    requires queue { length queue.old ≡ g.now.vertices }
-    ensures gives_up { StillGivesUp g.now.ends ms.now.touches pairs.now (noted lowest.old) (noted lowest.new) }
+pub(crate) fn follow(over: &Pairing<'_>, ms: &Meters, lowest: &mut [u32], queue: &mut [u32])
+    requires few { over.now.graph.now.vertices < 2 ^ 32 }
+    requires over { AreOver over.now ms.now.touches }
+    requires lowest { length lowest.old ≡ over.now.graph.now.vertices }
+    requires queue { length queue.old ≡ over.now.graph.now.vertices }
+    ensures gives_up { StillGivesUp over.now.graph.now.ends ms.now.touches over.now.pairs.now
+        (noted lowest.old) (noted lowest.new) }
 {
-    let mut tail = fill_queue(g.positions(), lowest, queue);
+    let mut tail = fill_queue(over.graph.positions(), lowest, queue);
     let mut head = 0;
     while head < tail {
         let v = queue[head];
-        follow_vertex(g, ms, pairs, v, lowest, queue, &mut tail);
+        follow_vertex(over, ms, v, lowest, queue, &mut tail);
         head += 1;
     }
 }

@@ -1,15 +1,14 @@
 // The pairs whose item is still used, and the pieces of their branches.
 ghost use Rattle.std.specs.Prelude.{◌≡◌, ◌<◌, ◌≤◌, ◌^◌, ℕ, length, slice_index, slice_index_or};
-ghost use Rattle.obs_graph.specs.Positions.{AreBranches};
 ghost use Rattle.obs_graph.specs.Search.{room_of};
 ghost use Rattle.obs_meter.specs.declared.Touch.TheVariants.{Nothing};
 ghost use Rattle.obs_assign.specs.Assignment.{IsWhole};
-ghost use Rattle.obs_islands.specs.Left.{AreLeft, IsLeftAt, is_nothing};
+ghost use Rattle.obs_islands.specs.Left.{AreLeft, AreOver, HasPlaces, IsLeftAt, IsNumbered, is_nothing};
 ghost use Rattle.obs_islands.specs.Rounds.{AreFirsts};
 
-use obs_assign::Assignment;
+use crate::pairing::Pairing;
+use obs_graph::Ends;
 use obs_graph::search::{Search, reach_all};
-use obs_graph::{Ends, Graph};
 use obs_meter::{Meters, Touch};
 
 /// Whether the item touches nothing, as a discarded one does.
@@ -24,32 +23,30 @@ fn is_discarded(used: &Meters, m: u32) -> bool
 }
 
 /// The ends of the branch, where a pair has it whose item is still used.
-fn left_branch(g: &Graph, used: &Meters, pairs: &Assignment, e: u32) -> Option<Ends>
-    requires position { e < length g.now.ends }
-    requires positions { length g.now.ends ≡ length pairs.now.forest.held }
-    requires meters { length used.now.touches ≡ length pairs.now.slots }
-    requires whole { IsWhole pairs.now }
-    ensures left { IsLeftAt g.now.ends used.now.touches pairs.now e result }
+fn left_branch(over: &Pairing<'_>, used: &Meters, e: u32) -> Option<Ends>
+    requires position { e < length over.now.graph.now.ends }
+    requires over { AreOver over.now used.now.touches }
+    requires whole { IsWhole over.now.pairs.now }
+    ensures left { IsLeftAt over.now.graph.now.ends used.now.touches over.now.pairs.now e result }
 {
-    let m = pairs.meter_of(e)?;
+    let m = over.pairs.meter_of(e)?;
     if is_discarded(used, m) {
         None
     } else {
-        g.ends(e)
+        over.graph.ends(e)
     }
 }
 
 /// Writes the branches of the pairs whose item is still used.
-fn hold_left(g: &Graph, used: &Meters, pairs: &Assignment, held: &mut [Option<Ends>])
-    requires one_each { length held.old ≡ length g.now.ends }
-    requires few { length g.now.ends < 2 ^ 32 }
-    requires positions { length g.now.ends ≡ length pairs.now.forest.held }
-    requires meters { length used.now.touches ≡ length pairs.now.slots }
-    requires whole { IsWhole pairs.now }
-    ensures left { AreLeft g.now.ends used.now.touches pairs.now held.new }
+fn hold_left(over: &Pairing<'_>, used: &Meters, held: &mut [Option<Ends>])
+    requires one_each { length held.old ≡ length over.now.graph.now.ends }
+    requires few { length over.now.graph.now.ends < 2 ^ 32 }
+    requires over { AreOver over.now used.now.touches }
+    requires whole { IsWhole over.now.pairs.now }
+    ensures left { AreLeft over.now.graph.now.ends used.now.touches over.now.pairs.now held.new }
 {
     for e in 0..held.len() {
-        held[e] = left_branch(g, used, pairs, e as u32);
+        held[e] = left_branch(over, used, e as u32);
     }
 }
 
@@ -67,27 +64,21 @@ fn copy_pieces(search: &Search, firsts: &mut [u32])
 
 /// Writes for each vertex the first vertex of its piece of the pairs whose item is still used.
 pub(crate) fn name_left(
-    g: &Graph,
+    over: &Pairing<'_>,
     used: &Meters,
-    pairs: &Assignment,
     held: &mut [Option<Ends>],
     search: &mut Search,
     firsts: &mut [u32],
 )
-    requires branches { AreBranches g.now.vertices g.now.ends }
-    requires few { g.now.vertices < 2 ^ 32 }
-    requires few_branches { length g.now.ends < 2 ^ 32 }
-    requires one_each { length held.old ≡ length g.now.ends }
-    requires firsts { length firsts.old ≡ g.now.vertices }
-    requires room { g.now.vertices ≤ room_of search.old }
-    requires positions { length g.now.ends ≡ length pairs.now.forest.held }
-    requires meters { length used.now.touches ≡ length pairs.now.slots }
-    requires whole { IsWhole pairs.now }
-    ensures left { AreLeft g.now.ends used.now.touches pairs.now held.new }
-    ensures firsts { AreFirsts g.now.vertices held.new firsts.new }
+    requires numbered { IsNumbered over.now.graph.now }
+    requires places { HasPlaces over.now.graph.now held.old search.old firsts.old }
+    requires over { AreOver over.now used.now.touches }
+    requires whole { IsWhole over.now.pairs.now }
+    ensures left { AreLeft over.now.graph.now.ends used.now.touches over.now.pairs.now held.new }
+    ensures firsts { AreFirsts over.now.graph.now.vertices held.new firsts.new }
     ensures room { room_of search.new ≡ room_of search.old }
 {
-    hold_left(g, used, pairs, held);
-    reach_all(g, held, search);
+    hold_left(over, used, held);
+    reach_all(over.graph, held, search);
     copy_pieces(search, firsts);
 }

@@ -6,6 +6,7 @@ mod follow;
 pub mod laws;
 mod left;
 mod memory;
+mod pairing;
 mod pieces;
 mod room;
 mod settle;

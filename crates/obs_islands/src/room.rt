@@ -6,6 +6,7 @@ ghost use Rattle.obs_exchange.specs.Longest.{IsLongest};
 ghost use Rattle.obs_islands.specs.Firsts.{islands_of};
 
 use crate::memory::NoMemory;
+use crate::pairing::Pairing;
 use crate::settle::find_firsts;
 use obs_assign::Assignment;
 use obs_graph::search::Search;
@@ -108,9 +109,8 @@ pub fn find_islands_of(g: &Graph, ms: &Meters, a: &Assignment, room: &mut Island
 {
     room.used.refill(ms.touches());
     find_firsts(
-        g,
+        &Pairing { graph: g, pairs: a },
         &mut room.used,
-        a,
         &mut room.held,
         &mut room.search,
         &mut room.firsts,

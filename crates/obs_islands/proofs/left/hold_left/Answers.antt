@@ -4,5 +4,5 @@ use Rattle.obs_islands.proofs.left.hold_left.Goals as goal
 
 pub loop-e-preserved : goal.loop-e-preserved
 loop-e-preserved c = record {
-  done = left_more c.args.g.now.ends c.args.used.now.touches c.args.pairs.now c.loop-e.held c.loop-e.e c.left_branch.result (omega (arith, c.loop-e-test.true, c.loop-e.auto.held)) c.loop-e.invariant.done c.left_branch.ensures.left;
+  done = left_more c.args.over.now.graph.now.ends c.args.used.now.touches c.args.over.now.pairs.now c.loop-e.held c.loop-e.e c.left_branch.result (omega (arith, c.loop-e-test.true, c.loop-e.auto.held)) c.loop-e.invariant.done c.left_branch.ensures.left;
 }

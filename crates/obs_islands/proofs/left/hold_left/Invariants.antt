@@ -4,5 +4,5 @@ use Rattle.obs_islands.proofs.left.hold_left.Given as goal
 
 abbrev pub invariant-loop-e : goal.invariant-loop-e
 invariant-loop-e l = record {
-  done : (k : ℕ) → k < l.e → IsLeftAt l.g.ends l.used.touches l.pairs k (get_or l.held k None);
+  done : (k : ℕ) → k < l.e → IsLeftAt l.over.graph.now.ends l.used.touches l.over.pairs.now k (get_or l.held k None);
 }

@@ -9,7 +9,7 @@ pub returns-then-is_discarded : goal.returns-then-is_discarded
 returns-then-is_discarded c = record {
   left = record {
     left = λ m w.
-        let same = one_owner c.args.pairs.now c.requires.whole m c.in_ok-m.m c.args.e w.has c.in_ok-m.ensures.meter in
+        let same = one_owner c.args.over.now.pairs.now c.requires.whole m c.in_ok-m.m c.args.e w.has c.in_ok-m.ensures.meter in
         clash (sym c.is_discarded.ensures.value ∙ c.if-is_discarded.true) (ap (λ k. is_nothing (get_or c.args.used.now.touches k Nothing)) (sym same) ∙ w.used);
     only = λ x is. absurd (cc is);
   };

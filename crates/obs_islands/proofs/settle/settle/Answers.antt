@@ -7,8 +7,8 @@ use Rattle.obs_islands.proofs.settle.settle.Goals as goal
 
 pub loop-used-init : goal.loop-used-init
 loop-used-init c =
-    let g = c.args.g.now in
-    let a = c.args.pairs.now in
+    let g = c.args.over.now.graph.now in
+    let a = c.args.over.now.pairs.now in
     let new = c.name_pieces.new.firsts in
     let named : AreFirsts g.vertices a.forest.held new =
     subst (λ (n : ℕ). AreFirsts n a.forest.held new) (sym c.requires.longest.stands.forest.vertices)
@@ -22,13 +22,13 @@ loop-used-init c =
 
 pub loop-used-smaller : goal.loop-used-smaller
 loop-used-smaller c =
-    Settling-smaller c.args.g.now c.args.used.now.touches c.args.pairs.now c.requires.branches c.requires.longest c.loop-used.used.touches c.loop-used.invariant.settling
+    Settling-smaller c.args.over.now.graph.now c.args.used.now.touches c.args.over.now.pairs.now c.requires.numbered.branches c.requires.longest c.loop-used.used.touches c.loop-used.invariant.settling
     c.loop-used.firsts c.loop-used.invariant.named (noted c.discard.new.lowest) c.discard.ensures.gives_up
     c.discard.new.used.touches (ap (λ (m : Meters). m.touches) c.discard.ensures.remaining) (sym c.discard.ensures.some ∙ c.loop-used-test.true)
 
 pub loop-used-preserved : goal.loop-used-preserved
 loop-used-preserved c = record {
-  settling = Settling-next c.args.g.now c.args.used.now.touches c.args.pairs.now c.requires.branches c.requires.longest c.loop-used.used.touches c.loop-used.invariant.settling
+  settling = Settling-next c.args.over.now.graph.now c.args.used.now.touches c.args.over.now.pairs.now c.requires.numbered.branches c.requires.longest c.loop-used.used.touches c.loop-used.invariant.settling
       c.loop-used.firsts c.loop-used.invariant.named (noted c.discard.new.lowest) c.discard.ensures.gives_up
       c.discard.new.used.touches (ap (λ (m : Meters). m.touches) c.discard.ensures.remaining);
   named = record { held = c.name_left.new.held; left = c.name_left.ensures.left; named = c.name_left.ensures.firsts };
@@ -38,5 +38,5 @@ loop-used-preserved c = record {
 
 pub returns-clause-firsts : goal.returns-clause-firsts
 returns-clause-firsts c =
-    Settling-ended c.args.g.now c.args.used.now.touches c.args.pairs.now c.requires.branches c.requires.longest c.loop-used.used.touches c.loop-used.invariant.settling
+    Settling-ended c.args.over.now.graph.now c.args.used.now.touches c.args.over.now.pairs.now c.requires.numbered.branches c.requires.longest c.loop-used.used.touches c.loop-used.invariant.settling
     c.loop-used.firsts c.loop-used.invariant.named (noted c.discard.new.lowest) c.discard.ensures.gives_up (sym c.discard.ensures.some ∙ c.loop-used-test.false)

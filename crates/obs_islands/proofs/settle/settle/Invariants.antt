@@ -6,8 +6,8 @@ use Rattle.obs_islands.proofs.settle.settle.Given as goal
 
 abbrev pub invariant-loop-used : goal.invariant-loop-used
 invariant-loop-used l = record {
-  settling : IsSettling l.g l.fn.used.touches l.used.touches l.pairs;
-  named : IsNamed l.g l.used.touches l.pairs l.firsts;
+  settling : IsSettling l.over.graph.now l.fn.used.touches l.used.touches l.over.pairs.now;
+  named : IsNamed l.over.graph.now l.used.touches l.over.pairs.now l.firsts;
   most : l.used.most ≡ l.fn.used.most;
   room : room_of l.search ≡ room_of l.fn.search;
 }
