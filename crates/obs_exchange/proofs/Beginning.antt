@@ -3,18 +3,25 @@ use Rattle.std.proofs.Common.{◌≡◌, ℕ, zero, suc, ◌≤◌, Bool, true, 
 use Rattle.std.proofs.lemmas.Bool.{cases_Bool}
 use Rattle.std.proofs.lemmas.List.{length-replicate}
 use Rattle.obs_graph.specs.declared.Ends.{Ends}
+use Rattle.obs_graph.specs.Graph.{Graph}
 use Rattle.obs_graph.specs.Positions.{branches_at}
 use Rattle.obs_matroid.specs.Lists.{In}
 use Rattle.obs_meter.specs.declared.Touch.{Touch}
-use Rattle.obs_assign.specs.Assignment.{Assignment, IsWhole, has_flag, is_frozen}
+use Rattle.obs_assign.specs.Assignment.{Assignment, IsWhole, StandsOver, has_flag, is_frozen}
 use Rattle.obs_assign.proofs.Keeping.{replicate_at}
 use Rattle.obs_assign.proofs.Slotted.{item_slot, none_some}
 use Rattle.obs_exchange.specs.declared.Sources.{Sources}
 use Rattle.obs_exchange.specs.declared.Sources.TheVariants.{All, One}
 use Rattle.obs_exchange.specs.Closed.{IsSource}
+use Rattle.obs_exchange.specs.Found.{CanBegin}
 use Rattle.obs_exchange.specs.Searching.{AreStarred, IsSearching}
-use Rattle.obs_exchange.specs.Setting.{IsSound, Setting}
+use Rattle.obs_exchange.specs.Setting.{IsSound, Setting, end_of}
 use Rattle.obs_exchange.specs.Trail.{AreFull, Trail, cleared}
+
+-- where a search may begin, its sources are meters
+pub sources_low : (from : Sources) (a : Assignment) (g : Graph) (touches : List Touch) → CanBegin from a → StandsOver a g touches → end_of from (length touches) ≤ length touches
+sources_low All a g touches b s = omega (arith)
+sources_low (One m) a g touches b s = omega (arith, b.0, s.meters)
 
 -- a source has no pair
 pub source_bare : (ends : List (Option Ends)) (touches : List Touch) (from : Sources) (a : Assignment) (m : ℕ) → IsSource ends touches from a m → get_or a.slots m None ≡ None

@@ -1,21 +1,22 @@
 -- What a search finds: one pair more, or a closed set that shows that there is none.
 use Rattle.std.specs.Prelude.{◌≡◌, ◌≢◌, ◌↔◌, ℕ, ◌+◌, ◌<◌, Bool, true, false, Option, None, List, length}
 use Rattle.obs_graph.specs.declared.Ends.{Ends}
+use Rattle.obs_graph.specs.Graph.{Graph}
 use Rattle.obs_matroid.specs.Lists.{In, IsDistinct}
 use Rattle.obs_matroid.specs.Assignments.{Pair, items}
 use Rattle.obs_matroid.specs.Closed.{Extends}
 use Rattle.obs_meter.specs.declared.Touch.{Touch}
 use Rattle.obs_meter.specs.Assignments.{IsAssignmentAt}
-use Rattle.obs_meter.specs.Sizes.{Sizes}
-use Rattle.obs_meter.specs.Touches.{every_item}
-use Rattle.obs_assign.specs.Assignment.{Assignment, branch_at, has_flag, is_frozen, pairs}
+use Rattle.obs_meter.specs.Sizes.{HasRoomFor, Sizes}
+use Rattle.obs_meter.specs.Touches.{AreInRange, every_item}
+use Rattle.obs_assign.specs.Assignment.{Assignment, HasRoomOf, IsWhole, StandsOver, branch_at, has_flag, is_frozen, pairs}
 use Rattle.obs_assign.specs.Moves.{turned}
 use Rattle.obs_exchange.specs.declared.Found.{Found}
 use Rattle.obs_exchange.specs.declared.Found.TheVariants.{Grown, Closed}
 use Rattle.obs_exchange.specs.declared.Sources.{Sources}
 use Rattle.obs_exchange.specs.declared.Sources.TheVariants.{All, One}
 use Rattle.obs_exchange.specs.Closed.{IsLeastClosedAt, IsSource}
-use Rattle.obs_exchange.specs.Noting.{Noted}
+use Rattle.obs_exchange.specs.Noting.{AreNoted, Noted}
 
 -- the one meter that is asked for is one that has no pair
 abbrev pub CanBegin : Sources → Assignment → Type 0
@@ -73,3 +74,27 @@ pub record Work : Type 0 where
 abbrev pub searched : Bool → List Touch → List Touch → List Touch
 searched true copy given = copy
 searched false copy given = given
+
+-- what a search asks: meters that are in range, pairs that stand over them, room, a source that it may begin at, and noted sources
+pub record CanRun (g : Graph) (touches : List Touch) (from : Sources) (a : Assignment) (w : Work) : Type 0 where
+  pub in_range : AreInRange g touches
+  pub stands : StandsOver a g touches
+  pub room : HasRoomFor w.sizes g touches
+  pub begins : CanBegin from a
+  pub noted : AreNoted g.ends touches from a w.noted
+
+-- what was reached and listed may be new, and all else is as it was
+pub record KeepsRest (before after : Work) : Type 0 where
+  pub noted : after.noted ≡ before.noted
+  pub touches : after.touches ≡ before.touches
+  pub loose : after.loose ≡ before.loose
+  pub sizes : after.sizes ≡ before.sizes
+
+-- what a search leaves: what it found, and pairs that stand as they did
+pub record HasRun (g : Graph) (touches : List Touch) (from : Sources) (a b : Assignment) (before after : Work) (found : Found) : Type 0 where
+  pub finds : IsFound g.ends touches from a b after.reached found
+  pub lists : found ≡ Closed → AreListed after.reached after.listed
+  pub rest : KeepsRest before after
+  pub stands : StandsOver b g touches
+  pub whole : IsWhole b
+  pub same_room : HasRoomOf a b

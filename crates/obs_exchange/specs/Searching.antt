@@ -1,7 +1,7 @@
 -- What a search knows while it runs. It marks meters and puts them into a queue; the meter at its head looks at the
 -- branches that it touches. A parent is the move by which a meter was reached: another meter, with a branch that it may
 -- take once the reached meter has moved away from its own.
-use Rattle.std.specs.Prelude.{◌≡◌, ◌⊎◌, ℕ, zero, suc, ◌<◌, ◌≤◌, ◌==◌, Bool, true, false, if◌then◌else◌, Option, Some, None, MatchOption, List, [], ◌∷◌, length, slice_index, slice_index_or, take}
+use Rattle.std.specs.Prelude.{◌≡◌, ◌⊎◌, ℕ, zero, suc, ◌<◌, ◌≤◌, ◌==◌, Bool, true, false, if◌then◌else◌, Option, Some, None, MatchOption, List, [], ◌∷◌, drop, length, slice_index, slice_index_or, take}
 use Rattle.obs_graph.specs.declared.Ends.{Ends}
 use Rattle.obs_graph.specs.Joined.{count_below}
 use Rattle.obs_graph.specs.Positions.{branches_at}
@@ -15,11 +15,14 @@ use Rattle.obs_assign.specs.declared.Move.{Move}
 use Rattle.obs_assign.specs.Assignment.{Assignment, has_flag, is_frozen, pairs}
 use Rattle.obs_assign.specs.Moves.{ArePath, moved}
 use Rattle.obs_assign.specs.Pins.{joins}
+use Rattle.obs_exchange.specs.declared.progress.Progress.{Progress}
 use Rattle.obs_exchange.specs.declared.Sources.{Sources}
-use Rattle.obs_exchange.specs.Closed.{IsSource}
+use Rattle.obs_exchange.specs.Closed.{IsLeastClosedAt, IsSource}
 use Rattle.obs_exchange.specs.Classes.{AreClasses}
-use Rattle.obs_exchange.specs.Setting.{IsSound, IsSourceIn, Setting, is_joined_in, touched_in}
-use Rattle.obs_exchange.specs.Trail.{Trail}
+use Rattle.obs_exchange.specs.Found.{AreListed}
+use Rattle.obs_exchange.specs.Noting.{AreNotedIn, Noted}
+use Rattle.obs_exchange.specs.Setting.{IsOpen, IsSound, IsSourceIn, Setting, first_of, is_joined_in, touched_in}
+use Rattle.obs_exchange.specs.Trail.{Follows, Trail}
 
 -- the place of x among the first entries of the queue, the last one that has it; 0 where none has
 abbrev pub place_in : List ℕ → ℕ → ℕ → ℕ
@@ -107,10 +110,36 @@ pub record AreStarred (over : Setting) (stars : List ℕ) (walked : List Bool) :
       → has_flag walked e ≡ true
 
 -- while a search runs, with what it knows of the vertices
-pub record IsRunning (over : Setting) (trail : Trail) (stars tops : List ℕ) : Type 0 where
-  pub searching : IsSearching over trail
-  pub starred : AreStarred over stars trail.walked
-  pub classes : AreClasses over trail.marks tops
+pub record IsRunning (over : Setting) (p : Progress) : Type 0 where
+  pub searching : IsSearching over p.trail
+  pub starred : AreStarred over p.stars p.trail.walked
+  pub classes : AreClasses over p.trail.marks p.tops
+
+-- a search that runs rests: nothing waits in its queue
+pub record IsResting (over : Setting) (p : Progress) : Type 0 where
+  pub running : IsRunning over p
+  pub done : IsDone p.trail
+
+-- a search that runs has come further: no mark is taken back, and no walk, and the room is the same
+pub record RunsOn (over : Setting) (before after : Progress) : Type 0 where
+  pub running : IsRunning over after
+  pub follows : Follows before.trail after.trail
+  pub stars : length after.stars ≡ length before.stars
+
+-- there is room for all that a search is over
+pub record HasRoomIn (over : Setting) (p : Progress) : Type 0 where
+  pub meters : length over.touches ≤ length p.trail.marks
+  pub branches : length over.graph.ends ≤ length p.trail.walked
+  pub stars : over.graph.vertices ≤ length p.stars
+  pub tops : length p.tops ≡ over.room
+  pub fits : over.graph.vertices ≤ over.room
+
+-- there is room for as much as there was
+pub record IsAsLarge (before after : Progress) : Type 0 where
+  pub meters : length after.trail.marks ≡ length before.trail.marks
+  pub branches : length after.trail.walked ≡ length before.trail.walked
+  pub stars : length after.stars ≡ length before.stars
+  pub tops : length after.tops ≡ length before.tops
 
 -- the sources from one meter on, below a limit, are marked
 abbrev pub AreMarked : Setting → List Bool → ℕ → ℕ → Type 0
@@ -141,3 +170,22 @@ pub record CanMove (ends : List (Option Ends)) (touches : List Touch) (a : Assig
 pub record IsReady (over : Setting) (path : List Move) : Type 0 where
   pub can : CanMove over.graph.ends over.touches over.assignment path
   pub begins : BeginsAtSource over.graph.ends over.touches over.sources over.assignment path
+
+-- the moves from a place on may be put in, and give a source a pair
+pub record HasPath (over : Setting) (path : List Move) (k : ℕ) : Type 0 where
+  pub bound : k ≤ length path
+  pub ready : IsReady over (drop k path)
+
+-- the first so many meters of the queue are marked, and no others: they are the least closed set
+pub record HasReached (over : Setting) (trail : Trail) (count : ℕ) : Type 0 where
+  pub few : count ≤ length trail.marks
+  pub least : IsLeastClosedAt over.graph.ends over.touches over.sources over.assignment (has_flag (take (length over.touches) trail.marks))
+  pub listed : AreListed (take (length over.touches) trail.marks) (take count trail.queue)
+
+-- a search may begin: over this, ahead over what is passed over, among noted meters, and at two meters that may be sources
+pub record CanSearch (over ahead : Setting) (n : Noted) (first from : ℕ) : Type 0 where
+  pub sound : IsSound over
+  pub passes : IsOpen over ahead
+  pub noted : AreNotedIn over n
+  pub tried : first_of over.sources ≤ first
+  pub searched : first_of over.sources ≤ from

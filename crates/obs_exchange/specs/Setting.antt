@@ -78,3 +78,12 @@ pub record IsOpen (over ahead : Setting) : Type 0 where
   pub sources : ahead.sources ≡ over.sources
   pub room : ahead.room ≡ over.room
   pub sound : IsSound ahead
+
+-- a search over these, with room for so many vertices
+pub record IsOver (over : Setting) (g : Graph) (t : List Touch) (a : Assignment) (from : Sources) (most : ℕ) : Type 0 where
+  pub graph : over.graph ≡ g
+  pub touches : over.touches ≡ t
+  pub assignment : over.assignment ≡ a
+  pub sources : over.sources ≡ from
+  pub room : over.room ≡ most
+  pub sound : IsSound over

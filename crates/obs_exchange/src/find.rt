@@ -1,20 +1,19 @@
 // The path of moves by which the assignment grows.
-ghost use Rattle.std.specs.Prelude.{◌≡◌, ◌+◌, ◌<◌, ◌≤◌, IfErr, IfOk, IfSome, MatchResult, length, drop, take};
-ghost use Rattle.obs_assign.specs.Assignment.{HasRoomOf, IsWhole, StandsOver, has_flag};
+ghost use Rattle.std.specs.Prelude.{◌≡◌, ◌+◌, ◌<◌, ◌≤◌, IfSome, MatchResult, length, drop};
+ghost use Rattle.obs_assign.specs.Assignment.{HasRoomOf, IsWhole, StandsOver};
 ghost use Rattle.obs_exchange.specs.declared.Sources.{Sources};
-ghost use Rattle.obs_exchange.specs.Closed.{IsLeastClosedAt};
-ghost use Rattle.obs_exchange.specs.Found.{AreListed, HasGrown};
+ghost use Rattle.obs_exchange.specs.Found.{HasGrown};
 ghost use Rattle.obs_exchange.specs.Noting.{AreNotedIn};
-ghost use Rattle.obs_exchange.specs.Searching.{BeginsAtSource, CanMove, IsDone, IsEnd, IsFreeFor, IsReady, IsRunning};
-ghost use Rattle.obs_exchange.specs.Setting.{IsOpen, IsSound, IsSourceIn, Setting, first_of};
+ghost use Rattle.obs_exchange.specs.Searching.{BeginsAtSource, CanMove, CanSearch, HasPath, HasReached, HasRoomIn, IsAsLarge, IsEnd, IsFreeFor, IsReady, IsResting};
+ghost use Rattle.obs_exchange.specs.Setting.{IsSound, IsSourceIn, Setting, first_of};
 
 use crate::begin::{spread_all, spread_open};
 use crate::free::untried_branch;
 use crate::noted::Noted;
 use crate::pass::Start;
+use crate::progress::Progress;
 use crate::setting::Setting;
 use crate::stars::Stars;
-use crate::tops::Tops;
 use crate::trail::Trail;
 use obs_assign::{Assignment, Move, Steps};
 use obs_graph::Graph;
@@ -66,24 +65,16 @@ fn trace(last: Move, trail: &Trail, path: &mut [Move]) -> usize
 }
 
 /// Marks nothing, and notes that no branch was walked or met: a search begins.
-fn start_anew(over: &Setting<'_>, trail: &mut Trail, stars: &mut Stars, tops: &mut Tops)
+fn start_anew(over: &Setting<'_>, search: &mut Progress)
     requires sound { IsSound over.now }
-    requires meters { length over.now.touches ≤ length trail.old.marks }
-    requires branches { length over.now.graph.ends ≤ length trail.old.walked }
-    requires stars { over.now.graph.vertices ≤ length stars.old }
-    requires tops { length tops.old ≡ over.now.room }
-    requires fits { over.now.graph.vertices ≤ over.now.room }
-    ensures running { IsRunning over.now trail.new stars.new tops.new }
-    ensures done { IsDone trail.new }
-    ensures same_meters { length trail.new.marks ≡ length trail.old.marks }
-    ensures same_branches { length trail.new.walked ≡ length trail.old.walked }
-    ensures same_vertices { length stars.new ≡ length stars.old }
-    ensures same_tops { length tops.new ≡ length tops.old }
+    requires room { HasRoomIn over.now search.old }
+    ensures resting { IsResting over.now search.new }
+    ensures as_large { IsAsLarge search.old search.new }
 {
     let _ = over;
-    trail.clear();
-    stars.clear();
-    tops.separate();
+    search.trail.clear();
+    search.stars.clear();
+    search.tops.separate();
 }
 
 /// Where what earlier searches closed is closed still, looks for a path that passes it over, writes it at the end of the
@@ -92,33 +83,23 @@ fn find_open(
     ahead: &Setting<'_>,
     noted: &Noted,
     start: Start,
-    trail: &mut Trail,
-    stars: &mut Stars,
-    tops: &mut Tops,
+    search: &mut Progress,
     path: &mut [Move],
 ) -> Option<usize>
     requires sound { IsSound ahead.now }
-    requires room { length ahead.now.touches ≤ length noted.now.flags }
+    requires flags { length ahead.now.touches ≤ length noted.now.flags }
     requires searched { first_of ahead.now.sources ≤ start.searched }
-    requires meters { length ahead.now.touches ≤ length trail.old.marks }
-    requires branches { length ahead.now.graph.ends ≤ length trail.old.walked }
-    requires stars { ahead.now.graph.vertices ≤ length stars.old }
-    requires tops { length tops.old ≡ ahead.now.room }
-    requires fits { ahead.now.graph.vertices ≤ ahead.now.room }
-    requires path { length trail.old.marks ≤ length path.old }
-    ensures bound { IfSome result (λ k. k ≤ length path.new) }
-    ensures ready { IfSome result (λ k. IsReady ahead.now (drop k path.new)) }
-    ensures same_meters { length trail.new.marks ≡ length trail.old.marks }
-    ensures same_branches { length trail.new.walked ≡ length trail.old.walked }
-    ensures same_vertices { length stars.new ≡ length stars.old }
-    ensures same_tops { length tops.new ≡ length tops.old }
+    requires room { HasRoomIn ahead.now search.old }
+    requires path { length search.old.trail.marks ≤ length path.old }
+    ensures found { IfSome result (HasPath ahead.now path.new) }
+    ensures as_large { IsAsLarge search.old search.new }
 {
     if !start.kept {
         return None;
     }
-    start_anew(ahead, trail, stars, tops);
-    match spread_open(ahead, noted, start.searched, trail, stars, tops) {
-        Some(x) => Some(trace(x, trail, path)),
+    start_anew(ahead, search);
+    match spread_open(ahead, noted, start.searched, search) {
+        Some(x) => Some(trace(x, &search.trail, path)),
         None => None,
     }
 }
@@ -133,48 +114,28 @@ pub fn find(
     ahead: &Setting<'_>,
     noted: &Noted,
     start: Start,
-    trail: &mut Trail,
-    stars: &mut Stars,
-    tops: &mut Tops,
+    search: &mut Progress,
     path: &mut [Move],
 ) -> Result<usize, usize>
-    requires sound { IsSound over.now }
-    requires ahead { IsOpen over.now ahead.now }
-    requires noted { AreNotedIn over.now noted.now }
-    requires tried { first_of over.now.sources ≤ start.tried }
-    requires searched { first_of over.now.sources ≤ start.searched }
-    requires meters { length over.now.touches ≤ length trail.old.marks }
-    requires branches { length over.now.graph.ends ≤ length trail.old.walked }
-    requires stars { over.now.graph.vertices ≤ length stars.old }
-    requires tops { length tops.old ≡ over.now.room }
-    requires fits { over.now.graph.vertices ≤ over.now.room }
-    requires path { length trail.old.marks ≤ length path.old }
-    ensures bound { IfOk result (λ k. k ≤ length path.new) }
-    ensures few { IfErr result (λ count. count ≤ length trail.new.marks) }
-    ensures found { MatchResult result
-        (λ k. IsReady over.now (drop k path.new))
-        (λ _. IsLeastClosedAt over.now.graph.ends over.now.touches over.now.sources over.now.assignment
-        (has_flag (take (length over.now.touches) trail.new.marks))) }
-    ensures listed { IfErr result
-        (λ count. AreListed (take (length over.now.touches) trail.new.marks) (take count trail.new.queue)) }
-    ensures same_meters { length trail.new.marks ≡ length trail.old.marks }
-    ensures same_branches { length trail.new.walked ≡ length trail.old.walked }
-    ensures same_vertices { length stars.new ≡ length stars.old }
-    ensures same_tops { length tops.new ≡ length tops.old }
+    requires can { CanSearch over.now ahead.now noted.now start.tried start.searched }
+    requires room { HasRoomIn over.now search.old }
+    requires path { length search.old.trail.marks ≤ length path.old }
+    ensures found { MatchResult result (HasPath over.now path.new) (HasReached over.now search.new.trail) }
+    ensures as_large { IsAsLarge search.old search.new }
 {
-    stars.renew(start.anew);
-    if let Some(x) = free_move(over, noted, start.tried, stars) {
+    search.stars.renew(start.anew);
+    if let Some(x) = free_move(over, noted, start.tried, &mut search.stars) {
         let last = path.len() - 1;
         path[last] = x;
         return Ok(last);
     }
-    if let Some(k) = find_open(ahead, noted, start, trail, stars, tops, path) {
+    if let Some(k) = find_open(ahead, noted, start, search, path) {
         return Ok(k);
     }
-    start_anew(over, trail, stars, tops);
-    match spread_all(over, noted, start.searched, trail, stars, tops) {
-        Some(x) => Ok(trace(x, trail, path)),
-        None => Err(trail.tail()),
+    start_anew(over, search);
+    match spread_all(over, noted, start.searched, search) {
+        Some(x) => Ok(trace(x, &search.trail, path)),
+        None => Err(search.trail.tail()),
     }
 }
 

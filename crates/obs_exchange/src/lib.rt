@@ -36,6 +36,7 @@ mod near;
 mod noted;
 mod over;
 mod pass;
+mod progress;
 mod queue;
 mod regrown;
 mod repeated;

@@ -4,7 +4,7 @@ ghost use Rattle.obs_meter.specs.Sizes.{HasRoomFor};
 ghost use Rattle.obs_meter.specs.Touches.{AreInRange};
 ghost use Rattle.obs_assign.specs.Assignment.{HasRoomOf, IsWhole, StandsOver, pairs};
 ghost use Rattle.obs_exchange.specs.declared.Sources.TheVariants.{All};
-ghost use Rattle.obs_exchange.specs.Found.{HasClosed, IsFound};
+ghost use Rattle.obs_exchange.specs.Found.{CanRun, HasClosed, IsFound};
 ghost use Rattle.obs_exchange.specs.Lengthened.{HasLengthened};
 ghost use Rattle.obs_exchange.specs.Noting.{AreNoted};
 
@@ -23,10 +23,7 @@ fn search_noted<L: Ledger>(
     work: &mut Work,
     steps: &mut Steps<L>,
 ) -> Found
-    requires stands { StandsOver a.old g.now ms.now.touches }
-    requires in_range { AreInRange g.now ms.now.touches }
-    requires room { HasRoomFor work.old.sizes g.now ms.now.touches }
-    requires noted { AreNoted g.now.ends ms.now.touches All a.old work.old.noted }
+    requires can { CanRun g.now ms.now.touches All a.old work.old }
     ensures found { IsFound g.now.ends ms.now.touches All a.old a.new work.new.reached result }
     ensures noted { AreNoted g.now.ends ms.now.touches All a.new work.new.noted }
     ensures tick { steps.new ≡ steps.old + 1 }

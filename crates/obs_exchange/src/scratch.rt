@@ -1,17 +1,13 @@
 // What a search writes on.
-ghost use Rattle.std.specs.Prelude.{◌≡◌, ◌≤◌, IfErr, IfOk, MatchResult, length, drop, take};
-ghost use Rattle.obs_assign.specs.Assignment.{has_flag};
-ghost use Rattle.obs_exchange.specs.Closed.{IsLeastClosedAt};
-ghost use Rattle.obs_exchange.specs.Found.{AreListed};
-ghost use Rattle.obs_exchange.specs.Noting.{AreNotedIn};
-ghost use Rattle.obs_exchange.specs.Searching.{IsReady};
-ghost use Rattle.obs_exchange.specs.Setting.{IsOpen, IsSound, first_of};
+ghost use Rattle.std.specs.Prelude.{◌≡◌, ◌≤◌, IfOk, MatchResult, length, drop, take};
+ghost use Rattle.obs_exchange.specs.Searching.{CanSearch, HasPath, HasReached};
 ghost use Rattle.obs_exchange.specs.Trail.{HasRoomOnly};
 
 use crate::find::find;
 use crate::memory::NoMemory;
 use crate::noted::Noted;
 use crate::pass::Start;
+use crate::progress::Progress;
 use crate::setting::Setting;
 use crate::stars::Stars;
 use crate::tops::Tops;
@@ -22,12 +18,8 @@ use std::marker::Model;
 
 /// The arrays that a search fills.
 pub(crate) struct Scratch {
-    // what it reached and walked
-    trail: Trail,
-    // what it knows of the branches at each vertex
-    stars: Stars,
-    // where the vertex leads to, towards the top of its class
-    tops: Tops,
+    // how far it is
+    search: Progress,
     // the moves to a free branch, at the end
     path: Vec<Move>,
 }
@@ -38,21 +30,16 @@ impl Model for Scratch {
 
     ghost Value = { Scratch };
 
-    ghost view = { λ s. record { trail = s.trail; path = s.path.items; vertices = length s.stars } };
+    ghost view = { λ s. record { trail = s.search.trail; path = s.path.items; vertices = length s.search.stars } };
 
     ghost invariant = { λ s.
-        (length s.path.items ≡ length s.trail.marks) × (length s.tops ≡ length s.stars) };
+        (length s.path.items ≡ length s.search.trail.marks) × (length s.search.tops ≡ length s.search.stars) };
 }
 
 // Written out: so a caller's proof sees one call, and not the drop of each field.
 impl Drop for Scratch {
     fn drop(self) {
-        let Scratch {
-            trail: _,
-            stars: _,
-            tops: _,
-            path: _,
-        } = self;
+        let Scratch { search: _, path: _ } = self;
     }
 }
 
@@ -83,9 +70,7 @@ impl Scratch {
             return Err(NoMemory);
         };
         Ok(Scratch {
-            trail,
-            stars,
-            tops,
+            search: Progress { trail, stars, tops },
             path,
         })
     }
@@ -94,7 +79,7 @@ impl Scratch {
     pub(crate) fn vertices(&self) -> usize
         ensures vertices { result ≡ self.now.vertices }
     {
-        self.tops.len()
+        self.search.tops.len()
     }
 
     /// `find` on these arrays.
@@ -105,38 +90,17 @@ impl Scratch {
         noted: &Noted,
         start: Start,
     ) -> Result<usize, usize>
-        requires sound { IsSound over.now }
-        requires ahead { IsOpen over.now ahead.now }
-        requires noted { AreNotedIn over.now noted.now }
-        requires tried { first_of over.now.sources ≤ start.tried }
-        requires searched { first_of over.now.sources ≤ start.searched }
+        requires can { CanSearch over.now ahead.now noted.now start.tried start.searched }
         requires meters { length over.now.touches ≤ length self.old.trail.marks }
         requires branches { length over.now.graph.ends ≤ length self.old.trail.walked }
         requires vertices { over.now.graph.vertices ≤ self.old.vertices }
         requires room { over.now.room ≡ self.old.vertices }
-        ensures bound { IfOk result (λ k. k ≤ length self.new.path) }
-        ensures few { IfErr result (λ count. count ≤ length self.new.trail.marks) }
-        ensures found { MatchResult result
-            (λ k. IsReady over.now (drop k self.new.path))
-            (λ _. IsLeastClosedAt over.now.graph.ends over.now.touches over.now.sources over.now.assignment
-            (has_flag (take (length over.now.touches) self.new.trail.marks))) }
-        ensures listed { IfErr result
-            (λ count. AreListed (take (length over.now.touches) self.new.trail.marks)
-            (take count self.new.trail.queue)) }
+        ensures found { MatchResult result (HasPath over.now self.new.path) (HasReached over.now self.new.trail) }
         ensures same_meters { length self.new.trail.marks ≡ length self.old.trail.marks }
         ensures same_branches { length self.new.trail.walked ≡ length self.old.trail.walked }
         ensures same_vertices { self.new.vertices ≡ self.old.vertices }
     {
-        find(
-            over,
-            ahead,
-            noted,
-            start,
-            &mut self.trail,
-            &mut self.stars,
-            &mut self.tops,
-            &mut self.path,
-        )
+        find(over, ahead, noted, start, &mut self.search, &mut self.path)
     }
 
     /// The moves of the path from one place on.
@@ -152,12 +116,12 @@ impl Scratch {
         requires meters { meters ≤ length self.now.trail.marks }
         ensures marks { result.now ≡ take meters self.now.trail.marks }
     {
-        self.trail.marks(meters)
+        self.search.trail.marks(meters)
     }
 
     /// The places of the queue, of which the last search filled the first ones.
     pub(crate) fn queue(&self) -> &[u32] {
-        self.trail.queue()
+        self.search.trail.queue()
     }
 
     /// The first meters of the queue.
@@ -165,6 +129,6 @@ impl Scratch {
         requires count { count ≤ length self.now.trail.marks }
         ensures queued { result.now ≡ take count self.now.trail.queue }
     {
-        self.trail.queued(count)
+        self.search.trail.queued(count)
     }
 }

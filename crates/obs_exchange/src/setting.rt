@@ -4,7 +4,7 @@ ghost use Rattle.obs_graph.specs.Positions.{branches_at};
 ghost use Rattle.obs_meter.specs.declared.Touch.{Touch};
 ghost use Rattle.obs_meter.specs.Touches.{AreInRange, hub_of};
 ghost use Rattle.obs_assign.specs.Assignment.{StandsOver, branch_at, is_frozen};
-ghost use Rattle.obs_exchange.specs.Setting.{IsSound, IsSourceIn, end_of, first_of, is_joined_in, shut_by, touched_in};
+ghost use Rattle.obs_exchange.specs.Setting.{IsOver, IsSourceIn, end_of, first_of, is_joined_in, shut_by, touched_in};
 
 use crate::Sources;
 use obs_assign::Assignment;
@@ -68,24 +68,9 @@ impl<'a> Setting<'a> {
         requires stands { StandsOver assignment.now graph.now meters.now.touches }
         requires in_range { AreInRange graph.now meters.now.touches }
         requires low { end_of sources (length meters.now.touches) ≤ length meters.now.touches }
-        ensures graph { result.graph ≡ graph.now }
-        ensures touches { result.touches ≡ meters.now.touches }
-        ensures assignment { result.assignment ≡ assignment.now }
-        ensures sources { result.sources ≡ sources }
-        ensures room { result.room ≡ room }
-        ensures sound { IsSound result }
+        ensures over { IsOver result graph.now meters.now.touches assignment.now sources room }
     {
-        let _ = graph.vertices();
-        let ways = assignment.forest().ways();
-        Setting {
-            graph,
-            meters,
-            assignment,
-            sources,
-            ways,
-            room,
-            shut: &[],
-        }
+        Setting::shut(graph, meters, assignment, sources, room, &[])
     }
 
     /// The same, where the flagged meters that have pairs are passed over like frozen ones.
@@ -100,12 +85,7 @@ impl<'a> Setting<'a> {
         requires stands { StandsOver assignment.now graph.now meters.now.touches }
         requires in_range { AreInRange graph.now meters.now.touches }
         requires low { end_of sources (length meters.now.touches) ≤ length meters.now.touches }
-        ensures graph { result.graph ≡ graph.now }
-        ensures touches { result.touches ≡ meters.now.touches }
-        ensures assignment { result.assignment ≡ shut_by shut.now assignment.now }
-        ensures sources { result.sources ≡ sources }
-        ensures room { result.room ≡ room }
-        ensures sound { IsSound result }
+        ensures over { IsOver result graph.now meters.now.touches (shut_by shut.now assignment.now) sources room }
     {
         let _ = graph.vertices();
         let ways = assignment.forest().ways();

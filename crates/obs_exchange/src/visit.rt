@@ -1,11 +1,12 @@
 // The meters of the queue, one after the other, up to the first free branch.
 ghost use Rattle.std.specs.Prelude.{◌≡◌, ◌<◌, ◌≤◌, Bool, List, IsTrue, MatchOption, length};
 ghost use Rattle.obs_exchange.specs.Classes.{AreClasses};
-ghost use Rattle.obs_exchange.specs.Searching.{AreStarred, AreWalkedOf, IsDone, IsEnd, IsFreeFor, IsRunning, IsVisiting};
+ghost use Rattle.obs_exchange.specs.Searching.{AreStarred, AreWalkedOf, IsDone, IsEnd, IsFreeFor, IsRunning, IsVisiting, RunsOn};
 ghost use Rattle.obs_exchange.specs.Setting.{touched_in};
-ghost use Rattle.obs_exchange.specs.Trail.{Follows, Stays};
+ghost use Rattle.obs_exchange.specs.Trail.{Stays};
 
 use crate::free::{count, free_branch};
+use crate::progress::Progress;
 use crate::setting::Setting;
 use crate::stars::Stars;
 use crate::tops::Tops;
@@ -69,61 +70,50 @@ fn walk_touched(
 
 /// Visits the meter at the head of the queue: looks for a free branch that it touches, and walks the branches that it
 /// touches where it finds none.
-fn visit(
-    over: &Setting<'_>,
-    m: u32,
-    trail: &mut Trail,
-    stars: &mut Stars,
-    tops: &mut Tops,
-) -> Option<u32>
-    requires m { m < length over.now.touches }
-    requires visiting { IsVisiting over.now trail.old m }
-    requires starred { AreStarred over.now stars.old trail.old.walked }
-    requires classes { AreClasses over.now trail.old.marks tops.old }
-    ensures visiting { IsVisiting over.now trail.new m }
-    ensures starred { AreStarred over.now stars.new trail.new.walked }
-    ensures classes { AreClasses over.now trail.new.marks tops.new }
-    ensures walked { MatchOption result (AreWalkedOf over.now trail.new.walked m) (λ e. IsFreeFor over.now m e) }
-    ensures stays { Stays trail.old trail.new }
-    ensures same_room { length stars.new ≡ length stars.old }
+fn visit(over: &Setting<'_>, m: u32, search: &mut Progress) -> Option<u32>
+    requires visiting { IsVisiting over.now search.old.trail m }
+    requires running { IsRunning over.now search.old }
+    ensures visiting { IsVisiting over.now search.new.trail m }
+    ensures runs_on { RunsOn over.now search.old search.new }
+    ensures walked { MatchOption result (AreWalkedOf over.now search.new.trail.walked m) (λ e. IsFreeFor over.now m e) }
+    ensures head { search.new.trail.head ≡ search.old.trail.head }
 {
-    if is_starred(over, m, stars) {
+    if is_starred(over, m, &search.stars) {
         return None;
     }
-    if let Some(e) = free_branch(over, m, stars) {
+    if let Some(e) = free_branch(over, m, &mut search.stars) {
         return Some(e);
     }
-    match walk_touched(over, m, over.touched(m), trail, tops) {
+    match walk_touched(
+        over,
+        m,
+        over.touched(m),
+        &mut search.trail,
+        &mut search.tops,
+    ) {
         Some(e) => Some(e),
         None => {
-            star(over, m, stars);
+            star(over, m, &mut search.stars);
             None
         }
     }
 }
 
 /// Visits the meters of the queue in their order, from its head on, up to the first one that touches a free branch.
-pub fn spread(
-    over: &Setting<'_>,
-    trail: &mut Trail,
-    stars: &mut Stars,
-    tops: &mut Tops,
-) -> Option<Move>
-    requires running { IsRunning over.now trail.old stars.old tops.old }
-    ensures running { IsRunning over.now trail.new stars.new tops.new }
-    ensures found { MatchOption result (IsDone trail.new) (λ x. IsEnd over.now trail.new x) }
-    ensures follows { Follows trail.old trail.new }
-    ensures same_room { length stars.new ≡ length stars.old }
+pub fn spread(over: &Setting<'_>, search: &mut Progress) -> Option<Move>
+    requires running { IsRunning over.now search.old }
+    ensures runs_on { RunsOn over.now search.old search.new }
+    ensures found { MatchOption result (IsDone search.new.trail) (λ x. IsEnd over.now search.new.trail x) }
 {
-    while trail.waits() {
-        let m = trail.next();
-        if let Some(e) = visit(over, m, trail, stars, tops) {
+    while search.trail.waits() {
+        let m = search.trail.next();
+        if let Some(e) = visit(over, m, search) {
             return Some(Move {
                 meter: m,
                 branch: e,
             });
         }
-        trail.advance();
+        search.trail.advance();
     }
     None
 }

@@ -2,10 +2,9 @@
 ghost use Rattle.std.specs.Prelude.{◌≡◌, ◌+◌, ◌<◌, ◌≤◌, ◌&&◌, ℕ, true, false, [], length, replicate, slice_set, IfOk};
 ghost use Rattle.obs_meter.specs.Sizes.{HasRoomFor};
 ghost use Rattle.obs_meter.specs.Touches.{AreInRange};
-ghost use Rattle.obs_assign.specs.Assignment.{HasRoomOf, IsWhole, StandsOver, has_flag};
-ghost use Rattle.obs_exchange.specs.declared.Found.{Found};
+ghost use Rattle.obs_assign.specs.Assignment.{StandsOver, has_flag};
 ghost use Rattle.obs_exchange.specs.declared.Sources.TheVariants.{All};
-ghost use Rattle.obs_exchange.specs.Found.{AreListed, CanBegin, IsFound, searched};
+ghost use Rattle.obs_exchange.specs.Found.{CanRun, HasRun, searched};
 ghost use Rattle.obs_exchange.specs.Noting.{AreNoted};
 
 use crate::find::grow;
@@ -298,23 +297,10 @@ impl Work {
         copied: bool,
         steps: &mut Steps<L>,
     ) -> Found
-        requires stands { StandsOver a.old g.now (searched copied self.old.touches ms.now.touches) }
-        requires in_range { AreInRange g.now (searched copied self.old.touches ms.now.touches) }
-        requires room { HasRoomFor self.old.sizes g.now (searched copied self.old.touches ms.now.touches) }
-        requires begins { CanBegin from a.old }
-        requires noted { AreNoted g.now.ends (searched copied self.old.touches ms.now.touches)
-            from a.old self.old.noted }
-        ensures found { IsFound g.now.ends (searched copied self.old.touches ms.now.touches)
-            from a.old a.new self.new.reached result }
-        ensures listed { result ≡ Found.Closed → AreListed self.new.reached self.new.listed }
-        ensures noted { self.new.noted ≡ self.old.noted }
-        ensures same_touches { self.new.touches ≡ self.old.touches }
-        ensures same_loose { self.new.loose ≡ self.old.loose }
+        requires can { CanRun g.now (searched copied self.old.touches ms.now.touches) from a.old self.old }
+        ensures run { HasRun g.now (searched copied self.old.touches ms.now.touches) from a.old a.new self.old self.new
+            result }
         ensures tick { steps.new ≡ steps.old + 1 }
-        ensures stands { StandsOver a.new g.now (searched copied self.old.touches ms.now.touches) }
-        ensures whole { IsWhole a.new }
-        ensures same_room { HasRoomOf a.old a.new }
-        ensures same_sizes { self.new.sizes ≡ self.old.sizes }
     {
         let ms = picked(ms, &self.copy, copied);
         self.meters = ms.count() as usize;

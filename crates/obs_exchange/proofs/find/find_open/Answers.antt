@@ -1,38 +1,34 @@
-use Rattle.std.proofs.Common.{sym, ◌∙◌, arith}
+use Rattle.std.proofs.Common.{arith}
+use Rattle.obs_exchange.proofs.Trails.{IsAsLarge-run, IsAsLarge-same, IsAsLarge-then}
 use Rattle.obs_exchange.proofs.find.find_open.Goals as goal
 
-pub start_anew-requires : goal.start_anew-requires
-start_anew-requires c = let r = c.requires in
-    record { sound = r.sound; meters = r.meters; branches = r.branches; stars = r.stars; tops = r.tops; fits = r.fits }
+pub returns-then-not-start : goal.returns-then-not-start
+returns-then-not-start c = record { found = tt; as_large = IsAsLarge-same c.args.search.now }
 
 pub spread_open-requires : goal.spread_open-requires
-spread_open-requires c = let s = c.start_anew.ensures in
-    record { room = c.requires.room; first = c.requires.searched; running = s.running; done = s.done }
+spread_open-requires c = let r = c.requires in record { room = r.flags; first = r.searched; resting = c.start_anew.ensures.resting }
 
 pub trace-requires : goal.trace-requires
-trace-requires c = record {
-  end = (c.args.ahead.now, c.in-Some.ensures.found);
-  room = omega (arith, c.in-Some.ensures.follows.meters, c.start_anew.ensures.same_meters, c.requires.path);
+trace-requires c = let e = c.in-Some.ensures in record {
+  end = (c.args.ahead.now, e.found);
+  room = omega (arith, e.runs_on.follows.meters, c.start_anew.ensures.as_large.meters, c.requires.path);
 }
 
 pub returns-in-Some : goal.returns-in-Some
-returns-in-Some c = let f = c.in-Some.ensures.follows in let s = c.start_anew.ensures in
+returns-in-Some c =
+    let s = c.start_anew in
+    let e = c.in-Some.ensures in
+    let n = c.spread_open.new.search in
     record {
-      bound = c.trace.ensures.bound;
-      ready = c.trace.ensures.ready c.args.ahead.now c.in-Some.ensures.found;
-      same_meters = f.meters ∙ s.same_meters;
-      same_branches = f.branches ∙ s.same_branches;
-      same_vertices = c.in-Some.ensures.same_room ∙ s.same_vertices;
-      same_tops = c.in-Some.ensures.running.classes.are_tops.tops_len ∙ sym c.requires.tops;
+      found = record { bound = c.trace.ensures.bound; ready = c.trace.ensures.ready c.args.ahead.now e.found };
+      as_large = IsAsLarge-then c.args.search.now s.new.search n s.ensures.as_large (IsAsLarge-run c.args.ahead.now s.new.search n s.ensures.resting.running e.runs_on);
     }
 
 pub returns-in-None : goal.returns-in-None
-returns-in-None c = let e = c.spread_open.ensures in let f = e.follows in let s = c.start_anew.ensures in
+returns-in-None c =
+    let s = c.start_anew in
+    let n = c.spread_open.new.search in
     record {
-      bound = tt;
-      ready = tt;
-      same_meters = f.meters ∙ s.same_meters;
-      same_branches = f.branches ∙ s.same_branches;
-      same_vertices = e.same_room ∙ s.same_vertices;
-      same_tops = e.running.classes.are_tops.tops_len ∙ sym c.requires.tops;
+      found = tt;
+      as_large = IsAsLarge-then c.args.search.now s.new.search n s.ensures.as_large (IsAsLarge-run c.args.ahead.now s.new.search n s.ensures.resting.running c.spread_open.ensures.runs_on);
     }

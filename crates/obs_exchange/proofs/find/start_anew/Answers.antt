@@ -5,29 +5,28 @@ use Rattle.obs_exchange.proofs.Beginning.{AreStarred-start, IsSearching-start}
 use Rattle.obs_exchange.proofs.Upward.{AreClasses-own}
 use Rattle.obs_exchange.proofs.find.start_anew.Goals as goal
 
-pub returns-clause-running : goal.returns-clause-running
-returns-clause-running c =
-    let r = c.requires in
+pub returns-clause-resting : goal.returns-clause-resting
+returns-clause-resting c =
+    let r = c.requires.room in
     let over = c.args.over.now in
+    let p = c.args.search.now in
+    let cleared = c.clear.ensures.cleared in
     let len : length c.separate.new.self ≡ over.room = c.separate.ensures.length ∙ r.tops in
-    rw (c.clear.ensures.cleared, c.clear-2.ensures.cleared)
-    (record {
-      searching = IsSearching-start over r.sound c.args.trail.now r.meters r.branches (rw c.clear.ensures.cleared at c.clear.ensures.full);
-      starred = AreStarred-start over _ _ r.stars;
-      classes = AreClasses-own over _ c.separate.new.self len r.fits (λ k l. c.separate.ensures.own k (omega (arith, l, r.fits, len)));
-    })
+    record {
+      running = rw (cleared, c.clear-2.ensures.cleared) (record {
+        searching = IsSearching-start over c.requires.sound p.trail r.meters r.branches (rw cleared at c.clear.ensures.full);
+        starred = AreStarred-start over _ _ r.stars;
+        classes = AreClasses-own over _ c.separate.new.self len r.fits (λ k l. c.separate.ensures.own k (omega (arith, l, r.fits, len)));
+      });
+      done = ap (λ (t : Trail). t.head) cleared ∙ sym (ap (λ (t : Trail). t.tail) cleared);
+    }
 
-pub returns-clause-done : goal.returns-clause-done
-returns-clause-done c = ap (λ (t : Trail). t.head) c.clear.ensures.cleared ∙ sym (ap (λ (t : Trail). t.tail) c.clear.ensures.cleared)
-
-pub returns-clause-same_meters : goal.returns-clause-same_meters
-returns-clause-same_meters c = ap (λ (t : Trail). length t.marks) c.clear.ensures.cleared ∙ length-replicate (length c.args.trail.now.marks) false
-
-pub returns-clause-same_branches : goal.returns-clause-same_branches
-returns-clause-same_branches c = ap (λ (t : Trail). length t.walked) c.clear.ensures.cleared ∙ length-replicate (length c.args.trail.now.walked) false
-
-pub returns-clause-same_vertices : goal.returns-clause-same_vertices
-returns-clause-same_vertices c = ap length c.clear-2.ensures.cleared ∙ length-replicate (length c.args.stars.now) 0
-
-pub returns-clause-same_tops : goal.returns-clause-same_tops
-returns-clause-same_tops c = c.separate.ensures.length
+pub returns-clause-as_large : goal.returns-clause-as_large
+returns-clause-as_large c =
+    let p = c.args.search.now in
+    record {
+      meters = ap (λ (t : Trail). length t.marks) c.clear.ensures.cleared ∙ length-replicate (length p.trail.marks) false;
+      branches = ap (λ (t : Trail). length t.walked) c.clear.ensures.cleared ∙ length-replicate (length p.trail.walked) false;
+      stars = ap length c.clear-2.ensures.cleared ∙ length-replicate (length p.stars) 0;
+      tops = c.separate.ensures.length;
+    }

@@ -2,41 +2,41 @@ use Rattle.std.proofs.Common.{refl, ◌∙◌, arith}
 use Rattle.obs_exchange.proofs.Lengthening.{Closed-again, HasLengthened-closed, HasLengthened-enough, IsLengthening-grown, IsLengthening-none, room_again, rooms}
 use Rattle.obs_exchange.proofs.repeated.lengthen_from.Goals as goal
 
-pub search_noted-requires-clause-stands : goal.search_noted-requires-clause-stands
-search_noted-requires-clause-stands g c = c.loop-a.invariant.0.stands
+pub search_noted-requires : goal.search_noted-requires
+search_noted-requires g c =
+    let i = c.loop-a.invariant in
+    record {
+      can = record {
+        in_range = c.requires.in_range;
+        stands = i.0.stands;
+        room = room_again c.args.g.now c.args.ms.now.touches c.args.work.now.sizes c.loop-a.work.sizes i.1 c.requires.room;
+        begins = tt;
+        noted = i.4;
+      };
+    }
 
-pub search_noted-requires-clause-in_range : goal.search_noted-requires-clause-in_range
-search_noted-requires-clause-in_range g c = c.requires.in_range
-
-pub search_noted-requires-clause-room : goal.search_noted-requires-clause-room
-search_noted-requires-clause-room g c = room_again c.args.g.now c.args.ms.now.touches c.args.work.now.sizes c.loop-a.work.sizes c.loop-a.invariant.1 c.requires.room
-
-pub returns-in-Closed-clause-ended : goal.returns-in-Closed-clause-ended
-returns-in-Closed-clause-ended g c = Closed-again c.args.g.now c.args.ms.now.touches c.loop-a.a c.search_noted.new.a c.search_noted.new.work.reached c.in-Closed.ensures.found
-
-pub returns-in-Closed-clause-noted : goal.returns-in-Closed-clause-noted
-returns-in-Closed-clause-noted g c = c.in-Closed.ensures.noted
-
-pub returns-in-Closed-clause-stands : goal.returns-in-Closed-clause-stands
-returns-in-Closed-clause-stands g c = c.in-Closed.ensures.stands
-
-pub returns-in-Closed-clause-whole : goal.returns-in-Closed-clause-whole
-returns-in-Closed-clause-whole g c = c.in-Closed.ensures.whole
-
-pub returns-in-Closed-clause-bound : goal.returns-in-Closed-clause-bound
-returns-in-Closed-clause-bound g c = omega (arith, c.loop-a.invariant.3, c.loop-a-test.true, c.length.ensures.length, c.loop-a.invariant.0.longer)
-
-pub returns-in-Closed-clause-ticks : goal.returns-in-Closed-clause-ticks
-returns-in-Closed-clause-ticks g c = omega (arith, c.in-Closed.ensures.tick, c.loop-a.invariant.2)
-
-pub returns-in-Closed-clause-same_sizes : goal.returns-in-Closed-clause-same_sizes
-returns-in-Closed-clause-same_sizes g c = c.in-Closed.ensures.same_sizes ∙ c.loop-a.invariant.1
-
-pub returns-in-Closed-clause-same_room : goal.returns-in-Closed-clause-same_room
-returns-in-Closed-clause-same_room g c = rooms c.args.a.now c.loop-a.a c.search_noted.new.a c.loop-a.invariant.0.same_room c.in-Closed.ensures.same_room
-
-pub returns-in-Closed-clause-lengthened : goal.returns-in-Closed-clause-lengthened
-returns-in-Closed-clause-lengthened g c = HasLengthened-closed c.args.g.now c.args.ms.now.touches c.args.a.now c.loop-a.a c.search_noted.new.a c.loop-a.searches c.loop-a.invariant.0 c.search_noted.new.work.reached c.in-Closed.ensures.found
+pub returns-in-Closed : goal.returns-in-Closed
+returns-in-Closed g c =
+    let graph = c.args.g.now in
+    let touches = c.args.ms.now.touches in
+    let l = c.loop-a in
+    let i = l.invariant in
+    let n = c.search_noted.new in
+    let e = c.in-Closed.ensures in
+    let ended = Closed-again graph touches l.a n.a n.work.reached e.found in
+    let same = e.found.same in
+    record {
+      lengthened = HasLengthened-closed graph touches c.args.a.now l.a n.a l.searches i.0 n.work.reached e.found;
+      ended = ended;
+      short = λ closed. rw same (omega (arith, c.loop-a-test.true, c.length.ensures.length));
+      noted = e.noted;
+      stands = e.stands;
+      whole = e.whole;
+      bound = omega (arith, i.3, c.loop-a-test.true, c.length.ensures.length, i.0.longer);
+      ticks = omega (arith, e.tick, i.2);
+      same_room = rooms c.args.a.now l.a n.a i.0.same_room e.same_room;
+      same_sizes = e.same_sizes ∙ i.1;
+    }
 
 pub returns-clause-lengthened : goal.returns-clause-lengthened
 returns-clause-lengthened g c = HasLengthened-enough c.args.g.now c.args.ms.now.touches c.args.a.now c.loop-a.a c.loop-a.a c.loop-a.searches c.loop-a.invariant.0

@@ -1,75 +1,74 @@
 use Rattle.obs_exchange.proofs.Trails.{Follows-same, Follows-then}
-use Rattle.std.proofs.Common.{◌≡◌, ℕ, true, inl, inr, arith, refl, sym, subst, ◌∙◌}
+use Rattle.std.proofs.Common.{inl, inr, arith, refl, sym, ◌∙◌}
 use Rattle.std.proofs.lemmas.Bool.{cases_lt}
-use Rattle.obs_assign.specs.Assignment.{has_flag}
 use Rattle.obs_matroid.proofs.Lists.{clash}
 use Rattle.obs_exchange.proofs.Closing.{tail_low}
 use Rattle.obs_exchange.proofs.Visiting.{IsSearching-next, visited_marked}
 use Rattle.obs_exchange.proofs.visit.spread.Goals as goal
 
 pub next-m-requires : goal.next-m-requires
-next-m-requires c = let l = c.loop-trail in let s = l.invariant.running.searching in
-    let t = tail_low c.args.over.now l.trail s in
-    let w = c.waits.ensures.waits.0 c.loop-trail-test.true in
+next-m-requires c =
+    let l = c.loop-search in
+    let s = l.invariant.running.searching in
+    let t = tail_low c.args.over.now l.search.trail s in
+    let w = c.waits.ensures.waits.0 c.loop-search-test.true in
     record { head = omega (arith, t, w, s.marks_len) }
 
+pub visit-requires : goal.visit-requires
+visit-requires c =
+    let r = c.loop-search.invariant.running in
+    record { visiting = record { searching = r.searching; below = c.waits.ensures.waits.0 c.loop-search-test.true; at_head = sym c.next-m.ensures.next }; running = r }
+
 pub advance-requires : goal.advance-requires
-advance-requires c = let v = c.visit.ensures.visiting in
-    let t = tail_low c.args.over.now c.visit.new.trail v.searching in
+advance-requires c =
+    let v = c.visit.ensures.visiting in
+    let t = tail_low c.args.over.now c.visit.new.search.trail v.searching in
     record { head = omega (arith, t, v.below, v.searching.marks_len) }
 
-pub loop-trail-smaller : goal.loop-trail-smaller
-loop-trail-smaller c = let l = c.loop-trail in let v = c.visit.ensures in
-    let t = tail_low c.args.over.now c.visit.new.trail v.visiting.searching in
-    rw c.advance.ensures.advanced (omega (arith, t, v.visiting.below, v.stays.head))
+pub loop-search-init : goal.loop-search-init
+loop-search-init c = record { running = c.requires.running; follows = Follows-same c.args.search.now.trail; stars = refl }
 
-pub loop-trail-init : goal.loop-trail-init
-loop-trail-init c = record { running = c.requires.running; follows = Follows-same c.args.trail.now; same_room = refl }
+pub loop-search-smaller : goal.loop-search-smaller
+loop-search-smaller c =
+    let v = c.visit.ensures in
+    let t = tail_low c.args.over.now c.visit.new.search.trail v.visiting.searching in
+    rw c.advance.ensures.advanced (omega (arith, t, v.visiting.below, v.head))
 
-pub visit-requires-clause-starred : goal.visit-requires-clause-starred
-visit-requires-clause-starred c = c.loop-trail.invariant.running.starred
+pub loop-search-preserved : goal.loop-search-preserved
+loop-search-preserved c =
+    let v = c.in_default.ensures in
+    let r = v.runs_on in
+    let l = c.loop-search in
+    let f = Follows-then c.args.search.now.trail l.search.trail c.visit.new.search.trail l.invariant.follows r.follows in
+    rw c.advance.ensures.advanced (record {
+      running = record { searching = IsSearching-next c.args.over.now c.visit.new.search.trail c.next-m.result v.visiting v.walked; starred = r.running.starred; classes = r.running.classes };
+      follows = record { marks = f.marks; walked = f.walked; meters = f.meters; branches = f.branches };
+      stars = r.stars ∙ l.invariant.stars;
+    })
 
-pub visit-requires-clause-classes : goal.visit-requires-clause-classes
-visit-requires-clause-classes c = c.loop-trail.invariant.running.classes
+pub returns-in-Some : goal.returns-in-Some
+returns-in-Some c =
+    let l = c.loop-search in
+    let e = c.in-Some.ensures in
+    let r = e.runs_on in
+    record {
+      runs_on = record {
+        running = r.running;
+        follows = Follows-then c.args.search.now.trail l.search.trail c.visit.new.search.trail l.invariant.follows r.follows;
+        stars = r.stars ∙ l.invariant.stars;
+      };
+      found = record { searching = e.visiting.searching; marked = visited_marked c.args.over.now c.visit.new.search.trail c.next-m.result e.visiting; free = e.walked };
+    }
 
-pub visit-requires-clause-visiting : goal.visit-requires-clause-visiting
-visit-requires-clause-visiting c = record { searching = c.loop-trail.invariant.running.searching; below = c.waits.ensures.waits.0 c.loop-trail-test.true; at_head = sym c.next-m.ensures.next }
-
-pub returns-in-Some-clause-running : goal.returns-in-Some-clause-running
-returns-in-Some-clause-running c = record { searching = c.in-Some.ensures.visiting.searching; starred = c.in-Some.ensures.starred; classes = c.in-Some.ensures.classes }
-
-pub returns-in-Some-clause-follows : goal.returns-in-Some-clause-follows
-returns-in-Some-clause-follows c = Follows-then c.args.trail.now c.loop-trail.trail c.visit.new.trail c.loop-trail.invariant.follows c.in-Some.ensures.stays.follows
-
-pub returns-in-Some-clause-same_room : goal.returns-in-Some-clause-same_room
-returns-in-Some-clause-same_room c = c.in-Some.ensures.same_room ∙ c.loop-trail.invariant.same_room
-
-pub returns-clause-running : goal.returns-clause-running
-returns-clause-running c = c.loop-trail.invariant.running
-
-pub returns-clause-follows : goal.returns-clause-follows
-returns-clause-follows c = c.loop-trail.invariant.follows
-
-pub returns-clause-same_room : goal.returns-clause-same_room
-returns-clause-same_room c = c.loop-trail.invariant.same_room
-
-pub loop-trail-preserved : goal.loop-trail-preserved
-loop-trail-preserved c = let v = c.in_default.ensures in let l = c.loop-trail in let f = Follows-then c.args.trail.now l.trail c.visit.new.trail l.invariant.follows v.stays.follows in rw c.advance.ensures.advanced (record {
-  running = record { searching = IsSearching-next c.args.over.now c.visit.new.trail c.next-m.result v.visiting v.walked; starred = v.starred; classes = v.classes };
-  follows = record { marks = f.marks; walked = f.walked; meters = f.meters; branches = f.branches };
-  same_room = v.same_room ∙ l.invariant.same_room;
-})
-
-pub returns-clause-found : goal.returns-clause-found
-returns-clause-found c = let t = c.loop-trail.trail in let le = c.loop-trail.invariant.running.searching.head_le in elim (cases_lt t.head t.tail) [
-  | inl b ↦ clash (c.waits.ensures.waits.1 b) c.loop-trail-test.false
-  | inr n ↦ omega (arith, le, n)
-]
-
-pub returns-in-Some-clause-found : goal.returns-in-Some-clause-found
-returns-in-Some-clause-found c = let e = c.in-Some.ensures in
-    record { searching = e.visiting.searching; marked = visited_marked c.args.over.now c.visit.new.trail c.next-m.result e.visiting; free = e.walked }
-
-pub visit-requires-clause-m : goal.visit-requires-clause-m
-visit-requires-clause-m c = let t = c.loop-trail.trail in let s = c.loop-trail.invariant.running.searching in
-    s.low c.next-m.result (subst (λ (k : ℕ). has_flag t.marks k ≡ true) (sym c.next-m.ensures.next) (s.entries t.head (c.waits.ensures.waits.0 c.loop-trail-test.true)).0)
+pub returns : goal.returns
+returns c =
+    let i = c.loop-search.invariant in
+    let t = c.loop-search.search.trail in
+    let le = i.running.searching.head_le in
+    record {
+      runs_on = i;
+      found = elim (cases_lt t.head t.tail) [
+        | inl b ↦ clash (c.waits.ensures.waits.1 b) c.loop-search-test.false
+        | inr n ↦ omega (arith, le, n)
+      ];
+    }

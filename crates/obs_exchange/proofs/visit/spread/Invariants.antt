@@ -1,14 +1,9 @@
-use Rattle.std.proofs.Common.{◌≡◌, ◌-◌, length}
-use Rattle.obs_exchange.specs.Searching.{IsRunning}
-use Rattle.obs_exchange.specs.Trail.{Follows}
+use Rattle.std.proofs.Common.{◌-◌, length}
+use Rattle.obs_exchange.specs.Searching.{RunsOn}
 use Rattle.obs_exchange.proofs.visit.spread.Given as goal
 
-abbrev pub invariant-loop-trail : goal.invariant-loop-trail
-invariant-loop-trail l = record {
-  running : IsRunning l.over l.trail l.stars l.tops;
-  follows : Follows l.fn.trail l.trail;
-  same_room : length l.stars ≡ length l.fn.stars;
-}
+abbrev pub invariant-loop-search : goal.invariant-loop-search
+invariant-loop-search l = RunsOn l.over l.fn.search l.search
 
-abbrev pub decreases-loop-trail : goal.decreases-loop-trail
-decreases-loop-trail l = length l.over.touches - l.trail.head
+abbrev pub decreases-loop-search : goal.decreases-loop-search
+decreases-loop-search l = length l.over.touches - l.search.trail.head

@@ -13,7 +13,7 @@ new-over-requires c = record { stands = c.requires.stands; in_range = c.requires
 
 pub put_sources-requires : goal.put_sources-requires
 put_sources-requires c =
-    let n = c.new-over.ensures in
+    let n = c.new-over.ensures.over in
     let flags = c.deref_mut.ensures.value in
     record {
       first = ap first_of n.sources;
@@ -34,7 +34,7 @@ pub returns : goal.returns
 returns c =
     let ins = c.self.inside in
     let f = c.put_sources in
-    let n = c.new-over.ensures in
+    let n = c.new-over.ensures.over in
     let flags : length f.new.flags ≡ length ins.flags.items = f.auto.flags ∙ ap length c.deref_mut.ensures.value in
     let back = written_back ins.flags.len f.new.flags ins.flags.items flags ins.flags.ok.0 in
     record {

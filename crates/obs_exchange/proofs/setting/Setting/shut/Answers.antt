@@ -40,4 +40,4 @@ pub invariant_of-result : goal.invariant_of-result
 invariant_of-result c = IsSound-shut _ c.args.shut.now (sound c)
 
 pub returns : goal.returns
-returns c = record { graph = refl; touches = refl; assignment = refl; sources = refl; room = refl; sound = IsSound-shut _ c.args.shut.now (sound c) }
+returns c = record { over = record { graph = refl; touches = refl; assignment = refl; sources = refl; room = refl; sound = IsSound-shut _ c.args.shut.now (sound c) } }
