@@ -1,11 +1,12 @@
 -- What items touch where one row of the graph changed: `before` are the ends that it had, and `after` those that it has.
-use Rattle.std.specs.Prelude.{ℕ, ◌≡◌, ◌<◌, ◌≤◌, ◌==◌, ◌||◌, Bool, false, if◌then◌else◌, Option, List, length, map, slice_index, slice_index_or}
+use Rattle.std.specs.Prelude.{ℕ, ◌≡◌, ◌+◌, ◌<◌, ◌≤◌, ◌==◌, ◌||◌, Bool, false, if◌then◌else◌, Option, IfSome, List, length, map, slice_index, slice_index_or, take}
 use Rattle.obs_graph.specs.declared.Ends.{Ends}
 use Rattle.obs_graph.specs.Graph.{Graph}
 use Rattle.obs_graph.specs.Positions.{has_end}
 use Rattle.obs_meter.specs.declared.Touch.{Touch}
 use Rattle.obs_meter.specs.declared.Touch.TheVariants.{Nothing, Edge, Star, Front}
 use Rattle.obs_meter.specs.Held.{Meters}
+use Rattle.obs_meter.specs.Touches.{AreInRange}
 use Rattle.obs_network.specs.Touching.{rows_at}
 use Rattle.obs_network.specs.Network.{Components}
 use Rattle.obs_network.specs.Kept.{Listed, lists_of}
@@ -53,3 +54,25 @@ pub record AreFollowed (follow : Touch → Touch) (before after : Meters) (first
   pub below : (k : ℕ) → k < first → slice_index_or after.touches k Nothing ≡ slice_index_or before.touches k Nothing
   pub done : (k : ℕ) → first ≤ k → k < end → slice_index_or after.touches k Nothing ≡ follow (slice_index_or before.touches k Nothing)
   pub rest : (k : ℕ) → end ≤ k → slice_index_or after.touches k Nothing ≡ slice_index_or before.touches k Nothing
+
+-- the rows are among the branches of the graph, and the ends that the row had and has are vertices
+pub record IsChangeIn (graph : Graph) (rows : ℕ) (change : Change) : Type 0 where
+  pub low : rows ≤ length graph.ends
+  pub before : IfSome change.before (λ x. (x.a < graph.vertices) × (x.b < graph.vertices))
+  pub after : IfSome change.after (λ x. (x.a < graph.vertices) × (x.b < graph.vertices))
+
+-- what is followed where a row changed: meters, these with candidates behind them, and lists of all meters but those near the row
+pub record CanFollow (components : Components) (graph : Graph) (rows : ℕ) (change : Change) (meters items : Meters) (listed : Listed) : Type 0 where
+  pub vertices : graph.vertices ≡ length components.of_buses + length components.first_buses
+  pub row : IsChangeIn graph rows change
+  pub in_range : AreInRange graph (followed_items (take rows graph.ends) change meters).touches
+  pub first : take (length meters.touches) items.touches ≡ meters.touches
+  pub count : listed.components ≡ length components.first_buses
+  pub one_each : length listed.lists ≡ length meters.touches
+  pub far : AreListedFar (take rows graph.ends) change components graph meters listed.lists
+
+-- the lists are of as many components, and the room is the same
+pub record AreOfAsMany (before after : Listed) : Type 0 where
+  pub components : after.components ≡ before.components
+  pub most_meters : after.most_meters ≡ before.most_meters
+  pub most_components : after.most_components ≡ before.most_components

@@ -5,6 +5,7 @@ use Rattle.obs_graph.specs.declared.Ends.{Ends}
 use Rattle.obs_graph.specs.Joined.{Chain, count_below}
 use Rattle.obs_graph.specs.Positions.{present}
 use Rattle.obs_graph.specs.Search.{Reaches}
+use Rattle.obs_network.specs.declared.sides.Others.{Others}
 use Rattle.obs_network.specs.declared.sides.Walked.{Walked}
 
 -- the side that the last walk found, where it found one, and for how many vertices there is room
@@ -15,6 +16,10 @@ pub record Sides : Type 0 where
 -- the first so many branches without one of them
 abbrev pub rows_but : List (Option Ends) → ℕ → ℕ → List (Option Ends)
 rows_but ends rows e = slice_set (take rows ends) e None
+
+-- the rows of a graph but one
+abbrev pub rows_in : Others → List (Option Ends)
+rows_in o = rows_but o.graph.now.ends o.rows o.without
 
 -- the end from which a vertex was reached
 abbrev pub label_at : List (Option ℕ) → ℕ → Option ℕ

@@ -4,8 +4,7 @@ ghost use Rattle.std.specs.List.{list_any};
 ghost use Rattle.obs_case.specs.Items.{is_angle_kind};
 ghost use Rattle.obs_case.specs.Tables.{IsValid, most_rows};
 ghost use Rattle.obs_network.specs.Angles.{bus_angle, has_angle, item_angle};
-ghost use Rattle.obs_network.specs.Network.{case_absolute, case_angles, case_components, case_energised};
-ghost use Rattle.obs_network.specs.Switched.{case_bus_count, case_buses};
+ghost use Rattle.obs_network.specs.Network.{AreFoundOf, case_angles};
 
 use crate::components::Components;
 use obs_case::{Candidate, Case, Kind, Meter};
@@ -131,12 +130,7 @@ pub(crate) fn write_angles(
     components: &Components,
     places: &mut [Option<Ends>],
 ) -> usize
-    requires few { components.now.most_buses ≤ most_rows }
-    requires buses { buses.now.buses ≡ case_buses case.now }
-    requires count { buses.now.count ≡ case_bus_count case.now }
-    requires of_buses { components.now.of_buses ≡ case_components case.now }
-    requires energised { components.now.energised ≡ case_energised case.now }
-    requires absolute { components.now.absolute ≡ case_absolute case.now }
+    requires found { AreFoundOf case.now buses.now components.now }
     requires room { length places.old ≡ length case.now.meters + length case.now.candidates }
     ensures angles { take result places.new ≡ case_angles case.now }
     ensures room { length places.new ≡ length places.old }

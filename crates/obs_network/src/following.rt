@@ -1,9 +1,9 @@
 // What items touch, and the lists of live meters, where one row of the graph changed. Only items that touch the row itself, or
 // branches at an end that it had or has, are looked at again.
-ghost use Rattle.std.specs.Prelude.{◌≡◌, ◌+◌, ◌<◌, ◌≤◌, IfSome, length, slice_set, take};
+ghost use Rattle.std.specs.Prelude.{◌≡◌, ◌+◌, ◌<◌, ◌≤◌, length, slice_set, take};
 ghost use Rattle.obs_graph.specs.Positions.{has_end};
-ghost use Rattle.obs_meter.specs.Touches.{AreInRange, IsInRange};
-ghost use Rattle.obs_network.specs.Following.{AreFollowed, AreListedFar, followed, followed_items, is_end, is_near, is_row};
+ghost use Rattle.obs_meter.specs.Touches.{IsInRange};
+ghost use Rattle.obs_network.specs.Following.{AreFollowed, AreOfAsMany, CanFollow, IsChangeIn, followed, followed_items, is_end, is_near, is_row};
 ghost use Rattle.obs_network.specs.Kept.{list_of, lists_of};
 ghost use Rattle.obs_network.specs.Located.{touch_component};
 
@@ -64,9 +64,7 @@ fn is_near(touch: Touch, change: Change) -> bool
 
 // What is touched now, where this was touched: at one of the ends, the rows that are there now.
 fn followed(graph: &Graph, rows: u32, change: Change, touch: Touch) -> Touch
-    requires rows { rows ≤ length graph.now.ends }
-    requires before { IfSome change.before (λ x. (x.a < graph.now.vertices) × (x.b < graph.now.vertices)) }
-    requires after { IfSome change.after (λ x. (x.a < graph.now.vertices) × (x.b < graph.now.vertices)) }
+    requires row { IsChangeIn graph.now rows change }
     ensures touch { result ≡ followed (take rows graph.now.ends) change.before change.after touch }
 {
     match touch {
@@ -79,9 +77,7 @@ fn followed(graph: &Graph, rows: u32, change: Change, touch: Touch) -> Touch
 
 // Makes the items from the number `first` on touch what they do now. Those before stay.
 fn follow_behind(graph: &Graph, rows: u32, change: Change, first: u32, items: &mut Meters)
-    requires rows { rows ≤ length graph.now.ends }
-    requires before { IfSome change.before (λ x. (x.a < graph.now.vertices) × (x.b < graph.now.vertices)) }
-    requires after { IfSome change.after (λ x. (x.a < graph.now.vertices) × (x.b < graph.now.vertices)) }
+    requires row { IsChangeIn graph.now rows change }
     ensures items { AreFollowed (followed (take rows graph.now.ends) change.before change.after) items.old items.new
         first (length items.old.touches) }
 {
@@ -104,36 +100,26 @@ fn left_behind(touch: Touch, at: u32, left: u32) -> u32
     }
 }
 
-// Makes one meter touch this, and puts it into its list, where lists still change one by one.
-fn set_meter(
+// Puts a meter into the list of what it touches, where lists still change one by one.
+fn set_list(
     components: &Components,
     graph: &Graph,
     m: u32,
     touch: Touch,
     left: u32,
-    meters: &mut Meters,
-    offered: &mut Meters,
     live_meters: &mut LiveMeters,
 )
     requires vertices { graph.now.vertices
         ≡ length components.now.of_buses + length components.now.first_buses }
     requires in_range { IsInRange graph.now touch }
     requires components { live_meters.old.components ≡ length components.now.first_buses }
-    requires meter { m < length meters.old.touches }
-    requires item { m < length offered.old.touches }
     requires list { m < length live_meters.old.lists }
-    ensures meters { meters.new ≡ record meters.old { touches = slice_set meters.old.touches m touch } }
-    ensures offered { offered.new ≡ record offered.old { touches = slice_set offered.old.touches m touch } }
     ensures lists { 0 < left → live_meters.new.lists ≡ slice_set live_meters.old.lists m
         (list_of (length components.now.first_buses)
         (touch_component components.now.of_buses graph.now.ends touch)) }
     ensures one_each { length live_meters.new.lists ≡ length live_meters.old.lists }
-    ensures components { live_meters.new.components ≡ live_meters.old.components }
-    ensures most_meters { live_meters.new.most_meters ≡ live_meters.old.most_meters }
-    ensures most_components { live_meters.new.most_components ≡ live_meters.old.most_components }
+    ensures as_many { AreOfAsMany live_meters.old live_meters.new }
 {
-    meters.set(m, touch);
-    offered.set(m, touch);
     if left > 0 {
         live_meters.set(components, graph, m, touch);
     }
@@ -150,23 +136,12 @@ fn follow_meters(
     offered: &mut Meters,
     live_meters: &mut LiveMeters,
 ) -> u32
-    requires vertices { graph.now.vertices
-        ≡ length components.now.of_buses + length components.now.first_buses }
-    requires rows { rows ≤ length graph.now.ends }
-    requires before { IfSome change.before (λ x. (x.a < graph.now.vertices) × (x.b < graph.now.vertices)) }
-    requires after { IfSome change.after (λ x. (x.a < graph.now.vertices) × (x.b < graph.now.vertices)) }
-    requires in_range { AreInRange graph.now (followed_items (take rows graph.now.ends) change meters.old).touches }
-    requires offered { take (length meters.old.touches) offered.old.touches ≡ meters.old.touches }
-    requires components { live_meters.old.components ≡ length components.now.first_buses }
-    requires one_each { length live_meters.old.lists ≡ length meters.old.touches }
-    requires far { AreListedFar (take rows graph.now.ends) change components.now graph.now meters.old live_meters.old.lists }
+    requires can { CanFollow components.now graph.now rows change meters.old offered.old live_meters.old }
     ensures meters { meters.new ≡ followed_items (take rows graph.now.ends) change meters.old }
     ensures offered { AreFollowed (followed (take rows graph.now.ends) change.before change.after) offered.old offered.new
         0 (length meters.old.touches) }
     ensures lists { 0 < result → live_meters.new.lists ≡ lists_of components.now graph.now meters.new }
-    ensures components { live_meters.new.components ≡ live_meters.old.components }
-    ensures most_meters { live_meters.new.most_meters ≡ live_meters.old.most_meters }
-    ensures most_components { live_meters.new.most_components ≡ live_meters.old.most_components }
+    ensures as_many { AreOfAsMany live_meters.old live_meters.new }
 {
     let mut left = MANY;
     for m in 0..meters.count() {
@@ -174,16 +149,9 @@ fn follow_meters(
         if is_near(touch, change) {
             let now = followed(graph, rows, change, touch);
             left = left_behind(touch, change.at, left);
-            set_meter(
-                components,
-                graph,
-                m,
-                now,
-                left,
-                meters,
-                offered,
-                live_meters,
-            );
+            meters.set(m, now);
+            offered.set(m, now);
+            set_list(components, graph, m, now, left, live_meters);
         }
     }
     left
@@ -200,24 +168,13 @@ pub(crate) fn follow_items(
     offered: &mut Meters,
     live_meters: &mut LiveMeters,
 )
-    requires vertices { graph.now.vertices
-        ≡ length components.now.of_buses + length components.now.first_buses }
-    requires rows { rows ≤ length graph.now.ends }
-    requires before { IfSome change.before (λ x. (x.a < graph.now.vertices) × (x.b < graph.now.vertices)) }
-    requires after { IfSome change.after (λ x. (x.a < graph.now.vertices) × (x.b < graph.now.vertices)) }
-    requires in_range { AreInRange graph.now (followed_items (take rows graph.now.ends) change meters.old).touches }
-    requires offered { take (length meters.old.touches) offered.old.touches ≡ meters.old.touches }
-    requires components { live_meters.old.components ≡ length components.now.first_buses }
+    requires can { CanFollow components.now graph.now rows change meters.old offered.old live_meters.old }
     requires most_components { length components.now.first_buses ≤ live_meters.old.most_components }
     requires most_meters { length meters.old.touches ≤ live_meters.old.most_meters }
-    requires one_each { length live_meters.old.lists ≡ length meters.old.touches }
-    requires far { AreListedFar (take rows graph.now.ends) change components.now graph.now meters.old live_meters.old.lists }
     ensures meters { meters.new ≡ followed_items (take rows graph.now.ends) change meters.old }
     ensures offered { offered.new ≡ followed_items (take rows graph.now.ends) change offered.old }
     ensures lists { live_meters.new.lists ≡ lists_of components.now graph.now meters.new }
-    ensures components { live_meters.new.components ≡ live_meters.old.components }
-    ensures most_meters { live_meters.new.most_meters ≡ live_meters.old.most_meters }
-    ensures most_components { live_meters.new.most_components ≡ live_meters.old.most_components }
+    ensures as_many { AreOfAsMany live_meters.old live_meters.new }
 {
     let first = meters.count();
     let left = follow_meters(

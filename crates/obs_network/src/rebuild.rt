@@ -1,11 +1,11 @@
 // The parts of the network of a case, made anew one after another.
 ghost use Rattle.std.specs.Prelude.{◌≡◌, ◌<◌, ◌≤◌, ◌+◌, IsTrue, length, slice_index_or, slice_set, take};
-ghost use Rattle.obs_case.specs.Tables.{IsValid, most_rows};
+ghost use Rattle.obs_case.specs.Tables.{IsValid};
 ghost use Rattle.obs_graph.specs.Positions.{AreBranches};
 ghost use Rattle.obs_graph.specs.Search.{room_of};
 ghost use Rattle.obs_network.specs.declared.rebuild.Known.TheVariants.{TheBuses, ByCount};
 ghost use Rattle.obs_network.specs.Switched.{case_bus_count, case_buses, closed_links};
-ghost use Rattle.obs_network.specs.Network.{case_absolute, case_branches, case_components, case_energised, case_first_buses, case_live, case_meters, case_offered, case_sizes, case_vertex_count};
+ghost use Rattle.obs_network.specs.Network.{AreBusesOf, AreComponentsOf, AreFoundOf, HasRoomAs, IsGraphOf, IsLiveGraphOf, case_branches, case_live, case_meters, case_offered, case_vertex_count};
 
 use crate::angles::write_angles;
 use crate::components::Components;
@@ -110,18 +110,13 @@ pub(crate) fn find_components(
     search: &mut Search,
     components: &mut Components,
 )
-    requires buses { buses.now.buses ≡ case_buses case.now }
-    requires count { buses.now.count ≡ case_bus_count case.now }
+    requires buses { AreBusesOf case.now buses.now }
     requires live { live.now ≡ case_live case.now }
     requires vertices { case_bus_count case.now ≤ graph.old.most_vertices }
     requires branches { length live.now ≤ graph.old.most_branches }
     requires room { case_bus_count case.now ≤ components.old.most_buses }
     requires search_room { case_bus_count case.now ≤ room_of search.old }
-    ensures of_buses { components.new.of_buses ≡ case_components case.now }
-    ensures first_buses { components.new.first_buses ≡ case_first_buses case.now }
-    ensures sizes { components.new.sizes ≡ case_sizes case.now }
-    ensures energised { components.new.energised ≡ case_energised case.now }
-    ensures absolute { components.new.absolute ≡ case_absolute case.now }
+    ensures components { AreComponentsOf case.now components.new }
     ensures room { components.new.most_buses ≡ components.old.most_buses }
     ensures graph { graph.new ≡ record graph.old { vertices = case_bus_count case.now; ends = live.now } }
     ensures search_room { room_of search.new ≡ room_of search.old }
@@ -157,12 +152,7 @@ fn write_branches(
     live: &[Option<Ends>],
     kept: &mut [Option<Ends>],
 ) -> Written
-    requires few { components.now.most_buses ≤ most_rows }
-    requires buses { buses.now.buses ≡ case_buses case.now }
-    requires count { buses.now.count ≡ case_bus_count case.now }
-    requires of_buses { components.now.of_buses ≡ case_components case.now }
-    requires energised { components.now.energised ≡ case_energised case.now }
-    requires absolute { components.now.absolute ≡ case_absolute case.now }
+    requires found { AreFoundOf case.now buses.now components.now }
     requires live { live.now ≡ case_live case.now }
     requires kept { length kept.old
         ≡ length live.now + (length case.now.meters + length case.now.candidates) }
@@ -208,24 +198,15 @@ pub(crate) fn refill_graph(
     kept: &mut [Option<Ends>],
     graph: &mut Graph,
 )
-    requires few { components.now.most_buses ≤ most_rows }
-    requires buses { buses.now.buses ≡ case_buses case.now }
-    requires count { buses.now.count ≡ case_bus_count case.now }
-    requires of_buses { components.now.of_buses ≡ case_components case.now }
-    requires first_buses { components.now.first_buses ≡ case_first_buses case.now }
-    requires energised { components.now.energised ≡ case_energised case.now }
-    requires absolute { components.now.absolute ≡ case_absolute case.now }
+    requires found { AreFoundOf case.now buses.now components.now }
     requires live { live.now ≡ case_live case.now }
     requires kept { length kept.old
         ≡ length live.now + (length case.now.meters + length case.now.candidates) }
-    requires ends { graph.old.ends ≡ live.now }
-    requires bus_vertices { graph.old.vertices ≡ case_bus_count case.now }
+    requires before { IsLiveGraphOf case.now live.now graph.old }
     requires vertices { case_vertex_count case.now ≤ graph.old.most_vertices }
     requires branches { length kept.old ≤ graph.old.most_branches }
-    ensures ends { graph.new.ends ≡ case_branches case.now }
-    ensures vertices { graph.new.vertices ≡ case_vertex_count case.now }
-    ensures most_vertices { graph.new.most_vertices ≡ graph.old.most_vertices }
-    ensures most_branches { graph.new.most_branches ≡ graph.old.most_branches }
+    ensures graph { IsGraphOf case.now graph.new }
+    ensures room { HasRoomAs graph.old graph.new }
     ensures kept { length kept.new ≡ length kept.old }
     ensures kept_ends { take (length graph.new.ends) kept.new ≡ graph.new.ends }
 {
@@ -244,10 +225,8 @@ pub(crate) fn refill_items(
     meters: &mut Meters,
     offered: &mut Meters,
 )
-    requires buses { buses.now.buses ≡ case_buses case.now }
-    requires count { buses.now.count ≡ case_bus_count case.now }
-    requires vertices { graph.now.vertices ≡ case_vertex_count case.now }
-    requires ends { graph.now.ends ≡ case_branches case.now }
+    requires buses { AreBusesOf case.now buses.now }
+    requires graph { IsGraphOf case.now graph.now }
     requires touches { length touches.old ≡ length case.now.meters + length case.now.candidates }
     requires meters { length case.now.meters ≤ meters.old.most }
     requires offered { length case.now.meters + length case.now.candidates ≤ offered.old.most }

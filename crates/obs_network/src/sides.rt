@@ -4,7 +4,7 @@ ghost use Rattle.obs_graph.specs.Positions.{has_end, present};
 ghost use Rattle.obs_graph.specs.Search.{Reaches};
 ghost use Rattle.obs_matroid.specs.Lists.{In};
 ghost use Rattle.obs_network.specs.Parted.{AreJoinedWithout, IsSide};
-ghost use Rattle.obs_network.specs.Sides.{AreClear, AreFollowedUpTo, AreWalked, HaveGrown, IsMeeting, IsQueueOf, label_at, rows_but};
+ghost use Rattle.obs_network.specs.Sides.{AreClear, AreFollowedUpTo, AreWalked, HaveGrown, IsMeeting, IsQueueOf, label_at, rows_in};
 
 use crate::memory::NoMemory;
 use obs_graph::search::other;
@@ -56,35 +56,43 @@ fn come(to: u32, end: u32, labels: &mut [Option<u32>], queue: &mut [u32], tail: 
     }
 }
 
-// Follows the rows but e at the vertex that stands at the head of an end's queue. Says whether one of them leads to a
+// The rows of a graph, which are so many of its first branches, without one.
+#[derive(Clone, Copy)]
+struct Others<'a> {
+    graph: &'a Graph,
+    rows: u32,
+    without: u32,
+}
+
+// Follows the other rows at the vertex that stands at the head of an end's queue. Says whether one of them leads to a
 // vertex that is reached from the other end.
 fn follow(
-    g: &Graph,
-    rows: u32,
-    e: u32,
+    others: &Others<'_>,
     end: u32,
     head: usize,
     labels: &mut [Option<u32>],
     queue: &mut [u32],
     tail: &mut usize,
 ) -> bool
-    requires rows { rows ≤ length g.now.ends }
-    requires room { g.now.vertices ≤ length labels.old }
+    requires rows { others.now.rows ≤ length others.now.graph.now.ends }
+    requires room { others.now.graph.now.vertices ≤ length labels.old }
     requires head { head < tail.old }
-    requires queue { IsQueueOf g.now.vertices (rows_but g.now.ends rows e) labels.old end queue.old tail.old }
-    requires followed { AreFollowedUpTo (rows_but g.now.ends rows e) labels.old end queue.old head }
-    ensures queue { IsQueueOf g.now.vertices (rows_but g.now.ends rows e) labels.new end queue.new tail.new }
-    ensures followed { result ≡ false → AreFollowedUpTo (rows_but g.now.ends rows e) labels.new end queue.new (head + 1) }
-    ensures met { IsTrue result → IsMeeting (rows_but g.now.ends rows e) labels.new end }
+    requires queue { IsQueueOf others.now.graph.now.vertices (rows_in others.now) labels.old end queue.old tail.old }
+    requires followed { AreFollowedUpTo (rows_in others.now) labels.old end queue.old head }
+    ensures queue { IsQueueOf others.now.graph.now.vertices (rows_in others.now) labels.new end queue.new tail.new }
+    ensures followed { result ≡ false → AreFollowedUpTo (rows_in others.now) labels.new end queue.new (head + 1) }
+    ensures met { IsTrue result → IsMeeting (rows_in others.now) labels.new end }
     ensures grown { HaveGrown labels.old labels.new end }
     ensures longer { tail.old ≤ tail.new }
 {
+    let rows = others.rows;
+    let e = others.without;
     let v = queue[head];
-    for p in g.branches_at(v) {
+    for p in others.graph.branches_at(v) {
         if *p >= rows {
             return false;
         }
-        if *p != e && come(across(g, *p, v), end, labels, queue, tail) {
+        if *p != e && come(across(others.graph, *p, v), end, labels, queue, tail) {
             return true;
         }
     }
@@ -112,24 +120,22 @@ fn looked_at(g: &Graph, looked: usize, v: u32) -> usize
 // Walks from both ends, until the two meet or one of the queues ends: on from the end from which fewer branches were
 // looked at.
 fn spread(
-    g: &Graph,
-    rows: u32,
-    e: u32,
+    others: &Others<'_>,
     one: u32,
     there: u32,
     labels: &mut [Option<u32>],
     queue: &mut [u32],
     queue_there: &mut [u32],
 ) -> Walked
-    requires rows { rows ≤ length g.now.ends }
-    requires room { g.now.vertices ≤ length labels.old }
+    requires rows { others.now.rows ≤ length others.now.graph.now.ends }
+    requires room { others.now.graph.now.vertices ≤ length labels.old }
     requires places { length queue.old ≡ length labels.old }
     requires places_there { length queue_there.old ≡ length labels.old }
     requires clear { AreClear labels.old }
-    requires one { one < g.now.vertices }
-    requires there { there < g.now.vertices }
+    requires one { one < others.now.graph.now.vertices }
+    requires there { there < others.now.graph.now.vertices }
     requires apart { one ≢ there }
-    ensures walked { AreWalked g.now.vertices (rows_but g.now.ends rows e) labels.new one there queue.new queue_there.new result }
+    ensures walked { AreWalked others.now.graph.now.vertices (rows_in others.now) labels.new one there queue.new queue_there.new result }
     ensures ended { result.met ≡ false → (result.head ≡ result.tail) ⊎ (result.head_there ≡ result.tail_there) }
 {
     let mut met = false;
@@ -139,17 +145,15 @@ fn spread(
     push(one, one, labels, queue, &mut tail);
     push(there, there, labels, queue_there, &mut tail_there);
     while !met && head < tail && head_there < tail_there {
-        let next = looked_at(g, looked, queue[head]);
-        let next_there = looked_at(g, looked_there, queue_there[head_there]);
+        let next = looked_at(others.graph, looked, queue[head]);
+        let next_there = looked_at(others.graph, looked_there, queue_there[head_there]);
         if next <= next_there {
-            met = follow(g, rows, e, one, head, labels, queue, &mut tail);
+            met = follow(others, one, head, labels, queue, &mut tail);
             head += 1;
             looked = next;
         } else {
             met = follow(
-                g,
-                rows,
-                e,
+                others,
                 there,
                 head_there,
                 labels,
@@ -239,7 +243,12 @@ fn part(
     };
     let one = end_with_fewer(g, ends);
     let there = other(ends, one);
-    let walked = spread(g, rows, e, one, there, labels, found, queue);
+    let others = Others {
+        graph: g,
+        rows,
+        without: e,
+    };
+    let walked = spread(&others, one, there, labels, found, queue);
     clear(&found[..walked.tail], labels);
     clear(&queue[..walked.tail_there], labels);
     keep(walked, found, queue)

@@ -14,23 +14,29 @@ vertices t buses components count firsts a b e f = omega (arith, a, b, e, ap (λ
 pub overflow_add-vertices : goal.overflow_add-vertices
 overflow_add-vertices c =
     let t = c.args.case.now in
-    let all = vertices t c.count.result c.count-2.result _ _ c.count.ensures.count c.count-2.ensures.count c.requires.count c.requires.first_buses in
+    let all = vertices t c.count.result c.count-2.result _ _ c.count.ensures.count c.count-2.ensures.count c.requires.found.buses.count c.requires.found.components.first_buses in
     omega (arith, all, case_bus_count-le t, case_component_count-le t, few_nodes t c.write_branches-written.ensures.valid)
 
 pub fill_graph-requires-clause-vertices : goal.fill_graph-requires-clause-vertices
 fill_graph-requires-clause-vertices c =
-    let all = vertices c.args.case.now c.count.result c.count-2.result _ _ c.count.ensures.count c.count-2.ensures.count c.requires.count c.requires.first_buses in
+    let all = vertices c.args.case.now c.count.result c.count-2.result _ _ c.count.ensures.count c.count-2.ensures.count c.requires.found.buses.count c.requires.found.components.first_buses in
     omega (arith, all, c.requires.vertices)
 
 pub fill_graph-requires-clause-branches : goal.fill_graph-requires-clause-branches
 fill_graph-requires-clause-branches c =
-    let all = vertices c.args.case.now c.count.result c.count-2.result _ _ c.count.ensures.count c.count-2.ensures.count c.requires.count c.requires.first_buses in
+    let all = vertices c.args.case.now c.count.result c.count-2.result _ _ c.count.ensures.count c.count-2.ensures.count c.requires.found.buses.count c.requires.found.components.first_buses in
     rw (all, c.write_branches-written.ensures.branches) (case_branches-are c.args.case.now c.write_branches-written.ensures.valid)
 
-pub returns-clause-vertices : goal.returns-clause-vertices
-returns-clause-vertices c =
-    ap (λ (g : Graph). g.vertices) c.fill_graph.ensures.whole
-    ∙ vertices c.args.case.now c.count.result c.count-2.result _ _ c.count.ensures.count c.count-2.ensures.count c.requires.count c.requires.first_buses
+pub returns-clause-graph : goal.returns-clause-graph
+returns-clause-graph c = let whole = c.fill_graph.ensures.whole in record {
+  vertices = ap (λ (g : Graph). g.vertices) whole
+      ∙ vertices c.args.case.now c.count.result c.count-2.result _ _ c.count.ensures.count c.count-2.ensures.count c.requires.found.buses.count c.requires.found.components.first_buses;
+  ends = ap (λ (g : Graph). g.ends) whole ∙ c.write_branches-written.ensures.branches;
+}
+
+pub returns-clause-room : goal.returns-clause-room
+returns-clause-room c = let whole = c.fill_graph.ensures.whole in
+    record { most_vertices = ap (λ (g : Graph). g.most_vertices) whole; most_branches = ap (λ (g : Graph). g.most_branches) whole }
 
 pub returns-clause-kept_ends : goal.returns-clause-kept_ends
 returns-clause-kept_ends c =
@@ -38,4 +44,10 @@ returns-clause-kept_ends c =
     rw (ap (λ (g : Graph). g.ends) c.fill_graph.ensures.whole) (ap (λ n. take n kept) (length-take-le c.write_branches-written.result.positions kept c.write_branches-written.ensures.few))
 
 pub fill_graph-requires-clause-has_them : goal.fill_graph-requires-clause-has_them
-fill_graph-requires-clause-has_them c = λ yes. c.requires.ends ∙ c.write_branches-written.ensures.whole yes ∙ sym c.write_branches-written.ensures.branches
+fill_graph-requires-clause-has_them c = λ yes. c.requires.before.ends ∙ c.write_branches-written.ensures.whole yes ∙ sym c.write_branches-written.ensures.branches
+
+pub fill_graph-requires-clause-more : goal.fill_graph-requires-clause-more
+fill_graph-requires-clause-more c = λ yes. omega (arith, c.requires.before.vertices, c.count.ensures.count, c.requires.found.buses.count)
+
+pub write_branches-written-requires : goal.write_branches-written-requires
+write_branches-written-requires c = let r = c.requires in record { found = r.found; live = r.live; kept = r.kept }

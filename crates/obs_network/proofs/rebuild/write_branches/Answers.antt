@@ -8,12 +8,12 @@ use Rattle.obs_network.proofs.rebuild.write_branches.Goals.{After-are_live-whole
 
 pub write_energised-all-requires-clause-ends : goal.write_energised-all-requires-clause-ends
 write_energised-all-requires-clause-ends c =
-    rw (c.requires.live, c.numbers.ensures.numbers, c.requires.of_buses) (case_live-ends c.args.case.now c.write_angles-angles.ensures.valid)
+    rw (c.requires.live, c.numbers.ensures.numbers, c.requires.found.components.of_buses) (case_live-ends c.args.case.now c.write_angles-angles.ensures.valid)
 
 -- what is kept of the rows
 rows_are : (c : After-are_live-whole) → c.write_energised-all.new.kept ≡ case_rows c.args.case.now
 unfolding case_rows
-rows_are c = c.write_energised-all.ensures.kept ∙ rw (c.requires.live, c.numbers.ensures.numbers, c.marks.ensures.marks, c.requires.of_buses, c.requires.energised) refl
+rows_are c = c.write_energised-all.ensures.kept ∙ rw (c.requires.live, c.numbers.ensures.numbers, c.marks.ensures.marks, c.requires.found.components.of_buses, c.requires.found.components.energised) refl
 
 pub returns-clause-branches : goal.returns-clause-branches
 unfolding case_branches

@@ -1,15 +1,15 @@
 use Rattle.std.proofs.Common.{◌+◌, sym, arith}
 use Rattle.obs_network.specs.declared.sides.Walked.{Walked}
-use Rattle.obs_network.specs.Sides.{rows_but}
+use Rattle.obs_network.specs.Sides.{rows_in}
 use Rattle.obs_network.proofs.Spreading.{AreWalked-begun, AreWalked-step, AreWalked-swap}
 use Rattle.obs_network.proofs.sides.spread.Goals as goal
 
 pub loop-met-init : goal.loop-met-init
 loop-met-init c =
-    let g = c.args.g.now in
+    let g = c.args.others.now.graph.now in
     let r = c.requires in
     rw (c.push-2.ensures.labels, c.push.ensures.labels, c.push.ensures.queue, c.push-2.ensures.queue, c.push.ensures.tail, c.push-2.ensures.tail)
-    (AreWalked-begun g.vertices (rows_but g.ends c.args.rows c.args.e) c.args.labels.now c.args.one c.args.there c.args.queue.now c.args.queue_there.now r.clear r.places r.places_there r.room r.one r.there r.apart)
+    (AreWalked-begun g.vertices (rows_in c.args.others.now) c.args.labels.now c.args.one c.args.there c.args.queue.now c.args.queue_there.now r.clear r.places r.places_there r.room r.one r.there r.apart)
 
 pub follow-met-requires-clause-followed : goal.follow-met-requires-clause-followed
 follow-met-requires-clause-followed c = c.loop-met.invariant.followed c.loop-met-test.true
@@ -19,11 +19,11 @@ loop-met-smaller-then-next-next_there c = omega (arith, c.loop-met.invariant.her
 
 pub loop-met-preserved-then-next-next_there : goal.loop-met-preserved-then-next-next_there
 loop-met-preserved-then-next-next_there c =
-    let g = c.args.g.now in
+    let g = c.args.others.now.graph.now in
     let l = c.loop-met in
     let f = c.follow-met in
     let w : Walked = record { met = l.met; head = l.head; tail = l.tail; head_there = l.head_there; tail_there = l.tail_there } in
-    AreWalked-step g.vertices (rows_but g.ends c.args.rows c.args.e) l.labels c.args.one c.args.there l.queue l.queue_there w l.invariant c.loop-met-test.true c.if-head-tail.true c.requires.apart
+    AreWalked-step g.vertices (rows_in c.args.others.now) l.labels c.args.one c.args.there l.queue l.queue_there w l.invariant c.loop-met-test.true c.if-head-tail.true c.requires.apart
     f.new.labels f.new.queue f.new.tail f.result f.auto.labels f.ensures.queue f.ensures.followed f.ensures.met f.ensures.grown f.ensures.longer
 
 pub follow-met-requires-else-next-next_there-clause-followed : goal.follow-met-requires-else-next-next_there-clause-followed
@@ -34,8 +34,8 @@ loop-met-smaller c = omega (arith, c.loop-met.invariant.there.few, c.loop-met.au
 
 pub loop-met-preserved : goal.loop-met-preserved
 loop-met-preserved c =
-    let g = c.args.g.now in
-    let held = rows_but g.ends c.args.rows c.args.e in
+    let g = c.args.others.now.graph.now in
+    let held = rows_in c.args.others.now in
     let l = c.loop-met in
     let f = c.follow-met-else-next-next_there in
     let w : Walked = record { met = l.met; head = l.head; tail = l.tail; head_there = l.head_there; tail_there = l.tail_there } in

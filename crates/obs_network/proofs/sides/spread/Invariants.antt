@@ -1,9 +1,9 @@
 use Rattle.std.proofs.Common.{◌+◌, ◌-◌, length}
-use Rattle.obs_network.specs.Sides.{AreWalked, rows_but}
+use Rattle.obs_network.specs.Sides.{AreWalked, rows_in}
 use Rattle.obs_network.proofs.sides.spread.Given as goal
 
 abbrev pub invariant-loop-met : goal.invariant-loop-met
-invariant-loop-met l = AreWalked l.g.vertices (rows_but l.g.ends l.rows l.e) l.labels l.one l.there l.queue l.queue_there
+invariant-loop-met l = AreWalked l.others.graph.now.vertices (rows_in l.others) l.labels l.one l.there l.queue l.queue_there
     (record { met = l.met; head = l.head; tail = l.tail; head_there = l.head_there; tail_there = l.tail_there })
 
 abbrev pub decreases-loop-met : goal.decreases-loop-met

@@ -1,4 +1,6 @@
-use Rattle.std.proofs.Common.{◌+◌, ◌∙◌, ◌<◌, length, sym, ap, subst, take, arith}
+use Rattle.std.proofs.Common.{◌≡◌, ℕ, ◌+◌, ◌∙◌, ◌<◌, Option, Some, None, length, sym, ap, subst, take, arith}
+use Rattle.std.specs.Prelude.{◌≢◌, IfSome}
+use Rattle.obs_graph.specs.declared.Ends.{Ends}
 use Rattle.obs_graph.specs.Graph.{Graph}
 use Rattle.obs_graph.proofs.Stored.{written_back}
 use Rattle.obs_meter.specs.Held.{Meters}
@@ -47,18 +49,6 @@ of_items c =
     follows (the_view c.self.inside) c.args.self.now (record { at = c.args.at; before = c.ends-before.result; after = c.live_ends_at-after.result }) c.args.case.now c.branches.ensures.valid c.requires.branch c.requires.before c.requires.alone c.self.view_is
     c.ends-before.ensures.ends c.live_ends_at-after.ensures.ends (length c.branches.result.now) (ap (λ l. length l) c.branches.ensures.rows) c.change_row.new.graph c.change_row.ensures.graph
 
-pub follow_items-requires-clause-rows : goal.follow_items-requires-clause-rows
-follow_items-requires-clause-rows c = (of_row c).few
-
-pub follow_items-requires-clause-after : goal.follow_items-requires-clause-after
-follow_items-requires-clause-after c = (of_row c).after_low
-
-pub follow_items-requires-clause-in_range : goal.follow_items-requires-clause-in_range
-follow_items-requires-clause-in_range c = (of_row c).in_range
-
-pub follow_items-requires-clause-offered : goal.follow_items-requires-clause-offered
-follow_items-requires-clause-offered c = (of_row c).first
-
 pub follow_items-requires-clause-most_meters : goal.follow_items-requires-clause-most_meters
 follow_items-requires-clause-most_meters c =
     let s = c.self.inside in
@@ -75,13 +65,6 @@ follow_items-requires-clause-most_components c =
     let nodes = ap (λ (n : Network). n.rows.nodes) c.self.view_is ∙ ap (λ (r : Rows). r.nodes) left.rows in
     let firsts = ap (λ (n : Network). length n.components.first_buses) c.self.view_is ∙ ap (λ (x : Components). length x.first_buses) (sym alone.same.components) in
     omega (arith, nodes, firsts, c.self.invariant.listed_components, length-case_first_buses t, case_component_count-le t, case_bus_count-le t)
-
-pub follow_items-requires-clause-far : goal.follow_items-requires-clause-far
-follow_items-requires-clause-far c =
-    let s = c.self.inside in
-    let g = c.change_row.new.graph in
-    listed_far s.components s.graph g s.meters (take (length c.branches.result.now) g.ends) (record { at = c.args.at; before = c.ends-before.result; after = c.live_ends_at-after.result }) s.live_meters.lists (of_row c).was
-    (ap (λ (x : Graph). x.ends) c.change_row.ensures.graph) c.self.invariant.lists
 
 pub invariant_of-self : goal.invariant_of-self
 invariant_of-self c =
@@ -111,9 +94,9 @@ invariant_of-self c =
       of_buses = v.of_buses;
       meters_in_range = rw (ap (λ (x : Meters). x.touches) items.meters ∙ of.meters) (meters-in_range t valid c.change_row.new.graph of.vertices of.ends);
       offered_in_range = rw (ap (λ (x : Meters). x.touches) items.offered ∙ of.offered) (offered-in_range t valid c.change_row.new.graph of.vertices of.ends);
-      listed_meters = omega (arith, v.listed_meters, items.most_meters, most_meters);
-      listed_components = omega (arith, v.listed_components, items.most_components);
-      listed_count = items.components ∙ v.listed_count;
+      listed_meters = omega (arith, v.listed_meters, items.as_many.most_meters, most_meters);
+      listed_components = omega (arith, v.listed_components, items.as_many.most_components);
+      listed_count = items.as_many.components ∙ v.listed_count;
       lists = items.lists;
     }
 
@@ -159,14 +142,25 @@ overflow_cast-rows c = omega (arith, ap (λ l. length l) c.branches.ensures.rows
 pub change_row-requires-clause-kept : goal.change_row-requires-clause-kept
 change_row-requires-clause-kept c = ap (take (length c.self.inside.graph.ends)) c.deref_mut.ensures.value ∙ c.self.invariant.kept_ends
 
-pub follow_items-requires-clause-vertices : goal.follow_items-requires-clause-vertices
-follow_items-requires-clause-vertices c =
-    ap (λ (g : Graph). g.vertices) c.change_row.ensures.graph
-    ∙ (c.self.invariant.vertices ∙ ap (λ n. n + length c.self.inside.components.first_buses) (sym c.self.invariant.of_buses))
+-- the ends that the row had are vertices still
+still_low : (o : Option Ends) (n k : ℕ) → k ≡ n → IfSome o (λ x. (x.a < n) × (x.b < n) × (x.a ≢ x.b)) → IfSome o (λ x. (x.a < k) × (x.b < k))
+still_low None n k is h = tt
+still_low (Some x) n k is h = rw is (h.0, h.1)
 
-pub follow_items-requires-clause-components : goal.follow_items-requires-clause-components
-follow_items-requires-clause-components c = c.self.invariant.listed_count
-
-pub follow_items-requires-clause-one_each : goal.follow_items-requires-clause-one_each
-follow_items-requires-clause-one_each c =
-    ap length c.self.invariant.lists ∙ length-lists_of c.self.inside.components c.self.inside.graph c.self.inside.meters
+pub follow_items-requires-clause-can : goal.follow_items-requires-clause-can
+follow_items-requires-clause-can c =
+    let s = c.self.inside in
+    let v = c.self.invariant in
+    let g = c.change_row.new.graph in
+    let of = of_row c in
+    let vertices = ap (λ (x : Graph). x.vertices) c.change_row.ensures.graph in
+    record {
+      vertices = vertices ∙ (v.vertices ∙ ap (λ n. n + length s.components.first_buses) (sym v.of_buses));
+      row = record { low = of.few; before = still_low c.ends-before.result s.graph.vertices g.vertices vertices c.ends-before.ensures.in_range; after = of.after_low };
+      in_range = of.in_range;
+      first = of.first;
+      count = v.listed_count;
+      one_each = ap length v.lists ∙ length-lists_of s.components s.graph s.meters;
+      far = listed_far s.components s.graph g s.meters (take (length c.branches.result.now) g.ends) (record { at = c.args.at; before = c.ends-before.result; after = c.live_ends_at-after.result }) s.live_meters.lists of.was
+          (ap (λ (x : Graph). x.ends) c.change_row.ensures.graph) v.lists;
+    }

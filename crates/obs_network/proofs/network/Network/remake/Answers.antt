@@ -55,12 +55,6 @@ find_components-requires-clause-search_room c =
     let nodes = ap (λ (r : Rows). r.nodes) rows in
     low _ _ _ (case_bus_count-le c.args.case.now) (c.self.invariant.search_room ∙ nodes)
 
-pub refill_graph-requires-clause-few : goal.refill_graph-requires-clause-few
-refill_graph-requires-clause-few c =
-    let rows = ap (λ (n : Network). n.rows) c.self.view_is ∙ c.requires.rows in
-    let nodes = ap (λ (r : Rows). r.nodes) rows in
-    omega (arith, nodes, c.find_components.ensures.room, few_nodes c.args.case.now c.find_live.ensures.valid)
-
 pub refill_graph-requires-clause-vertices : goal.refill_graph-requires-clause-vertices
 refill_graph-requires-clause-vertices c =
     let rows = ap (λ (n : Network). n.rows) c.self.view_is ∙ c.requires.rows in
@@ -71,12 +65,12 @@ refill_graph-requires-clause-vertices c =
 pub refill-requires-clause-vertices : goal.refill-requires-clause-vertices
 refill-requires-clause-vertices c =
     let t = c.args.case.now in
-    omega (arith, c.refill_graph.ensures.vertices, ap (λ l. length l) c.find_components.ensures.of_buses, length-case_components t, ap (λ l. length l) c.find_components.ensures.first_buses, length-case_first_buses t)
+    omega (arith, c.refill_graph.ensures.graph.vertices, ap (λ l. length l) c.find_components.ensures.components.of_buses, length-case_components t, ap (λ l. length l) c.find_components.ensures.components.first_buses, length-case_first_buses t)
 
 pub refill-requires-clause-in_range : goal.refill-requires-clause-in_range
 refill-requires-clause-in_range c =
     let kept = c.refill_graph.ensures in
-    rw c.refill_items.ensures.meters (meters-in_range c.args.case.now c.find_live.ensures.valid c.refill_graph.new.graph kept.vertices kept.ends)
+    rw c.refill_items.ensures.meters (meters-in_range c.args.case.now c.find_live.ensures.valid c.refill_graph.new.graph kept.graph.vertices kept.graph.ends)
 
 pub refill-requires-clause-meters : goal.refill-requires-clause-meters
 refill-requires-clause-meters c =
@@ -91,7 +85,7 @@ refill-requires-clause-components c =
     let rows = ap (λ (n : Network). n.rows) c.self.view_is ∙ c.requires.rows in
     let nodes = ap (λ (r : Rows). r.nodes) rows in
     let room = c.self.invariant.listed_components in
-    omega (arith, nodes, room, ap length c.find_components.ensures.first_buses, length-case_first_buses t, case_component_count-le t, case_bus_count-le t)
+    omega (arith, nodes, room, ap length c.find_components.ensures.components.first_buses, length-case_first_buses t, case_component_count-le t, case_bus_count-le t)
 
 pub needed-self-inside-requires : goal.needed-self-inside-requires
 needed-self-inside-requires c =
@@ -173,18 +167,18 @@ invariant_of-self-2 c =
     )
     record {
       buses_room = c.relabel_unless.ensures.room ∙ (v.buses_room ∙ sym found.room);
-      vertices_room = kept.most_vertices ∙ (most_vertices ∙ (v.vertices_room ∙ ap (λ n. 2 * n) (sym found.room)));
-      branches_room = kept.most_branches ∙ (most_branches ∙ (v.branches_room ∙ sums _ _ _ _ (sym live) (sym items.most_offered)));
+      vertices_room = kept.room.most_vertices ∙ (most_vertices ∙ (v.vertices_room ∙ ap (λ n. 2 * n) (sym found.room)));
+      branches_room = kept.room.most_branches ∙ (most_branches ∙ (v.branches_room ∙ sums _ _ _ _ (sym live) (sym items.most_offered)));
       kept_len = keeps ∙ (v.kept_len ∙ sums _ _ _ _ (sym live) (sym items.most_offered));
       kept_ends = kept.kept_ends;
       touches_len = touches ∙ (v.touches_len ∙ sym items.most_offered);
       fewer = still_fewer _ _ _ _ items.most_meters items.most_offered v.fewer;
       search_room = found.search_room ∙ (v.search_room ∙ sym found.room);
       sides_room = v.sides_room ∙ ap (λ n. 2 * n) (sym found.room);
-      vertices = kept.vertices ∙ sums _ _ _ _ (sym c.relabel_unless.ensures.count) (sym (ap length found.first_buses ∙ length-case_first_buses t));
-      of_buses = ap length found.of_buses ∙ (length-case_components t ∙ sym c.relabel_unless.ensures.count);
-      meters_in_range = rw items.meters (meters-in_range t valid c.refill_graph.new.graph kept.vertices kept.ends);
-      offered_in_range = rw items.offered (offered-in_range t valid c.refill_graph.new.graph kept.vertices kept.ends);
+      vertices = kept.graph.vertices ∙ sums _ _ _ _ (sym c.relabel_unless.ensures.count) (sym (ap length found.components.first_buses ∙ length-case_first_buses t));
+      of_buses = ap length found.components.of_buses ∙ (length-case_components t ∙ sym c.relabel_unless.ensures.count);
+      meters_in_range = rw items.meters (meters-in_range t valid c.refill_graph.new.graph kept.graph.vertices kept.graph.ends);
+      offered_in_range = rw items.offered (offered-in_range t valid c.refill_graph.new.graph kept.graph.vertices kept.graph.ends);
       listed_meters = listed.most_meters ∙ (v.listed_meters ∙ sym items.most_meters);
       listed_components = listed.most_components ∙ (v.listed_components ∙ sym found.room);
       listed_count = listed.components;
@@ -218,11 +212,11 @@ returns-clause-whole c =
     (rows_are _ _ (found.room ∙ nodes) (wrote_links ∙ (links ∙ switches)) (wrote_live ∙ (live ∙ branches)) (items.most_meters ∙ meters)
     (still_left _ _ _ _ _ items.most_meters items.most_offered candidates))
     (labelled_is _ _ c.relabel_unless.ensures.buses c.relabel_unless.ensures.count (c.relabel_unless.ensures.room ∙ (v.buses_room ∙ nodes)))
-    (grouped_is _ _ found.of_buses found.first_buses found.sizes found.energised found.absolute (found.room ∙ nodes))
-    (shape_is _ _ kept.vertices kept.ends (kept.most_vertices ∙ (most_vertices ∙ (v.vertices_room ∙ ap (λ n. 2 * n) nodes))) (kept.most_branches ∙ (most_branches ∙ (v.branches_room ∙ sums _ _ _ _ branches offered))))
+    (grouped_is _ _ found.components.of_buses found.components.first_buses found.components.sizes found.components.energised found.components.absolute (found.room ∙ nodes))
+    (shape_is _ _ kept.graph.vertices kept.graph.ends (kept.room.most_vertices ∙ (most_vertices ∙ (v.vertices_room ∙ ap (λ n. 2 * n) nodes))) (kept.room.most_branches ∙ (most_branches ∙ (v.branches_room ∙ sums _ _ _ _ branches offered))))
     (items_are _ _ items.meters (items.most_meters ∙ meters))
     (items_are _ _ items.offered (items.most_offered ∙ offered))
-    (c.needed-self-inside.ensures.needed ∙ rw (found.sizes, found.energised, found.absolute, found.first_buses, count) refl)
+    (c.needed-self-inside.ensures.needed ∙ rw (found.components.sizes, found.components.energised, found.components.absolute, found.components.first_buses, count) refl)
 
 pub relabel_unless-requires-clause-links : goal.relabel_unless-requires-clause-links
 relabel_unless-requires-clause-links c =
@@ -253,9 +247,6 @@ refill_graph-requires-clause-live c =
     c.deref-2.ensures.value
     ∙ (written_back s.live.len c.find_live.new.live s.live.items (c.find_live.auto.live ∙ ap length c.deref_mut-2.ensures.value) s.live.ok.0 ∙ c.find_live.ensures.live)
 
-pub refill_graph-requires-clause-ends : goal.refill_graph-requires-clause-ends
-refill_graph-requires-clause-ends c = ap (λ (g : Graph). g.ends) c.find_components.ensures.graph ∙ (c.deref.ensures.value ∙ sym c.deref-2.ensures.value)
-
 pub refill_graph-requires-clause-branches : goal.refill_graph-requires-clause-branches
 refill_graph-requires-clause-branches c =
     let v = c.self.invariant in
@@ -285,33 +276,6 @@ relabel_unless-requires-clause-room c =
 pub find_live-requires-clause-buses : goal.find_live-requires-clause-buses
 find_live-requires-clause-buses c = c.relabel_unless.ensures.buses
 
-pub find_components-requires-clause-buses : goal.find_components-requires-clause-buses
-find_components-requires-clause-buses c = c.relabel_unless.ensures.buses
-
-pub find_components-requires-clause-count : goal.find_components-requires-clause-count
-find_components-requires-clause-count c = c.relabel_unless.ensures.count
-
-pub refill_graph-requires-clause-buses : goal.refill_graph-requires-clause-buses
-refill_graph-requires-clause-buses c = c.relabel_unless.ensures.buses
-
-pub refill_graph-requires-clause-count : goal.refill_graph-requires-clause-count
-refill_graph-requires-clause-count c = c.relabel_unless.ensures.count
-
-pub refill_graph-requires-clause-of_buses : goal.refill_graph-requires-clause-of_buses
-refill_graph-requires-clause-of_buses c = c.find_components.ensures.of_buses
-
-pub refill_graph-requires-clause-first_buses : goal.refill_graph-requires-clause-first_buses
-refill_graph-requires-clause-first_buses c = c.find_components.ensures.first_buses
-
-pub refill_graph-requires-clause-energised : goal.refill_graph-requires-clause-energised
-refill_graph-requires-clause-energised c = c.find_components.ensures.energised
-
-pub refill_graph-requires-clause-absolute : goal.refill_graph-requires-clause-absolute
-refill_graph-requires-clause-absolute c = c.find_components.ensures.absolute
-
-pub refill_graph-requires-clause-bus_vertices : goal.refill_graph-requires-clause-bus_vertices
-refill_graph-requires-clause-bus_vertices c = ap (λ (g : Graph). g.vertices) c.find_components.ensures.graph
-
 pub refill_graph-requires-clause-kept : goal.refill_graph-requires-clause-kept
 refill_graph-requires-clause-kept c =
     let s = c.self.inside in
@@ -322,14 +286,27 @@ refill_graph-requires-clause-kept c =
     let offered = all_items _ _ _ _ v.fewer (ap (λ (r : Rows). r.meters) rows) (ap (λ (r : Rows). r.candidates) rows) in
     ap length c.deref_mut-3.ensures.value ∙ (v.kept_len ∙ sums _ _ _ _ (sym (whole ∙ live)) offered)
 
+pub find_components-requires-clause-buses : goal.find_components-requires-clause-buses
+find_components-requires-clause-buses c = record { buses = c.relabel_unless.ensures.buses; count = c.relabel_unless.ensures.count }
+
+pub refill_graph-requires-clause-found : goal.refill_graph-requires-clause-found
+refill_graph-requires-clause-found c =
+    let found = c.find_components.ensures in
+    let nodes = ap (λ (n : Network). n.rows.nodes) c.self.view_is ∙ ap (λ (r : Rows). r.nodes) c.requires.rows in
+    record {
+      few = omega (arith, nodes, found.room, few_nodes c.args.case.now c.find_live.ensures.valid);
+      buses = record { buses = c.relabel_unless.ensures.buses; count = c.relabel_unless.ensures.count };
+      components = found.components;
+    }
+
+pub refill_graph-requires-clause-before : goal.refill_graph-requires-clause-before
+refill_graph-requires-clause-before c = let graph = c.find_components.ensures.graph in record {
+  ends = ap (λ (g : Graph). g.ends) graph ∙ (c.deref.ensures.value ∙ sym c.deref-2.ensures.value);
+  vertices = ap (λ (g : Graph). g.vertices) graph;
+}
+
 pub refill_items-requires-clause-buses : goal.refill_items-requires-clause-buses
-refill_items-requires-clause-buses c = c.relabel_unless.ensures.buses
+refill_items-requires-clause-buses c = record { buses = c.relabel_unless.ensures.buses; count = c.relabel_unless.ensures.count }
 
-pub refill_items-requires-clause-count : goal.refill_items-requires-clause-count
-refill_items-requires-clause-count c = c.relabel_unless.ensures.count
-
-pub refill_items-requires-clause-vertices : goal.refill_items-requires-clause-vertices
-refill_items-requires-clause-vertices c = c.refill_graph.ensures.vertices
-
-pub refill_items-requires-clause-ends : goal.refill_items-requires-clause-ends
-refill_items-requires-clause-ends c = c.refill_graph.ensures.ends
+pub refill_items-requires-clause-graph : goal.refill_items-requires-clause-graph
+refill_items-requires-clause-graph c = c.refill_graph.ensures.graph
