@@ -11,3 +11,4 @@ pub mod Laws
 pub mod Blank
 pub mod Stars
 pub mod Longest
+pub mod Ordered

@@ -16,7 +16,7 @@ use obs_assign::Move;
 
 /// Marks the meter, where it is a live source that isn't marked, and visits what is reached from it, up to the first
 /// free branch. Nothing waits in the queue before, nor afterwards where no branch is free.
-fn spread_source(
+pub fn spread_source(
     over: &Setting<'_>,
     m: u32,
     trail: &mut Trail,

@@ -66,7 +66,7 @@ fn trace(last: Move, trail: &Trail, path: &mut [Move]) -> usize
 }
 
 /// Marks nothing, and notes that no branch was walked or met: a search begins.
-fn start_anew(over: &Setting<'_>, trail: &mut Trail, stars: &mut Stars, tops: &mut Tops)
+pub fn start_anew(over: &Setting<'_>, trail: &mut Trail, stars: &mut Stars, tops: &mut Tops)
     requires sound { IsSound over.now }
     requires meters { length over.now.touches ≤ length trail.old.marks }
     requires branches { length over.now.graph.ends ≤ length trail.old.walked }
