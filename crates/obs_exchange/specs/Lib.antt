@@ -5,10 +5,10 @@ pub mod Noting
 pub mod Setting
 pub mod Trail
 pub mod Searching
+pub mod Ordered
 pub mod Classes
 pub mod Critical
 pub mod Laws
 pub mod Blank
 pub mod Stars
 pub mod Longest
-pub mod Ordered

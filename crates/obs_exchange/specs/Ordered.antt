@@ -1,11 +1,14 @@
 -- Meters that are reached from sources one after the other, in an order.
-use Rattle.std.specs.Prelude.{◌≡◌, ℕ, ◌≤◌, ◌<◌, Bool, true, nat_lt, Option, List, length, slice_index, slice_index_or, take}
+use Rattle.std.specs.Prelude.{◌≡◌, ℕ, ◌≤◌, ◌<◌, Bool, true, false, nat_lt, Option, List, length, slice_index, slice_index_or, take}
 use Rattle.obs_graph.specs.declared.Ends.{Ends}
 use Rattle.obs_meter.specs.declared.Touch.{Touch}
 use Rattle.obs_meter.specs.Lost.{is_listed}
-use Rattle.obs_assign.specs.Assignment.{Assignment}
+use Rattle.obs_assign.specs.Assignment.{Assignment, has_flag}
 use Rattle.obs_exchange.specs.declared.Sources.TheVariants.{All}
 use Rattle.obs_exchange.specs.Closed.{IsClosedAt, IsSource}
+use Rattle.obs_exchange.specs.Searching.{IsDone, IsRunning}
+use Rattle.obs_exchange.specs.Setting.{Setting}
+use Rattle.obs_exchange.specs.Trail.{IsRoot, Trail}
 
 -- an order of no more than n entries, each of which is one of n meters
 pub record IsOrder (n : ℕ) (order : List ℕ) : Type 0 where
@@ -33,3 +36,15 @@ pub record AreReachedInOrder (ends : List (Option Ends)) (touches : List Touch) 
   pub meters : length places ≡ length touches
   pub low : (m : ℕ) → m < length touches → slice_index places m ≤ length order
   pub fronts : (k : ℕ) → k ≤ length order → IsLeastClosedFrom ends touches (is_listed (take k order)) a (reached_before places k)
+
+-- after the first i of the order were searched from, and nothing waits: what is marked has a place below i, and what isn't has one
+-- behind the order; no meter began a path but these; and the places say for each shorter front what it reached
+pub record IsPlacing (over : Setting) (order : List ℕ) (trail : Trail) (stars tops places : List ℕ) (i : ℕ) : Type 0 where
+  pub running : IsRunning over trail stars tops
+  pub done : IsDone trail
+  pub roots : (x : ℕ) → IsRoot trail x → is_listed (take i order) x ≡ true
+  pub held : HoldsTestedAt over.graph.ends over.touches (is_listed (take i order)) over.assignment (has_flag trail.marks)
+  pub meters : length places ≡ length over.touches
+  pub placed : (m : ℕ) → has_flag trail.marks m ≡ true → slice_index places m < i
+  pub unplaced : (m : ℕ) → m < length over.touches → has_flag trail.marks m ≡ false → slice_index places m ≡ length order
+  pub fronts : (k : ℕ) → k ≤ i → IsLeastClosedFrom over.graph.ends over.touches (is_listed (take k order)) over.assignment (reached_before places k)

@@ -4,7 +4,7 @@ ghost use Rattle.obs_assign.specs.Assignment.{has_flag};
 ghost use Rattle.obs_exchange.specs.Noting.{AreNotedIn};
 ghost use Rattle.obs_exchange.specs.Searching.{AreMarked, IsDone, IsEnd, IsRunning};
 ghost use Rattle.obs_exchange.specs.Setting.{IsSourceIn, end_of, first_of};
-ghost use Rattle.obs_exchange.specs.Trail.{Follows};
+ghost use Rattle.obs_exchange.specs.Trail.{AreLedBut, Follows};
 
 use crate::noted::Noted;
 use crate::setting::Setting;
@@ -31,6 +31,7 @@ pub fn spread_source(
     ensures found { MatchOption result (IsDone trail.new) (λ x. IsEnd over.now trail.new x) }
     ensures marked { IsSourceIn over.now m → has_flag trail.new.marks m ≡ true }
     ensures follows { Follows trail.old trail.new }
+    ensures led { AreLedBut m trail.old trail.new }
     ensures same_room { length stars.new ≡ length stars.old }
 {
     if trail.is_marked(m) {

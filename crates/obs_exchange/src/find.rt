@@ -1,5 +1,5 @@
 // The path of moves by which the assignment grows.
-ghost use Rattle.std.specs.Prelude.{◌≡◌, ◌+◌, ◌<◌, ◌≤◌, IfErr, IfOk, IfSome, MatchResult, length, drop, take};
+ghost use Rattle.std.specs.Prelude.{◌≡◌, ◌+◌, ◌<◌, ◌≤◌, ℕ, false, IfErr, IfOk, IfSome, MatchResult, length, drop, take};
 ghost use Rattle.obs_assign.specs.Assignment.{HasRoomOf, IsWhole, StandsOver, has_flag};
 ghost use Rattle.obs_exchange.specs.declared.Sources.{Sources};
 ghost use Rattle.obs_exchange.specs.Closed.{IsLeastClosedAt};
@@ -75,6 +75,7 @@ pub fn start_anew(over: &Setting<'_>, trail: &mut Trail, stars: &mut Stars, tops
     requires fits { over.now.graph.vertices ≤ over.now.room }
     ensures running { IsRunning over.now trail.new stars.new tops.new }
     ensures done { IsDone trail.new }
+    ensures unmarked { (m : ℕ) → has_flag trail.new.marks m ≡ false }
     ensures same_meters { length trail.new.marks ≡ length trail.old.marks }
     ensures same_branches { length trail.new.walked ≡ length trail.old.walked }
     ensures same_vertices { length stars.new ≡ length stars.old }

@@ -1,13 +1,13 @@
 // Searches from one meter after another, in an order that is handed in.
-ghost use Rattle.std.specs.Prelude.{◌≡◌, ◌⊎◌, ◌+◌, ◌<◌, ◌≤◌, ℕ, length, slice_index};
-ghost use Rattle.obs_matroid.specs.Lists.{In};
+ghost use Rattle.std.specs.Prelude.{◌≡◌, ◌+◌, ◌<◌, ◌≤◌, if◌then◌else◌, ℕ, drop, length, slice_index};
+ghost use Rattle.obs_meter.specs.Lost.{is_listed};
 ghost use Rattle.obs_meter.specs.Sizes.{HasRoomFor};
 ghost use Rattle.obs_meter.specs.Touches.{AreInRange};
 ghost use Rattle.obs_exchange.specs.declared.Sources.{Sources};
-ghost use Rattle.obs_exchange.specs.declared.Sources.TheVariants.{All};
 ghost use Rattle.obs_exchange.specs.Longest.{IsLongest};
-ghost use Rattle.obs_exchange.specs.Ordered.{AreReachedInOrder, IsOrder};
+ghost use Rattle.obs_exchange.specs.Ordered.{AreReachedInOrder, IsOrder, IsPlacing};
 ghost use Rattle.obs_exchange.specs.Setting.{IsSound};
+ghost use Rattle.obs_exchange.specs.Trail.{Follows};
 
 use crate::Work;
 use crate::begin::spread_source;
@@ -21,45 +21,57 @@ use obs_graph::Graph;
 use obs_meter::Meters;
 use std::sync::ledger::Ledger;
 
-/// Writes a place for each of these meters.
-fn write_place(reached: &[u32], place: u32, places: &mut [u32])
+/// Writes a place for each of these meters from one on.
+fn write_place(reached: &[u32], first: usize, place: u32, places: &mut [u32])
+    requires first { first ≤ length reached.now }
     requires low { (k : ℕ) → k < length reached.now → slice_index reached.now k < length places.old }
-    ensures written { (k : ℕ) → k < length reached.now → slice_index places.new (slice_index reached.now k) ≡ place }
-    ensures others { (m : ℕ) → (slice_index places.new m ≡ slice_index places.old m) ⊎ In m reached.now }
+    ensures written { (m : ℕ) → slice_index places.new m
+        ≡ (if is_listed (drop first reached.now) m then place else slice_index places.old m) }
     ensures same_length { length places.new ≡ length places.old }
 {
-    for m in reached {
-        places[*m as usize] = place;
+    for k in first..reached.len() {
+        places[reached[k] as usize] = place;
     }
 }
 
-/// Writes that no meter has a place among so many.
+/// Writes for all meters the place behind so many.
 fn begin_places(count: u32, places: &mut [u32])
-    ensures same_length { length places.new ≡ length places.old }
     ensures behind { (m : ℕ) → m < length places.new → slice_index places.new m ≡ count }
+    ensures same_length { length places.new ≡ length places.old }
 {
     for m in 0..places.len() {
         places[m] = count;
     }
 }
 
-/// Goes on from a meter, and writes this place for what is reached now and wasn't before.
+/// Goes on from the meter at a place of the order, and writes this place for what is reached now and wasn't before.
 fn spread_at(
     over: &Setting<'_>,
-    m: u32,
-    place: u32,
+    order: &[u32],
+    k: usize,
     trail: &mut Trail,
     stars: &mut Stars,
     tops: &mut Tops,
     places: &mut [u32],
-) {
+)
+    requires longest { IsLongest over.now.graph over.now.touches over.now.assignment }
+    requires sources { over.now.sources ≡ Sources.All }
+    requires order { IsOrder (length over.now.touches) order.now }
+    requires k { k < length order.now }
+    requires placing { IsPlacing over.now order.now trail.old stars.old tops.old places.old k }
+    ensures placing { IsPlacing over.now order.now trail.new stars.new tops.new places.new (k + 1) }
+    ensures follows { Follows trail.old trail.new }
+    ensures same_room { length stars.new ≡ length stars.old }
+{
+    let _ = over.meters();
     let before = trail.tail();
-    let _ = spread_source(over, m, trail, stars, tops);
-    write_place(&trail.queued(trail.tail())[before..], place, places);
+    let _ = spread_source(over, order[k], trail, stars, tops);
+    let after = trail.tail();
+    write_place(trail.queued(after), before, k as u32, places);
 }
 
-/// Visits what is reached from the meters of an order, one after the other, where no branch is free, and writes for each
-/// meter at which place it was first reached.
+/// Visits what is reached from the meters of an order, one after the other, where no branch is free. Writes for each meter
+/// at which place of the order it was first reached.
 pub fn spread_in_order(
     over: &Setting<'_>,
     order: &[u32],
@@ -67,11 +79,28 @@ pub fn spread_in_order(
     stars: &mut Stars,
     tops: &mut Tops,
     places: &mut [u32],
-) {
+)
+    requires sound { IsSound over.now }
+    requires longest { IsLongest over.now.graph over.now.touches over.now.assignment }
+    requires sources { over.now.sources ≡ Sources.All }
+    requires meters { length over.now.touches ≤ length trail.old.marks }
+    requires branches { length over.now.graph.ends ≤ length trail.old.walked }
+    requires stars { over.now.graph.vertices ≤ length stars.old }
+    requires tops { length tops.old ≡ over.now.room }
+    requires fits { over.now.graph.vertices ≤ over.now.room }
+    requires order { IsOrder (length over.now.touches) order.now }
+    requires places { length places.old ≡ length over.now.touches }
+    ensures reached { AreReachedInOrder over.now.graph.ends over.now.touches over.now.assignment order.now places.new }
+    ensures same_meters { length trail.new.marks ≡ length trail.old.marks }
+    ensures same_branches { length trail.new.walked ≡ length trail.old.walked }
+    ensures same_vertices { length stars.new ≡ length stars.old }
+    ensures same_tops { length tops.new ≡ length tops.old }
+{
+    let _ = over.meters();
     start_anew(over, trail, stars, tops);
     begin_places(order.len() as u32, places);
     for k in 0..order.len() {
-        spread_at(over, order[k], k as u32, trail, stars, tops, places);
+        spread_at(over, order, k, trail, stars, tops, places);
     }
 }
 

@@ -3,7 +3,7 @@ ghost use Rattle.std.specs.Prelude.{◌≡◌, ◌<◌, ◌≤◌, Bool, List, I
 ghost use Rattle.obs_exchange.specs.Classes.{AreClasses};
 ghost use Rattle.obs_exchange.specs.Searching.{AreStarred, AreWalkedOf, IsDone, IsEnd, IsFreeFor, IsRunning, IsVisiting};
 ghost use Rattle.obs_exchange.specs.Setting.{touched_in};
-ghost use Rattle.obs_exchange.specs.Trail.{Follows, Stays};
+ghost use Rattle.obs_exchange.specs.Trail.{AreLed, Follows, Stays};
 
 use crate::free::{count, free_branch};
 use crate::setting::Setting;
@@ -113,6 +113,7 @@ pub fn spread(
     ensures running { IsRunning over.now trail.new stars.new tops.new }
     ensures found { MatchOption result (IsDone trail.new) (λ x. IsEnd over.now trail.new x) }
     ensures follows { Follows trail.old trail.new }
+    ensures led { AreLed trail.old trail.new }
     ensures same_room { length stars.new ≡ length stars.old }
 {
     while trail.waits() {

@@ -1,5 +1,6 @@
-use Rattle.obs_exchange.proofs.Trails.{Follows-same}
-use Rattle.std.proofs.Common.{true, ◌<◌, length, set, sym, ◌∙◌, arith}
+use Rattle.obs_exchange.proofs.Trails.{Follows-push, Follows-same, Follows-then, led_but_pushed}
+use Rattle.std.proofs.Common.{true, None, ◌<◌, length, set, sym, ◌∙◌, inl, subst, arith}
+use Rattle.obs_exchange.specs.Trail.{AreLed, Follows, Trail, pushed}
 use Rattle.obs_exchange.proofs.Beginning.{source_thawed}
 use Rattle.obs_exchange.proofs.Queued.{IsSearching-source, flag-kept, source_room}
 use Rattle.obs_exchange.proofs.Upward.{AreClasses-kept}
@@ -69,3 +70,20 @@ returns-clause-found c = c.spread.ensures.found
 
 pub returns-clause-same_room : goal.returns-clause-same_room
 returns-clause-same_room c = c.spread.ensures.same_room
+
+pub returns-then-is_marked-clause-led : goal.returns-then-is_marked-clause-led
+returns-then-is_marked-clause-led c = λ x r. inl r
+
+pub returns-then-not-is_source-clause-led : goal.returns-then-not-is_source-clause-led
+returns-then-not-is_source-clause-led c = λ x r. inl r
+
+pub returns-clause-follows : goal.returns-clause-follows
+returns-clause-follows c =
+    let t = c.args.trail.now in
+    let s = c.requires.running.searching in
+    Follows-then t (pushed t c.args.m None) c.spread.new.trail (Follows-push t c.args.m None (omega (arith, c.requires.end, s.sound.sources_low, s.marks_len)))
+    (subst (λ (u : Trail). Follows u c.spread.new.trail) c.push.ensures.pushed c.spread.ensures.follows)
+
+pub returns-clause-led : goal.returns-clause-led
+returns-clause-led c =
+    led_but_pushed c.args.trail.now c.spread.new.trail c.args.m (subst (λ (u : Trail). AreLed u c.spread.new.trail) c.push.ensures.pushed c.spread.ensures.led)

@@ -1,5 +1,7 @@
 use Rattle.std.proofs.Common.{◌≡◌, length, false, sym, ap, ◌∙◌, arith}
 use Rattle.std.proofs.lemmas.List.{length-replicate}
+use Rattle.obs_assign.proofs.Keeping.{replicate_at}
+use Rattle.obs_assign.specs.Assignment.{has_flag}
 use Rattle.obs_exchange.specs.Trail.{Trail}
 use Rattle.obs_exchange.proofs.Beginning.{AreStarred-start, IsSearching-start}
 use Rattle.obs_exchange.proofs.Upward.{AreClasses-own}
@@ -31,3 +33,6 @@ returns-clause-same_vertices c = ap length c.clear-2.ensures.cleared ∙ length-
 
 pub returns-clause-same_tops : goal.returns-clause-same_tops
 returns-clause-same_tops c = c.separate.ensures.length
+
+pub returns-clause-unmarked : goal.returns-clause-unmarked
+returns-clause-unmarked c = λ m. ap (λ (t : Trail). has_flag t.marks m) c.clear.ensures.cleared ∙ replicate_at (length c.args.trail.now.marks) m false

@@ -24,7 +24,7 @@ loop-trail-smaller c = let l = c.loop-trail in let v = c.visit.ensures in
     rw c.advance.ensures.advanced (omega (arith, t, v.visiting.below, v.stays.head))
 
 pub loop-trail-init : goal.loop-trail-init
-loop-trail-init c = record { running = c.requires.running; follows = Follows-same c.args.trail.now; same_room = refl }
+loop-trail-init c = record { running = c.requires.running; follows = Follows-same c.args.trail.now; led = λ x r. r; same_room = refl }
 
 pub visit-requires-clause-starred : goal.visit-requires-clause-starred
 visit-requires-clause-starred c = c.loop-trail.invariant.running.starred
@@ -56,7 +56,8 @@ returns-clause-same_room c = c.loop-trail.invariant.same_room
 pub loop-trail-preserved : goal.loop-trail-preserved
 loop-trail-preserved c = let v = c.in_default.ensures in let l = c.loop-trail in let f = Follows-then c.args.trail.now l.trail c.visit.new.trail l.invariant.follows v.stays.follows in rw c.advance.ensures.advanced (record {
   running = record { searching = IsSearching-next c.args.over.now c.visit.new.trail c.next-m.result v.visiting v.walked; starred = v.starred; classes = v.classes };
-  follows = record { marks = f.marks; walked = f.walked; meters = f.meters; branches = f.branches };
+  follows = record { marks = f.marks; walked = f.walked; tail = f.tail; queue = f.queue; meters = f.meters; branches = f.branches };
+  led = λ x r. l.invariant.led x (v.stays.led x (record { marked = r.marked; first = r.first }));
   same_room = v.same_room ∙ l.invariant.same_room;
 })
 
@@ -73,3 +74,9 @@ returns-in-Some-clause-found c = let e = c.in-Some.ensures in
 pub visit-requires-clause-m : goal.visit-requires-clause-m
 visit-requires-clause-m c = let t = c.loop-trail.trail in let s = c.loop-trail.invariant.running.searching in
     s.low c.next-m.result (subst (λ (k : ℕ). has_flag t.marks k ≡ true) (sym c.next-m.ensures.next) (s.entries t.head (c.waits.ensures.waits.0 c.loop-trail-test.true)).0)
+
+pub returns-in-Some-clause-led : goal.returns-in-Some-clause-led
+returns-in-Some-clause-led c = λ x r. c.loop-trail.invariant.led x (c.in-Some.ensures.stays.led x r)
+
+pub returns-clause-led : goal.returns-clause-led
+returns-clause-led c = c.loop-trail.invariant.led
