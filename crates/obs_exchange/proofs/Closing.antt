@@ -30,7 +30,7 @@ use Rattle.obs_exchange.specs.Closed.{HoldsSourcesAt, IsClosedAt, IsLeastClosedA
 use Rattle.obs_exchange.specs.Found.{AddsSource, AreListed, HasClosed}
 use Rattle.obs_exchange.specs.Searching.{AreMarked, HasOrigin, IsDone, IsParent, IsSearching, IsWalked, parent_of, place_of}
 use Rattle.obs_exchange.specs.Setting.{IsSound, IsSourceIn, Setting, end_of, first_of, touched_in}
-use Rattle.obs_exchange.specs.Trail.{Trail}
+use Rattle.obs_exchange.specs.Trail.{IsRoot, Trail}
 use Rattle.obs_exchange.proofs.Beginning.{source_bare}
 use Rattle.obs_exchange.proofs.Queued.{has_pair}
 use Rattle.obs_exchange.proofs.AtGraph.{bare-from_out, out-from_bare}
@@ -123,13 +123,15 @@ module _ (over : Setting) (trail : Trail) (s : IsSearching over trail) where
   pub origin_parent : (x : ℕ) (p : Move) → has_flag trail.marks x ≡ true → parent_of trail x ≡ Some p → IsParent over trail x p
   origin_parent x p t e = subst (HasOrigin over trail x) e (s.origins x t)
 
-  pub IsQueue-search : IsQueue (matroid_in over) (touched_in over) (every_item over.touches) (is_frozen over.assignment)
-      (passes_in over) (pairs over.assignment) (has_flag trail.marks) (root_at trail) (pair_at trail) (place_of trail)
-  IsQueue-search = record {
+  -- the queue, as one from the meters that a test passes, where all pass it to which no other led
+  pub IsQueue-from : (from : ℕ → Bool) → ((x : ℕ) → IsRoot trail x → from x ≡ true) → IsQueue (matroid_in over) (touched_in over) (every_item over.touches) (is_frozen over.assignment)
+      from (pairs over.assignment) (has_flag trail.marks) (root_at trail) (pair_at trail) (place_of trail)
+  IsQueue-from from passes = record {
     inside = λ x t. (In-every over.touches x (s.low x t), s.thawed x t);
     roots = λ x t r.
-        let o = source_in over x (origin_source x t (from_root trail x r)) in
-        record { of_items = In-every over.touches x (s.low x t); is_source = o.0; bare = out-from_bare over.assignment x o.2 };
+        let e = from_root trail x r in
+        let o = source_in over x (origin_source x t e) in
+        record { of_items = In-every over.touches x (s.low x t); is_source = passes x (record { marked = t; first = e }); bare = out-from_bare over.assignment x o.2 };
     led = λ x t r.
         let p = from_led trail x r in
         let e : pair_at trail x ≡ (p.0.meter, p.0.branch) = pair_some trail x p.0 p.1 in
@@ -144,6 +146,10 @@ module _ (over : Setting) (trail : Trail) (s : IsSearching over trail) where
         rw (d, e) (s.in_order x y p.0 q.0 tx p.1 ty q.1 k);
   }
 
+  pub IsQueue-search : IsQueue (matroid_in over) (touched_in over) (every_item over.touches) (is_frozen over.assignment)
+      (passes_in over) (pairs over.assignment) (has_flag trail.marks) (root_at trail) (pair_at trail) (place_of trail)
+  IsQueue-search = IsQueue-from (passes_in over) (λ x r. (source_in over x (origin_source x r.marked r.first)).0)
+
   flag_taken : (m : ℕ) → has_flag trail.marks m ≡ has_flag (take (length over.touches) trail.marks) m
   flag_taken m = elim (cases_lt m (length over.touches)) [
     | inl l ↦ sym (get_or-take (length over.touches) trail.marks m false l)
@@ -154,10 +160,10 @@ module _ (over : Setting) (trail : Trail) (s : IsSearching over trail) where
   ]
 
   -- the entries of the queue
-  queue_len : length (take trail.tail trail.queue) ≡ trail.tail
+  pub queue_len : length (take trail.tail trail.queue) ≡ trail.tail
   queue_len = let l = tail_low in let q = s.queue_len in length-take-le trail.tail trail.queue (omega (arith, l, q))
 
-  entry_at : (k d : ℕ) → k < length (take trail.tail trail.queue) → get_or (take trail.tail trail.queue) k d ≡ get_or trail.queue k 0
+  pub entry_at : (k d : ℕ) → k < length (take trail.tail trail.queue) → get_or (take trail.tail trail.queue) k d ≡ get_or trail.queue k 0
   entry_at k d l =
       let e = queue_len in
       let low = tail_low in
@@ -216,7 +222,7 @@ module _ (over : Setting) (sound : IsSound over) where
   pub own_pairs : IsAssignment (matroid_in over) (touched_in over) (every_item over.touches) (pairs over.assignment)
   own_pairs = in_matroid (pairs over.assignment) (IsAssignmentAt-standing over.assignment over.graph over.touches sound.whole sound.stands)
 
-  to_closed : (S : ℕ → Bool) → IsClosedAt over.graph.ends over.touches over.assignment S
+  pub to_closed : (S : ℕ → Bool) → IsClosedAt over.graph.ends over.touches over.assignment S
       → IsClosed (matroid_in over) (touched_in over) (every_item over.touches) (is_frozen over.assignment) (pairs over.assignment) S
   to_closed S c = record { spanned = λ m e i t k. c.joined m e t k }
 
@@ -243,33 +249,42 @@ module _ (over : Setting) (sound : IsSound over) where
       })
 
 -- after a search that came to its end
-module _ (over : Setting) (trail : Trail) (s : IsSearching over trail) (done : IsDone trail)
-    (marked : AreMarked over trail.marks (first_of over.sources) (end_of over.sources (length over.touches))) where
-  holds : HoldsSourcesAt over.graph.ends over.touches over.sources over.assignment (has_flag trail.marks)
-  holds = all_marked over.graph.ends over.touches over.sources over.assignment trail.marks marked
-
+module _ (over : Setting) (trail : Trail) (s : IsSearching over trail) (done : IsDone trail) where
   walked_all : (m e : ℕ) → has_flag trail.marks m ≡ true → In e (touched_in over m) → IsWalked over trail.marks e
   walked_all m e t i =
       let p = s.placed m t in
       let b = p.0 in
       s.walks e (s.looked (place_of trail m) e (omega (arith, b, done)) (rw p.1 i))
 
-  least : IsLeastClosed (matroid_in over) (touched_in over) (every_item over.touches) (is_frozen over.assignment) (passes_in over) (pairs over.assignment) (has_flag trail.marks)
-  least =
-      queue_closed (matroid_in over) (touched_in over) (every_item over.touches) (is_frozen over.assignment) (passes_in over) (pairs over.assignment)
-      (has_flag trail.marks) (root_at trail) (pair_at trail) (place_of trail) (IsQueue-search over trail s) (matroid_laws over s.sound) (own_pairs over s.sound)
-      s.sound.whole.paired.frozen_have (to_holds over s.sound (has_flag trail.marks) holds)
+  -- the marked meters are the least closed set of those that a test passes, where all pass it to which no other led
+  pub least_from : (from : ℕ → Bool) → ((x : ℕ) → IsRoot trail x → from x ≡ true) → HoldsSources (every_item over.touches) from (pairs over.assignment) (has_flag trail.marks)
+      → IsLeastClosed (matroid_in over) (touched_in over) (every_item over.touches) (is_frozen over.assignment) from (pairs over.assignment) (has_flag trail.marks)
+  least_from from passes holds =
+      queue_closed (matroid_in over) (touched_in over) (every_item over.touches) (is_frozen over.assignment) from (pairs over.assignment)
+      (has_flag trail.marks) (root_at trail) (pair_at trail) (place_of trail) (IsQueue-from over trail s from passes) (matroid_laws over s.sound) (own_pairs over s.sound)
+      s.sound.whole.paired.frozen_have holds
       (λ m t e i. (walked_all m e t i).joined) (λ m t e i x j n f. (walked_all m e t i).marked x j n f)
 
-  least_marked : IsLeastClosedAt over.graph.ends over.touches over.sources over.assignment (has_flag trail.marks)
-  least_marked = let l = least in record {
-    closed = record { live = λ m t. marked_live over trail s m t; joined = λ m e t i. l.closed.spanned m e (In-every over.touches m (s.low m t)) t i };
-    holds = holds;
-    least = λ T c h m t. l.least T (to_closed over s.sound T c) (to_holds over s.sound T h) m t;
-  }
+  -- closed over the matroid, they are so at the graph
+  pub marked_closed : IsClosed (matroid_in over) (touched_in over) (every_item over.touches) (is_frozen over.assignment) (pairs over.assignment) (has_flag trail.marks)
+      → IsClosedAt over.graph.ends over.touches over.assignment (has_flag trail.marks)
+  marked_closed c = record { live = λ m t. marked_live over trail s m t; joined = λ m e t i. c.spanned m e (In-every over.touches m (s.low m t)) t i }
 
-  -- the flags of the meters are the least closed set
-  pub IsLeastClosedAt-search : IsLeastClosedAt over.graph.ends over.touches over.sources over.assignment (has_flag (take (length over.touches) trail.marks))
-  IsLeastClosedAt-search =
-      let same : has_flag trail.marks ≡ has_flag (take (length over.touches) trail.marks) = λ i m. flag_taken over trail s m i in
-      subst (λ S. IsLeastClosedAt over.graph.ends over.touches over.sources over.assignment S) same least_marked
+  module _ (marked : AreMarked over trail.marks (first_of over.sources) (end_of over.sources (length over.touches))) where
+    holds : HoldsSourcesAt over.graph.ends over.touches over.sources over.assignment (has_flag trail.marks)
+    holds = all_marked over.graph.ends over.touches over.sources over.assignment trail.marks marked
+
+    least_marked : IsLeastClosedAt over.graph.ends over.touches over.sources over.assignment (has_flag trail.marks)
+    least_marked =
+        let l = least_from (passes_in over) (λ x r. (source_in over x (origin_source over trail s x r.marked r.first)).0) (to_holds over s.sound (has_flag trail.marks) holds) in
+        record {
+          closed = marked_closed l.closed;
+          holds = holds;
+          least = λ T c h m t. l.least T (to_closed over s.sound T c) (to_holds over s.sound T h) m t;
+        }
+
+    -- the flags of the meters are the least closed set
+    pub IsLeastClosedAt-search : IsLeastClosedAt over.graph.ends over.touches over.sources over.assignment (has_flag (take (length over.touches) trail.marks))
+    IsLeastClosedAt-search =
+        let same : has_flag trail.marks ≡ has_flag (take (length over.touches) trail.marks) = λ i m. flag_taken over trail s m i in
+        subst (λ S. IsLeastClosedAt over.graph.ends over.touches over.sources over.assignment S) same least_marked

@@ -20,3 +20,4 @@ pub mod Longest
 pub mod Losing
 pub mod Beside
 pub mod Shut
+pub mod Placing

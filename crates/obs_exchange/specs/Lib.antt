@@ -5,6 +5,7 @@ pub mod Noting
 pub mod Setting
 pub mod Trail
 pub mod Searching
+pub mod Ordered
 pub mod Classes
 pub mod Critical
 pub mod Laws

@@ -1,5 +1,5 @@
 -- What a search has reached and walked.
-use Rattle.std.specs.Prelude.{◌≡◌, ℕ, ◌+◌, Bool, true, false, Option, None, List, length, replicate, slice_set}
+use Rattle.std.specs.Prelude.{◌≡◌, ◌⊎◌, ℕ, ◌+◌, ◌<◌, ◌≤◌, Bool, true, false, Option, None, List, length, replicate, slice_index, slice_index_or, slice_set}
 use Rattle.obs_assign.specs.declared.Move.{Move}
 use Rattle.obs_assign.specs.Assignment.{has_flag}
 
@@ -54,16 +54,32 @@ pub record AreFull (t : Trail) : Type 0 where
 abbrev pub Keeps : List Bool → List Bool → Type 0
 Keeps before after = (k : ℕ) → has_flag before k ≡ true → has_flag after k ≡ true
 
--- no mark is taken back, and no walk, and the room is the same
+-- no mark is taken back, and no walk; what came into the queue keeps its place, and the room is the same
 pub record Follows (before after : Trail) : Type 0 where
   pub marks : Keeps before.marks after.marks
   pub walked : Keeps before.walked after.walked
+  pub tail : before.tail ≤ after.tail
+  pub queue : (k : ℕ) → k < before.tail → slice_index after.queue k ≡ slice_index before.queue k
   pub meters : length after.marks ≡ length before.marks
   pub branches : length after.walked ≡ length before.walked
 
--- the same, and the head stays where it is
+-- the meter is marked, and no other led to it
+pub record IsRoot (trail : Trail) (x : ℕ) : Type 0 where
+  pub marked : has_flag trail.marks x ≡ true
+  pub first : slice_index_or trail.parents x None ≡ None
+
+-- each meter that is marked newly was reached by another
+abbrev pub AreLed : Trail → Trail → Type 0
+AreLed before after = (x : ℕ) → IsRoot after x → IsRoot before x
+
+-- the same, but for one meter
+abbrev pub AreLedBut : ℕ → Trail → Trail → Type 0
+AreLedBut m before after = (x : ℕ) → IsRoot after x → IsRoot before x ⊎ (x ≡ m)
+
+-- what follows, where each new meter was reached by another, and the head stays where it is
 pub record Stays (before after : Trail) : Type 0 where
   pub follows : Follows before after
+  pub led : AreLed before after
   pub head : after.head ≡ before.head
 
 -- what the arrays of a search are seen as: the trail, the path's moves at the end of its array, and room for how many vertices

@@ -4,6 +4,7 @@ ghost use Rattle.obs_assign.specs.Assignment.{has_flag};
 ghost use Rattle.obs_exchange.specs.Noting.{AreNotedIn};
 ghost use Rattle.obs_exchange.specs.Searching.{AreMarked, IsDone, IsEnd, IsResting, RunsOn};
 ghost use Rattle.obs_exchange.specs.Setting.{IsSourceIn, end_of, first_of};
+ghost use Rattle.obs_exchange.specs.Trail.{AreLedBut};
 
 use crate::noted::Noted;
 use crate::progress::Progress;
@@ -13,13 +14,14 @@ use obs_assign::Move;
 
 /// Marks the meter, where it is a live source that isn't marked, and visits what is reached from it, up to the first
 /// free branch. Nothing waits in the queue before, nor afterwards where no branch is free.
-fn spread_source(over: &Setting<'_>, m: u32, search: &mut Progress) -> Option<Move>
+pub fn spread_source(over: &Setting<'_>, m: u32, search: &mut Progress) -> Option<Move>
     requires first { first_of over.now.sources ≤ m }
     requires end { m < end_of over.now.sources (length over.now.touches) }
     requires resting { IsResting over.now search.old }
     ensures runs_on { RunsOn over.now search.old search.new }
     ensures found { MatchOption result (IsDone search.new.trail) (λ x. IsEnd over.now search.new.trail x) }
     ensures marked { IsSourceIn over.now m → has_flag search.new.trail.marks m ≡ true }
+    ensures led { AreLedBut m search.old.trail search.new.trail }
 {
     if search.trail.is_marked(m) {
         return None;

@@ -1,6 +1,6 @@
 // The path of moves by which the assignment grows.
-ghost use Rattle.std.specs.Prelude.{◌≡◌, ◌+◌, ◌<◌, ◌≤◌, IfSome, MatchResult, length, drop};
-ghost use Rattle.obs_assign.specs.Assignment.{HasRoomOf, IsWhole, StandsOver};
+ghost use Rattle.std.specs.Prelude.{◌≡◌, ◌+◌, ◌<◌, ◌≤◌, ℕ, false, IfSome, MatchResult, length, drop};
+ghost use Rattle.obs_assign.specs.Assignment.{HasRoomOf, IsWhole, StandsOver, has_flag};
 ghost use Rattle.obs_exchange.specs.declared.Sources.{Sources};
 ghost use Rattle.obs_exchange.specs.Found.{HasGrown};
 ghost use Rattle.obs_exchange.specs.Noting.{AreNotedIn};
@@ -65,10 +65,11 @@ fn trace(last: Move, trail: &Trail, path: &mut [Move]) -> usize
 }
 
 /// Marks nothing, and notes that no branch was walked or met: a search begins.
-fn start_anew(over: &Setting<'_>, search: &mut Progress)
+pub fn start_anew(over: &Setting<'_>, search: &mut Progress)
     requires sound { IsSound over.now }
     requires room { HasRoomIn over.now search.old }
     ensures resting { IsResting over.now search.new }
+    ensures unmarked { (m : ℕ) → has_flag search.new.trail.marks m ≡ false }
     ensures as_large { IsAsLarge search.old search.new }
 {
     let _ = over;

@@ -1,11 +1,16 @@
 // What a search writes on.
 ghost use Rattle.std.specs.Prelude.{◌≡◌, ◌≤◌, IfOk, MatchResult, length, drop, take};
+ghost use Rattle.obs_exchange.specs.declared.Sources.TheVariants.{All};
+ghost use Rattle.obs_exchange.specs.Longest.{IsLongest};
+ghost use Rattle.obs_exchange.specs.Ordered.{AreReachedInOrder, IsOrder};
 ghost use Rattle.obs_exchange.specs.Searching.{CanSearch, HasPath, HasReached};
+ghost use Rattle.obs_exchange.specs.Setting.{IsSound};
 ghost use Rattle.obs_exchange.specs.Trail.{HasRoomOnly};
 
 use crate::find::find;
 use crate::memory::NoMemory;
 use crate::noted::Noted;
+use crate::ordered::spread_in_order;
 use crate::pass::Start;
 use crate::progress::Progress;
 use crate::setting::Setting;
@@ -101,6 +106,26 @@ impl Scratch {
         ensures same_vertices { self.new.vertices ≡ self.old.vertices }
     {
         find(over, ahead, noted, start, &mut self.search, &mut self.path)
+    }
+
+    /// `spread_in_order` on these arrays.
+    pub(crate) fn spread_in_order(&mut self, over: &Setting<'_>, order: &[u32], places: &mut [u32])
+        requires sound { IsSound over.now }
+        requires longest { IsLongest over.now.graph over.now.touches over.now.assignment }
+        requires sources { over.now.sources ≡ All }
+        requires meters { length over.now.touches ≤ length self.old.trail.marks }
+        requires branches { length over.now.graph.ends ≤ length self.old.trail.walked }
+        requires vertices { over.now.graph.vertices ≤ self.old.vertices }
+        requires room { over.now.room ≡ self.old.vertices }
+        requires order { IsOrder (length over.now.touches) order.now }
+        requires places { length places.old ≡ length over.now.touches }
+        ensures reached { AreReachedInOrder over.now.graph.ends over.now.touches over.now.assignment
+            order.now places.new }
+        ensures same_meters { length self.new.trail.marks ≡ length self.old.trail.marks }
+        ensures same_branches { length self.new.trail.walked ≡ length self.old.trail.walked }
+        ensures same_vertices { self.new.vertices ≡ self.old.vertices }
+    {
+        spread_in_order(over, order, &mut self.search, places);
     }
 
     /// The moves of the path from one place on.

@@ -3,7 +3,7 @@ ghost use Rattle.std.specs.Prelude.{◌≡◌, ◌<◌, ◌≤◌, Bool, List, I
 ghost use Rattle.obs_exchange.specs.Classes.{AreClasses};
 ghost use Rattle.obs_exchange.specs.Searching.{AreStarred, AreWalkedOf, IsDone, IsEnd, IsFreeFor, IsRunning, IsVisiting, RunsOn};
 ghost use Rattle.obs_exchange.specs.Setting.{touched_in};
-ghost use Rattle.obs_exchange.specs.Trail.{Stays};
+ghost use Rattle.obs_exchange.specs.Trail.{AreLed, Stays};
 
 use crate::free::{count, free_branch};
 use crate::progress::Progress;
@@ -75,6 +75,7 @@ fn visit(over: &Setting<'_>, m: u32, search: &mut Progress) -> Option<u32>
     requires running { IsRunning over.now search.old }
     ensures visiting { IsVisiting over.now search.new.trail m }
     ensures runs_on { RunsOn over.now search.old search.new }
+    ensures led { AreLed search.old.trail search.new.trail }
     ensures walked { MatchOption result (AreWalkedOf over.now search.new.trail.walked m) (λ e. IsFreeFor over.now m e) }
     ensures head { search.new.trail.head ≡ search.old.trail.head }
 {
@@ -103,6 +104,7 @@ fn visit(over: &Setting<'_>, m: u32, search: &mut Progress) -> Option<u32>
 pub fn spread(over: &Setting<'_>, search: &mut Progress) -> Option<Move>
     requires running { IsRunning over.now search.old }
     ensures runs_on { RunsOn over.now search.old search.new }
+    ensures led { AreLed search.old.trail search.new.trail }
     ensures found { MatchOption result (IsDone search.new.trail) (λ x. IsEnd over.now search.new.trail x) }
 {
     while search.trail.waits() {

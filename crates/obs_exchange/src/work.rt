@@ -5,7 +5,9 @@ ghost use Rattle.obs_meter.specs.Touches.{AreInRange};
 ghost use Rattle.obs_assign.specs.Assignment.{StandsOver, has_flag};
 ghost use Rattle.obs_exchange.specs.declared.Sources.TheVariants.{All};
 ghost use Rattle.obs_exchange.specs.Found.{CanRun, HasRun, searched};
+ghost use Rattle.obs_exchange.specs.Longest.{IsLongest};
 ghost use Rattle.obs_exchange.specs.Noting.{AreNoted};
+ghost use Rattle.obs_exchange.specs.Ordered.{AreReachedInOrder, IsOrder};
 
 use crate::find::grow;
 use crate::flags::Flags;
@@ -285,6 +287,29 @@ impl Work {
         ensures changed { self.new ≡ record self.old { touches = slice_set self.old.touches m touch } }
     {
         self.copy.set(m, touch);
+    }
+
+    /// The body of `close_in_order`, without the tick.
+    pub(crate) fn run_in_order(
+        &mut self,
+        g: &Graph,
+        ms: &Meters,
+        a: &Assignment,
+        order: &[u32],
+        places: &mut [u32],
+    )
+        requires longest { IsLongest g.now ms.now.touches a.now }
+        requires in_range { AreInRange g.now ms.now.touches }
+        requires room { HasRoomFor self.old.sizes g.now ms.now.touches }
+        requires order { IsOrder (length ms.now.touches) order.now }
+        requires places { length places.old ≡ length ms.now.touches }
+        ensures reached { AreReachedInOrder g.now.ends ms.now.touches a.now order.now places.new }
+        ensures same_sizes { self.new.sizes ≡ self.old.sizes }
+    {
+        self.pairs = a.length();
+        let room = self.scratch.vertices();
+        let over = Setting::new(g, ms, a, Sources::All, room);
+        self.scratch.spread_in_order(&over, order, places);
     }
 
     /// The body of `search`, over the noted meters; over the copied ones, where these are asked for.

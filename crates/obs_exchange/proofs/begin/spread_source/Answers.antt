@@ -1,7 +1,8 @@
-use Rattle.std.proofs.Common.{◌<◌, true, length, set, sym, ◌∙◌, arith}
+use Rattle.std.proofs.Common.{◌<◌, true, None, length, set, sym, ◌∙◌, inl, subst, arith}
 use Rattle.obs_exchange.proofs.Beginning.{source_thawed}
 use Rattle.obs_exchange.proofs.Queued.{IsSearching-source, flag-kept, source_room}
-use Rattle.obs_exchange.proofs.Trails.{Follows-then, RunsOn-same, Stays-push}
+use Rattle.obs_exchange.specs.Trail.{AreLed, Follows, Trail, pushed}
+use Rattle.obs_exchange.proofs.Trails.{Follows-push, Follows-then, RunsOn-same, led_but_pushed}
 use Rattle.obs_exchange.proofs.Upward.{AreClasses-kept}
 use Rattle.obs_exchange.proofs.begin.spread_source.Goals as goal
 
@@ -42,7 +43,7 @@ spread-requires c =
 
 pub returns-then-is_marked : goal.returns-then-is_marked
 returns-then-is_marked c = let r = c.requires.resting in
-    record { runs_on = RunsOn-same c.args.over.now c.args.search.now r.running; found = r.done; marked = λ s. sym c.is_marked.ensures.marked ∙ c.if-is_marked.true }
+    record { runs_on = RunsOn-same c.args.over.now c.args.search.now r.running; found = r.done; marked = λ s. sym c.is_marked.ensures.marked ∙ c.if-is_marked.true; led = λ x o. inl o }
 
 pub returns-then-not-is_source-clause-runs_on : goal.returns-then-not-is_source-clause-runs_on
 returns-then-not-is_source-clause-runs_on c = RunsOn-same c.args.over.now c.args.search.now c.requires.resting.running
@@ -54,8 +55,21 @@ pub returns-clause-runs_on : goal.returns-clause-runs_on
 returns-clause-runs_on c =
     let e = c.spread.ensures.runs_on in
     let s = c.requires.resting.running.searching in
-    let pushed = (Stays-push c.args.search.now.trail c.args.m _ (omega (arith, c.requires.end, s.sound.sources_low, s.marks_len))).follows in
-    record { running = e.running; follows = Follows-then c.args.search.now.trail _ c.spread.new.search.trail pushed (rw c.push.ensures.pushed at e.follows); stars = e.stars }
+    let t = c.args.search.now.trail in
+    let n = c.spread.new.search.trail in
+    record {
+      running = e.running;
+      follows = Follows-then t (pushed t c.args.m None) n (Follows-push t c.args.m None (omega (arith, c.requires.end, s.sound.sources_low, s.marks_len)))
+          (subst (λ (u : Trail). Follows u n) c.push.ensures.pushed e.follows);
+      stars = e.stars;
+    }
+
+pub returns-then-not-is_source-clause-led : goal.returns-then-not-is_source-clause-led
+returns-then-not-is_source-clause-led c = λ x r. inl r
+
+pub returns-clause-led : goal.returns-clause-led
+returns-clause-led c =
+    led_but_pushed c.args.search.now.trail c.spread.new.search.trail c.args.m (subst (λ (u : Trail). AreLed u c.spread.new.search.trail) c.push.ensures.pushed c.spread.ensures.led)
 
 pub returns-clause-found : goal.returns-clause-found
 returns-clause-found c = c.spread.ensures.found

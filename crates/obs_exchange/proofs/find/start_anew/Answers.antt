@@ -1,5 +1,7 @@
 use Rattle.std.proofs.Common.{◌≡◌, length, false, sym, ap, ◌∙◌, arith}
 use Rattle.std.proofs.lemmas.List.{length-replicate}
+use Rattle.obs_assign.proofs.Keeping.{replicate_at}
+use Rattle.obs_assign.specs.Assignment.{has_flag}
 use Rattle.obs_exchange.specs.Trail.{Trail}
 use Rattle.obs_exchange.proofs.Beginning.{AreStarred-start, IsSearching-start}
 use Rattle.obs_exchange.proofs.Upward.{AreClasses-own}
@@ -30,3 +32,6 @@ returns-clause-as_large c =
       stars = ap length c.clear-2.ensures.cleared ∙ length-replicate (length p.stars) 0;
       tops = c.separate.ensures.length;
     }
+
+pub returns-clause-unmarked : goal.returns-clause-unmarked
+returns-clause-unmarked c = λ m. ap (λ (t : Trail). has_flag t.marks m) c.clear.ensures.cleared ∙ replicate_at (length c.args.search.now.trail.marks) m false
