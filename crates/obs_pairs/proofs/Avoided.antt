@@ -1,10 +1,10 @@
 -- Meters that some sources don't reach: a closed set holds these sources, and not the meter.
 use Rattle.std.proofs.Common.{◌≡◌, ℕ, ◌<◌, Bool, true, false, not, ◌||◌, eqb, None, List, length, refl, sym, ap, ◌∙◌, subst, inl, inr, arith}
-use Rattle.std.proofs.lemmas.Bool.{and_from, and_parts, cases_eq, ne_eqb, not-true, or_cases, or_left, or_right}
+use Rattle.std.proofs.lemmas.Bool.{and_parts, cases_eq, ne_eqb, not-true, or_cases, or_left, or_right}
 use Rattle.obs_graph.specs.Graph.{Graph}
 use Rattle.obs_graph.specs.Positions.{AreBranches}
 use Rattle.obs_matroid.specs.Assignments.{IsAssignment, IsRho, Pair, items}
-use Rattle.obs_matroid.specs.Closed.{HoldsSources, IsClosed, IsLeastClosed, every, none}
+use Rattle.obs_matroid.specs.Closed.{HoldsSources, IsClosed, every, none}
 use Rattle.obs_matroid.specs.Critical.{IsCritical}
 use Rattle.obs_matroid.specs.Lists.{In, IsDistinct, other_than, without}
 use Rattle.obs_matroid.specs.Matroid.{IsMatroid, Matroid}
@@ -19,15 +19,14 @@ use Rattle.obs_meter.specs.Spanned.{graph_matroid}
 use Rattle.obs_meter.specs.Touches.{is_live, live_items, touch_at}
 use Rattle.obs_meter.proofs.Assigned.{every-to_live, live-to_every, live_items-distinct, rho-to_matroid}
 use Rattle.obs_meter.proofs.Instance.{IsMatroid-graph}
-use Rattle.obs_meter.proofs.Lost.{live-losing, touch-left}
+use Rattle.obs_meter.proofs.Lost.{live-losing}
 use Rattle.obs_meter.proofs.Live.{In-live, live-from_live_items}
-use Rattle.obs_assign.specs.Assignment.{Assignment, branch_at, has_flag, pairs}
+use Rattle.obs_assign.specs.Assignment.{Assignment, branch_at, is_frozen, pairs}
 use Rattle.obs_assign.proofs.Standing.{IsAssignmentAt-standing}
 use Rattle.obs_exchange.specs.Critical.{critical_at}
-use Rattle.obs_exchange.specs.declared.Sources.TheVariants.{All}
-use Rattle.obs_exchange.specs.Found.{HasClosed}
 use Rattle.obs_exchange.specs.Longest.{IsLongest}
-use Rattle.obs_exchange.proofs.AtGraph.{IsAssignment-live, IsLeastClosed-thawed, bare-from_out, out-from_bare}
+use Rattle.obs_exchange.specs.Ordered.{IsLeastClosedFrom}
+use Rattle.obs_exchange.proofs.AtGraph.{IsAssignment-live, IsClosed-to_matroid, bare-from_out, out-from_bare}
 use Rattle.obs_exchange.proofs.Lawful.{IsCritical-from_matroid, IsCritical-to_matroid, critical_at-exactly}
 use Rattle.obs_exchange.proofs.Losing.{most-left, most-longest, stands-left}
 use Rattle.obs_pairs.specs.Partners.{class_at}
@@ -176,6 +175,18 @@ module _ (g : Graph) (touches : List Touch) (a : Assignment) (ok : AreBranches g
                 (not-true (critical_at n g.ends left k) r.1)
           ]
 
+    -- what isn't reached from the sources that a test asks for
+    pub avoided_front : (from S : ℕ → Bool) → IsLeastClosedFrom g.ends touches from a S → (k : ℕ) → S k ≡ false → IsAvoided g touches a from k
+    avoided_front from S c k f =
+        let same : is_frozen a ≡ none = λ i m. h.thawed m i in
+        record {
+          set = S;
+          closed = subst (λ (t : ℕ → Bool). IsClosed (graph_matroid g.vertices g.ends) (touch_at g.ends touches) (live_items g.ends touches) t (pairs a) S) same
+              (IsClosed-to_matroid g.vertices a g touches h.stands (live_items g.ends touches) S c.closed);
+          holds = λ m i t out. c.holds m t (live-from_live_items g.ends touches m i, bare-from_out a m out);
+          out = f;
+        }
+
     module _ (lost : ℕ → Bool) (bare : (m : ℕ) → lost m ≡ true → branch_at a m ≡ None) where
       -- the pairs are as many as there can be where meters without pairs are lost
       pub longest_left : IsLongest g (losing lost touches) a
@@ -191,24 +202,4 @@ module _ (g : Graph) (touches : List Touch) (a : Assignment) (ok : AreBranches g
               long = refl;
               none_longer = λ B b. most-left lost g.ends touches (length (pairs a)) (most-longest g touches a h) B (live-to_every g.ends (losing lost touches) B b);
             };
-          }
-
-      -- what isn't reached then, the sources that aren't lost don't reach
-      pub avoided_left : (flags : List Bool) → HasClosed g.ends (losing lost touches) All a a flags → (k : ℕ) → has_flag flags k ≡ false → IsAvoided g touches a (λ v. not (lost v)) k
-      avoided_left flags closed k f =
-          let left = losing lost touches in
-          let least : IsLeastClosed (graph_matroid g.vertices g.ends) (touch_at g.ends left) (live_items g.ends left) none every (pairs a) (has_flag flags) =
-          IsLeastClosed-thawed g.vertices a g left longest_left.stands h.thawed (has_flag flags) closed.least in
-          record {
-            set = has_flag flags;
-            closed = record {
-              spanned = λ m e i t j.
-                  let l = closed.least.closed.live m t in
-                  let w = and_parts (is_live g.ends touches m) (not (lost m)) (sym (live-losing lost touches g.ends m) ∙ l) in
-                  least.closed.spanned m e (In-live g.ends left m l) t (touch-left lost touches g.ends m e (not-true (lost m) w.1) j);
-            };
-            holds = λ m i k2 out.
-                let l : is_live g.ends left m ≡ true = live-losing lost touches g.ends m ∙ and_from (is_live g.ends touches m) (not (lost m)) (live-from_live_items g.ends touches m i) k2 in
-                closed.least.holds m (l, bare-from_out a m out);
-            out = f;
           }

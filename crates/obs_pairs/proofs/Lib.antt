@@ -4,7 +4,6 @@ pub mod Settling
 pub mod Left
 pub mod Sharing
 pub mod Avoided
-pub mod Spelling
 pub mod Naming
 pub mod Mapped
 pub mod Splitting

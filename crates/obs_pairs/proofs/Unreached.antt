@@ -16,24 +16,29 @@ use Rattle.obs_meter.proofs.Lost.{live-losing, losing-none}
 use Rattle.obs_assign.specs.Assignment.{Assignment, has_flag, pairs}
 use Rattle.obs_exchange.specs.Critical.{IsCriticalAt, critical_at}
 use Rattle.obs_exchange.specs.declared.Sources.TheVariants.{All}
+use Rattle.obs_exchange.specs.Closed.{IsLeastClosedAt}
 use Rattle.obs_exchange.specs.Found.{HasClosed}
 use Rattle.obs_exchange.specs.Longest.{IsLongest}
 use Rattle.obs_exchange.proofs.Lawful.{closed_noncritical, critical_at-exactly}
-use Rattle.obs_exchange.proofs.Lengthening.{closed_set}
 use Rattle.obs_exchange.proofs.Losing.{rho-live_left}
 use Rattle.obs_pairs.proofs.Left.{IsLongest-all, critical-left, left_of-one}
 use Rattle.obs_pairs.specs.Partners.{class_at}
 use Rattle.obs_pairs.specs.Settled.{LacksClass, redundant_at}
 use Rattle.obs_pairs.proofs.Partnered.{classes_at, newly_critical_at, partners_at-both_ways, redundant-parts, rho-redundant}
 
--- the redundant ones are marked
-pub closed_redundant : (g : Graph) (touches : List Touch) (a : Assignment) (flags : List Bool) → AreBranches g.vertices g.ends → IsLongest g touches a → HasClosed g.ends touches All a a flags
-    → (k : ℕ) → has_flag flags k ≡ redundant_at g.vertices g.ends touches k
-closed_redundant g touches a flags ok h closed k =
-    let is = closed_noncritical a g touches (has_flag flags) (closed_set g touches a flags ok h.whole h.stands closed) h.thawed k in
-    one_truth (has_flag flags k) (redundant_at g.vertices g.ends touches k)
+-- the least closed set of all sources has the redundant ones
+pub least_redundant : (g : Graph) (touches : List Touch) (a : Assignment) (S : ℕ → Bool) → AreBranches g.vertices g.ends → IsLongest g touches a → IsLeastClosedAt g.ends touches All a S
+    → (k : ℕ) → S k ≡ redundant_at g.vertices g.ends touches k
+least_redundant g touches a S ok h least k =
+    let is = closed_noncritical a g touches S (record { branches = ok; whole = h.whole; stands = h.stands; least = least }) h.thawed k in
+    one_truth (S k) (redundant_at g.vertices g.ends touches k)
     (λ t. let u = is.0 t in and_from (is_live g.ends touches k) (not (critical_at g.vertices g.ends touches k)) u.0 (ap not u.1))
     (λ t. let u = and_parts (is_live g.ends touches k) (not (critical_at g.vertices g.ends touches k)) t in is.1 (u.0, not-true (critical_at g.vertices g.ends touches k) u.1))
+
+-- so they are marked
+pub closed_redundant : (g : Graph) (touches : List Touch) (a : Assignment) (flags : List Bool) → AreBranches g.vertices g.ends → IsLongest g touches a → HasClosed g.ends touches All a a flags
+    → (k : ℕ) → has_flag flags k ≡ redundant_at g.vertices g.ends touches k
+closed_redundant g touches a flags ok h closed = least_redundant g touches a (has_flag flags) ok h closed.least
 
 module _ (g : Graph) (touches : List Touch) (ok : AreBranches g.vertices g.ends) (m : ℕ) (redundant : redundant_at g.vertices g.ends touches m ≡ true) where
   abbrev lost : ℕ → Bool

@@ -6,11 +6,11 @@ mod lacking;
 pub mod laws;
 mod memory;
 mod name;
+mod reach;
 mod renew;
 mod rounds;
 mod settle;
 mod shared;
-mod spell;
 mod split;
 mod work;
 

@@ -1,5 +1,5 @@
 // Splits with other pairs each time, as long as they settle enough.
-ghost use Rattle.std.specs.Prelude.{◌≡◌, ◌≤◌, length};
+ghost use Rattle.std.specs.Prelude.{◌≡◌, ◌+◌, ◌≤◌, length};
 ghost use Rattle.obs_pairs.specs.Moved.{IsMoved, IsReady};
 ghost use Rattle.obs_pairs.specs.Settled.{AreSettled};
 
@@ -54,11 +54,13 @@ pub(crate) fn split_in_rounds<L: Ledger>(
     a: &mut Assignment,
     left: &mut Meters,
     exchange: &mut Work,
+    reach: &mut [u32],
     waiting: &mut [bool],
     list: &mut [u32],
     steps: &mut Steps<L>,
 )
     requires ready { IsReady over.now.graph.now over.now.meters.now.touches a.old left.old exchange.old }
+    requires reach { length reach.old ≡ length over.now.meters.now.touches + length over.now.meters.now.touches }
     requires settled { AreSettled over.now.graph.now.vertices over.now.graph.now.ends
         over.now.meters.now.touches waiting.old list.old 0 }
     ensures settled { AreSettled over.now.graph.now.vertices over.now.graph.now.ends
@@ -67,13 +69,13 @@ pub(crate) fn split_in_rounds<L: Ledger>(
         a.old a.new left.old left.new exchange.old exchange.new }
 {
     let settled = count_settled(waiting, list);
-    split(over, a, left, exchange, waiting, list, steps);
+    split(over, a, exchange, reach, waiting, list, steps);
     let mut worth = is_worth(waiting, list, settled);
     for _round in 0..512u32 {
         if worth {
             let settled = count_settled(waiting, list);
             renew(over, a, left, exchange, waiting, steps);
-            split(over, a, left, exchange, waiting, list, steps);
+            split(over, a, exchange, reach, waiting, list, steps);
             worth = is_worth(waiting, list, settled);
         }
     }

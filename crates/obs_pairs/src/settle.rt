@@ -1,5 +1,5 @@
 // Classes, settled one after the other.
-ghost use Rattle.std.specs.Prelude.{◌≡◌, ◌&&◌, ◌<◌, ◌≤◌, ◌^◌, if◌then◌else◌, ℕ, not, length, slice_index, take};
+ghost use Rattle.std.specs.Prelude.{◌≡◌, ◌+◌, ◌&&◌, ◌<◌, ◌≤◌, ◌^◌, if◌then◌else◌, ℕ, not, length, slice_index, take};
 ghost use Rattle.obs_assign.specs.Assignment.{has_flag};
 ghost use Rattle.obs_exchange.specs.Blank.{AreNumbers};
 ghost use Rattle.obs_pairs.specs.Moved.{IsMoved, IsReady};
@@ -83,6 +83,7 @@ fn find_all<L: Ledger>(
     a: &mut Assignment,
     left: &mut Meters,
     exchange: &mut Work,
+    reach: &mut [u32],
     waiting: &mut [bool],
     list: &mut [u32],
     steps: &mut Steps<L>,
@@ -90,6 +91,7 @@ fn find_all<L: Ledger>(
     requires ready { IsReady over.now.graph.now over.now.meters.now.touches a.old left.old exchange.old }
     requires waiting { length waiting.old ≡ length over.now.meters.now.touches }
     requires list { length list.old ≡ length over.now.meters.now.touches }
+    requires reach { length reach.old ≡ length over.now.meters.now.touches + length over.now.meters.now.touches }
     ensures classes { list.new
         ≡ classes_of over.now.graph.now.vertices over.now.graph.now.ends over.now.meters.now.touches }
     ensures moved { IsMoved over.now.graph.now over.now.meters.now.touches
@@ -97,7 +99,7 @@ fn find_all<L: Ledger>(
 {
     close(over.graph, over.meters, a, exchange, steps);
     begin(exchange.reached(), waiting, list);
-    split_in_rounds(over, a, left, exchange, waiting, list, steps);
+    split_in_rounds(over, a, left, exchange, reach, waiting, list, steps);
     settle_all(over, a, left, exchange, waiting, list, steps);
     name_all(over.graph, over.meters, list);
 }
@@ -108,6 +110,7 @@ pub(crate) fn list_classes<L: Ledger>(
     a: &mut Assignment,
     left: &mut Meters,
     exchange: &mut Work,
+    reach: &mut [u32],
     waiting: &mut [bool],
     list: &mut [u32],
     steps: &mut Steps<L>,
@@ -115,6 +118,7 @@ pub(crate) fn list_classes<L: Ledger>(
     requires ready { IsReady over.now.graph.now over.now.meters.now.touches a.old left.old exchange.old }
     requires waiting { length over.now.meters.now.touches ≤ length waiting.old }
     requires list { length over.now.meters.now.touches ≤ length list.old }
+    requires reach { length over.now.meters.now.touches + length over.now.meters.now.touches ≤ length reach.old }
     ensures classes { take (length over.now.meters.now.touches) list.new
         ≡ classes_of over.now.graph.now.vertices over.now.graph.now.ends over.now.meters.now.touches }
     ensures moved { IsMoved over.now.graph.now over.now.meters.now.touches
@@ -126,6 +130,7 @@ pub(crate) fn list_classes<L: Ledger>(
         a,
         left,
         exchange,
+        &mut reach[..n + n],
         &mut waiting[..n],
         &mut list[..n],
         steps,

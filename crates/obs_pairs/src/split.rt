@@ -1,47 +1,60 @@
 // The classes of all meters without a pair, settled at once.
-ghost use Rattle.std.specs.Prelude.{◌≡◌};
-ghost use Rattle.obs_pairs.specs.Moved.{IsMoved, IsReady};
+ghost use Rattle.std.specs.Prelude.{◌≡◌, ◌+◌, length};
+ghost use Rattle.obs_exchange.specs.Ordered.{AreReachedInOrder};
+ghost use Rattle.obs_pairs.specs.Moved.{MaySearch};
 ghost use Rattle.obs_pairs.specs.Settled.{AreSettled};
+ghost use Rattle.obs_pairs.specs.Split.{AreInOrder};
 
-use crate::half::{reach_from, restore};
-use crate::spell::{finish, spell, start, strike};
+use crate::reach::{keep_first, settle_same, write_order};
 use obs_assign::{Assignment, Steps};
-use obs_exchange::{Over, Work};
+use obs_exchange::{Over, Work, close_in_order};
 use obs_meter::Meters;
 use std::sync::ledger::Ledger;
 
-/// Settles the classes of the meters without a pair, by two searches for each bit of a meter's number: one from those
-/// that have the bit unset, and one from the others. What one of them alone reaches has its class, and the searches spell
-/// its number.
+// Searches from the meters without a pair one after the other, where their numbers rise or fall.
+fn reach_in_order<L: Ledger>(
+    over: &Over<'_>,
+    a: &Assignment,
+    exchange: &mut Work,
+    falls: bool,
+    order: &mut [u32],
+    places: &mut [u32],
+    steps: &mut Steps<L>,
+)
+    requires may { MaySearch over.now.graph.now over.now.meters.now.touches a.now exchange.old }
+    requires order { length order.old ≡ length over.now.meters.now.touches }
+    requires places { length places.old ≡ length over.now.meters.now.touches }
+    ensures order { AreInOrder falls (length over.now.meters.now.touches) order.new }
+    ensures reached { AreReachedInOrder over.now.graph.now.ends over.now.meters.now.touches a.now
+        order.new places.new }
+    ensures same_sizes { exchange.new.sizes ≡ exchange.old.sizes }
+{
+    write_order(falls, order);
+    close_in_order(over.graph, over.meters, a, order, places, exchange, steps);
+}
+
+/// Settles the classes of the meters without a pair, by two searches: one from the first of them to the last, and one from
+/// the last to the first. What is first reached from the same one both times is reached from it alone, and has its class.
 pub(crate) fn split<L: Ledger>(
     over: &Over<'_>,
-    a: &mut Assignment,
-    left: &mut Meters,
+    a: &Assignment,
     exchange: &mut Work,
+    reach: &mut [u32],
     waiting: &mut [bool],
     list: &mut [u32],
     steps: &mut Steps<L>,
 )
-    requires ready { IsReady over.now.graph.now over.now.meters.now.touches a.old left.old exchange.old }
+    requires may { MaySearch over.now.graph.now over.now.meters.now.touches a.now exchange.old }
+    requires reach { length reach.old ≡ length over.now.meters.now.touches + length over.now.meters.now.touches }
     requires settled { AreSettled over.now.graph.now.vertices over.now.graph.now.ends
         over.now.meters.now.touches waiting.old list.old 0 }
     ensures settled { AreSettled over.now.graph.now.vertices over.now.graph.now.ends
         over.now.meters.now.touches waiting.new list.new 0 }
-    ensures same { a.new ≡ a.old }
-    ensures moved { IsMoved over.now.graph.now over.now.meters.now.touches
-        a.old a.new left.old left.new exchange.old exchange.new }
+    ensures same_sizes { exchange.new.sizes ≡ exchange.old.sizes }
 {
-    start(waiting, list);
-    let mut step = 1;
-    for _bit in 0..32u32 {
-        if step < list.len() {
-            reach_from(over, a, left, exchange, step, false, steps);
-            spell(waiting, exchange.reached(), step, list);
-            reach_from(over, a, left, exchange, step, true, steps);
-            strike(waiting, exchange.reached(), step, list);
-            step *= 2;
-        }
-    }
-    finish(waiting, list);
-    restore(over.meters, left);
+    let (order, places) = reach.split_at_mut(over.meters.count() as usize);
+    reach_in_order(over, a, exchange, false, order, places, steps);
+    keep_first(waiting, places, list);
+    reach_in_order(over, a, exchange, true, order, places, steps);
+    settle_same(list, places, waiting);
 }

@@ -25,6 +25,8 @@ pub struct PairWork {
     // the class of each meter, and whether it is still to be found
     list: Vec<u32>,
     waiting: Vec<bool>,
+    // an order of the meters, and behind it the place in it at which each is reached
+    reach: Vec<u32>,
     // whether another has the same class
     shared: Vec<bool>,
     // the meters, where one of them may be lost
@@ -34,7 +36,7 @@ pub struct PairWork {
 }
 
 impl Model for PairWork {
-    ghost use Rattle.std.specs.Prelude.{◌≡◌, ◌≤◌, length, take};
+    ghost use Rattle.std.specs.Prelude.{◌≡◌, ◌+◌, ◌≤◌, length, take};
     ghost use Rattle.obs_pairs.specs.PairWork.{AreShared, PairWork};
 
     ghost Value = { PairWork };
@@ -45,6 +47,7 @@ impl Model for PairWork {
       found : w.count ≤ length w.list.items;
       places : length w.list.items ≡ w.exchange.sizes.meters;
       flags : length w.waiting.items ≡ w.exchange.sizes.meters;
+      reach : length w.reach.items ≡ w.exchange.sizes.meters + w.exchange.sizes.meters;
       marks : length w.shared.items ≡ w.exchange.sizes.meters;
       shared : AreShared (take w.count w.list.items) w.shared.items;
       left : w.left.most ≡ w.exchange.sizes.meters;
@@ -58,6 +61,7 @@ impl Drop for PairWork {
             count: _,
             list: _,
             waiting: _,
+            reach: _,
             shared: _,
             left: _,
             exchange: _,
@@ -78,11 +82,13 @@ impl PairWork {
           sizes = record { meters = most_meters; branches = most_branches; vertices = most_vertices };
         }) }
     {
+        let most = most_meters as usize;
         Ok(PairWork {
             count: 0,
-            list: vec![in alloc; 0; most_meters as usize]?,
-            waiting: vec![in alloc; false; most_meters as usize]?,
-            shared: vec![in alloc; false; most_meters as usize]?,
+            list: vec![in alloc; 0; most]?,
+            waiting: vec![in alloc; false; most]?,
+            reach: vec![in alloc; 0; most + most]?,
+            shared: vec![in alloc; false; most]?,
             left: Meters::make(alloc, most_meters)?,
             exchange: Work::make(alloc, most_meters, most_branches, most_vertices)?,
         })
@@ -133,6 +139,7 @@ pub fn find_classes<L: Ledger>(
         a,
         &mut work.left,
         &mut work.exchange,
+        &mut work.reach,
         &mut work.waiting,
         &mut work.list,
         steps,

@@ -25,6 +25,7 @@ split_in_rounds-requires g c =
     let same : b.waiting ≡ c.close.new.work.reached = c.begin.ensures.waiting ∙ c.reached.ensures.reached in
     record {
       ready = closed;
+      reach = c.requires.reach;
       settled = Settled-begun graph.vertices graph.ends touches ok b.waiting b.list (c.begin.auto.waiting ∙ c.requires.waiting) (c.begin.auto.list ∙ c.requires.list) c.begin.ensures.list
           (λ k. ap (λ (flags : List Bool). has_flag flags k) same ∙ closed_redundant graph touches c.close.new.a c.close.new.work.reached ok closed.may.longest e.closed k);
     }

@@ -14,7 +14,7 @@ mark_shared-requires-clause-first g c =
     let list = take c.count-count.result c.deref.result.now in
     let v = c.work.inside.list in
     let new = c.list_classes.new.list in
-    let back : take v.len (new ++ drop (length new) v.items) ≡ new = written_back v.len new v.items (c.list_classes.auto.list ∙ ap length c.deref_mut-2.ensures.value) v.ok.0 in
+    let back : take v.len (new ++ drop (length new) v.items) ≡ new = written_back v.len new v.items (c.list_classes.auto.list ∙ ap length c.deref_mut-3.ensures.value) v.ok.0 in
     let is : list ≡ classes_of c.args.g.now.vertices c.args.g.now.ends touches =
     ap (λ (k : ℕ). take k c.deref.result.now) c.count-count.ensures.count ∙ (ap (λ (xs : List ℕ). take (length touches) xs) (c.deref.ensures.value ∙ back) ∙ c.list_classes.ensures.classes) in
     first_of_classes c.args.g.now.vertices c.args.g.now.ends touches c.vertices-count.ensures.branches list is
@@ -33,7 +33,7 @@ returns-clause-classes g c =
     let touches = c.args.ms.now.touches in
     let v = c.work.inside.list in
     let new = c.list_classes.new.list in
-    let back : take v.len (new ++ drop (length new) v.items) ≡ new = written_back v.len new v.items (c.list_classes.auto.list ∙ ap length c.deref_mut-2.ensures.value) v.ok.0 in
+    let back : take v.len (new ++ drop (length new) v.items) ≡ new = written_back v.len new v.items (c.list_classes.auto.list ∙ ap length c.deref_mut-3.ensures.value) v.ok.0 in
     ap (λ (k : ℕ). take k (take v.len (new ++ drop (length new) v.items))) c.count-count.ensures.count ∙ (ap (λ (xs : List ℕ). take (length touches) xs) back ∙ c.list_classes.ensures.classes)
 
 pub list_classes-requires-clause-ready : goal.list_classes-requires-clause-ready
