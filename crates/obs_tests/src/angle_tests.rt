@@ -3,13 +3,8 @@
 use crate::scripts::all_end_so;
 use std::test::Fail;
 
-#[test]
-fn idle_angle_meters_change_no_answer(rt: HostRuntime) -> Result<(), Fail> {
-    all_end_so(
-        &rt,
-        rt.alloc(),
-        3,
-        b"= Four buses in a row of which none is marked, two meters on the first branch, an injection at the second bus,
+const CASES: &[u8] = b"== Idle angle meters change no answer.
+= Four buses in a row of which none is marked, two meters on the first branch, an injection at the second bus,
 = and angle meters among them.
 + n
 node,absolute,source\na,0,1\nb,0,0\nc,0,0\nd,0,0
@@ -30,17 +25,8 @@ cost\t3\nchosen\tp2\npair\tmeter\tf1\tL1\npair\tmeter\tib\tL2\npair\tcandidate\t
 bound\ta\t1\t1\ninside\tmeter\tf1\ninside\tmeter\tf2\ninside\tmeter\tg1\nend
 > 1 verify tables n s b m cert
 flaw\t1\t3\tNotInside
-",
-    )
-}
-
-#[test]
-fn an_idle_angle_meter_is_lost_and_regained(rt: HostRuntime) -> Result<(), Fail> {
-    all_end_so(
-        &rt,
-        rt.alloc(),
-        1,
-        b"+ n
+== An idle angle meter is lost and regained.
++ n
 node,absolute,source\na,0,1\nb,0,0\nc,0,0\nd,0,0
 + s
 switch,from,to,closed
@@ -52,18 +38,8 @@ meter,kind,at,inservice\ng1,angle,a,1\nf1,flow,L1,1\nf2,flow,L1,1\ng2,angle,d,0\
 lose g1\nregain g2\nregain g1\nlose ib\nregain ib\ncritical
 > 1 session tables n s b m
 ok\t2\t3\nok\t2\t3\nok\t2\t3\nok\t1\t3\nok\t2\t3\ncritical\tib\nend
-",
-    )
-}
-
-// The component isn't absolute, or it is dead.
-#[test]
-fn an_angle_meter_is_idle_there(rt: HostRuntime) -> Result<(), Fail> {
-    all_end_so(
-        &rt,
-        rt.alloc(),
-        5,
-        b"= Two buses with a flow on the branch between them, and an angle meter.
+== An angle meter is idle there. The component isn't absolute, or it is dead.
+= Two buses with a flow on the branch between them, and an angle meter.
 + s
 switch,from,to,closed
 + b
@@ -90,18 +66,9 @@ count\tbuses\t2\ncount\tenergised\t2\ncount\tbranches\t1\ncount\tmeters\t1\ncoun
 node,source,absolute\na,0,1\nb,0,0
 > 0 report tables n s b m
 count\tbuses\t2\ncount\tenergised\t0\ncount\tbranches\t0\ncount\tmeters\t0\ncount\tneeded\t0\ncount\trank\t0\nverdict\tobservable\nend
-",
-    )
-}
-
-// A file of another form has no absolute node, and angle meters behind it are idle.
-#[test]
-fn an_angle_meter_is_idle_behind_a_file(rt: HostRuntime) -> Result<(), Fail> {
-    all_end_so(
-        &rt,
-        rt.alloc(),
-        5,
-        b"+ d
+== An angle meter is idle behind a file. A file of another form has no absolute node, and angle meters behind it are
+= idle.
++ d
 BUS DATA FOLLOWS\n   1                     3\n   2                     0\n-999\nBRANCH DATA FOLLOWS\n   1    2\n-999
 + p
 mpc.bus = [\n1 3;\n2 1;\n];\nmpc.branch = [\n1 2 0 0 0 0 0 0 0 0 1;\n];
@@ -123,17 +90,8 @@ meter,kind,at,inservice\nf1,flow,L1,1
 candidate,kind,at,price\nc1,angle,2,7\nc2,angle,L1,4
 > 3 place cdf d m c
 fault\tcandidates\t2\t11\tUnknownPlace
-",
-    )
-}
-
-#[test]
-fn faults_of_the_column_absolute_are_printed(rt: HostRuntime) -> Result<(), Fail> {
-    all_end_so(
-        &rt,
-        rt.alloc(),
-        14,
-        b"= The same fault is met by a report and by `topology`.
+== Faults of the column absolute are printed.
+= The same fault is met by a report and by `topology`.
 + s
 switch,from,to,closed
 + b
@@ -182,34 +140,15 @@ node,source,absolute\na,1,0\na,1,1
 fault\tnodes\t2\t9\tNameTwice
 > 3 report tables n s b m
 fault\tnodes\t2\t9\tNameTwice
-",
-    )
-}
-
-// Of a switch table the column is passed over, however often it is there.
-#[test]
-fn marked_nodes_have_their_buses(rt: HostRuntime) -> Result<(), Fail> {
-    all_end_so(
-        &rt,
-        rt.alloc(),
-        1,
-        b"+ n
+== Marked nodes have their buses. Of a switch table the column is passed over, however often it is there.
++ n
 node,absolute,source\na,1,1\nb,1,0\nc,0,0
 + s
 absolute,switch,from,to,closed,absolute\n2,S1,a,c,1
 > 0 topology n s
 node\ta\ta\nnode\tb\tb\nnode\tc\ta\ncount\tbuses\t2\nend
-",
-    )
-}
-
-#[test]
-fn faults_of_the_kind_angle_are_printed(rt: HostRuntime) -> Result<(), Fail> {
-    all_end_so(
-        &rt,
-        rt.alloc(),
-        3,
-        b"+ n
+== Faults of the kind angle are printed.
++ n
 node,absolute,source\na,0,1\nb,0,0\nc,0,0\nd,0,0
 + s
 switch,from,to,closed
@@ -227,19 +166,9 @@ fault\tmeters\t1\t7\tBadKind
 meter,kind,at,inservice\ng1,Angle,a,2
 > 3 report tables n s b m
 fault\tmeters\t1\t6\tBadFlag
-",
-    )
-}
-
-// In a pair of an angle item the branch is `angle` and nothing else. In one of a flow it is the name of a branch, which may be
-// `angle` too.
-#[test]
-fn branch_words_of_pairs_are_read(rt: HostRuntime) -> Result<(), Fail> {
-    all_end_so(
-        &rt,
-        rt.alloc(),
-        12,
-        b"= Two buses with a flow meter on the branch between them, an idle angle meter and an idle angle candidate.
+== Branch words of pairs are read. In a pair of an angle item the branch is `angle` and nothing else. In one of a flow
+= it is the name of a branch, which may be `angle` too.
+= Two buses with a flow meter on the branch between them, an idle angle meter and an idle angle candidate.
 + n
 node,source\na,1\nb,0
 + s
@@ -303,6 +232,9 @@ flaw\t1\t1\tUnknownName
 tree\ta\npair\tmeter\tg1\tangle\nend
 > 1 verify tables n s b m with c cert
 flaw\t1\t3\tNotInside
-",
-    )
+";
+
+#[test]
+fn angle_meters(rt: HostRuntime) -> Result<(), Fail> {
+    all_end_so(&rt, rt.alloc(), 44, CASES)
 }

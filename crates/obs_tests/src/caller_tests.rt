@@ -216,50 +216,70 @@ fn finds_critical<L: Ledger>(
 // Two flows on the first branch, and the injection.
 const TOUCHES: [Touch; 3] = [Touch::Edge(0), Touch::Edge(0), Touch::Star(1)];
 
-fn critical_of_a_row<L: Ledger>(alloc: Global, blank: Blank) -> Result<bool, Fail>
+fn critical_of_a_row<L: Ledger>(alloc: Global, blank: Blank) -> bool
     requires name { blank.name ≡ L.name }
     requires parts { blank.parts ≡ L.parts }
     requires some { 0 < L.parts }
 {
     let mut steps = Steps::<L>::begin(blank);
-    let mut g = Graph::make(alloc, 4, 3)?;
+    let Ok(mut g) = Graph::make(alloc, 4, 3) else {
+        return false;
+    };
     g.refill(4, &ROW);
-    let mut ms = Meters::make(alloc, 3)?;
+    let Ok(mut ms) = Meters::make(alloc, 3) else {
+        return false;
+    };
     ms.refill(&TOUCHES);
-    let mut a = Assignment::make(alloc, 3, 3, 4)?;
-    let mut work = Work::make(alloc, 3, 3, 4)?;
-    let mut list = CriticalWork::make(alloc, 3)?;
-    Ok(finds_critical(&g, &ms, &mut a, &mut work, &mut list, &mut steps))
+    let Ok(mut a) = Assignment::make(alloc, 3, 3, 4) else {
+        return false;
+    };
+    let Ok(mut work) = Work::make(alloc, 3, 3, 4) else {
+        return false;
+    };
+    let Ok(mut list) = CriticalWork::make(alloc, 3) else {
+        return false;
+    };
+    finds_critical(&g, &ms, &mut a, &mut work, &mut list, &mut steps)
 }
 
-fn islands_of_a_row<L: Ledger>(alloc: Global, blank: Blank) -> Result<bool, Fail>
+fn islands_of_a_row<L: Ledger>(alloc: Global, blank: Blank) -> bool
     requires name { blank.name ≡ L.name }
     requires parts { blank.parts ≡ L.parts }
     requires some { 0 < L.parts }
 {
     let mut steps = Steps::<L>::begin(blank);
-    let mut g = Graph::make(alloc, 4, 3)?;
+    let Ok(mut g) = Graph::make(alloc, 4, 3) else {
+        return false;
+    };
     g.refill(4, &ROW);
-    let mut ms = Meters::make(alloc, 3)?;
+    let Ok(mut ms) = Meters::make(alloc, 3) else {
+        return false;
+    };
     ms.refill(&TOUCHES);
-    let mut named = IslandWork::make(alloc, 3, 3, 4)?;
+    let Ok(mut named) = IslandWork::make(alloc, 3, 3, 4) else {
+        return false;
+    };
     find_islands(&g, &ms, &mut named, &mut steps);
     let first = named.firsts() == [0, 0, 0, 3].as_slice();
     // with one flow meter alone, the same work finds what that shows
     ms.refill(&[Touch::Edge(2)]);
-    Ok(first && islands(&g, &ms, &mut named, &mut steps) == [0, 1, 2, 2].as_slice())
+    first && islands(&g, &ms, &mut named, &mut steps) == [0, 1, 2, 2].as_slice()
 }
 
 // The plan of the same row with three candidates.
-fn plan_of_a_row<L: Ledger>(alloc: Global, blank: Blank) -> Result<bool, Fail>
+fn plan_of_a_row<L: Ledger>(alloc: Global, blank: Blank) -> bool
     requires name { blank.name ≡ L.name }
     requires parts { blank.parts ≡ L.parts }
     requires some { 0 < L.parts }
 {
     let mut steps = Steps::<L>::begin(blank);
-    let mut g = Graph::make(alloc, 4, 3)?;
+    let Ok(mut g) = Graph::make(alloc, 4, 3) else {
+        return false;
+    };
     g.refill(4, &ROW);
-    let mut offered = Meters::make(alloc, 6)?;
+    let Ok(mut offered) = Meters::make(alloc, 6) else {
+        return false;
+    };
     offered.refill(&[
         Touch::Edge(0),
         Touch::Edge(0),
@@ -268,18 +288,26 @@ fn plan_of_a_row<L: Ledger>(alloc: Global, blank: Blank) -> Result<bool, Fail>
         Touch::Star(2),
         Touch::Edge(2),
     ]);
-    let mut work = PlaceWork::make(alloc, 6, 3, 4)?;
+    let Ok(mut work) = PlaceWork::make(alloc, 6, 3, 4) else {
+        return false;
+    };
     let found = place(&g, &offered, 3, &[0, 3, 5], 3, &mut work, &mut steps);
-    Ok(is_plan(found, &[layer(4)], &[0, 1, 2, 3]))
+    is_plan(found, &[layer(4)], &[0, 1, 2, 3])
 }
 
 // The bound that the two meters of one branch show.
-fn bound_of_a_row(alloc: Global) -> Result<bool, Fail> {
-    let mut g = Graph::make(alloc, 4, 3)?;
+fn bound_of_a_row(alloc: Global) -> bool {
+    let Ok(mut g) = Graph::make(alloc, 4, 3) else {
+        return false;
+    };
     g.refill(4, &ROW);
-    let mut ms = Meters::make(alloc, 3)?;
+    let Ok(mut ms) = Meters::make(alloc, 3) else {
+        return false;
+    };
     ms.refill(&TOUCHES);
-    let mut work = CutWork::make(alloc, 3, 3, 4)?;
+    let Ok(mut work) = CutWork::make(alloc, 3, 3, 4) else {
+        return false;
+    };
     let found = bound(
         &g,
         &ms,
@@ -288,21 +316,23 @@ fn bound_of_a_row(alloc: Global) -> Result<bool, Fail> {
         3,
         &mut work,
     );
-    Ok(
-        found.inside == [0, 1].as_slice()
-            && found.rank == 1
-            && found.outside == 1
-            && found.needed == 3,
-    )
+    found.inside == [0, 1].as_slice() && found.rank == 1 && found.outside == 1 && found.needed == 3
 }
 
 #[test]
-fn searches_of_a_row(rt: HostRuntime) -> Result<(), Fail> {
-    assert!(rt; critical_of_a_row::<Brand>(rt.alloc(), Blank::new(1))?);
-    assert!(rt; islands_of_a_row::<Brand>(rt.alloc(), Blank::new(1))?);
-    assert!(rt; plan_of_a_row::<Brand>(rt.alloc(), Blank::new(1))?);
-    assert!(rt; bound_of_a_row(rt.alloc())?);
-    Ok(())
+fn searches_of_a_row(rt: HostRuntime) {
+    assert!(rt; critical_of_a_row::<Brand>(rt.alloc(), Blank::new(1)));
+    assert!(rt; islands_of_a_row::<Brand>(rt.alloc(), Blank::new(1)));
+    assert!(rt; plan_of_a_row::<Brand>(rt.alloc(), Blank::new(1)));
+    assert!(rt; bound_of_a_row(rt.alloc()));
+}
+
+fn are_printed(output: &mut MemSink) -> bool {
+    print_word(output, true, b"count").is_ok()
+        && print_word(output, false, b"buses").is_ok()
+        && print_number(output, 20).is_ok()
+        && print_end(output).is_ok()
+        && output.written() == b"count\tbuses\t20\n".as_slice()
 }
 
 #[test]
@@ -310,11 +340,7 @@ fn words_numbers_and_ends(rt: HostRuntime) -> Result<(), Fail> {
     let mut output = MemSink::with_room(rt.alloc(), 100, 3, Vec::new(rt.alloc()))
         .ok()
         .ok_or("no memory")?;
-    assert!(rt; print_word(&mut output, true, b"count").is_ok());
-    assert!(rt; print_word(&mut output, false, b"buses").is_ok());
-    assert!(rt; print_number(&mut output, 20).is_ok());
-    assert!(rt; print_end(&mut output).is_ok());
-    assert!(rt; output.written() == b"count\tbuses\t20\n".as_slice());
+    assert!(rt; are_printed(&mut output));
     Ok(())
 }
 

@@ -1,4 +1,5 @@
 // Files that are read, and the first fault of those that are no case.
+use crate::rows::{has_branch, has_node};
 use crate::scripts::{all_end_so, front};
 use obs_case::Case;
 use obs_case_csv::{RowFault, Table, TableFault};
@@ -105,25 +106,6 @@ fn end_of_parts(alloc: Global, parts: &[&[u8]]) -> Result<Option<CdfEnd>, Fail> 
     Ok(end_of(alloc, file.as_slice()))
 }
 
-fn has_node(case: &Case, at: usize, name: &[u8], source: bool) -> bool {
-    match case.nodes().get(at) {
-        Some(node) => node.name.bytes() == name && node.source == source,
-        None => false,
-    }
-}
-
-fn has_branch(case: &Case, at: usize, name: &[u8], from: u32, to: u32) -> bool {
-    match case.branches().get(at) {
-        Some(branch) => {
-            branch.name.bytes() == name
-                && branch.from == from
-                && branch.to == to
-                && branch.inservice
-        }
-        None => false,
-    }
-}
-
 fn has_sizes(case: &Case, nodes: usize, branches: usize, meters: usize) -> bool {
     case.nodes().len() == nodes
         && case.switches().is_empty()
@@ -137,9 +119,9 @@ fn has_usual_nodes(case: &Case) -> bool {
 }
 
 fn has_usual_branches(case: &Case) -> bool {
-    has_branch(case, 0, b"L1", 0, 1)
-        && has_branch(case, 9, b"L10", 4, 5)
-        && has_branch(case, 19, b"L20", 12, 13)
+    has_branch(case, 0, b"L1", (0, 1), true)
+        && has_branch(case, 9, b"L10", (4, 5), true)
+        && has_branch(case, 19, b"L20", (12, 13), true)
 }
 
 fn is_usual_case(alloc: Global) -> bool {
@@ -159,8 +141,8 @@ fn usual_case(rt: HostRuntime) {
 fn has_full_rows(case: &Case) -> bool {
     has_node(case, 0, b"1", true)
         && has_node(case, 1, b"7", false)
-        && has_branch(case, 0, b"L1", 1, 0)
-        && has_branch(case, 1, b"L2", 1, 1)
+        && has_branch(case, 0, b"L1", (1, 0), true)
+        && has_branch(case, 1, b"L2", (1, 1), true)
 }
 
 fn is_full_case(alloc: Global) -> bool {
@@ -189,14 +171,8 @@ fn fronts_of_a_file(rt: HostRuntime) {
     }
 }
 
-// Files with one fault, or with two of which the first counts.
-#[test]
-fn bus_faults(rt: HostRuntime) -> Result<(), Fail> {
-    all_end_so(
-        &rt,
-        rt.alloc(),
-        14,
-        b"+ m
+const CASES: &[u8] = b"== Bus faults. Files with one fault, or with two of which the first counts.
++ m
 meter,kind,at,inservice
 + c
  BUS DATA\n-999
@@ -254,19 +230,9 @@ fault\tcdf\t2\t6\tBadType
 BUS DATA\n   1                     3\n   1                     9
 > 3 session cdf c m
 fault\tcdf\t3\t6\tBadType
-",
-    )
-}
-
-// Branch lines after two buses, and their fault. The first bus is `12345`, of which four columns are read. Without a fault the case is
-// short.
-#[test]
-fn branch_faults(rt: HostRuntime) -> Result<(), Fail> {
-    all_end_so(
-        &rt,
-        rt.alloc(),
-        7,
-        b"+ m
+== Branch faults. Branch lines after two buses, and their fault. The first bus is `12345`, of which four columns are
+= read. Without a fault the case is short.
++ m
 meter,kind,at,inservice
 + c
 BUS DATA\n12345                    3\n   0                     0\n-999\nBRANCH DATA\n1234    0\n-999
@@ -294,8 +260,11 @@ fault\tcdf\t8\t8\tUnknownBus
 BUS DATA\n12345                    3\n   0                     0\n-999\nBRANCH DATA\n   0    0\n   0    0
 > 3 session cdf c m
 fault\tcdf\t0\t4\tBranchSectionOpen
-",
-    )
+";
+
+#[test]
+fn faults_of_files(rt: HostRuntime) -> Result<(), Fail> {
+    all_end_so(&rt, rt.alloc(), 21, CASES)
 }
 
 // What follows 20,000 branch lines, of which the first is line 5, and the fault.

@@ -57,13 +57,8 @@ fn nodes_are_marked_under_the_column_absolute(rt: HostRuntime) {
     }
 }
 
-#[test]
-fn faults_of_the_column_absolute(rt: HostRuntime) -> Result<(), Fail> {
-    all_end_so(
-        &rt,
-        rt.alloc(),
-        14,
-        b"+ n
+const CASES: &[u8] = b"== Faults of the column absolute.
++ n
 node,source\na,1\nb,0\nc,0\nd,0
 + s
 switch,from,to,closed
@@ -129,18 +124,9 @@ fault\tnodes\t2\t6\tBadFlag
 node,source,absolute\na,1,0\na,0,1
 > 3 place tables n s b m c
 fault\tnodes\t2\t9\tNameTwice
-",
-    )
-}
-
-// The other tables have no such column: theirs is passed over, and a session begins, of a case that is short.
-#[test]
-fn only_nodes_have_the_column_absolute(rt: HostRuntime) -> Result<(), Fail> {
-    all_end_so(
-        &rt,
-        rt.alloc(),
-        4,
-        b"+ n
+== Only nodes have the column absolute. The other tables have no such column: theirs is passed over, and a session
+= begins, of a case that is short.
++ n
 node,source\na,1\nb,0\nc,0\nd,0
 + s
 switch,from,to,closed
@@ -168,8 +154,44 @@ meter,kind,at,inservice\nf1,flow,L1,1\nib,injection,b,1
 + c
 candidate,kind,at,price,absolute\nc1,angle,a,7,2
 > 1 session tables n s b m with c
-",
-    )
+== Faults of angles.
++ n
+node,source\na,1\nb,0\nc,0\nd,0
++ s
+switch,from,to,closed
++ b
+branch,from,to,inservice\nL1,a,b,1\nL2,b,c,1\nL3,c,d,1
++ m
+meter,kind,at,inservice\nf1,flow,L1,1\nib,injection,b,1
++ c
+candidate,kind,at,price\np1,flow,L2,0\np2,zero,c,1000000000
++ m
+meter,kind,at,inservice\ng1,angle,L1,1
+> 3 place tables n s b m c
+fault\tmeters\t1\t11\tUnknownPlace
++ m
+meter,kind,at,inservice\ng1,Angle,a,1
+> 3 place tables n s b m c
+fault\tmeters\t1\t7\tBadKind
++ m
+meter,kind,at,inservice\ng1,angle ,a,1
+> 3 place tables n s b m c
+fault\tmeters\t1\t7\tBadKind
++ m
+meter,kind,at,inservice\nf1,flow,L1,1\nib,injection,b,1
++ c
+candidate,kind,at,price\nc1,angle,L1,7
+> 3 place tables n s b m c
+fault\tcandidates\t1\t11\tUnknownPlace
++ c
+candidate,kind,at,price\nc1,angles,a,7
+> 3 place tables n s b m c
+fault\tcandidates\t1\t7\tBadKind
+";
+
+#[test]
+fn cases_of_the_column_absolute(rt: HostRuntime) -> Result<(), Fail> {
+    all_end_so(&rt, rt.alloc(), 23, CASES)
 }
 
 // Whether a case has one meter, out of service, and it measures the angle at the second node.
@@ -210,46 +232,4 @@ fn are_angles_read(alloc: Global) -> bool {
 #[test]
 fn angles_stand_at_nodes(rt: HostRuntime) {
     assert!(rt; are_angles_read(rt.alloc()));
-}
-
-#[test]
-fn faults_of_angles(rt: HostRuntime) -> Result<(), Fail> {
-    all_end_so(
-        &rt,
-        rt.alloc(),
-        5,
-        b"+ n
-node,source\na,1\nb,0\nc,0\nd,0
-+ s
-switch,from,to,closed
-+ b
-branch,from,to,inservice\nL1,a,b,1\nL2,b,c,1\nL3,c,d,1
-+ m
-meter,kind,at,inservice\nf1,flow,L1,1\nib,injection,b,1
-+ c
-candidate,kind,at,price\np1,flow,L2,0\np2,zero,c,1000000000
-+ m
-meter,kind,at,inservice\ng1,angle,L1,1
-> 3 place tables n s b m c
-fault\tmeters\t1\t11\tUnknownPlace
-+ m
-meter,kind,at,inservice\ng1,Angle,a,1
-> 3 place tables n s b m c
-fault\tmeters\t1\t7\tBadKind
-+ m
-meter,kind,at,inservice\ng1,angle ,a,1
-> 3 place tables n s b m c
-fault\tmeters\t1\t7\tBadKind
-+ m
-meter,kind,at,inservice\nf1,flow,L1,1\nib,injection,b,1
-+ c
-candidate,kind,at,price\nc1,angle,L1,7
-> 3 place tables n s b m c
-fault\tcandidates\t1\t11\tUnknownPlace
-+ c
-candidate,kind,at,price\nc1,angles,a,7
-> 3 place tables n s b m c
-fault\tcandidates\t1\t7\tBadKind
-",
-    )
 }

@@ -3,13 +3,8 @@
 use crate::scripts::all_end_so;
 use std::test::Fail;
 
-#[test]
-fn each_fault_comes_where_it_is(rt: HostRuntime) -> Result<(), Fail> {
-    all_end_so(
-        &rt,
-        rt.alloc(),
-        20,
-        b"+ n
+const CASES: &[u8] = b"== Each fault comes where it is.
++ n
 node,source\na,1\nb,0\nc,0\nd,0
 + s
 switch,from,to,closed
@@ -106,18 +101,9 @@ fault\tcandidates\t1\t8\tBadPrice
 candidate,kind,at,price\np,flow,a,5
 > 3 place tables n s b m c
 fault\tcandidates\t1\t11\tUnknownPlace
-",
-    )
-}
-
-// The fault of a table is met in its one row, or in its second after a good one.
-#[test]
-fn each_fault_of_a_row_comes_for_each_table(rt: HostRuntime) -> Result<(), Fail> {
-    all_end_so(
-        &rt,
-        rt.alloc(),
-        16,
-        b"+ n
+== Each fault of a row comes for each table. The fault of a table is met in its one row, or in its second after a good
+= one.
++ n
 node,source\na,1\nb,0\nc,0\nd,0
 + s
 switch,from,to,closed
@@ -218,18 +204,8 @@ candidate,kind,at,price\np1,flow,L2,0\np2,zero,c,1000000000
 meter,kind,at,inservice\ni1,injection,z,1
 > 3 place tables n s b m c
 fault\tmeters\t1\t11\tUnknownPlace
-",
-    )
-}
-
-// Each of these tables has a fault.
-#[test]
-fn the_first_table_with_a_fault_is_named(rt: HostRuntime) -> Result<(), Fail> {
-    all_end_so(
-        &rt,
-        rt.alloc(),
-        2,
-        b"+ n
+== The first table with a fault is named. Each of these tables has a fault.
++ n
 node,source\na,1\na,1
 + s
 switch,from,to
@@ -243,6 +219,9 @@ fault\tnodes\t2\t9\tNameTwice
 node,source\na,1\nb,0\nc,0\nd,0
 > 3 place tables n s b m c
 fault\tswitches\t0\t2\tColumnMissing
-",
-    )
+";
+
+#[test]
+fn faults_of_five_tables(rt: HostRuntime) -> Result<(), Fail> {
+    all_end_so(&rt, rt.alloc(), 38, CASES)
 }

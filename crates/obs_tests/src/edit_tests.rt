@@ -43,38 +43,79 @@ fn session(alloc: Global, grid: &Grid, changed: [&[u8]; 3], input: &[u8]) -> Res
     outcome(alloc, &SESSION, &files, taking(input, 4096))
 }
 
-// The table with the flag of a row turned. Each line ends with its flag.
-fn turned(alloc: Global, bytes: &[u8], row: usize) -> Result<Vec<u8>, Fail> {
-    let mut text = Vec::new(alloc);
+// Adds a line, with its flag turned where that is wanted.
+fn add_line(text: &mut Vec<u8>, line: &[u8], is_turned: bool) -> bool {
+    let (front, flag) = if !is_turned {
+        (line, b"\n".as_slice())
+    } else if let Some(front) = line.strip_suffix(b"0".as_slice()) {
+        (front, b"1\n".as_slice())
+    } else if let Some(front) = line.strip_suffix(b"1".as_slice()) {
+        (front, b"0\n".as_slice())
+    } else {
+        return false;
+    };
+    text.extend_from_slice(front).is_ok() && text.extend_from_slice(flag).is_ok()
+}
+
+// Adds a table with the flag of a row turned. Each line ends with its flag.
+fn add_turned(text: &mut Vec<u8>, bytes: &[u8], row: usize) -> bool {
     let mut at = 0_usize;
     for line in lines(bytes) {
-        if at == row.saturating_add(1) {
-            let front = line
-                .strip_suffix(b"0".as_slice())
-                .or(line.strip_suffix(b"1".as_slice()))
-                .ok_or("no flag")?;
-            text.extend_from_slice(front)?;
-            text.extend_from_slice(if line.ends_with(b"0") { b"1" } else { b"0" })?;
-        } else {
-            text.extend_from_slice(line)?;
+        if !add_line(text, line, at == row.saturating_add(1)) {
+            return false;
         }
-        text.extend_from_slice(b"\n")?;
         at = at.wrapping_add(1);
     }
-    Ok(text)
+    true
 }
 
-fn turn(input: &mut Vec<u8>, word: &[u8], letter: &[u8], row: usize) -> Result<(), Fail> {
+fn turned(alloc: Global, bytes: &[u8], row: usize) -> Result<Vec<u8>, Fail> {
+    let mut text = Vec::new(alloc);
+    if add_turned(&mut text, bytes, row) {
+        Ok(text)
+    } else {
+        Err(Fail::from("no flag, or no memory"))
+    }
+}
+
+fn turn(input: &mut Vec<u8>, word: &[u8], letter: &[u8], row: usize) -> bool {
     let mut digits = Digits::new();
-    input.extend_from_slice(word)?;
-    input.extend_from_slice(letter)?;
-    input.extend_from_slice(digits.text(row as u64))?;
-    input.extend_from_slice(b"\n")?;
-    Ok(())
+    input.extend_from_slice(word).is_ok()
+        && input.extend_from_slice(letter).is_ok()
+        && input.extend_from_slice(digits.text(row as u64)).is_ok()
+        && input.extend_from_slice(b"\n").is_ok()
 }
 
-// What a session that begins with a row's flag turned answers to the edit that turned it, which leaves its tables as
-// they are.
+// The edit that turns a row's flag.
+fn edit(alloc: Global, word: &[u8], letter: &[u8], row: usize) -> Result<Vec<u8>, Fail> {
+    let mut line = Vec::new(alloc);
+    if turn(&mut line, word, letter, row) {
+        Ok(line)
+    } else {
+        Err(Fail::from("no memory"))
+    }
+}
+
+// What a session that begins with a row's flag turned answers to this edit.
+fn answer_turned(
+    alloc: Global,
+    grid: &Grid,
+    tables: [&[u8]; 3],
+    table: usize,
+    row: usize,
+    edit: &[u8],
+) -> Result<Ended, Fail> {
+    let [switches, branches, meters] = tables;
+    let now = turned(alloc, tables.get(table).ok_or("no table")?, row)?;
+    let changed: [&[u8]; 3] = match table {
+        0 => [&now, branches, meters],
+        1 => [switches, &now, meters],
+        _ => [switches, branches, &now],
+    };
+    session(alloc, grid, changed, edit)
+}
+
+// What it answers to the edit that turned it, which leaves its tables as they are.
 fn answer_anew(
     alloc: Global,
     grid: &Grid,
@@ -82,27 +123,30 @@ fn answer_anew(
     table: usize,
     row: usize,
 ) -> Result<Ended, Fail> {
-    let [switches, branches, meters] = tables;
     let words = *TURNS.get(table).ok_or("no table")?;
-    let mut line = Vec::new(alloc);
-    turn(&mut line, words.forth, words.letter, row)?;
-    let now = turned(alloc, tables.get(table).ok_or("no table")?, row)?;
-    let changed: [&[u8]; 3] = match table {
-        0 => [&now, branches, meters],
-        1 => [switches, &now, meters],
-        _ => [switches, branches, &now],
-    };
-    session(alloc, grid, changed, &line)
+    let line = edit(alloc, words.forth, words.letter, row)?;
+    answer_turned(alloc, grid, tables, table, row, &line)
 }
 
-// The edits that turn each row's flag and turn it back.
+// Adds the edits that turn each row's flag and turn it back.
+fn add_turns(input: &mut Vec<u8>, words: Words, rows: usize) -> bool {
+    for row in 0..rows {
+        if !(turn(input, words.forth, words.letter, row)
+            && turn(input, words.back, words.letter, row))
+        {
+            return false;
+        }
+    }
+    true
+}
+
 fn turns(alloc: Global, words: Words, rows: usize) -> Result<Vec<u8>, Fail> {
     let mut input = Vec::new(alloc);
-    for row in 0..rows {
-        turn(&mut input, words.forth, words.letter, row)?;
-        turn(&mut input, words.back, words.letter, row)?;
+    if add_turns(&mut input, words, rows) {
+        Ok(input)
+    } else {
+        Err(Fail::from("no memory"))
     }
-    Ok(input)
 }
 
 fn flagged(grid: &Grid) -> [&[u8]; 3] {
@@ -143,6 +187,20 @@ fn rows_are_anew(
     Ok(answers.next().is_none())
 }
 
+// What a session answers to an edit that changes nothing: of each row's flag that was turned back.
+fn answers_turned_back(
+    alloc: Global,
+    grid: &Grid,
+    table: usize,
+    rows: usize,
+    each: usize,
+    found: &[u8],
+) -> Result<bool, Fail> {
+    let first = session(alloc, grid, flagged(grid), b"regain m0\n")?;
+    let line = lines(&first.text).next().ok_or("no answer")?;
+    rows_are_anew(alloc, grid, table, rows, each, found, line)
+}
+
 // Each row's flag is turned and turned back in one session. Back it answers as at first, and forth, of each so many
 // rows, as a session that begins with the tables as they are then.
 fn answers_as_anew(
@@ -155,9 +213,7 @@ fn answers_as_anew(
 ) -> Result<(), Fail> {
     let input = turns(alloc, *TURNS.get(table).ok_or("no table")?, rows)?;
     let found = session(alloc, grid, flagged(grid), &input)?;
-    let first = session(alloc, grid, flagged(grid), b"regain m0\n")?;
-    let line = lines(&first.text).next().ok_or("no answer")?;
-    assert!(rt; rows_are_anew(alloc, grid, table, rows, each, &found.text, line)?);
+    assert!(rt; answers_turned_back(alloc, grid, table, rows, each, &found.text)?);
     assert!(rt; found.status == Status::Done || found.status == Status::Short);
     Ok(())
 }
@@ -183,6 +239,85 @@ fn is_set(bytes: &[u8], row: usize) -> bool {
     false
 }
 
+// The table behind the nodes that has this number.
+fn table_of<'a>(tables: Tables<'a>, table: usize) -> &'a [u8] {
+    match table {
+        0 => tables.switches,
+        1 => tables.branches,
+        _ => tables.meters,
+    }
+}
+
+// The tables with this one of that number.
+fn with_table<'a>(tables: Tables<'a>, table: usize, now: &'a [u8]) -> Tables<'a> {
+    match table {
+        0 => Tables {
+            switches: now,
+            ..tables
+        },
+        1 => Tables {
+            branches: now,
+            ..tables
+        },
+        _ => Tables {
+            meters: now,
+            ..tables
+        },
+    }
+}
+
+// The words that turn the flag of a row and turn it back, as it is set.
+fn words_of(words: Words, bytes: &[u8], table: usize, row: usize) -> Words {
+    if is_set(bytes, row) == (table != 0) {
+        words
+    } else {
+        Words {
+            forth: words.back,
+            back: words.forth,
+            ..words
+        }
+    }
+}
+
+// After this edit, which turns the flag of a row, all answers are those of a session that begins with it so.
+fn answers_turned(
+    rt: &impl Abort,
+    alloc: Global,
+    tables: Tables<'_>,
+    table: usize,
+    row: usize,
+    edit: &[u8],
+) -> Result<(), Fail> {
+    let now = turned(alloc, table_of(tables, table), row)?;
+    answers_anew(rt, alloc, tables, edit, with_table(tables, table, &now))
+}
+
+fn row_turns_as_anew(
+    rt: &impl Abort,
+    alloc: Global,
+    tables: Tables<'_>,
+    table: usize,
+    row: usize,
+    words: Words,
+) -> Result<(), Fail> {
+    let words = words_of(words, table_of(tables, table), table, row);
+    let line = edit(alloc, words.forth, words.letter, row)?;
+    answers_turned(rt, alloc, tables, table, row, &line)
+}
+
+// Adds the edits that turn the flag of each row of a table forth and back.
+fn add_all(all: &mut Vec<u8>, words: Words, bytes: &[u8], table: usize, rows: usize) -> bool {
+    for row in 0..rows {
+        let words = words_of(words, bytes, table, row);
+        if !(turn(all, words.forth, words.letter, row)
+            && turn(all, words.back, words.letter, row))
+        {
+            return false;
+        }
+    }
+    true
+}
+
 // After each flag of a table was turned, all answers are those of a session that begins with it so, and after all
 // were turned forth and back, those of the tables as they were.
 fn turns_as_anew(
@@ -193,40 +328,11 @@ fn turns_as_anew(
     rows: usize,
 ) -> Result<(), Fail> {
     let words = *TURNS.get(table).ok_or("no table")?;
-    let bytes = match table {
-        0 => tables.switches,
-        1 => tables.branches,
-        _ => tables.meters,
-    };
-    let mut all = Vec::new(alloc);
     for row in 0..rows {
-        let forth = is_set(bytes, row) == (table != 0);
-        let (forth, back) = if forth {
-            (words.forth, words.back)
-        } else {
-            (words.back, words.forth)
-        };
-        let mut edits = Vec::new(alloc);
-        turn(&mut edits, forth, words.letter, row)?;
-        turn(&mut all, forth, words.letter, row)?;
-        turn(&mut all, back, words.letter, row)?;
-        let now = turned(alloc, bytes, row)?;
-        let changed = match table {
-            0 => Tables {
-                switches: &now,
-                ..tables
-            },
-            1 => Tables {
-                branches: &now,
-                ..tables
-            },
-            _ => Tables {
-                meters: &now,
-                ..tables
-            },
-        };
-        answers_anew(rt, alloc, tables, &edits, changed)?;
+        row_turns_as_anew(rt, alloc, tables, table, row, words)?;
     }
+    let mut all = Vec::new(alloc);
+    assert!(rt; add_all(&mut all, words, table_of(tables, table), table, rows));
     answers_anew(rt, alloc, tables, &all, tables)
 }
 

@@ -64,6 +64,8 @@ mod reference_tests;
 #[cfg(test)]
 mod report_tests;
 #[cfg(test)]
+mod rows;
+#[cfg(test)]
 mod scripts;
 #[cfg(test)]
 mod session_tests;

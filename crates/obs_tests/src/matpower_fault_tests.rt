@@ -3,14 +3,10 @@
 use crate::scripts::all_end_so;
 use std::test::Fail;
 
-// Where tables start and end. Without a fault there is no branch, or one from a bus to itself, and nothing is needed.
-#[test]
-fn places_of_tables(rt: HostRuntime) -> Result<(), Fail> {
-    all_end_so(
-        &rt,
-        rt.alloc(),
-        19,
-        b"+ m
+const CASES: &[u8] =
+    b"== Places of tables. Where tables start and end. Without a fault there is no branch, or one from a bus to itself, and
+= nothing is needed.
++ m
 meter,kind,at,inservice
 + c
 > 3 session matpower c m
@@ -84,18 +80,8 @@ mpc.branch=[1 1 0 0 0 0 0 0 0 0 1]\n \t mpc.bus\t= \t[1 3]x
 + unended c
 mpc.bus_name=[9 9];\nmpc.bus=[% ]\n1 3% ]\n];\nmpc.bus=[x\nmpc.branch=[]
 > 0 session matpower c m
-",
-    )
-}
-
-// Bus rows of a file whose branch table has no rows, and their fault.
-#[test]
-fn bus_rows(rt: HostRuntime) -> Result<(), Fail> {
-    all_end_so(
-        &rt,
-        rt.alloc(),
-        20,
-        b"+ m
+== Bus rows. Bus rows of a file whose branch table has no rows, and their fault.
++ m
 meter,kind,at,inservice
 + unended c
 mpc.bus=[1 3]\nmpc.branch=[]
@@ -174,18 +160,9 @@ fault\tmatpower\t1\t10\tShortRow
 mpc.bus=[1 3\n2...\n1]\nmpc.branch=[]
 > 3 session matpower c m
 fault\tmatpower\t2\t10\tShortRow
-",
-    )
-}
-
-// Branch rows between two buses, and their fault; the table starts on line 2. The first branch is in service, and the case short.
-#[test]
-fn branch_rows(rt: HostRuntime) -> Result<(), Fail> {
-    all_end_so(
-        &rt,
-        rt.alloc(),
-        11,
-        b"+ m
+== Branch rows. Branch rows between two buses, and their fault; the table starts on line 2. The first branch is in
+= service, and the case short.
++ m
 meter,kind,at,inservice
 + unended c
 mpc.bus=[1 3;7 1]\nmpc.branch=[1 7 0 0 0 0 0 0 0 0 1]
@@ -229,6 +206,9 @@ fault\tmatpower\t3\t11\tBadStatus
 mpc.bus=[1 3;7 1]\nmpc.branch=[1 7 0 0 0 0 0 0 0 1 x]
 > 3 session matpower c m
 fault\tmatpower\t2\t11\tBadStatus
-",
-    )
+";
+
+#[test]
+fn faults_of_matpower_files(rt: HostRuntime) -> Result<(), Fail> {
+    all_end_so(&rt, rt.alloc(), 50, CASES)
 }

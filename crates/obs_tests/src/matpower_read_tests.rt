@@ -1,5 +1,6 @@
 // Files that are read, and the first fault of those that aren't a case.
 use crate::matpower_tests::{three, with_tabs};
+use crate::rows::{has_branch, has_node};
 use crate::scripts::front;
 use obs_case::Case;
 use obs_case_csv::{RowFault, Table, TableFault};
@@ -23,25 +24,6 @@ fn end_with(
 // How a file ends whose meters are fine.
 fn end_of(alloc: Global, matpower: &[u8]) -> Option<MatEnd> {
     end_with(alloc, matpower, b"meter,kind,at,inservice\n", None)
-}
-
-fn has_node(case: &Case, at: usize, name: &[u8], source: bool) -> bool {
-    match case.nodes().get(at) {
-        Some(node) => node.name.bytes() == name && node.source == source,
-        None => false,
-    }
-}
-
-fn has_branch(case: &Case, at: usize, name: &[u8], ends: (u32, u32), inservice: bool) -> bool {
-    match case.branches().get(at) {
-        Some(branch) => {
-            branch.name.bytes() == name
-                && branch.from == ends.0
-                && branch.to == ends.1
-                && branch.inservice == inservice
-        }
-        None => false,
-    }
 }
 
 fn has_sizes(case: &Case) -> bool {

@@ -8,13 +8,8 @@ use std::test::Fail;
 
 const TABLES: [&str; 7] = ["place", "tables", "n", "s", "b", "m", "c"];
 
-#[test]
-fn placements_of_a_path(rt: HostRuntime) -> Result<(), Fail> {
-    all_end_so(
-        &rt,
-        rt.alloc(),
-        4,
-        b"= The path, whose cheapest plan takes the candidate of price 3.
+const CASES: &[u8] = b"== Placements of a path.
+= The path, whose cheapest plan takes the candidate of price 3.
 + n
 node,source\na,1\nb,0\nc,0\nd,0
 + s
@@ -40,17 +35,8 @@ cost\t0\nchosen\tp1\npair\tmeter\tf1\tL1\npair\tmeter\tib\tL2\npair\tcandidate\t
 candidate,kind,at,price\np1,flow,L3,1000000001
 > 3 place tables n s b m c
 fault\tcandidates\t1\t8\tBadPrice
-",
-    )
-}
-
-#[test]
-fn an_observable_case_needs_no_candidate(rt: HostRuntime) -> Result<(), Fail> {
-    all_end_so(
-        &rt,
-        rt.alloc(),
-        1,
-        b"+ n
+== An observable case needs no candidate.
++ n
 node,source\na,1\nb,0\nc,0
 + s
 switch,from,to,closed
@@ -62,18 +48,8 @@ meter,kind,at,inservice\nia,injection,a,1\nf1,flow,L1,1
 candidate,kind,at,price\np1,flow,L2,9
 > 0 place tables n s b m c
 cost\t0\npair\tmeter\tia\tL3\npair\tmeter\tf1\tL1\nend
-",
-    )
-}
-
-// Two buses with a branch between them, and one meter that is to be bought.
-#[test]
-fn a_cdf_file_has_candidates_too(rt: HostRuntime) -> Result<(), Fail> {
-    all_end_so(
-        &rt,
-        rt.alloc(),
-        1,
-        b"+ d
+== A cdf file has candidates too. Two buses with a branch between them, and one meter that is to be bought.
++ d
 BUS DATA FOLLOWS\n   1                     3\n   2                     0\n-999\nBRANCH DATA FOLLOWS\n   1    2\n-999
 + m
 meter,kind,at,inservice
@@ -81,17 +57,8 @@ meter,kind,at,inservice
 candidate,kind,at,price\nk1,flow,L1,20\nk2,injection,2,10
 > 0 place cdf d m c
 cost\t10\nchosen\tk2\npair\tcandidate\tk2\tL1\nlayer\t0\t10\t0\t0\nend
-",
-    )
-}
-
-#[test]
-fn faults_of_tables_behind_a_file_are_printed(rt: HostRuntime) -> Result<(), Fail> {
-    all_end_so(
-        &rt,
-        rt.alloc(),
-        4,
-        b"+ d
+== Faults of tables behind a file are printed.
++ d
 BUS DATA FOLLOWS\n   1                     3\n   2                     0\n-999\nBRANCH DATA FOLLOWS\n   1    2\n-999
 + p
 mpc.bus = [1 3; 2 1];\nmpc.branch = [1 2 0 0 0 0 0 0 0 0 1];
@@ -111,8 +78,11 @@ candidate,kind,at,price\nk1,flow,L1,1000000001
 fault\tcandidates\t1\t8\tBadPrice
 > 3 place matpower p m c
 fault\tcandidates\t1\t8\tBadPrice
-",
-    )
+";
+
+#[test]
+fn placements_of_worked_cases(rt: HostRuntime) -> Result<(), Fail> {
+    all_end_so(&rt, rt.alloc(), 10, CASES)
 }
 
 // The files of 28, 22, 52, 67 and 67 bytes are read in pieces of seven bytes, with one read more at the end of each.

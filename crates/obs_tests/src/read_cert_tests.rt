@@ -28,7 +28,7 @@ fn is_read_so(alloc: Global, bytes: &[u8], want: &[u8]) -> bool {
 }
 
 // Of a text what is wanted of some bytes, these bytes, and all behind a line feed. A bar ends each of the two.
-fn first_case(text: &[u8]) -> (&[u8], &[u8], &[u8]) {
+pub(crate) fn first_case(text: &[u8]) -> (&[u8], &[u8], &[u8]) {
     let (want, behind) = cut_at(text, b'|');
     let (bytes, rest) = cut_at(behind, b'|');
     (

@@ -107,16 +107,22 @@ pub(crate) fn told(alloc: Global, tables: Tables<'_>, edits: &[u8]) -> Result<En
     outcome(alloc, &SESSION_WITH, &files, taking(&input, 9))
 }
 
+fn claims_hold(alloc: Global, tables: Tables<'_>, claims: &[u8]) -> Result<bool, Fail> {
+    let found = ended(alloc, tables, Ask::Verify(claims))?;
+    Ok(found.status == Status::Done && found.text.starts_with(b"valid\t"))
+}
+
+fn plan_holds(alloc: Global, tables: Tables<'_>, plan: &[u8]) -> Result<bool, Fail> {
+    let found = ended(alloc, tables, Ask::VerifyWith(plan))?;
+    Ok(found.status == Status::Done && found.text.as_slice() == b"valid\t1\n".as_slice())
+}
+
 // The certificates that it prints hold, that of a placement over its candidates.
 pub(crate) fn certifies(rt: &impl Abort, alloc: Global, tables: Tables<'_>) -> Result<(), Fail> {
     let claims = ended(alloc, tables, Ask::Session(b"cert\n"))?;
-    let found = ended(alloc, tables, Ask::Verify(&claims.text))?;
-    assert!(rt; found.status == Status::Done);
-    assert!(rt; found.text.starts_with(b"valid\t"));
+    assert!(rt; claims_hold(alloc, tables, &claims.text)?);
     let placement = ended(alloc, tables, Ask::Place)?;
-    let found = ended(alloc, tables, Ask::VerifyWith(&placement.text))?;
-    assert!(rt; found.status == Status::Done);
-    assert!(rt; found.text.as_slice() == b"valid\t1\n".as_slice());
+    assert!(rt; plan_holds(alloc, tables, &placement.text)?);
     Ok(())
 }
 

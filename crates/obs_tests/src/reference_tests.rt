@@ -3,13 +3,8 @@
 use crate::scripts::all_end_so;
 use std::test::Fail;
 
-#[test]
-fn an_angle_meter_completes_a_tree(rt: HostRuntime) -> Result<(), Fail> {
-    all_end_so(
-        &rt,
-        rt.alloc(),
-        15,
-        b"= A bus with a source and a mark, and another that a flow meter ties to it; an angle meter stands at the other.
+const CASES: &[u8] = b"== An angle meter completes a tree.
+= A bus with a source and a mark, and another that a flow meter ties to it; an angle meter stands at the other.
 + n
 node,source,absolute\na,1,1\nb,0,0
 + s
@@ -84,18 +79,9 @@ tree\ta\npair\tmeter\tf1\tangle\npair\tmeter\tg1\tangle\nend
 tree\ta\npair\tmeter\tf1\tangle\npair\tmeter\tg1\tangle\nend
 > 0 verify tables n s b m cert
 valid\t1
-",
-    )
-}
-
-// Whichever node of whichever bus has the mark, it counts for the component, where that has a source.
-#[test]
-fn marked_components_need_one_more(rt: HostRuntime) -> Result<(), Fail> {
-    all_end_so(
-        &rt,
-        rt.alloc(),
-        7,
-        b"= A marked bus alone.
+== Marked components need one more. Whichever node of whichever bus has the mark, it counts for the component, where
+= that has a source.
+= A marked bus alone.
 + n
 absolute,node,source\n1,a,1
 + s
@@ -150,17 +136,8 @@ branch,from,to,inservice\nL1,a,b,1\nL2,b,c,1
 meter,kind,at,inservice\nf1,flow,L1,1\nf2,flow,L2,1
 > 1 report tables n s b m
 count\tbuses\t3\ncount\tenergised\t3\ncount\tbranches\t2\ncount\tmeters\t2\ncount\tneeded\t3\ncount\trank\t2\nverdict\tshort\nbound\ta\t0\t2\nisland\ta\ta\nisland\ta\tb\nisland\ta\tc\ncritical\tf1\ncritical\tf2\nend
-",
-    )
-}
-
-#[test]
-fn angle_meters_measure_against_the_reference(rt: HostRuntime) -> Result<(), Fail> {
-    all_end_so(
-        &rt,
-        rt.alloc(),
-        10,
-        b"= Two injections and an angle meter at one bus.
+== Angle meters measure against the reference.
+= Two injections and an angle meter at one bus.
 + n
 node,source,absolute\na,1,1\nb,0,0
 + s
@@ -236,6 +213,9 @@ meter,kind,at,inservice
 candidate,kind,at,price\nc1,angle,a,1\nc2,angle,a,2
 > 1 place tables n s b m c
 shortfall\t1\t0\ninside\tcandidate\tc1\ninside\tcandidate\tc2\nend
-",
-    )
+";
+
+#[test]
+fn reference_vertices_and_angle_branches(rt: HostRuntime) -> Result<(), Fail> {
+    all_end_so(&rt, rt.alloc(), 32, CASES)
 }

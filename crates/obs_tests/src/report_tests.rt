@@ -20,13 +20,8 @@ const PATH: [&[u8]; 5] = [b"", PATH_NODES, NO_SWITCHES, PATH_BRANCHES, PATH_METE
 const PATH_TEXT: &[u8] =
     b"count\tbuses\t4\ncount\tenergised\t4\ncount\tbranches\t3\ncount\tmeters\t3\ncount\tneeded\t3\ncount\trank\t2\nverdict\tshort\nbound\ta\t1\t1\ninside\tmeter\tf1\ninside\tmeter\tf2\nisland\ta\ta\nisland\ta\tb\nisland\ta\tc\nisland\td\td\ncritical\tib\nend\n";
 
-#[test]
-fn a_report_shows_what_falls_short(rt: HostRuntime) -> Result<(), Fail> {
-    all_end_so(
-        &rt,
-        rt.alloc(),
-        3,
-        b"= Four buses in a row, two meters on the first branch, and an injection at the second bus.
+const CASES: &[u8] = b"== A report shows what falls short.
+= Four buses in a row, two meters on the first branch, and an injection at the second bus.
 + n
 node,source\na,1\nb,0\nc,0\nd,0
 + s
@@ -55,17 +50,8 @@ branch,from,to,inservice\nL1,a,b,1\nL2,b,c,1\nL3,c,d,1\nL4,d,e,1
 meter,kind,at,inservice\nib,injection,b,1\nic,injection,c,1
 > 1 report tables n s b m
 count\tbuses\t5\ncount\tenergised\t5\ncount\tbranches\t4\ncount\tmeters\t2\ncount\tneeded\t4\ncount\trank\t2\nverdict\tshort\nbound\ta\t0\t2\nisland\ta\ta\nisland\tb\tb\nisland\tc\tc\nisland\td\td\nisland\te\te\ncritical\tib\ncritical\tic\nend
-",
-    )
-}
-
-#[test]
-fn observable_cases_have_the_good_status(rt: HostRuntime) -> Result<(), Fail> {
-    all_end_so(
-        &rt,
-        rt.alloc(),
-        6,
-        b"= Nothing is energised.
+== Observable cases have the good status.
+= Nothing is energised.
 + n
 node,source\na,0\nb,0
 + s
@@ -121,17 +107,8 @@ branch,from,to,inservice\nL1,h,d,1\nL2,b,c,1
 meter,kind,at,inservice\nf1,flow,L1,1\nf2,flow,L2,1
 > 0 report tables n s b m
 count\tbuses\t4\ncount\tenergised\t2\ncount\tbranches\t1\ncount\tmeters\t1\ncount\tneeded\t1\ncount\trank\t1\nverdict\tobservable\ntree\tb\npair\tmeter\tf2\tL2\nisland\tb\tb\nisland\tb\tc\ncritical\tf2\nend
-",
-    )
-}
-
-#[test]
-fn the_first_fault_of_four_tables_is_printed(rt: HostRuntime) -> Result<(), Fail> {
-    all_end_so(
-        &rt,
-        rt.alloc(),
-        3,
-        b"+ n
+== The first fault of four tables is printed.
++ n
 node,source\na,2
 + s
 switch,from,to,closed
@@ -152,8 +129,37 @@ fault\tmeters\t1\t11\tUnknownPlace
 meter,kind,at,inservice\nf1,flow,L1,1\nf2,flow,L1,1\nib,injection,b,1
 > 3 report tables n s b m
 fault\tnodes\t0\t1\tNoHeader
-",
-    )
+== A fault of nodes alone is printed. The other tables have headers alone.
++ n
+node,source\na,2
++ s
+switch,from,to,closed
++ b
+branch,from,to,inservice
++ m
+meter,kind,at,inservice
+> 3 report tables n s b m
+fault\tnodes\t1\t6\tBadFlag
++ n
+> 3 report tables n s b m
+fault\tnodes\t0\t1\tNoHeader
+== The short example is reported.
+= A ring of six buses, of which one is two bars with a closed coupler between them. Two meters on one line, a flow and an injection count; a meter on a line that is out of service doesn't, and neither does a meter that is.
++ n
+node,source\nAlder,1\nBirch,0\nCedar,0\nDune,0\nElm,0\nFern,0\nFern bar 2,0
++ s
+switch,from,to,closed\nFern coupler,Fern,Fern bar 2,1
++ b
+branch,from,to,inservice\nAlder-Birch,Alder,Birch,1\nBirch-Cedar,Birch,Cedar,1\nCedar-Dune,Cedar,Dune,1\nDune-Elm,Dune,Elm,1\nElm-Fern,Elm,Fern,1\nFern-Alder,Fern bar 2,Alder,1\nBirch-Elm,Birch,Elm,0
++ m
+meter,kind,at,inservice\nAlder line P,flow,Alder-Birch,1\nBirch line P,flow,Alder-Birch,1\nCedar line P,flow,Cedar-Dune,1\nElm bus P,injection,Elm,1\nBirch tie P,flow,Birch-Elm,1\nFern bus P,injection,Fern,0
+> 1 report tables n s b m
+count\tbuses\t6\ncount\tenergised\t6\ncount\tbranches\t6\ncount\tmeters\t4\ncount\tneeded\t5\ncount\trank\t3\nverdict\tshort\nbound\tAlder\t1\t2\ninside\tmeter\tAlder line P\ninside\tmeter\tBirch line P\nisland\tAlder\tAlder\nisland\tAlder\tBirch\nisland\tCedar\tCedar\nisland\tCedar\tDune\nisland\tElm\tElm\nisland\tFern\tFern\ncritical\tCedar line P\ncritical\tElm bus P\nend
+";
+
+#[test]
+fn worked_reports(rt: HostRuntime) -> Result<(), Fail> {
+    all_end_so(&rt, rt.alloc(), 15, CASES)
 }
 
 fn has_too_many_nodes(
@@ -172,51 +178,6 @@ fn has_too_many_nodes(
 fn too_many_nodes_are_not_reported(rt: HostRuntime) -> Result<(), Fail> {
     has_too_many_nodes(&rt, rt.alloc(), PATH_BRANCHES, PATH_METERS)?;
     has_too_many_nodes(&rt, rt.alloc(), NO_BRANCHES, NO_METERS)
-}
-
-// The other tables have headers alone.
-#[test]
-fn a_fault_of_nodes_alone_is_printed(rt: HostRuntime) -> Result<(), Fail> {
-    all_end_so(
-        &rt,
-        rt.alloc(),
-        2,
-        b"+ n
-node,source\na,2
-+ s
-switch,from,to,closed
-+ b
-branch,from,to,inservice
-+ m
-meter,kind,at,inservice
-> 3 report tables n s b m
-fault\tnodes\t1\t6\tBadFlag
-+ n
-> 3 report tables n s b m
-fault\tnodes\t0\t1\tNoHeader
-",
-    )
-}
-
-#[test]
-fn the_short_example_is_reported(rt: HostRuntime) -> Result<(), Fail> {
-    all_end_so(
-        &rt,
-        rt.alloc(),
-        1,
-        b"= A ring of six buses, of which one is two bars with a closed coupler between them. Two meters on one line, a flow and an injection count; a meter on a line that is out of service doesn't, and neither does a meter that is.
-+ n
-node,source\nAlder,1\nBirch,0\nCedar,0\nDune,0\nElm,0\nFern,0\nFern bar 2,0
-+ s
-switch,from,to,closed\nFern coupler,Fern,Fern bar 2,1
-+ b
-branch,from,to,inservice\nAlder-Birch,Alder,Birch,1\nBirch-Cedar,Birch,Cedar,1\nCedar-Dune,Cedar,Dune,1\nDune-Elm,Dune,Elm,1\nElm-Fern,Elm,Fern,1\nFern-Alder,Fern bar 2,Alder,1\nBirch-Elm,Birch,Elm,0
-+ m
-meter,kind,at,inservice\nAlder line P,flow,Alder-Birch,1\nBirch line P,flow,Alder-Birch,1\nCedar line P,flow,Cedar-Dune,1\nElm bus P,injection,Elm,1\nBirch tie P,flow,Birch-Elm,1\nFern bus P,injection,Fern,0
-> 1 report tables n s b m
-count\tbuses\t6\ncount\tenergised\t6\ncount\tbranches\t6\ncount\tmeters\t4\ncount\tneeded\t5\ncount\trank\t3\nverdict\tshort\nbound\tAlder\t1\t2\ninside\tmeter\tAlder line P\ninside\tmeter\tBirch line P\nisland\tAlder\tAlder\nisland\tAlder\tBirch\nisland\tCedar\tCedar\nisland\tCedar\tDune\nisland\tElm\tElm\nisland\tFern\tFern\ncritical\tCedar line P\ncritical\tElm bus P\nend
-",
-    )
 }
 
 // The files of 28, 22, 52 and 67 bytes are read in pieces of seven bytes, with one read more at the end of each.

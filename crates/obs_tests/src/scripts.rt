@@ -2,8 +2,8 @@
 //
 // A line `+ WORD` begins the file of a word, and `+ input` the input; with `unended` before the word its last line feed is left
 // out. A line `> NUMBER WORDS` asks for a run with these words, which ends with this exit status, and begins the text that it
-// prints. A line that begins with `=` says what comes. What a line begins goes on up to the next of these lines. A run has of each
-// word the file that stands last before it.
+// prints. A line that begins with `=` says what comes, and one with `==` begins a case of its own. What a line begins goes on up to
+// the next of these lines. A run has of each word the file that stands last before it in its case.
 
 ghost use Rattle.std.specs.Prelude.{◌≤◌, length};
 
@@ -118,15 +118,19 @@ pub(crate) struct Run<'a> {
 
 // The run of this number, from 0 on.
 pub(crate) fn nth_run(text: &[u8], number: u32) -> Option<Run<'_>> {
+    let mut case = text;
     let mut rest = text;
     let mut count = 0_u32;
     for _ in text {
         let part = first_part(rest);
+        if part.line.starts_with(b"==") {
+            case = part.rest;
+        }
         if let Some(line) = part.line.strip_prefix(b"> ".as_slice()) {
             if count == number {
                 let (status, words) = cut_at(line, b' ');
                 return Some(Run {
-                    before: front(text, text.len().saturating_sub(rest.len())),
+                    before: front(case, case.len().saturating_sub(rest.len())),
                     words,
                     status,
                     text: part.body,

@@ -17,14 +17,9 @@ fn path(switches: &'static [u8]) -> [&'static [u8]; 5] {
 const PATH_STATE: &[u8] =
     b"count\tbuses\t4\ncount\tenergised\t4\ncount\tbranches\t3\ncount\tmeters\t3\ncount\tneeded\t3\ncount\trank\t2\nverdict\tshort\nend\n";
 
-// Three nodes in a ring of closed switches are one bus, and with two of them open two.
-#[test]
-fn switches_make_buses(rt: HostRuntime) -> Result<(), Fail> {
-    all_end_so(
-        &rt,
-        rt.alloc(),
-        1,
-        b"+ n
+const CASES: &[u8] =
+    b"== Switches make buses. Three nodes in a ring of closed switches are one bus, and with two of them open two.
++ n
 node,source\na,1\nb,0\nc,0
 + s
 switch,from,to,closed\nS1,a,b,1\nS2,b,c,1\nS3,c,a,1
@@ -36,17 +31,8 @@ meter,kind,at,inservice
 open S3\nstatus\nopen S1\nstatus
 > 0 session tables n s b m
 ok\t0\t0\ncount\tbuses\t1\ncount\tenergised\t1\ncount\tbranches\t0\ncount\tmeters\t0\ncount\tneeded\t0\ncount\trank\t0\nverdict\tobservable\nend\nok\t0\t0\ncount\tbuses\t2\ncount\tenergised\t1\ncount\tbranches\t0\ncount\tmeters\t0\ncount\tneeded\t0\ncount\trank\t0\nverdict\tobservable\nend
-",
-    )
-}
-
-#[test]
-fn a_closed_switch_takes_a_branch_out(rt: HostRuntime) -> Result<(), Fail> {
-    all_end_so(
-        &rt,
-        rt.alloc(),
-        1,
-        b"+ n
+== A closed switch takes a branch out.
++ n
 node,source\na,1\nb,0
 + s
 switch,from,to,closed\nS1,a,b,0
@@ -58,18 +44,8 @@ meter,kind,at,inservice\nf1,flow,L1,1
 close S1\nstatus
 > 0 session tables n s b m
 ok\t0\t0\ncount\tbuses\t1\ncount\tenergised\t1\ncount\tbranches\t0\ncount\tmeters\t0\ncount\tneeded\t0\ncount\trank\t0\nverdict\tobservable\nend
-",
-    )
-}
-
-// The rank rises by four in one edit.
-#[test]
-fn a_switch_joins_a_source_to_a_hub(rt: HostRuntime) -> Result<(), Fail> {
-    all_end_so(
-        &rt,
-        rt.alloc(),
-        1,
-        b"+ n
+== A switch joins a source to a hub. The rank rises by four in one edit.
++ n
 node,source\nx,1\nh,1\ny,0\np,0\nq,0\nr,0\ns,0
 + s
 switch,from,to,closed\nS1,x,h,0
@@ -81,18 +57,8 @@ meter,kind,at,inservice\ni1,injection,x,1\ni2,injection,x,1\ni3,injection,x,1\ni
 close S1\ntree
 > 0 session tables n s b m
 ok\t5\t5\ntree\tx\npair\tmeter\ti1\tL1\npair\tmeter\ti2\tL2\npair\tmeter\ti3\tL3\npair\tmeter\ti4\tL4\npair\tmeter\ti5\tL5\nend
-",
-    )
-}
-
-// Edits in another order that lead to one present case: each ask has one answer.
-#[test]
-fn the_order_of_edits_is_forgotten(rt: HostRuntime) -> Result<(), Fail> {
-    all_end_so(
-        &rt,
-        rt.alloc(),
-        2,
-        b"+ n
+== The order of edits is forgotten. Edits in another order that lead to one present case: each ask has one answer.
++ n
 node,source\na,1\nb,0\nc,0\nd,0
 + s
 switch,from,to,closed
@@ -108,18 +74,9 @@ ok\t2\t3\nok\t2\t2\ntree\ta\npair\tmeter\tf1\tL1\npair\tmeter\tib\tL2\nend\nisla
 trip L3\nlose f1\nlose f2\nregain f1\ntree\nislands\ncritical
 > 0 session tables n s b m
 ok\t2\t2\nok\t2\t2\nok\t1\t2\nok\t2\t2\ntree\ta\npair\tmeter\tf1\tL1\npair\tmeter\tib\tL2\nend\nisland\ta\ta\nisland\ta\tb\nisland\ta\tc\nend\ncritical\tf1\ncritical\tib\nend
-",
-    )
-}
-
-// Switches within a bus and between components, of which one is energised; meters and branches that count and that don't.
-#[test]
-fn edits_go_forth_and_back(rt: HostRuntime) -> Result<(), Fail> {
-    all_end_so(
-        &rt,
-        rt.alloc(),
-        2,
-        b"+ n
+== Edits go forth and back. Switches within a bus and between components, of which one is energised; meters and
+= branches that count and that don't.
++ n
 node,source\na,1\nb,0\nc,0\nd,0\ne,0\ng,0
 + s
 switch,from,to,closed\nT,b,c,1\nU,b,c,1\nV,c,e,0
@@ -145,8 +102,82 @@ meter,kind,at,inservice\nf1,flow,L1,1\nf2,flow,L1,1\nib,injection,b,1
 lose f2\nlose f1\ntrip L3\nregain f1\nregain f2
 > 0 session tables n s b m
 ok\t2\t3\nok\t1\t3\nok\t1\t2\nok\t2\t2\nok\t2\t2
-",
-    )
+== Each refusal has its line.
++ n
+node,source\na,1\nb,0\nc,0\nd,0
++ s
+switch,from,to,closed
++ b
+branch,from,to,inservice\nL1,a,b,1\nL2,b,c,1\nL3,c,d,1
++ m
+meter,kind,at,inservice\nf1,flow,L1,1\nf2,flow,L1,1\nib,injection,b,1
++ input
+place\ntrip\ntrip \nreport x\ntrip L9\nlose z\n\n# note
+> 1 session tables n s b m
+refused\t8\tNoCandidates\nrefused\t4\tWordMissing\nrefused\t3\tBadName\nrefused\t1\tUnknownCommand\nrefused\t6\tUnknownBranch\nrefused\t7\tUnknownMeter
+== A branch goes and comes back. Without its first branch only the bus of the source is energised.
++ n
+node,source\na,1\nb,0\nc,0\nd,0
++ s
+switch,from,to,closed
++ b
+branch,from,to,inservice\nL1,a,b,1\nL2,b,c,1\nL3,c,d,1
++ m
+meter,kind,at,inservice\nf1,flow,L1,1\nf2,flow,L1,1\nib,injection,b,1
++ input
+trip L1\r\nrestore L1\r
+> 1 session tables n s b m
+ok\t0\t0\nok\t2\t3
+== Candidates stand behind the word with. The status is that of the present case, though there is a plan.
++ n
+node,source\na,1\nb,0\nc,0\nd,0
++ s
+switch,from,to,closed
++ b
+branch,from,to,inservice\nL1,a,b,1\nL2,b,c,1\nL3,c,d,1
++ m
+meter,kind,at,inservice\nf1,flow,L1,1\nf2,flow,L1,1\nib,injection,b,1
++ c
+candidate,kind,at,price\np1,flow,L2,0\np2,injection,c,3\np3,flow,L3,5
++ input
+place
+> 1 session tables n s b m with c
+cost\t3\nchosen\tp2\npair\tmeter\tf1\tL1\npair\tmeter\tib\tL2\npair\tcandidate\tp2\tL3\nlayer\t0\t3\t2\t0\ninside\tmeter\tf1\ninside\tmeter\tf2\ninside\tmeter\tib\ninside\tcandidate\tp1\nend
+== The first tree is printed. The pair of the second meter may still be kept when the first comes back.
++ n
+node,source\na,1\nb,0
++ s
+switch,from,to,closed
++ b
+branch,from,to,inservice\nL1,a,b,1\nL2,a,b,1
++ m
+meter,kind,at,inservice\nf1,flow,L1,1\nf2,flow,L2,1
++ input
+lose f1\ntree\nregain f1\ntree
+> 0 session tables n s b m
+ok\t1\t1\ntree\ta\npair\tmeter\tf2\tL2\nend\nok\t1\t1\ntree\ta\npair\tmeter\tf1\tL1\nend
+== Sessions of files of other forms. The other two forms of a case.
++ d
+BUS DATA FOLLOWS\n   1                     3\n   2                     0\n-999\nBRANCH DATA FOLLOWS\n   1    2\n-999
++ m
+meter,kind,at,inservice\nf1,flow,L1,1
++ input
+bound\nlose f1\nbound
+> 1 session cdf d m
+end\nok\t0\t1\nbound\t1\t0\t0\nend
++ p
+mpc.bus = [\n1 3;\n2 1;\n];\nmpc.branch = [\n1 2 0 0 0 0 0 0 0 0 1;\n];
++ c
+candidate,kind,at,price\nk1,flow,L1,2
++ input
+lose f1\nplace
+> 1 session matpower p m with c
+ok\t0\t1\ncost\t2\nchosen\tk1\npair\tcandidate\tk1\tL1\nlayer\t0\t2\t0\t0\nend
+";
+
+#[test]
+fn worked_sessions(rt: HostRuntime) -> Result<(), Fail> {
+    all_end_so(&rt, rt.alloc(), 13, CASES)
 }
 
 // A line that is too long is refused, and the last line has no line feed.
@@ -167,126 +198,6 @@ fn refused_lines_end_nothing(rt: HostRuntime) -> Result<(), Fail> {
         assert!(rt; found.text.as_slice() == text.as_slice());
     }
     Ok(())
-}
-
-#[test]
-fn each_refusal_has_its_line(rt: HostRuntime) -> Result<(), Fail> {
-    all_end_so(
-        &rt,
-        rt.alloc(),
-        1,
-        b"+ n
-node,source\na,1\nb,0\nc,0\nd,0
-+ s
-switch,from,to,closed
-+ b
-branch,from,to,inservice\nL1,a,b,1\nL2,b,c,1\nL3,c,d,1
-+ m
-meter,kind,at,inservice\nf1,flow,L1,1\nf2,flow,L1,1\nib,injection,b,1
-+ input
-place\ntrip\ntrip \nreport x\ntrip L9\nlose z\n\n# note
-> 1 session tables n s b m
-refused\t8\tNoCandidates\nrefused\t4\tWordMissing\nrefused\t3\tBadName\nrefused\t1\tUnknownCommand\nrefused\t6\tUnknownBranch\nrefused\t7\tUnknownMeter
-",
-    )
-}
-
-// Without its first branch only the bus of the source is energised.
-#[test]
-fn a_branch_goes_and_comes_back(rt: HostRuntime) -> Result<(), Fail> {
-    all_end_so(
-        &rt,
-        rt.alloc(),
-        1,
-        b"+ n
-node,source\na,1\nb,0\nc,0\nd,0
-+ s
-switch,from,to,closed
-+ b
-branch,from,to,inservice\nL1,a,b,1\nL2,b,c,1\nL3,c,d,1
-+ m
-meter,kind,at,inservice\nf1,flow,L1,1\nf2,flow,L1,1\nib,injection,b,1
-+ input
-trip L1\r\nrestore L1\r
-> 1 session tables n s b m
-ok\t0\t0\nok\t2\t3
-",
-    )
-}
-
-// The status is that of the present case, though there is a plan.
-#[test]
-fn candidates_stand_behind_the_word_with(rt: HostRuntime) -> Result<(), Fail> {
-    all_end_so(
-        &rt,
-        rt.alloc(),
-        1,
-        b"+ n
-node,source\na,1\nb,0\nc,0\nd,0
-+ s
-switch,from,to,closed
-+ b
-branch,from,to,inservice\nL1,a,b,1\nL2,b,c,1\nL3,c,d,1
-+ m
-meter,kind,at,inservice\nf1,flow,L1,1\nf2,flow,L1,1\nib,injection,b,1
-+ c
-candidate,kind,at,price\np1,flow,L2,0\np2,injection,c,3\np3,flow,L3,5
-+ input
-place
-> 1 session tables n s b m with c
-cost\t3\nchosen\tp2\npair\tmeter\tf1\tL1\npair\tmeter\tib\tL2\npair\tcandidate\tp2\tL3\nlayer\t0\t3\t2\t0\ninside\tmeter\tf1\ninside\tmeter\tf2\ninside\tmeter\tib\ninside\tcandidate\tp1\nend
-",
-    )
-}
-
-// The pair of the second meter may still be kept when the first comes back.
-#[test]
-fn the_first_tree_is_printed(rt: HostRuntime) -> Result<(), Fail> {
-    all_end_so(
-        &rt,
-        rt.alloc(),
-        1,
-        b"+ n
-node,source\na,1\nb,0
-+ s
-switch,from,to,closed
-+ b
-branch,from,to,inservice\nL1,a,b,1\nL2,a,b,1
-+ m
-meter,kind,at,inservice\nf1,flow,L1,1\nf2,flow,L2,1
-+ input
-lose f1\ntree\nregain f1\ntree
-> 0 session tables n s b m
-ok\t1\t1\ntree\ta\npair\tmeter\tf2\tL2\nend\nok\t1\t1\ntree\ta\npair\tmeter\tf1\tL1\nend
-",
-    )
-}
-
-// The other two forms of a case.
-#[test]
-fn sessions_of_files_of_other_forms(rt: HostRuntime) -> Result<(), Fail> {
-    all_end_so(
-        &rt,
-        rt.alloc(),
-        2,
-        b"+ d
-BUS DATA FOLLOWS\n   1                     3\n   2                     0\n-999\nBRANCH DATA FOLLOWS\n   1    2\n-999
-+ m
-meter,kind,at,inservice\nf1,flow,L1,1
-+ input
-bound\nlose f1\nbound
-> 1 session cdf d m
-end\nok\t0\t1\nbound\t1\t0\t0\nend
-+ p
-mpc.bus = [\n1 3;\n2 1;\n];\nmpc.branch = [\n1 2 0 0 0 0 0 0 0 0 1;\n];
-+ c
-candidate,kind,at,price\nk1,flow,L1,2
-+ input
-lose f1\nplace
-> 1 session matpower p m with c
-ok\t0\t1\ncost\t2\nchosen\tk1\npair\tcandidate\tk1\tL1\nlayer\t0\t2\t0\t0\nend
-",
-    )
 }
 
 // The state of the path, asked for twice in pieces of seven bytes, so that each but the last is a line. These calls fail.

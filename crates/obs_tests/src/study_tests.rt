@@ -3,13 +3,8 @@
 use crate::scripts::all_end_so;
 use std::test::Fail;
 
-#[test]
-fn outages_that_are_borne(rt: HostRuntime) -> Result<(), Fail> {
-    all_end_so(
-        &rt,
-        rt.alloc(),
-        6,
-        b"= Parallel branches.
+const CASES: &[u8] = b"== Outages that are borne.
+= Parallel branches.
 + n
 node,source\na,1\nb,0
 + s
@@ -65,17 +60,8 @@ branch,from,to,inservice\nL1,a,b,1\nL2,c,d,1
 meter,kind,at,inservice\nf1,flow,L1,1\nf2,flow,L2,1
 > 0 outages tables n s b m
 outage\tL1\t0\t0\tobservable\nend
-",
-    )
-}
-
-#[test]
-fn outages_that_are_short(rt: HostRuntime) -> Result<(), Fail> {
-    all_end_so(
-        &rt,
-        rt.alloc(),
-        4,
-        b"= Two injections of a ring.
+== Outages that are short.
+= Two injections of a ring.
 + n
 node,source\na,1\nb,0\nc,0
 + s
@@ -113,17 +99,8 @@ branch,from,to,inservice\nL1,a,b,1\nL2,b,c,1
 meter,kind,at,inservice\nf1,flow,L1,1\nf2,flow,L2,1\ngb,angle,b,1\ngc,angle,c,1
 > 1 outages tables n s b m
 outage\tL1\t1\t2\tshort\noutage\tL2\t2\t2\tobservable\nend
-",
-    )
-}
-
-#[test]
-fn pairs_that_are_borne(rt: HostRuntime) -> Result<(), Fail> {
-    all_end_so(
-        &rt,
-        rt.alloc(),
-        6,
-        b"= No class of three.
+== Pairs that are borne.
+= No class of three.
 + n
 node,source\na,1\nb,0
 + s
@@ -171,17 +148,8 @@ branch,from,to,inservice\nL1,a,b,1\nL2,b,c,1\nL3,c,d,1
 meter,kind,at,inservice\ng,injection,d,0\nf1,flow,L1,1\nib,injection,b,1\nic,injection,c,1\nf3,flow,L3,1\nf2,flow,L2,1
 > 0 pairs tables n s b m
 class\tf1\tf1\nclass\tf1\tib\nclass\tic\tic\nclass\tic\tf3\nend
-",
-    )
-}
-
-#[test]
-fn pairs_that_are_short(rt: HostRuntime) -> Result<(), Fail> {
-    all_end_so(
-        &rt,
-        rt.alloc(),
-        1,
-        b"= A class of a short case.
+== Pairs that are short.
+= A class of a short case.
 + n
 node,source\na,1\nb,0\nc,0\nd,0
 + s
@@ -192,17 +160,8 @@ branch,from,to,inservice\nL1,a,b,1\nL2,b,c,1\nL3,c,d,1
 meter,kind,at,inservice\nf1,flow,L1,1\nf2,flow,L1,1\nib,injection,b,1
 > 1 pairs tables n s b m
 class\tf1\tf1\nclass\tf1\tf2\nend
-",
-    )
-}
-
-#[test]
-fn stations_that_are_borne(rt: HostRuntime) -> Result<(), Fail> {
-    all_end_so(
-        &rt,
-        rt.alloc(),
-        2,
-        b"= Flows belong to their first ends.
+== Stations that are borne.
+= Flows belong to their first ends.
 + n
 node,source\na,1\nb,0
 + s
@@ -222,17 +181,8 @@ branch,from,to,inservice\nL1,a,b,1\nL2,b,c,1\nL3,c,a,1
 meter,kind,at,inservice\nia,injection,a,1\nja,injection,a,1\nib,injection,b,1\njb,injection,b,1
 > 0 stations tables n s b m
 station\ta\t2\t2\t2\tobservable\nstation\tb\t2\t2\t2\tobservable\nend
-",
-    )
-}
-
-#[test]
-fn stations_that_are_short(rt: HostRuntime) -> Result<(), Fail> {
-    all_end_so(
-        &rt,
-        rt.alloc(),
-        4,
-        b"= Stations of a path.
+== Stations that are short.
+= Stations of a path.
 + n
 node,source\na,1\nb,0\nc,0\nd,0
 + s
@@ -274,6 +224,9 @@ switch,from,to,closed
 meter,kind,at,inservice\nf1,flow,L1,0\ni1,injection,c,1\ni2,injection,c,1\nf2,flow,L2,0\ng1,flow,L1,1
 > 1 stations tables n s b m
 station\ta\t1\t1\t2\tshort\nstation\tc\t2\t1\t2\tshort\nend
-",
-    )
+";
+
+#[test]
+fn worked_studies(rt: HostRuntime) -> Result<(), Fail> {
+    all_end_so(&rt, rt.alloc(), 23, CASES)
 }

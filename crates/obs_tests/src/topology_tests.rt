@@ -17,13 +17,8 @@ const NODES: &[u8] = b"node,source\na,0\nb,0\nc,0\n";
 
 const SWITCHES: &[u8] = b"switch,from,to,closed\nS1,a,b,1\nS2,b,c,0\n";
 
-#[test]
-fn topology_names_the_bus_of_each_node(rt: HostRuntime) -> Result<(), Fail> {
-    all_end_so(
-        &rt,
-        rt.alloc(),
-        3,
-        b"+ n
+const CASES: &[u8] = b"== Topology names the bus of each node.
++ n
 node,source\na,0\nb,0\nc,0
 + s
 switch,from,to,closed\nS1,a,b,1\nS2,b,c,0
@@ -43,17 +38,8 @@ node\tz\tz\nnode\tm\tm\nnode\ta\tm\nnode\tk\tm\ncount\tbuses\t2\nend
 switch,from,to,closed
 > 0 topology n s
 node\ta\ta\nnode\tb\tb\ncount\tbuses\t2\nend
-",
-    )
-}
-
-#[test]
-fn the_first_fault_is_printed(rt: HostRuntime) -> Result<(), Fail> {
-    all_end_so(
-        &rt,
-        rt.alloc(),
-        5,
-        b"+ n
+== The first fault is printed.
++ n
 node,source\na,0\na,0
 + s
 switch,from,to,closed
@@ -76,8 +62,15 @@ node,source\na,1
 switch,from,to,closed\nS1,a,z,7
 > 3 topology n s
 fault\tswitches\t1\t6\tBadFlag
-",
-    )
+== An absent file is a read fault.
++ n
+node,source\na,0\nb,0\nc,0
+> 4 topology n s
+";
+
+#[test]
+fn worked_topologies(rt: HostRuntime) -> Result<(), Fail> {
+    all_end_so(&rt, rt.alloc(), 9, CASES)
 }
 
 // A run over a node table of so many rows, and no switches.
@@ -150,19 +143,6 @@ fn each_write_may_fail(rt: HostRuntime) -> Result<(), Fail> {
     let writes = failing_writes(&rt, rt.alloc(), &TOPOLOGY, &files, text)?;
     assert!(rt; writes == 10);
     Ok(())
-}
-
-#[test]
-fn an_absent_file_is_a_read_fault(rt: HostRuntime) -> Result<(), Fail> {
-    all_end_so(
-        &rt,
-        rt.alloc(),
-        1,
-        b"+ n
-node,source\na,0\nb,0\nc,0
-> 4 topology n s
-",
-    )
 }
 
 // No file of switches is held.

@@ -9,13 +9,8 @@ use std::test::Fail;
 // A bound of the path that holds.
 const BOUND: &[u8] = b"bound\ta\t1\t1\ninside\tmeter\tf1\ninside\tmeter\tf2\nend\n";
 
-#[test]
-fn claims_on_a_path(rt: HostRuntime) -> Result<(), Fail> {
-    all_end_so(
-        &rt,
-        rt.alloc(),
-        6,
-        b"+ n
+const CASES: &[u8] = b"== Claims on a path.
++ n
 node,source\na,1\nb,0\nc,0\nd,0
 + s
 switch,from,to,closed
@@ -49,17 +44,8 @@ flaw\t2\t10\tNotBelow
 bound\ta\t1\t1\r\ninside\tmeter\tf1\r\ninside\tmeter\tf2\r\nbound\ta\t1\t1\r\ninside\tmeter\tf2\r\ninside\tmeter\tf1\r\nend\r
 > 0 verify tables n s b m cert
 valid\t2
-",
-    )
-}
-
-#[test]
-fn bytes_that_are_no_certificate(rt: HostRuntime) -> Result<(), Fail> {
-    all_end_so(
-        &rt,
-        rt.alloc(),
-        5,
-        b"+ n
+== Bytes that are no certificate.
++ n
 node,source\na,1\nb,0\nc,0\nd,0
 + s
 switch,from,to,closed
@@ -86,17 +72,8 @@ fault\tcertificate\t2\t1\tBadLine
 + cert
 > 3 verify tables n s b m cert
 fault\tcertificate\t0\t3\tNoEnd
-",
-    )
-}
-
-#[test]
-fn claims_on_a_triangle(rt: HostRuntime) -> Result<(), Fail> {
-    all_end_so(
-        &rt,
-        rt.alloc(),
-        2,
-        b"+ n
+== Claims on a triangle.
++ n
 node,source\na,1\nb,0\nc,0
 + s
 switch,from,to,closed
@@ -112,17 +89,8 @@ valid\t1
 bound\ta\t2\t0\ninside\tmeter\tia\ninside\tmeter\tf1\nend
 > 1 verify tables n s b m cert
 flaw\t1\t10\tNotBelow
-",
-    )
-}
-
-#[test]
-fn claims_on_candidates(rt: HostRuntime) -> Result<(), Fail> {
-    all_end_so(
-        &rt,
-        rt.alloc(),
-        4,
-        b"+ n
+== Claims on candidates.
++ n
 node,source\na,1\nb,0\nc,0\nd,0
 + s
 switch,from,to,closed
@@ -149,17 +117,8 @@ flaw\t1\t8\tWrongRank
 cost\t3\nchosen\tp2\npair\tmeter\tf1\tL1\npair\tmeter\tib\tL2\npair\tcandidate\tp2\tL3\nlayer\t0\t3\t3\t0\ninside\tmeter\tf1\ninside\tmeter\tf2\ninside\tmeter\tib\ninside\tcandidate\tp1\nend
 > 1 verify tables n s b m with c cert
 flaw\t1\t8\tWrongRank
-",
-    )
-}
-
-#[test]
-fn layers_show_a_cost_together(rt: HostRuntime) -> Result<(), Fail> {
-    all_end_so(
-        &rt,
-        rt.alloc(),
-        1,
-        b"= The path with one meter, two candidates and a certificate that has a layer for each: (3 - 1) * 2 and (3 - 2) * 3.
+== Layers show a cost together.
+= The path with one meter, two candidates and a certificate that has a layer for each: (3 - 1) * 2 and (3 - 2) * 3.
 + n
 node,source\na,1\nb,0\nc,0\nd,0
 + s
@@ -174,18 +133,8 @@ candidate,kind,at,price\nq1,flow,L2,2\nq2,flow,L3,5
 cost\t7\nchosen\tq1\nchosen\tq2\npair\tmeter\tf1\tL1\npair\tcandidate\tq1\tL2\npair\tcandidate\tq2\tL3\nlayer\t0\t2\t1\t0\ninside\tmeter\tf1\nlayer\t2\t5\t2\t0\ninside\tcandidate\tq1\nend
 > 0 verify tables n s b m with c cert
 valid\t1
-",
-    )
-}
-
-// Without a table of candidates no name is that of one.
-#[test]
-fn candidates_that_were_not_given_are_unknown(rt: HostRuntime) -> Result<(), Fail> {
-    all_end_so(
-        &rt,
-        rt.alloc(),
-        1,
-        b"+ n
+== Candidates that were not given are unknown. Without a table of candidates no name is that of one.
++ n
 node,source\na,1\nb,0\nc,0\nd,0
 + s
 switch,from,to,closed
@@ -197,18 +146,8 @@ meter,kind,at,inservice\nf1,flow,L1,1\nf2,flow,L1,1\nib,injection,b,1
 shortfall\t2\t0\ninside\tmeter\tf1\ninside\tmeter\tf2\ninside\tmeter\tib\ninside\tcandidate\tp1\nend
 > 1 verify tables n s b m cert
 flaw\t1\t1\tUnknownName
-",
-    )
-}
-
-// The other two forms of a case.
-#[test]
-fn certificates_on_files_of_other_forms(rt: HostRuntime) -> Result<(), Fail> {
-    all_end_so(
-        &rt,
-        rt.alloc(),
-        2,
-        b"+ d
+== Certificates on files of other forms. The other two forms of a case.
++ d
 BUS DATA FOLLOWS\n   1                     3\n   2                     0\n-999\nBRANCH DATA FOLLOWS\n   1    2\n-999
 + m
 meter,kind,at,inservice\nf1,flow,L1,1
@@ -226,8 +165,34 @@ candidate,kind,at,price\nk1,flow,L1,2
 cost\t2\nchosen\tk1\npair\tcandidate\tk1\tL1\nlayer\t0\t2\t0\t0\nend
 > 0 verify matpower p m with c cert
 valid\t1
-",
-    )
+== A case is judged before a certificate. The bytes are no certificate either.
++ n
+node,source\na,2
++ s
+switch,from,to,closed
++ b
+branch,from,to,inservice\nL1,a,b,1\nL2,b,c,1\nL3,c,d,1
++ m
+meter,kind,at,inservice\nf1,flow,L1,1\nf2,flow,L1,1\nib,injection,b,1
++ cert
+end\nend
+> 3 verify tables n s b m cert
+fault\tnodes\t1\t6\tBadFlag
+== An absent certificate is a read fault.
++ n
+node,source\na,1\nb,0\nc,0\nd,0
++ s
+switch,from,to,closed
++ b
+branch,from,to,inservice\nL1,a,b,1\nL2,b,c,1\nL3,c,d,1
++ m
+meter,kind,at,inservice\nf1,flow,L1,1\nf2,flow,L1,1\nib,injection,b,1
+> 4 verify tables n s b m cert
+";
+
+#[test]
+fn worked_certificates(rt: HostRuntime) -> Result<(), Fail> {
+    all_end_so(&rt, rt.alloc(), 23, CASES)
 }
 
 // The files of 28, 22, 52, 67 and 48 bytes are read in pieces of seven bytes, with one read more at the end of each.
@@ -246,48 +211,6 @@ fn each_write_of_a_verdict_may_fail(rt: HostRuntime) -> Result<(), Fail> {
     let writes = failing_writes(&rt, rt.alloc(), &VERIFY, &files, b"valid\t1\n")?;
     assert!(rt; writes == 2);
     Ok(())
-}
-
-// The bytes are no certificate either.
-#[test]
-fn a_case_is_judged_before_a_certificate(rt: HostRuntime) -> Result<(), Fail> {
-    all_end_so(
-        &rt,
-        rt.alloc(),
-        1,
-        b"+ n
-node,source\na,2
-+ s
-switch,from,to,closed
-+ b
-branch,from,to,inservice\nL1,a,b,1\nL2,b,c,1\nL3,c,d,1
-+ m
-meter,kind,at,inservice\nf1,flow,L1,1\nf2,flow,L1,1\nib,injection,b,1
-+ cert
-end\nend
-> 3 verify tables n s b m cert
-fault\tnodes\t1\t6\tBadFlag
-",
-    )
-}
-
-#[test]
-fn an_absent_certificate_is_a_read_fault(rt: HostRuntime) -> Result<(), Fail> {
-    all_end_so(
-        &rt,
-        rt.alloc(),
-        1,
-        b"+ n
-node,source\na,1\nb,0\nc,0\nd,0
-+ s
-switch,from,to,closed
-+ b
-branch,from,to,inservice\nL1,a,b,1\nL2,b,c,1\nL3,c,d,1
-+ m
-meter,kind,at,inservice\nf1,flow,L1,1\nf2,flow,L1,1\nib,injection,b,1
-> 4 verify tables n s b m cert
-",
-    )
 }
 
 // No table before it is one, which isn't looked at before all files are read.
