@@ -190,10 +190,10 @@ module _ (over : Setting) (order : List ℕ) (search after : Progress) (places w
     (follows : Follows search.trail after.trail) (led : AreLedBut (get_or order i 0) search.trail after.trail) (own : IsSourceIn over (get_or order i 0) → has_flag after.trail.marks (get_or order i 0) ≡ true)
     (sources : over.sources ≡ All) (len : length written ≡ length places)
     (write : (m : ℕ) → get_or written m 0 ≡ cond (is_listed (new_part search.trail after.trail) m) i (get_or places m 0)) where
-  trail : Trail
+  abbrev trail : Trail
   trail = search.trail
 
-  next : Trail
+  abbrev next : Trail
   next = after.trail
 
   one_more : (m : ℕ) → is_listed (take (i + 1) order) m ≡ (is_listed (take i order) m || eqb (get_or order i 0) m)

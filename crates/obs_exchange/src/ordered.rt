@@ -43,13 +43,7 @@ fn begin_places(count: u32, places: &mut [u32])
 }
 
 /// Goes on from the meter at a place of the order, and writes this place for what is reached now and wasn't before.
-fn spread_at(
-    over: &Setting<'_>,
-    order: &[u32],
-    k: usize,
-    search: &mut Progress,
-    places: &mut [u32],
-)
+fn spread_at(over: &Setting<'_>, order: &[u32], k: usize, search: &mut Progress, places: &mut [u32])
     requires longest { IsLongest over.now.graph over.now.touches over.now.assignment }
     requires sources { over.now.sources ≡ Sources.All }
     requires order { IsOrder (length over.now.touches) order.now }
@@ -67,12 +61,7 @@ fn spread_at(
 
 /// Visits what is reached from the meters of an order, one after the other, where no branch is free. Writes for each meter
 /// at which place of the order it was first reached.
-pub fn spread_in_order(
-    over: &Setting<'_>,
-    order: &[u32],
-    search: &mut Progress,
-    places: &mut [u32],
-)
+pub fn spread_in_order(over: &Setting<'_>, order: &[u32], search: &mut Progress, places: &mut [u32])
     requires sound { IsSound over.now }
     requires longest { IsLongest over.now.graph over.now.touches over.now.assignment }
     requires sources { over.now.sources ≡ Sources.All }
