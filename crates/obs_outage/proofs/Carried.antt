@@ -7,9 +7,7 @@ use Rattle.obs_case.specs.Tables.{IsValid, Tables}
 use Rattle.obs_matroid.specs.Assignments.{Pair, branches}
 use Rattle.obs_matroid.proofs.Ranks.{rank-independent}
 use Rattle.obs_meter.specs.declared.Touch.{Touch}
-use Rattle.obs_meter.specs.Assignments.{IsAssignmentAt}
 use Rattle.obs_meter.specs.Spanned.{graph_matroid}
-use Rattle.obs_meter.specs.Touches.{every_item}
 use Rattle.obs_meter.proofs.Assigned.{independent-from_forest_at}
 use Rattle.obs_meter.proofs.Instance.{IsMatroid-graph}
 use Rattle.obs_assign.specs.Assignment.{Assignment, IsWhole, StandsOver, pairs}
@@ -24,7 +22,7 @@ use Rattle.obs_network.specs.Observable.{case_rank}
 use Rattle.obs_outage.specs.declared.outages.Outage.{Outage}
 use Rattle.obs_network.specs.Parted.{outage_case}
 use Rattle.obs_outage.specs.Outages.{AllStand, outage_of}
-use Rattle.obs_outage.proofs.InOutage.{all_forest, all_long, all_most, as_many_meters, as_many_positions, assigns_before, back_forest, back_long, most_here, most_out, out_valid, rank_longest, same_rows}
+use Rattle.obs_outage.proofs.InOutage.{all_forest, all_long, all_most, as_many_meters, as_many_positions, back_forest, back_long, most_here, most_out, out_valid, rank_longest, same_rows}
 
 -- where as many pairs stand still as there can be, and are a forest, all are kept and nothing is searched
 pub quiet_by : (g : Graph) (touches : List Touch) (a b c : Assignment) (searches most before after : ℕ) → AreBranches g.vertices g.ends
@@ -56,13 +54,6 @@ room_back t e v a w r = record {
   pair_vertices = r.pair_vertices;
   work = r.work ∙ ap (λ (n : ℕ). record { meters = length t.meters; branches = n; vertices = (network_of t).graph.most_vertices }) (as_many_positions t v e);
 }
-
--- each assignment over the network of an outage case is one over that of the case
-pub within_network : (t : Tables) (v : IsValid t) (e : ℕ) (n : Network) → n ≡ network_of t → (n1 : Network) → n1 ≡ network_of (outage_case t e)
-    → (B : List Pair) → IsAssignmentAt n1.graph.ends n1.meters.touches (every_item n1.meters.touches) B → IsAssignmentAt n.graph.ends n.meters.touches (every_item n.meters.touches) B
-within_network t v e n net n1 out B x =
-    subst (λ (y : Network). IsAssignmentAt y.graph.ends y.meters.touches (every_item y.meters.touches) B) (sym net)
-    (assigns_before t v e B (subst (λ (y : Network). IsAssignmentAt y.graph.ends y.meters.touches (every_item y.meters.touches) B) out x))
 
 -- the network of an outage case, and that of the case
 module _ (t : Tables) (v : IsValid t) (e : ℕ) (a : Assignment) (h : AreLongest t a) (n : Network) (net : n ≡ network_of t) (n1 : Network) (out : n1 ≡ network_of (outage_case t e)) where

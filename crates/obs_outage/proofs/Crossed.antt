@@ -11,9 +11,7 @@ use Rattle.obs_matroid.specs.Assignments.{Pair}
 use Rattle.obs_matroid.proofs.Slots.{slot_at}
 use Rattle.obs_meter.specs.declared.Touch.{Touch}
 use Rattle.obs_meter.specs.declared.Touch.TheVariants.{Nothing}
-use Rattle.obs_meter.specs.Assignments.{IsRhoAt}
 use Rattle.obs_meter.specs.Touches.{touch_at}
-use Rattle.obs_meter.proofs.Assigned.{rho_at-unique}
 use Rattle.obs_meter.proofs.Touched.{touched-present}
 use Rattle.obs_assign.specs.Assignment.{Assignment, IsWhole, StandsOver, branch_at, pairs}
 use Rattle.obs_assign.proofs.Slotted.{branch_slot, none_some, slot_low, slots_apart}
@@ -25,11 +23,11 @@ use Rattle.obs_exchange.specs.Found.{IsFound}
 use Rattle.obs_exchange.specs.Laws.{IsThawed}
 use Rattle.obs_network.specs.Edited.{AreSameBut}
 use Rattle.obs_network.specs.Network.{Network, case_branches, case_meters}
-use Rattle.obs_network.specs.Observable.{case_live_meters, case_rank}
 use Rattle.obs_kept.specs.Kept.{AreLongestOver}
 use Rattle.obs_network.specs.Parted.{outage_case}
+use Rattle.obs_outage.specs.Settled.{IsMissed}
 use Rattle.obs_outage.specs.Outages.{AllStand, outage_rows}
-use Rattle.obs_outage.proofs.InOutage.{as_many_rows, out_valid, rank_is}
+use Rattle.obs_outage.proofs.InOutage.{as_many_rows}
 use Rattle.obs_outage.proofs.Restored.{row_gone, row_here, row_low}
 
 -- a search freezes nothing
@@ -64,6 +62,10 @@ crossed e n o vertices positions ends meters touched a whole free s = record {
   touched = λ m k h. touched m k (λ same. free m (h ∙ ap Some same)) (s.touched m k h);
 }
 
+-- pairs that stand where the branch is absent don't have it
+pub free_of : (g : Graph) (touches : List Touch) (e : ℕ) → get_or g.ends e None ≡ None → (a : Assignment) → StandsOver a g touches → (m : ℕ) → branch_at a m ≡ Some e → ⊥
+free_of g touches e gone a s m has = true≢false (sym (touched-present g.ends (get_or touches m Nothing) e (s.touched m e has)) ∙ ap (λ (y : Option Ends). is_some y) gone)
+
 module _ (e : ℕ) (n o : Network) (same : AreSameBut e n o) (meters : length o.meters.touches ≡ length n.meters.touches) where
   positions : length o.graph.ends ≡ length n.graph.ends
   positions = ap (λ (xs : List (Option Ends)). length xs) same.ends ∙ length-set n.graph.ends e (get_or o.graph.ends e None)
@@ -94,8 +96,7 @@ module _ (e : ℕ) (n o : Network) (same : AreSameBut e n o) (meters : length o.
 
   -- and those that stand over the other network, where the branch is absent, stand over the one
   pub stands_here_without : get_or o.graph.ends e None ≡ None → (b : Assignment) → IsWhole b → StandsOver b o.graph o.meters.touches → StandsOver b n.graph n.meters.touches
-  stands_here_without gone b whole stands = stands_here b whole (λ x k.
-      true≢false (sym (touched-present o.graph.ends (get_or o.meters.touches x Nothing) e (stands.touched x e k)) ∙ ap (λ (y : Option Ends). is_some y) gone)) stands
+  stands_here_without gone b whole stands = stands_here b whole (free_of o.graph o.meters.touches e gone b stands) stands
 
 -- the outage case of a row has none there
 pub gone_out : (t : Tables) → IsValid t → (e : ℕ) → In e (outage_rows t) → get_or (case_branches (outage_case t e)) e None ≡ None
@@ -105,14 +106,12 @@ gone_out t v e i =
     row_here (outage_case t e) e (subst (λ k. e < k) (sym many) low) ∙ row_gone t e
 
 -- so a pair with it doesn't stand there
-pub held_falls : (t : Tables) → IsValid t → (a : Assignment) (m e : ℕ) → In e (outage_rows t) → branch_at a m ≡ Some e → AllStand t a e → ⊥
+held_falls : (t : Tables) → IsValid t → (a : Assignment) (m e : ℕ) → In e (outage_rows t) → branch_at a m ≡ Some e → AllStand t a e → ⊥
 held_falls t v a m e i has all =
     let out = outage_case t e in
     let still = still_from (case_branches out) (case_meters out) (pairs a) (m, e) (subst (λ (l : List Pair). In (m, e) l) (sym all) (slot_at a.slots m e has)) in
     true≢false (sym (touched-present (case_branches out) (get_or (case_meters out) m Nothing) e still.1) ∙ ap (λ (y : Option Ends). is_some y) (gone_out t v e i))
 
--- a greatest length in the outage case is its rank
-pub rank_there : (t : Tables) → IsValid t → (e r : ℕ) → IsRhoAt (case_branches (outage_case t e)) (case_meters (outage_case t e)) (case_live_meters (outage_case t e)) r → r ≡ case_rank (outage_case t e)
-rank_there t v e r h =
-    let out = outage_case t e in
-    rho_at-unique (case_branches out) (case_meters out) (case_live_meters out) r (case_rank out) h (rank_is out (out_valid t v e))
+-- where all pairs stand there, none has the row
+pub missed_by : (t : Tables) → IsValid t → (a : Assignment) (e : ℕ) → In e (outage_rows t) → AllStand t a e → IsMissed a e
+missed_by t v a e i all m has = held_falls t v a m e i has all

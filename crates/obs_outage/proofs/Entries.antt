@@ -1,5 +1,5 @@
 -- The outage list, entry by entry.
-use Rattle.std.proofs.Common.{inl, inr, ◌≡◌, ℕ, ◌+◌, ◌-◌, ◌<◌, ◌≤◌, true, false, List, [], ◌∷◌, ◌++◌, length, map, set, take, refl, sym, ap, ◌∙◌, arith, append_assoc, append-nil}
+use Rattle.std.proofs.Common.{inl, inr, ◌≡◌, ℕ, ◌+◌, ◌-◌, ◌<◌, ◌≤◌, true, false, List, [], ◌∷◌, ◌++◌, length, map, set, take, refl, sym, ap, ◌∙◌, subst, arith, append_assoc, append-nil}
 use Rattle.std.specs.Prelude.{filter}
 use Rattle.std.specs.List.{range_with_len}
 use Rattle.std.proofs.lemmas.List.{length-set, take_more_set}
@@ -7,12 +7,9 @@ use Rattle.obs_case.specs.Tables.{Tables}
 use Rattle.obs_matroid.specs.Lists.{In}
 use Rattle.obs_matroid.proofs.Lists.{In-filter}
 use Rattle.obs_matroid.proofs.Ranges.{below_in, later, later_listed, later_over}
-use Rattle.obs_network.specs.Network.{Network}
-use Rattle.obs_kept.specs.declared.kept.Kept.{Kept}
 use Rattle.obs_outage.specs.declared.outages.Outage.{Outage}
-use Rattle.obs_network.specs.Sides.{Sides}
-use Rattle.obs_outage.specs.Ready.{IsReady}
-use Rattle.obs_outage.specs.Sparing.{Spared}
+use Rattle.obs_outage.specs.Ready.{IsBasisOf}
+use Rattle.obs_outage.specs.declared.basis.Basis.{Basis}
 use Rattle.obs_outage.specs.Outages.{is_outage_row, outage_of, outage_rows, outages_of}
 
 -- an entry is that of a row
@@ -30,14 +27,13 @@ pub row_in : (t : Tables) (e : ℕ) → e < length t.branches → is_outage_row 
 unfolding outage_rows
 row_in t e l p = In-filter (is_outage_row t) e (range_with_len 0 (length t.branches)) (below_in (length t.branches) e l) p
 
--- the rows below e are listed; the case and the kept network are as they were, and all is ready for the next
-pub record IsListing (t : Tables) (n : Network) (spared : Spared) (len : ℕ) (now : Tables) (kept : Kept) (aside : Network) (walks : Sides) (entries : List Outage) (count e : ℕ) : Type 0 where
+-- the rows below e are listed; the case is as it was, and all is ready for the next
+pub record IsListing (t : Tables) (len : ℕ) (now : Tables) (held : Basis) (entries : List Outage) (count e : ℕ) : Type 0 where
   pub bound : count ≤ e
   pub lists : take count entries ++ entries_from t e ≡ outages_of t
   pub long : length entries ≡ len
   pub case : now ≡ t
-  pub network : kept.network ≡ n
-  pub ready : IsReady kept aside walks spared
+  pub basis : IsBasisOf t held
 
 pub over : (t : Tables) (entries : List Outage) (count e : ℕ) → take count entries ++ entries_from t e ≡ outages_of t → e < length t.branches → is_outage_row t e ≡ false
     → take count entries ++ entries_from t (e + 1) ≡ outages_of t
@@ -64,23 +60,21 @@ unfolding outages_of outage_rows
 begun t [] = let all : length t.branches - 0 ≡ length t.branches = omega arith in ap (λ k. map (outage_of t) (filter (is_outage_row t) (range_with_len 0 k))) all
 begun t (x ∷ entries) = let all : length t.branches - 0 ≡ length t.branches = omega arith in ap (λ k. map (outage_of t) (filter (is_outage_row t) (range_with_len 0 k))) all
 
-module _ (t : Tables) (n : Network) (spared : Spared) (len : ℕ) (now : Tables) (kept : Kept) (other : Network) (sides : Sides) (entries : List Outage) (count e : ℕ)
-    (h : IsListing t n spared len now kept other sides entries count e) (low : e < length t.branches) where
+module _ (t : Tables) (len : ℕ) (now : Tables) (basis : Basis) (entries : List Outage) (count e : ℕ) (h : IsListing t len now basis entries count e) (low : e < length t.branches) where
   -- a row that is passed over
-  pub IsListing-over : is_outage_row t e ≡ false → IsListing t n spared len now kept other sides entries count (e + 1)
+  pub IsListing-over : is_outage_row t e ≡ false → IsListing t len now basis entries count (e + 1)
   IsListing-over f = record {
     bound = let b = h.bound in omega (arith, b);
     lists = over t entries count e h.lists low f;
     long = h.long;
     case = h.case;
-    network = h.network;
-    ready = h.ready;
+    basis = h.basis;
   }
 
   -- and one that is listed
-  pub IsListing-listed : is_outage_row t e ≡ true → length t.branches ≤ len → (now1 : Tables) (kept1 : Kept) (other1 : Network) (sides1 : Sides) (o : Outage) → o ≡ outage_of now e → now1 ≡ now
-      → kept1.network ≡ kept.network → IsReady kept1 other1 sides1 spared → IsListing t n spared len now1 kept1 other1 sides1 (set entries count o) (count + 1) (e + 1)
-  IsListing-listed p enough now1 kept1 other1 sides1 o is same network ready =
+  pub IsListing-listed : is_outage_row t e ≡ true → length t.branches ≤ len → (now1 : Tables) (basis1 : Basis) (o : Outage) → o ≡ outage_of now e → now1 ≡ now → IsBasisOf now basis1
+      → IsListing t len now1 basis1 (set entries count o) (count + 1) (e + 1)
+  IsListing-listed p enough now1 basis1 o is same ready =
       let b = h.bound in
       let l = h.long in
       record {
@@ -88,6 +82,5 @@ module _ (t : Tables) (n : Network) (spared : Spared) (len : ℕ) (now : Tables)
         lists = listed t entries count e o h.lists low p (omega (arith, b, l, low, enough)) (is ∙ ap (λ x. outage_of x e) h.case);
         long = length-set entries count o ∙ h.long;
         case = same ∙ h.case;
-        network = network ∙ h.network;
-        ready = ready;
+        basis = subst (λ (x : Tables). IsBasisOf x basis1) h.case ready;
       }

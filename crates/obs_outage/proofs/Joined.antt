@@ -1,5 +1,5 @@
 -- The outage of a row whose ends the other rows join.
-use Rattle.std.proofs.Common.{◌≡◌, ◌≢◌, ℕ, suc, ◌+◌, ◌-◌, ◌<◌, ◌≤◌, ◌⊎◌, inl, inr, Bool, true, false, Some, None, List, Option, length, get_or, take, sym, ap, ◌∙◌, subst, arith}
+use Rattle.std.proofs.Common.{◌≡◌, ◌≢◌, ℕ, suc, ◌+◌, ◌-◌, ◌<◌, ◌≤◌, inl, inr, true, false, Some, None, List, Option, length, get_or, take, sym, ap, ◌∙◌, subst, arith}
 use Rattle.std.specs.Prelude.{IsSome, is_some}
 use Rattle.std.specs.List.{range_with_len}
 use Rattle.std.proofs.lemmas.Bool.{true≢false}
@@ -18,42 +18,35 @@ use Rattle.obs_meter.specs.Spanned.{graph_matroid}
 use Rattle.obs_meter.proofs.Assigned.{every-to_live, from_matroid, independent-from_forest_at, live-to_every}
 use Rattle.obs_meter.proofs.Instance.{IsMatroid-graph}
 use Rattle.obs_meter.proofs.Touched.{touched-present}
-use Rattle.obs_assign.specs.Assignment.{Assignment, branch_at, has_flag, pairs}
+use Rattle.obs_assign.specs.Assignment.{Assignment, branch_at, pairs}
 use Rattle.obs_assign.proofs.Slotted.{branch_slot, distinct_branches}
 use Rattle.obs_assign.proofs.Standing.{IsAssignmentAt-standing}
 use Rattle.obs_network.specs.Network.{Network, case_angles, case_branches, case_meters, case_needed, case_rows, case_vertex_count, network_of}
 use Rattle.obs_network.specs.Observable.{case_rank}
 use Rattle.obs_network.proofs.KeptForests.{forest_with_branch}
 use Rattle.obs_network.proofs.OfCase.{case_branches-are, length-case_rows}
-use Rattle.obs_kept.specs.Kept.{AreLongest}
+use Rattle.obs_kept.specs.Kept.{AreLongest, AreLongestOver}
 use Rattle.obs_kept.proofs.StandingStill.{present-touched}
 use Rattle.obs_outage.specs.declared.outages.Outage.{Outage}
 use Rattle.obs_outage.specs.Outages.{outage_of, outage_rows}
-use Rattle.obs_outage.specs.Costly.{AreCostly, IsCostly}
-use Rattle.obs_outage.specs.Entry.{IsKnownEntry}
-use Rattle.obs_outage.specs.Spared.{AreSpared, IsSpared}
-use Rattle.obs_outage.specs.Sparing.{Spared}
+use Rattle.obs_outage.specs.Costly.{IsCostly}
+use Rattle.obs_outage.specs.Settled.{IsRankWithout}
+use Rattle.obs_outage.specs.Spared.{IsSpared}
 use Rattle.obs_network.specs.Edited.{AreSameBut}
 use Rattle.obs_network.specs.Parted.{AreJoinedWithout, outage_case}
-use Rattle.obs_outage.proofs.InOutage.{as_many_meters, as_many_rows, assigns_before, most_here, out_valid, rank_falls, rank_is, rank_longest}
+use Rattle.obs_outage.proofs.InOutage.{as_many_meters, as_many_rows, assigns_before, out_valid, rank_falls, rank_is, rank_longest}
 use Rattle.obs_outage.proofs.Restored.{row_gone, row_here, row_low, row_present}
 use Rattle.obs_network.proofs.Spared.{joined_by_rows}
 use Rattle.obs_network.proofs.SparedItems.{same_but_one}
 
 -- a branch that no pair of a longest assignment has is spared
-pub spared_unheld : (t : Tables) (a : Assignment) → AreLongest t a → (e : ℕ) → ((m : ℕ) → branch_at a m ≢ Some e) → IsSpared (case_branches t) (case_meters t) e
-spared_unheld t a h e out = record {
+pub spared_over : (n : Network) (a : Assignment) → AreLongestOver n a → (e : ℕ) → ((m : ℕ) → branch_at a m ≢ Some e) → IsSpared n.graph.ends n.meters.touches e
+spared_over n a h e out = record {
   pairs = pairs a;
-  assigns = IsAssignmentAt-standing a (network_of t).graph (case_meters t) h.whole h.stands;
-  longest = most_here t a h;
+  assigns = IsAssignmentAt-standing a n.graph n.meters.touches h.whole h.stands;
+  longest = λ B x. h.longest.none_longer B (every-to_live n.graph.ends n.meters.touches B x);
   free = λ i. let s = branch_slot a.slots e i in out s.0 s.1;
 }
-
--- a branch is spared where it is marked so, or no pair has it
-pub spared_by : (t : Tables) (a : Assignment) → AreLongest t a → (n : Network) → n ≡ network_of t → (marks : List Bool) → AreSpared n marks → (e : ℕ)
-    → (has_flag marks e ≡ true) ⊎ ((m : ℕ) → branch_at a m ≢ Some e) → IsSpared (case_branches t) (case_meters t) e
-spared_by t a h n net marks s e (inl marked) = subst (λ (x : Network). IsSpared x.graph.ends x.meters.touches e) net (s e marked)
-spared_by t a h n net marks s e (inr out) = spared_unheld t a h e out
 
 -- an entry, by its parts
 pub entry_by : (t : Tables) (e : ℕ) (o : Outage) → o.branch ≡ e → o.rank ≡ case_rank (outage_case t e) → o.needed ≡ case_needed (outage_case t e) → o ≡ outage_of t e
@@ -152,21 +145,9 @@ module _ (t : Tables) (v : IsValid t) (e : ℕ) where
               absurd (omega (arith, l))
         ]
 
-    -- what is known of the branch gives its entry
-    pub known_is : e < length t.branches → (a : Assignment) → AreLongest t a → (n : Network) → n ≡ network_of t → (s : Spared) → AreSpared n s.flags → AreCostly n s.costly → (needed : ℕ) → needed ≡ case_needed out
-        → (o : Outage) → IsKnownEntry a s e needed o → o ≡ outage_of t e
-    known_is low a h n net s spared costly needed is o told =
-        let rank : o.rank ≡ case_rank out =
-        elim told.2 [
-          | inl all ↦ all.0 ∙ rank_longest t v a h ∙ sym (spared_rank (spared_by t a h n net s.flags spared e all.1))
-          | inr less ↦ less.0 ∙ sym (costly_rank (subst (λ (x : Network). IsCostly x.graph.ends x.meters.touches e) net (costly e less.1)) low a h)
-        ] in
-        entry_by t e o told.0 rank (told.1 ∙ is)
-
--- so it does where the walk finds the ends joined
-pub joined_is : (t : Tables) (v : IsValid t) (e : ℕ) → In e (outage_rows t) → (rows : ℕ) → rows ≡ length t.branches → AreJoinedWithout (take rows (case_branches t)) e
-    → (n : Network) → n ≡ network_of t → (a : Assignment) → AreLongest t a → (s : Spared) → AreSpared n s.flags → AreCostly n s.costly → (needed : ℕ) → needed ≡ n.needed
-    → (o : Outage) → IsKnownEntry a s e needed o → o ≡ outage_of t e
-joined_is t v e i rows many joined n net a h s spared costly needed is o told =
-    let same = same_by_walk t v e i rows many joined in
-    known_is t v e (λ m k ne. (same.touched m k ne).0) (row_low t e i) a h n net s spared costly needed (is ∙ ap (λ (x : Network). x.needed) net ∙ sym same.needed) o told
+    -- so what is known of the branch gives the rank
+    pub rank_alone : e < length t.branches → (a : Assignment) → AreLongest t a → (n : Network) → n ≡ network_of t → (r : ℕ) → IsRankWithout n a e r → r ≡ case_rank out
+    rank_alone low a h n net r told = elim told [
+      | inl all ↦ all.0 ∙ rank_longest t v a h ∙ sym (spared_rank (subst (λ (x : Network). IsSpared x.graph.ends x.meters.touches e) net all.1))
+      | inr less ↦ less.0 ∙ sym (costly_rank (subst (λ (x : Network). IsCostly x.graph.ends x.meters.touches e) net less.1) low a h)
+    ]

@@ -1,4 +1,6 @@
 pub mod Restored
+pub mod LeftOut
+pub mod WithoutRow
 pub mod InOutage
 pub mod Carried
 pub mod Costing

@@ -35,7 +35,8 @@ use Rattle.obs_network.proofs.SideLists.{in_side, side_in, side_low}
 use Rattle.obs_network.proofs.Vertices.{case_vertex_component-bus}
 use Rattle.obs_kept.specs.Kept.{AreLongest}
 use Rattle.obs_outage.specs.Feeds.{component_pairs}
-use Rattle.obs_outage.specs.Lost.{IsConfinedBeside, IsUnfedBeside, counts_at}
+use Rattle.obs_outage.specs.Lost.{IsConfined, IsUnfedBeside, counts_at}
+use Rattle.obs_outage.specs.Settled.{IsFreed}
 use Rattle.obs_outage.proofs.ByComponent.{lies_in}
 use Rattle.obs_outage.proofs.InOutage.{rank_longest}
 use Rattle.obs_outage.proofs.Losing.{any_from, any_in, count_by-branches, ends_in, lost_pairs, sum_is}
@@ -83,7 +84,7 @@ once e (x ∷ xs) d =
     ]
 
 module _ (t : Tables) (v : IsValid t) (e c : ℕ) (side : List ℕ) (p : IsParted t e c side) (none : HasSourceBeside t c side → ⊥) (a : Assignment) (h : AreLongest t a)
-    (confined : IsConfinedBeside (network_of t) a e side) where
+    (freed : IsFreed true (network_of t) a e side) where
   abbrev f : Found t e c side
   f = found t v e c side p
 
@@ -145,8 +146,8 @@ module _ (t : Tables) (v : IsValid t) (e c : ℕ) (side : List ℕ) (p : IsParte
         | inr i ↦ elim f.leads [ inl q ↦ inr (sym i ∙ second ∙ q.1) | inr q ↦ inl (sym i ∙ second ∙ q.0) ]
       ]
 
-  alone : (m j : ℕ) → In (m, e) A → In j (touch_at ends (case_meters t) m) → IsSome (slice_index_or (case_branches out) j None) → ⊥
-  alone m j i hj some =
+  alone : IsConfined true (network_of t) a e side → (m j : ℕ) → In (m, e) A → In j (touch_at ends (case_meters t) m) → IsSome (slice_index_or (case_branches out) j None) → ⊥
+  alone confined m j i hj some =
       let touch = slice_index_or (case_meters t) m Nothing in
       let off = stays_off t v e c side p f l d f.leads fed dark j some in
       elim (by_hub ends touch) [
@@ -156,7 +157,7 @@ module _ (t : Tables) (v : IsValid t) (e c : ℕ) (side : List ℕ) (p : IsParte
         | inr hub ↦
             let common = common_vertex ends touch in
             let is : on_it common ≡ true = elim (at_row common (touched-vertex ends touch e (assigned.touched (m, e) i))) [
-              | inl one ↦ absurd (confined m hub.0 (slot_from a.slots (m, e) i) hub.1 (subst (λ z. In z side) (sym one ∙ hub.2) here))
+              | inl one ↦ absurd ((confined m hub.0 (slot_from a.slots (m, e) i) hub.1).1 refl (subst (λ z. In z side) (sym one ∙ hub.2) here))
               | inr two ↦ ap on_it two ∙ on_other
             ] in
             clash is (elim (touched-vertex ends touch j hj) [ inl s ↦ ap on_it (sym s) ∙ off.0 | inr s ↦ ap on_it (sym s) ∙ off.1 ])
@@ -281,7 +282,7 @@ module _ (t : Tables) (v : IsValid t) (e c : ℕ) (side : List ℕ) (p : IsParte
       → case_rank out + length (filter (lies_in t v c) A) + held ≡ length A + counted
   beside_rank held one zero =
       let all = rank_longest t v a h in
-      let less = rank_less t v e c side p f l d f.leads fed dark A assigned alone all in
+      let less = rank_less t v e c side p f l d f.leads fed dark A assigned (elim freed [ inl confined ↦ inl (alone confined) | inr costly ↦ inr costly ]) all in
       let sums = as_much goes_off lost_here (lies_in t v c) of_row A balance in
       let distinct = distinct_branches ends (branches A) assigned.forest in
       let row_pairs = count_by-branches (λ k. k == e) A in
@@ -293,11 +294,11 @@ module _ (t : Tables) (v : IsValid t) (e c : ℕ) (side : List ℕ) (p : IsParte
 
 -- the same, by what a body has
 pub beside_by : (t : Tables) → IsValid t → (e c : ℕ) (side : List ℕ) → (u : IsUnfedBeside t e side) → (a : Assignment) → AreLongest t a → (n : Network) → n ≡ network_of t → component_of_branch n e ≡ Some c
-    → IsConfinedBeside n a e side → (ends : List (Option Ends)) → ends ≡ case_branches t → (sum : ℕ) → sum ≡ sum_by (λ w. count_by (counts_at ends a.forest.held e w) (branches_at ends w)) side
+    → IsFreed true n a e side → (ends : List (Option Ends)) → ends ≡ case_branches t → (sum : ℕ) → sum ≡ sum_by (λ w. count_by (counts_at ends a.forest.held e w) (branches_at ends w)) side
     → (own : ℕ) → own ≡ component_pairs t c a → (held : Bool) → (IsTrue held ↔ IsSome (slice_index_or a.forest.held e None)) → case_rank (outage_case t e) + own + cond held 1 0 ≡ length (pairs a) + sum
-beside_by t v e c side u a h n net at confined ends same sum is own owned held exactly =
+beside_by t v e c side u a h n net at freed ends same sum is own owned held exactly =
     let one : u.0 ≡ c = one_number u.0 c (sym u.1.component ∙ ap (λ (x : Network). component_of_branch x e) (sym net) ∙ at) in
-    let row = beside_rank t v e u.0 side u.1 u.2 a h (subst (λ (x : Network). IsConfinedBeside x a e side) net confined) (cond held 1 0)
+    let row = beside_rank t v e u.0 side u.1 u.2 a h (subst (λ (x : Network). IsFreed true x a e side) net freed) (cond held 1 0)
     (λ s. ap (λ b. cond {A = ℕ} b 1 0) (exactly.1 s))
     (λ s. elim (cases_Bool held) [ inl yes_held ↦ clash (exactly.0 yes_held) s | inr off ↦ ap (λ b. cond {A = ℕ} b 1 0) off ]) in
     let all = is ∙ ap (λ (xs : List (Option Ends)). sum_by (λ w. count_by (counts_at xs a.forest.held e w) (branches_at xs w)) side) same in

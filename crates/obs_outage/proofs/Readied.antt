@@ -1,24 +1,40 @@
 -- What is ready for one outage is ready for the next.
-use Rattle.std.proofs.Common.{◌≡◌, sym, ap, ◌∙◌, subst}
+use Rattle.std.proofs.Common.{◌≡◌, ◌≤◌, length, sym, ap, ◌∙◌, subst}
+use Rattle.obs_graph.specs.Positions.{AreBranches}
 use Rattle.obs_case.specs.Tables.{Tables}
-use Rattle.obs_network.specs.Network.{Network, network_of}
+use Rattle.obs_meter.specs.Sizes.{HasRoomFor}
+use Rattle.obs_network.specs.Network.{Network}
 use Rattle.obs_network.specs.Sides.{Sides}
-use Rattle.obs_kept.specs.Kept.{AreLongest, AreLongestOver, HasRoom}
+use Rattle.obs_kept.specs.Kept.{AreLongest, AreLongestOver, HasRoom, network_sizes}
 use Rattle.obs_kept.specs.declared.kept.Kept.{Kept}
-use Rattle.obs_outage.specs.Ready.{IsReady}
+use Rattle.obs_outage.specs.Ready.{IsBasisOf, IsReady}
 use Rattle.obs_outage.specs.Sparing.{Spared}
 use Rattle.obs_outage.specs.Told.{AreTold}
+use Rattle.obs_outage.specs.Without.{IsCopy}
+use Rattle.obs_outage.specs.declared.basis.Basis.{Basis}
+use Rattle.obs_outage.specs.declared.rowless.Without.{Without}
 
-module _ (t : Tables) (k : Kept) (o : Network) (s : Sides) (f : Spared) (h : IsReady k o s f) (net : k.network ≡ network_of t) where
-  pub longest_of : AreLongest t k.pairs
-  longest_of = subst (λ (x : Network). AreLongestOver x k.pairs) net h.longest
+-- with other longest pairs over the network
+pub ready_again : (k : Kept) (w : Without) (s : Spared) → IsReady k w s → (k1 : Kept) (w1 : Without) → k1.network ≡ k.network → AreLongestOver k.network k1.pairs → HasRoom k.network k1.pairs k1.work → IsCopy k.network w1 → IsReady k1 w1 s
+ready_again k w s h k1 w1 same longest room copy = record {
+  longest = subst (λ (x : Network). AreLongestOver x k1.pairs) (sym same) longest;
+  room = subst (λ (x : Network). HasRoom x k1.pairs k1.work) (sym same) room;
+  copy = subst (λ (x : Network). IsCopy x w1) (sym same) copy;
+  fits = subst (λ (x : Network). HasRoomFor (network_sizes x) x.graph x.meters.touches) (sym same) h.fits;
+  branches = subst (λ (x : Network). AreBranches x.graph.vertices x.graph.ends) (sym same) h.branches;
+  rows = subst (λ (x : Network). x.rows.branches ≤ length x.graph.ends) (sym same) h.rows;
+  told = subst (λ (x : Network). AreTold x s) (sym same) h.told;
+}
 
-  pub ready_again : (k1 : Kept) (o1 : Network) (s1 : Sides) → k1.network ≡ k.network → AreLongest t k1.pairs → HasRoom k.network k1.pairs k1.work → o1 ≡ k.network → s1.most_vertices ≡ s.most_vertices
-      → IsReady k1 o1 s1 f
-  ready_again k1 o1 s1 same longest room other sides = record {
-    longest = subst (λ (x : Network). AreLongestOver x k1.pairs) (sym (same ∙ net)) longest;
-    room = subst (λ (x : Network). HasRoom x k1.pairs k1.work) (sym same) room;
-    other = other ∙ sym same;
-    sides = sides ∙ (h.sides ∙ ap (λ (x : Network). x.graph.most_vertices) (sym same));
-    told = subst (λ (x : Network). AreTold x f) (sym same) h.told;
+module _ (t : Tables) (b : Basis) (h : IsBasisOf t b) where
+  pub longest_of : AreLongest t b.kept.pairs
+  longest_of = subst (λ (x : Network). AreLongestOver x b.kept.pairs) h.network h.basis.ready.longest
+
+  -- the pairs, the network to leave a row out of, and the walks are others
+  pub basis_again : (k1 : Kept) (w1 : Without) (s1 : Sides) → IsReady k1 w1 b.spared → k1.network ≡ b.kept.network → s1.most_vertices ≡ b.sides.most_vertices
+      → IsBasisOf t (record { kept = k1; without = w1; sides = s1; spared = b.spared; feeds = b.feeds })
+  basis_again k1 w1 s1 ready same sides = record {
+    basis = record { ready = ready; sides = sides ∙ h.basis.sides ∙ ap (λ (x : Network). x.graph.most_vertices) (sym same) };
+    network = same ∙ h.network;
+    feeds = h.feeds;
   }

@@ -41,17 +41,17 @@ not_live buses [] at = refl
 not_live buses (row ∷ rows) zero = refl
 not_live buses (row ∷ rows) (suc at) = not_live buses rows at
 
-at_map : (f : Option Ends → Option Ends) → f None ≡ None → (xs : List (Option Ends)) (k : ℕ) → get_or (map f xs) k None ≡ f (get_or xs k None)
-at_map f none [] k = sym none
-at_map f none (x ∷ xs) zero = refl
-at_map f none (x ∷ xs) (suc k) = at_map f none xs k
+pub at_map : {X : Type 0} (f : X → X) (d : X) → f d ≡ d → (xs : List X) (k : ℕ) → get_or (map f xs) k d ≡ f (get_or xs k d)
+at_map f d same [] k = sym same
+at_map f d same (x ∷ xs) zero = refl
+at_map f d same (x ∷ xs) (suc k) = at_map f d same xs k
 
 pub row_gone : (t : Tables) (e : ℕ) → get_or (case_rows (outage_case t e)) e None ≡ None
 unfolding case_rows case_live
 row_gone t e =
     let out = outage_case t e in
     let f = if_energised (case_components out) (case_energised out) in
-    at_map f refl (case_live out) e ∙ ap f (not_live (case_buses t) t.branches e)
+    at_map f None refl (case_live out) e ∙ ap f (not_live (case_buses t) t.branches e)
 
 pub row_here : (t : Tables) (e : ℕ) → e < length t.branches → get_or (case_branches t) e None ≡ get_or (case_rows t) e None
 unfolding case_branches

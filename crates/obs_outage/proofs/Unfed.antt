@@ -1,7 +1,7 @@
 -- What the outage of a row takes from the rank, where a side of it has no source: the pairs whose branch goes.
 use Rattle.std.proofs.Common.{◌≡◌, ℕ, suc, ◌+◌, ◌<◌, ◌≤◌, Bool, true, false, not, eqb, ◌⊎◌, inl, inr, Option, Some, None, List, [], ◌∷◌, ◌++◌, length, filter, get_or, refl, sym, ap, ◌∙◌, subst, arith, length-append}
 use Rattle.std.specs.Prelude.{IsSome, is_some, slice_index_or}
-use Rattle.std.proofs.lemmas.Bool.{and_parts, cases_Bool, cases_eq, eq-eqb, eqb-true, ne_eqb}
+use Rattle.std.proofs.lemmas.Bool.{and_parts, cases_Bool, eq-eqb, eqb-true, ne_eqb}
 use Rattle.obs_graph.specs.declared.Ends.{Ends}
 use Rattle.obs_graph.specs.Joined.{Leads, first_joined}
 use Rattle.obs_graph.proofs.Chains.{Chain-from_same_first, first_joined-contains}
@@ -37,6 +37,7 @@ use Rattle.obs_network.proofs.PartedNeeds.{Fed, Found, apart, loose, low, row_at
 use Rattle.obs_network.proofs.SideLists.{chain_low}
 use Rattle.obs_network.proofs.Spared.{live_elsewhere}
 use Rattle.obs_network.proofs.Vertices.{row_or_angle}
+use Rattle.obs_outage.specs.Costly.{IsCostly}
 use Rattle.obs_outage.proofs.InOutage.{as_many_rows, assigns_before, out_valid, rank_is}
 use Rattle.obs_outage.proofs.Restored.{row_gone, row_here}
 use Rattle.obs_outage.proofs.SideForests.{Crosses, Has, both_sides, with_bridge}
@@ -200,23 +201,22 @@ module _ (t : Tables) (v : IsValid t) (e c : ℕ) (side : List ℕ) (p : IsParte
   abbrev touches : List Touch
   touches = case_meters t
 
-  module _ (A : List Pair) (a : IsAssignmentAt ends touches (every_item touches) A)
-      (alone : (m j : ℕ) → In (m, e) A → In j (touch_at ends touches m) → IsSome (slice_index_or (case_branches out) j None) → ⊥) where
-    -- a meter whose branch goes touches no branch that stays
-    touches_none : (q : Pair) → In q A → leaves q ≡ true → (j : ℕ) → In j (touch_at ends touches q.0) → IsSome (slice_index_or (case_branches out) j None) → ⊥
-    touches_none q i lv j h some =
-        elim (cases_eq q.1 e) [
-          | inl is ↦ alone q.0 j (subst (λ (k : ℕ). In (q.0, k) A) is i) h some
-          | inr ne ↦
-              let touch = slice_index_or touches q.0 Nothing in
-              let k = q.1 in
-              let here = goes_on k ne (touched-present ends touch k (a.touched q i)) (gone_at q lv) in
-              let off = stays_off j some in
-              let common = common_vertex ends touch in
-              let hub : on common ≡ true = elim (touched-vertex ends touch k (a.touched q i)) [ inl s ↦ ap on (sym s) ∙ here.0 | inr s ↦ ap on (sym s) ∙ here.1 ] in
-              let not_hub : on common ≡ false = elim (touched-vertex ends touch j h) [ inl s ↦ ap on (sym s) ∙ off.0 | inr s ↦ ap on (sym s) ∙ off.1 ] in
-              clash hub not_hub
-        ]
+  -- the meter that has the row touches no branch that stays, or the row is costly
+  abbrev pub IsAlone : List Pair → Type 0
+  IsAlone A = ((m j : ℕ) → In (m, e) A → In j (touch_at ends touches m) → IsSome (slice_index_or (case_branches out) j None) → ⊥) ⊎ IsCostly ends touches e
+
+  module _ (A : List Pair) (a : IsAssignmentAt ends touches (every_item touches) A) (confined : IsAlone A) where
+    -- a meter whose branch goes, and isn't the row, touches no branch that stays
+    touches_none : (q : Pair) → In q A → leaves q ≡ true → (q.1 ≡ e → ⊥) → (j : ℕ) → In j (touch_at ends touches q.0) → IsSome (slice_index_or (case_branches out) j None) → ⊥
+    touches_none q i lv ne j h some =
+        let touch = slice_index_or touches q.0 Nothing in
+        let k = q.1 in
+        let here = goes_on k ne (touched-present ends touch k (a.touched q i)) (gone_at q lv) in
+        let off = stays_off j some in
+        let common = common_vertex ends touch in
+        let hub : on common ≡ true = elim (touched-vertex ends touch k (a.touched q i)) [ inl s ↦ ap on (sym s) ∙ here.0 | inr s ↦ ap on (sym s) ∙ here.1 ] in
+        let not_hub : on common ≡ false = elim (touched-vertex ends touch j h) [ inl s ↦ ap on (sym s) ∙ off.0 | inr s ↦ ap on (sym s) ∙ off.1 ] in
+        clash hub not_hub
 
     module _ (B : List Pair) (b : IsAssignmentAt (case_branches out) (case_meters out) (every_item (case_meters out)) B) where
       was : IsAssignmentAt ends touches (every_item touches) B
@@ -230,12 +230,12 @@ module _ (t : Tables) (v : IsValid t) (e c : ℕ) (side : List ℕ) (p : IsParte
 
       -- pairs that go, but for that of the row, together with those of an assignment of the outage case
       module _ (P : List Pair) (from : (q : Pair) → In q P → In q A × (leaves q ≡ true)) (different : IsDistinct (items P)) where
-        other_items : (m : ℕ) → In m (items P) → In m (items B) → ⊥
-        other_items m i h =
+        other_items : ((q : Pair) → In q P → (q.1 ≡ e → ⊥)) → (m : ℕ) → In m (items P) → In m (items B) → ⊥
+        other_items none m i h =
             let q = In-items_from P m i in
             let r = In-items_from B m h in
             let u = from q.0 q.1 in
-            touches_none q.0 u.0 u.1 r.0.1 (subst (λ (z : ℕ). In r.0.1 (touch_at ends touches z)) (sym r.2 ∙ q.2) (was.touched r.0 r.1)) (there r.0 r.1)
+            touches_none q.0 u.0 u.1 (none q.0 q.1) r.0.1 (subst (λ (z : ℕ). In r.0.1 (touch_at ends touches z)) (sym r.2 ∙ q.2) (was.touched r.0 r.1)) (there r.0 r.1)
 
         free : IsIndependent (graph_matroid size ends) (branches P)
         free =
@@ -262,12 +262,21 @@ module _ (t : Tables) (v : IsValid t) (e c : ℕ) (side : List ℕ) (p : IsParte
           joined_pairs = from_matroid size ends touches (every_item touches) (P ++ B) (record {
             of_items = λ q i. elim (In-append_cases q P B i) [ inl j ↦ a.of_items q (from q j).0 | inr j ↦ was.of_items q j ];
             touched = λ q i. elim (In-append_cases q P B i) [ inl j ↦ a.touched q (from q j).0 | inr j ↦ was.touched q j ];
-            different = subst (λ (z : List ℕ). IsDistinct z) (sym (items-append P B)) (IsDistinct-append (items P) (items B) different was.different other_items);
+            different = subst (λ (z : List ℕ). IsDistinct z) (sym (items-append P B)) (IsDistinct-append (items P) (items B) different was.different (other_items none));
             independent = subst (λ (z : List ℕ). IsIndependent (graph_matroid size ends) z) (sym (branches-append P B)) together;
           })
 
-          with_row : (m : ℕ) → In (m, e) A → (In m (items P) → ⊥) → IsAssignmentAt ends touches (every_item touches) ((m, e) ∷ (P ++ B))
-          with_row m i new =
+          without_row : In e (branches (P ++ B)) → ⊥
+          without_row i =
+              let q = In-branches_from (P ++ B) e i in
+              elim (In-append_cases q.0 P B q.1) [
+                | inl j ↦ none q.0 j (sym q.2)
+                | inr j ↦ row_off (subst (λ (k : ℕ). IsSome (slice_index_or (case_branches out) k None)) (sym q.2) (there q.0 j))
+              ]
+
+          with_row : ((m j : ℕ) → In (m, e) A → In j (touch_at ends touches m) → IsSome (slice_index_or (case_branches out) j None) → ⊥)
+              → (m : ℕ) → In (m, e) A → (In m (items P) → ⊥) → IsAssignmentAt ends touches (every_item touches) ((m, e) ∷ (P ++ B))
+          with_row alone m i new =
               let off : In m (items B) → ⊥ = λ h.
               let r = In-items_from B m h in
               alone m r.0.1 i (subst (λ (z : ℕ). In r.0.1 (touch_at ends touches z)) (sym r.2) (was.touched r.0 r.1)) (there r.0 r.1) in
@@ -304,10 +313,17 @@ module _ (t : Tables) (v : IsValid t) (e c : ℕ) (side : List ℕ) (p : IsParte
                 let apart_pairs = distinct_branches ends (branches P) (forest_at-from_independent size ends (branches P) (free P from different)) in
                 let none : (r : Pair) → In r R → (r.1 ≡ e → ⊥) =
                 λ r j same. other_ne m r.0 (less r j).1 (ap (λ (z : Pair). z.0) (same_pair_by_branch P r (m, e) apart_pairs (less r j).0 is same)) in
-                let x = with_row R (λ r j. from r (less r j).0) (IsDistinct-part (other_than m) P different) none m (from (m, e) is).0
-                (λ j. let r = In-items_from R m j in other_ne m r.0.0 (less r.0 r.1).1 (sym r.2)) in
-                let le = s.none_longer ((m, e) ∷ (R ++ B)) (every-to_live ends touches ((m, e) ∷ (R ++ B)) x) in
-                omega (arith, le, one, length-append R B)
+                let parts = IsDistinct-part (other_than m) P different in
+                elim confined [
+                  | inl alone ↦
+                      let x = with_row R (λ r j. from r (less r j).0) parts none alone m (from (m, e) is).0
+                      (λ j. let r = In-items_from R m j in other_ne m r.0.0 (less r.0 r.1).1 (sym r.2)) in
+                      let le = s.none_longer ((m, e) ∷ (R ++ B)) (every-to_live ends touches ((m, e) ∷ (R ++ B)) x) in
+                      omega (arith, le, one, length-append R B)
+                  | inr costly ↦
+                      let lt = costly.shorter (case_rank t) s (R ++ B) (joined_pairs R (λ r j. from r (less r j).0) parts none) (without_row R (λ r j. from r (less r j).0) parts none) in
+                      omega (arith, lt, one, length-append R B)
+                ]
           ]
 
     -- what the outage takes from the rank

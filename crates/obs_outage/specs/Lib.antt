@@ -5,7 +5,8 @@ pub mod Spared
 pub mod Sparing
 pub mod Costly
 pub mod Alone
-pub mod Entry
+pub mod Settled
+pub mod Without
 pub mod Told
 pub mod Ready
 pub mod Lost

@@ -1,17 +1,42 @@
 -- What stays as it is while outages are found.
-use Rattle.std.specs.Prelude.{◌≡◌}
-use Rattle.obs_network.specs.Network.{Network}
-use Rattle.obs_network.specs.Sides.{Sides}
-use Rattle.obs_kept.specs.Kept.{AreLongestOver, HasRoom}
+use Rattle.std.specs.Prelude.{◌≡◌, ◌≤◌, length}
+use Rattle.obs_graph.specs.Positions.{AreBranches}
+use Rattle.obs_case.specs.Tables.{Tables}
+use Rattle.obs_meter.specs.Sizes.{HasRoomFor}
+use Rattle.obs_network.specs.Network.{network_of}
+use Rattle.obs_kept.specs.Kept.{AreLongest, AreLongestOver, HasRoom, network_sizes}
 use Rattle.obs_kept.specs.declared.kept.Kept.{Kept}
+use Rattle.obs_outage.specs.Feeds.{AreFeeds}
 use Rattle.obs_outage.specs.Sparing.{Spared}
 use Rattle.obs_outage.specs.Told.{AreTold}
+use Rattle.obs_outage.specs.Without.{IsCopy}
+use Rattle.obs_outage.specs.declared.basis.Basis.{Basis}
+use Rattle.obs_outage.specs.declared.rowless.Without.{Without}
 
--- the pairs are longest over the kept network, with room for them and their searches; the other network is the kept one, the walks have room
--- for it, and what is told of its branches is so
-pub record IsReady (kept : Kept) (aside : Network) (walks : Sides) (spared : Spared) : Type 0 where
+-- the pairs are longest over the kept network, with room for them and their searches; the network to leave a row out of is the kept one, and
+-- what is told of its branches is so
+pub record IsReady (kept : Kept) (without : Without) (spared : Spared) : Type 0 where
   pub longest : AreLongestOver kept.network kept.pairs
   pub room : HasRoom kept.network kept.pairs kept.work
-  pub other : aside ≡ kept.network
-  pub sides : walks.most_vertices ≡ kept.network.graph.most_vertices
+  pub copy : IsCopy kept.network without
+  pub fits : HasRoomFor (network_sizes kept.network) kept.network.graph kept.network.meters.touches
+  pub branches : AreBranches kept.network.graph.vertices kept.network.graph.ends
+  pub rows : kept.network.rows.branches ≤ length kept.network.graph.ends
   pub told : AreTold kept.network spared
+
+-- the kept network is that of a case, with longest pairs, and room for them and their searches
+pub record IsKeptOf (t : Tables) (kept : Kept) : Type 0 where
+  pub network : kept.network ≡ network_of t
+  pub longest : AreLongest t kept.pairs
+  pub room : HasRoom kept.network kept.pairs kept.work
+
+-- what is ready for outages, and the walks have room for the network
+pub record IsBasis (b : Basis) : Type 0 where
+  pub ready : IsReady b.kept b.without b.spared
+  pub sides : b.sides.most_vertices ≡ b.kept.network.graph.most_vertices
+
+-- the kept network is that of a case, and so are the sources
+pub record IsBasisOf (t : Tables) (b : Basis) : Type 0 where
+  pub basis : IsBasis b
+  pub network : b.kept.network ≡ network_of t
+  pub feeds : AreFeeds t b.feeds

@@ -1,23 +1,28 @@
 // The entry of a row that parts the buses of its component, where no pairs need be counted.
-ghost use Rattle.std.specs.Prelude.{◌≡◌, ◌≢◌, ◌-◌, ◌<◌, ◌≤◌, ◌^◌, All, IfSome, length, slice_index, sum_by, true};
+ghost use Rattle.std.specs.Prelude.{◌≡◌, ◌≢◌, ◌-◌, ◌<◌, ◌≤◌, ◌^◌, All, IfSome, IsTrue, false, length, slice_index, sum_by, true};
 ghost use Rattle.obs_case.specs.Tables.{IsValid};
 ghost use Rattle.obs_matroid.specs.Lists.{In};
 ghost use Rattle.obs_kept.specs.Kept.{AreLongest};
 ghost use Rattle.obs_network.specs.Network.{case_needed, case_rows, network_of};
 ghost use Rattle.obs_network.specs.Parted.{IsSide, outage_case};
-ghost use Rattle.obs_outage.specs.Feeds.{AreFeeds, IsFall};
-ghost use Rattle.obs_outage.specs.Lost.{IsConfined, IsConfinedBeside, IsUnfed, IsUnfedBeside};
-ghost use Rattle.obs_outage.specs.Outages.{outage_of, outage_rows};
-ghost use Rattle.obs_outage.specs.Told.{AreTold};
+ghost use Rattle.obs_outage.specs.Feeds.{AreFeeds, IsFall, TakesAlone};
+ghost use Rattle.obs_outage.specs.Lost.{IsUnfed, IsUnfedBeside};
+ghost use Rattle.obs_outage.specs.Outages.{AllStand, outage_of, outage_rows};
+ghost use Rattle.obs_outage.specs.Ready.{IsBasisOf, IsReady};
+ghost use Rattle.obs_outage.specs.Settled.{IsFreed, IsMissed};
 
 use crate::Outage;
-use crate::dead::{count_lost, is_confined, is_confined_beside};
-use crate::entry::known_entry;
+use crate::basis::Basis;
+use crate::dead::{count_lost, is_confined};
 use crate::feeds::Feeds;
+use crate::rowless::Without;
+use crate::short_way::{rank_without, settle};
 use crate::spared::Spared;
-use obs_assign::Assignment;
+use obs_assign::{Assignment, Steps};
 use obs_case::Case;
+use obs_kept::Kept;
 use obs_network::Network;
+use std::sync::ledger::Ledger;
 
 /// How many sources some buses have.
 fn sources_of(of_buses: &[u32], side: &[u32]) -> u64
@@ -49,23 +54,27 @@ fn fall(size: u32, sources: u64, buses: u32, here: u64) -> u32
     }
 }
 
-/// By how much the needed number falls without a row that parts its component, where this isn't absolute; and whether the
-/// listed side has no source, and whether the other has none.
-fn fall_without(
-    case: &Case,
-    e: u32,
-    network: &Network,
-    feeds: &Feeds,
-    side: &[u32],
-) -> Option<(u32, bool, bool)>
+/// What an outage takes from the needed number, and which side goes.
+#[derive(Clone, Copy)]
+struct Loss {
+    less: u32,
+    // the listed side has no source
+    listed: bool,
+    // the other side has none
+    other: bool,
+}
+
+/// By how much the needed number falls without a row that parts its component, where this isn't absolute.
+fn fall_without(case: &Case, e: u32, network: &Network, feeds: &Feeds, side: &[u32]) -> Option<Loss>
     requires valid { IsValid case.now }
     requires network { network.now ≡ network_of case.now }
     requires feeds { AreFeeds case.now feeds.now }
     requires row { In e (outage_rows case.now) }
     requires side { IsSide (case_rows case.now) e side.now }
-    ensures fall { IfSome result (λ r. IsFall case.now e r.0) }
-    ensures unfed { IfSome result (λ r. r.1 ≡ true → IsUnfed case.now e side.now) }
-    ensures beside { IfSome result (λ r. r.2 ≡ true → IsUnfedBeside case.now e side.now) }
+    ensures fall { IfSome result (λ r. IsFall case.now e r.less) }
+    ensures listed { IfSome result (λ r. r.listed ≡ true → IsUnfed case.now e side.now) }
+    ensures other { IfSome result (λ r. r.other ≡ true → IsUnfedBeside case.now e side.now) }
+    ensures both { IfSome result (λ r. r.listed ≡ false → r.other ≡ false → TakesAlone case.now e) }
 {
     let c = network.component_of_branch(e)?;
     if network.absolute(c) {
@@ -74,7 +83,11 @@ fn fall_without(
     let here = sources_of(feeds.of_buses(), side);
     let sources = u64::from(feeds.of_component(c));
     let less = fall(network.size(c), sources, side.len() as u32, here);
-    Some((less, here == 0, here == sources))
+    Some(Loss {
+        less,
+        listed: here == 0,
+        other: here == sources,
+    })
 }
 
 /// The entry of a row where the listed side has no source: the pairs that it loses are gone.
@@ -90,7 +103,7 @@ fn unfed_entry(
     requires network { network.now ≡ network_of case.now }
     requires longest { AreLongest case.now pairs.now }
     requires unfed { IsUnfed case.now e side.now }
-    requires confined { IsConfined network.now pairs.now e side.now }
+    requires freed { IsFreed false network.now pairs.now e side.now }
     requires needed { needed ≡ case_needed (outage_case case.now e) }
     ensures entry { result ≡ outage_of case.now e }
 {
@@ -118,7 +131,7 @@ fn beside_entry(
     requires feeds { AreFeeds case.now feeds.now }
     requires row { In e (outage_rows case.now) }
     requires unfed { IsUnfedBeside case.now e side.now }
-    requires confined { IsConfinedBeside network.now pairs.now e side.now }
+    requires freed { IsFreed true network.now pairs.now e side.now }
     requires needed { needed ≡ case_needed (outage_case case.now e) }
     ensures entry { IfSome result (λ o. o ≡ outage_of case.now e) }
 {
@@ -134,44 +147,112 @@ fn beside_entry(
     })
 }
 
-/// The entry of a row that parts its component, where this isn't absolute: an observable case stays observable; else
-/// the pairs that go are counted where a side has no source, or it can be known where no other branch goes. Nothing is made or searched.
-pub(crate) fn parted_entry(
+/// Makes the pairs miss the row, where it is had by a meter that touches branches on the side that stays, and it isn't costly.
+/// Where the listed side stays, `beyond` is set.
+fn frees<L: Ledger>(
+    e: u32,
+    beyond: bool,
+    side: &[u32],
+    kept: &mut Kept,
+    without: &mut Without,
+    spared: &Spared,
+    steps: &mut Steps<L>,
+) -> bool
+    requires ready { IsReady kept.old without.old spared.now }
+    requires row { e < kept.old.network.rows.branches }
+    ensures freed { IsTrue result → IsFreed beyond kept.old.network kept.new.pairs e side.now }
+    ensures ready { IsReady kept.new without.new spared.now }
+    ensures network { kept.new.network ≡ kept.old.network }
+    ensures quiet { IsMissed kept.old.pairs e → (steps.new ≡ steps.old) × (kept.new.pairs ≡ kept.old.pairs) }
+{
+    if is_confined(&kept.network, &kept.pairs, e, side, beyond) {
+        return true;
+    }
+    if spared.flags()[e as usize] {
+        return false;
+    }
+    settle(e, kept, without, spared, steps);
+    true
+}
+
+/// The entry of a row with which one of its sides goes: the listed one, or the other.
+fn side_entry<L: Ledger>(
     case: &Case,
     e: u32,
-    network: &Network,
-    pairs: &Assignment,
-    spared: &Spared,
-    feeds: &Feeds,
-    side: &[u32],
+    needed: u32,
+    listed: bool,
+    basis: &mut Basis,
+    steps: &mut Steps<L>,
 ) -> Option<Outage>
     requires valid { IsValid case.now }
-    requires network { network.now ≡ network_of case.now }
-    requires longest { AreLongest case.now pairs.now }
-    requires told { AreTold network.now spared.now }
-    requires feeds { AreFeeds case.now feeds.now }
+    requires basis { IsBasisOf case.now basis.old }
     requires row { In e (outage_rows case.now) }
-    requires side { IsSide (case_rows case.now) e side.now }
+    requires needed { needed ≡ case_needed (outage_case case.now e) }
+    requires listed { listed ≡ true → IsUnfed case.now e basis.old.sides.found }
+    requires other { listed ≡ false → IsUnfedBeside case.now e basis.old.sides.found }
     ensures entry { IfSome result (λ o. o ≡ outage_of case.now e) }
+    ensures basis { IsBasisOf case.now basis.new }
+    ensures quiet { AllStand case.now basis.old.kept.pairs e →
+        (steps.new ≡ steps.old) × (basis.new.kept.pairs ≡ basis.old.kept.pairs) }
 {
-    let (fall, unfed, beside) = fall_without(case, e, network, feeds, side)?;
-    let before = network.needed();
-    let needed = before - fall;
-    if pairs.length() == before {
+    let side = basis.sides.found();
+    let freed = frees(
+        e,
+        !listed,
+        side,
+        &mut basis.kept,
+        &mut basis.without,
+        &basis.spared,
+        steps,
+    );
+    if freed {
+        let network = &basis.kept.network;
+        let pairs = &basis.kept.pairs;
+        if listed {
+            return Some(unfed_entry(case, e, network, pairs, side, needed));
+        }
+        return beside_entry(case, e, network, pairs, &basis.feeds, side, needed);
+    }
+    None
+}
+
+/// The entry of a row that parts its component, where this isn't absolute.
+pub(crate) fn parted_entry<L: Ledger>(
+    case: &Case,
+    e: u32,
+    basis: &mut Basis,
+    steps: &mut Steps<L>,
+) -> Option<Outage>
+    requires valid { IsValid case.now }
+    requires basis { IsBasisOf case.now basis.old }
+    requires row { In e (outage_rows case.now) }
+    requires side { IsSide (case_rows case.now) e basis.old.sides.found }
+    ensures entry { IfSome result (λ o. o ≡ outage_of case.now e) }
+    ensures basis { IsBasisOf case.now basis.new }
+    ensures quiet { AllStand case.now basis.old.kept.pairs e →
+        (steps.new ≡ steps.old) × (basis.new.kept.pairs ≡ basis.old.kept.pairs) }
+{
+    let side = basis.sides.found();
+    let fall = fall_without(case, e, &basis.kept.network, &basis.feeds, side)?;
+    let before = basis.kept.network.needed();
+    let needed = before - fall.less;
+    if basis.kept.pairs.length() == before {
         return Some(Outage {
             branch: e,
             rank: needed,
             needed,
         });
     }
-    if unfed && is_confined(network, pairs, e, side) {
-        return Some(unfed_entry(case, e, network, pairs, side, needed));
+    if fall.listed {
+        return side_entry(case, e, needed, true, basis, steps);
     }
-    if beside && is_confined_beside(network, pairs, e, side) {
-        return beside_entry(case, e, network, pairs, feeds, side, needed);
+    if fall.other {
+        return side_entry(case, e, needed, false, basis, steps);
     }
-    if fall == 1 {
-        return known_entry(pairs, spared, e, needed);
-    }
-    None
+    let rank = rank_without(e, &mut basis.kept, &mut basis.without, &basis.spared, steps);
+    Some(Outage {
+        branch: e,
+        rank,
+        needed,
+    })
 }

@@ -1,9 +1,9 @@
 // What the outage of a row takes where a side of it has no source: the pairs whose branch has an end there.
-ghost use Rattle.std.specs.Prelude.{◌≡◌, ◌<◌, ◌^◌, All, IsTrue, false, length, count_by, sum_by};
+ghost use Rattle.std.specs.Prelude.{◌≡◌, ◌<◌, ◌^◌, All, IsTrue, false, true, length, count_by, sum_by};
 ghost use Rattle.obs_graph.specs.Positions.{branches_at};
 ghost use Rattle.obs_matroid.specs.Lists.{In};
 ghost use Rattle.obs_assign.specs.Assignment.{IsWhole};
-ghost use Rattle.obs_outage.specs.Lost.{IsConfined, IsConfinedBeside, counts_at, has_first};
+ghost use Rattle.obs_outage.specs.Lost.{IsConfined, counts_at, has_first};
 
 use obs_assign::Assignment;
 use obs_graph::{Ends, Graph};
@@ -73,39 +73,35 @@ fn is_one_of(buses: &[u32], v: u32) -> bool
     false
 }
 
-/// Whether the meter that has the row, if one has it, touches no other branch or those at a bus of the side.
-pub(crate) fn is_confined(network: &Network, pairs: &Assignment, e: u32, side: &[u32]) -> bool
-    requires branch { e < length pairs.now.forest.held }
-    requires whole { IsWhole pairs.now }
-    requires meters { length pairs.now.slots ≡ length network.now.meters.touches }
-    requires one_each { length pairs.now.forest.held ≡ length network.now.graph.ends }
-    ensures confined { IsTrue result → IsConfined network.now pairs.now e side.now }
+// Whether a bus is one of some buses, or, where it is to be beyond them, none of them.
+fn is_there(buses: &[u32], v: u32, beyond: bool) -> bool
+    ensures here { IsTrue result → beyond ≡ false → In v buses.now }
+    ensures beyond { IsTrue result → beyond ≡ true → In v buses.now → ⊥ }
 {
-    match pairs.meter_of(e) {
-        Some(m) => match network.meters().hub(network.graph(), m) {
-            Some(hub) => is_one_of(side, hub.vertex),
-            None => true,
-        },
-        None => true,
+    let found = is_one_of(buses, v);
+    if beyond {
+        return !found;
     }
+    found
 }
 
-/// The same where the side beyond goes: the meter touches no other branch or those at a bus there.
-pub(crate) fn is_confined_beside(
+/// Whether the meter that has the row, if one has it, touches no other branch or those at a bus of the side, or beyond it.
+pub(crate) fn is_confined(
     network: &Network,
     pairs: &Assignment,
     e: u32,
     side: &[u32],
+    beyond: bool,
 ) -> bool
     requires branch { e < length pairs.now.forest.held }
     requires whole { IsWhole pairs.now }
     requires meters { length pairs.now.slots ≡ length network.now.meters.touches }
     requires one_each { length pairs.now.forest.held ≡ length network.now.graph.ends }
-    ensures confined { IsTrue result → IsConfinedBeside network.now pairs.now e side.now }
+    ensures confined { IsTrue result → IsConfined beyond network.now pairs.now e side.now }
 {
     match pairs.meter_of(e) {
         Some(m) => match network.meters().hub(network.graph(), m) {
-            Some(hub) => !is_one_of(side, hub.vertex),
+            Some(hub) => is_there(side, hub.vertex, beyond),
             None => true,
         },
         None => true,

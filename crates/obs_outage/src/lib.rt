@@ -1,6 +1,7 @@
 //! What becomes of a case where one branch goes out of service.
 #![tactic(auto)]
 
+mod basis;
 mod bridges;
 mod costly;
 mod dead;
@@ -11,6 +12,7 @@ mod listing;
 mod long_way;
 mod memory;
 mod outages;
+mod rowless;
 mod short_way;
 mod spared;
 

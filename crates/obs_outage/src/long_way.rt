@@ -10,11 +10,13 @@ ghost use Rattle.obs_exchange.specs.Longest.{IsMost};
 ghost use Rattle.obs_network.specs.Network.{network_of};
 ghost use Rattle.obs_kept.specs.Kept.{AreLongest, HasRoom};
 ghost use Rattle.obs_outage.specs.Outages.{AllStand, outage_of, outage_rows};
+ghost use Rattle.obs_outage.specs.Ready.{IsKeptOf};
 
 use crate::Outage;
 use obs_assign::{Assignment, Steps};
 use obs_case::Case;
 use obs_exchange::{Work, regrow};
+use obs_kept::Kept;
 use obs_network::Network;
 use std::sync::ledger::Ledger;
 
@@ -51,37 +53,43 @@ fn carry<L: Ledger>(
 pub(crate) fn outage_at<L: Ledger>(
     case: &mut Case,
     e: u32,
-    network: &Network,
-    other: &mut Network,
-    pairs: &mut Assignment,
-    work: &mut Work,
+    kept: &mut Kept,
     steps: &mut Steps<L>,
 ) -> Outage
     requires valid { IsValid case.old }
-    requires network { network.now ≡ network_of case.old }
+    requires kept { IsKeptOf case.old kept.old }
     requires row { In e (outage_rows case.old) }
-    requires longest { AreLongest case.old pairs.old }
-    requires room { HasRoom network.now pairs.old work.old }
-    requires other { other.old ≡ network.now }
     ensures entry { result ≡ outage_of case.old e }
-    ensures quiet { AllStand case.old pairs.old e →
-        (steps.new ≡ steps.old) × (pairs.new.turns ≡ pairs.old.turns) }
+    ensures quiet { AllStand case.old kept.old.pairs e →
+        (steps.new ≡ steps.old) × (kept.new.pairs.turns ≡ kept.old.pairs.turns) }
     ensures case { case.new ≡ case.old }
-    ensures longest { AreLongest case.old pairs.new }
-    ensures room { HasRoom network.now pairs.new work.new }
-    ensures other { other.new ≡ network.now }
+    ensures kept { IsKeptOf case.old kept.new }
 {
-    let most = pairs.length();
+    let most = kept.pairs.length();
     case.set_branch(e, false);
-    let _ = other.refresh_branch(case, e);
-    carry(case, other, most, pairs, work, steps);
+    let _ = kept.network.refresh_branch(case, e);
+    carry(
+        case,
+        &kept.network,
+        most,
+        &mut kept.pairs,
+        &mut kept.work,
+        steps,
+    );
     let entry = Outage {
         branch: e,
-        rank: pairs.length(),
-        needed: other.needed(),
+        rank: kept.pairs.length(),
+        needed: kept.network.needed(),
     };
     case.set_branch(e, true);
-    let _ = other.refresh_branch(case, e);
-    carry(case, network, most, pairs, work, steps);
+    let _ = kept.network.refresh_branch(case, e);
+    carry(
+        case,
+        &kept.network,
+        most,
+        &mut kept.pairs,
+        &mut kept.work,
+        steps,
+    );
     entry
 }

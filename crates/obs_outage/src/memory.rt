@@ -38,3 +38,11 @@ impl From<obs_graph::NoMemory> for NoMemory {
         NoMemory
     }
 }
+
+impl From<obs_meter::NoMemory> for NoMemory {
+    ghost from_gives = { λ _ e. e ≡ e };
+
+    fn from(_: obs_meter::NoMemory) -> Self {
+        NoMemory
+    }
+}

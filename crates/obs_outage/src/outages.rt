@@ -6,10 +6,12 @@ ghost use Rattle.obs_network.specs.Network.{network_of};
 ghost use Rattle.obs_kept.specs.Kept.{AreLongest, AreLongestOver};
 ghost use Rattle.obs_outage.specs.Outages.{AllStand, outage_of, outage_rows, outages_of};
 
+use crate::basis::Basis;
 use crate::entry::entry_of;
 use crate::feeds::Feeds;
 use crate::listing::list_outages;
 use crate::memory::NoMemory;
+use crate::rowless::Without;
 use crate::spared::Spared;
 use obs_assign::{Assignment, Steps};
 use obs_case::Case;
@@ -29,14 +31,7 @@ pub struct Outage {
 
 /// The network of a case and a longest assignment of its meters, kept for its outages, and the list that was found last.
 pub struct Outages {
-    kept: Kept,
-    // the kept network; on the way of one outage the network of its case
-    other: Network,
-    sides: Sides,
-    // branches that a longest assignment can miss
-    spared: Spared,
-    // the sources of the case that was handed last, and the pairs of its components
-    feeds: Feeds,
+    basis: Basis,
     // the first `count` of these are listed
     entries: Vec<Outage>,
     count: usize,
@@ -46,16 +41,16 @@ impl Model for Outages {
     ghost use Rattle.std.specs.Prelude.{◌≡◌, ◌≤◌, length, take};
     ghost use Rattle.obs_outage.specs.Feeds.{HasFeedRoom};
     ghost use Rattle.obs_outage.specs.Outages.{Outages};
-    ghost use Rattle.obs_outage.specs.Ready.{IsReady};
+    ghost use Rattle.obs_outage.specs.Ready.{IsBasis};
 
     ghost Value = { Outages };
 
-    ghost view = { λ o. record { network = o.kept.network; pairs = o.kept.pairs; found = take o.count o.entries.items } };
+    ghost view = { λ o. record { network = o.basis.kept.network; pairs = o.basis.kept.pairs; found = take o.count o.entries.items } };
 
     ghost invariant = { λ o. record {
-      ready : IsReady o.kept o.other o.sides o.spared;
-      feeds : HasFeedRoom o.kept.network.rows.nodes o.feeds;
-      entries : length o.entries.items ≡ o.kept.network.rows.branches;
+      basis : IsBasis o.basis;
+      feeds : HasFeedRoom o.basis.kept.network.rows.nodes o.basis.feeds;
+      entries : length o.entries.items ≡ o.basis.kept.network.rows.branches;
       listed : o.count ≤ length o.entries.items;
     } };
 }
@@ -64,11 +59,7 @@ impl Model for Outages {
 impl Drop for Outages {
     fn drop(self) {
         let Outages {
-            kept: _,
-            other: _,
-            sides: _,
-            spared: _,
-            feeds: _,
+            basis: _,
             entries: _,
             count: _,
         } = self;
@@ -93,19 +84,22 @@ impl Outages {
             rank: 0,
             needed: 0,
         };
-        let other = Network::make(alloc, case)?;
         let mut sides = Sides::make(alloc, vertex_room(case))?;
         let mut spared = Spared::make(alloc, case)?;
         let feeds = Feeds::make(alloc, case)?;
         let entries = vec![in alloc; none; case.branches().len()]?;
         let mut kept = Kept::make(alloc, case, steps)?;
         spared.find(case, &mut kept, &mut sides, steps);
-        Ok(Outages {
+        let without = Without::make(alloc, &kept.network)?;
+        let basis = Basis {
             kept,
-            other,
+            without,
             sides,
             spared,
             feeds,
+        };
+        Ok(Outages {
+            basis,
             entries,
             count: 0,
         })
@@ -115,7 +109,7 @@ impl Outages {
     pub fn network(&self) -> &Network
         ensures network { result.now ≡ self.now.network }
     {
-        &self.kept.network
+        &self.basis.kept.network
     }
 
     /// The kept pairs: a longest assignment over the kept network, with nothing frozen.
@@ -123,7 +117,7 @@ impl Outages {
         ensures pairs { result.now ≡ self.now.pairs }
         ensures longest { AreLongestOver self.now.network self.now.pairs }
     {
-        &self.kept.pairs
+        &self.basis.kept.pairs
     }
 
     /// The entry of one row: the rank and the needed number of the case where this branch is out of service. The
@@ -140,17 +134,10 @@ impl Outages {
         ensures longest { AreLongest case.old self.new.pairs }
         ensures found { self.new.found ≡ self.old.found }
     {
-        self.feeds.count(case, &self.kept.network, &self.kept.pairs);
-        entry_of(
-            case,
-            e,
-            &mut self.kept,
-            &mut self.other,
-            &mut self.sides,
-            &self.spared,
-            &self.feeds,
-            steps,
-        )
+        self.basis
+            .feeds
+            .count(case, &self.basis.kept.network, &self.basis.kept.pairs);
+        entry_of(case, e, &mut self.basis, steps)
     }
 
     /// Finds the outage list: an entry for each live row of an energised component, in order. `found` then has it.
@@ -161,17 +148,10 @@ impl Outages {
         ensures network { self.new.network ≡ self.old.network }
         ensures longest { AreLongest case.old self.new.pairs }
     {
-        self.feeds.count(case, &self.kept.network, &self.kept.pairs);
-        self.count = list_outages(
-            case,
-            &mut self.kept,
-            &mut self.other,
-            &mut self.sides,
-            &self.spared,
-            &self.feeds,
-            &mut self.entries,
-            steps,
-        );
+        self.basis
+            .feeds
+            .count(case, &self.basis.kept.network, &self.basis.kept.pairs);
+        self.count = list_outages(case, &mut self.basis, &mut self.entries, steps);
     }
 
     /// The outage list that was found last.

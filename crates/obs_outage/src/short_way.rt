@@ -1,25 +1,21 @@
-// One outage by the short way: of a row whose ends stay joined, and that a critical meter has.
-ghost use Rattle.std.specs.Prelude.{◌≡◌, ℕ, List, None, Some, length, slice_index_or};
+// The short way of one outage: one search, from the critical meter that has the row, over the network without it.
+ghost use Rattle.std.specs.Prelude.{◌≡◌, ◌<◌, ℕ, Some, false, length};
 ghost use Rattle.obs_graph.specs.Positions.{AreBranches};
-ghost use Rattle.obs_case.specs.Tables.{IsValid};
-ghost use Rattle.obs_matroid.specs.Assignments.{Pair};
-ghost use Rattle.obs_matroid.specs.Lists.{In};
-ghost use Rattle.obs_meter.specs.Assignments.{IsAssignmentAt, IsRhoAt};
 ghost use Rattle.obs_meter.specs.Sizes.{HasRoomFor};
-ghost use Rattle.obs_meter.specs.Touches.{every_item, live_items};
-ghost use Rattle.obs_assign.specs.Assignment.{Assignment, HasRoomOf, StandsOver, branch_at};
+ghost use Rattle.obs_meter.specs.Touches.{live_items};
+ghost use Rattle.obs_assign.specs.Assignment.{Assignment, HasRoomOf, StandsOver, branch_at, has_flag};
 ghost use Rattle.obs_exchange.specs.Critical.{IsCriticalAt};
-ghost use Rattle.obs_network.specs.Edited.{AreSameBut};
-ghost use Rattle.obs_network.specs.Network.{network_of};
-ghost use Rattle.obs_kept.specs.Kept.{AreLongest, AreLongestOver, HasRoom};
-ghost use Rattle.obs_network.specs.Parted.{outage_case};
+ghost use Rattle.obs_kept.specs.Kept.{AreLongestOver};
 ghost use Rattle.obs_outage.specs.Alone.{HasLost};
-ghost use Rattle.obs_outage.specs.Outages.{outage_of, outage_rows};
+ghost use Rattle.obs_outage.specs.Ready.{IsReady};
+ghost use Rattle.obs_outage.specs.Settled.{IsMissed, IsRankWithout, IsSettled};
+ghost use Rattle.obs_outage.specs.Without.{IsWithout};
 
-use crate::Outage;
+use crate::rowless::Without;
+use crate::spared::Spared;
 use obs_assign::{Assignment, Steps};
-use obs_case::Case;
 use obs_exchange::{Found, Sources, Work, search};
+use obs_kept::Kept;
 use obs_network::Network;
 use std::sync::ledger::Ledger;
 
@@ -43,88 +39,101 @@ fn give_back<L: Ledger>(
     let _ = search(g, ms, pairs, Sources::One(m), work, steps);
 }
 
-/// How many pairs there can be without a branch that the critical meter m has. The other network is without it and the same
-/// but for it. One search from m alone tells: no other meter can make up for the pair of a critical one. The pairs are longest
-/// over the first network again afterwards.
-fn rank_without<L: Ledger>(
+/// Takes a row from the critical meter m, and looks for another branch for it over the network without the row. No other meter can
+/// make up for the pair of a critical one, so this search tells whether the row is costly; the meter then gets it back.
+fn look_for_other<L: Ledger>(
     e: u32,
     m: u32,
     network: &Network,
-    other: &Network,
+    without: &Without,
     pairs: &mut Assignment,
     work: &mut Work,
     steps: &mut Steps<L>,
-) -> u32
-    requires same { AreSameBut e network.now other.now }
-    requires meters { length other.now.meters.touches ≡ length network.now.meters.touches }
-    requires gone { slice_index_or other.now.graph.ends e None ≡ None }
+)
+    requires without { IsWithout network.now e without.now }
     requires branches { AreBranches network.now.graph.vertices network.now.graph.ends }
-    requires branches_there { AreBranches other.now.graph.vertices other.now.graph.ends }
     requires longest { AreLongestOver network.now pairs.old }
     requires owner { branch_at pairs.old m ≡ Some e }
     requires critical { IsCriticalAt network.now.graph.ends network.now.meters.touches
         (live_items network.now.graph.ends network.now.meters.touches) m }
-    requires within { (B : List Pair) →
-        IsAssignmentAt other.now.graph.ends other.now.meters.touches (every_item other.now.meters.touches) B →
-        IsAssignmentAt network.now.graph.ends network.now.meters.touches (every_item network.now.meters.touches) B }
     requires room { HasRoomFor work.old.sizes network.now.graph network.now.meters.touches }
-    requires room_there { HasRoomFor work.old.sizes other.now.graph other.now.meters.touches }
-    ensures rank { IsRhoAt other.now.graph.ends other.now.meters.touches
-        (live_items other.now.graph.ends other.now.meters.touches) result }
+    ensures settled { IsSettled network.now pairs.new e }
     ensures longest { AreLongestOver network.now pairs.new }
     ensures same_room { HasRoomOf pairs.old pairs.new }
     ensures same_sizes { work.new.sizes ≡ work.old.sizes }
 {
     pairs.drop_pair(network.graph(), m);
-    let g = other.graph();
-    let ms = other.meters();
-    match search(g, ms, pairs, Sources::One(m), work, steps) {
-        Found::Grown(_) => pairs.length(),
-        Found::Closed => {
-            let rank = pairs.length();
-            give_back(network, m, pairs, work, steps);
-            rank
-        }
+    let _ = network.meters();
+    match search(
+        &without.graph,
+        &without.meters,
+        pairs,
+        Sources::One(m),
+        work,
+        steps,
+    ) {
+        Found::Grown(_) => {}
+        Found::Closed => give_back(network, m, pairs, work, steps),
     }
 }
 
-/// The entry of a row whose ends stay joined and that the critical meter m has. That pair is dropped, and another is looked for
-/// over the network of the outage case.
-pub(crate) fn joined_outage<L: Ledger>(
-    case: &mut Case,
+/// Makes the pairs miss a row, where longest pairs can.
+pub(crate) fn settle<L: Ledger>(
     e: u32,
-    m: u32,
-    network: &Network,
-    other: &mut Network,
-    pairs: &mut Assignment,
-    work: &mut Work,
+    kept: &mut Kept,
+    without: &mut Without,
+    spared: &Spared,
     steps: &mut Steps<L>,
-) -> Outage
-    requires valid { IsValid case.old }
-    requires network { network.now ≡ network_of case.old }
-    requires row { In e (outage_rows case.old) }
-    requires same { AreSameBut e (network_of case.old) (network_of (outage_case case.old e)) }
-    requires longest { AreLongest case.old pairs.old }
-    requires owner { branch_at pairs.old m ≡ Some e }
-    requires critical { IsCriticalAt network.now.graph.ends network.now.meters.touches
-        (live_items network.now.graph.ends network.now.meters.touches) m }
-    requires room { HasRoom network.now pairs.old work.old }
-    requires other { other.old ≡ network.now }
-    ensures entry { result ≡ outage_of case.old e }
-    ensures case { case.new ≡ case.old }
-    ensures longest { AreLongest case.old pairs.new }
-    ensures room { HasRoom network.now pairs.new work.new }
-    ensures other { other.new ≡ network.now }
+)
+    requires ready { IsReady kept.old without.old spared.now }
+    requires row { e < kept.old.network.rows.branches }
+    requires unspared { has_flag spared.now.flags e ≡ false }
+    ensures settled { IsSettled kept.old.network kept.new.pairs e }
+    ensures ready { IsReady kept.new without.new spared.now }
+    ensures network { kept.new.network ≡ kept.old.network }
+    ensures quiet { IsMissed kept.old.pairs e → (steps.new ≡ steps.old) × (kept.new.pairs ≡ kept.old.pairs) }
 {
-    case.set_branch(e, false);
-    let _ = other.refresh_branch(case, e);
-    let rank = rank_without(e, m, network, other, pairs, work, steps);
-    let entry = Outage {
-        branch: e,
-        rank,
-        needed: other.needed(),
+    let Some(m) = kept.pairs.meter_of(e) else {
+        return;
     };
-    case.set_branch(e, true);
-    let _ = other.refresh_branch(case, e);
-    entry
+    if spared.costly()[e as usize] {
+        return;
+    }
+    without.leave_out(&kept.network, e);
+    look_for_other(
+        e,
+        m,
+        &kept.network,
+        without,
+        &mut kept.pairs,
+        &mut kept.work,
+        steps,
+    );
+    without.put_back(&kept.network, e);
+}
+
+/// How many pairs there can be without a row.
+pub(crate) fn rank_without<L: Ledger>(
+    e: u32,
+    kept: &mut Kept,
+    without: &mut Without,
+    spared: &Spared,
+    steps: &mut Steps<L>,
+) -> u32
+    requires ready { IsReady kept.old without.old spared.now }
+    requires row { e < kept.old.network.rows.branches }
+    ensures rank { IsRankWithout kept.old.network kept.new.pairs e result }
+    ensures ready { IsReady kept.new without.new spared.now }
+    ensures network { kept.new.network ≡ kept.old.network }
+    ensures quiet { IsMissed kept.old.pairs e → (steps.new ≡ steps.old) × (kept.new.pairs ≡ kept.old.pairs) }
+{
+    if spared.flags()[e as usize] {
+        return kept.pairs.length();
+    }
+    settle(e, kept, without, spared, steps);
+    let most = kept.pairs.length();
+    match kept.pairs.meter_of(e) {
+        Some(_) => most.saturating_sub(1),
+        None => most,
+    }
 }

@@ -1,12 +1,21 @@
-use Rattle.std.proofs.Common.{◌≡◌, ℕ, ◌<◌, ◌≤◌, Bool, true, false, cond, inl, inr, None, length, refl, sym, ap, ◌∙◌, subst, arith}
-use Rattle.std.specs.Prelude.{◌↔◌, IsSome, IsTrue, slice_index_or}
+use Rattle.std.proofs.Common.{◌≡◌, ℕ, ◌+◌, ◌<◌, ◌≤◌, ◌^◌, Bool, true, false, cond, inl, inr, Some, None, List, length, refl, sym, ap, ◌∙◌, subst, arith}
+use Rattle.std.specs.Prelude.{◌↔◌, IsSome, IsTrue, count_by, slice_index, slice_index_or, sum_by}
+use Rattle.obs_graph.specs.Positions.{branches_at}
+use Rattle.obs_assign.specs.Assignment.{Assignment, pairs}
+use Rattle.obs_kept.specs.Kept.{AreLongest}
+use Rattle.obs_network.specs.Located.{component_of_branch}
+use Rattle.obs_network.specs.Observable.{case_rank}
+use Rattle.obs_network.specs.Parted.{outage_case}
+use Rattle.obs_outage.specs.Feeds.{AreFeeds, Feeds}
+use Rattle.obs_outage.specs.Lost.{IsUnfedBeside, counts_at}
+use Rattle.obs_outage.specs.Settled.{IsFreed}
 use Rattle.std.proofs.lemmas.Bool.{cases_Bool}
-use Rattle.obs_case.specs.Tables.{Tables}
+use Rattle.obs_case.specs.Tables.{IsValid, Tables}
 use Rattle.obs_forest.specs.Forest.{Forest}
 use Rattle.obs_outage.proofs.InOutage.{rank_falls, rank_longest}
 use Rattle.obs_graph.specs.Graph.{Graph}
 use Rattle.obs_matroid.proofs.Contained.{All-from_In}
-use Rattle.obs_network.specs.Network.{Network, case_branches, network_of}
+use Rattle.obs_network.specs.Network.{Network, network_of}
 use Rattle.obs_network.proofs.OfCase.{case_bus_count-le, case_component_count-le, few_nodes, length-case_branches, length-case_first_buses}
 use Rattle.obs_outage.proofs.Joined.{entry_by}
 use Rattle.obs_outage.proofs.Parting.{few_buses, side_buses}
@@ -45,10 +54,6 @@ component_of_branch-requires c =
     let net = ap (λ (x : Network). length x.graph.ends) c.requires.network in
     record { branch = omega (arith, low, many, net) }
 
-one_at_most : (b : Bool) → cond {A = ℕ} b 1 0 ≤ 1
-one_at_most true = omega arith
-one_at_most false = omega arith
-
 pub holds-requires : goal.holds-requires
 holds-requires c =
     let low = row_low c.args.case.now c.args.e c.requires.row in
@@ -68,112 +73,66 @@ pairs_of_component-requires c =
     let room = c.requires.feeds.room.pairs in
     record { component = omega (arith, few, room) }
 
+-- what the numbers of the body are: the rank that is left, with the pairs of the component and that of the row
+record Left (t : Tables) (e here own row all : ℕ) : Type 0 where
+  left : case_rank (outage_case t e) + own + row ≡ all + here
+  most : case_rank (outage_case t e) ≤ all
+  few : all < 2 ^ 32
+  one : row ≤ 1
+
+left_by : (t : Tables) (v : IsValid t) (e k : ℕ) (side : List ℕ) → IsUnfedBeside t e side → (a : Assignment) → AreLongest t a → (n : Network) → n ≡ network_of t → component_of_branch n e ≡ Some k → IsFreed true n a e side
+    → (g : Graph) → g ≡ n.graph → (feeds : Feeds) → AreFeeds t feeds → k < length n.components.first_buses → (here : ℕ) → here ≡ sum_by (λ w. count_by (counts_at g.ends a.forest.held e w) (branches_at g.ends w)) side
+    → (own : ℕ) → own ≡ slice_index feeds.pairs k → (f : Forest) → f ≡ a.forest → (held : Bool) → (IsTrue held ↔ IsSome (slice_index_or f.held e None)) → Left t e here own (cond held 1 0) (length (pairs a))
+left_by t v e k side u a h n net at freed g same feeds are below here sum own owned f forest held exactly =
+    let all = rank_longest t v a h in
+    record {
+      left = beside_by t v e k side u a h n net at freed g.ends (ap (λ (x : Graph). x.ends) same ∙ ap (λ (x : Network). x.graph.ends) net) here sum
+          own (owned ∙ are.at_pairs k (component_few t n k net below) a h) held (subst (λ (x : Forest). IsTrue held ↔ IsSome (slice_index_or x.held e None)) forest exactly);
+      most = let falls = rank_falls t v e in omega (arith, falls, all);
+      few = few_pairs t v a h;
+      one = one_at_most held;
+    }
+  where
+    one_at_most : (b : Bool) → cond {A = ℕ} b 1 0 ≤ 1
+    one_at_most true = omega arith
+    one_at_most false = omega arith
+
 pub overflow_add-left : goal.overflow_add-left
 overflow_add-left c =
-    let t = c.args.case.now in
-    let v = c.requires.valid in
-    let a = c.args.pairs.now in
-    let h = c.requires.longest in
-    let k = c.in_ok-c.c in
-    let ends : c.graph.result.now.ends ≡ case_branches t = ap (λ (x : Graph). x.ends) c.graph.ensures.graph ∙ ap (λ (x : Network). x.graph.ends) c.requires.network in
-    let few : k < length t.nodes = component_few t c.args.network.now k c.requires.network c.in_ok-c.ensures.below in
-    let own = c.from-own.ensures ∙ c.pairs_of_component.ensures.count ∙ c.requires.feeds.at_pairs k few a h in
-    let held = subst (λ (x : Forest). IsTrue c.holds.result ↔ IsSome (slice_index_or x.held c.args.e None)) c.forest.ensures.forest c.holds.ensures.held in
-    let left = beside_by t v c.args.e k c.args.side.now c.requires.unfed a h c.args.network.now c.requires.network (sym c.in_ok-c.ensures.component) c.requires.confined c.graph.result.now.ends ends
-    c.count_lost-here.result c.count_lost-here.ensures.sum c.from-own.result own c.holds.result held in
+    let w = left_by c.args.case.now c.requires.valid c.args.e c.in_ok-c.c c.args.side.now c.requires.unfed c.args.pairs.now c.requires.longest c.args.network.now c.requires.network
+    (sym c.in_ok-c.ensures.component) c.requires.freed c.graph.result.now c.graph.ensures.graph c.args.feeds.now c.requires.feeds c.in_ok-c.ensures.below c.count_lost-here.result c.count_lost-here.ensures.sum
+    c.from-own.result (c.from-own.ensures ∙ c.pairs_of_component.ensures.count) c.forest.result.now c.forest.ensures.forest c.holds.result c.holds.ensures.held in
     let row : c.from-row.result ≡ cond c.holds.result 1 0 = elim (cases_Bool c.holds.result) [ inl is ↦ c.from-row.ensures ∙ rw is refl | inr is ↦ c.from-row.ensures ∙ rw is refl ] in
-    let all = c.from.ensures ∙ c.length.ensures.length in
-    let most = rank_falls t v c.args.e in
-    let same = rank_longest t v a h in
-    let small = few_pairs t v a h in
-    let word = c.from-own.ensures in
-    let word_fits = c.pairs_of_component.type_inv in
-    omega (arith, one_at_most c.holds.result, left, row, all, most, same, small, word, word_fits)
+    omega (arith, w.left, w.most, w.few, w.one, row, c.from.ensures ∙ c.length.ensures.length, c.from-own.ensures, c.pairs_of_component.type_inv)
 
 pub overflow_sub-left : goal.overflow_sub-left
 overflow_sub-left c =
-    let t = c.args.case.now in
-    let v = c.requires.valid in
-    let a = c.args.pairs.now in
-    let h = c.requires.longest in
-    let k = c.in_ok-c.c in
-    let ends : c.graph.result.now.ends ≡ case_branches t = ap (λ (x : Graph). x.ends) c.graph.ensures.graph ∙ ap (λ (x : Network). x.graph.ends) c.requires.network in
-    let few : k < length t.nodes = component_few t c.args.network.now k c.requires.network c.in_ok-c.ensures.below in
-    let own = c.from-own.ensures ∙ c.pairs_of_component.ensures.count ∙ c.requires.feeds.at_pairs k few a h in
-    let held = subst (λ (x : Forest). IsTrue c.holds.result ↔ IsSome (slice_index_or x.held c.args.e None)) c.forest.ensures.forest c.holds.ensures.held in
-    let left = beside_by t v c.args.e k c.args.side.now c.requires.unfed a h c.args.network.now c.requires.network (sym c.in_ok-c.ensures.component) c.requires.confined c.graph.result.now.ends ends
-    c.count_lost-here.result c.count_lost-here.ensures.sum c.from-own.result own c.holds.result held in
+    let w = left_by c.args.case.now c.requires.valid c.args.e c.in_ok-c.c c.args.side.now c.requires.unfed c.args.pairs.now c.requires.longest c.args.network.now c.requires.network
+    (sym c.in_ok-c.ensures.component) c.requires.freed c.graph.result.now c.graph.ensures.graph c.args.feeds.now c.requires.feeds c.in_ok-c.ensures.below c.count_lost-here.result c.count_lost-here.ensures.sum
+    c.from-own.result (c.from-own.ensures ∙ c.pairs_of_component.ensures.count) c.forest.result.now c.forest.ensures.forest c.holds.result c.holds.ensures.held in
     let row : c.from-row.result ≡ cond c.holds.result 1 0 = elim (cases_Bool c.holds.result) [ inl is ↦ c.from-row.ensures ∙ rw is refl | inr is ↦ c.from-row.ensures ∙ rw is refl ] in
-    let all = c.from.ensures ∙ c.length.ensures.length in
-    let most = rank_falls t v c.args.e in
-    let same = rank_longest t v a h in
-    let small = few_pairs t v a h in
-    let word = c.from-own.ensures in
-    let word_fits = c.pairs_of_component.type_inv in
-    omega (arith, left, row, all, most, same, small, word, word_fits)
+    omega (arith, w.left, w.most, w.few, w.one, row, c.from.ensures ∙ c.length.ensures.length, c.from-own.ensures, c.pairs_of_component.type_inv)
 
 pub overflow_sub-left-2 : goal.overflow_sub-left-2
 overflow_sub-left-2 c =
-    let t = c.args.case.now in
-    let v = c.requires.valid in
-    let a = c.args.pairs.now in
-    let h = c.requires.longest in
-    let k = c.in_ok-c.c in
-    let ends : c.graph.result.now.ends ≡ case_branches t = ap (λ (x : Graph). x.ends) c.graph.ensures.graph ∙ ap (λ (x : Network). x.graph.ends) c.requires.network in
-    let few : k < length t.nodes = component_few t c.args.network.now k c.requires.network c.in_ok-c.ensures.below in
-    let own = c.from-own.ensures ∙ c.pairs_of_component.ensures.count ∙ c.requires.feeds.at_pairs k few a h in
-    let held = subst (λ (x : Forest). IsTrue c.holds.result ↔ IsSome (slice_index_or x.held c.args.e None)) c.forest.ensures.forest c.holds.ensures.held in
-    let left = beside_by t v c.args.e k c.args.side.now c.requires.unfed a h c.args.network.now c.requires.network (sym c.in_ok-c.ensures.component) c.requires.confined c.graph.result.now.ends ends
-    c.count_lost-here.result c.count_lost-here.ensures.sum c.from-own.result own c.holds.result held in
+    let w = left_by c.args.case.now c.requires.valid c.args.e c.in_ok-c.c c.args.side.now c.requires.unfed c.args.pairs.now c.requires.longest c.args.network.now c.requires.network
+    (sym c.in_ok-c.ensures.component) c.requires.freed c.graph.result.now c.graph.ensures.graph c.args.feeds.now c.requires.feeds c.in_ok-c.ensures.below c.count_lost-here.result c.count_lost-here.ensures.sum
+    c.from-own.result (c.from-own.ensures ∙ c.pairs_of_component.ensures.count) c.forest.result.now c.forest.ensures.forest c.holds.result c.holds.ensures.held in
     let row : c.from-row.result ≡ cond c.holds.result 1 0 = elim (cases_Bool c.holds.result) [ inl is ↦ c.from-row.ensures ∙ rw is refl | inr is ↦ c.from-row.ensures ∙ rw is refl ] in
-    let all = c.from.ensures ∙ c.length.ensures.length in
-    let most = rank_falls t v c.args.e in
-    let same = rank_longest t v a h in
-    let small = few_pairs t v a h in
-    let word = c.from-own.ensures in
-    let word_fits = c.pairs_of_component.type_inv in
-    omega (arith, left, row, all, most, same, small, word, word_fits)
+    omega (arith, w.left, w.most, w.few, w.one, row, c.from.ensures ∙ c.length.ensures.length, c.from-own.ensures, c.pairs_of_component.type_inv)
 
 pub overflow_cast-result : goal.overflow_cast-result
 overflow_cast-result c =
-    let t = c.args.case.now in
-    let v = c.requires.valid in
-    let a = c.args.pairs.now in
-    let h = c.requires.longest in
-    let k = c.in_ok-c.c in
-    let ends : c.graph.result.now.ends ≡ case_branches t = ap (λ (x : Graph). x.ends) c.graph.ensures.graph ∙ ap (λ (x : Network). x.graph.ends) c.requires.network in
-    let few : k < length t.nodes = component_few t c.args.network.now k c.requires.network c.in_ok-c.ensures.below in
-    let own = c.from-own.ensures ∙ c.pairs_of_component.ensures.count ∙ c.requires.feeds.at_pairs k few a h in
-    let held = subst (λ (x : Forest). IsTrue c.holds.result ↔ IsSome (slice_index_or x.held c.args.e None)) c.forest.ensures.forest c.holds.ensures.held in
-    let left = beside_by t v c.args.e k c.args.side.now c.requires.unfed a h c.args.network.now c.requires.network (sym c.in_ok-c.ensures.component) c.requires.confined c.graph.result.now.ends ends
-    c.count_lost-here.result c.count_lost-here.ensures.sum c.from-own.result own c.holds.result held in
+    let w = left_by c.args.case.now c.requires.valid c.args.e c.in_ok-c.c c.args.side.now c.requires.unfed c.args.pairs.now c.requires.longest c.args.network.now c.requires.network
+    (sym c.in_ok-c.ensures.component) c.requires.freed c.graph.result.now c.graph.ensures.graph c.args.feeds.now c.requires.feeds c.in_ok-c.ensures.below c.count_lost-here.result c.count_lost-here.ensures.sum
+    c.from-own.result (c.from-own.ensures ∙ c.pairs_of_component.ensures.count) c.forest.result.now c.forest.ensures.forest c.holds.result c.holds.ensures.held in
     let row : c.from-row.result ≡ cond c.holds.result 1 0 = elim (cases_Bool c.holds.result) [ inl is ↦ c.from-row.ensures ∙ rw is refl | inr is ↦ c.from-row.ensures ∙ rw is refl ] in
-    let all = c.from.ensures ∙ c.length.ensures.length in
-    let most = rank_falls t v c.args.e in
-    let same = rank_longest t v a h in
-    let small = few_pairs t v a h in
-    let word = c.from-own.ensures in
-    let word_fits = c.pairs_of_component.type_inv in
-    omega (arith, left, row, all, most, same, small, word, word_fits)
+    omega (arith, w.left, w.most, w.few, w.one, row, c.from.ensures ∙ c.length.ensures.length, c.from-own.ensures, c.pairs_of_component.type_inv)
 
 pub returns : goal.returns
 returns c =
-    let t = c.args.case.now in
-    let v = c.requires.valid in
-    let a = c.args.pairs.now in
-    let h = c.requires.longest in
-    let k = c.in_ok-c.c in
-    let ends : c.graph.result.now.ends ≡ case_branches t = ap (λ (x : Graph). x.ends) c.graph.ensures.graph ∙ ap (λ (x : Network). x.graph.ends) c.requires.network in
-    let few : k < length t.nodes = component_few t c.args.network.now k c.requires.network c.in_ok-c.ensures.below in
-    let own = c.from-own.ensures ∙ c.pairs_of_component.ensures.count ∙ c.requires.feeds.at_pairs k few a h in
-    let held = subst (λ (x : Forest). IsTrue c.holds.result ↔ IsSome (slice_index_or x.held c.args.e None)) c.forest.ensures.forest c.holds.ensures.held in
-    let left = beside_by t v c.args.e k c.args.side.now c.requires.unfed a h c.args.network.now c.requires.network (sym c.in_ok-c.ensures.component) c.requires.confined c.graph.result.now.ends ends
-    c.count_lost-here.result c.count_lost-here.ensures.sum c.from-own.result own c.holds.result held in
+    let w = left_by c.args.case.now c.requires.valid c.args.e c.in_ok-c.c c.args.side.now c.requires.unfed c.args.pairs.now c.requires.longest c.args.network.now c.requires.network
+    (sym c.in_ok-c.ensures.component) c.requires.freed c.graph.result.now c.graph.ensures.graph c.args.feeds.now c.requires.feeds c.in_ok-c.ensures.below c.count_lost-here.result c.count_lost-here.ensures.sum
+    c.from-own.result (c.from-own.ensures ∙ c.pairs_of_component.ensures.count) c.forest.result.now c.forest.ensures.forest c.holds.result c.holds.ensures.held in
     let row : c.from-row.result ≡ cond c.holds.result 1 0 = elim (cases_Bool c.holds.result) [ inl is ↦ c.from-row.ensures ∙ rw is refl | inr is ↦ c.from-row.ensures ∙ rw is refl ] in
-    let all = c.from.ensures ∙ c.length.ensures.length in
-    let most = rank_falls t v c.args.e in
-    let same = rank_longest t v a h in
-    let small = few_pairs t v a h in
-    let word = c.from-own.ensures in
-    let word_fits = c.pairs_of_component.type_inv in
-    record { entry = entry_by t c.args.e _ refl (omega (arith, left, row, all, most, same, small, word, word_fits)) c.requires.needed }
+    record { entry = entry_by c.args.case.now c.args.e _ refl (omega (arith, w.left, w.most, w.few, w.one, row, c.from.ensures ∙ c.length.ensures.length, c.from-own.ensures, c.pairs_of_component.type_inv)) c.requires.needed }

@@ -1,6 +1,6 @@
 use Rattle.std.proofs.Common.{◌<◌, ℕ, List, length, refl, sym, ap, ◌∙◌, arith}
 use Rattle.std.specs.Prelude.{slice_index, sum_by}
-use Rattle.std.proofs.lemmas.Bool.{eqb-true}
+use Rattle.std.proofs.lemmas.Bool.{eq-eqb, eqb-true, true≢false}
 use Rattle.obs_matroid.proofs.Contained.{All-from_In}
 use Rattle.obs_network.specs.Network.{Network}
 use Rattle.obs_network.proofs.OfCase.{case_bus_count-le, few_nodes, length-case_branches}
@@ -84,8 +84,11 @@ returns c =
     record {
       fall = fall_by t v e k side p c.args.feeds.now c.requires.feeds c.size.result c.from-sources.result (length side) c.sources_of-here.result c.fall-less.result size fed refl sum
           c.fall-less.ensures.listed c.fall-less.ensures.other c.fall-less.ensures.both;
-      unfed = λ is. (k, p, no_source t v e k side p c.args.feeds.now c.requires.feeds (sym sum ∙ eqb-true c.sources_of-here.result 0 is));
-      beside = λ is. (k, p, none_beside t v e k side p c.args.feeds.now c.requires.feeds (sym sum ∙ eqb-true c.sources_of-here.result c.from-sources.result is ∙ fed));
+      listed = λ is. (k, p, no_source t v e k side p c.args.feeds.now c.requires.feeds (sym sum ∙ eqb-true c.sources_of-here.result 0 is));
+      other = λ is. (k, p, none_beside t v e k side p c.args.feeds.now c.requires.feeds (sym sum ∙ eqb-true c.sources_of-here.result c.from-sources.result is ∙ fed));
+      both = λ here other. (fall_by t v e k side p c.args.feeds.now c.requires.feeds c.size.result c.from-sources.result (length side) c.sources_of-here.result c.fall-less.result size fed refl sum
+          c.fall-less.ensures.listed c.fall-less.ensures.other c.fall-less.ensures.both).alone
+          (c.fall-less.ensures.both (λ is. true≢false (sym (eq-eqb c.sources_of-here.result 0 is) ∙ here)) (λ is. true≢false (sym (eq-eqb c.sources_of-here.result c.from-sources.result is) ∙ other)));
     }
 
 pub absolute-requires : goal.absolute-requires
@@ -97,8 +100,11 @@ size-requires c = record { component = c.in_ok-c.ensures.below }
 pub returns-then-absolute-clause-fall : goal.returns-then-absolute-clause-fall
 returns-then-absolute-clause-fall c = tt
 
-pub returns-then-absolute-clause-unfed : goal.returns-then-absolute-clause-unfed
-returns-then-absolute-clause-unfed c = tt
+pub returns-then-absolute-clause-listed : goal.returns-then-absolute-clause-listed
+returns-then-absolute-clause-listed c = tt
 
-pub returns-then-absolute-clause-beside : goal.returns-then-absolute-clause-beside
-returns-then-absolute-clause-beside c = tt
+pub returns-then-absolute-clause-other : goal.returns-then-absolute-clause-other
+returns-then-absolute-clause-other c = tt
+
+pub returns-then-absolute-clause-both : goal.returns-then-absolute-clause-both
+returns-then-absolute-clause-both c = tt

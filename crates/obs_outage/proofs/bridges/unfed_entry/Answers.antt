@@ -38,7 +38,7 @@ overflow_cast-lost c =
     let a = c.args.pairs.now in
     let h = c.requires.longest in
     let ends : c.graph.result.now.ends ≡ case_branches t = ap (λ (x : Graph). x.ends) c.graph.ensures.graph ∙ ap (λ (x : Network). x.graph.ends) c.requires.network in
-    let left = unfed_by t v c.args.e c.args.side.now c.requires.unfed a h c.args.network.now c.requires.network c.requires.confined c.graph.result.now.ends ends c.count_lost-lost.result
+    let left = unfed_by t v c.args.e c.args.side.now c.requires.unfed a h c.args.network.now c.requires.network c.requires.freed c.graph.result.now.ends ends c.count_lost-lost.result
     c.count_lost-lost.ensures.sum in
     omega (arith, left, few_pairs t v a h)
 
@@ -49,7 +49,7 @@ overflow_sub-result c =
     let a = c.args.pairs.now in
     let h = c.requires.longest in
     let ends : c.graph.result.now.ends ≡ case_branches t = ap (λ (x : Graph). x.ends) c.graph.ensures.graph ∙ ap (λ (x : Network). x.graph.ends) c.requires.network in
-    let left = unfed_by t v c.args.e c.args.side.now c.requires.unfed a h c.args.network.now c.requires.network c.requires.confined c.graph.result.now.ends ends c.count_lost-lost.result
+    let left = unfed_by t v c.args.e c.args.side.now c.requires.unfed a h c.args.network.now c.requires.network c.requires.freed c.graph.result.now.ends ends c.count_lost-lost.result
     c.count_lost-lost.ensures.sum in
     let all = c.length.ensures.length in
     omega (arith, left, all)
@@ -61,7 +61,7 @@ returns c =
     let a = c.args.pairs.now in
     let h = c.requires.longest in
     let ends : c.graph.result.now.ends ≡ case_branches t = ap (λ (x : Graph). x.ends) c.graph.ensures.graph ∙ ap (λ (x : Network). x.graph.ends) c.requires.network in
-    let left = unfed_by t v c.args.e c.args.side.now c.requires.unfed a h c.args.network.now c.requires.network c.requires.confined c.graph.result.now.ends ends c.count_lost-lost.result
+    let left = unfed_by t v c.args.e c.args.side.now c.requires.unfed a h c.args.network.now c.requires.network c.requires.freed c.graph.result.now.ends ends c.count_lost-lost.result
     c.count_lost-lost.ensures.sum in
     let all = c.length.ensures.length in
     record { entry = entry_by t c.args.e _ refl (omega (arith, left, all)) c.requires.needed }

@@ -3,9 +3,9 @@ use Rattle.std.specs.Prelude.{is_some, slice_index_or}
 use Rattle.obs_case.specs.declared.rows.Branch.{Branch}
 use Rattle.obs_case.specs.Tables.{Tables}
 use Rattle.obs_matroid.specs.Lists.{In}
-use Rattle.obs_network.specs.Network.{Network, network_of}
-use Rattle.obs_outage.specs.Feeds.{AreFeeds}
+use Rattle.obs_network.specs.Network.{Network}
 use Rattle.obs_network.proofs.OfCase.{few_branches, length-case_branches}
+use Rattle.obs_outage.specs.Ready.{IsBasisOf}
 use Rattle.obs_outage.specs.Outages.{is_outage_row, outage_rows}
 use Rattle.obs_outage.proofs.Entries.{IsListing-listed, IsListing-over, all_listed, begun, row_in}
 use Rattle.obs_outage.proofs.listing.list_outages.Goals as goal
@@ -17,8 +17,7 @@ loop-e-init g c = record {
   lists = begun c.args.case.now c.args.entries.now;
   long = refl;
   case = refl;
-  network = refl;
-  ready = c.requires.ready;
+  basis = c.requires.basis;
 }
 
 pub is_present-requires : goal.is_present-requires
@@ -26,7 +25,7 @@ is_present-requires g c =
     let test = c.loop-e-test.true in
     let rows = ap (λ (xs : List Branch). length xs) c.branches.ensures.rows in
     let many = length-case_branches c.args.case.now in
-    let same = ap (λ (x : Network). length x.graph.ends) (c.loop-e.invariant.network ∙ c.requires.network) in
+    let same = ap (λ (x : Network). length x.graph.ends) c.loop-e.invariant.basis.network in
     record { e = omega (arith, test, rows, many, same) }
 
 pub entry_of-requires-clause-row : goal.entry_of-requires-clause-row
@@ -36,40 +35,30 @@ entry_of-requires-clause-row g c =
     let test = c.loop-e-test.true in
     let rows = ap (λ (xs : List Branch). length xs) c.branches.ensures.rows in
     let low : e < length t.branches = omega (arith, test, rows) in
-    let row = ap (λ (x : Network). is_some (slice_index_or x.graph.ends e None)) (c.loop-e.invariant.network ∙ c.requires.network) in
+    let row = ap (λ (x : Network). is_some (slice_index_or x.graph.ends e None)) c.loop-e.invariant.basis.network in
     subst (λ (x : Tables). In e (outage_rows x)) (sym c.loop-e.invariant.case) (row_in t e low (sym row ∙ sym c.is_present.ensures.present ∙ c.if-is_present.true))
 
-pub entry_of-requires-clause-network : goal.entry_of-requires-clause-network
-entry_of-requires-clause-network g c =
-    let inv = c.loop-e.invariant in
-    inv.network ∙ (c.requires.network ∙ ap network_of (sym inv.case))
-
-pub entry_of-requires-clause-ready : goal.entry_of-requires-clause-ready
-entry_of-requires-clause-ready g c = c.loop-e.invariant.ready
-
-pub entry_of-requires-clause-feeds : goal.entry_of-requires-clause-feeds
-entry_of-requires-clause-feeds g c = subst (λ (x : Tables). AreFeeds x c.args.feeds.now) (sym c.loop-e.invariant.case) c.requires.feeds
+pub entry_of-requires-clause-basis : goal.entry_of-requires-clause-basis
+entry_of-requires-clause-basis g c = subst (λ (x : Tables). IsBasisOf x c.loop-e.basis) (sym c.loop-e.invariant.case) c.loop-e.invariant.basis
 
 pub loop-e-preserved : goal.loop-e-preserved
 loop-e-preserved g c =
     let t = c.args.case.now in
-    let n = c.args.kept.now.network in
-    let spared = c.args.spared.now in
     let l = c.loop-e in
     let test = c.loop-e-test.true in
     let rows = ap (λ (xs : List Branch). length xs) c.branches.ensures.rows in
     let low : l.e < length t.branches = omega (arith, test, rows) in
-    let row : is_some (slice_index_or l.kept.network.graph.ends l.e None) ≡ is_outage_row t l.e = ap (λ (x : Network). is_some (slice_index_or x.graph.ends l.e None)) (l.invariant.network ∙ c.requires.network) in
+    let row : is_some (slice_index_or l.basis.kept.network.graph.ends l.e None) ≡ is_outage_row t l.e = ap (λ (x : Network). is_some (slice_index_or x.graph.ends l.e None)) l.invariant.basis.network in
     elim c.if-is_present.branch [
       | then-is_present w ↦
           let r = w.entry_of in
-          rw (w.case-is, w.kept-is, w.other-is, w.sides-is, w.entries-is, w.count-is)
-          (IsListing-listed t n spared (length c.args.entries.now) l.case l.kept l.other l.sides l.entries l.count l.e l.invariant low
+          rw (w.case-is, w.basis-is, w.entries-is, w.count-is)
+          (IsListing-listed t (length c.args.entries.now) l.case l.basis l.entries l.count l.e l.invariant low
           (sym row ∙ sym c.is_present.ensures.present ∙ w.if-is_present.true) c.requires.entries
-          r.new.case r.new.kept r.new.other r.new.sides r.result r.ensures.entry r.ensures.case r.ensures.network r.ensures.ready)
+          r.new.case r.new.basis r.result r.ensures.entry r.ensures.case r.ensures.basis)
       | else-is_present w ↦
-          rw (w.case-is, w.kept-is, w.other-is, w.sides-is, w.entries-is, w.count-is)
-          (IsListing-over t n spared (length c.args.entries.now) l.case l.kept l.other l.sides l.entries l.count l.e l.invariant low
+          rw (w.case-is, w.basis-is, w.entries-is, w.count-is)
+          (IsListing-over t (length c.args.entries.now) l.case l.basis l.entries l.count l.e l.invariant low
           (sym row ∙ sym c.is_present.ensures.present ∙ w.if-is_present.false))
     ]
 
@@ -87,8 +76,7 @@ returns g c =
       listed = all_listed c.args.case.now l.entries l.count l.e inv.lists (omega (arith, rows, past));
       bound = omega (arith, bound, upto, rows, long, room);
       case = inv.case;
-      network = inv.network;
-      ready = inv.ready;
+      basis = inv.basis;
     }
 
 pub overflow_cast-rows : goal.overflow_cast-rows

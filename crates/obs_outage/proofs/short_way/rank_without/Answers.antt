@@ -1,111 +1,59 @@
-use Rattle.std.proofs.Common.{◌≡◌, ℕ, length, sym, ap, ◌∙◌, subst}
-use Rattle.obs_graph.specs.Graph.{Graph}
-use Rattle.obs_forest.specs.Forest.{StandsOver as ForestStandsOver}
-use Rattle.obs_meter.specs.Held.{Meters}
-use Rattle.obs_meter.specs.Assignments.{IsRhoAt}
-use Rattle.obs_meter.specs.Touches.{live_items}
-use Rattle.obs_assign.specs.Assignment.{Assignment, StandsOver, pairs as pairs_at}
-use Rattle.obs_assign.proofs.Slotted.{slot_low}
-use Rattle.obs_exchange.specs.declared.Found.TheVariants.{Grown}
-use Rattle.obs_exchange.specs.declared.Sources.TheVariants.{One}
-use Rattle.obs_exchange.specs.Found.{HasClosed}
-use Rattle.obs_outage.specs.Alone.{HasLost}
-use Rattle.obs_outage.proofs.Alone.{closed_there, grown_longest, grown_there}
-use Rattle.obs_outage.proofs.Crossed.{dropped_there, stands_here_without, thawed_dropped, thawed_found}
+use Rattle.std.proofs.Common.{◌≡◌, ◌-◌, Bool, List, true, false, inl, inr, length, refl, ap, ◌∙◌, subst, arith}
+use Rattle.obs_assign.specs.Assignment.{has_flag}
+use Rattle.obs_network.specs.Network.{Network}
+use Rattle.obs_kept.specs.Kept.{AreLongestOver}
+use Rattle.obs_outage.proofs.Joined.{spared_over}
 use Rattle.obs_outage.proofs.short_way.rank_without.Goals as goal
 
-pub drop_pair-requires : goal.drop_pair-requires
-drop_pair-requires g c =
-    let a = c.args.pairs.now in
-    record {
-      stands = subst (λ (h : Graph). ForestStandsOver a.forest h) (sym c.graph.ensures.graph) c.requires.longest.stands.forest;
-      m = slot_low a.slots c.args.m c.args.e c.requires.owner;
-    }
+pub bounds-flags-e : goal.bounds-flags-e
+bounds-flags-e g c =
+    let row = c.requires.row in
+    let rows = c.requires.ready.rows in
+    let flags = c.requires.ready.told.flags.branches in
+    let same = ap (λ (xs : List Bool). length xs) c.flags.ensures.flags in
+    omega (arith, row, rows, flags, same)
 
-pub search-requires-clause-stands : goal.search-requires-clause-stands
-search-requires-clause-stands g c =
-    let b = c.drop_pair.new.self in
-    let there = dropped_there c.args.e c.args.network.now c.args.other.now c.requires.same c.requires.meters c.args.pairs.now c.requires.longest c.args.m c.requires.owner
-    c.graph.result.now c.graph.ensures.graph b c.drop_pair.ensures.dropped c.drop_pair.ensures.whole c.drop_pair.ensures.stands in
-    subst (λ (x : Graph). StandsOver b x c.meters-ms.result.now.touches) (sym c.graph-g.ensures.graph)
-    (subst (λ (i : Meters). StandsOver b c.args.other.now.graph i.touches) (sym c.meters-ms.ensures.meters) there)
+pub settle-requires : goal.settle-requires
+settle-requires g c = record {
+  ready = c.requires.ready;
+  row = c.requires.row;
+  unspared = subst (λ (xs : List Bool). has_flag xs c.args.e ≡ false) c.flags.ensures.flags c.if-flags-e.false;
+}
 
-pub give_back-requires-clause-lost : goal.give_back-requires-clause-lost
-give_back-requires-clause-lost g c =
-    let a = c.args.pairs.now in
-    let b = c.drop_pair.new.self in
-    let lost : HasLost c.args.network.now a c.args.m c.args.e b = record {
-      longest = c.requires.longest;
-      had = c.requires.owner;
-      slots = c.drop_pair.ensures.dropped;
-      whole = c.drop_pair.ensures.whole;
-      thawed = thawed_dropped a b c.args.m c.drop_pair.ensures.thawed c.requires.longest.thawed;
-    } in
-    (a, c.args.e, subst (λ (x : Assignment). HasLost c.args.network.now a c.args.m c.args.e x) (sym c.in-Closed.ensures.found.same) lost)
+pub meter_of-requires : goal.meter_of-requires
+meter_of-requires g c =
+    let row = c.requires.row in
+    let rows = c.requires.ready.rows in
+    let same = ap (λ (n : Network). length n.graph.ends) c.settle.ensures.network in
+    let held = c.settle.ensures.ready.longest.stands.forest.positions in
+    record { e = omega (arith, row, rows, held, same) }
 
-pub give_back-requires-clause-stands : goal.give_back-requires-clause-stands
-give_back-requires-clause-stands g c =
-    let n = c.args.network.now in
-    let b = c.drop_pair.new.self in
-    let stands = subst (λ (x : Graph). StandsOver b x n.meters.touches) c.graph.ensures.graph
-    (c.drop_pair.ensures.stands n.meters.touches (subst (λ (x : Graph). StandsOver c.args.pairs.now x n.meters.touches) (sym c.graph.ensures.graph) c.requires.longest.stands)) in
-    subst (λ (x : Assignment). StandsOver x n.graph n.meters.touches) (sym c.in-Closed.ensures.found.same) stands
+pub returns-then-flags-e : goal.returns-then-flags-e
+returns-then-flags-e g c = record {
+  rank = inl (c.length.ensures.length, c.requires.ready.told.spared c.args.e (subst (λ (xs : List Bool). has_flag xs c.args.e ≡ true) c.flags.ensures.flags c.if-flags-e.true));
+  ready = c.requires.ready;
+  network = refl;
+  quiet = λ missed. (refl, refl);
+}
 
-pub returns-in-Grown-clause-rank : goal.returns-in-Grown-clause-rank
-returns-in-Grown-clause-rank g c =
-    let n = c.args.network.now in
-    let o = c.args.other.now in
-    let a = c.args.pairs.now in
-    let b = c.drop_pair.new.self in
-    let lost : HasLost n a c.args.m c.args.e b = record {
-      longest = c.requires.longest;
-      had = c.requires.owner;
-      slots = c.drop_pair.ensures.dropped;
-      whole = c.drop_pair.ensures.whole;
-      thawed = thawed_dropped a b c.args.m c.drop_pair.ensures.thawed c.requires.longest.thawed;
-    } in
-    let stands = subst (λ (x : Graph). StandsOver c.search.new.a x o.meters.touches) c.graph-g.ensures.graph
-    (subst (λ (i : Meters). StandsOver c.search.new.a c.graph-g.result.now i.touches) c.meters-ms.ensures.meters c.search.ensures.stands) in
-    subst (λ (k : ℕ). IsRhoAt o.graph.ends o.meters.touches (live_items o.graph.ends o.meters.touches) k) (sym c.length.ensures.length)
-    (grown_there n a b c.args.m c.args.e lost o c.requires.within c.search.new.a c.in-Grown.ensures.found.longer stands c.search.ensures.whole)
+pub returns-in-Some : goal.returns-in-Some
+returns-in-Some g c = record {
+  rank = inr (
+    c.saturating_sub.ensures ∙ ap (λ n. n - 1) c.length-most.ensures.length,
+    elim c.settle.ensures.settled [ inl missed ↦ absurd (missed c.in-Some.field-0 c.in-Some.ensures.meter) | inr costly ↦ costly ],
+  );
+  ready = c.settle.ensures.ready;
+  network = c.settle.ensures.network;
+  quiet = c.settle.ensures.quiet;
+}
 
-pub returns-in-Grown-clause-longest : goal.returns-in-Grown-clause-longest
-returns-in-Grown-clause-longest g c =
-    let n = c.args.network.now in
-    let o = c.args.other.now in
-    let a = c.args.pairs.now in
-    let b = c.drop_pair.new.self in
-    let thawed = thawed_dropped a b c.args.m c.drop_pair.ensures.thawed c.requires.longest.thawed in
-    let lost : HasLost n a c.args.m c.args.e b = record {
-      longest = c.requires.longest;
-      had = c.requires.owner;
-      slots = c.drop_pair.ensures.dropped;
-      whole = c.drop_pair.ensures.whole;
-      thawed = thawed;
-    } in
-    let stands = subst (λ (x : Graph). StandsOver c.search.new.a x o.meters.touches) c.graph-g.ensures.graph
-    (subst (λ (i : Meters). StandsOver c.search.new.a c.graph-g.result.now i.touches) c.meters-ms.ensures.meters c.search.ensures.stands) in
-    grown_longest n a b c.args.m c.args.e lost c.search.new.a c.in-Grown.ensures.found.longer
-    (stands_here_without c.args.e n o c.requires.same c.requires.meters c.requires.gone c.search.new.a c.search.ensures.whole stands) c.search.ensures.whole
-    (thawed_found c.graph-g.result.now.ends c.meters-ms.result.now.touches (One c.args.m) b c.search.new.a c.search.new.work.reached (Grown c.in-Grown.field-0) c.in-Grown.ensures.found thawed)
-
-pub returns-in-Closed-clause-rank : goal.returns-in-Closed-clause-rank
-returns-in-Closed-clause-rank g c =
-    let n = c.args.network.now in
-    let o = c.args.other.now in
-    let a = c.args.pairs.now in
-    let b = c.drop_pair.new.self in
-    let lost : HasLost n a c.args.m c.args.e b = record {
-      longest = c.requires.longest;
-      had = c.requires.owner;
-      slots = c.drop_pair.ensures.dropped;
-      whole = c.drop_pair.ensures.whole;
-      thawed = thawed_dropped a b c.args.m c.drop_pair.ensures.thawed c.requires.longest.thawed;
-    } in
-    let there = dropped_there c.args.e n o c.requires.same c.requires.meters a c.requires.longest c.args.m c.requires.owner
-    c.graph.result.now c.graph.ensures.graph b c.drop_pair.ensures.dropped c.drop_pair.ensures.whole c.drop_pair.ensures.stands in
-    let closed = subst (λ (x : Graph). HasClosed x.ends o.meters.touches (One c.args.m) b c.search.new.a c.search.new.work.reached) c.graph-g.ensures.graph
-    (subst (λ (i : Meters). HasClosed c.graph-g.result.now.ends i.touches (One c.args.m) b c.search.new.a c.search.new.work.reached) c.meters-ms.ensures.meters c.in-Closed.ensures.found) in
-    let same : c.length-rank.result ≡ length (pairs_at b) = c.length-rank.ensures.length ∙ ap (λ (x : Assignment). length (pairs_at x)) closed.same in
-    subst (λ (k : ℕ). IsRhoAt o.graph.ends o.meters.touches (live_items o.graph.ends o.meters.touches) k) (sym same)
-    (closed_there n a b c.args.m c.args.e lost o c.requires.within c.requires.branches c.requires.branches_there c.requires.critical there c.search.new.a c.search.new.work.reached closed)
+pub returns-in-None : goal.returns-in-None
+returns-in-None g c = record {
+  rank = inl (
+    c.length-most.ensures.length,
+    spared_over c.args.kept.now.network c.settle.new.kept.pairs (subst (λ (n : Network). AreLongestOver n c.settle.new.kept.pairs) c.settle.ensures.network c.settle.ensures.ready.longest) c.args.e c.in-None.ensures.none,
+  );
+  ready = c.settle.ensures.ready;
+  network = c.settle.ensures.network;
+  quiet = c.settle.ensures.quiet;
+}

@@ -5,6 +5,7 @@ use Rattle.obs_kept.specs.Kept.{AreLongestOver}
 use Rattle.obs_outage.specs.Outages.{Outages}
 use Rattle.obs_outage.specs.Feeds.{HasFeedRoom}
 use Rattle.obs_outage.specs.declared.outages.Outage.{Outage}
+use Rattle.obs_outage.proofs.Readied.{longest_of}
 use Rattle.obs_outage.proofs.outages.Outages.find_list.Goals as goal
 
 pub returns : goal.returns
@@ -17,8 +18,8 @@ returns g c =
     record {
       list = ap (λ (xs : List Outage). take c.list_outages-self-inside.result xs) back ∙ listed.listed;
       case = listed.case;
-      network = listed.network ∙ ap (λ (o : Outages). o.network) c.self.view_is;
-      longest = subst (λ (x : Network). AreLongestOver x c.list_outages-self-inside.new.kept.pairs) (listed.network ∙ ap (λ (o : Outages). o.network) c.self.view_is ∙ c.requires.network) listed.ready.longest;
+      network = listed.basis.network ∙ sym c.requires.network;
+      longest = longest_of c.args.case.now c.list_outages-self-inside.new.basis listed.basis;
     }
 
 pub count-requires-clause-network : goal.count-requires-clause-network
@@ -26,20 +27,14 @@ count-requires-clause-network g c = ap (λ (o : Outages). o.network) c.self.view
 
 pub count-requires-clause-longest : goal.count-requires-clause-longest
 count-requires-clause-longest g c =
-    subst (λ (x : Network). AreLongestOver x c.self.inside.kept.pairs) (ap (λ (o : Outages). o.network) c.self.view_is ∙ c.requires.network) c.self.invariant.ready.longest
+    subst (λ (x : Network). AreLongestOver x c.self.inside.basis.kept.pairs) (ap (λ (o : Outages). o.network) c.self.view_is ∙ c.requires.network) c.self.invariant.basis.ready.longest
 
 pub count-requires-clause-room : goal.count-requires-clause-room
 count-requires-clause-room g c =
-    subst (λ (k : ℕ). HasFeedRoom k c.self.inside.feeds) (ap (λ (x : Network). x.rows.nodes) (ap (λ (o : Outages). o.network) c.self.view_is ∙ c.requires.network)) c.self.invariant.feeds
+    subst (λ (k : ℕ). HasFeedRoom k c.self.inside.basis.feeds) (ap (λ (x : Network). x.rows.nodes) (ap (λ (o : Outages). o.network) c.self.view_is ∙ c.requires.network)) c.self.invariant.feeds
 
-pub list_outages-self-inside-requires-clause-network : goal.list_outages-self-inside-requires-clause-network
-list_outages-self-inside-requires-clause-network g c = ap (λ (o : Outages). o.network) c.self.view_is ∙ c.requires.network
-
-pub list_outages-self-inside-requires-clause-ready : goal.list_outages-self-inside-requires-clause-ready
-list_outages-self-inside-requires-clause-ready g c = c.self.invariant.ready
-
-pub list_outages-self-inside-requires-clause-feeds : goal.list_outages-self-inside-requires-clause-feeds
-list_outages-self-inside-requires-clause-feeds g c = c.count.ensures.counted
+pub list_outages-self-inside-requires-clause-basis : goal.list_outages-self-inside-requires-clause-basis
+list_outages-self-inside-requires-clause-basis g c = record { basis = let r = c.self.invariant.basis.ready in record { ready = record { longest = r.longest; room = r.room; copy = r.copy; fits = r.fits; branches = r.branches; rows = r.rows; told = r.told }; sides = c.self.invariant.basis.sides }; network = ap (λ (o : Outages). o.network) c.self.view_is ∙ c.requires.network; feeds = c.count.ensures.counted }
 
 pub list_outages-self-inside-requires-clause-entries : goal.list_outages-self-inside-requires-clause-entries
 list_outages-self-inside-requires-clause-entries g c =
@@ -52,15 +47,14 @@ pub invariant_of-self : goal.invariant_of-self
 invariant_of-self g c =
     let after = c.list_outages-self-inside.ensures in
     let inv = c.self.invariant in
-    let back = sym after.network in
-    let there = ap (λ (o : Outages). o.network) c.self.view_is ∙ c.requires.network in
+    let back = ap (λ (o : Outages). o.network) c.self.view_is ∙ c.requires.network ∙ sym after.basis.network in
     let entries = c.list_outages-self-inside.new.entries in
     let here = c.self.inside.entries in
     let same : length entries ≡ length here.items = c.list_outages-self-inside.auto.entries ∙ ap length c.deref_mut.ensures.value in
     let written = written_back here.len entries here.items same here.ok.0 in
     record {
-      ready = after.ready;
-      feeds = subst (λ (k : ℕ). HasFeedRoom k c.count.new.self) (sym (ap (λ (x : Network). x.rows.nodes) (after.network ∙ there))) c.count.ensures.counted.room;
+      basis = after.basis.basis;
+      feeds = subst (λ (k : ℕ). HasFeedRoom k c.list_outages-self-inside.new.basis.feeds) (sym (ap (λ (x : Network). x.rows.nodes) after.basis.network)) after.basis.feeds.room;
       entries = ap (λ (xs : List Outage). length xs) written ∙ same ∙ inv.entries ∙ ap (λ (x : Network). x.rows.branches) back;
       listed = subst (λ (xs : List Outage). c.list_outages-self-inside.result ≤ length xs) (sym written) after.bound;
     }

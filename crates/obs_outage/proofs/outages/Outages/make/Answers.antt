@@ -1,6 +1,10 @@
 use Rattle.std.proofs.Common.{ℕ, List, length, refl, sym, ap, ◌∙◌, subst, arith}
+use Rattle.obs_graph.specs.Positions.{AreBranches}
+use Rattle.obs_network.proofs.OfCase.{case_branches-are, length-case_branches}
 use Rattle.obs_case.specs.declared.rows.Branch.{Branch}
+use Rattle.obs_meter.specs.Sizes.{HasRoomFor}
 use Rattle.obs_kept.specs.Kept.{AreLongestOver}
+use Rattle.obs_kept.proofs.OfNetwork.{room_network}
 use Rattle.obs_network.specs.Network.{Network}
 use Rattle.obs_outage.specs.Feeds.{HasFeedRoom}
 use Rattle.obs_outage.specs.Sparing.{HasFlags}
@@ -12,12 +16,18 @@ invariant_of-result g c =
     let nodes = ap (λ (x : Network). x.rows.nodes) net in
     let rows = ap (λ (xs : List Branch). length xs) c.branches.ensures.rows in
     record {
-      ready = record {
-        longest = subst (λ (x : Network). AreLongestOver x c.find.new.kept.pairs) (sym net) c.find.ensures.longest;
-        room = c.find.ensures.room;
-        other = c.in_ok-other.ensures.whole ∙ sym net;
+      basis = record {
+        ready = record {
+          longest = subst (λ (x : Network). AreLongestOver x c.find.new.kept.pairs) (sym net) c.find.ensures.longest;
+          room = c.find.ensures.room;
+          copy = c.in_ok-without.ensures.copy;
+          fits = subst (λ s. HasRoomFor s c.find.new.kept.network.graph c.find.new.kept.network.meters.touches) c.find.ensures.room.work
+              (room_network c.find.new.kept.network c.args.case.now net c.find.new.kept.network.graph refl c.find.new.kept.network.meters refl c.find.new.kept.pairs c.find.new.kept.work c.find.ensures.room);
+          branches = subst (λ (x : Network). AreBranches x.graph.vertices x.graph.ends) (sym net) (case_branches-are c.args.case.now c.branches.ensures.valid);
+          rows = (let many = ap (λ (x : Network). x.rows.branches) net in let all = ap (λ (x : Network). length x.graph.ends) net in omega (arith, many, all, length-case_branches c.args.case.now));
+          told = c.find.ensures.told;
+        };
         sides = c.find.ensures.sides ∙ c.in_ok-sides.ensures.room ∙ c.vertex_room.ensures.room ∙ sym (ap (λ (x : Network). x.graph.most_vertices) net);
-        told = c.find.ensures.told;
       };
       feeds = subst (λ (k : ℕ). HasFeedRoom k c.in_ok-feeds.feeds) (sym nodes) c.in_ok-feeds.ensures.room;
       entries = (let many = ap (λ (x : Network). x.rows.branches) net in let len = c.in_ok-entries.ensures.len in omega (arith, many, len, rows));
