@@ -26,7 +26,7 @@ use Rattle.obs_station.specs.Held.{Stations, has_any, key_of, keys_of, loss_in, 
 use Rattle.obs_station.specs.Stations.{case_station_count, case_stations, has_live, is_at, loss_of, loss_stations, losses_of, meter_stations, other_meters, station_meters, station_node}
 
 -- a filter after another is one of both tests
-both_filters : (p q : ℕ → Bool) (xs : List ℕ) → filter q (filter p xs) ≡ filter (λ x. p x && q x) xs
+pub both_filters : (p q : ℕ → Bool) (xs : List ℕ) → filter q (filter p xs) ≡ filter (λ x. p x && q x) xs
 both_filters p q [] = refl
 both_filters p q (x ∷ xs) = elim (cases_Bool (p x)) [
   | inl t ↦ elim (cases_Bool (q x)) [ inl s ↦ rw (t, s) (ap (λ ys. x ∷ ys) (both_filters p q xs)) | inr s ↦ rw (t, s) (both_filters p q xs) ]

@@ -6,8 +6,10 @@ pub mod Stationed
 pub mod Finding
 pub mod Going
 pub mod Falling
-pub mod Ahead
-pub mod Marked
+pub mod Allowed
+pub mod Placed
 pub mod Members
+pub mod Ordering
 pub mod Pairs
+pub mod Settling
 pub mod OtherMeters

@@ -44,6 +44,10 @@ pub member-at : (keys : List ℕ) (m : ℕ) → m < length keys → In m (items_
 member-at keys m l =
     In_same m (0 + m) (items_with keys (get_or keys m 0)) (omega arith) (stands (λ k. eqb k (get_or keys m 0)) 0 keys m l (eq-eqb (get_or keys m 0) (get_or keys m 0) refl))
 
+-- a member is one of those that have keys
+pub member-low : (keys : List ℕ) (c m : ℕ) → In m (items_with keys c) → m < length keys
+member-low keys c m i = let v = passes (λ k. eqb k c) 0 keys m i in let l = v.1 in let e = v.2 in omega (arith, l, e)
+
 pub members-live : (g : Graph) (touches : List Touch) (s : Stations) (c : ℕ) → AreStationed g touches s → c < s.buses.count → (m : ℕ) → In m (items_with s.keys c) → is_live g.ends touches m ≡ true
 members-live g touches s c at low m i =
     let v = passes (λ k. eqb k c) 0 s.keys m i in

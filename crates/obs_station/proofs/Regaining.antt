@@ -38,7 +38,3 @@ rank_left g touches list a ok h =
     let M = left_of (is_listed list) (live_items g.ends touches) in
     rho_at-unique g.ends touches M (length (pairs a)) (rho_at g.vertices g.ends touches M) (rho-live_left (is_listed list) g.ends touches (length (pairs a)) h.longest)
     (rho_at-is g.vertices g.ends touches M ok (IsDistinct-filter (λ m. not (is_listed list m)) (live_items g.ends touches) (live_items-distinct g.ends touches)))
-
--- two longest assignments are as long
-pub as_long : (g : Graph) (touches : List Touch) (a b : Assignment) → IsLongest g touches a → IsLongest g touches b → length (pairs a) ≡ length (pairs b)
-as_long g touches a b h k = rho_at-unique g.ends touches (live_items g.ends touches) (length (pairs a)) (length (pairs b)) h.longest k.longest

@@ -1,5 +1,5 @@
 -- What is held while losses are found.
-use Rattle.std.specs.Prelude.{◌≡◌, ◌↔◌, ℕ, suc, ◌<◌, ◌≤◌, ◌^◌, Bool, true, false, not, if◌then◌else◌, nat_lt, Option, Some, None, List, length, map, filter, slice_index, take}
+use Rattle.std.specs.Prelude.{◌≡◌, ◌↔◌, ℕ, suc, ◌<◌, ◌≤◌, ◌^◌, Bool, true, if◌then◌else◌, nat_lt, List, length, map, filter, slice_index, take}
 use Rattle.std.specs.List.{range_with_len}
 use Rattle.obs_graph.specs.Graph.{Graph}
 use Rattle.obs_case.specs.Tables.{Tables}
@@ -10,11 +10,8 @@ use Rattle.obs_meter.specs.declared.Touch.{Touch}
 use Rattle.obs_meter.specs.Assignments.{rho_at}
 use Rattle.obs_meter.specs.Lost.{is_listed, left_of}
 use Rattle.obs_meter.specs.Touches.{is_live, live_items}
-use Rattle.obs_assign.specs.Assignment.{has_flag}
-use Rattle.obs_exchange.specs.Critical.{critical_at}
 use Rattle.obs_network.specs.Network.{case_branches, case_meters}
 use Rattle.obs_station.specs.declared.losses.Loss.{Loss}
-use Rattle.obs_station.specs.declared.without.First.{First}
 use Rattle.obs_station.specs.Stations.{case_station_count, meter_stations}
 
 -- the key of a meter: its station where it is live, else the number of stations
@@ -25,33 +22,25 @@ key_of t m = if is_live (case_branches t) (case_meters t) m then slice_index (me
 abbrev pub keys_of : Tables → List ℕ
 keys_of t = map (key_of t) (range_with_len 0 (length t.meters))
 
--- stations: the nodes by station, the key of each meter, whether it is marked as redundant, and for how many switches and meters there is
--- room
+-- stations: the nodes by station, the key of each meter, and for how many switches and meters there is room
 pub record Stations : Type 0 where
   pub buses : Buses
   pub keys : List ℕ
-  pub redundant : List Bool
   pub switches : ℕ
   pub most_meters : ℕ
 
 -- the arrays agree: the meters stand in groups by key
-pub record AreListed (meters : ℕ) (buses : Buses) (keys members starts : List ℕ) (redundant : List Bool) : Type 0 where
+pub record AreListed (meters : ℕ) (buses : Buses) (keys members starts : List ℕ) : Type 0 where
   pub small : length keys < 2 ^ 32
   pub fits : meters ≤ length keys
   pub few : buses.count ≤ buses.most_nodes
   pub members_len : length members ≡ length keys
   pub starts_len : length starts ≡ suc buses.most_nodes
-  pub redundant_len : length redundant ≡ length keys
   pub groups : AreGroups (take meters keys) members starts (suc buses.count)
 
 -- whether a station has a live meter
 abbrev pub has_any : Stations → ℕ → Bool
 has_any s c = nat_lt 0 (length (items_with s.keys c))
-
--- the flags mark just the live meters without which the rank is as it was
-abbrev pub AreRedundant : Graph → List Touch → List Bool → Type 0
-AreRedundant g touches flags =
-    (m : ℕ) → (has_flag flags m ≡ true) ↔ ((is_live g.ends touches m ≡ true) × (critical_at g.vertices g.ends touches m ≡ false))
 
 -- the live meters are those that have the key of a station
 abbrev pub AreStationed : Graph → List Touch → Stations → Type 0
@@ -70,27 +59,3 @@ loss_in g touches s c =
 -- the losses of some stations
 abbrev pub losses_in : Graph → List Touch → Stations → List ℕ → List Loss
 losses_in g touches s stations = map (loss_in g touches s) (filter (has_any s) stations)
-
--- a loss that is known before the others is that of a station with a live meter
-pub record IsFirst (g : Graph) (touches : List Touch) (s : Stations) (f : First) : Type 0 where
-  pub station : f.station < s.buses.count
-  pub any : has_any s f.station ≡ true
-  pub loss : f.loss ≡ loss_in g touches s f.station
-
--- how many live meters its station has
-abbrev pub first_count : Stations → Option First → ℕ
-first_count s None = 0
-first_count s (Some f) = length (items_with s.keys f.station)
-
--- whether its station is still to come, where those from c on are
-abbrev pub is_ahead : Option First → ℕ → Bool
-is_ahead None c = false
-is_ahead (Some f) c = not (nat_lt f.station c)
-
--- how many live meters its station has then
-abbrev pub ahead : Stations → Option First → ℕ → ℕ
-ahead s o c = if is_ahead o c then first_count s o else 0
-
--- and how many entries it has
-abbrev pub entries_ahead : Option First → ℕ → ℕ
-entries_ahead o c = if is_ahead o c then 1 else 0

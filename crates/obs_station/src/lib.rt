@@ -1,11 +1,14 @@
 //! Stations, and the loss of all meters of one.
 #![tactic(auto)]
 
+mod draw;
 mod keys;
 pub mod laws;
 mod losses;
 mod memory;
-mod redundant;
+mod rounds;
+mod settle;
+mod spared;
 mod stations;
 mod without;
 

@@ -8,11 +8,12 @@ ghost use Rattle.obs_kept.specs.Kept.{AreLongest};
 ghost use Rattle.obs_station.specs.Stations.{losses_of};
 
 use crate::memory::NoMemory;
+use crate::rounds::Rounds;
 use crate::stations::Stations;
 use crate::without::write_losses;
 use obs_assign::{Assignment, Steps};
 use obs_case::Case;
-use obs_exchange::Work;
+use obs_exchange::{Over, Work};
 use obs_meter::Meters;
 use obs_network::{Network, Present};
 use std::alloc::Global;
@@ -38,6 +39,8 @@ pub struct StationWork {
     left: Meters,
     // what finds pairs
     exchange: Work,
+    // what is known while stations are settled
+    rounds: Rounds,
     // the first `count` of these are found
     entries: Vec<Loss>,
     count: usize,
@@ -67,6 +70,8 @@ impl Model for StationWork {
         branches = w.branches + (w.stations.most_meters + w.candidates);
         vertices = 2 * w.stations.buses.most_nodes;
       };
+      places : length w.rounds.firsts ≡ w.stations.most_meters;
+      ranks : length w.rounds.ranks ≡ w.stations.buses.most_nodes;
       entries : length w.entries.items ≡ w.stations.buses.most_nodes;
       found : w.count ≤ length w.entries.items;
     } };
@@ -81,6 +86,7 @@ impl Drop for StationWork {
             stations: _,
             left: _,
             exchange: _,
+            rounds: _,
             entries: _,
             count: _,
         } = self;
@@ -110,6 +116,7 @@ impl StationWork {
             stations: Stations::make(alloc, nodes, case.switches().len(), meters)?,
             left: Meters::make(alloc, meters)?,
             exchange: Work::make(alloc, meters, branches + (meters + candidates), 2 * nodes)?,
+            rounds: Rounds::make(alloc, nodes, meters)?,
             entries: vec![in alloc; nothing; nodes as usize]?,
             count: 0,
         })
@@ -138,13 +145,17 @@ impl StationWork {
         let meters = present.meters();
         self.stations.refill(present);
         self.left.refill(meters.touches());
-        self.count = write_losses(
-            present.graph(),
+        let over = Over {
+            graph: present.graph(),
             meters,
-            &mut self.stations,
+        };
+        self.count = write_losses(
+            &over,
+            &self.stations,
             a,
             &mut self.left,
             &mut self.exchange,
+            &mut self.rounds,
             &mut self.entries,
             steps,
         );

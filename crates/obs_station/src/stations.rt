@@ -1,9 +1,9 @@
 // The stations of a case, and the live meters of each.
-ghost use Rattle.std.specs.Prelude.{◌≡◌, ◌<◌, ◌≤◌, ◌^◌, ℕ, false, [], All, IfOk, filter, length, replicate, slice_index};
+ghost use Rattle.std.specs.Prelude.{◌≡◌, ◌<◌, ◌≤◌, ◌^◌, [], All, IfOk, length, slice_index};
 ghost use Rattle.obs_switch.specs.Buses.{members_of};
-ghost use Rattle.obs_switch.specs.Groups.{items_with};
-ghost use Rattle.obs_assign.specs.Assignment.{has_flag};
+ghost use Rattle.obs_switch.specs.Groups.{group_start, items_with};
 ghost use Rattle.obs_station.specs.Held.{has_any, keys_of};
+ghost use Rattle.obs_station.specs.Rounds.{IsByStation};
 ghost use Rattle.obs_station.specs.Stations.{case_station_count, case_stations};
 
 use crate::keys::{write_links, write_members};
@@ -28,8 +28,6 @@ pub(crate) struct Stations {
     members: Vec<u32>,
     // where each key begins there
     starts: Vec<usize>,
-    // of each meter whether it is marked as redundant
-    redundant: Vec<bool>,
 }
 
 impl Model for Stations {
@@ -41,13 +39,12 @@ impl Model for Stations {
     ghost view = { λ s. record {
       buses = s.buses;
       keys = take s.meters s.keys.items;
-      redundant = s.redundant.items;
       switches = length s.links.items;
       most_meters = length s.keys.items;
     } };
 
     ghost invariant = { λ s.
-        AreListed s.meters s.buses s.keys.items s.members.items s.starts.items s.redundant.items };
+        AreListed s.meters s.buses s.keys.items s.members.items s.starts.items };
 }
 
 // Written out: so a caller's proof sees one call, and not the drop of each field.
@@ -60,34 +57,8 @@ impl Drop for Stations {
             keys: _,
             members: _,
             starts: _,
-            redundant: _,
         } = self;
     }
-}
-
-// Clears all flags.
-fn clear(flags: &mut [bool])
-    ensures clear { (m : ℕ) → has_flag flags.new m ≡ false }
-    ensures same_length { length flags.new ≡ length flags.old }
-{
-    for m in 0..flags.len() {
-        flags[m] = false;
-    }
-}
-
-// How many of the listed meters have their flag set.
-fn count_set(flags: &[bool], list: &[u32]) -> u32
-    requires low { All (λ m. m < length flags.now) list.now }
-    requires few { length list.now < 2 ^ 32 }
-    ensures count { result ≡ length (filter (has_flag flags.now) list.now) }
-{
-    let mut count = 0;
-    for m in list {
-        if flags[*m as usize] {
-            count += 1;
-        }
-    }
-    count
 }
 
 impl Stations {
@@ -101,7 +72,6 @@ impl Stations {
         ensures empty { IfOk result (λ s. s ≡ record {
           buses = record { buses = []; count = 0; most_nodes = nodes };
           keys = [];
-          redundant = replicate meters false;
           switches = switches;
           most_meters = meters;
         }) }
@@ -113,7 +83,6 @@ impl Stations {
             keys: vec![in alloc; 0; meters as usize]?,
             members: vec![in alloc; 0; meters as usize]?,
             starts: vec![in alloc; 0; nodes as usize + 1]?,
-            redundant: vec![in alloc; false; meters as usize]?,
         })
     }
 
@@ -170,28 +139,27 @@ impl Stations {
         group_of(&self.keys[..self.meters], &self.members, &self.starts, c)
     }
 
-    /// Marks the meters of which the flag is set as redundant, and no others.
-    pub(crate) fn mark(&mut self, flags: &[bool])
-        requires one_each { length flags.now ≡ self.old.most_meters }
-        ensures marked { self.new ≡ record self.old { redundant = flags.now } }
+    /// Where the live meters of a station begin among those of all, or where these end.
+    pub(crate) fn start(&self, c: u32) -> usize
+        requires station { c ≤ self.now.buses.count }
+        ensures start { result ≡ group_start self.now.keys c }
     {
-        self.redundant.copy_from_slice(flags);
+        self.starts[c as usize]
     }
 
-    /// Marks no meter as redundant.
-    pub(crate) fn mark_none(&mut self)
-        ensures none { (m : ℕ) → has_flag self.new.redundant m ≡ false }
-        ensures same { self.new ≡ record self.old { redundant = self.new.redundant } }
+    /// How many live meters there are.
+    pub(crate) fn live(&self) -> usize
+        ensures live { result ≡ group_start self.now.keys self.now.buses.count }
     {
-        clear(&mut self.redundant);
+        self.start(self.count())
     }
 
-    /// How many of the live meters of a station are marked as redundant.
-    pub(crate) fn redundant(&self, c: u32) -> u32
-        requires station { c < self.now.buses.count }
-        ensures redundant { result ≡ length (filter (has_flag self.now.redundant) (items_with self.now.keys c)) }
+    /// The live meters, one station after another.
+    pub(crate) fn members(&self) -> &[u32]
+        ensures by_station { IsByStation self.now.keys self.now.buses.count result.now }
+        ensures few { length result.now ≤ length self.now.keys }
     {
-        count_set(&self.redundant, self.meters(c))
+        &self.members[..self.live()]
     }
 
     /// The station to which a live meter belongs.

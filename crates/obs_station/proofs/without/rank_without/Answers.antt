@@ -10,7 +10,7 @@ use Rattle.obs_exchange.specs.Longest.{IsLongest, IsMost}
 use Rattle.obs_exchange.proofs.Lengthening.{room_again, rooms}
 use Rattle.obs_exchange.proofs.Losing.{most-left, most-longest, stands-all}
 use Rattle.obs_station.proofs.Pairs.{fewer_lost}
-use Rattle.obs_station.proofs.Regaining.{as_long, left_again, left_is, rank_left}
+use Rattle.obs_station.proofs.Regaining.{left_again, left_is, rank_left}
 use Rattle.obs_station.proofs.without.rank_without.Goals as goal
 
 pub lose-requires-clause-low : goal.lose-requires-clause-low
@@ -109,18 +109,21 @@ pub returns-clause-goes_on : goal.returns-clause-goes_on
 returns-clause-goes_on g c =
     let touches = c.args.ms.now.touches in
     let is = left_is c.args.list.now c.args.left.now c.lose.new.left touches c.requires.ready.left c.lose.ensures.left in
-    let few = c.lose.ensures.few in
     let t0 = c.lose.ensures.turns in
     let rise = c.regrow.ensures.lengthened.turns_rise in
     let rise_again = c.regrow-2.ensures.lengthened.turns_rise in
     let most = c.regrow.ensures.lengthened.turns_found in
     let most_again = c.regrow-2.ensures.lengthened.turns_found in
-    let same = as_long c.args.g.now touches c.args.a.now c.regrow-2.new.a c.requires.ready.longest c.regrow-2.ensures.longest in
+    let grown = c.regrow.ensures.lengthened.grown in
+    let grown_again = c.regrow-2.ensures.lengthened.grown in
+    let t1 = c.regrow.ensures.ticks in
+    let t2 = c.regrow-2.ensures.ticks in
     record {
       longest = c.regrow-2.ensures.longest;
       left = left_again c.args.list.now c.args.left.now c.lose.new.left c.regain.new.left touches c.requires.ready.left c.lose.ensures.left (c.regain.ensures.left (is_listed c.args.list.now) is);
       turns_rise = omega (arith, t0, rise, rise_again);
-      turns_most = omega (arith, few, t0, most, most_again, same);
+      ticks_rise = omega (arith, t1, t2);
+      turns_most = omega (arith, t0, most, most_again, grown, grown_again, t1, t2);
       same_room = rooms c.args.a.now c.regrow.new.a c.regrow-2.new.a (rooms c.args.a.now c.lose.new.a c.regrow.new.a c.lose.ensures.same_room c.regrow.ensures.same_room) c.regrow-2.ensures.same_room;
       same_sizes = c.regrow-2.ensures.same_sizes ∙ c.regrow.ensures.same_sizes;
     }

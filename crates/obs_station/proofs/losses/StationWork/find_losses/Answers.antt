@@ -4,6 +4,7 @@ use Rattle.obs_graph.specs.Graph.{Graph}
 use Rattle.obs_graph.proofs.Stored.{written_back}
 use Rattle.obs_switch.specs.Buses.{members_of}
 use Rattle.obs_switch.specs.Groups.{group_start}
+use Rattle.obs_switch.proofs.FirstNodes.{bus_count-le}
 use Rattle.obs_meter.specs.Held.{Meters}
 use Rattle.obs_meter.specs.Sizes.{HasRoomFor, Sizes}
 use Rattle.obs_meter.specs.Touches.{AreInRange}
@@ -12,8 +13,8 @@ use Rattle.obs_network.specs.Network.{Rows, network_of}
 use Rattle.obs_network.specs.Observable.{case_live_meters}
 use Rattle.obs_network.proofs.OfCase.{length-case_meters}
 use Rattle.obs_kept.proofs.OfNetwork.{longest_network}
-use Rattle.obs_station.specs.Held.{AreStationed, Stations, key_of}
-use Rattle.obs_station.specs.Stations.{StationWork, losses_of}
+use Rattle.obs_station.specs.Held.{AreStationed, key_of}
+use Rattle.obs_station.specs.Stations.{StationWork, all_links, losses_of}
 use Rattle.obs_station.proofs.Finding.{few-of_case, found-of_case, list-of_case, over_case, room_for, stationed, touches_are}
 use Rattle.obs_station.proofs.Stationed.{some_node}
 use Rattle.obs_station.proofs.losses.StationWork.find_losses.Given.{Over}
@@ -78,11 +79,11 @@ module _ (g : Over) (c : After-write_losses-self-inside g) where
   entries_back = written_back c.self.inside.entries.len c.write_losses-self-inside.new.entries c.self.inside.entries.items entries_len c.self.inside.entries.ok.0
 
   -- the sizes of the stations are those of before
-  meters_now : c.write_losses-self-inside.new.stations.most_meters ≡ c.self.inside.stations.most_meters
-  meters_now = ap (λ (x : Stations). x.most_meters) c.write_losses-self-inside.ensures.same_stations ∙ c.refill.ensures.meters
+  meters_now : c.refill.new.self.most_meters ≡ c.self.inside.stations.most_meters
+  meters_now = c.refill.ensures.meters
 
-  nodes_now : c.write_losses-self-inside.new.stations.buses.most_nodes ≡ c.self.inside.stations.buses.most_nodes
-  nodes_now = ap (λ (x : Stations). x.buses.most_nodes) c.write_losses-self-inside.ensures.same_stations ∙ c.refill.ensures.nodes
+  nodes_now : c.refill.new.self.buses.most_nodes ≡ c.self.inside.stations.buses.most_nodes
+  nodes_now = c.refill.ensures.nodes
 
   low : c.write_losses-self-inside.result ≤ length c.write_losses-self-inside.new.entries
   low = let all : length c.deref_mut.result.now ≡ length c.self.inside.entries.items = ap length c.deref_mut.ensures.value in omega (arith, c.write_losses-self-inside.ensures.few, all, entries_len)
@@ -116,7 +117,9 @@ invariant_of-self g c =
       sizes =
           w.ensures.goes_on.same_sizes
           ∙ (i.sizes
-          ∙ (ap (λ (m : ℕ). of m c.self.inside.stations.buses.most_nodes) (sym (meters_now g d)) ∙ ap (λ (n : ℕ). of w.new.stations.most_meters n) (sym (nodes_now g d))));
+          ∙ (ap (λ (m : ℕ). of m c.self.inside.stations.buses.most_nodes) (sym (meters_now g d)) ∙ ap (λ (n : ℕ). of c.refill.new.self.most_meters n) (sym (nodes_now g d))));
+      places = w.ensures.same_meters ∙ (i.places ∙ sym (meters_now g d));
+      ranks = w.ensures.same_nodes ∙ (i.ranks ∙ sym (nodes_now g d));
       entries = entries_len g d ∙ (i.entries ∙ sym (nodes_now g d));
       found = low g d;
     })
@@ -137,7 +140,7 @@ returns-clause-ticks g c =
 pub returns-clause-turns_most : goal.returns-clause-turns_most
 returns-clause-turns_most g c =
     let d = (goal.at.returns-clause-turns_most g c).After-write_losses-self-inside in
-    omega (arith, c.write_losses-self-inside.ensures.goes_on.turns_most, few g d)
+    omega (arith, c.write_losses-self-inside.ensures.goes_on.turns_most, c.write_losses-self-inside.ensures.ticks, few g d, found_is g d)
 
 pub returns-clause-rows : goal.returns-clause-rows
 returns-clause-rows g c =
@@ -149,9 +152,9 @@ returns-clause-rows g c =
       meters = meters;
       candidates = c.self.inside.candidates;
     } in
-    let s = c.write_losses-self-inside.new.stations in
+    let s = c.refill.new.self in
     let was = c.self.inside.stations in
-    let switches = ap (λ (x : Stations). x.switches) c.write_losses-self-inside.ensures.same_stations ∙ c.refill.ensures.switches in
+    let switches = c.refill.ensures.switches in
     ap (λ (n : ℕ). of n s.switches s.most_meters) (nodes_now g d)
     ∙ (ap (λ (k : ℕ). of was.buses.most_nodes k s.most_meters) switches
     ∙ (ap (λ (m : ℕ). of was.buses.most_nodes was.switches m) (meters_now g d) ∙ ap (λ (w : StationWork). w.rows) c.self.view_is))
@@ -167,4 +170,11 @@ write_losses-self-inside-requires-clause-meters g c =
     let t = c.args.present.now in
     let rows = ap (λ (w : StationWork). w.rows.meters) c.self.view_is ∙ ap (λ (r : Rows). r.meters) c.requires.rows in
     let all : length c.meters-meters.result.now.touches ≡ length t.meters = ap (λ (m : Meters). length m.touches) c.meters-meters.ensures.meters ∙ length-case_meters t in
-    c.refill.ensures.meters ∙ (rows ∙ sym all)
+    c.self.invariant.places ∙ (rows ∙ sym all)
+
+pub write_losses-self-inside-requires-clause-nodes : goal.write_losses-self-inside-requires-clause-nodes
+write_losses-self-inside-requires-clause-nodes g c =
+    let t = c.args.present.now in
+    let nodes = ap (λ (w : StationWork). w.rows.nodes) c.self.view_is ∙ ap (λ (r : Rows). r.nodes) c.requires.rows in
+    let few = bus_count-le (length t.nodes) (all_links t.switches) in
+    omega (arith, c.self.invariant.ranks, nodes, c.refill.ensures.count, few)

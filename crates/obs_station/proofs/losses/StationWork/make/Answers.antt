@@ -22,6 +22,8 @@ invariant_of-result c =
     record {
       left = ap (λ (m : Meters). m.most) c.in_ok-make-2.ensures.empty ∙ sym meters;
       sizes = ap (λ (w : Work). w.sizes) c.in_ok-make-3.ensures.empty ∙ ap (λ k. of k (length c.nodes.result.now)) (sym meters) ∙ ap (λ n. of c.in_ok-make.field-0.most_meters n) (sym nodes);
+      places = omega (arith, c.in_ok-make-4.ensures.meters, meters);
+      ranks = omega (arith, c.in_ok-make-4.ensures.nodes, nodes);
       entries = omega (arith, len, nodes);
       found = omega arith;
     }

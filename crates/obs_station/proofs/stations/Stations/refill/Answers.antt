@@ -113,7 +113,6 @@ invariant_of-self c =
       few = omega (arith, count, bus_count-le (length t.nodes) (all_links t.switches), c.requires.nodes, most, c.relabel.ensures.room);
       members_len = omega (arith, keys_len d, members_len d, i.members_len);
       starts_len = omega (arith, starts_len d, i.starts_len, c.relabel.ensures.room);
-      redundant_len = omega (arith, keys_len d, i.redundant_len);
       groups =
           subst (λ (ks : List ℕ). AreGroups ks c.write_members.new.members c.write_members.new.starts (suc c.relabel.new.self.count)) (sym front) c.write_members.ensures.groups;
     })
