@@ -1,4 +1,4 @@
-// The entry of a row that parts the buses of its component, where no pairs need be counted.
+// The entry of a row that parts the buses of its component, where this isn't absolute.
 ghost use Rattle.std.specs.Prelude.{◌≡◌, ◌≢◌, ◌-◌, ◌<◌, ◌≤◌, ◌^◌, All, IfSome, IsTrue, false, length, slice_index, sum_by, true};
 ghost use Rattle.obs_case.specs.Tables.{IsValid};
 ghost use Rattle.obs_matroid.specs.Lists.{In};
@@ -148,7 +148,7 @@ fn beside_entry(
 }
 
 /// Makes the pairs miss the row, where it is had by a meter that touches branches on the side that stays, and it isn't costly.
-/// Where the listed side stays, `beyond` is set.
+/// Where the listed side stays, `beyond` is set. False where the row is flagged as spared, and such a meter has it.
 fn frees<L: Ledger>(
     e: u32,
     beyond: bool,
