@@ -220,10 +220,6 @@ parted_by t n e c side net low component loose sides = record {
   sides = sides;
 }
 
-pub if_some : {P Q : Outage → Type 0} (o : Option Outage) → ((x : Outage) → P x → Q x) → IfSome o P → IfSome o Q
-if_some None more h = h
-if_some (Some x) more h = more x h
-
 -- where an observable case loses a row that parts a component, it stays observable
 pub observable_entry : (t : Tables) → IsValid t → (e k : ℕ) → IsFall t e k → (a : Assignment) → AreLongest t a → length (pairs a) ≡ case_needed t
     → (o : Outage) → o.branch ≡ e → o.rank ≡ case_needed t - k → o.needed ≡ case_needed t - k → o ≡ outage_of t e

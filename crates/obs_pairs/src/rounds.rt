@@ -10,7 +10,7 @@ use obs_exchange::{Over, Work};
 use obs_meter::Meters;
 use std::sync::ledger::Ledger;
 
-// So many classes settled are worth a round: it takes about as long as twice as many searches.
+// So many settled classes are worth a round, which makes the searches of new pairs and two more; alone a class takes two.
 const WORTH: usize = 64;
 
 // How many meters wait.

@@ -8,7 +8,6 @@ ghost use Rattle.obs_pairs.specs.Split.{AreInOrder};
 use crate::reach::{keep_first, settle_same, write_order};
 use obs_assign::{Assignment, Steps};
 use obs_exchange::{Over, Work, close_in_order};
-use obs_meter::Meters;
 use std::sync::ledger::Ledger;
 
 // Searches from the meters without a pair one after the other, where their numbers rise or fall.

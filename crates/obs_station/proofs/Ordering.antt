@@ -76,10 +76,7 @@ module _ (keys members starts : List ℕ) (count : ℕ) (groups : AreGroups keys
             (v.0, get_or-take (group_start keys count) members v.0 0 (omega (arith, high, end)) ∙ v.3, from, high);
       }
 
--- an order by stations is one of the meters, and so is it the other way round
-pub order_of : (keys : List ℕ) (count : ℕ) (order : List ℕ) → IsByStation keys count order → IsOrder (length keys) order
-order_of keys count order by = let size = by.all in let most = group_start-le keys count in record { few = omega (arith, size, most); low = by.low }
-
+-- an order by stations is one of the meters, the other way round too
 pub order_back : (keys : List ℕ) (count : ℕ) (order list : List ℕ) → IsByStation keys count order → IsBackward order list → IsOrder (length keys) list
 order_back keys count order list by back =
     let size = by.all in
