@@ -44,3 +44,4 @@ pub mod Spreading
 pub mod Walking
 pub mod WithoutBus
 pub mod Regrouped
+pub mod Bridging

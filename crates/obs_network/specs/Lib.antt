@@ -7,6 +7,7 @@ pub mod Network
 pub mod Located
 pub mod Parted
 pub mod Sides
+pub mod Bridges
 pub mod Kept
 pub mod Observable
 pub mod Plain

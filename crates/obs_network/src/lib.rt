@@ -3,6 +3,7 @@
 
 mod alone;
 mod angles;
+mod bridges;
 mod components;
 mod following;
 pub mod laws;
@@ -20,6 +21,7 @@ mod sides;
 mod switched;
 mod touching;
 
+pub use bridges::{Below, Bridges};
 pub use memory::NoMemory;
 pub use network::Network;
 pub use present::Present;

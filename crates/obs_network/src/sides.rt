@@ -25,8 +25,8 @@ fn push(v: u32, end: u32, labels: &mut [Option<u32>], queue: &mut [u32], tail: &
     *tail += 1;
 }
 
-// Where a branch at v leads.
-fn across(g: &Graph, p: u32, v: u32) -> u32
+/// Where a branch at v leads.
+pub(crate) fn across(g: &Graph, p: u32, v: u32) -> u32
     requires there { has_end v (slice_index_or g.now.ends p None) ≡ true }
     ensures to { Reaches g.now.ends v result p }
     ensures vertex { result < g.now.vertices }

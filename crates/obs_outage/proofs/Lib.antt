@@ -22,7 +22,4 @@ pub mod SideForests
 pub mod Unfed
 pub mod Losing
 pub mod UnfedSide
-pub mod ByComponent
-pub mod OtherSide
-pub mod PairCounts
 pub mod Fitting

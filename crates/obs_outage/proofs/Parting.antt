@@ -1,6 +1,6 @@
 -- The sources on a side of a row that parts its component, counted, and what the needed number falls by.
-use Rattle.std.proofs.Common.{◌≡◌, ◌≢◌, ℕ, ◌+◌, ◌-◌, ◌<◌, ◌≤◌, Bool, true, false, cond, ◌⊎◌, inl, inr, Option, Some, None, List, [], ◌∷◌, length, refl, sym, ap, ◌∙◌, subst, arith}
-use Rattle.std.specs.Prelude.{IfSome, slice_index, slice_index_or, ◌==◌, count_by, sum_by}
+use Rattle.std.proofs.Common.{◌≡◌, ◌≢◌, ℕ, ◌+◌, ◌-◌, ◌<◌, ◌≤◌, Bool, true, false, cond, ◌⊎◌, inl, inr, Some, List, [], ◌∷◌, length, refl, sym, ap, ◌∙◌, subst, arith}
+use Rattle.std.specs.Prelude.{slice_index, slice_index_or, ◌==◌, count_by, sum_by}
 use Rattle.std.proofs.lemmas.Bool.{cases_Bool, cases_eq, eq-eqb, eqb-true, ne_eqb, true≢false}
 use Rattle.std.proofs.lemmas.List.Sums.{sum_by-cons}
 use Rattle.obs_graph.proofs.Counts.{count_below-le-n}
@@ -11,14 +11,14 @@ use Rattle.obs_network.specs.Switched.{case_bus_count}
 use Rattle.obs_network.specs.Components.{source_nodes}
 use Rattle.obs_assign.specs.Assignment.{Assignment, pairs}
 use Rattle.obs_kept.specs.Kept.{AreLongest}
-use Rattle.obs_network.specs.Network.{Network, case_meters, case_needed, case_rows, case_sizes, network_of, node_component}
+use Rattle.obs_network.specs.Network.{Network, case_meters, case_needed, case_rows, network_of, node_component}
 use Rattle.obs_network.specs.Observable.{case_live_meters}
 use Rattle.obs_network.specs.Parted.{HasSource, HasSourceBeside, IsParted, IsSide, outage_case}
 use Rattle.obs_network.specs.Located.{component_of_branch}
 use Rattle.obs_network.proofs.FewLost.{alone, no_shorter}
 use Rattle.obs_network.proofs.Observed.{most_pairs}
 use Rattle.obs_network.proofs.OfCase.{case_bus_count-le, case_component-below, case_component_count-le}
-use Rattle.obs_network.proofs.PartedNeeds.{Found, both_live, found, in_component, listed_dead, low, other_dead}
+use Rattle.obs_network.proofs.PartedNeeds.{Found, both_live, found, in_component, listed_dead, low}
 use Rattle.obs_network.proofs.SideLists.{on_side, side_count, side_low}
 use Rattle.obs_outage.specs.declared.outages.Outage.{Outage}
 use Rattle.obs_outage.specs.Feeds.{AreFeeds, Feeds, IsFall, bus_at, sources_at}
@@ -165,13 +165,6 @@ module _ (t : Tables) (v : IsValid t) (e c : ℕ) (side : List ℕ) (p : IsParte
           | inr r ↦ (r.1.0, r.1.1, is_in_from side (bus_at t r.1.0) r.1.2)
         ]
 
-    pub none_beside : here ≡ all → HasSourceBeside t c side → ⊥
-    none_beside same s =
-        elim compared [
-          | inl r ↦ s.3 (is_in_from side (bus_at t s.0) (r.1 s.0 s.1 (eq-eqb (node_component t s.0) c s.2)))
-          | inr r ↦ let l = r.0 in absurd (omega (arith, l, same, here_is, all_is))
-        ]
-
     has_beside : (here ≡ all → ⊥) → HasSourceBeside t c side
     has_beside ne =
         elim compared [
@@ -179,38 +172,21 @@ module _ (t : Tables) (v : IsValid t) (e c : ℕ) (side : List ℕ) (p : IsParte
           | inr r ↦ (r.1.0, r.1.1, eqb-true (node_component t r.1.0) c r.1.2, λ i. true≢false (sym (is_in_at side (bus_at t r.1.0) i) ∙ r.1.3))
         ]
 
-    -- what the needed number falls by
-    pub fall_is : (less : ℕ) → (here ≡ 0 → less ≡ length side) → (here ≢ 0 → here ≡ all → less ≡ slice_index (case_sizes t) c - length side) → (here ≢ 0 → here ≢ all → less ≡ 1)
-        → case_needed (outage_case t e) + less ≡ case_needed t
-    fall_is less listed_goes other_goes one_goes =
-        elim (cases_eq here 0) [
-          | inl zero ↦ omega (arith, listed_goes zero, listed_dead t v e c side p f (no_source zero))
-          | inr some ↦ elim (cases_eq here all) [
-            | inl same ↦ omega (arith, other_goes some same, other_dead t v e c side p f (none_beside same))
-            | inr ne ↦ omega (arith, one_goes some ne, both_live t v e c side p f (has_source some) (has_beside ne))
-          ]
-        ]
+    falls : (less : ℕ) → case_needed (outage_case t e) + less ≡ case_needed t → IsFall t e less
+    falls less is = record {
+      needed = is;
+      rank = (let short = no_shorter t v e c side p f in omega (arith, is, short));
+      alone = λ one. alone t v e c side p f (omega (arith, is, one));
+    }
 
-    -- and what the outage takes
-    pub fall_of : (less : ℕ) → (here ≡ 0 → less ≡ length side) → (here ≢ 0 → here ≡ all → less ≡ slice_index (case_sizes t) c - length side) → (here ≢ 0 → here ≢ all → less ≡ 1) → IsFall t e less
-    fall_of less listed_goes other_goes one_goes =
-        let falls = fall_is less listed_goes other_goes one_goes in
-        record {
-          needed = falls;
-          rank = (let short = no_shorter t v e c side p f in omega (arith, falls, short));
-          alone = λ one. alone t v e c side p f (let is = falls in omega (arith, is, one));
-        }
+    -- what an outage takes with which the listed side goes, and with which none goes
+    pub fall_listed : here ≡ 0 → IsFall t e (length side)
+    fall_listed zero = falls (length side) (listed_dead t v e c side p f (no_source zero))
 
-    -- the same, by the numbers that a body has
-    pub fall_by : (size fed buses sum less : ℕ) → size ≡ slice_index (case_sizes t) c → fed ≡ all → buses ≡ length side → sum ≡ here
-        → (sum ≡ 0 → less ≡ buses) → (sum ≢ 0 → sum ≡ fed → less ≡ size - buses) → (sum ≢ 0 → sum ≢ fed → less ≡ 1) → IsFall t e less
-    fall_by size fed buses sum less is_size is_fed is_buses is_sum listed_goes other_goes one_goes =
-        fall_of less
-        (λ zero. listed_goes (is_sum ∙ zero) ∙ is_buses)
-        (λ some same. let l = other_goes (λ zero. some (sym is_sum ∙ zero)) (is_sum ∙ same ∙ sym is_fed) in omega (arith, l, is_size, is_buses))
-        (λ some ne. one_goes (λ zero. some (sym is_sum ∙ zero)) (λ same. ne (sym is_sum ∙ same ∙ is_fed)))
+    pub fall_one : here ≢ 0 → here ≢ all → IsFall t e 1
+    fall_one some ne = let live = both_live t v e c side p f (has_source some) (has_beside ne) in falls 1 (omega (arith, live))
 
--- a row that parts its component, by the network and what a walk found
+-- a row that parts its component, by the network and what stands below it
 pub parted_by : (t : Tables) (n : Network) (e c : ℕ) (side : List ℕ) → n ≡ network_of t → e < length t.branches → component_of_branch n e ≡ Some c → slice_index_or n.components.absolute c false ≡ false
     → IsSide (case_rows t) e side → IsParted t e c side
 parted_by t n e c side net low component loose sides = record {

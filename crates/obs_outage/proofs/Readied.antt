@@ -32,9 +32,15 @@ module _ (t : Tables) (b : Basis) (h : IsBasisOf t b) where
 
   -- the pairs, the network to leave a row out of, and the walks are others
   pub basis_again : (k1 : Kept) (w1 : Without) (s1 : Sides) → IsReady k1 w1 b.spared → k1.network ≡ b.kept.network → s1.most_vertices ≡ b.sides.most_vertices
-      → IsBasisOf t (record { kept = k1; without = w1; sides = s1; spared = b.spared; feeds = b.feeds })
+      → IsBasisOf t (record { kept = k1; without = w1; sides = s1; spared = b.spared; feeds = b.feeds; bridges = b.bridges })
   basis_again k1 w1 s1 ready same sides = record {
-    basis = record { ready = ready; sides = sides ∙ h.basis.sides ∙ ap (λ (x : Network). x.graph.most_vertices) (sym same) };
+    basis = record {
+      ready = ready;
+      sides = sides ∙ h.basis.sides ∙ ap (λ (x : Network). x.graph.most_vertices) (sym same);
+      vertices = h.basis.vertices ∙ ap (λ (x : Network). x.graph.most_vertices) (sym same);
+      branches = h.basis.branches ∙ ap (λ (x : Network). x.rows.branches) (sym same);
+    };
     network = same ∙ h.network;
     feeds = h.feeds;
+    bridges = h.bridges;
   }

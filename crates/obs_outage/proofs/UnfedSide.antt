@@ -1,5 +1,5 @@
 -- A side without a source that a walk listed: what is counted at its buses is what the outage takes from the rank.
-use Rattle.std.proofs.Common.{◌≡◌, ℕ, ◌+◌, ◌<◌, ◌^◌, Bool, true, false, not, ◌⊎◌, inl, inr, Option, Some, None, List, length, get_or, refl, sym, ap, ◌∙◌, subst, arith}
+use Rattle.std.proofs.Common.{◌≡◌, ℕ, ◌+◌, ◌<◌, ◌^◌, Bool, true, not, ◌⊎◌, inl, inr, Option, Some, None, List, length, get_or, refl, sym, ap, ◌∙◌, subst, arith}
 use Rattle.std.specs.Prelude.{◌==◌, IfSome, IsSome, count_by, is_some, slice_index_or, sum_by}
 use Rattle.std.specs.Cmp.Derive.{one_truth}
 use Rattle.std.proofs.lemmas.Bool.{cases_Bool, cases_eq, or_left, or_right, eq-eqb}
@@ -40,13 +40,13 @@ use Rattle.obs_outage.proofs.Losing.{any_from, any_in, ends_in, lost_pairs, same
 use Rattle.obs_outage.proofs.Unfed.{at, ends_there, gone_at, goes_on, leaves, on, rank_less, row_is, row_off, stays_off}
 
 -- an item without a hub touches one branch at most, and one with a hub touches branches with an end there
-pub by_hub : (ends : List (Option Ends)) (t : Touch) → ((j k : ℕ) → In j (touched ends t) → In k (touched ends t) → j ≡ k) ⊎ ((h : Hub) × (hub_of ends t ≡ Some h) × (common_vertex ends t ≡ h.vertex))
+by_hub : (ends : List (Option Ends)) (t : Touch) → ((j k : ℕ) → In j (touched ends t) → In k (touched ends t) → j ≡ k) ⊎ ((h : Hub) × (hub_of ends t ≡ Some h) × (common_vertex ends t ≡ h.vertex))
 by_hub ends Nothing = inl (λ j k i h. absurd i)
 by_hub ends (Edge p) = inl (λ j k i h. (itself_from (slice_index_or ends p None) p j i).0 ∙ sym ((itself_from (slice_index_or ends p None) p k h).0))
 by_hub ends (Star v) = inr (record { vertex = v; count = length (branches_at ends v) }, refl, refl)
 by_hub ends (Front v count) = inr (record { vertex = v; count = count }, refl, refl)
 
-module _ (t : Tables) (v : IsValid t) (e c : ℕ) (side : List ℕ) (p : IsParted t e c side) (none : HasSource t side → ⊥) (a : Assignment) (h : AreLongest t a) (freed : IsFreed false (network_of t) a e side) where
+module _ (t : Tables) (v : IsValid t) (e c : ℕ) (side : List ℕ) (p : IsParted t e c side) (none : HasSource t side → ⊥) (a : Assignment) (h : AreLongest t a) (freed : IsFreed (network_of t) a e side) where
   abbrev f : Found t e c side
   f = found t v e c side p
 
@@ -86,7 +86,7 @@ module _ (t : Tables) (v : IsValid t) (e c : ℕ) (side : List ℕ) (p : IsParte
   assigned : IsAssignmentAt ends (case_meters t) (every_item (case_meters t)) A
   assigned = IsAssignmentAt-standing a (network_of t).graph (case_meters t) h.whole h.stands
 
-  alone : IsConfined false (network_of t) a e side → (m j : ℕ) → In (m, e) A → In j (touch_at ends (case_meters t) m) → IsSome (slice_index_or (case_branches out) j None) → ⊥
+  alone : IsConfined (network_of t) a e side → (m j : ℕ) → In (m, e) A → In j (touch_at ends (case_meters t) m) → IsSome (slice_index_or (case_branches out) j None) → ⊥
   alone confined m j i hj some =
       let touch = slice_index_or (case_meters t) m Nothing in
       let off = stays_off t v e c side p f l d leads fed dark j some in
@@ -95,7 +95,7 @@ module _ (t : Tables) (v : IsValid t) (e c : ℕ) (side : List ℕ) (p : IsParte
             let same = one j e hj (assigned.touched (m, e) i) in
             row_off t v e c side p f l d leads fed dark (subst (λ z. IsSome (slice_index_or (case_branches out) z None)) same some)
         | inr hub ↦
-            let here = listed_on hub.0.vertex ((confined m hub.0 (slot_from a.slots (m, e) i) hub.1).0 refl) in
+            let here = listed_on hub.0.vertex (confined m hub.0 (slot_from a.slots (m, e) i) hub.1) in
             let is : on_it (common_vertex ends touch) ≡ true = ap on_it hub.2 ∙ here in
             clash is (elim (touched-vertex ends touch j hj) [ inl s ↦ ap on_it (sym s) ∙ off.0 | inr s ↦ ap on_it (sym s) ∙ off.1 ])
       ]
@@ -167,11 +167,11 @@ module _ (t : Tables) (v : IsValid t) (e c : ℕ) (side : List ℕ) (p : IsParte
       omega (arith, all, less, same, counted_is)
 
 -- the same, by the network, the branches and the sum that a body has
-pub unfed_by : (t : Tables) → IsValid t → (e : ℕ) (side : List ℕ) → IsUnfed t e side → (a : Assignment) → AreLongest t a → (n : Network) → n ≡ network_of t → IsFreed false n a e side
+pub unfed_by : (t : Tables) → IsValid t → (e : ℕ) (side : List ℕ) → IsUnfed t e side → (a : Assignment) → AreLongest t a → (n : Network) → n ≡ network_of t → IsFreed n a e side
     → (ends : List (Option Ends)) → ends ≡ case_branches t → (sum : ℕ) → sum ≡ sum_by (λ w. count_by (counts_at ends a.forest.held e w) (branches_at ends w)) side
     → case_rank (outage_case t e) + sum ≡ length (pairs a)
 unfed_by t v e side u a h n net freed ends same sum is =
-    let less = unfed_rank t v e u.0 side u.1 u.2 a h (subst (λ (x : Network). IsFreed false x a e side) net freed) in
+    let less = unfed_rank t v e u.0 side u.1 u.2 a h (subst (λ (x : Network). IsFreed x a e side) net freed) in
     let all = is ∙ ap (λ (xs : List (Option Ends)). sum_by (λ w. count_by (counts_at xs a.forest.held e w) (branches_at xs w)) side) same in
     omega (arith, less, all)
 

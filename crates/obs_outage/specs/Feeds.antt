@@ -1,17 +1,12 @@
 -- How many sources feed the buses and the components of a case, and what the outage of a row takes that parts a component.
-use Rattle.std.specs.Prelude.{◌≡◌, ◌≢◌, ◌+◌, ◌<◌, ◌≤◌, ◌==◌, ℕ, Bool, false, if◌then◌else◌, Option, Some, None, List, filter, is_some, length, slice_index, slice_index_or, count_by}
-use Rattle.obs_graph.specs.Joined.{count_below}
+use Rattle.std.specs.Prelude.{◌≡◌, ◌≢◌, ◌+◌, ◌<◌, ◌≤◌, ◌==◌, ℕ, List, length, slice_index, count_by}
 use Rattle.obs_case.specs.Tables.{Tables}
 use Rattle.obs_matroid.specs.Lists.{In}
-use Rattle.obs_matroid.specs.Assignments.{Pair}
 use Rattle.obs_meter.specs.Touches.{touch_at}
-use Rattle.obs_assign.specs.Assignment.{Assignment, pairs}
 use Rattle.obs_network.specs.Switched.{case_buses}
 use Rattle.obs_network.specs.Components.{source_nodes}
-use Rattle.obs_network.specs.Located.{component_of_branch}
-use Rattle.obs_network.specs.Network.{Network, case_branches, case_meters, case_needed, node_component}
-use Rattle.obs_network.specs.Observable.{branch_component, case_rank}
-use Rattle.obs_kept.specs.Kept.{AreLongest}
+use Rattle.obs_network.specs.Network.{case_branches, case_meters, case_needed, node_component}
+use Rattle.obs_network.specs.Observable.{case_rank}
 use Rattle.obs_network.specs.Parted.{outage_case}
 
 -- how many sources have a place, where each node has one
@@ -22,42 +17,21 @@ sources_at place sources at = count_by (λ u. place u == at) sources
 abbrev pub bus_at : Tables → ℕ → ℕ
 bus_at t u = slice_index (case_buses t) u
 
--- the component in which the branch of a pair lies, and none of a branch that no pair has
-abbrev pub pair_component : Network → Assignment → ℕ → Option ℕ
-pair_component n a e = if is_some (slice_index_or a.forest.held e None) then component_of_branch n e else None
-
--- whether this is the component
-abbrev pub is_component : ℕ → Option ℕ → Bool
-is_component c None = false
-is_component c (Some k) = k == c
-
--- how many of so many branches have a pair and lie in a component
-abbrev pub pairs_below : Network → Assignment → ℕ → ℕ → ℕ
-pairs_below n a c count = count_below (λ e. is_component c (pair_component n a e)) count
-
--- how many pairs lie in a component
-abbrev pub component_pairs : Tables → ℕ → Assignment → ℕ
-component_pairs t c a = length (filter (λ (p : Pair). branch_component t p.1 == c) (pairs a))
-
--- how many sources each bus and each component has, and how many pairs each component
+-- how many sources each bus and each component has
 pub record Feeds : Type 0 where
   pub of_buses : List ℕ
   pub of_components : List ℕ
-  pub pairs : List ℕ
 
 -- there is room for one of each for so many nodes
 pub record HasFeedRoom (nodes : ℕ) (f : Feeds) : Type 0 where
   pub buses : length f.of_buses ≡ nodes
   pub components : length f.of_components ≡ nodes
-  pub pairs : length f.pairs ≡ nodes
 
--- these are the numbers of sources of a case, by bus and by component, and of the pairs that any longest assignment has in each
--- component; there is room for one of each for each node
+-- these are the numbers of sources of a case, by bus and by component; there is room for one of each for each node
 pub record AreFeeds (t : Tables) (f : Feeds) : Type 0 where
   pub room : HasFeedRoom (length t.nodes) f
   pub at_buses : (b : ℕ) → b < length t.nodes → slice_index f.of_buses b ≡ sources_at (bus_at t) (source_nodes t.nodes) b
   pub at_components : (c : ℕ) → c < length t.nodes → slice_index f.of_components c ≡ sources_at (node_component t) (source_nodes t.nodes) c
-  pub at_pairs : (c : ℕ) → c < length t.nodes → (a : Assignment) → AreLongest t a → slice_index f.pairs c ≡ component_pairs t c a
 
 -- an outage takes no branch from a meter but its own
 abbrev pub TakesAlone : Tables → ℕ → Type 0

@@ -3,7 +3,8 @@ use Rattle.std.specs.Prelude.{◌≡◌, ◌≤◌, length}
 use Rattle.obs_graph.specs.Positions.{AreBranches}
 use Rattle.obs_case.specs.Tables.{Tables}
 use Rattle.obs_meter.specs.Sizes.{HasRoomFor}
-use Rattle.obs_network.specs.Network.{network_of}
+use Rattle.obs_network.specs.Bridges.{AreBridges}
+use Rattle.obs_network.specs.Network.{case_rows, network_of}
 use Rattle.obs_kept.specs.Kept.{AreLongest, AreLongestOver, HasRoom, network_sizes}
 use Rattle.obs_kept.specs.declared.kept.Kept.{Kept}
 use Rattle.obs_outage.specs.Feeds.{AreFeeds}
@@ -30,13 +31,16 @@ pub record IsKeptOf (t : Tables) (kept : Kept) : Type 0 where
   pub longest : AreLongest t kept.pairs
   pub room : HasRoom kept.network kept.pairs kept.work
 
--- what is ready for outages, and the walks have room for the network
+-- what is ready for outages, and the walks have room for the network, and what stands below bridges for its rows
 pub record IsBasis (b : Basis) : Type 0 where
   pub ready : IsReady b.kept b.without b.spared
   pub sides : b.sides.most_vertices ≡ b.kept.network.graph.most_vertices
+  pub vertices : length b.bridges.order ≡ b.kept.network.graph.most_vertices
+  pub branches : length b.bridges.froms ≡ b.kept.network.rows.branches
 
--- the kept network is that of a case, and so are the sources
+-- the kept network is that of a case, and so are the sources and what stands below bridges
 pub record IsBasisOf (t : Tables) (b : Basis) : Type 0 where
   pub basis : IsBasis b
   pub network : b.kept.network ≡ network_of t
   pub feeds : AreFeeds t b.feeds
+  pub bridges : AreBridges (case_rows t) b.feeds.of_buses b.bridges

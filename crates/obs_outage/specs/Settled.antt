@@ -1,5 +1,5 @@
 -- What a search shows of a row: longest pairs miss it, or it is costly.
-use Rattle.std.specs.Prelude.{◌≡◌, ◌≢◌, ◌⊎◌, ℕ, ◌-◌, Some, Bool, List, length}
+use Rattle.std.specs.Prelude.{◌≡◌, ◌≢◌, ◌⊎◌, ℕ, ◌-◌, Some, List, length}
 use Rattle.obs_assign.specs.Assignment.{Assignment, branch_at, pairs}
 use Rattle.obs_network.specs.Network.{Network}
 use Rattle.obs_outage.specs.Costly.{IsCostly}
@@ -21,5 +21,5 @@ IsRankWithout n a e r =
     ⊎ ((r ≡ length (pairs a) - 1) × IsCostly n.graph.ends n.meters.touches e)
 
 -- the meter that has the row touches no branch on the side that stays, or the row is costly
-abbrev pub IsFreed : Bool → Network → Assignment → ℕ → List ℕ → Type 0
-IsFreed beyond n a e side = IsConfined beyond n a e side ⊎ IsCostly n.graph.ends n.meters.touches e
+abbrev pub IsFreed : Network → Assignment → ℕ → List ℕ → Type 0
+IsFreed n a e side = IsConfined n a e side ⊎ IsCostly n.graph.ends n.meters.touches e

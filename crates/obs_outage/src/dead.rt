@@ -1,5 +1,5 @@
 // What the outage of a row takes where a side of it has no source: the pairs whose branch has an end there.
-ghost use Rattle.std.specs.Prelude.{◌≡◌, ◌<◌, ◌^◌, All, IsTrue, false, true, length, count_by, sum_by};
+ghost use Rattle.std.specs.Prelude.{◌≡◌, ◌<◌, ◌^◌, All, IsTrue, length, count_by, sum_by};
 ghost use Rattle.obs_graph.specs.Positions.{branches_at};
 ghost use Rattle.obs_matroid.specs.Lists.{In};
 ghost use Rattle.obs_assign.specs.Assignment.{IsWhole};
@@ -63,7 +63,6 @@ pub(crate) fn count_lost(g: &Graph, pairs: &Assignment, e: u32, side: &[u32]) ->
 // Whether a bus is one of some buses.
 fn is_one_of(buses: &[u32], v: u32) -> bool
     ensures one { IsTrue result → In v buses.now }
-    ensures none { result ≡ false → In v buses.now → ⊥ }
 {
     for b in buses {
         if *b == v {
@@ -73,35 +72,17 @@ fn is_one_of(buses: &[u32], v: u32) -> bool
     false
 }
 
-// Whether a bus is one of some buses, or, where it is to be beyond them, none of them.
-fn is_there(buses: &[u32], v: u32, beyond: bool) -> bool
-    ensures here { IsTrue result → beyond ≡ false → In v buses.now }
-    ensures beyond { IsTrue result → beyond ≡ true → In v buses.now → ⊥ }
-{
-    let found = is_one_of(buses, v);
-    if beyond {
-        return !found;
-    }
-    found
-}
-
-/// Whether the meter that has the row, if one has it, touches no other branch or those at a bus of the side, or beyond it.
-pub(crate) fn is_confined(
-    network: &Network,
-    pairs: &Assignment,
-    e: u32,
-    side: &[u32],
-    beyond: bool,
-) -> bool
+/// Whether the meter that has the row, if one has it, touches no other branch or those at a bus of the side.
+pub(crate) fn is_confined(network: &Network, pairs: &Assignment, e: u32, side: &[u32]) -> bool
     requires branch { e < length pairs.now.forest.held }
     requires whole { IsWhole pairs.now }
     requires meters { length pairs.now.slots ≡ length network.now.meters.touches }
     requires one_each { length pairs.now.forest.held ≡ length network.now.graph.ends }
-    ensures confined { IsTrue result → IsConfined beyond network.now pairs.now e side.now }
+    ensures confined { IsTrue result → IsConfined network.now pairs.now e side.now }
 {
     match pairs.meter_of(e) {
         Some(m) => match network.meters().hub(network.graph(), m) {
-            Some(hub) => is_there(side, hub.vertex, beyond),
+            Some(hub) => is_one_of(side, hub.vertex),
             None => true,
         },
         None => true,

@@ -13,8 +13,8 @@ use obs_assign::Steps;
 use obs_case::Case;
 use std::sync::ledger::Ledger;
 
-/// The entry of one row. Where the other rows join its ends, nothing but the row goes. Where they don't, what goes is known from the sides;
-/// where this isn't known, the long way is gone.
+/// The entry of one row. Where it parts its component, what goes is known from what stands below it. Where the other rows join its ends,
+/// nothing but the row goes. Where neither is known, the long way is gone.
 pub(crate) fn entry_of<L: Ledger>(
     case: &mut Case,
     e: u32,
@@ -30,6 +30,9 @@ pub(crate) fn entry_of<L: Ledger>(
     ensures basis { IsBasisOf case.old basis.new }
 {
     let rows = case.branches().len() as u32;
+    if let Some(entry) = parted_entry(case, e, basis, steps) {
+        return entry;
+    }
     if basis.sides.walk(basis.kept.network.graph(), rows, e) {
         let rank = rank_without(e, &mut basis.kept, &mut basis.without, &basis.spared, steps);
         let needed = basis.kept.network.needed();
@@ -39,8 +42,5 @@ pub(crate) fn entry_of<L: Ledger>(
             needed,
         };
     }
-    match parted_entry(case, e, basis, steps) {
-        Some(entry) => entry,
-        None => outage_at(case, e, &mut basis.kept, steps),
-    }
+    outage_at(case, e, &mut basis.kept, steps)
 }

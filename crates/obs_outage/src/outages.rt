@@ -16,7 +16,7 @@ use crate::spared::Spared;
 use obs_assign::{Assignment, Steps};
 use obs_case::Case;
 use obs_kept::Kept;
-use obs_network::{Network, Sides, vertex_room};
+use obs_network::{Bridges, Network, Sides, vertex_room};
 use std::alloc::Global;
 use std::marker::Model;
 use std::sync::ledger::Ledger;
@@ -85,9 +85,11 @@ impl Outages {
             needed: 0,
         };
         let mut sides = Sides::make(alloc, vertex_room(case))?;
+        let rows = case.branches().len() as u32;
+        let bridges = Bridges::make(alloc, vertex_room(case), rows)?;
         let mut spared = Spared::make(alloc, case)?;
         let feeds = Feeds::make(alloc, case)?;
-        let entries = vec![in alloc; none; case.branches().len()]?;
+        let entries = vec![in alloc; none; rows as usize]?;
         let mut kept = Kept::make(alloc, case, steps)?;
         spared.find(case, &mut kept, &mut sides, steps);
         let without = Without::make(alloc, &kept.network)?;
@@ -97,6 +99,7 @@ impl Outages {
             sides,
             spared,
             feeds,
+            bridges,
         };
         Ok(Outages {
             basis,
@@ -134,9 +137,7 @@ impl Outages {
         ensures longest { AreLongest case.old self.new.pairs }
         ensures found { self.new.found ≡ self.old.found }
     {
-        self.basis
-            .feeds
-            .count(case, &self.basis.kept.network, &self.basis.kept.pairs);
+        self.basis.find_bridges(case);
         entry_of(case, e, &mut self.basis, steps)
     }
 
@@ -148,9 +149,7 @@ impl Outages {
         ensures network { self.new.network ≡ self.old.network }
         ensures longest { AreLongest case.old self.new.pairs }
     {
-        self.basis
-            .feeds
-            .count(case, &self.basis.kept.network, &self.basis.kept.pairs);
+        self.basis.find_bridges(case);
         self.count = list_outages(case, &mut self.basis, &mut self.entries, steps);
     }
 

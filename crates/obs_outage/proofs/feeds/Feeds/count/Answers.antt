@@ -33,19 +33,6 @@ count_by_component-requires-clause-room c =
     let t = c.args.case.now in
     omega (arith, net, room, length-case_first_buses t, case_component_count-le t, case_bus_count-le t)
 
-pub count_longest-requires-clause-room : goal.count_longest-requires-clause-room
-count_longest-requires-clause-room c =
-    let net = ap (λ (x : Network). length x.components.first_buses) c.requires.network in
-    let room = ap (λ (f : Feeds). length f.pairs) c.self.view_is ∙ c.requires.room.pairs in
-    let t = c.args.case.now in
-    omega (arith, net, room, length-case_first_buses t, case_component_count-le t, case_bus_count-le t)
-
-pub count_longest-requires-clause-network : goal.count_longest-requires-clause-network
-count_longest-requires-clause-network c = c.requires.network
-
-pub count_longest-requires-clause-longest : goal.count_longest-requires-clause-longest
-count_longest-requires-clause-longest c = c.requires.longest
-
 pub returns : goal.returns
 returns c =
     let t = c.args.case.now in
@@ -61,14 +48,9 @@ returns c =
     let many-of_components = held-of_components ∙ c.requires.room.components in
     let back-of_components = written_back here-of_components.len c.count_by_component.new.counts here-of_components.items (c.count_by_component.auto.counts ∙ ap (λ (xs : List ℕ). length xs) c.deref_mut-2.ensures.value) here-of_components.ok.0 in
     let room-of_components = ap (λ (xs : List ℕ). length xs) back-of_components ∙ c.count_by_component.auto.counts in
-    let here-pairs = c.self.inside.pairs in
-    let held-pairs : length c.deref_mut-3.result.now ≡ length c.args.self.now.pairs = ap (λ (xs : List ℕ). length xs) c.deref_mut-3.ensures.value ∙ ap (λ (x : Feeds). length x.pairs) c.self.view_is in
-    let many-pairs = held-pairs ∙ c.requires.room.pairs in
-    let back-pairs = written_back here-pairs.len c.count_longest.new.counts here-pairs.items (c.count_longest.auto.counts ∙ ap (λ (xs : List ℕ). length xs) c.deref_mut-3.ensures.value) here-pairs.ok.0 in
-    let room-pairs = ap (λ (xs : List ℕ). length xs) back-pairs ∙ c.count_longest.auto.counts in
     record {
       counted = record {
-        room = record { buses = room-of_buses ∙ many-of_buses; components = room-of_components ∙ many-of_components; pairs = room-pairs ∙ many-pairs };
+        room = record { buses = room-of_buses ∙ many-of_buses; components = room-of_components ∙ many-of_components };
         at_buses = λ b low.
             ap (λ (xs : List ℕ). slice_index xs b) back-of_buses ∙ c.count_by_bus.ensures.counts b (subst (λ (k : ℕ). b < k) (sym many-of_buses) low)
             ∙ ap (λ (x : Network). sources_at (λ u. slice_index x.buses.buses u) (source_nodes c.nodes-nodes.result.now) b) net
@@ -77,9 +59,5 @@ returns c =
             ap (λ (xs : List ℕ). slice_index xs k) back-of_components ∙ c.count_by_component.ensures.counts k (subst (λ (n : ℕ). k < n) (sym many-of_components) low)
             ∙ ap (λ (x : Network). sources_at (λ u. slice_index x.components.of_buses (slice_index x.buses.buses u)) (source_nodes c.nodes-nodes.result.now) k) net
             ∙ ap (λ (xs : List Node). sources_at (node_component t) (source_nodes xs) k) rows;
-        at_pairs = λ k low a longest. ap (λ (xs : List ℕ). slice_index xs k) back-pairs ∙ c.count_longest.ensures.counts k (subst (λ (n : ℕ). k < n) (sym many-pairs) low) a longest;
       };
     }
-
-pub count_longest-requires-clause-valid : goal.count_longest-requires-clause-valid
-count_longest-requires-clause-valid c = c.nodes-nodes.ensures.valid

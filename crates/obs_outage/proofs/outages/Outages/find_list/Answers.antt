@@ -1,7 +1,6 @@
 use Rattle.std.proofs.Common.{◌≡◌, ℕ, ◌≤◌, length, take, sym, ap, ◌∙◌, subst, List, arith}
 use Rattle.obs_graph.proofs.Stored.{written_back}
 use Rattle.obs_network.specs.Network.{Network}
-use Rattle.obs_kept.specs.Kept.{AreLongestOver}
 use Rattle.obs_outage.specs.Outages.{Outages}
 use Rattle.obs_outage.specs.Feeds.{HasFeedRoom}
 use Rattle.obs_outage.specs.declared.outages.Outage.{Outage}
@@ -22,19 +21,17 @@ returns g c =
       longest = longest_of c.args.case.now c.list_outages-self-inside.new.basis listed.basis;
     }
 
-pub count-requires-clause-network : goal.count-requires-clause-network
-count-requires-clause-network g c = ap (λ (o : Outages). o.network) c.self.view_is ∙ c.requires.network
+pub find_bridges-requires-clause-basis : goal.find_bridges-requires-clause-basis
+find_bridges-requires-clause-basis g c = c.self.invariant.basis
 
-pub count-requires-clause-longest : goal.count-requires-clause-longest
-count-requires-clause-longest g c =
-    subst (λ (x : Network). AreLongestOver x c.self.inside.basis.kept.pairs) (ap (λ (o : Outages). o.network) c.self.view_is ∙ c.requires.network) c.self.invariant.basis.ready.longest
+pub find_bridges-requires-clause-network : goal.find_bridges-requires-clause-network
+find_bridges-requires-clause-network g c = ap (λ (o : Outages). o.network) c.self.view_is ∙ c.requires.network
 
-pub count-requires-clause-room : goal.count-requires-clause-room
-count-requires-clause-room g c =
-    subst (λ (k : ℕ). HasFeedRoom k c.self.inside.basis.feeds) (ap (λ (x : Network). x.rows.nodes) (ap (λ (o : Outages). o.network) c.self.view_is ∙ c.requires.network)) c.self.invariant.feeds
+pub find_bridges-requires-clause-feeds : goal.find_bridges-requires-clause-feeds
+find_bridges-requires-clause-feeds g c = c.self.invariant.feeds
 
 pub list_outages-self-inside-requires-clause-basis : goal.list_outages-self-inside-requires-clause-basis
-list_outages-self-inside-requires-clause-basis g c = record { basis = let r = c.self.invariant.basis.ready in record { ready = record { longest = r.longest; room = r.room; copy = r.copy; fits = r.fits; branches = r.branches; rows = r.rows; told = r.told }; sides = c.self.invariant.basis.sides }; network = ap (λ (o : Outages). o.network) c.self.view_is ∙ c.requires.network; feeds = c.count.ensures.counted }
+list_outages-self-inside-requires-clause-basis g c = c.find_bridges.ensures.basis
 
 pub list_outages-self-inside-requires-clause-entries : goal.list_outages-self-inside-requires-clause-entries
 list_outages-self-inside-requires-clause-entries g c =

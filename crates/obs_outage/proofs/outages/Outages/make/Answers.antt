@@ -1,6 +1,6 @@
 use Rattle.std.proofs.Common.{ℕ, List, length, refl, sym, ap, ◌∙◌, subst, arith}
 use Rattle.obs_graph.specs.Positions.{AreBranches}
-use Rattle.obs_network.proofs.OfCase.{case_branches-are, length-case_branches}
+use Rattle.obs_network.proofs.OfCase.{case_branches-are, few_branches, length-case_branches}
 use Rattle.obs_case.specs.declared.rows.Branch.{Branch}
 use Rattle.obs_meter.specs.Sizes.{HasRoomFor}
 use Rattle.obs_kept.specs.Kept.{AreLongestOver}
@@ -28,11 +28,16 @@ invariant_of-result g c =
           told = c.find.ensures.told;
         };
         sides = c.find.ensures.sides ∙ c.in_ok-sides.ensures.room ∙ c.vertex_room.ensures.room ∙ sym (ap (λ (x : Network). x.graph.most_vertices) net);
+        vertices = c.in_ok-bridges.ensures.vertices ∙ c.vertex_room-2.ensures.room ∙ sym (ap (λ (x : Network). x.graph.most_vertices) net);
+        branches = (let many = ap (λ (x : Network). x.rows.branches) net in let froms = c.in_ok-bridges.ensures.rows in omega (arith, many, froms, rows));
       };
       feeds = subst (λ (k : ℕ). HasFeedRoom k c.in_ok-feeds.feeds) (sym nodes) c.in_ok-feeds.ensures.room;
       entries = (let many = ap (λ (x : Network). x.rows.branches) net in let len = c.in_ok-entries.ensures.len in omega (arith, many, len, rows));
       listed = omega arith;
     }
+
+pub overflow_cast-rows : goal.overflow_cast-rows
+overflow_cast-rows g c = omega (arith, ap (λ (xs : List Branch). length xs) c.branches.ensures.rows, few_branches c.args.case.now c.branches.ensures.valid)
 
 pub find-requires-clause-network : goal.find-requires-clause-network
 find-requires-clause-network g c = c.in_ok-kept.ensures.network
