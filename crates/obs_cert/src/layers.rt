@@ -10,6 +10,7 @@ ghost use Rattle.obs_cert.specs.Numbered.{items_of};
 ghost use Rattle.obs_cert.specs.Scopes.{is_below, is_live_item, scope_of};
 ghost use Rattle.obs_cert.specs.Seen.{Tells, too_dear};
 
+use crate::contraction::Contraction;
 use crate::hubs::Hubs;
 use crate::joins::clear;
 use crate::keys::count_below;
@@ -118,12 +119,20 @@ fn join_layers(
     ensures joined { (es : List Ends) × AreJoined es ups.new (take result.0 moved.new) }
     ensures count { result.0 ≤ length moved.new }
 {
-    hubs.clear();
+    hubs.begin(Contraction::Nothing);
     let mut count = 0;
     let mut wrong = false;
     for layer in layers {
         let items = walk_items(Sort::Inside, layer.rest);
-        count = join_items(present, items, hubs, ups, moved, count);
+        count = join_items(
+            present,
+            items,
+            Contraction::Nothing,
+            hubs,
+            ups,
+            moved,
+            count,
+        );
         if count as u64 != layer.rank {
             wrong = true;
         }

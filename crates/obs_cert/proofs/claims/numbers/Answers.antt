@@ -67,22 +67,22 @@ pub returns-clause-ready : goal.returns-clause-ready
 returns-clause-ready c = ready (goal.at.returns-clause-ready c).After-measure_listed-rank
 
 pub measure_listed-rank-requires-clause-clear : goal.measure_listed-rank-requires-clause-clear
-measure_listed-rank-requires-clause-clear c = rw c.deref_mut-2.ensures.value c.requires.clear
+measure_listed-rank-requires-clause-clear c = rw c.deref_mut-2.ensures.value c.requires.ready.1.clear
 
 pub measure_listed-rank-requires-clause-vertices : goal.measure_listed-rank-requires-clause-vertices
-measure_listed-rank-requires-clause-vertices c = rw c.deref_mut-2.ensures.value c.requires.room.ups
+measure_listed-rank-requires-clause-vertices c = rw c.deref_mut-2.ensures.value c.requires.ready.1.room.ups
 
 pub measure_listed-rank-requires-clause-few : goal.measure_listed-rank-requires-clause-few
-measure_listed-rank-requires-clause-few c = rw c.deref_mut-2.ensures.value c.requires.room.few
+measure_listed-rank-requires-clause-few c = rw c.deref_mut-2.ensures.value c.requires.ready.1.room.few
 
 pub measure_listed-rank-requires-clause-room : goal.measure_listed-rank-requires-clause-room
-measure_listed-rank-requires-clause-room c = rw (c.deref_mut-2.ensures.value, c.deref_mut-3.ensures.value) c.requires.room.moved
+measure_listed-rank-requires-clause-room c = rw (c.deref_mut-2.ensures.value, c.deref_mut-3.ensures.value) c.requires.ready.1.room.moved
 
 pub measure_listed-rank-requires-clause-stars : goal.measure_listed-rank-requires-clause-stars
-measure_listed-rank-requires-clause-stars c = rw (c.deref_mut-2.ensures.value, c.deref_mut.ensures.value) c.requires.room.stars
+measure_listed-rank-requires-clause-stars c = rw (c.deref_mut-2.ensures.value, c.deref_mut.ensures.value) c.requires.ready.1.room.stars
 
 pub measure_listed-rank-requires-clause-kept : goal.measure_listed-rank-requires-clause-kept
-measure_listed-rank-requires-clause-kept c = rw c.deref_mut.ensures.value c.requires.kept
+measure_listed-rank-requires-clause-kept c = rw c.deref_mut.ensures.value c.requires.ready.1.known
 
 pub returns-then-from-stated-clause-flaw : goal.returns-then-from-stated-clause-flaw
 returns-then-from-stated-clause-flaw c test is of inside =
@@ -90,4 +90,7 @@ returns-then-from-stated-clause-flaw c test is of inside =
     (λ e. c.if-from-stated.true (c.from.ensures ∙ c.measure_listed-rank.ensures.rank ∙ e))
 
 pub measure_listed-rank-requires-clause-hubs : goal.measure_listed-rank-requires-clause-hubs
-measure_listed-rank-requires-clause-hubs c = rw c.deref_mut-2.ensures.value c.requires.room.hubs
+measure_listed-rank-requires-clause-hubs c = rw c.deref_mut-2.ensures.value c.requires.ready.1.room.hubs
+
+pub measure_listed-rank-requires-clause-links : goal.measure_listed-rank-requires-clause-links
+measure_listed-rank-requires-clause-links c = rw c.deref.ensures.value c.requires.ready.1.links

@@ -22,7 +22,7 @@ joined c =
 pub overflow_cast-result : goal.overflow_cast-result
 overflow_cast-result c =
     let j = c.join_pairs-count in
-    let few = noted_few c.graph.result.now (branches (pairs_of c.args.present.now c.args.pairs)) j.new.ups j.new.moved j.result.0 j.ensures.count (joined (goal.at.overflow_cast-result c).After-join_pairs-count) in
+    let few = noted_few c.graph.result.now.ends (branches (pairs_of c.args.present.now c.args.pairs)) j.new.ups j.new.moved j.result.0 j.ensures.count (joined (goal.at.overflow_cast-result c).After-join_pairs-count) in
     omega (arith, few, c.requires.few, j.auto.ups)
 
 is_rank : (c : After-join_pairs-count) → c.join_pairs-count.result.0 ≡ rank_of_branches c.args.present.now (branches (pairs_of c.args.present.now c.args.pairs))
