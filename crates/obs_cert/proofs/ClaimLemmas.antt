@@ -1,5 +1,5 @@
 -- The flaw of a claim, where the clauses before are true.
-use Rattle.std.proofs.Common.{◌≡◌, ℕ, suc, ◌+◌, ◌-◌, ◌^◌, ◌<◌, ◌≤◌, ◌||◌, min, Bool, true, false, Option, Some, None, Vec, List, [], ◌∷◌, length, refl, sym, ap, ◌∙◌, subst, arith}
+use Rattle.std.proofs.Common.{◌≡◌, ℕ, suc, ◌+◌, ◌-◌, ◌*◌, ◌^◌, ◌<◌, ◌≤◌, ◌||◌, min, Bool, true, false, Option, Some, None, Vec, List, [], ◌∷◌, length, refl, sym, ap, ◌∙◌, subst, arith}
 use Rattle.std.specs.Option.{IfNone, IfSome}
 use Rattle.std.specs.List.{list_any, sum_by}
 use Rattle.std.proofs.lemmas.Bool.{eq-eqb, ne_eqb, lt-ltb, le-ltb, or_parts}
@@ -14,7 +14,7 @@ use Rattle.obs_cert.specs.Hubs.{Hubs}
 use Rattle.obs_cert.specs.Marks.{AreBelow}
 use Rattle.obs_cert.specs.Numbered.{chosen_items, items_of, paired_items, pairs_of}
 use Rattle.obs_cert.specs.Ready.{HasRoom, IsReady}
-use Rattle.obs_cert.specs.Joins.{AreJoined}
+use Rattle.obs_cert.specs.Joins.{AreFree, AreJoined}
 use Rattle.obs_cert.specs.Stars.{AreStarRanks}
 use Rattle.std.proofs.lemmas.List.{length-map, with_items_is}
 use Rattle.std.specs.Vec.{with_items}
@@ -128,6 +128,10 @@ back v ws e = with_items_is v ws (omega (arith, e, v.ok.0))
 pub ready_later : (t : Tables) (stamp : ℕ) (w : Work) → IsReady t stamp w → IsReady t (suc stamp) w
 ready_later t stamp w r =
     ready_more t stamp w w r refl refl refl refl refl refl refl refl refl (more_below stamp w.chosen.items r.chosen) (more_below stamp w.paired.items r.paired) (more_below stamp w.listed.items r.listed) (more_below stamp w.taken.items r.taken)
+
+-- the ways up are free
+pub free_of : (rows : Rows) (w : Work) → HasRoom rows w → AreJoined [] w.ups.items [] → AreFree (2 * rows.nodes) w.ups.items w.moved.items
+free_of rows w m clear = record { vertices = m.ups; few = m.few; room = m.moved; clear = clear }
 
 -- after branches were joined and parted again
 pub room_joined : (rows : Rows) (w : Work) (ups moved : List ℕ) → HasRoom rows w → length ups ≡ length w.ups.items → length moved ≡ length w.moved.items

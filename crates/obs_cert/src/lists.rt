@@ -7,7 +7,7 @@ ghost use Rattle.obs_cert.specs.Contractions.{IsContraction, contracted_ends, co
 ghost use Rattle.obs_cert.specs.Flaws.{not_inside, twice, unknown_item};
 ghost use Rattle.obs_cert.specs.Hubs.{AreHubs};
 ghost use Rattle.obs_cert.specs.InScope.{in_scope};
-ghost use Rattle.obs_cert.specs.Joins.{AreJoined, onto};
+ghost use Rattle.obs_cert.specs.Joins.{AreFree, AreJoined, AreWays, onto};
 ghost use Rattle.obs_cert.specs.Marks.{AreBelow, is_marked};
 ghost use Rattle.obs_cert.specs.Numbered.{items_of};
 ghost use Rattle.obs_meter.specs.Lost.{is_listed};
@@ -97,10 +97,8 @@ fn join_touched(
     count: usize,
 ) -> usize
     requires contraction { IsContraction present.now contraction }
-    requires joined { (es : List Ends) × AreJoined es ups.old (take count moved.old) }
+    requires ways { AreWays ups.old moved.old count }
     requires vertices { (network_of present.now).graph.vertices ≤ length ups.old }
-    requires room { length ups.old ≤ length moved.old }
-    requires count { count ≤ length moved.old }
     ensures joined { (es : List Ends) → AreJoined es ups.old (take count moved.old) →
         AreJoined (onto (contracted_ends contraction.entry (case_branches present.now)) (touches_of present.now m) es) ups.new (take result moved.new) }
     ensures count { result ≤ length moved.new }
@@ -126,10 +124,8 @@ fn join_item(
     count: usize,
 ) -> usize
     requires contraction { IsContraction present.now contraction }
-    requires joined { (es : List Ends) × AreJoined es ups.old (take count moved.old) }
+    requires ways { AreWays ups.old moved.old count }
     requires vertices { (network_of present.now).graph.vertices ≤ length ups.old }
-    requires room { length ups.old ≤ length moved.old }
-    requires count { count ≤ length moved.old }
     requires hubs { AreHubs present.now contraction hubs.old.list ups.old }
     requires hub_room { length ups.old ≤ hubs.old.room }
     ensures joined { (es : List Ends) → AreJoined es ups.old (take count moved.old) →
@@ -155,10 +151,8 @@ pub(crate) fn join_items(
     count: usize,
 ) -> usize
     requires contraction { IsContraction present.now contraction }
-    requires joined { (es : List Ends) × AreJoined es ups.old (take count moved.old) }
+    requires ways { AreWays ups.old moved.old count }
     requires vertices { (network_of present.now).graph.vertices ≤ length ups.old }
-    requires room { length ups.old ≤ length moved.old }
-    requires count { count ≤ length moved.old }
     requires hubs { AreHubs present.now contraction hubs.old.list ups.old }
     requires hub_room { length ups.old ≤ hubs.old.room }
     ensures joined { (es : List Ends) → AreJoined es ups.old (take count moved.old) →
@@ -195,10 +189,7 @@ pub(crate) fn measure_items(
     moved: &mut [u32],
 ) -> u32
     requires contraction { IsContraction present.now contraction }
-    requires clear { AreJoined [] ups.old [] }
-    requires vertices { case_vertex_room present.now ≤ length ups.old }
-    requires few { length ups.old < 2 ^ 32 }
-    requires room { length ups.old ≤ length moved.old }
+    requires free { AreFree (case_vertex_room present.now) ups.old moved.old }
     requires hubs { length ups.old ≤ hubs.old.room }
     ensures rank { result ≡ contracted_rank present.now contraction.entry (items_of present.now items.entry) }
     ensures clear { AreJoined [] ups.new [] }

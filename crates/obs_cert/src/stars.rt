@@ -6,7 +6,7 @@ ghost use Rattle.obs_graph.specs.Positions.{branches_at};
 ghost use Rattle.obs_matroid.specs.Lists.{In};
 ghost use Rattle.obs_network.specs.Network.{case_offered, case_rows, case_vertex_room, network_of};
 ghost use Rattle.obs_cert.specs.Flaws.{rank_of_items};
-ghost use Rattle.obs_cert.specs.Joins.{AreJoined};
+ghost use Rattle.obs_cert.specs.Joins.{AreFree, AreJoined};
 ghost use Rattle.obs_cert.specs.Links.{AreLinks};
 ghost use Rattle.obs_cert.specs.Numbered.{items_of};
 ghost use Rattle.obs_cert.specs.Scopes.{touches_of};
@@ -113,10 +113,7 @@ fn measure_star(
     moved: &mut [u32],
 ) -> u32
     requires injection { IsInjection present.now i }
-    requires clear { AreJoined [] ups.old [] }
-    requires vertices { case_vertex_room present.now ≤ length ups.old }
-    requires few { length ups.old < 2 ^ 32 }
-    requires room { length ups.old ≤ length moved.old }
+    requires free { AreFree (case_vertex_room present.now) ups.old moved.old }
     requires stars { length ups.old ≤ length stars.old }
     requires kept { AreStarRanks present.now stars.old }
     ensures rank { result ≡ star_rank present.now i.bus }
@@ -147,10 +144,7 @@ pub(crate) fn measure_listed(
     moved: &mut [u32],
 ) -> u32
     requires links { AreLinks present.now links.now }
-    requires clear { AreJoined [] ups.old [] }
-    requires vertices { case_vertex_room present.now ≤ length ups.old }
-    requires few { length ups.old < 2 ^ 32 }
-    requires room { length ups.old ≤ length moved.old }
+    requires free { AreFree (case_vertex_room present.now) ups.old moved.old }
     requires stars { length ups.old ≤ length stars.old }
     requires kept { AreStarRanks present.now stars.old }
     requires hubs { length ups.old ≤ hubs.old.room }

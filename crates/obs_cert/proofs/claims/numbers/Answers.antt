@@ -1,11 +1,12 @@
 use Rattle.std.proofs.Common.{◌≡◌, ℕ, Bool, false, length, sym, ap, ◌∙◌, arith}
 use Rattle.std.specs.Vec.{with_items}
+use Rattle.obs_network.specs.Network.{rows_of}
 use Rattle.obs_cert.specs.Flaws.{not_inside, outside_of, rank_of_items}
 use Rattle.obs_cert.specs.Numbered.{items_of}
 use Rattle.obs_cert.specs.Ready.{IsReady}
 use Rattle.obs_cert.specs.Scopes.{OfItems, scope_of}
 use Rattle.obs_cert.specs.Walked.{parts_in}
-use Rattle.obs_cert.proofs.ClaimLemmas.{bound_high, bound_rank, bound_right, bound_wrong, outside_counted, ready_measured}
+use Rattle.obs_cert.proofs.ClaimLemmas.{bound_high, bound_rank, bound_right, bound_wrong, free_of, outside_counted, ready_measured}
 use Rattle.obs_cert.proofs.claims.numbers.Goals as goal
 use Rattle.obs_cert.proofs.claims.numbers.Goals.{After-from-2, After-measure_listed-rank}
 
@@ -66,18 +67,6 @@ returns-then-saturating_add-from-clause-ready c = ready (goal.at.returns-then-sa
 pub returns-clause-ready : goal.returns-clause-ready
 returns-clause-ready c = ready (goal.at.returns-clause-ready c).After-measure_listed-rank
 
-pub measure_listed-rank-requires-clause-clear : goal.measure_listed-rank-requires-clause-clear
-measure_listed-rank-requires-clause-clear c = rw c.deref_mut-2.ensures.value c.requires.ready.1.clear
-
-pub measure_listed-rank-requires-clause-vertices : goal.measure_listed-rank-requires-clause-vertices
-measure_listed-rank-requires-clause-vertices c = rw c.deref_mut-2.ensures.value c.requires.ready.1.room.ups
-
-pub measure_listed-rank-requires-clause-few : goal.measure_listed-rank-requires-clause-few
-measure_listed-rank-requires-clause-few c = rw c.deref_mut-2.ensures.value c.requires.ready.1.room.few
-
-pub measure_listed-rank-requires-clause-room : goal.measure_listed-rank-requires-clause-room
-measure_listed-rank-requires-clause-room c = rw (c.deref_mut-2.ensures.value, c.deref_mut-3.ensures.value) c.requires.ready.1.room.moved
-
 pub measure_listed-rank-requires-clause-stars : goal.measure_listed-rank-requires-clause-stars
 measure_listed-rank-requires-clause-stars c = rw (c.deref_mut-2.ensures.value, c.deref_mut.ensures.value) c.requires.ready.1.room.stars
 
@@ -94,3 +83,8 @@ measure_listed-rank-requires-clause-hubs c = rw c.deref_mut-2.ensures.value c.re
 
 pub measure_listed-rank-requires-clause-links : goal.measure_listed-rank-requires-clause-links
 measure_listed-rank-requires-clause-links c = rw c.deref.ensures.value c.requires.ready.1.links
+
+pub measure_listed-rank-requires-clause-free : goal.measure_listed-rank-requires-clause-free
+measure_listed-rank-requires-clause-free c =
+    let r = c.requires.ready.1 in
+    rw (c.deref_mut-2.ensures.value, c.deref_mut-3.ensures.value) (free_of (rows_of c.args.present.now) c.args.work.now r.room r.clear)

@@ -6,7 +6,7 @@ use Rattle.obs_cert.proofs.joins.join_all.Goals as goal
 use Rattle.obs_cert.proofs.joins.join_all.Goals.{in-Some, in_default, In-loop-e}
 
 pub loop-e-init : goal.loop-e-init
-loop-e-init c = joining_none (contracted_ends c.args.contraction c.args.g.now.ends) c.args.positions.now c.args.ups.now c.args.moved.now c.args.count c.requires.count
+loop-e-init c = joining_none (contracted_ends c.args.contraction c.args.g.now.ends) c.args.positions.now c.args.ups.now c.args.moved.now c.args.count c.requires.ways.fits
 
 here : (c : In-loop-e) → IsJoining (contracted_ends c.args.contraction c.args.g.now.ends) (get_or c.args.positions.now c.loop-e.e-index 0 ∷ drop (c.loop-e.e-index + 1) c.args.positions.now) c.args.positions.now
     c.args.ups.now c.args.moved.now c.args.count c.loop-e.ups c.loop-e.moved c.loop-e.count
@@ -15,12 +15,10 @@ here c = rw (sym (drop_more c.args.positions.now c.loop-e.e-index 0 c.loop-e-tes
 pub join-count-requires : goal.join-count-requires
 join-count-requires c =
     let i = c.loop-e.invariant in
-    let q = i.joined c.requires.joined.0 c.requires.joined.1 in
+    let q = i.joined c.requires.ways.joined.0 c.requires.ways.joined.1 in
     let r = c.in-Some.ensures.in_range in
     record {
-      joined = (q.0, q.1);
-      room = omega (arith, i.ups_len, i.moved_len, c.requires.room);
-      count = i.fits;
+      ways = record { joined = (q.0, q.1); room = omega (arith, i.ups_len, i.moved_len, c.requires.ways.room); fits = i.fits };
       a = omega (arith, r.0, i.ups_len, c.requires.vertices);
       b = omega (arith, r.1, i.ups_len, c.requires.vertices);
     }

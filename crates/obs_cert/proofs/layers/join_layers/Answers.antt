@@ -17,7 +17,7 @@ use Rattle.obs_cert.proofs.layers.join_layers.Goals.{After-join_items-count}
 
 pub join_items-count-requires-clause-vertices : goal.join_items-count-requires-clause-vertices
 join_items-count-requires-clause-vertices c =
-    vertices_fit c.args.present.now (network_of c.args.present.now) (network_of c.args.present.now).graph (length c.loop-layer.ups) refl refl (omega (arith, c.requires.vertices, c.loop-layer.auto.ups))
+    vertices_fit c.args.present.now (network_of c.args.present.now) (network_of c.args.present.now).graph (length c.loop-layer.ups) refl refl (omega (arith, c.requires.free.vertices, c.loop-layer.auto.ups))
 
 here : (c : After-join_items-count) → IsRanking c.args.present.now (contracted_ends Nothing (case_branches c.args.present.now)) (layer_said c.in-Some.layer ∷ c.next.new.self) c.args.layers c.loop-layer.ups c.loop-layer.moved c.loop-layer.count c.loop-layer.wrong
 here c =
@@ -36,7 +36,7 @@ is_rank c =
     let t = c.args.present.now in
     let h = here c in
     let ps = flat_map (touches_of t) (h.before ++ items_of t (layer_said c.in-Some.layer).inside) in
-    contracted_noted t Nothing ps j.new.ups j.new.moved j.result c.join_items-count.ensures.valid tt (omega (arith, c.requires.vertices, l.auto.ups, j.auto.ups)) j.ensures.count
+    contracted_noted t Nothing ps j.new.ups j.new.moved j.result c.join_items-count.ensures.valid tt (omega (arith, c.requires.free.vertices, l.auto.ups, j.auto.ups)) j.ensures.count
     (joined_now t (contracted_ends Nothing (case_branches c.args.present.now)) (layer_said c.in-Some.layer) c.next.new.self c.args.layers l.ups l.moved l.count l.wrong j.new.ups j.new.moved j.result h j.ensures.count (step c))
     ∙ rank_nothing t ps
 
@@ -68,21 +68,22 @@ join_items-count-requires-clause-hubs c = c.loop-layer.invariant.1
 pub join_items-count-requires-clause-hub_room : goal.join_items-count-requires-clause-hub_room
 join_items-count-requires-clause-hub_room c = let e = c.loop-layer.invariant.2 in omega (arith, e, c.loop-layer.auto.ups, c.requires.hubs)
 
-pub join_items-count-requires-clause-count : goal.join_items-count-requires-clause-count
-join_items-count-requires-clause-count c = c.loop-layer.invariant.0.fits
-
-pub join_items-count-requires-clause-joined : goal.join_items-count-requires-clause-joined
-join_items-count-requires-clause-joined c =
-    let i = c.loop-layer.invariant.0 in
-    (onto (contracted_ends Nothing (case_branches c.args.present.now)) (flat_map (touches_of c.args.present.now) i.before) [], i.joined)
-
 pub returns-clause-hubs : goal.returns-clause-hubs
 returns-clause-hubs c = c.loop-layer.invariant.2
 
 pub loop-layer-init : goal.loop-layer-init
 loop-layer-init c =
     rw c.into_iter-layer-iterator.ensures.into_iter_gives (
-      record { fits = omega arith; before = []; joined = c.requires.clear; going = refl },
+      record { fits = omega arith; before = []; joined = c.requires.free.clear; going = refl },
       λ v i. absurd (c.begin.ensures.contracted v i),
       c.begin.ensures.room,
     )
+
+pub join_items-count-requires-clause-ways : goal.join_items-count-requires-clause-ways
+join_items-count-requires-clause-ways c =
+    let i = c.loop-layer.invariant.0 in
+    record {
+      joined = (onto (contracted_ends Nothing (case_branches c.args.present.now)) (flat_map (touches_of c.args.present.now) i.before) [], i.joined);
+      room = omega (arith, c.requires.free.room, c.loop-layer.auto.ups, c.loop-layer.auto.moved);
+      fits = i.fits;
+    }

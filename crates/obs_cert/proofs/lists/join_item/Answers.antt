@@ -23,7 +23,7 @@ returns-then-is_repeated-clause-hubs c =
 pub returns-clause-hubs : goal.returns-clause-hubs
 returns-clause-hubs c =
     let t = c.args.present.now in
-    let q = c.requires.joined in
+    let q = c.requires.ways.joined in
     let j = c.join_touched in
     let vertices : case_vertex_count t ≤ length c.args.ups.now = c.requires.vertices in
     hubs_more t c.args.contraction c.is_repeated.ensures.valid c.requires.contraction (touches_of t c.args.m) c.args.hubs.now.list c.is_repeated.new.hubs.list q.0 c.args.ups.now

@@ -13,7 +13,7 @@ use Rattle.obs_cert.proofs.lists.join_items.Goals as goal
 pub loop-item-init : goal.loop-item-init
 loop-item-init c =
     rw c.into_iter-item-iterator.ensures.into_iter_gives (
-      joining_none (contracted_ends c.args.contraction (case_branches c.args.present.now)) (flat_map (touches_of c.args.present.now) (items_of c.args.present.now c.args.items)) c.args.ups.now c.args.moved.now c.args.count c.requires.count,
+      joining_none (contracted_ends c.args.contraction (case_branches c.args.present.now)) (flat_map (touches_of c.args.present.now) (items_of c.args.present.now c.args.items)) c.args.ups.now c.args.moved.now c.args.count c.requires.ways.fits,
       c.requires.hubs,
       refl,
     )
@@ -21,13 +21,11 @@ loop-item-init c =
 pub join_item-count-requires : goal.join_item-count-requires
 join_item-count-requires c =
     let i = c.loop-item.invariant.0 in
-    let q = i.joined c.requires.joined.0 c.requires.joined.1 in
+    let q = i.joined c.requires.ways.joined.0 c.requires.ways.joined.1 in
     record {
       contraction = c.requires.contraction;
-      joined = (q.0, q.1);
+      ways = record { joined = (q.0, q.1); room = omega (arith, i.ups_len, i.moved_len, c.requires.ways.room); fits = i.fits };
       vertices = omega (arith, i.ups_len, c.requires.vertices);
-      room = omega (arith, i.ups_len, i.moved_len, c.requires.room);
-      count = i.fits;
       hubs = c.loop-item.invariant.1;
       hub_room = let e = c.loop-item.invariant.2 in omega (arith, i.ups_len, e, c.requires.hub_room);
     }

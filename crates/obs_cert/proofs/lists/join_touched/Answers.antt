@@ -14,18 +14,9 @@ pub touch-touched-requires-clause-item : goal.touch-touched-requires-clause-item
 touch-touched-requires-clause-item c =
     omega (arith, c.if-m-count.true, c.count.ensures.count, ap (λ (i : Meters). length i.touches) c.offered.ensures.offered, ap (λ (i : Meters). length i.touches) c.offered-then-m-count.ensures.offered)
 
-pub join_all-requires-clause-joined : goal.join_all-requires-clause-joined
-join_all-requires-clause-joined c = c.requires.joined
-
 pub join_all-requires-clause-vertices : goal.join_all-requires-clause-vertices
 join_all-requires-clause-vertices c =
     omega (arith, c.requires.vertices, ap (λ (g : Graph). g.vertices) (c.graph-then-m-count.ensures.graph ∙ ap (λ (n : Network). n.graph) c.network-network.ensures.network))
-
-pub join_all-requires-clause-room : goal.join_all-requires-clause-room
-join_all-requires-clause-room c = c.requires.room
-
-pub join_all-requires-clause-count : goal.join_all-requires-clause-count
-join_all-requires-clause-count c = c.requires.count
 
 pub returns-then-m-count-clause-joined : goal.returns-then-m-count-clause-joined
 returns-then-m-count-clause-joined c = λ es joined.
@@ -48,4 +39,7 @@ pub returns-then-m-count-clause-count : goal.returns-then-m-count-clause-count
 returns-then-m-count-clause-count c = c.join_all.ensures.count
 
 pub returns-else-m-count-clause-count : goal.returns-else-m-count-clause-count
-returns-else-m-count-clause-count c = c.requires.count
+returns-else-m-count-clause-count c = c.requires.ways.fits
+
+pub join_all-requires-clause-ways : goal.join_all-requires-clause-ways
+join_all-requires-clause-ways c = c.requires.ways

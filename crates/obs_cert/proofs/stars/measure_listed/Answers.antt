@@ -33,7 +33,7 @@ overflow_add-result c =
     let rank = both (goal.at.overflow_add-result c).After-measure_items in
     let most = rank-le-n (case_vertex_count t) (ends_of (case_branches t) (flat_map (touches_of t) (items_of t (parts_in c.args.rest.now).inside))) in
     let room = case_vertex_count-le t in
-    omega (arith, rank, most, room, c.requires.vertices, c.requires.few)
+    omega (arith, rank, most, room, c.requires.free.vertices, c.requires.free.few)
 
 pub returns-in-Some-clause-rank : goal.returns-in-Some-clause-rank
 returns-in-Some-clause-rank c = both (goal.at.returns-in-Some-clause-rank c).After-measure_items
@@ -43,3 +43,14 @@ returns-in-None-clause-rank c =
     let t = c.args.present.now in
     c.measure_items-in-None.ensures.rank ∙ ap (λ items. contracted_rank t Nothing (items_of t items)) c.walk_items-items.ensures.items
     ∙ rank_nothing t (flat_map (touches_of t) (items_of t (parts_in c.args.rest.now).inside))
+
+pub measure_items-requires-clause-free : goal.measure_items-requires-clause-free
+measure_items-requires-clause-free c =
+    let f = c.requires.free in
+    let j = c.measure_star-rank in
+    record {
+      vertices = omega (arith, f.vertices, j.auto.ups);
+      few = omega (arith, f.few, j.auto.ups);
+      room = omega (arith, f.room, j.auto.ups, j.auto.moved);
+      clear = j.ensures.clear;
+    }
