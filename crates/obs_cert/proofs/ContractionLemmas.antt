@@ -1,14 +1,13 @@
 -- The rank of branches among which the rows at a vertex are: that of these rows, and that of all in the graph in which they are contracted.
-use Rattle.std.proofs.Common.{◌≡◌, ◌∙◌, ◌↔◌, ℕ, zero, suc, ◌+◌, ◌<◌, ◌≤◌, Option, None, Some, ◌⊎◌, inl, inr, cond, Bool, true, false, List, [], ◌∷◌, ◌++◌, length, get_or, map, refl, sym, ap, subst, arith}
+use Rattle.std.proofs.Common.{◌≡◌, ◌∙◌, ℕ, zero, suc, ◌+◌, ◌<◌, ◌≤◌, Option, None, Some, inl, inr, cond, Bool, true, false, List, [], ◌∷◌, ◌++◌, length, get_or, refl, sym, ap, subst, arith}
 use Rattle.std.specs.List.{Contains, cons_option, flat_map}
 use Rattle.std.specs.Option.{option_map}
-use Rattle.std.specs.Prelude.{IsTrue}
 use Rattle.std.proofs.lemmas.Bool.{cases_Bool, cases_lt}
 use Rattle.std.proofs.lemmas.List.{get_or_past, get_or_append_left}
 use Rattle.std.proofs.lemmas.List.Elements.{All-cons, All-nil, Contains-append_cases, Contains-append_right}
 use Rattle.obs_case.specs.Tables.{IsValid, Tables}
 use Rattle.obs_graph.specs.declared.Ends.{Ends}
-use Rattle.obs_graph.specs.Joined.{AreMergedBy, InRange, Leads, first_joined, is_joined, rank, renamed, renamed_one}
+use Rattle.obs_graph.specs.Joined.{AreMergedBy, InRange, Leads, first_joined, rank, renamed, renamed_one}
 use Rattle.obs_graph.specs.Positions.{AreBranches, branches_at, ends_of, has_end}
 use Rattle.obs_graph.proofs.AtPositions.{contains-ends_of, ends_of-contains}
 use Rattle.obs_graph.proofs.AtVertex.{at_vertex, end_at, has_end-at_vertex, has_end-leads}

@@ -1,5 +1,5 @@
 -- Which vertices have a number among those of the rows.
-use Rattle.std.proofs.Common.{◌≡◌, ◌∙◌, ℕ, ◌+◌, ◌*◌, ◌<◌, ◌≤◌, min, max, eqb, Bool, true, false, Option, None, ◌⊎◌, inl, inr, List, length, get_or, set, refl, sym, ap, subst, arith, get_or-set_same, get_or-set_other, length-set}
+use Rattle.std.proofs.Common.{◌≡◌, ◌∙◌, ℕ, ◌+◌, ◌*◌, ◌<◌, ◌≤◌, min, max, eqb, Bool, true, false, ◌⊎◌, inl, inr, List, length, get_or, sym, subst, arith}
 use Rattle.std.specs.List.{range_with_len}
 use Rattle.std.proofs.lemmas.Bool.{cases_Bool, cases_lt}
 use Rattle.std.specs.List.Sorted.{IsBinarySearchResult, IsNonDecreasing}

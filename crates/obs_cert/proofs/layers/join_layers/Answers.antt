@@ -1,4 +1,4 @@
-use Rattle.std.proofs.Common.{◌≡◌, [], ◌∷◌, ◌++◌, List, length, refl, sym, ap, ◌∙◌, subst, take, arith}
+use Rattle.std.proofs.Common.{◌≡◌, [], ◌∷◌, ◌++◌, List, length, refl, sym, ◌∙◌, subst, take, arith}
 use Rattle.std.specs.List.{flat_map}
 use Rattle.obs_graph.specs.declared.Ends.{Ends}
 use Rattle.obs_network.specs.Network.{case_branches, network_of}

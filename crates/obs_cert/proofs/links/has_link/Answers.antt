@@ -1,4 +1,4 @@
-use Rattle.std.proofs.Common.{◌≡◌, ◌∙◌, ◌<◌, ◌≤◌, ℕ, true, false, List, length, get_or, sym, ap, subst, arith, inl, inr}
+use Rattle.std.proofs.Common.{◌∙◌, ap}
 use Rattle.obs_meter.specs.Lost.{is_listed}
 use Rattle.obs_cert.proofs.LinkLemmas.{found_link}
 use Rattle.obs_cert.proofs.links.has_link.Goals as goal

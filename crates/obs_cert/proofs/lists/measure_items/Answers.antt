@@ -1,6 +1,5 @@
-use Rattle.std.proofs.Common.{◌≡◌, List, ℕ, length, [], sym, ap, ◌∙◌, subst, arith, refl}
+use Rattle.std.proofs.Common.{length, [], ◌∙◌, arith, refl}
 use Rattle.std.specs.List.{flat_map}
-use Rattle.obs_graph.specs.Graph.{Graph}
 use Rattle.obs_network.specs.Network.{case_branches, network_of}
 use Rattle.obs_cert.specs.Contractions.{contracted_ends}
 use Rattle.obs_cert.specs.Numbered.{items_of}

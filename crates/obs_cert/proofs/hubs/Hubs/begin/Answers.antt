@@ -1,6 +1,5 @@
-use Rattle.std.proofs.Common.{ℕ, List, [], ap, sym, subst, inl, inr}
+use Rattle.std.proofs.Common.{subst, inl, inr}
 use Rattle.obs_matroid.specs.Lists.{In}
-use Rattle.obs_cert.specs.Contractions.{IsContracted}
 use Rattle.obs_cert.specs.Hubs.{Hubs}
 use Rattle.obs_cert.proofs.hubs.Hubs.begin.Goals as goal
 
