@@ -51,6 +51,24 @@ def hub(size):
     return size, [0], branches, [("injection", "n0")], [], repeated(claim)
 
 
+def beside(size):
+    """A hub with an injection meter, and two nodes behind a leaf, to one of which a flow is measured: as many bounds that list both meters as
+    fit in."""
+    branches = [(0, v) for v in range(1, size - 2)] + [(1, size - 2), (1, size - 1)]
+    claim = f"bound\tn0\t{size - 2}\t0\ninside\tmeter\tm0\ninside\tmeter\tm1\n"
+    return size, [0], branches, [("injection", "n0"), ("flow", f"b{size - 3}")], [], repeated(claim)
+
+
+def turns(size):
+    """Two hubs with an injection meter each, and a flow that is measured between them: bounds that list the flow and one injection, and then
+    the other, as many as fit in."""
+    half = size // 2
+    branches = [(0, v) for v in range(2, half)] + [(1, v) for v in range(half, size)] + [(0, 1)]
+    meters = [("injection", "n0"), ("injection", "n1"), ("flow", f"b{size - 2}")]
+    claim = "".join(f"bound\tn0\t{rank}\t1\ninside\tmeter\tm{m}\ninside\tmeter\tm2\n" for m, rank in ((0, half - 1), (1, size - half + 1)))
+    return size, [0], branches, meters, [], repeated(claim)
+
+
 def listed(size):
     """A hub with as many injection meters as a table has, and two nodes behind a leaf: as many bounds that list all meters as fit in."""
     branches = [(0, v) for v in range(1, size - 2)] + [(1, size - 2), (1, size - 1)]
@@ -67,7 +85,7 @@ def angles(size):
 
 
 SHAPES = {name: (make, 20000) for name, make in [
-    ("alone", alone), ("angles", angles), ("tree", tree), ("layers", layers), ("hub", hub), ("listed", listed)]}
+    ("alone", alone), ("angles", angles), ("tree", tree), ("layers", layers), ("hub", hub), ("listed", listed), ("beside", beside), ("turns", turns)]}
 
 
 def table(folder, name, header, rows):

@@ -1,5 +1,5 @@
 -- The flaw of a claim, where the clauses before are true.
-use Rattle.std.proofs.Common.{◌≡◌, ℕ, suc, ◌+◌, ◌-◌, ◌^◌, ◌<◌, ◌≤◌, ◌||◌, min, Bool, true, false, Option, Some, None, Vec, List, [], ◌∷◌, length, refl, sym, ap, ◌∙◌, subst, arith}
+use Rattle.std.proofs.Common.{◌≡◌, ℕ, suc, ◌+◌, ◌-◌, ◌*◌, ◌^◌, ◌<◌, ◌≤◌, ◌||◌, min, Bool, true, false, Option, Some, None, Vec, List, [], ◌∷◌, length, refl, sym, ap, ◌∙◌, subst, arith}
 use Rattle.std.specs.Option.{IfNone, IfSome}
 use Rattle.std.specs.List.{list_any, sum_by}
 use Rattle.std.proofs.lemmas.Bool.{eq-eqb, ne_eqb, lt-ltb, le-ltb, or_parts}
@@ -14,7 +14,7 @@ use Rattle.obs_cert.specs.Hubs.{Hubs}
 use Rattle.obs_cert.specs.Marks.{AreBelow}
 use Rattle.obs_cert.specs.Numbered.{chosen_items, items_of, paired_items, pairs_of}
 use Rattle.obs_cert.specs.Ready.{HasRoom, IsReady}
-use Rattle.obs_cert.specs.Joins.{AreJoined}
+use Rattle.obs_cert.specs.Joins.{AreFree, AreJoined}
 use Rattle.obs_cert.specs.Stars.{AreStarRanks}
 use Rattle.std.proofs.lemmas.List.{length-map, with_items_is}
 use Rattle.std.specs.Vec.{with_items}
@@ -32,9 +32,9 @@ more_below stamp marks b x = let l = b x in omega (arith, l)
 -- after marks of the stamp were made
 pub ready_more : (t : Tables) (stamp : ℕ) (w w2 : Work) → IsReady t stamp w
     → length w2.chosen.items ≡ length w.chosen.items → length w2.paired.items ≡ length w.paired.items → length w2.listed.items ≡ length w.listed.items → length w2.taken.items ≡ length w.taken.items
-    → w2.ups.items ≡ w.ups.items → w2.moved.items ≡ w.moved.items → w2.stars.items ≡ w.stars.items → w2.hubs ≡ w.hubs
+    → w2.ups.items ≡ w.ups.items → w2.moved.items ≡ w.moved.items → w2.stars.items ≡ w.stars.items → w2.hubs ≡ w.hubs → w2.links.items ≡ w.links.items
     → AreBelow (suc stamp) w2.chosen.items → AreBelow (suc stamp) w2.paired.items → AreBelow (suc stamp) w2.listed.items → AreBelow (suc stamp) w2.taken.items → IsReady t (suc stamp) w2
-ready_more t stamp w w2 r e1 e2 e3 e4 e5 e6 e7 e8 b1 b2 b3 b4 =
+ready_more t stamp w w2 r e1 e2 e3 e4 e5 e6 e7 e8 e9 b1 b2 b3 b4 =
     let m = r.room in
     record {
       room = record {
@@ -47,6 +47,7 @@ ready_more t stamp w w2 r e1 e2 e3 e4 e5 e6 e7 e8 b1 b2 b3 b4 =
         moved = omega (arith, m.moved, ap length e5, ap length e6);
         stars = omega (arith, m.stars, ap length e5, ap length e7);
         hubs = omega (arith, m.hubs, ap length e5, ap (λ (h : Hubs). h.room) e8);
+        links = omega (arith, m.links, ap length e9);
       };
       chosen = b1;
       paired = b2;
@@ -54,6 +55,7 @@ ready_more t stamp w w2 r e1 e2 e3 e4 e5 e6 e7 e8 b1 b2 b3 b4 =
       taken = b4;
       clear = rw e5 r.clear;
       known = rw e7 r.known;
+      links = rw e9 r.links;
     }
 
 -- what the clauses on the branches say is the whole
@@ -125,7 +127,11 @@ back v ws e = with_items_is v ws (omega (arith, e, v.ok.0))
 -- where a claim ends before it marks anything
 pub ready_later : (t : Tables) (stamp : ℕ) (w : Work) → IsReady t stamp w → IsReady t (suc stamp) w
 ready_later t stamp w r =
-    ready_more t stamp w w r refl refl refl refl refl refl refl refl (more_below stamp w.chosen.items r.chosen) (more_below stamp w.paired.items r.paired) (more_below stamp w.listed.items r.listed) (more_below stamp w.taken.items r.taken)
+    ready_more t stamp w w r refl refl refl refl refl refl refl refl refl (more_below stamp w.chosen.items r.chosen) (more_below stamp w.paired.items r.paired) (more_below stamp w.listed.items r.listed) (more_below stamp w.taken.items r.taken)
+
+-- the ways up are free
+pub free_of : (rows : Rows) (w : Work) → HasRoom rows w → AreJoined [] w.ups.items [] → AreFree (2 * rows.nodes) w.ups.items w.moved.items
+free_of rows w m clear = record { vertices = m.ups; few = m.few; room = m.moved; clear = clear }
 
 -- after branches were joined and parted again
 pub room_joined : (rows : Rows) (w : Work) (ups moved : List ℕ) → HasRoom rows w → length ups ≡ length w.ups.items → length moved ≡ length w.moved.items
@@ -143,6 +149,7 @@ room_joined rows w ups moved m e f =
       moved = omega (arith, m.moved, p, k);
       stars = omega (arith, m.stars, p);
       hubs = omega (arith, m.hubs, p);
+      links = m.links;
     }
 
 pub clear_joined : (w : Work) (ups : List ℕ) → length ups ≡ length w.ups.items → AreJoined [] ups [] → AreJoined [] (with_items w.ups ups).items []
@@ -158,6 +165,7 @@ ready_joined t stamp w ups moved r e f clear = record {
   taken = r.taken;
   clear = clear_joined w ups e clear;
   known = r.known;
+  links = r.links;
 }
 
 -- and rows at vertices were listed
@@ -175,6 +183,7 @@ ready_hubs t stamp w hubs r e =
         moved = m.moved;
         stars = m.stars;
         hubs = omega (arith, m.hubs, e);
+        links = m.links;
       };
       chosen = r.chosen;
       paired = r.paired;
@@ -182,6 +191,7 @@ ready_hubs t stamp w hubs r e =
       taken = r.taken;
       clear = r.clear;
       known = r.known;
+      links = r.links;
     }
 
 -- and ranks were kept
@@ -204,6 +214,7 @@ ready_measured t stamp w hubs stars ups moved r d g e f clear known =
         moved = omega (arith, m.moved, p, k);
         stars = omega (arith, m.stars, p, l);
         hubs = omega (arith, m.hubs, p, d);
+        links = m.links;
       };
       chosen = r.chosen;
       paired = r.paired;
@@ -211,6 +222,7 @@ ready_measured t stamp w hubs stars ups moved r d g e f clear known =
       taken = r.taken;
       clear = subst (λ us. AreJoined [] us []) (sym (back w.ups ups e)) clear;
       known = subst (AreStarRanks t) (sym s) known;
+      links = r.links;
     }
 
 pub ready_pairs : (t : Tables) (stamp : ℕ) (w : Work) (paired taken : List ℕ) → IsReady t stamp w → length paired ≡ length w.paired.items → length taken ≡ length w.taken.items
@@ -218,21 +230,21 @@ pub ready_pairs : (t : Tables) (stamp : ℕ) (w : Work) (paired taken : List ℕ
 ready_pairs t stamp w paired taken r e f a b =
     let p = back w.paired paired e in
     let k = back w.taken taken f in
-    ready_more t stamp w (record w { paired = with_items w.paired paired; taken = with_items w.taken taken }) r refl (ap length p ∙ e) refl (ap length k ∙ f) refl refl refl refl
+    ready_more t stamp w (record w { paired = with_items w.paired paired; taken = with_items w.taken taken }) r refl (ap length p ∙ e) refl (ap length k ∙ f) refl refl refl refl refl
     (more_below stamp w.chosen.items r.chosen) (subst (AreBelow (suc stamp)) (sym p) a) (more_below stamp w.listed.items r.listed) (subst (AreBelow (suc stamp)) (sym k) b)
 
 pub ready_chosen : (t : Tables) (stamp : ℕ) (w : Work) (chosen : List ℕ) → IsReady t stamp w → length chosen ≡ length w.chosen.items
     → AreBelow (suc stamp) chosen → IsReady t (suc stamp) (record w { chosen = with_items w.chosen chosen })
 ready_chosen t stamp w chosen r e a =
     let p = back w.chosen chosen e in
-    ready_more t stamp w (record w { chosen = with_items w.chosen chosen }) r (ap length p ∙ e) refl refl refl refl refl refl refl
+    ready_more t stamp w (record w { chosen = with_items w.chosen chosen }) r (ap length p ∙ e) refl refl refl refl refl refl refl refl
     (subst (AreBelow (suc stamp)) (sym p) a) (more_below stamp w.paired.items r.paired) (more_below stamp w.listed.items r.listed) (more_below stamp w.taken.items r.taken)
 
 pub ready_listed : (t : Tables) (stamp : ℕ) (w : Work) (listed : List ℕ) → IsReady t stamp w → length listed ≡ length w.listed.items
     → AreBelow (suc stamp) listed → IsReady t (suc stamp) (record w { listed = with_items w.listed listed })
 ready_listed t stamp w listed r e a =
     let p = back w.listed listed e in
-    ready_more t stamp w (record w { listed = with_items w.listed listed }) r refl refl (ap length p ∙ e) refl refl refl refl refl
+    ready_more t stamp w (record w { listed = with_items w.listed listed }) r refl refl (ap length p ∙ e) refl refl refl refl refl refl
     (more_below stamp w.chosen.items r.chosen) (more_below stamp w.paired.items r.paired) (subst (AreBelow (suc stamp)) (sym p) a) (more_below stamp w.taken.items r.taken)
 
 pub ready_plan : (t : Tables) (stamp : ℕ) (w : Work) (chosen paired listed taken : List ℕ) → IsReady t stamp w → length chosen ≡ length w.chosen.items → length paired ≡ length w.paired.items → length listed ≡ length w.listed.items → length taken ≡ length w.taken.items
@@ -244,7 +256,7 @@ ready_plan t stamp w chosen paired listed taken r e f g h a b c d =
     let s = back w.listed listed g in
     let k = back w.taken taken h in
     ready_more t stamp w (record w { chosen = with_items w.chosen chosen; paired = with_items w.paired paired; listed = with_items w.listed listed; taken = with_items w.taken taken }) r
-    (ap length p ∙ e) (ap length q ∙ f) (ap length s ∙ g) (ap length k ∙ h) refl refl refl refl
+    (ap length p ∙ e) (ap length q ∙ f) (ap length s ∙ g) (ap length k ∙ h) refl refl refl refl refl
     (subst (AreBelow (suc stamp)) (sym p) a) (subst (AreBelow (suc stamp)) (sym q) b) (subst (AreBelow (suc stamp)) (sym s) c) (subst (AreBelow (suc stamp)) (sym k) d)
 
 -- no clause on the cost is false

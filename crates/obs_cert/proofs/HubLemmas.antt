@@ -1,18 +1,20 @@
 -- Branches whose ends are joined already change nothing.
-use Rattle.std.proofs.Common.{◌≡◌, ◌≢◌, ℕ, zero, suc, ◌<◌, ◌≤◌, Option, None, Some, ◌⊎◌, inl, inr, List, [], ◌∷◌, length, get_or, refl, sym, ap, ◌∙◌, subst, arith}
+use Rattle.std.proofs.Common.{◌≡◌, ℕ, zero, suc, ◌<◌, ◌≤◌, Option, None, Some, ◌⊎◌, inl, inr, List, [], ◌∷◌, length, get_or, refl, sym, ap, ◌∙◌, subst, arith}
 use Rattle.std.specs.List.{cons_option}
-use Rattle.std.specs.Prelude.{IfSome}
-use Rattle.std.proofs.lemmas.Bool.{cases_eq, cases_lt}
-use Rattle.std.proofs.lemmas.List.{get_or_past}
-use Rattle.obs_case.specs.Tables.{Tables}
+use Rattle.std.proofs.lemmas.Bool.{cases_eq}
+use Rattle.obs_case.specs.Tables.{IsValid, Tables}
 use Rattle.obs_graph.specs.declared.Ends.{Ends}
 use Rattle.obs_graph.specs.Joined.{first_joined, merged}
-use Rattle.obs_graph.specs.Positions.{AreBranches, branches_at}
+use Rattle.obs_graph.specs.Search.{AreBelow}
+use Rattle.obs_graph.specs.Positions.{branches_at}
 use Rattle.obs_graph.proofs.First.{first_joined-ends}
 use Rattle.obs_matroid.specs.Lists.{In}
-use Rattle.obs_network.specs.Network.{case_branches, case_rows}
+use Rattle.obs_network.specs.Network.{case_branches, case_rows, case_vertex_count}
+use Rattle.obs_cert.specs.declared.contraction.Contraction.{Contraction}
+use Rattle.obs_cert.specs.Contractions.{IsContraction, contracted_ends}
 use Rattle.obs_cert.specs.Hubs.{AreHubs, AreSpanned}
 use Rattle.obs_cert.specs.Joins.{AreFirsts, AreJoined, AreLow, onto}
+use Rattle.obs_cert.proofs.ContractionLemmas.{case_below}
 use Rattle.obs_cert.proofs.JoinLemmas.{joined_already}
 
 -- what is joined stays so with more branches
@@ -59,41 +61,33 @@ firsts_agree es fs ups low f g (suc k) u l m = elim (cases_eq (get_or ups u 0) u
       sym (f.same u m) ∙ (firsts_agree es fs ups low f g k (get_or ups u 0) (omega (arith, b, n, l)) (omega (arith, b, m)) ∙ g.same u m)
 ]
 
-in_range : (n : ℕ) (ends : List (Option Ends)) → AreBranches n ends → (p : ℕ) (e : Ends) → get_or ends p None ≡ Some e → (e.a < n) × (e.b < n)
-in_range n ends ok p e is = elim (cases_lt p (length ends)) [
-  | inl l ↦
-      let h = subst (λ (o : Option Ends). IfSome o (λ x. (x.a < n) × (x.b < n) × (x.a ≢ x.b))) is (ok p None l) in
-      (h.0, h.1)
-  | inr l ↦ let none : None ≡ Some e = sym (get_or_past ends p None l) ∙ is in absurd (cc)
-]
-
-pub spanned_for : (n : ℕ) (ends : List (Option Ends)) → AreBranches n ends → (ps : List ℕ) (es fs : List Ends) (ups : List ℕ) → n ≤ length ups → AreLow ups → AreFirsts es ups → AreFirsts fs ups
+pub spanned_for : (n : ℕ) (ends : List (Option Ends)) → AreBelow n ends → (ps : List ℕ) (es fs : List Ends) (ups : List ℕ) → n ≤ length ups → AreLow ups → AreFirsts es ups → AreFirsts fs ups
     → AreSpanned ends ps es → AreSpanned ends ps fs
 spanned_for n ends ok ps es fs ups long low f g h p i e is =
-    let r = in_range n ends ok p e is in
+    let r = ok p e is in
     let a = r.0 in
     let b = r.1 in
     sym (firsts_agree es fs ups low f g (length ups) e.a (omega (arith, a, long)) (omega (arith, a, long)))
     ∙ (h p i e is ∙ firsts_agree es fs ups low f g (length ups) e.b (omega (arith, b, long)) (omega (arith, b, long)))
 
 -- the rows at these vertices are joined after more branches are, those that an item touches, if it touches the rows at another vertex
-pub hubs_more : (t : Tables) (n : ℕ) → AreBranches n (case_branches t) → (ps hubs more : List ℕ) (es : List Ends) (before ups moved : List ℕ) → n ≤ length ups
-    → AreHubs t hubs before → AreFirsts es before → AreJoined (onto (case_branches t) ps es) ups moved
-    → ((u : ℕ) → In u more → In u hubs ⊎ (ps ≡ branches_at (case_rows t) u)) → AreHubs t more ups
-hubs_more t n ok ps hubs more es before ups moved long h f j where_from u i fs g =
-    let ends = case_branches t in
+pub hubs_more : (t : Tables) (c : Contraction) → IsValid t → IsContraction t c → (ps hubs more : List ℕ) (es : List Ends) (before ups moved : List ℕ) → case_vertex_count t ≤ length ups
+    → AreHubs t c hubs before → AreFirsts es before → AreJoined (onto (contracted_ends c (case_branches t)) ps es) ups moved
+    → ((u : ℕ) → In u more → In u hubs ⊎ (ps ≡ branches_at (case_rows t) u)) → AreHubs t c more ups
+hubs_more t c valid of_case ps hubs more es before ups moved long h f j where_from u i fs g =
+    let ends = contracted_ends c (case_branches t) in
     let all = onto ends ps es in
-    spanned_for n ends ok (branches_at (case_rows t) u) all fs ups long j.low j.firsts g
+    spanned_for (case_vertex_count t) ends (case_below t c valid of_case) (branches_at (case_rows t) u) all fs ups long j.low j.firsts g
     (elim (where_from u i) [
       | inl old ↦ spanned_still ends (branches_at (case_rows t) u) ps es (h u old es f)
       | inr new ↦ subst (λ qs. AreSpanned ends qs all) new (spanned_onto ends ps es)
     ])
 
 -- and where an item touches the rows at one of them, nothing need be joined
-pub hubs_same : (t : Tables) (ps hubs more : List ℕ) (v : ℕ) (ups : List ℕ) → ps ≡ branches_at (case_rows t) v → In v hubs → AreHubs t hubs ups
-    → ((u : ℕ) → In u more → In u hubs ⊎ (ps ≡ branches_at (case_rows t) u)) → AreHubs t more ups
-hubs_same t ps hubs more v ups is there h where_from u i fs g =
+pub hubs_same : (t : Tables) (c : Contraction) (ps hubs more : List ℕ) (v : ℕ) (ups : List ℕ) → ps ≡ branches_at (case_rows t) v → In v hubs → AreHubs t c hubs ups
+    → ((u : ℕ) → In u more → In u hubs ⊎ (ps ≡ branches_at (case_rows t) u)) → AreHubs t c more ups
+hubs_same t c ps hubs more v ups is there h where_from u i fs g =
     elim (where_from u i) [
       | inl old ↦ h u old fs g
-      | inr new ↦ subst (λ qs. AreSpanned (case_branches t) qs fs) (sym is ∙ new) (h v there fs g)
+      | inr new ↦ subst (λ qs. AreSpanned (contracted_ends c (case_branches t)) qs fs) (sym is ∙ new) (h v there fs g)
     ]

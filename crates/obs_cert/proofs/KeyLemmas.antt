@@ -1,6 +1,6 @@
 -- The number of sorted keys up to a price is that of the live items below it.
 use Rattle.std.proofs.Common.{◌≡◌, ◌∙◌, ℕ, zero, suc, ◌+◌, ◌-◌, ◌^◌, ◌<◌, ◌≤◌, ◌||◌, ◌&&◌, Bool, true, false, cond, leb, nat_lt, List, [], ◌∷◌, length, map, filter, get_or, set, refl, sym, ap, inl, inr, arith, get_or-set_same, get_or-set_other, length-set}
-use Rattle.std.specs.List.{AllWithin, count_by}
+use Rattle.std.specs.List.{AllWithin, count_by, range_with_len}
 use Rattle.std.specs.List.Sorted.{IsPartitionPoint, IsPermutation}
 use Rattle.std.proofs.lemmas.Bool.{cases_Bool, cases_eq}
 use Rattle.std.proofs.lemmas.Bool.Decides.{nat_tests}
@@ -11,7 +11,6 @@ use Rattle.obs_case.specs.Tables.{Tables}
 use Rattle.obs_matroid.proofs.Lists.{filter_same}
 use Rattle.obs_meter.specs.Touches.{every_item}
 use Rattle.obs_network.specs.Network.{case_offered, is_meter}
-use Rattle.obs_network.proofs.OfCase.{length-case_offered}
 use Rattle.obs_cert.specs.Keys.{key_of, keys_of}
 use Rattle.obs_cert.specs.Scopes.{is_below, is_live_item, price_at, scope_of}
 
@@ -56,24 +55,22 @@ counted_below t to i keys l moved within point =
     let three : count_by p keys ≡ count_by p (keys_of t) = sum_by-IsPermutation (λ k. cond (p k) 1 0) (keys_of t) keys moved in
     sym (passing_before p keys i within point.0 point.1) ∙ (one ∙ three ∙ sym two) ∙ sym (ap length same ∙ length-filter_map p (key_of t) items)
 
--- while the keys are written
-pub record AreWritten (t : Tables) (n m : ℕ) (keys : List ℕ) : Type 0 where
-  pub count : length keys ≡ n
-  pub is : (k : ℕ) → k < m → get_or keys k 0 ≡ key_of t k
+-- while a number for each place is written
+pub record AreWritten (f : ℕ → ℕ) (n m : ℕ) (xs : List ℕ) : Type 0 where
+  pub count : length xs ≡ n
+  pub is : (k : ℕ) → k < m → get_or xs k 0 ≡ f k
 
-pub written_all : (t : Tables) (n m : ℕ) (keys : List ℕ) → n ≡ length t.meters + length t.candidates → n ≤ m → AreWritten t n m keys → keys ≡ keys_of t
-written_all t n m keys e le w =
-    let long = length-case_offered t in
-    fill_by_all (key_of t) keys (length (case_offered t)) 0 (omega (arith, w.count, e, long)) (λ k l. w.is k (omega (arith, l, e, long, le)))
+pub written_all : (f : ℕ → ℕ) (n m : ℕ) (xs : List ℕ) → n ≤ m → AreWritten f n m xs → xs ≡ map f (range_with_len 0 n)
+written_all f n m xs le w = fill_by_all f xs n 0 w.count (λ k l. w.is k (omega (arith, l, le)))
 
-pub written_none : (t : Tables) (n : ℕ) (keys : List ℕ) → length keys ≡ n → AreWritten t n 0 keys
-written_none t n keys e = record { count = e; is = λ k l. absurd (omega (arith, l)) }
+pub written_none : (f : ℕ → ℕ) (n : ℕ) (xs : List ℕ) → length xs ≡ n → AreWritten f n 0 xs
+written_none f n xs e = record { count = e; is = λ k l. absurd (omega (arith, l)) }
 
-pub written_more : (t : Tables) (n m x : ℕ) (keys : List ℕ) → m < length keys → x ≡ key_of t m → AreWritten t n m keys → AreWritten t n (m + 1) (set keys m x)
-written_more t n m x keys low is w = record {
+pub written_more : (f : ℕ → ℕ) (n m x : ℕ) (xs : List ℕ) → m < length xs → x ≡ f m → AreWritten f n m xs → AreWritten f n (m + 1) (set xs m x)
+written_more f n m x xs low is w = record {
   count = simp length-set w.count;
   is = λ k l. elim (cases_eq k m) [
-    | inl e ↦ ap (λ z. get_or (set keys m x) z 0) e ∙ get_or-set_same keys m x 0 low ∙ is ∙ ap (key_of t) (sym e)
-    | inr ne ↦ get_or-set_other keys m k x 0 ne ∙ w.is k (omega (arith, l, ne))
+    | inl e ↦ ap (λ z. get_or (set xs m x) z 0) e ∙ get_or-set_same xs m x 0 low ∙ is ∙ ap f (sym e)
+    | inr ne ↦ get_or-set_other xs m k x 0 ne ∙ w.is k (omega (arith, l, ne))
   ];
 }

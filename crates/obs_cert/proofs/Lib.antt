@@ -6,6 +6,8 @@ pub mod OrderLemmas
 pub mod WordLemmas
 pub mod JoinLemmas
 pub mod HubLemmas
+pub mod LinkLemmas
+pub mod ContractionLemmas
 pub mod NumberLemmas
 pub mod ScopeLemmas
 pub mod StarLemmas

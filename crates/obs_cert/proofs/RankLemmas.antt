@@ -4,13 +4,13 @@ use Rattle.std.specs.List.{Contains, cons_option}
 use Rattle.std.proofs.lemmas.Bool.{cases_lt, eq-eqb}
 use Rattle.obs_graph.specs.declared.Ends.{Ends}
 use Rattle.obs_graph.specs.Joined.{count_below, first_joined, merged, rank}
-use Rattle.obs_graph.specs.Positions.{AreBranches, ends_of}
+use Rattle.obs_graph.specs.Search.{AreBelow}
+use Rattle.obs_graph.specs.Positions.{ends_of}
 use Rattle.obs_graph.proofs.AtPositions.{ends_of-contains, contains_cons}
 use Rattle.obs_graph.proofs.Chains.{Contains-here, Contains-there}
 use Rattle.obs_graph.proofs.Counts.{count_below-no}
 use Rattle.obs_graph.proofs.First.{first_joined-le, merged-other}
 use Rattle.obs_graph.proofs.Forests.{rank-among}
-use Rattle.obs_graph.proofs.Present.{branch_at, some_is_in}
 use Rattle.obs_graph.proofs.Ranks.{is_moved, rank_is}
 use Rattle.obs_cert.specs.Joins.{AreJoined, onto}
 use Rattle.obs_cert.proofs.JoinLemmas.{count_is}
@@ -66,14 +66,11 @@ rank_past : (n N : ℕ) (es : List Ends) → n ≤ N → ((e : Ends) → Contain
 rank_past n N es le below =
     rank_is N es ∙ count_past (is_moved es) n N le (λ u l. ap not (eq-eqb (first_joined es u) u (past n es below u l))) ∙ sym (rank_is n es)
 
-below_ends : (n : ℕ) (ends : List (Option Ends)) (ps : List ℕ) → AreBranches n ends → (e : Ends) → Contains (ends_of ends ps) e → (e.a < n) × (e.b < n)
-below_ends n ends ps ok e h =
-    let q = ends_of-contains ends ps e h in
-    let b = branch_at n ends q.0 e ok (some_is_in ends q.0 e q.2) q.2 in
-    (b.0, b.1)
+below_ends : (n : ℕ) (ends : List (Option Ends)) (ps : List ℕ) → AreBelow n ends → (e : Ends) → Contains (ends_of ends ps) e → (e.a < n) × (e.b < n)
+below_ends n ends ps below e h = let q = ends_of-contains ends ps e h in below q.0 e q.2
 
 -- what is noted is the rank
-pub noted_rank : (n : ℕ) (ends : List (Option Ends)) (ps ups moved : List ℕ) (count : ℕ) → AreBranches n ends → n ≤ length ups → count ≤ length moved
+pub noted_rank : (n : ℕ) (ends : List (Option Ends)) (ps ups moved : List ℕ) (count : ℕ) → AreBelow n ends → n ≤ length ups → count ≤ length moved
     → AreJoined (onto ends ps []) ups (take count moved) → count ≡ rank n (ends_of ends ps)
-noted_rank n ends ps ups moved count ok le fits j =
-    count_is (onto ends ps []) ups moved count fits j ∙ rank_onto (length ups) ends ps ∙ rank_past n (length ups) (ends_of ends ps) le (below_ends n ends ps ok)
+noted_rank n ends ps ups moved count below le fits j =
+    count_is (onto ends ps []) ups moved count fits j ∙ rank_onto (length ups) ends ps ∙ rank_past n (length ups) (ends_of ends ps) le (below_ends n ends ps below)

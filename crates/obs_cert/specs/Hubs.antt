@@ -6,6 +6,8 @@ use Rattle.obs_graph.specs.Joined.{first_joined}
 use Rattle.obs_graph.specs.Positions.{branches_at}
 use Rattle.obs_matroid.specs.Lists.{In}
 use Rattle.obs_network.specs.Network.{case_branches, case_rows}
+use Rattle.obs_cert.specs.declared.contraction.Contraction.{Contraction}
+use Rattle.obs_cert.specs.Contractions.{contracted_ends}
 use Rattle.obs_cert.specs.Joins.{AreFirsts}
 
 -- vertices, and how many there is room for
@@ -18,7 +20,8 @@ abbrev pub AreSpanned : List (Option Ends) → List ℕ → List Ends → Type 0
 AreSpanned ends ps es =
     (p : ℕ) → In p ps → (e : Ends) → slice_index_or ends p None ≡ Some e → first_joined es e.a ≡ first_joined es e.b
 
--- the ways up join the rows at each of these vertices
-abbrev pub AreHubs : Tables → List ℕ → List ℕ → Type 0
-AreHubs t hubs ups =
-    (v : ℕ) → In v hubs → (es : List Ends) → AreFirsts es ups → AreSpanned (case_branches t) (branches_at (case_rows t) v) es
+-- the ways up join the rows at each of these vertices in the contracted graph
+abbrev pub AreHubs : Tables → Contraction → List ℕ → List ℕ → Type 0
+AreHubs t c hubs ups =
+    (v : ℕ) → In v hubs → (es : List Ends) → AreFirsts es ups
+    → AreSpanned (contracted_ends c (case_branches t)) (branches_at (case_rows t) v) es

@@ -1,6 +1,7 @@
 pub mod Certificate
 pub mod Claims
 pub mod Completing
+pub mod Contractions
 pub mod Faults
 pub mod FlawNames
 pub mod Flaws
@@ -11,6 +12,7 @@ pub mod InScope
 pub mod Joins
 pub mod Keys
 pub mod Laws
+pub mod Links
 pub mod Marks
 pub mod Numbered
 pub mod Places

@@ -102,7 +102,7 @@ fn first_flaw(
     ensures room { HasRoom (rows_of present.now) work.new }
     ensures keys { length keys.new ≡ length keys.old }
 {
-    work.begin();
+    work.begin(present);
     let live = count_live(present);
     sort_keys(present, keys);
     let mut at = 0;

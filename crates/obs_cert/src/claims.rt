@@ -1,15 +1,12 @@
 // The flaw of a claim.
-ghost use Rattle.std.specs.Prelude.{◌≡◌, ◌∷◌, [], ℕ, Bool, false, suc, length};
-ghost use Rattle.obs_network.specs.Network.{rows_of};
+ghost use Rattle.std.specs.Prelude.{◌≡◌, ◌∷◌, ℕ, Bool, false, suc, length};
 ghost use Rattle.obs_cert.specs.declared.flaw.FlawCode.TheVariants.{NotInside};
 ghost use Rattle.obs_cert.specs.Flaws.{bound_clauses, bound_flaw, first_true, flaw_of, list_clauses, not_inside, shortfall_flaw, tree_flaw, twice};
 ghost use Rattle.obs_cert.specs.InScope.{in_scope};
-ghost use Rattle.obs_cert.specs.Joins.{AreJoined};
 ghost use Rattle.obs_cert.specs.Keys.{AreKeys};
 ghost use Rattle.obs_cert.specs.Numbered.{items_of};
-ghost use Rattle.obs_cert.specs.Ready.{HasRoom, IsReady};
+ghost use Rattle.obs_cert.specs.Ready.{IsReady};
 ghost use Rattle.obs_cert.specs.Scopes.{OfItems, is_live_item, scope_of};
-ghost use Rattle.obs_cert.specs.Stars.{AreStarRanks};
 ghost use Rattle.obs_cert.specs.Walked.{claim_said, parts_in};
 
 use crate::flaw::FlawCode;
@@ -75,9 +72,7 @@ fn numbers(
     stated: Stated,
     work: &mut Work,
 ) -> Option<FlawCode>
-    requires room { HasRoom (rows_of present.now) work.old }
-    requires clear { AreJoined [] work.old.ups.items [] }
-    requires kept { AreStarRanks present.now work.old.stars.items }
+    requires ready { (stamp : ℕ) × IsReady present.now stamp work.old }
     requires once { twice (items_of present.now (parts_in rest.now).inside) ≡ false }
     ensures flaw { (test : ℕ → Bool) → scope ≡ length (scope_of present.now test) → OfItems present.now test
         → not_inside test (items_of present.now (parts_in rest.now).inside) ≡ false
@@ -88,6 +83,7 @@ fn numbers(
     let rank = measure_listed(
         present,
         rest,
+        &work.links,
         &mut work.stars,
         &mut work.hubs,
         &mut work.ups,

@@ -4,9 +4,11 @@ ghost use Rattle.obs_case.specs.Tables.{IsValid};
 ghost use Rattle.obs_graph.specs.Positions.{branches_at};
 ghost use Rattle.obs_matroid.specs.Lists.{In};
 ghost use Rattle.obs_network.specs.Network.{case_rows, network_of};
+ghost use Rattle.obs_cert.specs.Contractions.{FitsIn, IsContracted};
 ghost use Rattle.obs_cert.specs.Hubs.{Hubs};
 ghost use Rattle.obs_cert.specs.Scopes.{touches_of};
 
+use crate::contraction::Contraction;
 use crate::memory::NoMemory;
 use crate::stars::star_of;
 use obs_network::Present;
@@ -79,11 +81,23 @@ impl Hubs {
         })
     }
 
-    /// Leaves no vertex.
-    pub(crate) fn clear(&mut self)
+    // Leaves no vertex.
+    fn clear(&mut self)
         ensures empty { self.new ≡ record self.old { list = [] } }
     {
         self.count = 0;
+    }
+
+    /// Leaves the vertex whose rows are contracted, if there is one.
+    pub(crate) fn begin(&mut self, contraction: Contraction<'_>)
+        requires fits { FitsIn self.old.room contraction }
+        ensures contracted { (u : ℕ) → In u self.new.list → IsContracted contraction.entry u }
+        ensures room { self.new.room ≡ self.old.room }
+    {
+        self.clear();
+        if let Contraction::Star(v, _) = contraction {
+            self.add(v);
+        }
     }
 
     // Whether a vertex is listed.
@@ -120,12 +134,12 @@ pub(crate) fn is_repeated(present: &Present<'_>, m: u32, hubs: &mut Hubs) -> boo
     ensures valid { IsValid present.now }
 {
     let _ = present.case();
-    let Some(v) = star_of(present, m) else {
+    let Some(hub) = star_of(present, m) else {
         return false;
     };
-    if hubs.has(v) {
+    if hubs.has(hub.vertex) {
         return true;
     }
-    hubs.add(v);
+    hubs.add(hub.vertex);
     false
 }

@@ -2,8 +2,10 @@
 ghost use Rattle.std.specs.Prelude.{◌≡◌, ◌↔◌, ◌<◌, ◌≤◌, ◌^◌, ◌+◌, ◌⊎◌, ◌∷◌, [], ℕ, List, None, IfSome, length, slice_index, slice_index_or, slice_set, take};
 ghost use Rattle.obs_graph.specs.declared.Ends.{Ends};
 ghost use Rattle.obs_graph.specs.Joined.{first_joined};
-ghost use Rattle.obs_cert.specs.Joins.{AreFirsts, AreJoined, AreLow, onto};
+ghost use Rattle.obs_cert.specs.Contractions.{FitsIn, contracted_ends};
+ghost use Rattle.obs_cert.specs.Joins.{AreFirsts, AreJoined, AreLow, AreWays, onto};
 
+use crate::contraction::{Contraction, contracted_ends};
 use obs_graph::{Ends, Graph};
 
 // The first vertex that is joined with v. The ways on the way become shorter.
@@ -39,9 +41,7 @@ fn lead(ups: &mut [u32], moved: &mut [u32], count: usize, low: u32, high: u32)
 
 /// Joins the ends of one more branch, and says how many vertices are noted then: the rank of the branches.
 pub(crate) fn join(ups: &mut [u32], moved: &mut [u32], count: usize, ends: Ends) -> usize
-    requires joined { (es : List Ends) × AreJoined es ups.old (take count moved.old) }
-    requires room { length ups.old ≤ length moved.old }
-    requires count { count ≤ length moved.old }
+    requires ways { AreWays ups.old moved.old count }
     requires a { ends.a < length ups.old }
     requires b { ends.b < length ups.old }
     ensures joined { (es : List Ends) → AreJoined es ups.old (take count moved.old) →
@@ -66,25 +66,25 @@ pub(crate) fn ends_of(g: &Graph, e: u32) -> Option<Ends>
     if e < g.positions() { g.ends(e) } else { None }
 }
 
-/// Joins the ends of the branches at these positions, where they are present.
+/// Joins what became of the ends of the branches at these positions, where they are present.
 pub(crate) fn join_all(
     g: &Graph,
     positions: &[u32],
+    contraction: Contraction<'_>,
     ups: &mut [u32],
     moved: &mut [u32],
     count: usize,
 ) -> usize
-    requires joined { (es : List Ends) × AreJoined es ups.old (take count moved.old) }
+    requires ways { AreWays ups.old moved.old count }
     requires vertices { g.now.vertices ≤ length ups.old }
-    requires room { length ups.old ≤ length moved.old }
-    requires count { count ≤ length moved.old }
+    requires fits { FitsIn g.now.vertices contraction }
     ensures joined { (es : List Ends) → AreJoined es ups.old (take count moved.old) →
-        AreJoined (onto g.now.ends positions.now es) ups.new (take result moved.new) }
+        AreJoined (onto (contracted_ends contraction.entry g.now.ends) positions.now es) ups.new (take result moved.new) }
     ensures count { result ≤ length moved.new }
 {
     let mut count = count;
     for e in positions {
-        if let Some(ends) = ends_of(g, *e) {
+        if let Some(ends) = contracted_ends(g, contraction, *e) {
             count = join(ups, moved, count, ends);
         }
     }

@@ -4,12 +4,13 @@ ghost use Rattle.std.specs.List.{list_any, sum_by};
 ghost use Rattle.obs_graph.specs.declared.Ends.{Ends};
 ghost use Rattle.obs_network.specs.Network.{case_vertex_room};
 ghost use Rattle.obs_cert.specs.Flaws.{all_inside, listed_layers, not_below, not_inside, runs_on, shows, twice, wrong_outside, wrong_rank};
-ghost use Rattle.obs_cert.specs.Joins.{AreJoined};
+ghost use Rattle.obs_cert.specs.Joins.{AreFree, AreJoined};
 ghost use Rattle.obs_cert.specs.Keys.{AreKeys};
 ghost use Rattle.obs_cert.specs.Numbered.{items_of};
 ghost use Rattle.obs_cert.specs.Scopes.{is_below, is_live_item, scope_of};
 ghost use Rattle.obs_cert.specs.Seen.{Tells, too_dear};
 
+use crate::contraction::Contraction;
 use crate::hubs::Hubs;
 use crate::joins::clear;
 use crate::keys::count_below;
@@ -108,9 +109,7 @@ fn join_layers(
     ups: &mut [u32],
     moved: &mut [u32],
 ) -> (usize, bool)
-    requires clear { AreJoined [] ups.old [] }
-    requires vertices { case_vertex_room present.now ≤ length ups.old }
-    requires room { length ups.old ≤ length moved.old }
+    requires free { AreFree (case_vertex_room present.now) ups.old moved.old }
     requires hubs { length ups.old ≤ hubs.old.room }
     ensures hubs { hubs.new.room ≡ hubs.old.room }
     ensures rank { result.1 ≡ list_any (λ l. wrong_rank present.now l.list l.layer.rank)
@@ -118,12 +117,20 @@ fn join_layers(
     ensures joined { (es : List Ends) × AreJoined es ups.new (take result.0 moved.new) }
     ensures count { result.0 ≤ length moved.new }
 {
-    hubs.clear();
+    hubs.begin(Contraction::Nothing);
     let mut count = 0;
     let mut wrong = false;
     for layer in layers {
         let items = walk_items(Sort::Inside, layer.rest);
-        count = join_items(present, items, hubs, ups, moved, count);
+        count = join_items(
+            present,
+            items,
+            Contraction::Nothing,
+            hubs,
+            ups,
+            moved,
+            count,
+        );
         if count as u64 != layer.rank {
             wrong = true;
         }
@@ -139,9 +146,7 @@ pub(crate) fn has_wrong_rank(
     ups: &mut [u32],
     moved: &mut [u32],
 ) -> bool
-    requires clear { AreJoined [] ups.old [] }
-    requires vertices { case_vertex_room present.now ≤ length ups.old }
-    requires room { length ups.old ≤ length moved.old }
+    requires free { AreFree (case_vertex_room present.now) ups.old moved.old }
     requires hubs { length ups.old ≤ hubs.old.room }
     ensures hubs { hubs.new.room ≡ hubs.old.room }
     ensures rank { result ≡ list_any (λ l. wrong_rank present.now l.list l.layer.rank)

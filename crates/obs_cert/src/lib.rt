@@ -4,6 +4,7 @@
 mod cert;
 mod checker;
 mod claims;
+mod contraction;
 mod fault;
 mod flaw;
 mod forests;
@@ -13,6 +14,7 @@ mod keys;
 pub mod laws;
 mod layers;
 mod line;
+mod links;
 mod lists;
 mod marks;
 mod memory;

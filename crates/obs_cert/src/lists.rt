@@ -2,16 +2,18 @@
 ghost use Rattle.std.specs.Prelude.{◌≡◌, ◌≤◌, ◌<◌, ◌^◌, ◌-◌, ◌+◌, [], ℕ, suc, List, flat_map, length, min, sum_by, take};
 ghost use Rattle.obs_graph.specs.declared.Ends.{Ends};
 ghost use Rattle.obs_case.specs.Tables.{IsValid};
-ghost use Rattle.obs_network.specs.Network.{case_vertex_room, network_of};
-ghost use Rattle.obs_cert.specs.Flaws.{not_inside, rank_of_items, twice, unknown_item};
+ghost use Rattle.obs_network.specs.Network.{case_branches, case_vertex_room, network_of};
+ghost use Rattle.obs_cert.specs.Contractions.{IsContraction, contracted_ends, contracted_rank};
+ghost use Rattle.obs_cert.specs.Flaws.{not_inside, twice, unknown_item};
 ghost use Rattle.obs_cert.specs.Hubs.{AreHubs};
 ghost use Rattle.obs_cert.specs.InScope.{in_scope};
-ghost use Rattle.obs_cert.specs.Joins.{AreJoined, onto};
+ghost use Rattle.obs_cert.specs.Joins.{AreFree, AreJoined, AreWays, onto};
 ghost use Rattle.obs_cert.specs.Marks.{AreBelow, is_marked};
 ghost use Rattle.obs_cert.specs.Numbered.{items_of};
 ghost use Rattle.obs_meter.specs.Lost.{is_listed};
 ghost use Rattle.obs_cert.specs.Scopes.{price_at, touches_of};
 
+use crate::contraction::Contraction;
 use crate::hubs::{Hubs, is_repeated};
 use crate::joins::{clear, join_all};
 use crate::marks::mark;
@@ -85,108 +87,117 @@ pub(crate) fn cost(case: &Case, items: Items<'_>) -> u128
     cost
 }
 
-// Joins the ends of all branches that an item touches.
+// Joins what became of the ends of all branches that an item touches.
 fn join_touched(
     present: &Present<'_>,
     m: u32,
+    contraction: Contraction<'_>,
     ups: &mut [u32],
     moved: &mut [u32],
     count: usize,
 ) -> usize
-    requires joined { (es : List Ends) × AreJoined es ups.old (take count moved.old) }
+    requires contraction { IsContraction present.now contraction }
+    requires ways { AreWays ups.old moved.old count }
     requires vertices { (network_of present.now).graph.vertices ≤ length ups.old }
-    requires room { length ups.old ≤ length moved.old }
-    requires count { count ≤ length moved.old }
     ensures joined { (es : List Ends) → AreJoined es ups.old (take count moved.old) →
-        AreJoined (onto (network_of present.now).graph.ends (touches_of present.now m) es) ups.new (take result moved.new) }
+        AreJoined (onto (contracted_ends contraction.entry (case_branches present.now)) (touches_of present.now m) es) ups.new (take result moved.new) }
     ensures count { result ≤ length moved.new }
 {
     let network = present.network();
     if m < network.offered().count() {
         let touched = network.offered().touch(network.graph(), m);
-        join_all(network.graph(), touched, ups, moved, count)
+        join_all(network.graph(), touched, contraction, ups, moved, count)
     } else {
         count
     }
 }
 
-// Joins the ends of all branches that an item touches, unless they are the rows at a vertex whose rows are joined.
+// Joins what became of the ends of all branches that an item touches, unless they are the rows at a vertex whose rows are
+// joined.
 fn join_item(
     present: &Present<'_>,
     m: u32,
+    contraction: Contraction<'_>,
     hubs: &mut Hubs,
     ups: &mut [u32],
     moved: &mut [u32],
     count: usize,
 ) -> usize
-    requires joined { (es : List Ends) × AreJoined es ups.old (take count moved.old) }
+    requires contraction { IsContraction present.now contraction }
+    requires ways { AreWays ups.old moved.old count }
     requires vertices { (network_of present.now).graph.vertices ≤ length ups.old }
-    requires room { length ups.old ≤ length moved.old }
-    requires count { count ≤ length moved.old }
-    requires hubs { AreHubs present.now hubs.old.list ups.old }
+    requires hubs { AreHubs present.now contraction hubs.old.list ups.old }
     requires hub_room { length ups.old ≤ hubs.old.room }
     ensures joined { (es : List Ends) → AreJoined es ups.old (take count moved.old) →
-        AreJoined (onto (network_of present.now).graph.ends (touches_of present.now m) es) ups.new (take result moved.new) }
+        AreJoined (onto (contracted_ends contraction.entry (case_branches present.now)) (touches_of present.now m) es) ups.new (take result moved.new) }
     ensures count { result ≤ length moved.new }
-    ensures hubs { AreHubs present.now hubs.new.list ups.new }
+    ensures hubs { AreHubs present.now contraction.entry hubs.new.list ups.new }
     ensures hub_room { hubs.new.room ≡ hubs.old.room }
 {
     if is_repeated(present, m, hubs) {
         return count;
     }
-    join_touched(present, m, ups, moved, count)
+    join_touched(present, m, contraction, ups, moved, count)
 }
 
-/// Joins the ends of all branches that the items touch.
+/// Joins what became of the ends of all branches that the items touch.
 pub(crate) fn join_items(
     present: &Present<'_>,
     items: Items<'_>,
+    contraction: Contraction<'_>,
     hubs: &mut Hubs,
     ups: &mut [u32],
     moved: &mut [u32],
     count: usize,
 ) -> usize
-    requires joined { (es : List Ends) × AreJoined es ups.old (take count moved.old) }
+    requires contraction { IsContraction present.now contraction }
+    requires ways { AreWays ups.old moved.old count }
     requires vertices { (network_of present.now).graph.vertices ≤ length ups.old }
-    requires room { length ups.old ≤ length moved.old }
-    requires count { count ≤ length moved.old }
-    requires hubs { AreHubs present.now hubs.old.list ups.old }
+    requires hubs { AreHubs present.now contraction hubs.old.list ups.old }
     requires hub_room { length ups.old ≤ hubs.old.room }
     ensures joined { (es : List Ends) → AreJoined es ups.old (take count moved.old) →
-        AreJoined (onto (network_of present.now).graph.ends (flat_map (touches_of present.now) (items_of present.now items.entry)) es)
+        AreJoined (onto (contracted_ends contraction.entry (case_branches present.now)) (flat_map (touches_of present.now) (items_of present.now items.entry)) es)
         ups.new (take result moved.new) }
     ensures count { result ≤ length moved.new }
-    ensures hubs { AreHubs present.now hubs.new.list ups.new }
+    ensures hubs { AreHubs present.now contraction.entry hubs.new.list ups.new }
     ensures hub_room { hubs.new.room ≡ hubs.old.room }
     ensures valid { IsValid present.now }
 {
     let case = present.case();
     let mut count = count;
     for item in items {
-        count = join_item(present, item_of(case, item), hubs, ups, moved, count);
+        count = join_item(
+            present,
+            item_of(case, item),
+            contraction,
+            hubs,
+            ups,
+            moved,
+            count,
+        );
     }
     count
 }
 
-/// The rank of the branches that the items touch.
+/// The rank of the branches that the items touch, in the contracted graph.
 pub(crate) fn measure_items(
     present: &Present<'_>,
     items: Items<'_>,
+    contraction: Contraction<'_>,
     hubs: &mut Hubs,
     ups: &mut [u32],
     moved: &mut [u32],
 ) -> u32
-    requires clear { AreJoined [] ups.old [] }
-    requires vertices { case_vertex_room present.now ≤ length ups.old }
-    requires few { length ups.old < 2 ^ 32 }
-    requires room { length ups.old ≤ length moved.old }
+    requires contraction { IsContraction present.now contraction }
+    requires free { AreFree (case_vertex_room present.now) ups.old moved.old }
     requires hubs { length ups.old ≤ hubs.old.room }
-    ensures rank { result ≡ rank_of_items present.now (items_of present.now items.entry) }
+    ensures rank { result ≡ contracted_rank present.now contraction.entry (items_of present.now items.entry) }
     ensures clear { AreJoined [] ups.new [] }
     ensures hubs { hubs.new.room ≡ hubs.old.room }
 {
-    hubs.clear();
-    let count = join_items(present, items, hubs, ups, moved, 0);
+    let _ = present.case();
+    hubs.begin(contraction);
+    let count = join_items(present, items, contraction, hubs, ups, moved, 0);
     clear(ups, &moved[..count]);
     count as u32
 }

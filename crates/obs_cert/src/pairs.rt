@@ -5,7 +5,7 @@ ghost use Rattle.obs_graph.specs.declared.Ends.{Ends};
 ghost use Rattle.obs_matroid.specs.Assignments.{branches};
 ghost use Rattle.obs_network.specs.Network.{case_position_room, case_vertex_room};
 ghost use Rattle.obs_cert.specs.Flaws.{cycle, not_touched, rank_of_branches, twice, unknown_branch};
-ghost use Rattle.obs_cert.specs.Joins.{AreJoined, onto};
+ghost use Rattle.obs_cert.specs.Joins.{AreFree, AreJoined, AreWays, onto};
 ghost use Rattle.obs_cert.specs.Marks.{AreBelow};
 ghost use Rattle.obs_cert.specs.Numbered.{pairs_of};
 
@@ -72,10 +72,8 @@ pub(crate) struct Forest {
 
 // Joins the ends of the branch at a position, if it is present.
 fn join_one(g: &Graph, e: u32, ups: &mut [u32], moved: &mut [u32], count: usize) -> usize
-    requires joined { (es : List Ends) × AreJoined es ups.old (take count moved.old) }
+    requires ways { AreWays ups.old moved.old count }
     requires vertices { g.now.vertices ≤ length ups.old }
-    requires room { length ups.old ≤ length moved.old }
-    requires count { count ≤ length moved.old }
     ensures joined { (es : List Ends) → AreJoined es ups.old (take count moved.old) →
         AreJoined (cons_option (slice_index_or g.now.ends e None) es) ups.new (take result moved.new) }
     ensures count { result ≤ length moved.new }
@@ -95,9 +93,7 @@ fn join_pairs(
     ups: &mut [u32],
     moved: &mut [u32],
 ) -> (usize, bool)
-    requires clear { AreJoined [] ups.old [] }
-    requires vertices { g.now.vertices ≤ length ups.old }
-    requires room { length ups.old ≤ length moved.old }
+    requires free { AreFree g.now.vertices ups.old moved.old }
     ensures joined { AreJoined (onto g.now.ends (branches (pairs_of case.now pairs.entry)) []) ups.new
         (take result.0 moved.new) }
     ensures count { result.0 ≤ length moved.new }
@@ -128,10 +124,7 @@ pub(crate) fn measure_pairs(
     ups: &mut [u32],
     moved: &mut [u32],
 ) -> Forest
-    requires clear { AreJoined [] ups.old [] }
-    requires vertices { case_vertex_room present.now ≤ length ups.old }
-    requires few { length ups.old < 2 ^ 32 }
-    requires room { length ups.old ≤ length moved.old }
+    requires free { AreFree (case_vertex_room present.now) ups.old moved.old }
     ensures rank { result.rank ≡ rank_of_branches present.now (branches (pairs_of present.now pairs.entry)) }
     ensures cycle { result.cycle ≡ cycle present.now (pairs_of present.now pairs.entry) }
     ensures clear { AreJoined [] ups.new [] }

@@ -1,14 +1,14 @@
 // What claims are checked in.
-ghost use Rattle.std.specs.Prelude.{◌<◌, ◌^◌, length, IfOk};
-ghost use Rattle.obs_case.specs.Tables.{Tables};
-ghost use Rattle.obs_network.specs.Network.{Rows, rows_of};
+ghost use Rattle.std.specs.Prelude.{IfOk};
+ghost use Rattle.obs_network.specs.Network.{rows_of};
 ghost use Rattle.obs_cert.specs.Ready.{HasRoom, IsReady};
 
 use crate::hubs::Hubs;
 use crate::joins::begin;
+use crate::links::sort_links;
 use crate::memory::NoMemory;
 use obs_case::Case;
-use obs_network::vertex_room;
+use obs_network::{Present, vertex_room};
 use std::alloc::Global;
 
 /// Marks of items and branches, the ways up of vertices, and ranks that are known.
@@ -26,6 +26,8 @@ pub(crate) struct Work {
     pub(crate) stars: Vec<u32>,
     // the vertices whose rows were joined already, while a rank is taken
     pub(crate) hubs: Hubs,
+    // the numbers of the rows of the branch table, sorted
+    pub(crate) links: Vec<u64>,
 }
 
 // Written out: so a caller's proof sees one call, and not the drop of each field.
@@ -40,6 +42,7 @@ impl Drop for Work {
             moved: _,
             stars: _,
             hubs: _,
+            links: _,
         } = self;
     }
 }
@@ -76,6 +79,9 @@ impl Work {
         let Ok(hubs) = Hubs::make(alloc, vertex_room(case)) else {
             return Err(NoMemory);
         };
+        let Ok(links) = vec![in alloc; 0; case.branches().len()] else {
+            return Err(NoMemory);
+        };
         Ok(Work {
             chosen,
             paired,
@@ -85,14 +91,14 @@ impl Work {
             moved,
             stars,
             hubs,
+            links,
         })
     }
 
-    /// Nothing is marked or joined, and no rank is known.
-    pub(crate) fn begin(&mut self)
-        requires few { length self.old.ups.items < 2 ^ 32 }
-        ensures ready { (t : Tables) → HasRoom (rows_of t) self.old → IsReady t 1 self.new }
-        ensures room { (rows : Rows) → HasRoom rows self.old → HasRoom rows self.new }
+    /// Nothing is marked or joined, no rank is known, and the rows are those of the case.
+    pub(crate) fn begin(&mut self, present: &Present<'_>)
+        requires room { HasRoom (rows_of present.now) self.old }
+        ensures ready { IsReady present.now 1 self.new }
     {
         self.chosen.fill(0);
         self.paired.fill(0);
@@ -100,5 +106,6 @@ impl Work {
         self.taken.fill(0);
         begin(&mut self.ups);
         self.stars.fill(0);
+        sort_links(present, &mut self.links);
     }
 }

@@ -7,7 +7,7 @@ use Rattle.obs_cert.specs.Walked.{claim_said, parts_in}
 use Rattle.obs_cert.proofs.checker.first_flaw.Goals as goal
 
 pub begin-requires : goal.begin-requires
-begin-requires c = record { few = c.requires.room.few }
+begin-requires c = record { room = c.requires.room }
 
 pub sort_keys-requires : goal.sort_keys-requires
 sort_keys-requires c = record { room = c.requires.keys }
@@ -39,7 +39,7 @@ fails t at claim claims code some = rw some refl
 pub loop-claim-init : goal.loop-claim-init
 loop-claim-init c =
     let t = c.args.present.now in
-    (ap (first_flaw t 1) (sym c.bytes-rest.ensures.claims), omega (arith, ap length c.bytes-rest.ensures.claims), c.begin.ensures.ready t c.requires.room)
+    (ap (first_flaw t 1) (sym c.bytes-rest.ensures.claims), omega (arith, ap length c.bytes-rest.ensures.claims), c.begin.ensures.ready)
 
 pub overflow_add-at : goal.overflow_add-at
 overflow_add-at c = omega (arith, c.loop-claim.invariant.1, ap length c.in-Some.ensures.claim, c.bytes-rest.ensures.few)

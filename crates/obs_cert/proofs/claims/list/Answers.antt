@@ -25,16 +25,12 @@ has_twice-requires-clause-room c = rw (c.case-case.ensures.case, c.deref_mut.ens
 pub has_twice-requires-clause-fresh : goal.has_twice-requires-clause-fresh
 has_twice-requires-clause-fresh c = rw c.deref_mut.ensures.value c.requires.ready.listed
 
-pub numbers-requires-clause-room : goal.numbers-requires-clause-room
-numbers-requires-clause-room c =
-    let p = c.has_twice in
-    (ready_listed c.args.present.now c.args.stamp c.args.work.now p.new.marks c.requires.ready (p.auto.marks ∙ ap length c.deref_mut.ensures.value) p.ensures.below).room
-
-pub numbers-requires-clause-clear : goal.numbers-requires-clause-clear
-numbers-requires-clause-clear c = c.requires.ready.clear
-
-pub numbers-requires-clause-kept : goal.numbers-requires-clause-kept
-numbers-requires-clause-kept c = c.requires.ready.known
+pub numbers-requires-clause-ready : goal.numbers-requires-clause-ready
+numbers-requires-clause-ready c =
+    let p = c.has_twice in (
+      suc c.args.stamp,
+      ready_listed c.args.present.now c.args.stamp c.args.work.now p.new.marks c.requires.ready (p.auto.marks ∙ ap length c.deref_mut.ensures.value) p.ensures.below,
+    )
 
 inside : (c : After-has_outside) → c.has_outside.result ≡ not_inside (in_scope c.args.present.now c.args.scope) (items_of c.args.present.now (parts_in c.args.rest.now).inside)
 inside c = rw (sym c.walk_items.ensures.items) c.has_outside.ensures.outside

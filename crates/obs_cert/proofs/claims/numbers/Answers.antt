@@ -1,11 +1,12 @@
 use Rattle.std.proofs.Common.{◌≡◌, ℕ, Bool, false, length, sym, ap, ◌∙◌, arith}
 use Rattle.std.specs.Vec.{with_items}
+use Rattle.obs_network.specs.Network.{rows_of}
 use Rattle.obs_cert.specs.Flaws.{not_inside, outside_of, rank_of_items}
 use Rattle.obs_cert.specs.Numbered.{items_of}
 use Rattle.obs_cert.specs.Ready.{IsReady}
 use Rattle.obs_cert.specs.Scopes.{OfItems, scope_of}
 use Rattle.obs_cert.specs.Walked.{parts_in}
-use Rattle.obs_cert.proofs.ClaimLemmas.{bound_high, bound_rank, bound_right, bound_wrong, outside_counted, ready_measured}
+use Rattle.obs_cert.proofs.ClaimLemmas.{bound_high, bound_rank, bound_right, bound_wrong, free_of, outside_counted, ready_measured}
 use Rattle.obs_cert.proofs.claims.numbers.Goals as goal
 use Rattle.obs_cert.proofs.claims.numbers.Goals.{After-from-2, After-measure_listed-rank}
 
@@ -66,23 +67,11 @@ returns-then-saturating_add-from-clause-ready c = ready (goal.at.returns-then-sa
 pub returns-clause-ready : goal.returns-clause-ready
 returns-clause-ready c = ready (goal.at.returns-clause-ready c).After-measure_listed-rank
 
-pub measure_listed-rank-requires-clause-clear : goal.measure_listed-rank-requires-clause-clear
-measure_listed-rank-requires-clause-clear c = rw c.deref_mut-2.ensures.value c.requires.clear
-
-pub measure_listed-rank-requires-clause-vertices : goal.measure_listed-rank-requires-clause-vertices
-measure_listed-rank-requires-clause-vertices c = rw c.deref_mut-2.ensures.value c.requires.room.ups
-
-pub measure_listed-rank-requires-clause-few : goal.measure_listed-rank-requires-clause-few
-measure_listed-rank-requires-clause-few c = rw c.deref_mut-2.ensures.value c.requires.room.few
-
-pub measure_listed-rank-requires-clause-room : goal.measure_listed-rank-requires-clause-room
-measure_listed-rank-requires-clause-room c = rw (c.deref_mut-2.ensures.value, c.deref_mut-3.ensures.value) c.requires.room.moved
-
 pub measure_listed-rank-requires-clause-stars : goal.measure_listed-rank-requires-clause-stars
-measure_listed-rank-requires-clause-stars c = rw (c.deref_mut-2.ensures.value, c.deref_mut.ensures.value) c.requires.room.stars
+measure_listed-rank-requires-clause-stars c = rw (c.deref_mut-2.ensures.value, c.deref_mut.ensures.value) c.requires.ready.1.room.stars
 
 pub measure_listed-rank-requires-clause-kept : goal.measure_listed-rank-requires-clause-kept
-measure_listed-rank-requires-clause-kept c = rw c.deref_mut.ensures.value c.requires.kept
+measure_listed-rank-requires-clause-kept c = rw c.deref_mut.ensures.value c.requires.ready.1.known
 
 pub returns-then-from-stated-clause-flaw : goal.returns-then-from-stated-clause-flaw
 returns-then-from-stated-clause-flaw c test is of inside =
@@ -90,4 +79,12 @@ returns-then-from-stated-clause-flaw c test is of inside =
     (λ e. c.if-from-stated.true (c.from.ensures ∙ c.measure_listed-rank.ensures.rank ∙ e))
 
 pub measure_listed-rank-requires-clause-hubs : goal.measure_listed-rank-requires-clause-hubs
-measure_listed-rank-requires-clause-hubs c = rw c.deref_mut-2.ensures.value c.requires.room.hubs
+measure_listed-rank-requires-clause-hubs c = rw c.deref_mut-2.ensures.value c.requires.ready.1.room.hubs
+
+pub measure_listed-rank-requires-clause-links : goal.measure_listed-rank-requires-clause-links
+measure_listed-rank-requires-clause-links c = rw c.deref.ensures.value c.requires.ready.1.links
+
+pub measure_listed-rank-requires-clause-free : goal.measure_listed-rank-requires-clause-free
+measure_listed-rank-requires-clause-free c =
+    let r = c.requires.ready.1 in
+    rw (c.deref_mut-2.ensures.value, c.deref_mut-3.ensures.value) (free_of (rows_of c.args.present.now) c.args.work.now r.room r.clear)

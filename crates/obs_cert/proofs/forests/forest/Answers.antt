@@ -3,7 +3,7 @@ use Rattle.std.specs.Vec.{with_items}
 use Rattle.obs_network.specs.Network.{rows_of}
 use Rattle.obs_cert.specs.Joins.{AreJoined}
 use Rattle.obs_cert.specs.Ready.{HasRoom, IsReady}
-use Rattle.obs_cert.proofs.ClaimLemmas.{clear_joined, ready_joined, room_joined}
+use Rattle.obs_cert.proofs.ClaimLemmas.{clear_joined, free_of, ready_joined, room_joined}
 use Rattle.obs_cert.proofs.forests.forest.Goals as goal
 use Rattle.obs_cert.proofs.forests.forest.Goals.{After-measure_pairs-forest}
 
@@ -48,3 +48,7 @@ returns-then-forest-need-clause-clear c = clear (goal.at.returns-then-forest-nee
 
 pub returns-clause-clear : goal.returns-clause-clear
 returns-clause-clear c = clear (goal.at.returns-clause-clear c).After-measure_pairs-forest
+
+pub measure_pairs-forest-requires : goal.measure_pairs-forest-requires
+measure_pairs-forest-requires c =
+    record { free = rw (c.deref_mut.ensures.value, c.deref_mut-2.ensures.value) (free_of (rows_of c.args.present.now) c.args.work.now c.requires.room c.requires.clear) }

@@ -21,16 +21,16 @@ returns-then-x-y-clause-joined c es j =
 
 pub lead-requires-clause-room : goal.lead-requires-clause-room
 lead-requires-clause-room c =
-    let q = c.requires.joined in
+    let q = c.requires.ways.joined in
     let f = both (goal.at.lead-requires-clause-room c).After-first-y q.0 q.1 in
-    room_left q.0 c.args.ends c.args.ups.now c.args.moved.now c.args.count q.1 c.requires.count c.requires.room c.requires.a c.requires.b
+    room_left q.0 c.args.ends c.args.ups.now c.args.moved.now c.args.count q.1 c.requires.ways.fits c.requires.ways.room c.requires.a c.requires.b
     (λ s. c.if-x-y.false (f.x_is ∙ s ∙ sym f.y_is))
 
 pub returns-clause-joined : goal.returns-clause-joined
 returns-clause-joined c es j =
     let f = both (goal.at.returns-clause-joined c).After-first-y es j in
-    let q = c.requires.joined in
-    let room = room_left es c.args.ends c.args.ups.now c.args.moved.now c.args.count j c.requires.count c.requires.room c.requires.a c.requires.b
+    let q = c.requires.ways.joined in
+    let room = room_left es c.args.ends c.args.ups.now c.args.moved.now c.args.count j c.requires.ways.fits c.requires.ways.room c.requires.a c.requires.b
     (λ s. c.if-x-y.false (f.x_is ∙ s ∙ sym f.y_is)) in
     rw (c.lead.ensures.led, c.lead.ensures.noted, c.max.ensures, c.min.ensures, add-one c.args.count)
     (joined_new es c.args.ends c.first-y.new.ups c.args.moved.now c.args.count c.first-x.result c.first-y.result f room
@@ -38,8 +38,8 @@ returns-clause-joined c es j =
 
 pub returns-clause-count : goal.returns-clause-count
 returns-clause-count c =
-    let q = c.requires.joined in
+    let q = c.requires.ways.joined in
     let f = both (goal.at.returns-clause-count c).After-first-y q.0 q.1 in
-    let room = room_left q.0 c.args.ends c.args.ups.now c.args.moved.now c.args.count q.1 c.requires.count c.requires.room c.requires.a c.requires.b
+    let room = room_left q.0 c.args.ends c.args.ups.now c.args.moved.now c.args.count q.1 c.requires.ways.fits c.requires.ways.room c.requires.a c.requires.b
     (λ s. c.if-x-y.false (f.x_is ∙ s ∙ sym f.y_is)) in
     omega (arith, room, c.lead.auto.moved)

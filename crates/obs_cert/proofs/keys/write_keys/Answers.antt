@@ -1,7 +1,9 @@
-use Rattle.std.proofs.Common.{◌≡◌, ◌+◌, ◌∙◌, length, ap, refl, arith}
+use Rattle.std.proofs.Common.{◌≡◌, ◌+◌, ◌∙◌, length, map, sym, ap, arith}
 use Rattle.obs_meter.specs.Held.{Meters}
 use Rattle.obs_network.specs.Network.{Network, case_offered}
 use Rattle.obs_network.proofs.OfCase.{length-case_offered}
+use Rattle.std.specs.List.{range_with_len}
+use Rattle.obs_cert.specs.Keys.{key_of}
 use Rattle.obs_cert.proofs.KeyLemmas.{written_all, written_more, written_none}
 use Rattle.obs_cert.proofs.keys.write_keys.Goals as goal
 use Rattle.obs_cert.proofs.keys.write_keys.Goals.{After-count-m-end}
@@ -17,17 +19,18 @@ pub returns : goal.returns
 returns c =
     let t = c.args.present.now in
     record {
-      keys = written_all t (length t.meters + length t.candidates) c.loop-m.m c.loop-m.keys refl (omega (arith, c.loop-m-test.false, c.loop-m.auto.m-end, all (goal.at.returns c).After-count-m-end)) c.loop-m.invariant;
+      keys = written_all (key_of t) (length t.meters + length t.candidates) c.loop-m.m c.loop-m.keys (omega (arith, c.loop-m-test.false, c.loop-m.auto.m-end, all (goal.at.returns c).After-count-m-end)) c.loop-m.invariant
+          ∙ ap (λ n. map (key_of t) (range_with_len 0 n)) (sym (length-case_offered t));
       valid = c.network-network.ensures.valid;
     }
 
 pub loop-m-init : goal.loop-m-init
-loop-m-init c = let t = c.args.present.now in written_none t (length t.meters + length t.candidates) c.args.keys.now c.requires.room
+loop-m-init c = let t = c.args.present.now in written_none (key_of t) (length t.meters + length t.candidates) c.args.keys.now c.requires.room
 
 pub loop-m-preserved : goal.loop-m-preserved
 loop-m-preserved c =
     let t = c.args.present.now in
-    written_more t (length t.meters + length t.candidates) c.loop-m.m c.key_of.result c.loop-m.keys (omega (arith, c.loop-m-test.true, c.loop-m.auto.keys, c.requires.room, all (goal.at.loop-m-preserved c).After-count-m-end)) c.key_of.ensures.key c.loop-m.invariant
+    written_more (key_of t) (length t.meters + length t.candidates) c.loop-m.m c.key_of.result c.loop-m.keys (omega (arith, c.loop-m-test.true, c.loop-m.auto.keys, c.requires.room, all (goal.at.loop-m-preserved c).After-count-m-end)) c.key_of.ensures.key c.loop-m.invariant
 
 pub bounds-keys-m : goal.bounds-keys-m
 bounds-keys-m c = omega (arith, c.loop-m-test.true, c.loop-m.auto.keys, c.requires.room, all (goal.at.bounds-keys-m c).After-count-m-end)

@@ -1,6 +1,7 @@
 use Rattle.std.proofs.Common.{◌≡◌}
 use Rattle.std.specs.List.{flat_map}
-use Rattle.obs_network.specs.Network.{network_of}
+use Rattle.obs_network.specs.Network.{case_branches}
+use Rattle.obs_cert.specs.Contractions.{contracted_ends}
 use Rattle.obs_cert.specs.Hubs.{AreHubs}
 use Rattle.obs_cert.specs.Numbered.{items_of}
 use Rattle.obs_cert.specs.Scopes.{touches_of}
@@ -9,5 +10,5 @@ use Rattle.obs_cert.proofs.lists.join_items.Given as goal
 
 abbrev pub invariant-loop-item : goal.invariant-loop-item
 invariant-loop-item l =
-    IsJoining (network_of l.present).graph.ends (flat_map (touches_of l.present) (items_of l.present l.item-iterator)) (flat_map (touches_of l.present) (items_of l.present l.fn.items)) l.fn.ups l.fn.moved l.fn.count l.ups l.moved l.count
-    × AreHubs l.present l.hubs.list l.ups × (l.hubs.room ≡ l.fn.hubs.room)
+    IsJoining (contracted_ends l.contraction (case_branches l.present)) (flat_map (touches_of l.present) (items_of l.present l.item-iterator)) (flat_map (touches_of l.present) (items_of l.present l.fn.items)) l.fn.ups l.fn.moved l.fn.count l.ups l.moved l.count
+    × AreHubs l.present l.contraction l.hubs.list l.ups × (l.hubs.room ≡ l.fn.hubs.room)

@@ -11,17 +11,14 @@ use Rattle.obs_cert.proofs.pairs.join_pairs.Goals.{After-join_one-joined, In-Non
 pub loop-pair-init : goal.loop-pair-init
 loop-pair-init c = rw c.into_iter-pair-iterator.ensures.into_iter_gives (pairing_none c.args.g.now.ends (branches (pairs_of c.args.case.now c.args.pairs)) c.args.ups.now c.args.moved.now)
 
-pub join_one-joined-requires-clause-joined : goal.join_one-joined-requires-clause-joined
-join_one-joined-requires-clause-joined c = let q = c.loop-pair.invariant.joining.joined [] c.requires.clear in (q.0, q.1)
+pub join_one-joined-requires-clause-ways : goal.join_one-joined-requires-clause-ways
+join_one-joined-requires-clause-ways c =
+    let i = c.loop-pair.invariant.joining in
+    let q = i.joined [] c.requires.free.clear in
+    record { joined = (q.0, q.1); room = omega (arith, i.ups_len, i.moved_len, c.requires.free.room); fits = i.fits }
 
 pub join_one-joined-requires-clause-vertices : goal.join_one-joined-requires-clause-vertices
-join_one-joined-requires-clause-vertices c = let i = c.loop-pair.invariant.joining in omega (arith, i.ups_len, c.requires.vertices)
-
-pub join_one-joined-requires-clause-room : goal.join_one-joined-requires-clause-room
-join_one-joined-requires-clause-room c = let i = c.loop-pair.invariant.joining in omega (arith, i.ups_len, i.moved_len, c.requires.room)
-
-pub join_one-joined-requires-clause-count : goal.join_one-joined-requires-clause-count
-join_one-joined-requires-clause-count c = c.loop-pair.invariant.joining.fits
+join_one-joined-requires-clause-vertices c = let i = c.loop-pair.invariant.joining in omega (arith, i.ups_len, c.requires.free.vertices)
 
 before : (c : After-join_one-joined) → IsPairing c.args.g.now.ends (c.branch_of.result ∷ branches (pairs_of c.args.case.now c.next.new.self)) (branches (pairs_of c.args.case.now c.args.pairs))
     c.args.ups.now c.args.moved.now c.loop-pair.ups c.loop-pair.moved c.loop-pair.count c.loop-pair.cycle
@@ -66,7 +63,7 @@ all_paired c =
 pub returns-clause-joined : goal.returns-clause-joined
 returns-clause-joined c =
     let l = c.loop-pair in
-    joining_end c.args.g.now.ends (branches (pairs_of c.args.case.now c.args.pairs)) c.args.ups.now c.args.moved.now 0 l.ups l.moved l.count (all_paired c).joining [] c.requires.clear
+    joining_end c.args.g.now.ends (branches (pairs_of c.args.case.now c.args.pairs)) c.args.ups.now c.args.moved.now 0 l.ups l.moved l.count (all_paired c).joining [] c.requires.free.clear
 
 pub returns-clause-count : goal.returns-clause-count
 returns-clause-count c = c.loop-pair.invariant.joining.fits

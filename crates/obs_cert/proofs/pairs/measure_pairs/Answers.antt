@@ -9,9 +9,17 @@ use Rattle.obs_cert.proofs.pairs.measure_pairs.Goals as goal
 use Rattle.obs_cert.proofs.pairs.measure_pairs.Goals.{After-join_pairs-count}
 use Rattle.obs_cert.specs.Flaws.{rank_of_branches}
 
-pub join_pairs-count-requires-clause-vertices : goal.join_pairs-count-requires-clause-vertices
-join_pairs-count-requires-clause-vertices c =
-    vertices_fit c.args.present.now c.network-network.result.now c.graph.result.now (length c.args.ups.now) c.network-network.ensures.network c.graph.ensures.graph c.requires.vertices
+pub join_pairs-count-requires : goal.join_pairs-count-requires
+join_pairs-count-requires c =
+    let f = c.requires.free in
+    record {
+      free = record {
+        vertices = vertices_fit c.args.present.now c.network-network.result.now c.graph.result.now (length c.args.ups.now) c.network-network.ensures.network c.graph.ensures.graph f.vertices;
+        few = f.few;
+        room = f.room;
+        clear = f.clear;
+      };
+    }
 
 joined : (c : After-join_pairs-count)
     → AreJoined (onto c.graph.result.now.ends (branches (pairs_of c.args.present.now c.args.pairs)) []) c.join_pairs-count.new.ups (take c.join_pairs-count.result.0 c.join_pairs-count.new.moved)
@@ -22,14 +30,14 @@ joined c =
 pub overflow_cast-result : goal.overflow_cast-result
 overflow_cast-result c =
     let j = c.join_pairs-count in
-    let few = noted_few c.graph.result.now (branches (pairs_of c.args.present.now c.args.pairs)) j.new.ups j.new.moved j.result.0 j.ensures.count (joined (goal.at.overflow_cast-result c).After-join_pairs-count) in
-    omega (arith, few, c.requires.few, j.auto.ups)
+    let few = noted_few c.graph.result.now.ends (branches (pairs_of c.args.present.now c.args.pairs)) j.new.ups j.new.moved j.result.0 j.ensures.count (joined (goal.at.overflow_cast-result c).After-join_pairs-count) in
+    omega (arith, few, c.requires.free.few, j.auto.ups)
 
 is_rank : (c : After-join_pairs-count) → c.join_pairs-count.result.0 ≡ rank_of_branches c.args.present.now (branches (pairs_of c.args.present.now c.args.pairs))
 is_rank c =
     let j = c.join_pairs-count in
     case_rank c.args.present.now c.network-network.result.now c.graph.result.now (branches (pairs_of c.args.present.now c.args.pairs)) j.new.ups j.new.moved j.result.0
-    c.case-case.ensures.valid c.network-network.ensures.network c.graph.ensures.graph (omega (arith, c.requires.vertices, j.auto.ups)) j.ensures.count (joined c)
+    c.case-case.ensures.valid c.network-network.ensures.network c.graph.ensures.graph (omega (arith, c.requires.free.vertices, j.auto.ups)) j.ensures.count (joined c)
 
 pub returns-clause-rank : goal.returns-clause-rank
 returns-clause-rank c = is_rank (goal.at.returns-clause-rank c).After-join_pairs-count

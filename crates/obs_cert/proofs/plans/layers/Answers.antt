@@ -1,10 +1,11 @@
 use Rattle.std.proofs.Common.{length, sym, ap, ◌∙◌}
 use Rattle.std.specs.List.{list_any}
 use Rattle.obs_case.specs.Tables.{Tables}
+use Rattle.obs_network.specs.Network.{rows_of}
 use Rattle.obs_cert.specs.Flaws.{Listed, costs_clauses, first_true, listed_layers, wrong_outside}
 use Rattle.obs_cert.specs.Scopes.{is_below}
 use Rattle.obs_cert.specs.Walked.{cost_of, parts_in}
-use Rattle.obs_cert.proofs.ClaimLemmas.{layers_outside, layers_rank, layers_rest, ready_hubs, ready_joined}
+use Rattle.obs_cert.proofs.ClaimLemmas.{free_of, layers_outside, layers_rank, layers_rest, ready_hubs, ready_joined}
 use Rattle.obs_cert.proofs.plans.layers.Goals as goal
 
 pub returns-then-has_wrong_outside-clause-flaw : goal.returns-then-has_wrong_outside-clause-flaw
@@ -34,15 +35,6 @@ returns-clause-ready c stamp r =
     let j = c.has_wrong_rank in
     ready_joined c.args.present.now stamp (record c.args.work.now { hubs = j.new.hubs }) j.new.ups j.new.moved (ready_hubs c.args.present.now stamp c.args.work.now j.new.hubs r j.ensures.hubs) (j.auto.ups ∙ ap length c.deref_mut.ensures.value) (j.auto.moved ∙ ap length c.deref_mut-2.ensures.value) j.ensures.clear
 
-pub has_wrong_rank-requires-clause-clear : goal.has_wrong_rank-requires-clause-clear
-has_wrong_rank-requires-clause-clear c = rw c.deref_mut.ensures.value c.requires.clear
-
-pub has_wrong_rank-requires-clause-vertices : goal.has_wrong_rank-requires-clause-vertices
-has_wrong_rank-requires-clause-vertices c = rw c.deref_mut.ensures.value c.requires.room.ups
-
-pub has_wrong_rank-requires-clause-room : goal.has_wrong_rank-requires-clause-room
-has_wrong_rank-requires-clause-room c = rw (c.deref_mut.ensures.value, c.deref_mut-2.ensures.value) c.requires.room.moved
-
 pub has_wrong_outside-requires-clause-keys : goal.has_wrong_outside-requires-clause-keys
 has_wrong_outside-requires-clause-keys c = rw c.case-case.ensures.case c.requires.keys
 
@@ -58,3 +50,6 @@ returns-then-has_wrong_rank-clause-flaw c =
 
 pub has_wrong_rank-requires-clause-hubs : goal.has_wrong_rank-requires-clause-hubs
 has_wrong_rank-requires-clause-hubs c = rw c.deref_mut.ensures.value c.requires.room.hubs
+
+pub has_wrong_rank-requires-clause-free : goal.has_wrong_rank-requires-clause-free
+has_wrong_rank-requires-clause-free c = rw (c.deref_mut.ensures.value, c.deref_mut-2.ensures.value) (free_of (rows_of c.args.present.now) c.args.work.now c.requires.room c.requires.clear)
