@@ -1,6 +1,6 @@
 use Rattle.std.proofs.Common.{◌≡◌, ◌≤◌, get_or, length, take}
 use Rattle.std.specs.Prelude.{filter, nat_lt}
-use Rattle.obs_station.proofs.spared.count_reached.Given as goal
+use Rattle.obs_station.proofs.shown.count_reached.Given as goal
 
 abbrev pub invariant-loop-m : goal.invariant-loop-m
 invariant-loop-m l = record {

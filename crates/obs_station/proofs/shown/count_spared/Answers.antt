@@ -2,12 +2,12 @@ use Rattle.std.proofs.Common.{ℕ, ◌+◌, List, length, get_or, ap, ◌∙◌,
 use Rattle.std.specs.Prelude.{filter, nat_lt}
 use Rattle.obs_switch.specs.Groups.{group_start}
 use Rattle.obs_station.proofs.Ordering.{starts_rise}
-use Rattle.obs_station.proofs.spared.count_spared.Goals as goal
+use Rattle.obs_station.proofs.shown.count_spared.Goals as goal
 
 pub returns-then-reached-le1 : goal.returns-then-reached-le1
 returns-then-reached-le1 c =
     let s = c.args.stations.now in
-    let firsts = c.args.firsts.now in
+    let firsts = c.args.reach.now.firsts.now in
     let end = c.start-all.ensures.start ∙ ap (group_start s.keys) c.count-count.ensures.count in
     let all = ap (λ (n : ℕ). length (filter (λ m. nat_lt (get_or firsts m 0) n) c.meters-list.result.now)) end in
     let list = ap (λ (xs : List ℕ). length (filter (λ m. nat_lt (get_or firsts m 0) (group_start s.keys s.buses.count)) xs)) c.meters-list.ensures.meters in

@@ -2,7 +2,7 @@
 ghost use Rattle.std.specs.Prelude.{◌≡◌, ◌+◌, ◌<◌, ◌≤◌, ◌^◌, ℕ, suc, length, slice_index};
 ghost use Rattle.obs_case.specs.Tables.{places};
 ghost use Rattle.obs_switch.specs.Groups.{AreGroups};
-ghost use Rattle.obs_station.specs.Held.{key_of};
+ghost use Rattle.obs_station.specs.Held.{station_key};
 ghost use Rattle.obs_station.specs.Stations.{all_links, case_station_count, case_stations, meter_stations, place_node};
 
 use obs_case::{Case, Kind, Switch};
@@ -54,11 +54,11 @@ fn station_of(case: &Case, stations: &Buses, m: u32) -> u32
 }
 
 // The key of a meter: its station where it is live, else the number of stations.
-fn key_of(present: &Present<'_>, stations: &Buses, m: u32) -> u32
+fn station_key(present: &Present<'_>, stations: &Buses, m: u32) -> u32
     requires stations { stations.now.buses ≡ case_stations present.now }
     requires count { stations.now.count ≡ case_station_count present.now }
     requires meter { m < length present.now.meters }
-    ensures key { result ≡ key_of present.now m }
+    ensures key { result ≡ station_key present.now m }
     ensures below { result ≤ stations.now.count }
 {
     if present.meters().live(present.graph(), m) {
@@ -73,12 +73,12 @@ fn write_keys(present: &Present<'_>, stations: &Buses, keys: &mut [u32])
     requires stations { stations.now.buses ≡ case_stations present.now }
     requires count { stations.now.count ≡ case_station_count present.now }
     requires one_each { length keys.old ≡ length present.now.meters }
-    ensures keys { (m : ℕ) → m < length keys.new → slice_index keys.new m ≡ key_of present.now m }
+    ensures keys { (m : ℕ) → m < length keys.new → slice_index keys.new m ≡ station_key present.now m }
     ensures below { (m : ℕ) → m < length keys.new → slice_index keys.new m ≤ stations.now.count }
     ensures few { length keys.new < 2 ^ 32 }
 {
     for m in 0..present.case().meters().len() {
-        keys[m] = key_of(present, stations, m as u32);
+        keys[m] = station_key(present, stations, m as u32);
     }
 }
 
@@ -95,7 +95,7 @@ pub(crate) fn write_members(
     requires one_each { length keys.old ≡ length present.now.meters }
     requires members { length members.old ≡ length keys.old }
     requires starts { stations.now.count < length starts.old }
-    ensures keys { (m : ℕ) → m < length keys.new → slice_index keys.new m ≡ key_of present.now m }
+    ensures keys { (m : ℕ) → m < length keys.new → slice_index keys.new m ≡ station_key present.now m }
     ensures groups { AreGroups keys.new members.new starts.new (suc stations.now.count) }
 {
     write_keys(present, stations, keys);

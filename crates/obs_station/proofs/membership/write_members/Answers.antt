@@ -1,4 +1,4 @@
-use Rattle.obs_station.proofs.keys.write_members.Goals as goal
+use Rattle.obs_station.proofs.membership.write_members.Goals as goal
 
 pub write_keys-requires-clause-stations : goal.write_keys-requires-clause-stations
 write_keys-requires-clause-stations c = c.requires.stations

@@ -4,7 +4,7 @@ use Rattle.std.proofs.lemmas.List.{get_or-map}
 use Rattle.std.proofs.lemmas.List.FromFn.{length-map-range_with_len}
 use Rattle.obs_switch.specs.Buses.{bus_of}
 use Rattle.obs_station.specs.Stations.{all_links, case_stations, meter_stations, station_of}
-use Rattle.obs_station.proofs.keys.station_of.Goals as goal
+use Rattle.obs_station.proofs.membership.station_of.Goals as goal
 
 pub bus-requires : goal.bus-requires
 bus-requires c =

@@ -1,7 +1,7 @@
 use Rattle.std.proofs.Common.{length, ap, ◌∙◌, arith}
 use Rattle.obs_meter.specs.Held.{Meters}
 use Rattle.obs_network.proofs.OfCase.{length-case_meters}
-use Rattle.obs_station.proofs.keys.key_of.Goals as goal
+use Rattle.obs_station.proofs.membership.station_key.Goals as goal
 
 pub live-requires-clause-item : goal.live-requires-clause-item
 live-requires-clause-item c =
