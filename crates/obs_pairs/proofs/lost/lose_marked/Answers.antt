@@ -1,7 +1,7 @@
 use Rattle.std.proofs.Common.{arith}
 use Rattle.obs_assign.specs.Assignment.{has_flag}
-use Rattle.obs_pairs.proofs.Halved.{Left-all, Left-more}
-use Rattle.obs_pairs.proofs.renew.lose_marked.Goals as goal
+use Rattle.obs_pairs.proofs.Losing.{Left-all, Left-more}
+use Rattle.obs_pairs.proofs.lost.lose_marked.Goals as goal
 
 pub loop-m-preserved : goal.loop-m-preserved
 loop-m-preserved c =

@@ -1,8 +1,8 @@
 use Rattle.std.proofs.Common.{List, false, refl, ap, ◌∙◌, arith}
 use Rattle.obs_meter.specs.declared.Touch.{Touch}
 use Rattle.obs_meter.proofs.Lost.{losing-none}
-use Rattle.obs_pairs.proofs.Halved.{Left-all}
-use Rattle.obs_pairs.proofs.half.restore.Goals as goal
+use Rattle.obs_pairs.proofs.Losing.{Left-all}
+use Rattle.obs_pairs.proofs.lost.restore.Goals as goal
 
 pub returns : goal.returns
 returns c =
