@@ -3,7 +3,7 @@ use Rattle.obs_case.specs.Tables.{Tables}
 use Rattle.obs_engine.specs.Asks.{ask_reply, ask_text}
 use Rattle.obs_engine.proofs.Asked.{appends_as}
 use Rattle.obs_engine.proofs.Replied.{ask_status-is, replied_verdict}
-use Rattle.obs_engine.proofs.answers.answer_session.Goals as goal
+use Rattle.obs_engine.proofs.ask_answers.answer_session.Goals as goal
 
 pub print_ask-requires : goal.print_ask-requires
 print_ask-requires g c = record { offered = λ e. c.status_of-status.ensures.offered ∙ c.requires.offered e }

@@ -5,7 +5,7 @@ use Rattle.obs_text.specs.Lines.{is_feed}
 use Rattle.obs_engine.specs.Lines.{line_text, lines_case, lines_text}
 use Rattle.obs_engine.proofs.Asked.{appends_as}
 use Rattle.obs_engine.proofs.Lined.{feed_ended, feed_fed}
-use Rattle.obs_engine.proofs.lines.answer_byte.Goals as goal
+use Rattle.obs_engine.proofs.line_answers.answer_byte.Goals as goal
 
 pub returns-in-Ok-clause-tables : goal.returns-in-Ok-clause-tables
 returns-in-Ok-clause-tables g c = λ line holds.

@@ -3,7 +3,7 @@ use Rattle.std.proofs.lemmas.List.{take_all, take_more}
 use Rattle.obs_engine.specs.Lines.{ended_after, lines_text}
 use Rattle.obs_engine.proofs.Asked.{appends_as, appends_nothing}
 use Rattle.obs_engine.proofs.Lined.{fed_failed, fed_more, split_at_byte}
-use Rattle.obs_engine.proofs.lines.answer_bytes.Goals as goal
+use Rattle.obs_engine.proofs.line_answers.answer_bytes.Goals as goal
 
 pub loop-k-init : goal.loop-k-init
 loop-k-init g c = (refl, λ line holds. record { holds = holds; tables = refl; printed = appends_nothing tt _ _ _ })

@@ -1,7 +1,7 @@
 use Rattle.std.proofs.Common.{◌≡◌, List, take, ℕ}
 use Rattle.obs_script.specs.Gathered.{Holds}
 use Rattle.obs_engine.proofs.Lined.{Fed}
-use Rattle.obs_engine.proofs.lines.answer_bytes.Given as goal
+use Rattle.obs_engine.proofs.line_answers.answer_bytes.Given as goal
 
 abbrev pub invariant-loop-k : goal.invariant-loop-k
 invariant-loop-k g l =

@@ -6,7 +6,7 @@ use Rattle.obs_repair.specs.Lines.{meant_of}
 use Rattle.obs_engine.specs.Lines.{answer_to, case_after}
 use Rattle.obs_engine.proofs.Asked.{appends_as, appends_nothing}
 use Rattle.obs_engine.proofs.Lined.{line_none, line_some, passed_case, passed_text, said_case, said_text}
-use Rattle.obs_engine.proofs.lines.answer_line.Goals as goal
+use Rattle.obs_engine.proofs.line_answers.answer_line.Goals as goal
 
 pub returns-then-passed-clause-tables : goal.returns-then-passed-clause-tables
 returns-then-passed-clause-tables g c = λ line holds.

@@ -4,7 +4,7 @@ use Rattle.obs_engine.proofs.Asked.{appends_as}
 use Rattle.obs_engine.proofs.Endings.{replied_memory}
 use Rattle.obs_engine.proofs.Replied.{replied_verdict, report_status-is}
 use Rattle.obs_engine.proofs.Summed.{not_for_memory}
-use Rattle.obs_engine.proofs.pairs.answer_pairs.Goals as goal
+use Rattle.obs_engine.proofs.pair_reply.answer_pairs.Goals as goal
 
 pub returns-in_default : goal.returns-in_default
 returns-in_default g c = record { replied = replied_memory (pairs_reply c.args.case.now); summary = λ whole. not_for_memory whole }

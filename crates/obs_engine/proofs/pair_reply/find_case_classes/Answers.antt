@@ -1,6 +1,6 @@
 use Rattle.std.proofs.Common.{◌∙◌, refl}
 use Rattle.obs_engine.proofs.Studied.{classes_over, longest_from, longest_over, room_over}
-use Rattle.obs_engine.proofs.pairs.find_case_classes.Goals as goal
+use Rattle.obs_engine.proofs.pair_reply.find_case_classes.Goals as goal
 
 pub find_classes-requires-clause-longest : goal.find_classes-requires-clause-longest
 find_classes-requires-clause-longest g c =

@@ -1,5 +1,5 @@
 use Rattle.obs_engine.proofs.Studied.{made_room}
-use Rattle.obs_engine.proofs.pairs.make_work.Goals as goal
+use Rattle.obs_engine.proofs.pair_reply.make_work.Goals as goal
 
 pub returns : goal.returns
 returns c = record {

@@ -5,7 +5,7 @@ use Rattle.obs_pairs.specs.PairWork.{has_another}
 use Rattle.obs_report.proofs.Passed.{row_all, row_more}
 use Rattle.obs_report.proofs.Printing.{finished, nothing_printed, then_printed}
 use Rattle.obs_engine.specs.PairReply.{class_line, class_lines}
-use Rattle.obs_engine.proofs.pairs.print_classes.Goals as goal
+use Rattle.obs_engine.proofs.pair_reply.print_classes.Goals as goal
 
 pub loop-m-init : goal.loop-m-init
 loop-m-init g c =

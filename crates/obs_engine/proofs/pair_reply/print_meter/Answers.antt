@@ -2,7 +2,7 @@ use Rattle.std.proofs.Common.{◌≡◌, ◌∙◌, ◌<◌, [], ◌∷◌, List
 use Rattle.std.specs.Prelude.{slice_index}
 use Rattle.obs_engine.specs.PairReply.{class_line, class_lines}
 use Rattle.obs_engine.proofs.Studied.{class_below, classes_many, lone_lines, member_lines, nothing_as}
-use Rattle.obs_engine.proofs.pairs.print_meter.Goals as goal
+use Rattle.obs_engine.proofs.pair_reply.print_meter.Goals as goal
 
 pub has_partner-requires : goal.has_partner-requires
 has_partner-requires g c = record { m = omega (arith, c.requires.meter, classes_many c.args.case.now, ap (λ (xs : List ℕ). length xs) c.requires.classes) }

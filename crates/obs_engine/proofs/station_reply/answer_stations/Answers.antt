@@ -8,7 +8,7 @@ use Rattle.obs_engine.proofs.Endings.{replied_memory}
 use Rattle.obs_engine.proofs.Replied.{replied_verdict, stations_status-is}
 use Rattle.obs_engine.proofs.Studied.{losses_below}
 use Rattle.obs_engine.proofs.Summed.{not_for_memory}
-use Rattle.obs_engine.proofs.stations.answer_stations.Goals as goal
+use Rattle.obs_engine.proofs.station_reply.answer_stations.Goals as goal
 
 pub print_losses-outcome-requires : goal.print_losses-outcome-requires
 print_losses-outcome-requires g c =

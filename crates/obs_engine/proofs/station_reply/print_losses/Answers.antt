@@ -3,7 +3,7 @@ use Rattle.obs_station.specs.declared.losses.Loss.{Loss}
 use Rattle.obs_report.proofs.Printing.{finished, nothing_printed, then_printed}
 use Rattle.obs_engine.specs.StationReply.{loss_line}
 use Rattle.obs_engine.proofs.Studied.{lines_all, lines_more}
-use Rattle.obs_engine.proofs.stations.print_losses.Goals as goal
+use Rattle.obs_engine.proofs.station_reply.print_losses.Goals as goal
 
 -- what an index gives past the end
 abbrev none : Loss

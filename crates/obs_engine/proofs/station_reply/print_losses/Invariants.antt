@@ -2,7 +2,7 @@ use Rattle.std.proofs.Common.{◌≡◌, ◌++◌, ℕ, List, drop}
 use Rattle.std.specs.List.{flat_map}
 use Rattle.obs_report.specs.Printed.{Prints}
 use Rattle.obs_engine.specs.StationReply.{loss_line}
-use Rattle.obs_engine.proofs.stations.print_losses.Given as goal
+use Rattle.obs_engine.proofs.station_reply.print_losses.Given as goal
 
 abbrev pub invariant-loop-k : goal.invariant-loop-k
 invariant-loop-k g l = (text : List ℕ)

@@ -2,7 +2,7 @@ use Rattle.std.proofs.Common.{◌∙◌, sym, ap}
 use Rattle.obs_network.specs.Network.{Network}
 use Rattle.obs_engine.specs.StationReply.{are_borne}
 use Rattle.obs_engine.proofs.Studied.{stations_met, stations_short}
-use Rattle.obs_engine.proofs.stations.status_of.Goals as goal
+use Rattle.obs_engine.proofs.station_reply.status_of.Goals as goal
 
 pub returns-then-are_borne : goal.returns-then-are_borne
 returns-then-are_borne c =
