@@ -1,5 +1,4 @@
 use Rattle.std.proofs.Common.{Option, List, ℕ, length, refl, ap, ◌∙◌, arith}
-use Rattle.std.proofs.lemmas.Bool.{cases_Bool}
 use Rattle.obs_station.specs.Rounds.{allowance}
 use Rattle.obs_station.proofs.Going.{goes_nowhere}
 use Rattle.obs_station.proofs.Settling.{known_again}

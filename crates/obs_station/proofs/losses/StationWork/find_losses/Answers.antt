@@ -1,4 +1,4 @@
-use Rattle.std.proofs.Common.{◌≡◌, ◌≤◌, ◌++◌, length, take, drop, refl, ap, ◌∙◌, arith}
+use Rattle.std.proofs.Common.{◌≡◌, ◌++◌, length, take, drop, ap, ◌∙◌, arith}
 use Rattle.obs_graph.proofs.Stored.{written_back}
 use Rattle.obs_switch.proofs.FirstNodes.{bus_count-le}
 use Rattle.obs_meter.specs.Held.{Meters}
