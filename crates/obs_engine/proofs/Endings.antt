@@ -6,7 +6,7 @@ use Rattle.obs_report.proofs.Printing.{and_then_none}
 use Rattle.obs_files.specs.declared.status.Status.{Status}
 use Rattle.obs_files.specs.declared.status.Status.TheVariants.{Done, Short, Usage, InputFault, ReadFault, WriteFault, NoMemory, SessionTooLong}
 use Rattle.obs_files.specs.declared.words.Form.{Form}
-use Rattle.obs_engine.specs.Ending.{Answers, AnswersPart, Ends, HasRoom, answered_before}
+use Rattle.obs_engine.specs.Ending.{Answers, AnswersPart, Ends, HasRoomForText, answered_before}
 use Rattle.obs_engine.specs.Replies.{EndsBehind, EndsWith, RepliedAt, Reply, printed_status, usage_reply}
 use Rattle.obs_engine.specs.Stated.{Told, IsStated}
 
@@ -115,10 +115,10 @@ pub usage_ends : (form : Option Form) (told : Told) (left : Option (List ℕ)) (
 usage_ends form told left status a b e ends =
     subst (λ f. Ends f told left status a b) e (ends_stated None told left usage_reply status a b refl usage_no_failure (behind_of usage_reply [] status a b refl ends))
 
-pub usage_complete : {a b : Option (List ℕ)} {f k : ℕ} {room : ℕ → Type 0} {status : Status} (form : Option Form) (told : Told) → None ≡ form → HasRoom form told room → RepliedAt a b f k room status usage_reply
+pub usage_complete : {a b : Option (List ℕ)} {f k : ℕ} {room : ℕ → Type 0} {status : Status} (form : Option Form) (told : Told) → None ≡ form → HasRoomForText form told room → RepliedAt a b f k room status usage_reply
     → (status ≡ NoMemory) ⊎ Answers form told status a b
 usage_complete {a = a} {b = b} {room = room} {status = status} form told e has replied =
-    let here : HasRoom None told room = subst (λ f. HasRoom f told room) (sym e) has in
+    let here : HasRoomForText None told room = subst (λ f. HasRoomForText f told room) (sym e) has in
     let fits = here usage_reply refl in
     subst (λ f. (status ≡ NoMemory) ⊎ Answers f told status a b) e
     (complete_stated None told usage_reply status a b refl replied.reads (replied.room fits.0 fits.1) [] (behind_of usage_reply [] status a b refl replied.ends))

@@ -45,5 +45,5 @@ Ends form told left NoMemory before after = Wrote before after []
 Ends form told left SessionTooLong before after = Answers form told SessionTooLong before after
 
 -- the sink has room for the whole stated text
-abbrev pub HasRoom : Option Form → Told → (ℕ → Type 0) → Type 0
-HasRoom form told room = (reply : Reply) → IsStated form told reply → (rest : ℕ) × room (length reply.text + rest)
+abbrev pub HasRoomForText : Option Form → Told → (ℕ → Type 0) → Type 0
+HasRoomForText form told room = (reply : Reply) → IsStated form told reply → (rest : ℕ) × room (length reply.text + rest)

@@ -5,7 +5,7 @@ use Rattle.obs_io.specs.Causes.{Rose}
 use Rattle.obs_files.specs.declared.status.Status.{Status}
 use Rattle.obs_files.specs.declared.status.Status.TheVariants.{ReadFault, WriteFault, NoMemory}
 use Rattle.obs_files.specs.declared.words.Form.{Form}
-use Rattle.obs_engine.specs.Ending.{Answers, Ends, HasRoom}
+use Rattle.obs_engine.specs.Ending.{Answers, Ends, HasRoomForText}
 use Rattle.obs_files.specs.Files.{case_in_files, certificate_in}
 use Rattle.obs_files.specs.Limits.{Limits}
 use Rattle.obs_engine.specs.Forms.{AnyReadFailed, CanAnswer, TakesInput}
@@ -21,7 +21,7 @@ pub record AnsweredAt
   pub ends : (told : Told) → told.limits.bytes ≡ most → case_in_files told.limits form told.file ≡ Ok t → certificate_in form told.file ≡ certificate
       → (TakesInput (Some form) → left ≡ Some told.input) → Ends (Some form) told left_now status before now
   pub complete : (told : Told) → told.limits.bytes ≡ most → case_in_files told.limits form told.file ≡ Ok t → certificate_in form told.file ≡ certificate
-      → (TakesInput (Some form) → left ≡ Some told.input) → (TakesInput (Some form) → input_steady) → HasRoom (Some form) told has_room
+      → (TakesInput (Some form) → left ≡ Some told.input) → (TakesInput (Some form) → input_steady) → HasRoomForText (Some form) told has_room
       → (status ≡ NoMemory) ⊎ Answers (Some form) told status before now
   -- which answers it can have, and the cause of each that says that something failed
   pub statuses : CanAnswer (Some form) status
@@ -36,9 +36,9 @@ pub record AnsweredAt
   pub taken : TakesInput (Some form) → (input : List ℕ) → left ≡ Some input → IsTakenFront most input left_now status
 
 -- the same over the members of a source and a sink
-abbrev pub IsAnswered : {S W : Type 0} → (S → Option (List ℕ)) → (S → ℕ) → (S → Type 0) → (W → Option (List ℕ)) → (W → ℕ) → (W → ℕ → Type 0)
+abbrev pub IsCaseAnswered : {S W : Type 0} → (S → Option (List ℕ)) → (S → ℕ) → (S → Type 0) → (W → Option (List ℕ)) → (W → ℕ) → (W → ℕ → Type 0)
     → ℕ → Form → Tables → List ℕ → S → S → W → W → Status → Type 0
-IsAnswered left input_faults steady written faults has_room most form t certificate input_before input_now before now status =
+IsCaseAnswered left input_faults steady written faults has_room most form t certificate input_before input_now before now status =
     AnsweredAt most form t certificate (left input_before) (left input_now) (input_faults input_before) (input_faults input_now) (steady input_before)
     (written before) (written now) (faults before) (faults now) (has_room before) status
 
@@ -50,7 +50,7 @@ pub record RanAt
   -- it ends as is stated
   pub stated : (told : Told) → Tells limits form content left told → Ends form told left_now status before now
   pub complete : (told : Told) → Tells limits form content left told → ((w : ℕ) → IsFileWord form w → files_steady w)
-      → (TakesInput form → input_steady) → HasRoom form told has_room → (status ≡ NoMemory) ⊎ Answers form told status before now
+      → (TakesInput form → input_steady) → HasRoomForText form told has_room → (status ≡ NoMemory) ⊎ Answers form told status before now
   -- which answers it can have, and the cause of each that says that something failed
   pub statuses : CanAnswer form status
   pub read : status ≡ ReadFault → AnyReadFailed limits form content files_before files_now left left_now input_before input_now before now

@@ -4,7 +4,7 @@ ghost use Rattle.obs_text.specs.Limits.{most_file_bytes};
 ghost use Rattle.obs_files.specs.Words.{HasRows};
 ghost use Rattle.obs_engine.specs.Forms.{TakesInput};
 ghost use Rattle.obs_engine.specs.Trials.{AreInService};
-ghost use Rattle.obs_engine.specs.Runs.{IsAnswered, IsRun};
+ghost use Rattle.obs_engine.specs.Runs.{IsCaseAnswered, IsRun};
 ghost use Rattle.obs_engine.specs.Summaries.{IsSummed, IsWholeAnswer, form_summary};
 
 use crate::refused::refuse_files;
@@ -33,7 +33,7 @@ fn answer_case<S: Source, W: Sink>(
     requires few { length certificate.now ≤ most_file_bytes }
     requires bound { most_bytes ≤ most_file_bytes }
     requires inservice { (rows seed : ℕ) → form ≡ Form.Trial rows seed → AreInService case }
-    ensures answered { IsAnswered S.left S.faults S.steady W.written W.faults W.has_room most_bytes form case certificate.now
+    ensures answered { IsCaseAnswered S.left S.faults S.steady W.written W.faults W.has_room most_bytes form case certificate.now
         input.old input.new output.old output.new result.0 }
     ensures input { (TakesInput (Some form) → ⊥) → input.new ≡ input.old }
     ensures summary { IsWholeAnswer result.0 → result.1 ≡ form_summary form case }

@@ -5,8 +5,8 @@ ghost use Rattle.obs_io.specs.Causes.{HasCause};
 ghost use Rattle.obs_text.specs.Limits.{most_file_bytes};
 ghost use Rattle.obs_engine.specs.Sessions.{IsSession};
 
-use crate::answers::verdict;
-use crate::lines::{answer_bytes, answer_line};
+use crate::ask_answers::verdict;
+use crate::line_answers::{answer_bytes, answer_line};
 use obs_assign::Steps;
 use obs_edit::Session;
 use obs_files::Status;

@@ -1,7 +1,7 @@
 //! All that the program does, over any files, input and output.
 #![tactic(auto)]
 
-mod answers;
+mod ask_answers;
 mod asks;
 mod blocks;
 mod claims;
@@ -9,13 +9,13 @@ mod command;
 mod input;
 mod judged;
 pub mod laws;
-mod lines;
+mod line_answers;
 mod outages;
-mod pairs;
+mod pair_reply;
 mod program;
 mod refused;
 mod serving;
-mod stations;
+mod station_reply;
 mod stays;
 mod studies;
 mod summary;

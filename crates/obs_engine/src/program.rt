@@ -1,7 +1,7 @@
 // The top call.
 ghost use Rattle.std.specs.Prelude.{◌≡◌, ◌≢◌, ◌≤◌, ◌⊎◌, ℕ, List, Some, map, string_bytes};
 ghost use Rattle.obs_io.specs.Causes.{Rose};
-ghost use Rattle.obs_engine.specs.Ending.{Answers, Ends, HasRoom};
+ghost use Rattle.obs_engine.specs.Ending.{Answers, Ends, HasRoomForText};
 ghost use Rattle.obs_engine.specs.Forms.{AnyReadFailed, CanAnswer, TakesInput};
 ghost use Rattle.obs_files.specs.Limits.{usual_limits};
 ghost use Rattle.obs_files.specs.Outside.{IsFileWord};
@@ -69,7 +69,7 @@ pub fn run_within<F: Files, S: Source, W: Sink>(
     ensures complete { let form = form_of (map string_bytes words.now) in
         (told : Told) → Tells limits form (F.content files.old) (S.left input.old) told
         → ((w : ℕ) → IsFileWord form w → F.steady files.old w) → (TakesInput form → S.steady input.old)
-        → HasRoom form told (W.has_room output.old)
+        → HasRoomForText form told (W.has_room output.old)
         → (result ≡ Status.NoMemory) ⊎ Answers form told result (W.written output.old) (W.written output.new) }
 
     // Which answers the words can have, and the cause of each that says that something failed. Files are read in the
@@ -115,7 +115,7 @@ pub fn run<F: Files, S: Source, W: Sink>(
     ensures complete { let form = form_of (map string_bytes words.now) in
         (told : Told) → Tells usual_limits form (F.content files.old) (S.left input.old) told
         → ((w : ℕ) → IsFileWord form w → F.steady files.old w) → (TakesInput form → S.steady input.old)
-        → HasRoom form told (W.has_room output.old)
+        → HasRoomForText form told (W.has_room output.old)
         → (result ≡ Status.NoMemory) ⊎ Answers form told result (W.written output.old) (W.written output.new) }
 
     // Which answers the words can have, and the cause of each that says that something failed. Files are read in the

@@ -12,9 +12,9 @@ ghost use Rattle.obs_engine.specs.Replies.{IsReplied, Reply};
 ghost use Rattle.obs_engine.specs.Stays.{Begins, IsNotBegun, line_reply};
 ghost use Rattle.obs_files.specs.Words.{file_words, form_of, offers};
 
-use crate::answers::verdict;
+use crate::ask_answers::verdict;
 use crate::judged::printed_status;
-use crate::lines::answer_content;
+use crate::line_answers::answer_content;
 use crate::refused::{refuse_files, refuse_words};
 use obs_assign::Steps;
 use obs_case::Case;

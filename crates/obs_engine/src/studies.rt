@@ -5,8 +5,8 @@ ghost use Rattle.obs_engine.specs.Studies.{study_reply};
 ghost use Rattle.obs_engine.specs.Summaries.{IsWholeAnswer, summary_of};
 
 use crate::outages::answer_outages;
-use crate::pairs::answer_pairs;
-use crate::stations::answer_stations;
+use crate::pair_reply::answer_pairs;
+use crate::station_reply::answer_stations;
 use obs_assign::Steps;
 use obs_case::Case;
 use obs_files::{Status, Study};

@@ -6,7 +6,7 @@ ghost use Rattle.obs_engine.specs.Summaries.{IsWholeAnswer, task_summary};
 ghost use Rattle.obs_engine.specs.Tasks.{IsTaskDone};
 ghost use Rattle.obs_engine.specs.Trials.{AreInService};
 
-use crate::answers::answer_session;
+use crate::ask_answers::answer_session;
 use crate::input::answer_lines;
 use crate::summary::sum_up;
 use crate::trial::{answer_trial, find_island_count};

@@ -10,7 +10,7 @@ ghost use Rattle.obs_engine.specs.Replies.{IsReplied};
 ghost use Rattle.obs_engine.specs.Trials.{AreInService, dips_of, edits_of, is_dip, is_first_of_island, island_count, trial_reply};
 ghost use Rattle.obs_engine.specs.Turns.{AreSearches, AreTurns, IsTurn};
 
-use crate::answers::verdict;
+use crate::ask_answers::verdict;
 use crate::judged::printed_status;
 use obs_assign::Steps;
 use obs_edit::{Edit, Session};

@@ -7,5 +7,5 @@ pub mod Avoided
 pub mod Naming
 pub mod Mapped
 pub mod Splitting
-pub mod Halved
+pub mod Losing
 pub mod Moving

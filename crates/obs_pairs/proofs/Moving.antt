@@ -1,5 +1,5 @@
 -- One step of a search for classes after the other.
-use Rattle.std.proofs.Common.{◌≡◌, ℕ, ◌<◌, Bool, true, List, [], ◌∷◌, length, refl, sym, ap, ◌∙◌, subst, inl, inr}
+use Rattle.std.proofs.Common.{◌≡◌, ℕ, ◌<◌, Bool, true, List, [], ◌∷◌, length, refl, sym, ap, ◌∙◌, subst, inl, inr, arith}
 use Rattle.std.specs.Prelude.{All as AllOf, not}
 use Rattle.std.proofs.lemmas.Bool.{and_parts}
 use Rattle.obs_graph.specs.Graph.{Graph}
@@ -13,37 +13,43 @@ use Rattle.obs_meter.proofs.Live.{live_low}
 use Rattle.obs_meter.proofs.Lost.{in_range-losing, length-losing, room-losing}
 use Rattle.obs_assign.specs.Assignment.{Assignment, HasRoomOf, pairs}
 use Rattle.obs_exchange.specs.Critical.{critical_at}
+use Rattle.obs_exchange.specs.declared.over.Over.{Over}
 use Rattle.obs_exchange.specs.Found.{Work}
 use Rattle.obs_exchange.specs.Longest.{IsLongest, IsMost}
 use Rattle.obs_exchange.proofs.Lengthening.{room_again, rooms}
 use Rattle.obs_exchange.proofs.Losing.{most-left, most-longest}
-use Rattle.obs_pairs.specs.Moved.{IsMoved, IsReady, MaySearch}
+use Rattle.obs_pairs.specs.Moved.{IsMoved, MayLose, MaySearch}
+use Rattle.obs_pairs.specs.declared.room.Room.{Room}
 use Rattle.obs_pairs.specs.Settled.{redundant_at}
 
 -- other pairs, as many as before
-pub IsMoved-to : (g : Graph) (touches : List Touch) (a b : Assignment) (left again : Meters) (v w : Work) → IsLongest g touches b → again ≡ left → HasRoomOf a b → w.sizes ≡ v.sizes → IsReady g touches a left v
-    → IsMoved g touches a b left again v w
-IsMoved-to g touches a b left again v w longest back room sizes h = record {
-  ready = record {
-    may = record {
-      branches = h.may.branches;
-      in_range = h.may.in_range;
-      few = h.may.few;
-      longest = longest;
-      room = room_again g touches v.sizes w.sizes sizes h.may.room;
-    };
-    left = ap (λ (m : Meters). m.touches) back ∙ h.left;
-  };
-  left = back;
-  same_room = room;
-  same_sizes = sizes;
-}
+pub IsMoved-to : {o : Over} {a b : Assignment} {r q : Room} → IsLongest o.graph.now o.meters.now.touches b → q.left ≡ r.left → HasRoomOf a b → q.exchange.sizes ≡ r.exchange.sizes
+    → length q.reach.items ≡ length r.reach.items → MayLose o a r → IsMoved o a b r q
+IsMoved-to {o = o} {r = r} {q = q} longest back room sizes places h =
+    let long = h.reach in
+    record {
+      may = record {
+        search = record {
+          branches = h.search.branches;
+          in_range = h.search.in_range;
+          few = h.search.few;
+          longest = longest;
+          room = room_again o.graph.now o.meters.now.touches r.exchange.sizes q.exchange.sizes sizes h.search.room;
+        };
+        left = ap (λ (m : Meters). m.touches) back ∙ h.left;
+        reach = omega (arith, places, long);
+      };
+      left = back;
+      same_room = room;
+      same_sizes = sizes;
+      same_reach = places;
+    }
 
 -- the same pairs
-pub IsMoved-same : (g : Graph) (touches : List Touch) (a b : Assignment) (left again : Meters) (v w : Work) → b ≡ a → again ≡ left → w.sizes ≡ v.sizes → IsReady g touches a left v → IsMoved g touches a b left again v w
-IsMoved-same g touches a b left again v w same back sizes h =
-    IsMoved-to g touches a b left again v w (subst (λ (x : Assignment). IsLongest g touches x) (sym same) h.may.longest) back
-    (subst (λ (x : Assignment). HasRoomOf a x) (sym same) (record { meters = refl; vertices = refl; branches = refl })) sizes h
+pub IsMoved-same : {o : Over} {a b : Assignment} {r q : Room} → b ≡ a → q.left ≡ r.left → q.exchange.sizes ≡ r.exchange.sizes → length q.reach.items ≡ length r.reach.items → MayLose o a r → IsMoved o a b r q
+IsMoved-same {o = o} {a = a} same back sizes places h =
+    IsMoved-to (subst (λ (x : Assignment). IsLongest o.graph.now o.meters.now.touches x) (sym same) h.search.longest) back
+    (subst (λ (x : Assignment). HasRoomOf a x) (sym same) (record { meters = refl; vertices = refl; branches = refl })) sizes places h
 
 pub MaySearch-same : (g : Graph) (touches : List Touch) (a b : Assignment) (v w : Work) → b ≡ a → w.sizes ≡ v.sizes → MaySearch g touches a v → MaySearch g touches b w
 MaySearch-same g touches a b v w same sizes h = record {
@@ -55,13 +61,13 @@ MaySearch-same g touches a b v w same sizes h = record {
 }
 
 -- two steps
-pub IsMoved-on : (g : Graph) (touches : List Touch) (a b c : Assignment) (left mid again : Meters) (u v w : Work) → IsMoved g touches a b left mid u v → IsMoved g touches b c mid again v w
-    → IsMoved g touches a c left again u w
-IsMoved-on g touches a b c left mid again u v w h k = record {
-  ready = k.ready;
+pub IsMoved-on : {o : Over} {a b c : Assignment} {r q s : Room} → IsMoved o a b r q → IsMoved o b c q s → IsMoved o a c r s
+IsMoved-on {a = a} {b = b} {c = c} h k = record {
+  may = k.may;
   left = k.left ∙ h.left;
   same_room = rooms a b c h.same_room k.same_room;
   same_sizes = k.same_sizes ∙ h.same_sizes;
+  same_reach = k.same_reach ∙ h.same_reach;
 }
 
 -- what a search over what is left asks, where some are lost

@@ -1,13 +1,14 @@
 //! Meters that are critical together, and the classes into which they fall.
 #![tactic(auto)]
 
-mod half;
 mod lacking;
 pub mod laws;
+mod lost;
 mod memory;
 mod name;
 mod reach;
 mod renew;
+mod room;
 mod rounds;
 mod settle;
 mod shared;

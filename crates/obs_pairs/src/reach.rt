@@ -16,11 +16,11 @@ fn number_of(falls: bool, count: usize, k: usize) -> u32
     }
 }
 
-// The place that is kept for an open meter.
-fn first_of(waiting: bool, place: u32, c: u32) -> u32
-    ensures value { result ≡ (if waiting then place else c) }
+// What is kept for a meter: where it is open the place at which it was reached, else its key.
+fn place_or_key(waiting: bool, place: u32, key: u32) -> u32
+    ensures value { result ≡ (if waiting then place else key) }
 {
-    if waiting { place } else { c }
+    if waiting { place } else { key }
 }
 
 // Whether an open meter stays open: it isn't the same one from which it is reached first and last.
@@ -49,7 +49,7 @@ pub(crate) fn keep_first(waiting: &[bool], places: &[u32], list: &mut [u32])
         ≡ (if has_flag waiting.now k then slice_index places.now k else slice_index list.old k) }
 {
     for k in 0..list.len() {
-        list[k] = first_of(waiting[k], places[k], list[k]);
+        list[k] = place_or_key(waiting[k], places[k], list[k]);
     }
 }
 

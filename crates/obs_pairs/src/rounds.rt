@@ -1,13 +1,13 @@
 // Splits with other pairs each time, as long as they settle enough.
-ghost use Rattle.std.specs.Prelude.{◌≡◌, ◌+◌, ◌≤◌, length};
-ghost use Rattle.obs_pairs.specs.Moved.{IsMoved, IsReady};
+ghost use Rattle.std.specs.Prelude.{◌≡◌, ◌≤◌, length};
+ghost use Rattle.obs_pairs.specs.Moved.{IsMoved, MayLose};
 ghost use Rattle.obs_pairs.specs.Settled.{AreSettled};
 
 use crate::renew::renew;
+use crate::room::Room;
 use crate::split::split;
 use obs_assign::{Assignment, Steps};
-use obs_exchange::{Over, Work};
-use obs_meter::Meters;
+use obs_exchange::Over;
 use std::sync::ledger::Ledger;
 
 // So many settled classes are worth a round, which makes the searches of new pairs and two more; alone a class takes two.
@@ -52,30 +52,26 @@ fn is_worth(waiting: &[bool], list: &[u32], settled: usize) -> bool
 pub(crate) fn split_in_rounds<L: Ledger>(
     over: &Over<'_>,
     a: &mut Assignment,
-    left: &mut Meters,
-    exchange: &mut Work,
-    reach: &mut [u32],
+    room: &mut Room,
     waiting: &mut [bool],
     list: &mut [u32],
     steps: &mut Steps<L>,
 )
-    requires ready { IsReady over.now.graph.now over.now.meters.now.touches a.old left.old exchange.old }
-    requires reach { length reach.old ≡ length over.now.meters.now.touches + length over.now.meters.now.touches }
+    requires may { MayLose over.now a.old room.old }
     requires settled { AreSettled over.now.graph.now.vertices over.now.graph.now.ends
         over.now.meters.now.touches waiting.old list.old 0 }
     ensures settled { AreSettled over.now.graph.now.vertices over.now.graph.now.ends
         over.now.meters.now.touches waiting.new list.new 0 }
-    ensures moved { IsMoved over.now.graph.now over.now.meters.now.touches
-        a.old a.new left.old left.new exchange.old exchange.new }
+    ensures moved { IsMoved over.now a.old a.new room.old room.new }
 {
     let settled = count_settled(waiting, list);
-    split(over, a, exchange, reach, waiting, list, steps);
+    split(over, a, room, waiting, list, steps);
     let mut worth = is_worth(waiting, list, settled);
     for _round in 0..512u32 {
         if worth {
             let settled = count_settled(waiting, list);
-            renew(over, a, left, exchange, waiting, steps);
-            split(over, a, exchange, reach, waiting, list, steps);
+            renew(over, a, room, waiting, steps);
+            split(over, a, room, waiting, list, steps);
             worth = is_worth(waiting, list, settled);
         }
     }

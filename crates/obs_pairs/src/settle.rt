@@ -1,17 +1,17 @@
 // Classes, settled one after the other.
-ghost use Rattle.std.specs.Prelude.{◌≡◌, ◌+◌, ◌&&◌, ◌<◌, ◌≤◌, ◌^◌, if◌then◌else◌, ℕ, not, length, slice_index, take};
+ghost use Rattle.std.specs.Prelude.{◌≡◌, ◌&&◌, ◌<◌, ◌≤◌, ◌^◌, if◌then◌else◌, ℕ, not, length, slice_index, take};
 ghost use Rattle.obs_assign.specs.Assignment.{has_flag};
 ghost use Rattle.obs_exchange.specs.Blank.{AreNumbers};
-ghost use Rattle.obs_pairs.specs.Moved.{IsMoved, IsReady};
+ghost use Rattle.obs_pairs.specs.Moved.{IsMoved, MayLose};
 ghost use Rattle.obs_pairs.specs.Partners.{classes_of};
 ghost use Rattle.obs_pairs.specs.Settled.{AreKeyed, AreSettled};
 
 use crate::lacking::search_without;
 use crate::name::name_all;
+use crate::room::Room;
 use crate::rounds::split_in_rounds;
 use obs_assign::{Assignment, Steps};
-use obs_exchange::{Over, Work, close};
-use obs_meter::Meters;
+use obs_exchange::{Over, close};
 use std::sync::ledger::Ledger;
 
 // The marked meters wait for their class, and each meter is written as its own.
@@ -56,23 +56,21 @@ fn settle(marks: &[bool], m: u32, waiting: &mut [bool], list: &mut [u32])
 fn settle_all<L: Ledger>(
     over: &Over<'_>,
     a: &mut Assignment,
-    left: &mut Meters,
-    exchange: &mut Work,
+    room: &mut Room,
     waiting: &mut [bool],
     list: &mut [u32],
     steps: &mut Steps<L>,
 )
-    requires ready { IsReady over.now.graph.now over.now.meters.now.touches a.old left.old exchange.old }
+    requires may { MayLose over.now a.old room.old }
     requires settled { AreSettled over.now.graph.now.vertices over.now.graph.now.ends
         over.now.meters.now.touches waiting.old list.old 0 }
     ensures keyed { AreKeyed over.now.graph.now.vertices over.now.graph.now.ends over.now.meters.now.touches list.new }
-    ensures moved { IsMoved over.now.graph.now over.now.meters.now.touches
-        a.old a.new left.old left.new exchange.old exchange.new }
+    ensures moved { IsMoved over.now a.old a.new room.old room.new }
 {
     for m in 0..over.meters.count() {
         if waiting[m as usize] {
-            search_without(over, a, m, left, exchange, steps);
-            settle(exchange.reached(), m, waiting, list);
+            search_without(over, a, m, room, steps);
+            settle(room.exchange.reached(), m, waiting, list);
         }
     }
 }
@@ -81,26 +79,22 @@ fn settle_all<L: Ledger>(
 fn find_all<L: Ledger>(
     over: &Over<'_>,
     a: &mut Assignment,
-    left: &mut Meters,
-    exchange: &mut Work,
-    reach: &mut [u32],
+    room: &mut Room,
     waiting: &mut [bool],
     list: &mut [u32],
     steps: &mut Steps<L>,
 )
-    requires ready { IsReady over.now.graph.now over.now.meters.now.touches a.old left.old exchange.old }
+    requires may { MayLose over.now a.old room.old }
     requires waiting { length waiting.old ≡ length over.now.meters.now.touches }
     requires list { length list.old ≡ length over.now.meters.now.touches }
-    requires reach { length reach.old ≡ length over.now.meters.now.touches + length over.now.meters.now.touches }
     ensures classes { list.new
         ≡ classes_of over.now.graph.now.vertices over.now.graph.now.ends over.now.meters.now.touches }
-    ensures moved { IsMoved over.now.graph.now over.now.meters.now.touches
-        a.old a.new left.old left.new exchange.old exchange.new }
+    ensures moved { IsMoved over.now a.old a.new room.old room.new }
 {
-    close(over.graph, over.meters, a, exchange, steps);
-    begin(exchange.reached(), waiting, list);
-    split_in_rounds(over, a, left, exchange, reach, waiting, list, steps);
-    settle_all(over, a, left, exchange, waiting, list, steps);
+    close(over.graph, over.meters, a, &mut room.exchange, steps);
+    begin(room.exchange.reached(), waiting, list);
+    split_in_rounds(over, a, room, waiting, list, steps);
+    settle_all(over, a, room, waiting, list, steps);
     name_all(over.graph, over.meters, list);
 }
 
@@ -108,31 +102,18 @@ fn find_all<L: Ledger>(
 pub(crate) fn list_classes<L: Ledger>(
     over: &Over<'_>,
     a: &mut Assignment,
-    left: &mut Meters,
-    exchange: &mut Work,
-    reach: &mut [u32],
+    room: &mut Room,
     waiting: &mut [bool],
     list: &mut [u32],
     steps: &mut Steps<L>,
 )
-    requires ready { IsReady over.now.graph.now over.now.meters.now.touches a.old left.old exchange.old }
+    requires may { MayLose over.now a.old room.old }
     requires waiting { length over.now.meters.now.touches ≤ length waiting.old }
     requires list { length over.now.meters.now.touches ≤ length list.old }
-    requires reach { length over.now.meters.now.touches + length over.now.meters.now.touches ≤ length reach.old }
     ensures classes { take (length over.now.meters.now.touches) list.new
         ≡ classes_of over.now.graph.now.vertices over.now.graph.now.ends over.now.meters.now.touches }
-    ensures moved { IsMoved over.now.graph.now over.now.meters.now.touches
-        a.old a.new left.old left.new exchange.old exchange.new }
+    ensures moved { IsMoved over.now a.old a.new room.old room.new }
 {
     let n = over.meters.count() as usize;
-    find_all(
-        over,
-        a,
-        left,
-        exchange,
-        &mut reach[..n + n],
-        &mut waiting[..n],
-        &mut list[..n],
-        steps,
-    );
+    find_all(over, a, room, &mut waiting[..n], &mut list[..n], steps);
 }

@@ -1,11 +1,12 @@
 // The classes of all meters without a pair, settled at once.
-ghost use Rattle.std.specs.Prelude.{◌≡◌, ◌+◌, length};
+ghost use Rattle.std.specs.Prelude.{◌≡◌, ◌+◌, ◌≤◌, length};
 ghost use Rattle.obs_exchange.specs.Ordered.{AreReachedInOrder};
-ghost use Rattle.obs_pairs.specs.Moved.{MaySearch};
+ghost use Rattle.obs_pairs.specs.Moved.{IsMoved, MayLose, MaySearch};
 ghost use Rattle.obs_pairs.specs.Settled.{AreSettled};
 ghost use Rattle.obs_pairs.specs.Split.{AreInOrder};
 
 use crate::reach::{keep_first, settle_same, write_order};
+use crate::room::Room;
 use obs_assign::{Assignment, Steps};
 use obs_exchange::{Over, Work, close_in_order};
 use std::sync::ledger::Ledger;
@@ -32,9 +33,8 @@ fn reach_in_order<L: Ledger>(
     close_in_order(over.graph, over.meters, a, order, places, exchange, steps);
 }
 
-/// Settles the classes of the meters without a pair, by two searches: one from the first of them to the last, and one from
-/// the last to the first. What is first reached from the same one both times is reached from it alone, and has its class.
-pub(crate) fn split<L: Ledger>(
+// As `split`, with the order and the places in one array.
+fn split_within<L: Ledger>(
     over: &Over<'_>,
     a: &Assignment,
     exchange: &mut Work,
@@ -44,16 +44,45 @@ pub(crate) fn split<L: Ledger>(
     steps: &mut Steps<L>,
 )
     requires may { MaySearch over.now.graph.now over.now.meters.now.touches a.now exchange.old }
-    requires reach { length reach.old ≡ length over.now.meters.now.touches + length over.now.meters.now.touches }
+    requires reach { length over.now.meters.now.touches + length over.now.meters.now.touches ≤ length reach.old }
     requires settled { AreSettled over.now.graph.now.vertices over.now.graph.now.ends
         over.now.meters.now.touches waiting.old list.old 0 }
     ensures settled { AreSettled over.now.graph.now.vertices over.now.graph.now.ends
         over.now.meters.now.touches waiting.new list.new 0 }
     ensures same_sizes { exchange.new.sizes ≡ exchange.old.sizes }
 {
-    let (order, places) = reach.split_at_mut(over.meters.count() as usize);
+    let count = over.meters.count() as usize;
+    let (order, places) = reach[..count + count].split_at_mut(count);
     reach_in_order(over, a, exchange, false, order, places, steps);
     keep_first(waiting, places, list);
     reach_in_order(over, a, exchange, true, order, places, steps);
     settle_same(list, places, waiting);
+}
+
+/// Settles the classes of the meters without a pair, by two searches: one from the first of them to the last, and one from
+/// the last to the first. What is first reached from the same one both times is reached from it alone, and has its class.
+pub(crate) fn split<L: Ledger>(
+    over: &Over<'_>,
+    a: &Assignment,
+    room: &mut Room,
+    waiting: &mut [bool],
+    list: &mut [u32],
+    steps: &mut Steps<L>,
+)
+    requires may { MayLose over.now a.now room.old }
+    requires settled { AreSettled over.now.graph.now.vertices over.now.graph.now.ends
+        over.now.meters.now.touches waiting.old list.old 0 }
+    ensures settled { AreSettled over.now.graph.now.vertices over.now.graph.now.ends
+        over.now.meters.now.touches waiting.new list.new 0 }
+    ensures moved { IsMoved over.now a.now a.now room.old room.new }
+{
+    split_within(
+        over,
+        a,
+        &mut room.exchange,
+        &mut room.reach,
+        waiting,
+        list,
+        steps,
+    );
 }

@@ -8,10 +8,11 @@ ghost use Rattle.obs_pairs.specs.PairWork.{has_another};
 ghost use Rattle.obs_pairs.specs.Partners.{classes_of};
 
 use crate::memory::NoMemory;
+use crate::room::Room;
 use crate::settle::list_classes;
 use crate::shared::mark_shared;
 use obs_assign::{Assignment, Steps};
-use obs_exchange::{Over, Work};
+use obs_exchange::Over;
 use obs_graph::Graph;
 use obs_meter::Meters;
 use std::alloc::Global;
@@ -25,14 +26,9 @@ pub struct PairWork {
     // the class of each meter, and whether it is still to be found
     list: Vec<u32>,
     waiting: Vec<bool>,
-    // an order of the meters, and behind it the place in it at which each is reached
-    reach: Vec<u32>,
     // whether another has the same class
     shared: Vec<bool>,
-    // the meters, where one of them may be lost
-    left: Meters,
-    // what finds pairs
-    exchange: Work,
+    room: Room,
 }
 
 impl Model for PairWork {
@@ -41,16 +37,16 @@ impl Model for PairWork {
 
     ghost Value = { PairWork };
 
-    ghost view = { λ w. record { list = take w.count w.list.items; sizes = w.exchange.sizes } };
+    ghost view = { λ w. record { list = take w.count w.list.items; sizes = w.room.exchange.sizes } };
 
     ghost invariant = { λ w. record {
       found : w.count ≤ length w.list.items;
-      places : length w.list.items ≡ w.exchange.sizes.meters;
-      flags : length w.waiting.items ≡ w.exchange.sizes.meters;
-      reach : length w.reach.items ≡ w.exchange.sizes.meters + w.exchange.sizes.meters;
-      marks : length w.shared.items ≡ w.exchange.sizes.meters;
+      places : length w.list.items ≡ w.room.exchange.sizes.meters;
+      flags : length w.waiting.items ≡ w.room.exchange.sizes.meters;
+      marks : length w.shared.items ≡ w.room.exchange.sizes.meters;
       shared : AreShared (take w.count w.list.items) w.shared.items;
-      left : w.left.most ≡ w.exchange.sizes.meters;
+      left : w.room.left.most ≡ w.room.exchange.sizes.meters;
+      reach : length w.room.reach.items ≡ w.room.exchange.sizes.meters + w.room.exchange.sizes.meters;
     } };
 }
 
@@ -61,10 +57,8 @@ impl Drop for PairWork {
             count: _,
             list: _,
             waiting: _,
-            reach: _,
             shared: _,
-            left: _,
-            exchange: _,
+            room: _,
         } = self;
     }
 }
@@ -87,10 +81,8 @@ impl PairWork {
             count: 0,
             list: vec![in alloc; 0; most]?,
             waiting: vec![in alloc; false; most]?,
-            reach: vec![in alloc; 0; most + most]?,
             shared: vec![in alloc; false; most]?,
-            left: Meters::make(alloc, most_meters)?,
-            exchange: Work::make(alloc, most_meters, most_branches, most_vertices)?,
+            room: Room::make(alloc, most_meters, most_branches, most_vertices)?,
         })
     }
 
@@ -133,13 +125,11 @@ pub fn find_classes<L: Ledger>(
         graph: g,
         meters: ms,
     };
-    work.left.refill(ms.touches());
+    work.room.left.refill(ms.touches());
     list_classes(
         &over,
         a,
-        &mut work.left,
-        &mut work.exchange,
-        &mut work.reach,
+        &mut work.room,
         &mut work.waiting,
         &mut work.list,
         steps,

@@ -2,12 +2,11 @@
 use Rattle.std.proofs.Common.{◌≡◌, ◌≢◌, Bool, true, false, ℕ, zero, suc, ◌+◌, ◌<◌, Option, Some, None, List, length, get_or, set, refl, sym, ap, ◌∙◌, inl, inr, arith}
 use Rattle.std.proofs.lemmas.Bool.{cases_eq}
 use Rattle.std.proofs.lemmas.List.{get_or-set_other, get_or-set_same}
-use Rattle.obs_graph.specs.Graph.{Graph}
 use Rattle.obs_graph.proofs.FlatParts.{sum_below-agree}
 use Rattle.obs_graph.specs.Positions.{sum_below}
 use Rattle.obs_matroid.proofs.Lists.{clash}
 use Rattle.obs_switch.specs.Groups.{items_with}
-use Rattle.obs_meter.specs.declared.Touch.{Touch}
+use Rattle.obs_station.specs.declared.grouping.Grouping.{Grouping}
 use Rattle.obs_station.specs.Held.{Stations, has_any}
 use Rattle.obs_station.specs.Rounds.{AreRanked, allowance, allowed, rank_left}
 
@@ -39,29 +38,7 @@ module _ (s : Stations) where
       let was = ap (allowed (lost c)) none in
       omega (arith, put, now, was)
 
-  -- and it is right
-  pub ranked-put : (g : Graph) (touches : List Touch) (ranks : List (Option ℕ)) (c r : ℕ) → c < length ranks → AreRanked g touches s ranks → has_any s c ≡ true → r ≡ rank_left g touches s c
-      → AreRanked g touches s (set ranks c (Some r))
-  ranked-put g touches ranks c r room known any is k q e = elim (cases_eq k c) [
-    | inr n ↦ known k q (sym (get_or-set_other ranks c k (Some r) None n) ∙ e)
-    | inl o ↦
-        let same : Some r ≡ Some q = sym (get_or-set_same ranks c (Some r) None room) ∙ (ap (λ (x : ℕ). get_or (set ranks c (Some r)) x None) (sym o) ∙ e) in
-        let value : r ≡ q = ap (λ (x : Option ℕ). taken x) same in
-        (ap (has_any s) o ∙ any, sym value ∙ (is ∙ ap (rank_left g touches s) (sym o)))
-  ]
-    where
-      taken : Option ℕ → ℕ
-      taken None = 0
-      taken (Some x) = x
-
-  -- where none is known
-  pub ranked-none : (g : Graph) (touches : List Touch) (ranks : List (Option ℕ)) → ((c : ℕ) → get_or ranks c None ≡ None) → AreRanked g touches s ranks
-  ranked-none g touches ranks none c r e = clash (ap (λ (x : Option ℕ). is_none x) (none c)) (ap (λ (x : Option ℕ). is_none x) e)
-    where
-      is_none : Option ℕ → Bool
-      is_none None = true
-      is_none (Some x) = false
-
+  -- where none is known there are none
   pub allowance-none : (ranks : List (Option ℕ)) (n : ℕ) → ((c : ℕ) → get_or ranks c None ≡ None) → allowance s ranks n ≡ 0
   allowance-none ranks zero none = refl
   allowance-none ranks (suc n) none =
@@ -71,3 +48,25 @@ module _ (s : Stations) where
 
   pub allowance-next : (ranks : List (Option ℕ)) (c : ℕ) → allowance s ranks (c + 1) ≡ allowance s ranks c + allowed (length (items_with s.keys c)) (get_or ranks c None)
   allowance-next ranks c = let on : c + 1 ≡ suc c = omega arith in rw on refl
+
+-- and it is right
+pub ranked-put : (y : Grouping) (ranks : List (Option ℕ)) (c r : ℕ) → c < length ranks → AreRanked y ranks → has_any y.stations.now c ≡ true → r ≡ rank_left y c → AreRanked y (set ranks c (Some r))
+ranked-put y ranks c r room known any is k q e = elim (cases_eq k c) [
+  | inr n ↦ known k q (sym (get_or-set_other ranks c k (Some r) None n) ∙ e)
+  | inl o ↦
+      let same : Some r ≡ Some q = sym (get_or-set_same ranks c (Some r) None room) ∙ (ap (λ (x : ℕ). get_or (set ranks c (Some r)) x None) (sym o) ∙ e) in
+      let value : r ≡ q = ap (λ (x : Option ℕ). taken x) same in
+      (ap (has_any y.stations.now) o ∙ any, sym value ∙ (is ∙ ap (rank_left y) (sym o)))
+]
+  where
+    taken : Option ℕ → ℕ
+    taken None = 0
+    taken (Some x) = x
+
+-- where none is known
+pub ranked-none : (y : Grouping) (ranks : List (Option ℕ)) → ((c : ℕ) → get_or ranks c None ≡ None) → AreRanked y ranks
+ranked-none y ranks none c r e = clash (ap (λ (x : Option ℕ). is_none x) (none c)) (ap (λ (x : Option ℕ). is_none x) e)
+  where
+    is_none : Option ℕ → Bool
+    is_none None = true
+    is_none (Some x) = false

@@ -22,7 +22,7 @@ use Rattle.obs_network.specs.Network.{case_branches, case_meters, network_of}
 use Rattle.obs_network.specs.Observable.{case_live_meters, rank_of_meters}
 use Rattle.obs_network.proofs.OfCase.{length-case_meters}
 use Rattle.obs_station.specs.declared.losses.Loss.{Loss}
-use Rattle.obs_station.specs.Held.{Stations, has_any, key_of, keys_of, loss_in, losses_in}
+use Rattle.obs_station.specs.Held.{Stations, has_any, station_key, station_keys, loss_in, losses_in}
 use Rattle.obs_station.specs.Stations.{case_station_count, case_stations, has_live, is_at, loss_of, loss_stations, losses_of, meter_stations, other_meters, station_meters, station_node}
 
 -- a filter after another is one of both tests
@@ -48,11 +48,11 @@ one_key count c home true l = refl
 one_key count c home false l = ne_eqb count c (λ e. absurd (omega (arith, e, l)))
 
 -- keys that are right at each meter
-pub keys-are : (t : Tables) (keys : List ℕ) → length keys ≡ length t.meters → ((m : ℕ) → m < length keys → get_or keys m 0 ≡ key_of t m) → keys ≡ keys_of t
+pub keys-are : (t : Tables) (keys : List ℕ) → length keys ≡ length t.meters → ((m : ℕ) → m < length keys → get_or keys m 0 ≡ station_key t m) → keys ≡ station_keys t
 keys-are t keys len at =
     let n = length t.meters in
-    same_lists keys (keys_of t) (len ∙ sym (length-map-range_with_len (key_of t) 0 n)) (λ k d l.
-    numbered keys k d l ∙ (at k l ∙ sym (get_or-map-range_with_len (key_of t) 0 n k k d (omega (arith, len, l)) (omega arith))))
+    same_lists keys (station_keys t) (len ∙ sym (length-map-range_with_len (station_key t) 0 n)) (λ k d l.
+    numbered keys k d l ∙ (at k l ∙ sym (get_or-map-range_with_len (station_key t) 0 n k k d (omega (arith, len, l)) (omega arith))))
   where
     numbered : (xs : List ℕ) (k d : ℕ) → k < length xs → get_or xs k d ≡ get_or xs k 0
     numbered [] k d l = absurd (omega (arith, l))
@@ -81,10 +81,10 @@ module _ (t : Tables) where
   live = is_live (case_branches t) (case_meters t)
 
   -- the meters with the key of a station are its live meters
-  pub meters-with : (c : ℕ) → c < case_station_count t → items_with (keys_of t) c ≡ station_meters t c
+  pub meters-with : (c : ℕ) → c < case_station_count t → items_with (station_keys t) c ≡ station_meters t c
   meters-with c l =
-      items-filtered (key_of t) c (length t.meters) 0
-      ∙ (filter_same (λ m. key_of t m == c) (λ m. live m && is_at t c m) (range_with_len 0 (length t.meters)) (λ m i. one_key (case_station_count t) c (slice_index (meter_stations t) m) (live m) l)
+      items-filtered (station_key t) c (length t.meters) 0
+      ∙ (filter_same (λ m. station_key t m == c) (λ m. live m && is_at t c m) (range_with_len 0 (length t.meters)) (λ m i. one_key (case_station_count t) c (slice_index (meter_stations t) m) (live m) l)
       ∙ (sym (both_filters live (is_at t c) (range_with_len 0 (length t.meters)))
       ∙ ap (λ (n : ℕ). filter (is_at t c) (filter live (range_with_len 0 n))) (sym (length-case_meters t))))
 
@@ -103,7 +103,7 @@ module _ (t : Tables) where
       filter_same (λ m. not (is_listed (station_meters t c) m)) (λ m. not (is_at t c m)) (case_live_meters t) (λ m i. ap not (listed-filter (is_at t c) (case_live_meters t) m i))
 
   -- stations that are those of the case
-  module _ (s : Stations) (buses : s.buses.buses ≡ case_stations t) (keys : s.keys ≡ keys_of t) where
+  module _ (s : Stations) (buses : s.buses.buses ≡ case_stations t) (keys : s.keys ≡ station_keys t) where
     listed : (c : ℕ) → c < case_station_count t → items_with s.keys c ≡ station_meters t c
     listed c l = ap (λ (k : List ℕ). items_with k c) keys ∙ meters-with c l
 

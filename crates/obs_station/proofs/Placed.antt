@@ -3,7 +3,6 @@ use Rattle.std.proofs.Common.{◌≡◌, ℕ, zero, suc, ◌+◌, ◌-◌, ◌<�
 use Rattle.std.specs.Prelude.{filter, nat_lt}
 use Rattle.std.proofs.lemmas.Bool.{cases_eq, cases_lt, le-ltb, or_left, or_right}
 use Rattle.obs_graph.specs.Graph.{Graph}
-use Rattle.obs_graph.specs.Positions.{AreBranches}
 use Rattle.obs_matroid.specs.Lists.{In}
 use Rattle.obs_matroid.proofs.Lists.{clash, filter_same, length-split}
 use Rattle.obs_switch.specs.Groups.{group_start, items_with}
@@ -13,11 +12,10 @@ use Rattle.obs_meter.proofs.Touched.{any-from_In}
 use Rattle.obs_assign.specs.Assignment.{Assignment, branch_at, pairs}
 use Rattle.obs_exchange.specs.declared.Sources.TheVariants.{All}
 use Rattle.obs_exchange.specs.Closed.{IsLeastClosedAt, IsSource}
-use Rattle.obs_exchange.specs.Longest.{IsLongest}
 use Rattle.obs_exchange.specs.Ordered.{reached_before}
-use Rattle.obs_station.specs.Going.{AreGrouped}
+use Rattle.obs_station.specs.declared.grouping.Grouping.{Grouping}
 use Rattle.obs_station.specs.Held.{Stations}
-use Rattle.obs_station.specs.Rounds.{AreReached, IsByStation, IsSpared, is_bare, lacks, rank_left}
+use Rattle.obs_station.specs.Rounds.{AreGrouped, HasLongest, AreReached, IsByStation, CostNothing, is_bare, lacks, rank_left}
 use Rattle.obs_station.proofs.Falling.{few_settled, own_settled}
 use Rattle.obs_station.proofs.Members.{member-at, members-distinct, members-live}
 use Rattle.obs_station.proofs.Ordering.{starts_rise}
@@ -49,10 +47,24 @@ behind [] m d l = refl
 behind (x ∷ xs) zero d l = absurd (omega (arith, l))
 behind (x ∷ xs) (suc m) d l = behind xs m d (omega (arith, l))
 
-module _ (g : Graph) (touches : List Touch) (ok : AreBranches g.vertices g.ends) (a : Assignment) (h : IsLongest g touches a) (s : Stations) (grouped : AreGrouped g touches s)
-    (firsts lasts : List ℕ) (both : Bool) (r : AreReached g touches a s firsts lasts both) (some : length firsts ≡ length touches) (other : length lasts ≡ length touches) where
+module _ (y : Grouping) (a : Assignment) (paired : HasLongest y a) (firsts lasts : List ℕ) (both : Bool) (r : AreReached y a firsts lasts both) where
+  abbrev g : Graph
+  g = y.graph.now
+
+  abbrev touches : List Touch
+  touches = y.meters.now.touches
+
+  abbrev s : Stations
+  s = y.stations.now
+
   abbrev keys : List ℕ
   keys = s.keys
+
+  abbrev grouped : AreGrouped y
+  grouped = paired.grouped
+
+  some : length firsts ≡ length touches
+  some = r.up.2.meters
 
   abbrev start : ℕ → ℕ
   start c = group_start keys c
@@ -127,7 +139,7 @@ module _ (g : Graph) (touches : List Touch) (ok : AreBranches g.vertices g.ends)
     member_low m i = live_low g.ends touches m (members-live g touches s c grouped.stationed station m i)
 
     -- what the loss costs where it shows
-    pub spared_rank : (k : ℕ) → IsSpared s a firsts lasts both c k → rank_left g touches s c + length list ≡ length (pairs a) + k
+    pub spared_rank : (k : ℕ) → CostNothing s a firsts lasts both c k → rank_left y c + length list ≡ length (pairs a) + k
     spared_rank k shown = elim shown.shown [
       | inl few ↦
           let same : filter (reached_before firsts all) list ≡ filter (λ m. nat_lt (get_or firsts m 0) all) list =
@@ -137,7 +149,7 @@ module _ (g : Graph) (touches : List Touch) (ok : AreBranches g.vertices g.ends)
           let one = few.0 in
           let is = few.1 in
           let fall =
-          few_settled g touches ok a h (reached_before firsts all) least list (members-distinct keys c) (members-live g touches s c grouped.stationed station) (omega (arith, count, one, is)) in
+          few_settled g touches grouped.branches a paired.longest (reached_before firsts all) least list (members-distinct keys c) (members-live g touches s c grouped.stationed station) (omega (arith, count, one, is)) in
           omega (arith, fall, count, is)
       | inr alone ↦
           let is = alone.1 in
@@ -147,7 +159,7 @@ module _ (g : Graph) (touches : List Touch) (ok : AreBranches g.vertices g.ends)
           let size_down = down.2.all in
           let size_back = down.3.same in
           let fall =
-          own_settled g touches ok a h list (members-distinct keys c) (reached_before firsts (start c)) (reached_before lasts (all - start (suc c)))
+          own_settled g touches grouped.branches a paired.longest list (members-distinct keys c) (reached_before firsts (start c)) (reached_before lasts (all - start (suc c)))
           (r.up.2.fronts (start c) (omega (arith, before, size))).closed (down.4.fronts (all - start (suc c)) (omega (arith, size_down, size_back))).closed
           (λ m source other_one.
           elim (cases_lt (get_or keys m 0) c) [
@@ -164,7 +176,7 @@ module _ (g : Graph) (touches : List Touch) (ok : AreBranches g.vertices g.ends)
           subst (λ x. (start c ≤ get_or firsts x 0) × (all - start (suc c) ≤ get_or lasts x 0)) at.2 own in
           let l = member_low m i in
           neither (reached_before firsts (start c) m) (reached_before lasts (all - start (suc c)) m) (beyond firsts (start c) m (omega (arith, l, some)) far.0)
-          (beyond lasts (all - start (suc c)) m (omega (arith, l, other)) far.1)) in
+          (beyond lasts (all - start (suc c)) m (omega (arith, l, r.last_meters)) far.1)) in
           omega (arith, fall, is)
     ]
       where
@@ -172,7 +184,7 @@ module _ (g : Graph) (touches : List Touch) (ok : AreBranches g.vertices g.ends)
         neither p q e f = rw (e, f) refl
 
 -- what costs nothing is of the station
-pub spared_few : (s : Stations) (a : Assignment) (firsts lasts : List ℕ) (both : Bool) (c k : ℕ) → IsSpared s a firsts lasts both c k → k ≤ length (items_with s.keys c)
+pub spared_few : (s : Stations) (a : Assignment) (firsts lasts : List ℕ) (both : Bool) (c k : ℕ) → CostNothing s a firsts lasts both c k → k ≤ length (items_with s.keys c)
 spared_few s a firsts lasts both c k h =
     elim h.shown [
       | inl few ↦ let split = length-split (λ m. nat_lt (get_or firsts m 0) (group_start s.keys s.buses.count)) (items_with s.keys c) in let is = few.1 in omega (arith, split, is)
@@ -180,9 +192,10 @@ spared_few s a firsts lasts both c k h =
     ]
 
 -- where no live meter lacks a pair, none is reached from any place
-pub reached_none : (g : Graph) (touches : List Touch) (a : Assignment) (s : Stations) (order firsts lasts : List ℕ) → IsByStation s.keys s.buses.count order → length firsts ≡ length touches
-    → ((m : ℕ) → m < length firsts → get_or firsts m 0 ≡ length order) → ((m : ℕ) → IsSource g.ends touches All a m → ⊥) → AreReached g touches a s firsts lasts false
-reached_none g touches a s order firsts lasts by some places none = record {
+pub reached_none : {y : Grouping} {a : Assignment} {order firsts lasts : List ℕ} → IsByStation y.stations.now.keys y.stations.now.buses.count order → length firsts ≡ length y.meters.now.touches
+    → length lasts ≡ length firsts → ((m : ℕ) → m < length firsts → get_or firsts m 0 ≡ length order) → ((m : ℕ) → IsSource y.graph.now.ends y.meters.now.touches All a m → ⊥)
+    → AreReached y a firsts lasts false
+reached_none {order = order} {firsts = firsts} by some same places none = record {
   up = (
     order,
     by,
@@ -197,6 +210,7 @@ reached_none g touches a s order firsts lasts by some places none = record {
     },
   );
   down = λ t. clash t refl;
+  last_meters = same ∙ some;
 }
   where
     out : (k : ℕ) → k ≤ length order → (m : ℕ) → reached_before firsts k m ≡ false

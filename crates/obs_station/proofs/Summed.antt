@@ -14,7 +14,7 @@ use Rattle.obs_switch.proofs.Grouping.{group_start-le, has_key}
 use Rattle.obs_network.specs.Network.{case_branches, case_meters}
 use Rattle.obs_network.specs.Observable.{case_live_meters}
 use Rattle.obs_network.proofs.OfCase.{length-case_meters}
-use Rattle.obs_station.specs.Held.{key_of, keys_of}
+use Rattle.obs_station.specs.Held.{station_key, station_keys}
 use Rattle.obs_station.specs.Stations.{case_station_count}
 
 -- one key has the item b, or none below n
@@ -39,13 +39,13 @@ few_keys f live k h (x ∷ xs) =
     ]
 
 -- the live meters of all stations
-pub few_live : (t : Tables) → group_start (keys_of t) (case_station_count t) ≤ length (case_live_meters t)
+pub few_live : (t : Tables) → group_start (station_keys t) (case_station_count t) ≤ length (case_live_meters t)
 few_live t =
-    let few = few_keys (key_of t) (is_live (case_branches t) (case_meters t)) (case_station_count t) idle (range_with_len 0 (length t.meters)) in
+    let few = few_keys (station_key t) (is_live (case_branches t) (case_meters t)) (case_station_count t) idle (range_with_len 0 (length t.meters)) in
     let same = ap (λ (n : ℕ). length (filter (is_live (case_branches t) (case_meters t)) (range_with_len 0 n))) (length-case_meters t) in
     omega (arith, few, same)
   where
-    idle : (m : ℕ) → is_live (case_branches t) (case_meters t) m ≡ false → case_station_count t ≤ key_of t m
+    idle : (m : ℕ) → is_live (case_branches t) (case_meters t) m ≡ false → case_station_count t ≤ station_key t m
     idle m f = rw f (omega arith)
 
 -- the items of one key are below their number, and no more

@@ -15,12 +15,12 @@ use Rattle.obs_station.specs.declared.losses.Loss.{Loss}
 use Rattle.obs_station.specs.Stations.{case_station_count, meter_stations}
 
 -- the key of a meter: its station where it is live, else the number of stations
-abbrev pub key_of : Tables → ℕ → ℕ
-key_of t m = if is_live (case_branches t) (case_meters t) m then slice_index (meter_stations t) m else case_station_count t
+abbrev pub station_key : Tables → ℕ → ℕ
+station_key t m = if is_live (case_branches t) (case_meters t) m then slice_index (meter_stations t) m else case_station_count t
 
 -- the key of each meter
-abbrev pub keys_of : Tables → List ℕ
-keys_of t = map (key_of t) (range_with_len 0 (length t.meters))
+abbrev pub station_keys : Tables → List ℕ
+station_keys t = map (station_key t) (range_with_len 0 (length t.meters))
 
 -- stations: the nodes by station, the key of each meter, and for how many switches and meters there is room
 pub record Stations : Type 0 where

@@ -6,5 +6,5 @@ use Rattle.obs_station.specs.Stations.{StationWork}
 use Rattle.obs_station.specs.contracts.losses.StationWork.{the_row}
 
 -- what is lent to be read is given back as a value of which this holds
-abbrev pub GivenBack : MutBor StationWork → (StationWork → Type 0) → Fml
-GivenBack w P = follows_so the_row the_row w.ghost_name none (λ _ _. ⊤) P
+abbrev pub WorkGivenBack : MutBor StationWork → (StationWork → Type 0) → Fml
+WorkGivenBack w P = follows_so the_row the_row w.ghost_name none (λ _ _. ⊤) P

@@ -1,16 +1,18 @@
 -- What is known of the stations and of what reaches the meters, while stations are settled many at once.
 use Rattle.std.specs.Prelude.{◌≡◌, ◌≢◌, ℕ, suc, ◌+◌, ◌-◌, ◌<◌, ◌≤◌, ◌⊎◌, Bool, true, false, filter, nat_lt, Option, Some, None, List, length, slice_index, slice_index_or}
 use Rattle.obs_graph.specs.declared.Ends.{Ends}
-use Rattle.obs_graph.specs.Graph.{Graph}
-use Rattle.obs_graph.specs.Positions.{sum_below}
+use Rattle.obs_graph.specs.Positions.{AreBranches, sum_below}
+use Rattle.obs_switch.specs.Buses.{members_of}
 use Rattle.obs_switch.specs.Groups.{group_start, items_with}
 use Rattle.obs_meter.specs.declared.Touch.{Touch}
 use Rattle.obs_meter.specs.Assignments.{rho_at}
 use Rattle.obs_meter.specs.Lost.{is_listed, left_of}
-use Rattle.obs_meter.specs.Touches.{live_items}
+use Rattle.obs_meter.specs.Touches.{AreInRange, live_items}
 use Rattle.obs_assign.specs.Assignment.{Assignment, branch_at}
+use Rattle.obs_exchange.specs.Longest.{IsLongest}
 use Rattle.obs_exchange.specs.Ordered.{AreReachedInOrder}
-use Rattle.obs_station.specs.Held.{Stations, has_any}
+use Rattle.obs_station.specs.declared.grouping.Grouping.{Grouping}
+use Rattle.obs_station.specs.Held.{AreStationed, Stations, has_any}
 
 -- of each meter the first place and the last place from which it is reached, a list of meters, and of each station the rank without
 -- its meters, where that is known
@@ -41,10 +43,25 @@ abbrev pub AreReachedDown : List (Option Ends) → List Touch → Assignment →
 AreReachedDown ends touches a keys count lasts =
     (order : List ℕ) × (list : List ℕ) × IsByStation keys count order × IsBackward order list × AreReachedInOrder ends touches a list lasts
 
+-- the branches and what the meters touch are the graph's, each station has a node, and each live meter, and no other, has the key of a
+-- station
+pub record AreGrouped (y : Grouping) : Type 0 where
+  pub branches : AreBranches y.graph.now.vertices y.graph.now.ends
+  pub in_range : AreInRange y.graph.now y.meters.now.touches
+  pub keys : length y.stations.now.keys ≡ length y.meters.now.touches
+  pub some : (c : ℕ) → c < y.stations.now.buses.count → 0 < length (members_of y.stations.now.buses.buses c)
+  pub stationed : AreStationed y.graph.now y.meters.now.touches y.stations.now
+
+-- besides the pairs are as many as there can be
+pub record HasLongest (y : Grouping) (a : Assignment) : Type 0 where
+  pub grouped : AreGrouped y
+  pub longest : IsLongest y.graph.now y.meters.now.touches a
+
 -- the meters are reached in the order of the stations, and where that is asked for the other way round too
-pub record AreReached (g : Graph) (touches : List Touch) (a : Assignment) (s : Stations) (firsts lasts : List ℕ) (both : Bool) : Type 0 where
-  pub up : AreReachedUp g.ends touches a s.keys s.buses.count firsts
-  pub down : both ≡ true → AreReachedDown g.ends touches a s.keys s.buses.count lasts
+pub record AreReached (y : Grouping) (a : Assignment) (firsts lasts : List ℕ) (both : Bool) : Type 0 where
+  pub up : AreReachedUp y.graph.now.ends y.meters.now.touches a y.stations.now.keys y.stations.now.buses.count firsts
+  pub down : both ≡ true → AreReachedDown y.graph.now.ends y.meters.now.touches a y.stations.now.keys y.stations.now.buses.count lasts
+  pub last_meters : length lasts ≡ length y.meters.now.touches
 
 -- the listed meters that have a pair are reached from no place before the one and none behind the other
 abbrev pub AreOwn : Assignment → List ℕ → List ℕ → List ℕ → ℕ → ℕ → Type 0
@@ -63,18 +80,20 @@ is_bare a m = lacks (branch_at a m)
 
 -- so many of a station's meters cost nothing: at most one is reached at all, and it is this one, or those that have a pair are reached
 -- from the station alone, and these are the others
-pub record IsSpared (s : Stations) (a : Assignment) (firsts lasts : List ℕ) (both : Bool) (c k : ℕ) : Type 0 where
+pub record CostNothing (s : Stations) (a : Assignment) (firsts lasts : List ℕ) (both : Bool) (c k : ℕ) : Type 0 where
   pub shown : ((k ≤ 1) × (k ≡ length (filter (λ m. nat_lt (slice_index firsts m) (group_start s.keys s.buses.count)) (items_with s.keys c))))
       ⊎ ((both ≡ true) × (k ≡ length (filter (is_bare a) (items_with s.keys c)))
       × AreOwn a (items_with s.keys c) firsts lasts (group_start s.keys c) (group_start s.keys s.buses.count - group_start s.keys (suc c)))
 
 -- the rank without the meters of a station
-abbrev pub rank_left : Graph → List Touch → Stations → ℕ → ℕ
-rank_left g touches s c = rho_at g.vertices g.ends touches (left_of (is_listed (items_with s.keys c)) (live_items g.ends touches))
+abbrev pub rank_left : Grouping → ℕ → ℕ
+rank_left y c =
+    rho_at y.graph.now.vertices y.graph.now.ends y.meters.now.touches
+    (left_of (is_listed (items_with y.stations.now.keys c)) (live_items y.graph.now.ends y.meters.now.touches))
 
 -- where the rank is known it is the one without the station's meters, and the station has live ones
-abbrev pub AreRanked : Graph → List Touch → Stations → List (Option ℕ) → Type 0
-AreRanked g touches s ranks = (c r : ℕ) → slice_index_or ranks c None ≡ Some r → (has_any s c ≡ true) × (r ≡ rank_left g touches s c)
+abbrev pub AreRanked : Grouping → List (Option ℕ) → Type 0
+AreRanked y ranks = (c r : ℕ) → slice_index_or ranks c None ≡ Some r → (has_any y.stations.now c ≡ true) × (r ≡ rank_left y c)
 
 -- how many searches a station may take that has so many live meters, where its rank is known
 abbrev pub allowed : ℕ → Option ℕ → ℕ

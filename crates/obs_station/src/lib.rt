@@ -2,13 +2,16 @@
 #![tactic(auto)]
 
 mod draw;
-mod keys;
+mod grouping;
 pub mod laws;
 mod losses;
+mod membership;
 mod memory;
+mod reach;
+mod room;
 mod rounds;
 mod settle;
-mod spared;
+mod shown;
 mod stations;
 mod without;
 

@@ -7,14 +7,14 @@ ghost use Rattle.obs_assign.specs.Assignment.{HasRoomOf};
 ghost use Rattle.obs_kept.specs.Kept.{AreLongest};
 ghost use Rattle.obs_station.specs.Stations.{losses_of};
 
+use crate::grouping::Grouping;
 use crate::memory::NoMemory;
+use crate::room::Room;
 use crate::rounds::Rounds;
 use crate::stations::Stations;
 use crate::without::write_losses;
 use obs_assign::{Assignment, Steps};
 use obs_case::Case;
-use obs_exchange::{Over, Work};
-use obs_meter::Meters;
 use obs_network::{Network, Present};
 use std::alloc::Global;
 use std::marker::Model;
@@ -29,16 +29,21 @@ pub struct Loss {
     pub rank: u32,
 }
 
+/// How many rows each table has.
+#[derive(Clone, Copy)]
+struct RowCounts {
+    nodes: u32,
+    switches: usize,
+    branches: u32,
+    meters: u32,
+    candidates: u32,
+}
+
 /// Room for the losses of the stations of cases with the same numbers of rows.
 pub struct StationWork {
-    // how many rows the tables of branches and candidates have
-    branches: u32,
-    candidates: u32,
+    rows: RowCounts,
     stations: Stations,
-    // the meters, where those of one station may be lost
-    left: Meters,
-    // what finds pairs
-    exchange: Work,
+    room: Room,
     // what is known while stations are settled
     rounds: Rounds,
     // the first `count` of these are found
@@ -54,25 +59,28 @@ impl Model for StationWork {
 
     ghost view = { λ w. record {
       rows = record {
-        nodes = w.stations.buses.most_nodes;
-        switches = w.stations.switches;
-        branches = w.branches;
-        meters = w.stations.most_meters;
-        candidates = w.candidates;
+        nodes = w.rows.nodes;
+        switches = w.rows.switches;
+        branches = w.rows.branches;
+        meters = w.rows.meters;
+        candidates = w.rows.candidates;
       };
       found = take w.count w.entries.items;
     } };
 
     ghost invariant = { λ w. record {
-      left : w.left.most ≡ w.stations.most_meters;
-      sizes : w.exchange.sizes ≡ record {
-        meters = w.stations.most_meters;
-        branches = w.branches + (w.stations.most_meters + w.candidates);
-        vertices = 2 * w.stations.buses.most_nodes;
+      nodes : w.stations.buses.most_nodes ≡ w.rows.nodes;
+      switches : w.stations.switches ≡ w.rows.switches;
+      meters : w.stations.most_meters ≡ w.rows.meters;
+      left : w.room.left.most ≡ w.rows.meters;
+      sizes : w.room.exchange.sizes ≡ record {
+        meters = w.rows.meters;
+        branches = w.rows.branches + (w.rows.meters + w.rows.candidates);
+        vertices = 2 * w.rows.nodes;
       };
-      places : length w.rounds.firsts ≡ w.stations.most_meters;
-      ranks : length w.rounds.ranks ≡ w.stations.buses.most_nodes;
-      entries : length w.entries.items ≡ w.stations.buses.most_nodes;
+      places : length w.rounds.firsts ≡ w.rows.meters;
+      ranks : length w.rounds.ranks ≡ w.rows.nodes;
+      entries : length w.entries.items ≡ w.rows.nodes;
       found : w.count ≤ length w.entries.items;
     } };
 }
@@ -81,11 +89,9 @@ impl Model for StationWork {
 impl Drop for StationWork {
     fn drop(self) {
         let StationWork {
-            branches: _,
-            candidates: _,
+            rows: _,
             stations: _,
-            left: _,
-            exchange: _,
+            room: _,
             rounds: _,
             entries: _,
             count: _,
@@ -94,30 +100,32 @@ impl Drop for StationWork {
 }
 
 impl StationWork {
-    ghost use Rattle.obs_station.specs.Lending.{GivenBack};
+    ghost use Rattle.obs_station.specs.Lending.{WorkGivenBack};
 
     /// Room for the losses of a case's stations, and of any case with as many rows in each table.
     pub fn make(alloc: Global, case: &Case) -> Result<StationWork, NoMemory>
         ensures rows { IfOk result (λ w. w.rows ≡ rows_of case.now) }
         ensures none_found { IfOk result (λ w. w.found ≡ []) }
     {
-        let nodes = case.nodes().len() as u32;
-        let branches = case.branches().len() as u32;
-        let meters = case.meters().len() as u32;
-        let candidates = case.candidates().len() as u32;
+        let rows = RowCounts {
+            nodes: case.nodes().len() as u32,
+            switches: case.switches().len(),
+            branches: case.branches().len() as u32,
+            meters: case.meters().len() as u32,
+            candidates: case.candidates().len() as u32,
+        };
+        let positions = rows.branches + (rows.meters + rows.candidates);
         let nothing = Loss {
             node: 0,
             lost: 0,
             rank: 0,
         };
         Ok(StationWork {
-            branches,
-            candidates,
-            stations: Stations::make(alloc, nodes, case.switches().len(), meters)?,
-            left: Meters::make(alloc, meters)?,
-            exchange: Work::make(alloc, meters, branches + (meters + candidates), 2 * nodes)?,
-            rounds: Rounds::make(alloc, nodes, meters)?,
-            entries: vec![in alloc; nothing; nodes as usize]?,
+            rows,
+            stations: Stations::make(alloc, rows.nodes, rows.switches, rows.meters)?,
+            room: Room::make(alloc, rows.meters, positions, 2 * rows.nodes)?,
+            rounds: Rounds::make(alloc, rows.nodes, rows.meters)?,
+            entries: vec![in alloc; nothing; rows.nodes as usize]?,
             count: 0,
         })
     }
@@ -144,17 +152,16 @@ impl StationWork {
     {
         let meters = present.meters();
         self.stations.refill(present);
-        self.left.refill(meters.touches());
-        let over = Over {
+        self.room.left.refill(meters.touches());
+        let over = Grouping {
             graph: present.graph(),
             meters,
+            stations: &self.stations,
         };
         self.count = write_losses(
             &over,
-            &self.stations,
             a,
-            &mut self.left,
-            &mut self.exchange,
+            &mut self.room,
             &mut self.rounds,
             &mut self.entries,
             steps,
@@ -186,7 +193,7 @@ impl StationWork {
         ensures turns_most { a.new.turns
             ≤ a.old.turns + (length (case_live_meters case.now) + length (losses_of case.now)) }
         ensures same_room { HasRoomOf a.old a.new }
-        ensures* given_back { sem 𝓛 (GivenBack self.entry (λ w. (w.rows ≡ self.old.rows) × (w.found ≡ losses_of case.now))) }
+        ensures* given_back { sem 𝓛 (WorkGivenBack self.entry (λ w. (w.rows ≡ self.old.rows) × (w.found ≡ losses_of case.now))) }
     {
         self.find_losses(&Present::of(case, network), a, steps);
         self.list()

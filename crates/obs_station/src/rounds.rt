@@ -1,20 +1,19 @@
 // What is known of the stations while they are settled many at once.
-ghost use Rattle.std.specs.Prelude.{◌≡◌, ◌+◌, ◌<◌, ◌≤◌, ℕ, false, IfNone, IfOk, IfSome, None, Some, true, length, slice_index, slice_index_or, slice_set, take};
-ghost use Rattle.obs_graph.specs.Positions.{AreBranches};
+ghost use Rattle.std.specs.Prelude.{◌≡◌, ◌+◌, ◌<◌, ◌≤◌, if◌then◌else◌, ℕ, IfNone, IfOk, IfSome, None, Some, true, length, slice_index, slice_index_or, slice_set, take};
 ghost use Rattle.obs_meter.specs.Sizes.{HasRoomFor};
-ghost use Rattle.obs_meter.specs.Touches.{AreInRange};
 ghost use Rattle.obs_exchange.specs.declared.Sources.TheVariants.{All as AllSources};
 ghost use Rattle.obs_exchange.specs.Closed.{IsSource};
-ghost use Rattle.obs_exchange.specs.Longest.{IsLongest};
-ghost use Rattle.obs_station.specs.Going.{AreGrouped};
-ghost use Rattle.obs_station.specs.Rounds.{AreRanked, AreReached, IsBackward, allowance};
+ghost use Rattle.obs_station.specs.Going.{AreKnown, HasPlaces, IsAsLarge, NoneVacant};
+ghost use Rattle.obs_station.specs.Rounds.{HasLongest, AreRanked, AreReached, IsBackward, allowance};
 
 use crate::draw::draw;
+use crate::grouping::Grouping;
 use crate::memory::NoMemory;
-use crate::spared::shown_rank;
+use crate::reach::Reach;
+use crate::shown::shown_rank;
 use crate::stations::Stations;
 use obs_assign::{Assignment, Steps};
-use obs_exchange::{Over, Work, close_in_order};
+use obs_exchange::{Work, close_in_order};
 use std::alloc::Global;
 use std::marker::Model;
 use std::sync::ledger::Ledger;
@@ -104,35 +103,27 @@ fn waits(ranks: &[Option<u32>], c: u32) -> bool
 
 // Notes the rank without a station, where it isn't known and shows, and says how many searches the station may take then.
 fn settle_one(
-    over: &Over<'_>,
-    stations: &Stations,
+    over: &Grouping<'_>,
     a: &Assignment,
     c: u32,
-    firsts: &[u32],
-    lasts: &[u32],
-    both: bool,
+    reach: &Reach<'_>,
     ranks: &mut [Option<u32>],
 ) -> u32
-    requires branches { AreBranches over.now.graph.now.vertices over.now.graph.now.ends }
-    requires longest { IsLongest over.now.graph.now over.now.meters.now.touches a.now }
-    requires stations { AreGrouped over.now.graph.now over.now.meters.now.touches stations.now }
-    requires reached { AreReached over.now.graph.now over.now.meters.now.touches a.now stations.now
-        firsts.now lasts.now both }
-    requires station { c < stations.now.buses.count }
-    requires firsts { length firsts.now ≡ length over.now.meters.now.touches }
-    requires lasts { length lasts.now ≡ length over.now.meters.now.touches }
-    requires ranks { stations.now.buses.count ≤ length ranks.old }
-    requires ranked { AreRanked over.now.graph.now over.now.meters.now.touches stations.now ranks.old }
-    ensures ranked { AreRanked over.now.graph.now over.now.meters.now.touches stations.now ranks.new }
-    ensures saved { allowance stations.now ranks.old stations.now.buses.count + result
-        ≤ allowance stations.now ranks.new stations.now.buses.count }
+    requires paired { HasLongest over.now a.now }
+    requires reached { AreReached over.now a.now reach.now.firsts.now reach.now.lasts.now reach.now.both }
+    requires station { c < over.now.stations.now.buses.count }
+    requires ranks { over.now.stations.now.buses.count ≤ length ranks.old }
+    requires ranked { AreRanked over.now ranks.old }
+    ensures ranked { AreRanked over.now ranks.new }
+    ensures saved { allowance over.now.stations.now ranks.old over.now.stations.now.buses.count + result
+        ≤ allowance over.now.stations.now ranks.new over.now.stations.now.buses.count }
     ensures same_length { length ranks.new ≡ length ranks.old }
 {
     if !waits(ranks, c) {
         return 0;
     }
-    let list = stations.meters(c);
-    match shown_rank(over, stations, a, c, firsts, lasts, both) {
+    let list = over.stations.meters(c);
+    match shown_rank(over, a, c, reach) {
         Some(rank) => {
             ranks[c as usize] = Some(rank);
             (list.len() as u32).saturating_add(1)
@@ -142,32 +133,19 @@ fn settle_one(
 }
 
 // Notes the ranks that show, and says how many searches these stations may take.
-fn settle(
-    over: &Over<'_>,
-    stations: &Stations,
-    a: &Assignment,
-    firsts: &[u32],
-    lasts: &[u32],
-    both: bool,
-    ranks: &mut [Option<u32>],
-) -> u32
-    requires branches { AreBranches over.now.graph.now.vertices over.now.graph.now.ends }
-    requires longest { IsLongest over.now.graph.now over.now.meters.now.touches a.now }
-    requires stations { AreGrouped over.now.graph.now over.now.meters.now.touches stations.now }
-    requires reached { AreReached over.now.graph.now over.now.meters.now.touches a.now stations.now
-        firsts.now lasts.now both }
-    requires firsts { length firsts.now ≡ length over.now.meters.now.touches }
-    requires lasts { length lasts.now ≡ length over.now.meters.now.touches }
-    requires ranks { stations.now.buses.count ≤ length ranks.old }
-    requires ranked { AreRanked over.now.graph.now over.now.meters.now.touches stations.now ranks.old }
-    ensures ranked { AreRanked over.now.graph.now over.now.meters.now.touches stations.now ranks.new }
-    ensures saved { allowance stations.now ranks.old stations.now.buses.count + result
-        ≤ allowance stations.now ranks.new stations.now.buses.count }
+fn settle(over: &Grouping<'_>, a: &Assignment, reach: &Reach<'_>, ranks: &mut [Option<u32>]) -> u32
+    requires paired { HasLongest over.now a.now }
+    requires reached { AreReached over.now a.now reach.now.firsts.now reach.now.lasts.now reach.now.both }
+    requires ranks { over.now.stations.now.buses.count ≤ length ranks.old }
+    requires ranked { AreRanked over.now ranks.old }
+    ensures ranked { AreRanked over.now ranks.new }
+    ensures saved { allowance over.now.stations.now ranks.old over.now.stations.now.buses.count + result
+        ≤ allowance over.now.stations.now ranks.new over.now.stations.now.buses.count }
     ensures same_length { length ranks.new ≡ length ranks.old }
 {
     let mut saved: u32 = 0;
-    for c in 0..stations.count() {
-        let more = settle_one(over, stations, a, c, firsts, lasts, both, ranks);
+    for c in 0..over.stations.count() {
+        let more = settle_one(over, a, c, reach, ranks);
         saved = saved.saturating_add(more);
     }
     saved
@@ -191,10 +169,9 @@ impl Rounds {
     /// Begins: no rank is known, and nothing is reached.
     pub(crate) fn begin(&mut self, all: u32)
         ensures firsts { (m : ℕ) → m < length self.old.firsts → slice_index self.new.firsts m ≡ all }
-        ensures lasts { (m : ℕ) → m < length self.old.firsts → slice_index self.new.lasts m ≡ all }
+        ensures lasts { length self.new.lasts ≡ length self.new.firsts }
         ensures ranks { (c : ℕ) → slice_index_or self.new.ranks c None ≡ None }
-        ensures same_meters { length self.new.firsts ≡ length self.old.firsts }
-        ensures same_nodes { length self.new.ranks ≡ length self.old.ranks }
+        ensures as_large { IsAsLarge self.old self.new }
     {
         put_all(&mut self.firsts, all);
         put_all(&mut self.lasts, all);
@@ -221,28 +198,22 @@ impl Rounds {
     /// other way round too.
     pub(crate) fn reach<L: Ledger>(
         &mut self,
-        over: &Over<'_>,
-        stations: &Stations,
+        over: &Grouping<'_>,
         a: &Assignment,
         both: bool,
         exchange: &mut Work,
         steps: &mut Steps<L>,
     )
-        requires longest { IsLongest over.now.graph.now over.now.meters.now.touches a.now }
-        requires in_range { AreInRange over.now.graph.now over.now.meters.now.touches }
+        requires paired { HasLongest over.now a.now }
         requires room { HasRoomFor exchange.old.sizes over.now.graph.now over.now.meters.now.touches }
-        requires stations { AreGrouped over.now.graph.now over.now.meters.now.touches stations.now }
         requires meters { length self.old.firsts ≡ length over.now.meters.now.touches }
-        ensures reached { AreReached over.now.graph.now over.now.meters.now.touches a.now stations.now
-            self.new.firsts self.new.lasts both }
-        ensures ticks { steps.new ≤ steps.old + 2 }
-        ensures one { both ≡ false → steps.new ≡ steps.old + 1 }
-        ensures rise { steps.old ≤ steps.new }
+        ensures reached { AreReached over.now a.now self.new.firsts self.new.lasts both }
+        ensures ticks { steps.new ≡ steps.old + (if both then 2 else 1) }
         ensures same_sizes { exchange.new.sizes ≡ exchange.old.sizes }
         ensures same_ranks { self.new.ranks ≡ self.old.ranks }
         ensures same_meters { length self.new.firsts ≡ length self.old.firsts }
     {
-        let order = stations.members();
+        let order = over.stations.members();
         close_in_order(
             over.graph,
             over.meters,
@@ -267,54 +238,35 @@ impl Rounds {
     }
 
     /// Notes the ranks that show now, and says how many searches these stations may take.
-    pub(crate) fn settle(
-        &mut self,
-        over: &Over<'_>,
-        stations: &Stations,
-        a: &Assignment,
-        both: bool,
-    ) -> u32
-        requires branches { AreBranches over.now.graph.now.vertices over.now.graph.now.ends }
-        requires longest { IsLongest over.now.graph.now over.now.meters.now.touches a.now }
-        requires stations { AreGrouped over.now.graph.now over.now.meters.now.touches stations.now }
-        requires reached { AreReached over.now.graph.now over.now.meters.now.touches a.now stations.now
-            self.old.firsts self.old.lasts both }
-        requires meters { length self.old.firsts ≡ length over.now.meters.now.touches }
-        requires ranks { stations.now.buses.count ≤ length self.old.ranks }
-        requires ranked { AreRanked over.now.graph.now over.now.meters.now.touches stations.now self.old.ranks }
-        ensures ranked { AreRanked over.now.graph.now over.now.meters.now.touches stations.now self.new.ranks }
-        ensures saved { allowance stations.now self.old.ranks stations.now.buses.count + result
-            ≤ allowance stations.now self.new.ranks stations.now.buses.count }
-        ensures same_meters { length self.new.firsts ≡ length self.old.firsts }
-        ensures same_nodes { length self.new.ranks ≡ length self.old.ranks }
+    pub(crate) fn settle(&mut self, over: &Grouping<'_>, a: &Assignment, both: bool) -> u32
+        requires paired { HasLongest over.now a.now }
+        requires reached { AreReached over.now a.now self.old.firsts self.old.lasts both }
+        requires known { AreKnown over.now self.old }
+        ensures known { AreKnown over.now self.new }
+        ensures saved { allowance over.now.stations.now self.old.ranks over.now.stations.now.buses.count + result
+            ≤ allowance over.now.stations.now self.new.ranks over.now.stations.now.buses.count }
+        ensures as_large { IsAsLarge self.old self.new }
     {
-        settle(
-            over,
-            stations,
-            a,
-            &self.firsts,
-            &self.lasts,
+        let reach = Reach {
+            firsts: &self.firsts,
+            lasts: &self.lasts,
             both,
-            &mut self.ranks,
-        )
+        };
+        settle(over, a, &reach, &mut self.ranks)
     }
 
     /// The first live meter without a pair of a station whose rank isn't known.
-    pub(crate) fn vacant(&self, over: &Over<'_>, stations: &Stations, a: &Assignment) -> Option<u32>
-        requires longest { IsLongest over.now.graph.now over.now.meters.now.touches a.now }
-        requires in_range { AreInRange over.now.graph.now over.now.meters.now.touches }
-        requires stations { AreGrouped over.now.graph.now over.now.meters.now.touches stations.now }
-        requires ranks { stations.now.buses.count ≤ length self.now.ranks }
+    pub(crate) fn vacant(&self, over: &Grouping<'_>, a: &Assignment) -> Option<u32>
+        requires paired { HasLongest over.now a.now }
+        requires places { HasPlaces over.now self.now }
         ensures vacant { IfSome result (λ m.
             IsSource over.now.graph.now.ends over.now.meters.now.touches AllSources a.now m
-            × (slice_index_or self.now.ranks (slice_index stations.now.keys m) None ≡ None)) }
-        ensures none { IfNone result ((m : ℕ)
-            → IsSource over.now.graph.now.ends over.now.meters.now.touches AllSources a.now m
-            → slice_index_or self.now.ranks (slice_index stations.now.keys m) None ≡ None → ⊥) }
+            × (slice_index_or self.now.ranks (slice_index over.now.stations.now.keys m) None ≡ None)) }
+        ensures none { IfNone result (NoneVacant over.now a.now self.now) }
     {
         for m in 0..over.meters.count() {
             if a.branch_of(m).is_none() && over.meters.live(over.graph, m) {
-                if self.ranks[stations.station(m) as usize].is_none() {
+                if self.ranks[over.stations.station(m) as usize].is_none() {
                     return Some(m);
                 }
             }

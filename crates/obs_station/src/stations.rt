@@ -2,11 +2,11 @@
 ghost use Rattle.std.specs.Prelude.{◌≡◌, ◌<◌, ◌≤◌, ◌^◌, [], All, IfOk, length, slice_index};
 ghost use Rattle.obs_switch.specs.Buses.{members_of};
 ghost use Rattle.obs_switch.specs.Groups.{group_start, items_with};
-ghost use Rattle.obs_station.specs.Held.{has_any, keys_of};
+ghost use Rattle.obs_station.specs.Held.{has_any, station_keys};
 ghost use Rattle.obs_station.specs.Rounds.{IsByStation};
 ghost use Rattle.obs_station.specs.Stations.{case_station_count, case_stations};
 
-use crate::keys::{write_links, write_members};
+use crate::membership::{write_links, write_members};
 use crate::memory::NoMemory;
 use obs_network::Present;
 use obs_switch::group::group_of;
@@ -94,7 +94,7 @@ impl Stations {
         ensures stations { self.new.buses.buses ≡ case_stations present.now }
         ensures count { self.new.buses.count ≡ case_station_count present.now }
         ensures nodes { self.new.buses.most_nodes ≡ self.old.buses.most_nodes }
-        ensures keys { self.new.keys ≡ keys_of present.now }
+        ensures keys { self.new.keys ≡ station_keys present.now }
         ensures switches { self.new.switches ≡ self.old.switches }
         ensures meters { self.new.most_meters ≡ self.old.most_meters }
     {

@@ -1,4 +1,3 @@
-use Rattle.std.proofs.Common.{◌≡◌, length}
 use Rattle.obs_pairs.specs.Moved.{IsMoved}
 use Rattle.obs_pairs.specs.Settled.{AreSettled}
 use Rattle.obs_pairs.proofs.rounds.split_in_rounds.Given as goal
@@ -6,6 +5,5 @@ use Rattle.obs_pairs.proofs.rounds.split_in_rounds.Given as goal
 abbrev pub invariant-loop-round : goal.invariant-loop-round
 invariant-loop-round g l = record {
   settled : AreSettled l.over.graph.now.vertices l.over.graph.now.ends l.over.meters.now.touches l.waiting l.list 0;
-  moved : IsMoved l.over.graph.now l.over.meters.now.touches l.fn.a l.a l.fn.left l.left l.fn.exchange l.exchange;
-  reach : length l.reach ≡ length l.fn.reach;
+  moved : IsMoved l.over l.fn.a l.a l.fn.room l.room;
 }

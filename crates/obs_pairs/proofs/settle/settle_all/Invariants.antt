@@ -5,5 +5,5 @@ use Rattle.obs_pairs.proofs.settle.settle_all.Given as goal
 abbrev pub invariant-loop-m : goal.invariant-loop-m
 invariant-loop-m g l = record {
   settled : AreSettled l.over.graph.now.vertices l.over.graph.now.ends l.over.meters.now.touches l.waiting l.list l.m;
-  moved : IsMoved l.over.graph.now l.over.meters.now.touches l.fn.a l.a l.fn.left l.left l.fn.exchange l.exchange;
+  moved : IsMoved l.over l.fn.a l.a l.fn.room l.room;
 }

@@ -1,40 +1,30 @@
-use Rattle.std.proofs.Common.{◌≤◌, cond, length, inl, inr, ap, ◌+◌, ◌∙◌, arith}
-use Rattle.std.proofs.lemmas.Bool.{cases_Bool}
-use Rattle.obs_station.proofs.Settling.{settled_shown}
+use Rattle.std.proofs.Common.{Option, List, ℕ, length, refl, ap, ◌∙◌, arith}
+use Rattle.obs_station.specs.Rounds.{allowance}
+use Rattle.obs_station.proofs.Going.{goes_nowhere}
+use Rattle.obs_station.proofs.Settling.{known_again}
 use Rattle.obs_station.proofs.settle.settle_reached.Goals as goal
 
 pub reach-requires : goal.reach-requires
-reach-requires g c = record {
-  longest = c.requires.ready.longest;
-  in_range = c.requires.ready.in_range;
-  room = c.requires.ready.room;
-  stations = c.requires.stations;
-  meters = c.requires.known.meters;
-}
+reach-requires g c = record { paired = c.requires.ready.paired; room = c.requires.ready.room; meters = c.requires.known.places.meters }
 
 pub settle-requires : goal.settle-requires
 settle-requires g c =
-    let same = ap (λ ranks. length ranks) c.reach.ensures.same_ranks in
-    let nodes = c.requires.known.nodes in
-    record {
-      branches = c.requires.ready.branches;
-      longest = c.requires.ready.longest;
-      stations = c.requires.stations;
-      reached = c.reach.ensures.reached;
-      meters = c.reach.ensures.same_meters ∙ c.requires.known.meters;
-      ranks = omega (arith, same, nodes);
-      ranked = rw (c.reach.ensures.same_ranks) c.requires.known.ranked;
-    }
+    let e = c.reach.ensures in
+    record { paired = c.requires.ready.paired; reached = e.reached; known = known_again c.requires.known e.same_ranks e.same_meters }
 
 pub returns : goal.returns
 returns g c =
+    let s = c.args.over.now.stations.now in
     let e = c.reach.ensures in
-    let few : c.reach.new.steps ≤ c.args.steps.now + cond c.args.both 2 1 = elim (cases_Bool c.args.both) [
-      | inl t ↦ rw t (let k = e.ticks in omega (arith, k))
-      | inr f ↦ rw f (let k = e.one f in omega (arith, k))
-    ] in
+    let k = c.settle.ensures in
+    let ticks = e.ticks in
+    let saved = k.saved in
+    let was = ap (λ (xs : List (Option ℕ)). allowance s xs s.buses.count) e.same_ranks in
     record {
-      settled = settled_shown c.args.over.now.graph.now c.args.over.now.meters.now.touches c.args.stations.now c.args.a.now c.args.left.now c.args.exchange.now c.reach.new.exchange
-          c.args.rounds.now c.reach.new.self c.settle.new.self c.args.steps.now c.reach.new.steps (cond c.args.both 2 1) c.settle.result
-          c.requires.ready c.requires.known e.same_sizes e.rise few e.same_ranks e.same_meters c.settle.ensures.ranked c.settle.ensures.saved c.settle.ensures.same_meters c.settle.ensures.same_nodes;
+      settled = record {
+        goes_on = goes_nowhere c.requires.ready refl e.same_sizes (omega (arith, ticks));
+        known = k.known;
+        searched = omega (arith, ticks, was, saved);
+        as_large = record { meters = k.as_large.meters ∙ e.same_meters; nodes = k.as_large.nodes ∙ ap (λ (xs : List (Option ℕ)). length xs) e.same_ranks };
+      };
     }

@@ -8,55 +8,47 @@ use Rattle.obs_meter.specs.Assignments.{rho_at}
 use Rattle.obs_meter.specs.Lost.{is_listed, left_of}
 use Rattle.obs_meter.specs.Touches.{live_items}
 use Rattle.obs_meter.proofs.Live.{live_low}
+use Rattle.obs_station.specs.Going.{NoneVacant}
+use Rattle.obs_station.proofs.Going.{settled_nowhere}
 use Rattle.obs_station.proofs.Members.{member-at}
-use Rattle.obs_station.proofs.Settling.{settled_nowhere, settled_one}
+use Rattle.obs_station.proofs.Settling.{settled_one}
 use Rattle.obs_station.proofs.settle.settle_vacant.Goals as goal
 
 pub vacant-requires : goal.vacant-requires
-vacant-requires g c = record {
-  longest = c.requires.ready.longest;
-  in_range = c.requires.ready.in_range;
-  stations = c.requires.stations;
-  ranks = c.requires.known.nodes;
-}
+vacant-requires g c = record { paired = c.requires.ready.paired; places = c.requires.known.places }
 
 pub rank_without-rank-requires : goal.rank_without-rank-requires
 rank_without-rank-requires g c = record {
   ready = c.requires.ready;
-  low = subst (λ (n : ℕ). All (λ m. m < n) c.meters-list.result.now) c.requires.stations.keys c.meters-list.ensures.low;
+  low = subst (λ (n : ℕ). All (λ m. m < n) c.meters-list.result.now) c.requires.ready.paired.grouped.keys c.meters-list.ensures.low;
 }
 
 pub returns-in-Some : goal.returns-in-Some
 returns-in-Some g c =
-    let G = c.args.over.now.graph.now in
-    let touches = c.args.over.now.meters.now.touches in
-    let s = c.args.stations.now in
+    let over = c.args.over.now in
+    let ends = over.graph.now.ends in
+    let touches = over.meters.now.touches in
+    let s = over.stations.now in
+    let grouped = c.requires.ready.paired.grouped in
     let m = c.in-Some.m in
     let source = c.in-Some.ensures.vacant.0 in
-    let low : m < length s.keys = let l = live_low G.ends touches m source.0 in let k = c.requires.stations.keys in omega (arith, l, k) in
-    let own = (c.requires.stations.stationed m low).1 source.0 in
+    let low : m < length s.keys = let l = live_low ends touches m source.0 in let k = grouped.keys in omega (arith, l, k) in
+    let own = (grouped.stationed m low).1 source.0 in
     let key = c.station-c.ensures.station in
     let list = items_with s.keys c.station-c.result in
     let is : c.meters-list.result.now ≡ list = c.meters-list.ensures.meters in
     let member : In m list = subst (λ (k : ℕ). In m (items_with s.keys k)) (sym key) (member-at s.keys m low) in
     let some = length-without_lt m list member in
     let e = c.rank_without-rank.ensures in
-    let rank = ap (λ (xs : List ℕ). rho_at G.vertices G.ends touches (left_of (is_listed xs) (live_items G.ends touches))) is in
+    let rank = ap (λ (xs : List ℕ). rho_at over.graph.now.vertices ends touches (left_of (is_listed xs) (live_items ends touches))) is in
     let long = ap (λ (xs : List ℕ). length xs) is in
     let few = e.vacant m (subst (λ (xs : List ℕ). In m xs) (sym is) member) source.1 in
     let none : get_or c.args.rounds.now.ranks c.station-c.result None ≡ None = ap (λ (k : ℕ). get_or c.args.rounds.now.ranks k None) key ∙ c.in-Some.ensures.vacant.1 in
     record {
-      settled = settled_one G touches s c.args.a.now c.rank_without-rank.new.a c.args.left.now c.rank_without-rank.new.left c.args.exchange.now c.rank_without-rank.new.exchange
-          c.args.rounds.now c.put.new.self c.args.steps.now c.rank_without-rank.new.steps c.station-c.result c.rank_without-rank.result
-          c.requires.known e.goes_on (omega (arith, own, key)) none (lt-ltb 0 (length list) (omega (arith, some))) (e.rank ∙ rank) (omega (arith, few, long)) c.put.ensures.put;
-      none = λ t. clash refl t;
-      same = λ t. clash refl t;
+      settled = settled_one c.requires.known e.goes_on (omega (arith, own, key)) none (lt-ltb 0 (length list) (omega (arith, some))) (e.rank ∙ rank) (omega (arith, few, long)) c.put.ensures.put;
+      none = λ t. clash {P = NoneVacant over c.rank_without-rank.new.a c.put.new.self} refl t;
+      same = λ t. clash {P = c.put.new.self ≡ c.args.rounds.now} refl t;
     }
 
 pub returns-in-None : goal.returns-in-None
-returns-in-None g c = record {
-  settled = settled_nowhere c.args.over.now.graph.now c.args.over.now.meters.now.touches c.args.stations.now c.args.a.now c.args.left.now c.args.exchange.now c.args.rounds.now c.args.steps.now 0
-      c.requires.ready c.requires.known;
-  none = λ t. c.in-None.ensures.none;
-  same = λ t. refl;
-}
+returns-in-None g c = record { settled = settled_nowhere c.requires.ready c.requires.known; none = λ t. c.in-None.ensures.none; same = λ t. refl }

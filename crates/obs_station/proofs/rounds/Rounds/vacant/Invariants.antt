@@ -5,5 +5,5 @@ use Rattle.obs_station.proofs.rounds.Rounds.vacant.Given as goal
 
 abbrev pub invariant-loop-m : goal.invariant-loop-m
 invariant-loop-m l = record {
-  none : (k : ℕ) → k < l.m → IsSource l.over.graph.now.ends l.over.meters.now.touches All l.a k → get_or l.self.ranks (get_or l.stations.keys k 0) None ≡ None → ⊥;
+  none : (k : ℕ) → k < l.m → IsSource l.over.graph.now.ends l.over.meters.now.touches All l.a k → get_or l.self.ranks (get_or l.over.stations.now.keys k 0) None ≡ None → ⊥;
 }

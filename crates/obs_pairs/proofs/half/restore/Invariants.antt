@@ -1,6 +1,0 @@
-use Rattle.std.proofs.Common.{false}
-use Rattle.obs_pairs.proofs.Halved.{AreLeft}
-use Rattle.obs_pairs.proofs.half.restore.Given as goal
-
-abbrev pub invariant-loop-m : goal.invariant-loop-m
-invariant-loop-m l = AreLeft (λ k. false) l.ms.touches l.fn.left l.left l.m

@@ -1,6 +1,0 @@
-use Rattle.obs_assign.specs.Assignment.{has_flag}
-use Rattle.obs_pairs.proofs.Halved.{AreLeft}
-use Rattle.obs_pairs.proofs.renew.lose_marked.Given as goal
-
-abbrev pub invariant-loop-m : goal.invariant-loop-m
-invariant-loop-m l = AreLeft (has_flag l.marks) l.ms.touches l.fn.left l.left l.m
