@@ -3,6 +3,7 @@ ghost use Rattle.std.specs.Prelude.{◌≡◌, ◌+◌, ◌<◌, ◌≤◌, All,
 ghost use Rattle.obs_meter.specs.Sizes.{HasRoomFor};
 ghost use Rattle.obs_meter.specs.Touches.{AreInRange};
 ghost use Rattle.obs_assign.specs.Assignment.{Fits, HasRoomOf, StandsOver, pairs as pairs_at};
+ghost use Rattle.obs_exchange.specs.Laws.{IsThawed};
 ghost use Rattle.obs_first.specs.First.{first_pairs};
 ghost use Rattle.obs_edit.specs.Planned.{new_paired, pairs_in, planned_items, touches_of};
 
@@ -70,15 +71,102 @@ fn list_plan(offered: &Meters, meters: u32, chosen: &[u32], items: &mut Meters)
     }
 }
 
+/// Whether each live item has a pair in the placement.
+fn are_paired(g: &Graph, items: &Meters, placed: &Assignment) -> bool
+    requires in_range { AreInRange g.now items.now.touches }
+    requires one_each { length placed.now.slots ≡ length items.now.touches }
+{
+    for m in 0..items.count() {
+        if items.live(g, m) && placed.branch_of(m).is_none() {
+            return false;
+        }
+    }
+    true
+}
+
+/// Pins the pair that the item has in the placement, where it may be pinned.
+fn pin_placed<L: Ledger>(
+    g: &Graph,
+    items: &Meters,
+    placed: &Assignment,
+    m: u32,
+    pairs: &mut Assignment,
+    steps: &mut Steps<L>,
+)
+    requires m { m < length items.now.touches }
+    requires one_each { length placed.now.slots ≡ length items.now.touches }
+    requires stands { StandsOver pairs.old g.now items.now.touches }
+    ensures stands { StandsOver pairs.new g.now items.now.touches }
+    ensures same_room { HasRoomOf pairs.old pairs.new }
+{
+    let Some(e) = placed.branch_of(m) else {
+        return;
+    };
+    if e >= g.positions() {
+        return;
+    }
+    if !items.is_touched(g, m, e) {
+        return;
+    }
+    if pairs.may_pin(g, m, e) {
+        pairs.pin(g, items, m, e, steps);
+    }
+}
+
+/// Pins the pairs of the placement, where each live item has one there. Nothing rests on it: they are nearer to the first
+/// ones than pairs that are grown anew, except where items are redundant.
+fn pin_all<L: Ledger>(
+    g: &Graph,
+    items: &Meters,
+    placed: &Assignment,
+    pairs: &mut Assignment,
+    steps: &mut Steps<L>,
+)
+    requires in_range { AreInRange g.now items.now.touches }
+    requires one_each { length placed.now.slots ≡ length items.now.touches }
+    requires stands { StandsOver pairs.old g.now items.now.touches }
+    ensures stands { StandsOver pairs.new g.now items.now.touches }
+    ensures same_room { HasRoomOf pairs.old pairs.new }
+{
+    if !are_paired(g, items, placed) {
+        return;
+    }
+    for m in 0..items.count() {
+        pin_placed(g, items, placed, m, pairs, steps);
+    }
+}
+
+/// Makes the pairs those with which the search for longest ones begins, with nothing frozen.
+fn begin_pairs<L: Ledger>(
+    g: &Graph,
+    items: &Meters,
+    placed: &Assignment,
+    pairs: &mut Assignment,
+    steps: &mut Steps<L>,
+)
+    requires in_range { AreInRange g.now items.now.touches }
+    requires one_each { length placed.now.slots ≡ length items.now.touches }
+    requires fits { Fits pairs.old g.now items.now.touches }
+    ensures thawed { IsThawed pairs.new }
+    ensures stands { StandsOver pairs.new g.now items.now.touches }
+    ensures same_room { HasRoomOf pairs.old pairs.new }
+{
+    pairs.clear(g, items);
+    pin_all(g, items, placed, pairs, steps);
+    pairs.unpin_all();
+}
+
 /// Makes the pairs the first assignment of the items.
 fn pair_first<L: Ledger>(
     g: &Graph,
     items: &Meters,
+    placed: &Assignment,
     pairs: &mut Assignment,
     exchange: &mut Work,
     steps: &mut Steps<L>,
 )
     requires in_range { AreInRange g.now items.now.touches }
+    requires one_each { length placed.now.slots ≡ length items.now.touches }
     requires room { HasRoomFor exchange.old.sizes g.now items.now.touches }
     requires fits { Fits pairs.old g.now items.now.touches }
     ensures first { pairs_at pairs.new ≡ first_pairs g.now.vertices g.now.ends items.now.touches }
@@ -87,7 +175,7 @@ fn pair_first<L: Ledger>(
     ensures same_sizes { exchange.new.sizes ≡ exchange.old.sizes }
 {
     let _ = g.vertices();
-    pairs.clear(g, items);
+    begin_pairs(g, items, placed, pairs, steps);
     let _ = lengthen(g, items, pairs, u32::MAX, exchange, steps);
     first(g, items, pairs, exchange, steps);
 }
@@ -102,6 +190,7 @@ fn pair_placed<L: Ledger>(
     steps: &mut Steps<L>,
 )
     requires in_range { AreInRange g.now items.now.touches }
+    requires one_each { length work.now.pairs.slots ≡ length items.now.touches }
     requires room { HasRoomFor exchange.old.sizes g.now items.now.touches }
     requires fits { Fits pairs.old g.now items.now.touches }
     ensures pairs { pairs_at pairs.new ≡ pairs_in g.now.vertices g.now.ends items.now.touches work.now.placed }
@@ -110,7 +199,7 @@ fn pair_placed<L: Ledger>(
     ensures same_sizes { exchange.new.sizes ≡ exchange.old.sizes }
 {
     match work.found() {
-        Placement::Cheapest(_) => pair_first(g, items, pairs, exchange, steps),
+        Placement::Cheapest(_) => pair_first(g, items, work.pairs(), pairs, exchange, steps),
         Placement::Shortfall(_) => pairs.clear(g, items),
     }
 }
@@ -128,6 +217,7 @@ fn pair_plan<L: Ledger>(
 )
     requires in_range { AreInRange g.now offered.now.touches }
     requires chosen { All (λ k. meters + k < length offered.now.touches) work.now.chosen }
+    requires one_each { length work.now.pairs.slots ≡ length offered.now.touches }
     requires items { items.old.most ≡ exchange.old.sizes.meters }
     requires room { HasRoomFor exchange.old.sizes g.now offered.now.touches }
     requires fits { Fits pairs.old g.now offered.now.touches }
@@ -180,6 +270,7 @@ impl Pairing {
     )
         requires in_range { AreInRange g.now offered.now.touches }
         requires chosen { All (λ k. meters + k < length offered.now.touches) work.now.chosen }
+        requires one_each { length work.now.pairs.slots ≡ length offered.now.touches }
         requires room { HasRoomFor self.old.sizes g.now offered.now.touches }
         ensures pairs { pairs_at self.new.pairs ≡ pairs_in g.now.vertices g.now.ends
             (touches_of offered.now.touches (planned_items meters work.now.chosen)) work.now.placed }

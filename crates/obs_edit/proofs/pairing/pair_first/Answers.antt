@@ -1,7 +1,7 @@
 use Rattle.std.proofs.Common.{◌≤◌, arith}
 use Rattle.obs_assign.specs.Assignment.{has_flag}
 use Rattle.obs_exchange.proofs.Lawful.{closed_rho}
-use Rattle.obs_exchange.proofs.Lengthening.{bare-thawed, closed_at_last, closed_set, thawed-lengthened}
+use Rattle.obs_exchange.proofs.Lengthening.{closed_at_last, closed_set, thawed-lengthened}
 use Rattle.obs_edit.proofs.pairing.pair_first.Goals as goal
 
 pub first-requires-clause-longest : goal.first-requires-clause-longest
@@ -14,4 +14,4 @@ first-requires-clause-longest g c =
     let ok = c.vertices.ensures.branches in
     let low : shape.vertices ≤ 4294967295 = omega (arith, c.vertices.ensures.value, c.vertices.type_inv) in
     closed_rho a shape touches (has_flag flags) (closed_set shape touches a flags ok e.whole e.stands (closed_at_last shape touches a flags c.lengthen.result.closed ok e.whole e.stands low e.ended))
-    (thawed-lengthened c.clear.new.self a c.lengthen.result.searches e.lengthened (bare-thawed c.clear.new.self c.clear.ensures.whole c.clear.ensures.no_pair))
+    (thawed-lengthened c.begin_pairs.new.pairs a c.lengthen.result.searches e.lengthened c.begin_pairs.ensures.thawed)

@@ -1,4 +1,4 @@
-use Rattle.std.proofs.Common.{not, sym, subst, arith}
+use Rattle.std.proofs.Common.{ap, length, not, sym, subst, ◌∙◌, arith}
 use Rattle.obs_meter.specs.Sizes.{HasRoomFor}
 use Rattle.obs_meter.specs.Touches.{AreInRange}
 use Rattle.obs_meter.proofs.Lost.{in_range-losing, room-losing}
@@ -33,3 +33,8 @@ returns-clause-stands g c =
     let items = planned_items c.args.meters c.chosen.result.now in
     stands-all (λ m. not (has_position items m)) c.args.g.now c.args.offered.now.touches c.pair_placed.new.pairs
     (subst (StandsOver c.pair_placed.new.pairs c.args.g.now) c.list_plan.ensures.planned c.pair_placed.ensures.stands)
+
+pub pair_placed-requires-clause-one_each : goal.pair_placed-requires-clause-one_each
+pair_placed-requires-clause-one_each g c =
+    let items = planned_items c.args.meters c.chosen.result.now in
+    c.requires.one_each ∙ sym (ap length c.list_plan.ensures.planned ∙ length-touches_of c.args.offered.now.touches items)

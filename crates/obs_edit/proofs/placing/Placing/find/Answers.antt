@@ -44,3 +44,6 @@ returns-clause-placed g c =
 
 pub returns-clause-same_prices : goal.returns-clause-same_prices
 returns-clause-same_prices g c = ap (λ (p : Planning). p.prices) c.self.view_is
+
+pub pair-requires-clause-one_each : goal.pair-requires-clause-one_each
+pair-requires-clause-one_each g c = sym c.find_placement.ensures.standing.stands.meters
