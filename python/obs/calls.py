@@ -158,6 +158,8 @@ def session_words(case: Case, candidates: typing.Optional[Table]) -> typing.List
 
 
 def _form(case: Case) -> typing.List[Word]:
+    if not isinstance(case, Case):
+        raise TypeError("a case is what obs.tables, obs.cdf or obs.matpower makes of files")
     return [case.form, *(one for _, one in case.files)]
 
 
