@@ -33,7 +33,7 @@ enum obs_status {
     OBS_TEXT_TOO_LONG = 5,    /* the text is longer than its block, which has a front of it: call again with a longer one */
     OBS_NO_MEMORY = 6,        /* there was no memory, and nothing is written */
     OBS_SESSION_TOO_LONG = 7, /* the input of a session has more bytes than a file may have: what was answered before is written */
-    OBS_MALFORMED = 8,        /* the blocks are no words and contents, and nothing is written */
+    OBS_MALFORMED = 8,        /* the blocks are no words and contents (as with a zero byte too many), and nothing is written */
     OBS_OUT_OF_TURN = 9       /* a session is begun where one stays already, or has a line where none stays: nothing is done or written */
 };
 

@@ -142,9 +142,9 @@ def try_words(place):
     if said != "obs: report cdf takes two files, case and meters, and one is given.\nnotice\n":
         fail("of a word too few is said:", said)
     for word, text in [("--version", "obs 0."), ("--help", "obs WORDS, where WORDS are\n")]:
-        said, _ = place.answers(word, [], [word])
-        if not said.startswith(text) or not said.endswith("\nnotice\n"):
-            fail(word, "is answered by", said)
+        done = subprocess.run([f"{place.home}/tools/run", "app", word], capture_output=True, text=True)
+        if done.returncode or done.stderr or not done.stdout.startswith(text):
+            fail(word, "is answered by", done.returncode, done.stdout, done.stderr)
     if place.answers("right words", [])[0] != "notice\n":
         fail("of right words something is said")
 

@@ -19,9 +19,17 @@ def main() -> int:
     # An interrupt ends it as it ends any program.
     signal.signal(signal.SIGINT, signal.SIG_DFL)
     encoded = [os.fsencode(word) for word in words]
+    texts = [word.decode("utf-8", "surrogateescape") for word in encoded]
+    answer = usage.asked(texts)
+    if answer is not None:
+        sys.stdout.write(answer)
+        return 0
     if is_json:
         return as_json.run(encoded, limits)
-    text = usage.said([word.decode("utf-8", "surrogateescape") for word in encoded])
+    text = usage.said(texts)
+    misplaced = [word for word in texts if word in ("--large", "--json")]
+    if text and misplaced:
+        text = f"obs: {misplaced[0]} stands before the words.\n"
     if text:
         os.write(2, text.encode("utf-8", "backslashreplace"))
     return program.run(encoded, limits)

@@ -98,6 +98,8 @@ def run(words: typing.Sequence[Word], given: bytes = b"", limits: str = "usual")
 
     Raises NoMemory, SessionTooLong, LibraryMissing, and Malformed where a word has a zero byte in it or is no UTF-8.
     """
+    if isinstance(words, (str, bytes)):
+        raise TypeError("words are a list, one text for each word")
     status, text = library.call(word_pairs(words), given, limits)
     refuse(status, text, limits)
     return status, text
@@ -156,6 +158,8 @@ def session_words(case: Case, candidates: typing.Optional[Table]) -> typing.List
 
 
 def _form(case: Case) -> typing.List[Word]:
+    if not isinstance(case, Case):
+        raise TypeError("a case is what obs.tables, obs.cdf or obs.matpower makes of files")
     return [case.form, *(one for _, one in case.files)]
 
 

@@ -1,6 +1,7 @@
 """What is wrong with words that aren't a command of obs, in a sentence; and what is asked for by --help and --version.
 
-`python3 -I python/obs/usage.py WORDS` says it on standard error, and nothing of words that are right. It imports no other file of this
+`python3 -I python/obs/usage.py WORDS` says it on standard error, and nothing of words that are right;
+--help and --version are answered on standard output, with status 10, of which the callers make 0. It imports no other file of this
 package. tools/usage calls it for ./obs, ./obs-large and ./look, and `python -m obs` as a module. The program itself prints the usage line
 then, with status 2.
 """
@@ -38,18 +39,22 @@ HELP = """obs WORDS, where WORDS are
   topology N S                         {topology}
   trial N SEED                         {trial}
 FORM is: tables N S B M (nodes, switches, branches, meters), or cdf C M, or matpower C M (a case and its meters).
-docs/GUIDE.md leads from your own tables to an answer. Words that aren't a command, as --help, end with status 2.
+docs/GUIDE.md leads from your own tables to an answer. --help and --version are answered; other words that aren't a command end with status 2.
+Before the words: python -m obs and ./look take --large, for larger networks, and python -m obs --json too.
 """.format(**COMMANDS)
 
 
 def said(words: typing.List[str]) -> str:
     """What is to be said of these words, or nothing."""
-    if words[:1] in (["--help"], ["-h"]):
-        return HELP
-    if words[:1] == ["--version"]:
-        return f"obs {version()}\n"
     wrong = why(words)
     return f"obs: {wrong}{'' if wrong.endswith('?') else '.'}\n" if wrong else ""
+
+
+def asked(words: typing.List[str]) -> typing.Optional[str]:
+    """What --help and --version ask for, or None."""
+    if words[:1] in (["--help"], ["-h"]):
+        return HELP
+    return f"obs {version()}\n" if words[:1] == ["--version"] else None
 
 
 def version() -> str:
@@ -150,4 +155,9 @@ def printable(word: str) -> str:
 
 
 if __name__ == "__main__":
-    sys.stderr.write(said([os.fsencode(word).decode("utf-8", "surrogateescape") for word in sys.argv[1:]]))
+    given_words = [os.fsencode(word).decode("utf-8", "surrogateescape") for word in sys.argv[1:]]
+    answer = asked(given_words)
+    if answer is not None:
+        sys.stdout.write(answer)
+        sys.exit(10)
+    sys.stderr.write(said(given_words))
