@@ -135,6 +135,24 @@ impl Flags {
         }
     }
 
+    /// Sets all flags.
+    pub fn set_all(&mut self)
+        ensures length { length self.new ≡ length self.old }
+    {
+        self.flags.fill(true);
+        self.more = true;
+    }
+
+    /// Takes one flag back.
+    pub fn take_out(&mut self, k: u32)
+        ensures length { length self.new ≡ length self.old }
+    {
+        if let Some(flag) = self.flags.get_mut(k as usize) {
+            *flag = false;
+        }
+        self.more = true;
+    }
+
     /// Takes all flags back, unless they are kept.
     pub fn clear_unless(&mut self, kept: bool) {
         if !kept {

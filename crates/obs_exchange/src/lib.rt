@@ -22,6 +22,7 @@ pub struct Lengthened {
     pub closed: bool,
 }
 
+mod back;
 mod begin;
 mod changed;
 mod exchange;
@@ -43,6 +44,7 @@ mod regrown;
 mod repeated;
 mod scratch;
 mod setting;
+mod sides;
 mod stars;
 mod tops;
 mod trail;

@@ -23,6 +23,8 @@ pub(crate) struct Near {
     // the vertices that it met, and the meters there
     queue: Vec<u32>,
     found: Vec<u32>,
+    // the one to name first, and alone
+    first: Option<u32>,
 }
 
 impl Near {
@@ -35,6 +37,7 @@ impl Near {
             walk: 0,
             queue: vec![in alloc; 0; vertices]?,
             found: vec![in alloc; 0; MOST_NEAR]?,
+            first: None,
         })
     }
 
@@ -77,10 +80,31 @@ impl Near {
         tail.saturating_add(1)
     }
 
+    /// Is to name this meter alone at the next look, if it is one.
+    pub(crate) fn name_alone(&mut self, m: Option<u32>) {
+        self.first = m;
+    }
+
+    /// Names the meter that is to be named alone, if there is one.
+    fn name_first(&mut self) -> bool {
+        let Some(m) = self.first else {
+            return false;
+        };
+        self.first = None;
+        let Some(place) = self.found.get_mut(0) else {
+            return false;
+        };
+        *place = m;
+        true
+    }
+
     /// Looks for noted meters around a branch, nearer ones first. Says how many it found.
     pub(crate) fn find(&mut self, g: &Graph, e: u32) -> usize
         requires e { e < length g.now.ends }
     {
+        if self.name_first() {
+            return 1;
+        }
         let Some(ends) = g.ends(e) else {
             return 0;
         };

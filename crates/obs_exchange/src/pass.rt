@@ -61,8 +61,16 @@ impl Pass {
     }
 
     /// Where a search begins. A pass over all sources counts anew where it begins, and a search from one meter where the
-    /// pairs are fewer than at the search before. Nothing rests on the counts, nor on whether meters were shut.
-    pub(crate) fn start(self, a: &Assignment, from: Sources, before: u32, shut: bool) -> Start
+    /// pairs are fewer than at the search before. Nothing rests on the counts, nor on whether meters were shut, or all but
+    /// those along a way.
+    pub(crate) fn start(
+        self,
+        a: &Assignment,
+        from: Sources,
+        before: u32,
+        shut: bool,
+        along: bool,
+    ) -> Start
         ensures tried { first_of from ≤ result.tried }
         ensures searched { first_of from ≤ result.searched }
     {
@@ -79,7 +87,7 @@ impl Pass {
                 tried: m,
                 searched: m,
                 anew: pairs == 0 || pairs < before,
-                kept: false,
+                kept: along,
             },
         }
     }

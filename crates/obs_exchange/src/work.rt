@@ -9,6 +9,7 @@ ghost use Rattle.obs_exchange.specs.Longest.{IsLongest};
 ghost use Rattle.obs_exchange.specs.Noting.{AreNoted};
 ghost use Rattle.obs_exchange.specs.Ordered.{AreReachedInOrder, IsOrder};
 
+use crate::back::{Back, Ground};
 use crate::find::grow;
 use crate::flags::Flags;
 use crate::like::Like;
@@ -46,10 +47,14 @@ pub struct Work {
     near: Near,
     // meters by what they touch: a hint
     like: Like,
+    // ways back from a meter that is to lose its pair: a hint
+    back: Back,
     // where the next search begins to try sources
     pass: Pass,
-    // meters from which no path led, as long as pairs are only added: a hint
+    // meters from which no path led, as long as pairs are only added, or all but those on a way back; and whether the
+    // next search is along such a way: a hint
     shut: Flags,
+    along: bool,
 }
 
 impl Model for Work {
@@ -91,8 +96,10 @@ impl Drop for Work {
             loose: _,
             near: _,
             like: _,
+            back: _,
             pass: _,
             shut: _,
+            along: _,
         } = self;
     }
 }
@@ -170,8 +177,10 @@ impl Work {
             loose: vec![in alloc; false; most_meters as usize]?,
             near: Near::make(alloc, most_vertices)?,
             like: Like::make(alloc, most_branches, most_vertices)?,
+            back: Back::make(alloc, most_meters, most_branches, most_vertices)?,
             pass: Pass::new(),
             shut: Flags::make(alloc, most_meters)?,
+            along: false,
         })
     }
 
@@ -235,6 +244,32 @@ impl Work {
     /// The meter of this number among those that the last `look_near` found, if there is one.
     pub fn near(&self, k: usize) -> Option<u32> {
         self.near.named(k)
+    }
+
+    /// Lists the meters by what they touch, for `look_back`. Nothing rests on it.
+    pub fn list_touching(&mut self, ms: &Meters)
+        ensures same { self.new ≡ self.old }
+    {
+        self.back.list(ms);
+    }
+
+    /// Looks back, over loose meters, for a source from which a path leads to a meter that lost its pair with the branch
+    /// f. The next `look_near` names that one alone, and the next search goes along this path first. Says whether none
+    /// was found and all were looked at. Nothing rests on it.
+    pub fn look_back(&mut self, g: &Graph, ms: &Meters, a: &Assignment, m: u32, f: u32) -> bool
+        requires stands { StandsOver a.now g.now ms.now.touches }
+        ensures same { self.new ≡ self.old }
+    {
+        let ground = Ground {
+            graph: g,
+            meters: ms,
+            pairs: a,
+            loose: &self.loose,
+        };
+        let none = self.back.look(&ground, m, f);
+        self.along = self.back.leads_along(&mut self.shut);
+        self.near.name_alone(self.back.source());
+        none
     }
 
     /// Notes a meter by what it touches, for `like`. Nothing rests on it.
@@ -329,7 +364,10 @@ impl Work {
     {
         let ms = picked(ms, &self.copy, copied);
         self.meters = ms.count() as usize;
-        let start = self.pass.start(a, from, self.pairs, self.shut.is_any());
+        let start = self
+            .pass
+            .start(a, from, self.pairs, self.shut.is_any(), self.along);
+        self.along = false;
         self.pairs = a.length();
         let room = self.scratch.vertices();
         self.shut.clear_unless(start.kept);

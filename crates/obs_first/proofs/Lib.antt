@@ -10,3 +10,5 @@ pub mod Listed
 pub mod Lawful
 mod Beside
 pub mod Going
+mod Cutting
+mod Backwards

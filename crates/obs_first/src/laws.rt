@@ -1,11 +1,16 @@
 // The laws of the first assignment.
-ghost use Rattle.std.specs.Prelude.{◌↔◌, ℕ, Option, List};
+ghost use Rattle.std.specs.Prelude.{◌≡◌, ◌↔◌, ◌<◌, ◌≤◌, ℕ, Bool, true, Option, List, length};
 ghost use Rattle.obs_graph.specs.declared.Ends.{Ends};
+ghost use Rattle.obs_graph.specs.Graph.{Graph};
 ghost use Rattle.obs_graph.specs.Positions.{AreBranches};
-ghost use Rattle.obs_matroid.specs.Assignments.{Pair};
+ghost use Rattle.obs_matroid.specs.Assignments.{Pair, items};
 ghost use Rattle.obs_matroid.specs.Lists.{In};
 ghost use Rattle.obs_meter.specs.declared.Touch.{Touch};
-ghost use Rattle.obs_meter.specs.Touches.{every_item, live_items};
+ghost use Rattle.obs_meter.specs.Touches.{every_item, is_live, live_items};
+ghost use Rattle.obs_assign.specs.Assignment.{Assignment, IsWhole, StandsOver, pairs};
+ghost use Rattle.obs_exchange.specs.Longest.{IsMost};
+ghost use Rattle.obs_first.specs.Backwards.{HasNoWayTo};
+ghost use Rattle.obs_first.specs.Deciding.{AreCriticalBeside, HasFrozenOf};
 ghost use Rattle.obs_first.specs.First.{IsFirstAt, first_pairs};
 
 /// The computed pairs are the first assignment of all meters, and of the live ones: no assignment is longer, and of
@@ -18,4 +23,14 @@ pub fn first_assignment()
     ensures unique { (n : ℕ) (ends : List (Option Ends)) (touches : List Touch) → AreBranches n ends →
         (A : List Pair) → IsFirstAt ends touches (every_item touches) A → (p : Pair) →
         In p A ↔ In p (first_pairs n ends touches) }
+{}
+
+/// Where the pairs are as many as they can be, and no source leads to a live meter over loose ones, the meter is critical
+/// beside the frozen pairs.
+pub fn no_way_back()
+    ensures critical { (g : Graph) (touches : List Touch) (a : Assignment) (loose : List Bool) (long : ℕ) →
+        AreBranches g.vertices g.ends → IsWhole a → StandsOver a g touches →
+        AreCriticalBeside g.ends touches a loose long → long ≤ length (pairs a) → IsMost g.ends touches long →
+        (m : ℕ) → is_live g.ends touches m ≡ true → HasNoWayTo g.ends touches a loose m →
+        (B : List Pair) → HasFrozenOf g.ends touches a B → (In m (items B) → ⊥) → length B < long }
 {}

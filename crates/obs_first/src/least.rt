@@ -61,6 +61,7 @@ fn prepare<L: Ledger>(
     work.narrow();
     work.note_sources(g, ms, a);
     note_near(g, ms, a, work);
+    work.list_touching(ms);
 }
 
 /// Makes a longest assignment the first one: of the longest assignments the least, compared meter by meter, where a

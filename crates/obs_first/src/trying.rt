@@ -4,14 +4,13 @@ ghost use Rattle.std.specs.Prelude.{◌≡◌, ◌≢◌, ◌+◌, ◌≤◌, �
 ghost use Rattle.obs_matroid.specs.Lists.{In};
 ghost use Rattle.obs_meter.specs.declared.Touch.TheVariants.{Nothing};
 ghost use Rattle.obs_meter.specs.Touches.{touch_at};
-ghost use Rattle.obs_assign.specs.Assignment.{branch_at, pairs};
+ghost use Rattle.obs_assign.specs.Assignment.{StandsOver, branch_at, pairs};
 ghost use Rattle.obs_exchange.specs.declared.Sources.TheVariants.{One};
 ghost use Rattle.obs_exchange.specs.Found.{CanBegin, HasClosed};
 ghost use Rattle.obs_first.specs.Deciding.{AreEnoughFor, GoesOn, HasRefused, HasTaken, IsAside, IsMoved, IsOutOfReach, IsReady, IsUnderWay, IsWithoutPair, MayTake};
 
 use obs_assign::{Assignment, Steps};
 use obs_exchange::{Found, Over, Sources, Work, search_by};
-use obs_graph::Graph;
 use obs_meter::{Meters, Touch};
 use std::sync::ledger::Ledger;
 
@@ -54,14 +53,16 @@ fn wins<L: Ledger>(
     }
 }
 
-/// Looks for noted meters around a branch, if there is one. Says how many there are.
-fn look_near(g: &Graph, around: Option<u32>, work: &mut Work) -> usize
+/// Looks back from the branch that the meter had, if it had one, for a source that could make up for it, and where that
+/// ends too early for noted meters around it. Says how many there are.
+fn look_near(over: &Over<'_>, a: &Assignment, m: u32, around: Option<u32>, work: &mut Work) -> usize
+    requires stands { StandsOver a.now over.now.graph.now over.now.meters.now.touches }
     ensures same { work.new ≡ work.old }
 {
     match around {
         Some(e) => {
-            if e < g.positions() {
-                work.look_near(g, e)
+            if e < over.graph.positions() && !work.look_back(over.graph, over.meters, a, m, e) {
+                work.look_near(over.graph, e)
             } else {
                 0
             }
@@ -94,7 +95,7 @@ fn wins_near<L: Ledger>(
     ensures moved { (long : ℕ) → IsReady over.now.graph.now over.now.meters.now.touches a.old work.old long
         → IsMoved over.now.graph.now over.now.meters.now.touches a.old a.new work.old work.new long }
 {
-    for k in 0..look_near(over.graph, around, work) {
+    for k in 0..look_near(over, a, m, around, work) {
         if let Some(s) = work.near(k) {
             if can_begin(over.meters, a, s) && wins(over, a, m, Sources::One(s), work, steps) {
                 return true;

@@ -47,7 +47,7 @@ returns g c =
     let sources = c.note_sources.ensures in
     record {
       same = same;
-      ready = rw c.note_near.ensures.same (subst (λ (x : Assignment). IsReady c.args.g.now touches x c.note_sources.new.self (length (pairs a))) (sym same) (record {
+      ready = rw (c.list_touching.ensures.same ∙ c.note_near.ensures.same) (subst (λ (x : Assignment). IsReady c.args.g.now touches x c.note_sources.new.self (length (pairs a))) (sym same) (record {
         branches = c.requires.branches;
         in_range = c.requires.in_range;
         stands = l.stands;
@@ -61,5 +61,5 @@ returns g c =
               least.closed least.holds (AreCriticalBeside-loose ends touches a loosened.loose (length (pairs a)) c.close.new.work.sizes.meters few c.loosen.ensures.loose));
         };
       }));
-      same_sizes = ap (λ (w : Work). w.sizes) c.note_near.ensures.same ∙ (sources.same_sizes ∙ sizes);
+      same_sizes = ap (λ (w : Work). w.sizes) (c.list_touching.ensures.same ∙ c.note_near.ensures.same) ∙ (sources.same_sizes ∙ sizes);
     }
