@@ -1,7 +1,8 @@
 /* obs in C: topological observability of power networks, over blocks of bytes. obs_run answers once; a session stays between calls.
  *
  * The library is libobs.a or libobs.so; tools/library builds and installs both. crates/obs_c/README.md says what is proved of the calls and
- * what the caller must uphold. docs/FORMATS.md has the words, the files and the printed lines. */
+ * what the caller must uphold. FORMATS.md, in docs and where it is installed in share/doc/obs, has the words, the files and the printed
+ * lines. This header wants C99. */
 #ifndef OBS_H
 #define OBS_H
 

@@ -148,6 +148,8 @@ def try_prefix(work):
     """What is installed under a prefix."""
     prefix = work / "a prefix"
     call(HOME / "tools/install", prefix)
+    for page in ("GUIDE.md", "FORMATS.md", "TOOLS.md"):
+        agree(f"the installed {page}", (prefix / "share/doc/obs" / page).read_bytes(), (HOME / "docs" / page).read_bytes())
     agree("the commands", call(prefix / "bin/obs", "trial", "2", "1"), call(prefix / "bin/obs-large", "trial", "2", "1"))
     lacking = [it for it in ("pkg-config", os.environ.get("CC", "cc")) if not shutil.which(it)]
     if lacking:
